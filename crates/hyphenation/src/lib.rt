@@ -1,0 +1,2 @@
+//! Hyphenation of words.
+#![tactic(auto)]

@@ -1,0 +1,71 @@
+-- The finite map of keys that the nodes make.
+use Rattle.std.proofs.Common.{◌≡◌, ◌≢◌, ℕ, zero, suc, ◌+◌, ◌-◌, ◌<◌, ◌≤◌, max, Bool, true, false, cond, ◌||◌, nat_eq, List, [], ◌∷◌, ◌++◌, length, get_or, map, Option, Some, None, refl, sym, ap, subst, ◌∙◌, arith, is_some}
+use Rattle.std.specs.Prelude.{IsSome}
+use Rattle.std.specs.List.{list_any, range_with_len}
+use Rattle.std.specs.Ordering.{nat_cmp, eq_by_cmp}
+use Rattle.std.specs.Cmp.Lexicographic.{slice_cmp, pointwise, nat_list_cmp_total, nat_list_eq_equiv, texts_ties}
+use Rattle.std.specs.FinMap as finite
+use Rattle.std.specs.FinMap.{FinMap, find, get-from_entries, get-insert, same_map, contains_key-keys, slice_cmp-IsAntisymmetric, nat_cmp-IsAntisymmetric}
+use Rattle.hyphenation_commons.specs.Trie.{Tree, entries_at, key_at, IsTrie}
+use Rattle.hyphenation_commons.specs.Scoring.{Patterns, greatest, value_at}
+use Rattle.hyphenation_commons.specs.declared.entry.Entry.{Entry}
+use Rattle.hyphenation_commons.specs.Dictionary.{pairs_of, patterns_of}
+use Rattle.hyphenation_commons.proofs.Tied.{AllApart, apart_rest, apart_first, same_text}
+use Rattle.hyphenation_commons.proofs.Walked.{node_of_key}
+use Rattle.hyphenation_commons.proofs.Greatest.{greatest_from}
+
+same_test : (a b : List ℕ) → eq_by_cmp (slice_cmp nat_cmp) a b ≡ pointwise nat_eq b a
+same_test a b = sym (texts_ties a b) ∙ nat_list_eq_equiv.symm a b
+
+absent_later : {E : Type 0} (t : List ℕ) (ts : List (List ℕ)) (es : List (Option (List E))) (q : List ℕ) → AllApart (t ∷ ts) → pointwise nat_eq t q ≡ true → entries_at ts es q ≡ None
+absent_later {E} t ts es q apart e =
+    elim (entries_at ts es q) as (λ o. entries_at ts es q ≡ o → o ≡ None) [
+      | None ↦ λ is. refl
+      | Some x ↦ λ is.
+          let n = node_of_key ts es q (subst (λ (o : Option (List E)). IsSome o) (sym is) refl) in
+          absurd (apart_first t ts n.0 apart n.1 (same_text t q e ∙ sym n.2))
+    ] refl
+
+none_either : {X : Type 0} (b : Bool) (o : Option X) → (b ≡ true → o ≡ None) → o ≡ cond b None o
+none_either true o h = h refl
+none_either false o h = refl
+
+find-pairs : {E : Type 0} (ts : List (List ℕ)) (es : List (Option (List E))) (q : List ℕ) → AllApart ts → find (slice_cmp nat_cmp) q (pairs_of ts es) ≡ entries_at ts es q
+find-pairs [] es q apart = refl
+find-pairs (t ∷ ts) [] q apart = refl
+find-pairs (t ∷ ts) (None ∷ es) q apart = find-pairs ts es q (apart_rest t ts apart) ∙ none_either (pointwise nat_eq t q) (entries_at ts es q) (absent_later t ts es q apart)
+find-pairs (t ∷ ts) (Some x ∷ es) q apart =
+    ap (λ b. cond b (Some x) (find (slice_cmp nat_cmp) q (pairs_of ts es))) (same_test q t) ∙ ap (cond (pointwise nat_eq t q) (Some x)) (find-pairs ts es q (apart_rest t ts apart))
+
+pub get-patterns_of : {E : Type 0} (t : Tree E) → IsTrie t → (q : List ℕ) → finite.get (patterns_of t) q ≡ key_at t q
+get-patterns_of t trie q = get-from_entries nat_list_cmp_total (pairs_of t.texts t.entries) q ∙ find-pairs t.texts t.entries q trie.distinct
+
+pub patterns_of-insert : {E : Type 0} (old new : Tree E) (key : List ℕ) (es : List E) → IsTrie old → IsTrie new
+    → ((q : List ℕ) → key_at new q ≡ cond (pointwise nat_eq key q) (Some es) (key_at old q)) → patterns_of new ≡ finite.insert (patterns_of old) key es
+patterns_of-insert old new key es was is step = same_map nat_list_cmp_total (slice_cmp-IsAntisymmetric nat_cmp-IsAntisymmetric) _ _ (λ q.
+    get-patterns_of new is q ∙ step q ∙ ap (cond (pointwise nat_eq key q) (Some es)) (sym (get-patterns_of old was q)) ∙ ap (λ b. cond b (Some es) (finite.get (patterns_of old) q)) (sym (same_test q key))
+    ∙ sym (get-insert nat_list_cmp_total (patterns_of old) key es q))
+
+either_true : (a b : Bool) → (a || b) ≡ true → a ≡ false → b ≡ true
+either_true true b h e = absurd cc
+either_true false b h e = h
+
+among_most : (q : List ℕ) (ks : List (List ℕ)) → list_any (eq_by_cmp (slice_cmp nat_cmp) q) ks ≡ true → length q ≤ greatest (map length ks)
+among_most q [] h = absurd cc
+among_most q (k ∷ ks) h =
+    let split : greatest (map length (k ∷ ks)) ≡ max (max 0 (length k)) (greatest (map length ks)) = greatest_from (max 0 (length k)) (map length ks) in
+    elim (eq_by_cmp (slice_cmp nat_cmp) q k) as (λ b. eq_by_cmp (slice_cmp nat_cmp) q k ≡ b → length q ≤ greatest (map length (k ∷ ks))) [
+      | true ↦ λ e. let same : k ≡ q = same_text k q (sym (same_test q k) ∙ e) in omega (arith, ap length same)
+      | false ↦ λ e. omega (arith, among_most q ks (either_true (eq_by_cmp (slice_cmp nat_cmp) q k) (list_any (eq_by_cmp (slice_cmp nat_cmp) q) ks) h e))
+    ] refl
+
+-- no key is longer than the longest
+pub longest_key : {E : Type 0} (t : Tree E) → IsTrie t → (q : List ℕ) → IsSome (key_at t q) → length q ≤ greatest (map length (finite.keys (patterns_of t)))
+longest_key {E} t trie q h =
+    among_most q (finite.keys (patterns_of t)) (sym (contains_key-keys (patterns_of t) q) ∙ ap is_some (get-patterns_of t trie q) ∙ h)
+
+-- the values by the nodes' keys are those by the map's
+pub same_values : {C : Type 0} (t : Tree (Entry C)) → IsTrie t → (w : List ℕ) → map (λ i. value_at (key_at t) w (i + 1)) (range_with_len 0 (length w - 1)) ≡ map (λ i. value_at (λ q. finite.get (patterns_of t) q) w (i + 1)) (range_with_len 0 (length w - 1))
+same_values {C} t trie w =
+    let same : ◌≡◌ {A = Patterns C} (key_at t) (λ q. finite.get (patterns_of t) q) = λ k q. sym (get-patterns_of t trie q) k in
+    ap (λ (keys : Patterns C). map (λ i. value_at keys w (i + 1)) (range_with_len 0 (length w - 1))) same

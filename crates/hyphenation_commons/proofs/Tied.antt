@@ -1,0 +1,328 @@
+-- A node more keeps the edges tied to the nodes.
+use Rattle.std.proofs.Common.{◌≡◌, ◌≢◌, ℕ, zero, suc, ◌+◌, ◌<◌, ◌≤◌, Bool, true, false, cond, ◌&&◌, nat_eq, eqb, List, [], ◌∷◌, ◌++◌, length, take, get_or, set, map, fold, Option, Some, None, refl, sym, ap, subst, ◌∙◌, arith, ◌⊎◌, inl, inr}
+use Rattle.std.specs.Prelude.{slice_get, IsSome}
+use Rattle.std.proofs.lemmas.Bool.{cases_lt, cases_eq, eqb-true, eq-eqb}
+use Rattle.std.proofs.lemmas.List.{length-append, map_push, length-map, map-set, take_more, length-take-le, get_or_append_left, get_or_push}
+use Rattle.std.proofs.lemmas.Grind.{fold-append, common_steps}
+use Rattle.hyphenation_commons.specs.Trie.{with_text, text_after, texts_of, IsTied, pair_eq, seen, grown, IsTrie, Tree, entries_at, key_at, text_of, Grows, AddsFront, with_entries, EachBeginsKey}
+use Rattle.std.specs.Option.{option_map}
+use Rattle.std.specs.Prelude.{Vec}
+use Rattle.std.specs.Global.{Global}
+use Rattle.std.proofs.Math.Seq.{map-set_same}
+use Rattle.std.specs.Cmp.Lexicographic.{pointwise}
+use Rattle.hyphenation_commons.specs.declared.trie.Node.{Node}
+
+length-fold : (acc : List (List ℕ)) (fs : List (Option (ℕ × ℕ))) → length (fold with_text acc fs) ≡ length acc + length fs
+length-fold acc [] = omega arith
+length-fold acc (f ∷ fs) = omega (arith, length-fold (with_text acc f) fs, length-append acc (text_after acc f ∷ []))
+
+pub length-texts_of : (fs : List (Option (ℕ × ℕ))) → length (texts_of fs) ≡ length fs
+length-texts_of fs = length-fold [] fs ∙ omega arith
+
+pub texts_of-push : (fs : List (Option (ℕ × ℕ))) (f : Option (ℕ × ℕ)) → texts_of (fs ++ f ∷ []) ≡ with_text (texts_of fs) f
+texts_of-push fs f = fold-append with_text [] fs (f ∷ [])
+
+-- texts that end in one byte are equal only with equal parts
+pub last_same : (xs ys : List ℕ) (b c : ℕ) → xs ++ b ∷ [] ≡ ys ++ c ∷ [] → (xs ≡ ys) × (b ≡ c)
+last_same [] [] b c e = (refl, cc)
+last_same [] (y ∷ []) b c e = absurd cc
+last_same [] (y ∷ z ∷ ys) b c e = absurd cc
+last_same (x ∷ []) [] b c e = absurd cc
+last_same (x ∷ z ∷ xs) [] b c e = absurd cc
+last_same (x ∷ xs) (y ∷ ys) b c e =
+    let heads : x ≡ y = cc in
+    let tails : xs ++ b ∷ [] ≡ ys ++ c ∷ [] = cc in
+    let h = last_same xs ys b c tails in
+    (ap (λ (z : ℕ). z ∷ xs) heads ∙ ap (λ (zs : List ℕ). y ∷ zs) h.0, h.1)
+
+pub not_empty : (xs : List ℕ) (b : ℕ) → [] ≡ xs ++ b ∷ [] → ⊥
+not_empty [] b e = cc
+not_empty (x ∷ xs) b e = cc
+
+same_some : (a b : ℕ) → Some a ≡ Some b → a ≡ b
+same_some a b e = cc
+
+root_text : (texts : List (List ℕ)) → slice_get texts 0 ≡ Some [] → (get_or texts 0 [] ≡ []) × (0 < length texts)
+root_text [] e = absurd cc
+root_text (t ∷ ts) e = (cc, omega arith)
+
+-- no two nodes have one text
+pub IsTied-distinct : (texts : List (List ℕ)) (edge : ℕ → ℕ → Option ℕ) → IsTied texts edge → (i j : ℕ) → i < length texts → j < length texts → get_or texts i [] ≡ get_or texts j [] → i ≡ j
+IsTied-distinct texts edge tied i j li lj e =
+    let r = root_text texts tied.root in
+    elim (cases_eq i 0) [
+      | inl i0 ↦ elim (cases_eq j 0) [
+        | inl j0 ↦ omega arith
+        | inr j1 ↦
+            let up = tied.closed j (omega arith) lj in
+            absurd (not_empty (get_or texts up.0 []) up.1 (sym r.0 ∙ ap (λ (k : ℕ). get_or texts k []) (sym i0) ∙ e ∙ up.3))
+      ]
+      | inr i1 ↦ elim (cases_eq j 0) [
+        | inl j0 ↦
+            let up = tied.closed i (omega arith) li in
+            absurd (not_empty (get_or texts up.0 []) up.1 (sym r.0 ∙ ap (λ (k : ℕ). get_or texts k []) (sym j0) ∙ sym e ∙ up.3))
+        | inr j1 ↦
+            let up = tied.closed i (omega arith) li in
+            same_some i j (sym (tied.complete up.0 up.1 i up.2 li up.3) ∙ tied.complete up.0 up.1 j up.2 lj (sym e ∙ up.3))
+      ]
+    ]
+
+both_true : (a b : Bool) → (a && b) ≡ true → (a ≡ true) × (b ≡ true)
+both_true true b e = (refl, e)
+both_true false b e = absurd cc
+
+pair_eq-true : (i b k c : ℕ) → pair_eq (i, b) (k, c) ≡ true → (i ≡ k) × (b ≡ c)
+pair_eq-true i b k c e =
+    let h = both_true (nat_eq i k) (nat_eq b c) e in
+    (eqb-true i k h.0, eqb-true b c h.1)
+
+pair_eq-refl : (i b : ℕ) → pair_eq (i, b) (i, b) ≡ true
+pair_eq-refl i b = let one : eqb i i ≡ true = eq-eqb i i refl in let two : eqb b b ≡ true = eq-eqb b b refl in rw (one, two) refl
+
+root-push : (texts : List (List ℕ)) (t : List ℕ) → slice_get texts 0 ≡ Some [] → slice_get (texts ++ t ∷ []) 0 ≡ Some []
+root-push [] t e = absurd cc
+root-push (x ∷ xs) t e = e
+
+pub chosen : {X : Type 0} (b : Bool) (x y z : X) → cond b x y ≡ z → ((b ≡ true) × (x ≡ z)) ⊎ ((b ≡ false) × (y ≡ z))
+chosen true x y z e = inl (refl, e)
+chosen false x y z e = inr (refl, e)
+
+-- no node stands below a text that is not there
+orphan : (texts : List (List ℕ)) (edge : ℕ → ℕ → Option ℕ) → IsTied texts edge → (i b : ℕ) → i < length texts
+    → ((j : ℕ) → j < length texts → get_or texts j [] ≢ get_or texts i [] ++ b ∷ [])
+    → (j c : ℕ) → j < length texts → get_or texts j [] ≡ (get_or texts i [] ++ b ∷ []) ++ c ∷ [] → ⊥
+orphan texts edge tied i b li absent j c lj e =
+    elim (cases_eq j 0) [
+      | inl j0 ↦ not_empty (get_or texts i [] ++ b ∷ []) c (sym (root_text texts tied.root).0 ∙ ap (λ (k : ℕ). get_or texts k []) (sym j0) ∙ e)
+      | inr j1 ↦
+          let up = tied.closed j (omega arith) lj in
+          absent up.0 up.2 (last_same (get_or texts up.0 []) (get_or texts i [] ++ b ∷ []) up.1 c (sym up.3 ∙ e)).0
+    ]
+
+pub IsTied-grow : (texts : List (List ℕ)) (edge next : ℕ → ℕ → Option ℕ) (i b : ℕ) → IsTied texts edge → i < length texts
+    → ((j : ℕ) → j < length texts → get_or texts j [] ≢ get_or texts i [] ++ b ∷ [])
+    → ((k c : ℕ) → next k c ≡ cond (pair_eq (i, b) (k, c)) (Some (length texts)) (edge k c))
+    → IsTied (texts ++ (get_or texts i [] ++ b ∷ []) ∷ []) next
+IsTied-grow texts edge next i b tied li absent step =
+    let t : List ℕ = get_or texts i [] ++ b ∷ [] in
+    let new : List (List ℕ) = texts ++ t ∷ [] in
+    let n : ℕ = length texts in
+    let len : length new ≡ n + 1 = length-append texts (t ∷ []) in
+    let at_new : get_or new n [] ≡ t = get_or_push texts t [] n refl in
+    let at_old : (k : ℕ) → k < n → get_or new k [] ≡ get_or texts k [] = λ k lt. get_or_append_left texts (t ∷ []) [] k lt in
+    let here : next i b ≡ Some n = step i b ∙ ap (λ (x : Bool). cond x (Some n) (edge i b)) (pair_eq-refl i b) in
+    record {
+      root = root-push texts t tied.root;
+      sound = λ k c j e. elim (chosen (pair_eq (i, b) (k, c)) (Some n) (edge k c) (Some j) (sym (step k c) ∙ e)) [
+        | inl h ↦
+            let nj : n ≡ j = same_some n j h.1 in
+            let p = pair_eq-true i b k c h.0 in
+            let lk : k < n = omega (arith, p.0) in (
+              omega arith,
+              omega arith,
+              ap (λ (x : ℕ). get_or new x []) (sym nj) ∙ at_new ∙ ap (λ (x : ℕ). get_or texts i [] ++ x ∷ []) p.1
+                  ∙ ap (λ (x : ℕ). get_or texts x [] ++ c ∷ []) p.0 ∙ ap (λ (x : List ℕ). x ++ c ∷ []) (sym (at_old k lk)),
+            )
+        | inr h ↦
+            let s = tied.sound k c j h.1 in
+            (omega (arith, s.0), omega (arith, s.1), at_old j s.1 ∙ s.2 ∙ ap (λ (x : List ℕ). x ++ c ∷ []) (sym (at_old k s.0)))
+      ];
+      complete = λ k c j lk lj e. elim (cases_lt j n) [
+        | inl jn ↦ elim (cases_lt k n) [
+          | inl kn ↦
+              let old : get_or texts j [] ≡ get_or texts k [] ++ c ∷ [] = sym (at_old j jn) ∙ e ∙ ap (λ (x : List ℕ). x ++ c ∷ []) (at_old k kn) in
+              let was = tied.complete k c j kn jn old in
+              elim (chosen (pair_eq (i, b) (k, c)) (Some n) (edge k c) (next k c) (sym (step k c))) [
+                | inl h ↦
+                    let p = pair_eq-true i b k c h.0 in
+                    absurd (absent j jn (old ∙ ap (λ (x : ℕ). get_or texts x [] ++ c ∷ []) (sym p.0) ∙ ap (λ (x : ℕ). get_or texts i [] ++ x ∷ []) (sym p.1)))
+                | inr h ↦ sym h.1 ∙ was
+              ]
+          | inr kn ↦
+              -- a child of the new node would have stood there before its parent
+              let k-is : k ≡ n = omega arith in
+              let old : get_or texts j [] ≡ t ++ c ∷ [] = sym (at_old j jn) ∙ e ∙ ap (λ (x : ℕ). get_or new x [] ++ c ∷ []) k-is ∙ ap (λ (x : List ℕ). x ++ c ∷ []) at_new in
+              absurd (orphan texts edge tied i b li absent j c jn old)
+        ]
+        | inr jn ↦
+            let j-is : j ≡ n = omega arith in
+            let mine : t ≡ get_or new k [] ++ c ∷ [] = sym at_new ∙ ap (λ (x : ℕ). get_or new x []) (sym j-is) ∙ e in
+            let parts = last_same (get_or texts i []) (get_or new k []) b c mine in
+            elim (cases_lt k n) [
+              | inl kn ↦
+                  let ik = IsTied-distinct texts edge tied i k li kn (parts.0 ∙ at_old k kn) in
+                  ap (λ (x : ℕ). next x c) (sym ik) ∙ ap (λ (x : ℕ). next i x) (sym parts.1) ∙ here ∙ ap (λ (x : ℕ). Some x) (sym j-is)
+              | inr kn ↦
+                  let k-is : k ≡ n = omega arith in
+                  let loop : get_or texts i [] ≡ t = parts.0 ∙ ap (λ (x : ℕ). get_or new x []) k-is ∙ at_new in
+                  absurd (omega (arith, ap length loop, length-append (get_or texts i []) (b ∷ [])))
+            ]
+      ];
+      closed = λ j pos lj. elim (cases_lt j n) [
+        | inl jn ↦
+            let up = tied.closed j pos jn in
+            (up.0, up.1, omega (arith, up.2), at_old j jn ∙ up.3 ∙ ap (λ (x : List ℕ). x ++ up.1 ∷ []) (sym (at_old up.0 up.2)))
+        | inr jn ↦
+            let j-is : j ≡ n = omega arith in
+            (i, b, omega arith, ap (λ (x : ℕ). get_or new x []) j-is ∙ at_new ∙ ap (λ (x : List ℕ). x ++ b ∷ []) (sym (at_old i li)))
+      ];
+    }
+
+pub grow_keeps : (fs : List (Option (ℕ × ℕ))) (edge next : ℕ → ℕ → Option ℕ) (n i b : ℕ) → n ≡ length fs → IsTied (texts_of fs) edge → i < length (texts_of fs)
+    → ((j : ℕ) → j < length (texts_of fs) → get_or (texts_of fs) j [] ≢ get_or (texts_of fs) i [] ++ b ∷ [])
+    → ((k c : ℕ) → next k c ≡ cond (pair_eq (i, b) (k, c)) (Some n) (edge k c))
+    → IsTied (texts_of (fs ++ Some (i, b) ∷ [])) next
+grow_keeps fs edge next n i b n-is tied li absent step =
+    let len : n ≡ length (texts_of fs) = n-is ∙ sym (length-texts_of fs) in
+    rw (texts_of-push fs (Some (i, b))) (IsTied-grow (texts_of fs) edge next i b tied li absent (λ k c. step k c ∙ ap (λ (x : ℕ). cond (pair_eq (i, b) (k, c)) (Some x) (edge k c)) len))
+
+pub seen-grown : {E : Type 0} (ns : List (Node E)) (i b : ℕ) → seen (ns ++ record { from = Some (i, b); entries = None } ∷ []) ≡ grown (seen ns) i b
+seen-grown ns i b = rw (map_push, map_push, texts_of-push) refl
+
+pub IsTrie-seen : {E : Type 0} (ns : List (Node E)) (edge : ℕ → ℕ → Option ℕ) → IsTied (seen ns).texts edge → IsTrie (seen ns)
+IsTrie-seen ns edge tied =
+    let r = root_text (seen ns).texts tied.root in
+    record {
+      lengths = simp length-map (sym (length-texts_of (map (λ n. n.from) ns) ∙ simp length-map));
+      some = r.1;
+      root = r.0;
+      distinct = IsTied-distinct (seen ns).texts edge tied;
+      closed = tied.closed;
+    }
+
+entries_at-push : {E : Type 0} (ts : List (List ℕ)) (es : List (Option (List E))) (t : List ℕ) → length es ≡ length ts → (q : List ℕ) → entries_at (ts ++ t ∷ []) (es ++ None ∷ []) q ≡ entries_at ts es q
+entries_at-push {E} [] [] t len q = elim (pointwise nat_eq t q) as (λ b. cond {A = Option (List E)} b None None ≡ None) [ true ↦ refl | false ↦ refl ]
+entries_at-push [] (e ∷ es) t len q = absurd (omega arith)
+entries_at-push (x ∷ ts) [] t len q = absurd (omega arith)
+entries_at-push (x ∷ ts) (e ∷ es) t len q = ap (λ r. cond (pointwise nat_eq x q) e r) (entries_at-push ts es t (omega arith) q)
+
+pub key_at-grows : {E : Type 0} (old new : Tree E) (t : List ℕ) → IsTrie old → Grows old new t → (q : List ℕ) → key_at new q ≡ key_at old q
+key_at-grows old new t trie g q = elim g [
+  | inl same ↦ ap (λ x. key_at x q) same
+  | inr more ↦ ap (λ x. key_at x q) more ∙ entries_at-push old.texts old.entries t trie.lengths q
+]
+
+pub adds-grows : {E : Type 0} (start old new : Tree E) (t key : List ℕ) → AddsFront start old key → Grows old new t → t ≡ take (length t) key → AddsFront start new key
+adds-grows start old new t key adds g front = elim g [
+  | inl same ↦ subst (λ x. AddsFront start x key) (sym same) adds
+  | inr more ↦ subst (λ x. AddsFront start x key) (sym more) (λ j lj. elim (cases_lt j (length old.texts)) [
+    | inl lt ↦
+        let e : get_or (old.texts ++ t ∷ []) j [] ≡ get_or old.texts j [] = get_or_append_left old.texts (t ∷ []) [] j lt in
+        elim (adds j lt) [
+          | inl h ↦ inl (h.0, e ∙ h.1)
+          | inr h ↦ inr (e ∙ h ∙ ap (λ (x : List ℕ). take (length x) key) (sym e))
+        ]
+    | inr ge ↦
+        let last : j ≡ length old.texts = omega (arith, length-append old.texts (t ∷ [])) in
+        let e : get_or (old.texts ++ t ∷ []) j [] ≡ t = get_or_push old.texts t [] j (sym last) in
+        inr (e ∙ front ∙ ap (λ (x : List ℕ). take (length x) key) (sym e))
+  ])
+]
+
+-- the next byte of a key makes a longer front
+pub front_more : (key : List ℕ) (i : ℕ) (t : List ℕ) → t ≡ take i key → i < length key → (t ++ get_or key i 0 ∷ [] ≡ take (i + 1) key) × (t ++ get_or key i 0 ∷ [] ≡ take (length (t ++ get_or key i 0 ∷ [])) key)
+front_more key i t e lt =
+    let b : ℕ = get_or key i 0 in
+    let more : t ++ b ∷ [] ≡ take (i + 1) key = ap (λ (x : List ℕ). x ++ b ∷ []) e ∙ sym (take_more key i 0 lt) in
+    let len : length (t ++ b ∷ []) ≡ i + 1 = ap length more ∙ length-take-le (i + 1) key (omega arith) in
+    (more, more ∙ ap (λ (n : ℕ). take n key) (sym len))
+
+-- ---- the entries of a node
+
+pub seen_within : {E : Type 0} (ns : List (Node E)) (i : ℕ) → i < length (seen ns).texts → i < length ns
+seen_within ns i lt =
+    let e : length (map (λ n. n.from) ns) ≡ length ns = simp length-map in
+    omega (arith, length-texts_of (map (λ n. n.from) ns))
+
+abbrev pub AllApart : List (List ℕ) → Type 0
+AllApart ts = (i j : ℕ) → i < length ts → j < length ts → get_or ts i [] ≡ get_or ts j [] → i ≡ j
+
+pub apart_rest : (t : List ℕ) (ts : List (List ℕ)) → AllApart (t ∷ ts) → AllApart ts
+apart_rest t ts h i j li lj e = omega (arith, h (suc i) (suc j) (omega arith) (omega arith) e)
+
+pub apart_first : (t : List ℕ) (ts : List (List ℕ)) (i : ℕ) → AllApart (t ∷ ts) → i < length ts → t ≡ get_or ts i [] → ⊥
+apart_first t ts i h li e = omega (arith, h 0 (suc i) (omega arith) (omega arith) e)
+
+pub AllApart-trie : {E : Type 0} (t : Tree E) → IsTrie t → AllApart t.texts
+AllApart-trie t trie = trie.distinct
+
+shadowed : {X : Type 0} (b : Bool) (x y z : X) → cond b x z ≡ cond b x (cond b y z)
+shadowed true x y z = refl
+shadowed false x y z = refl
+
+swapped : {X : Type 0} (a b : Bool) (x y z : X) → ((a ≡ true) → (b ≡ true) → ⊥) → cond a x (cond b y z) ≡ cond b y (cond a x z)
+swapped true true x y z apart = absurd (apart refl refl)
+swapped true false x y z apart = refl
+swapped false b x y z apart = refl
+
+pub same_text : (a b : List ℕ) → pointwise nat_eq a b ≡ true → a ≡ b
+same_text [] [] e = refl
+same_text [] (y ∷ b) e = absurd cc
+same_text (x ∷ a) [] e = absurd cc
+same_text (x ∷ a) (y ∷ b) e =
+    let h = both_true (eqb x y) (pointwise nat_eq a b) e in
+    ap (λ (z : ℕ). z ∷ a) (eqb-true x y h.0) ∙ ap (λ (zs : List ℕ). y ∷ zs) (same_text a b h.1)
+
+pub text_itself : (a : List ℕ) → pointwise nat_eq a a ≡ true
+text_itself [] = refl
+text_itself (x ∷ a) = let e : eqb x x ≡ true = eq-eqb x x refl in rw e (text_itself a)
+
+other_text : (a b : List ℕ) → (a ≡ b → ⊥) → pointwise nat_eq a b ≡ false
+other_text a b apart = elim (pointwise nat_eq a b) as (λ r. pointwise nat_eq a b ≡ r → r ≡ false) [
+  | true ↦ λ e. absurd (apart (same_text a b e))
+  | false ↦ λ e. refl
+] refl
+
+pub entries_at-set : {E : Type 0} (ts : List (List ℕ)) (es : List (Option (List E))) (i : ℕ) (x : Option (List E)) (q : List ℕ) → AllApart ts → length es ≡ length ts → i < length ts
+    → entries_at ts (set es i x) q ≡ cond (pointwise nat_eq (get_or ts i []) q) x (entries_at ts es q)
+entries_at-set [] es i x q apart len lt = absurd (omega arith)
+entries_at-set (t ∷ ts) [] i x q apart len lt = absurd (omega arith)
+entries_at-set (t ∷ ts) (e ∷ es) zero x q apart len lt = shadowed (pointwise nat_eq t q) x e (entries_at ts es q)
+entries_at-set (t ∷ ts) (e ∷ es) (suc i) x q apart len lt =
+    ap (λ r. cond (pointwise nat_eq t q) e r) (entries_at-set ts es i x q (apart_rest t ts apart) (omega arith) (omega arith))
+    ∙ swapped (pointwise nat_eq t q) (pointwise nat_eq (get_or ts i []) q) e x (entries_at ts es q)
+    (λ p r. apart_first t ts i apart (omega arith) (same_text t q p ∙ sym (same_text (get_or ts i []) q r)))
+
+pub entries_at-here : {E : Type 0} (ts : List (List ℕ)) (es : List (Option (List E))) (i : ℕ) → AllApart ts → length es ≡ length ts → i < length ts
+    → entries_at ts es (get_or ts i []) ≡ get_or es i None
+entries_at-here [] es i apart len lt = absurd (omega arith)
+entries_at-here (t ∷ ts) [] i apart len lt = absurd (omega arith)
+entries_at-here (t ∷ ts) (e ∷ es) zero apart len lt = ap (λ b. cond b e (entries_at ts es t)) (text_itself t)
+entries_at-here (t ∷ ts) (e ∷ es) (suc i) apart len lt =
+    ap (λ b. cond b e (entries_at ts es (get_or ts i []))) (other_text t (get_or ts i []) (λ same. apart_first t ts i apart (omega arith) same))
+    ∙ entries_at-here ts es i (apart_rest t ts apart) (omega arith) (omega arith)
+
+pub seen_entries : {E : Type 0} (ns : List (Node E)) (i : ℕ) (n : Node E) → i < length ns → n ≡ get_or ns i n → get_or (seen ns).entries i None ≡ option_map (λ v. v.items) n.entries
+seen_entries [] i n lt read = absurd (omega arith)
+seen_entries (m ∷ ns) zero n lt read = ap (λ x. option_map (λ v. v.items) x.entries) (sym read)
+seen_entries (m ∷ ns) (suc i) n lt read = seen_entries ns i n (omega arith) read
+
+pub seen-with : {E : Type 0} (ns : List (Node E)) (i : ℕ) (n : Node E) (es : Vec E Global) → n ≡ get_or ns i n
+    → seen (set ns i (record { from = n.from; entries = Some es })) ≡ with_entries (seen ns) i es.items
+seen-with ns i n es read =
+    let froms : map (λ n. n.from) (set ns i (record { from = n.from; entries = Some es })) ≡ map (λ n. n.from) ns = map-set_same (λ n. n.from) ns i (record { from = n.from; entries = Some es }) n (ap (λ n. n.from) read) in
+    let news : map (λ n. option_map (λ v. v.items) n.entries) (set ns i (record { from = n.from; entries = Some es })) ≡ set (map (λ n. option_map (λ v. v.items) n.entries) ns) i (Some es.items) = map-set _ ns i _ in
+    λ k. record { texts = texts_of (froms k); entries = news k }
+
+-- the entries of one key are set
+pub key_at-with : {E : Type 0} (t : Tree E) (node : ℕ) (es : List E) (key q : List ℕ) → IsTrie t → node < length t.texts → text_of t node ≡ key
+    → key_at (with_entries t node es) q ≡ cond (pointwise nat_eq key q) (Some es) (key_at t q)
+key_at-with t node es key q trie lt e = entries_at-set t.texts t.entries node (Some es) q trie.distinct trie.lengths lt ∙ ap (λ (x : List ℕ). cond (pointwise nat_eq x q) (Some es) (key_at t q)) e
+
+some_either : {X : Type 0} (b : Bool) (x : X) (o : Option X) → IsSome o → IsSome (cond b (Some x) o)
+some_either true x o h = refl
+some_either false x o h = h
+
+pub begins-insert : {E : Type 0} (old mid : Tree E) (key : List ℕ) (node : ℕ) (es : List E) → ((q : List ℕ) → key_at mid q ≡ key_at old q) → AddsFront old mid key → IsTrie mid
+    → node < length mid.texts → text_of mid node ≡ key → EachBeginsKey old → EachBeginsKey (with_entries mid node es)
+begins-insert {E} old mid key node es keys adds trie lt e begins j pos lj =
+    let at : (q : List ℕ) → key_at (with_entries mid node es) q ≡ cond (pointwise nat_eq key q) (Some es) (key_at mid q) = λ q. key_at-with mid node es key q trie lt e in
+    elim (adds j lj) [
+      | inl h ↦
+          let b = begins j pos h.0 in (
+            b.0,
+            subst (λ (o : Option (List E)). IsSome o) (sym (at b.0)) (some_either (pointwise nat_eq key b.0) es (key_at mid b.0) (subst (λ (o : Option (List E)). IsSome o) (sym (keys b.0)) b.1)),
+            h.1 ∙ b.2 ∙ ap (λ (x : List ℕ). take (length x) b.0) (sym h.1),
+          )
+      | inr h ↦ (key, subst (λ (o : Option (List E)). IsSome o) (sym (at key ∙ ap (λ b. cond b (Some es) (key_at mid key)) (text_itself key))) refl, h)
+    ]

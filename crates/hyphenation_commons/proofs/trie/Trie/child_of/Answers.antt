@@ -1,0 +1,5 @@
+use Rattle.hyphenation_commons.proofs.Tied.{IsTrie-seen}
+use Rattle.hyphenation_commons.proofs.trie.Trie.child_of.Goals as goal
+
+pub returns-clause-trie : goal.returns-clause-trie
+returns-clause-trie g c = rw (← c.self.view_is) (IsTrie-seen c.self.inside.nodes.items _ c.self.invariant)

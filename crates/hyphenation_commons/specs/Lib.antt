@@ -1,0 +1,13 @@
+pub mod Language
+pub mod Break
+pub mod Dictionary
+pub mod Kept
+pub mod Held
+pub mod Counts
+pub mod Trie
+pub mod Form
+pub mod Lines
+pub mod Tokens
+pub mod Items
+pub mod Judging
+pub mod Reading

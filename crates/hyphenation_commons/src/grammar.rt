@@ -1,0 +1,23 @@
+//! The dictionary text.
+
+pub mod tokens;
+
+use std::fmt;
+
+/// The first test that a line of a dictionary text fails.
+#[derive(Clone, Copy, Debug, PartialEq, Eq)]
+pub enum Cause {
+    NotUtf8,
+    Header,
+    Language,
+    Minima,
+    UnknownLine,
+    Token,
+    Pattern,
+    NoLetters,
+    Number,
+    Place,
+    Change,
+    RepeatedPattern,
+    RepeatedException,
+}

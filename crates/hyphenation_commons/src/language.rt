@@ -1,0 +1,91 @@
+//! A language is a checked code.
+
+ghost use Rattle.std.specs.Prelude.{◌≡◌, ◌<◌, ◌≤◌, ◌↔◌, IsTrue, IsSome, IfSome, codes};
+ghost use Rattle.hyphenation_commons.specs.Language.{IsCode, is_code, is_code_byte};
+ghost use Rattle.std.specs.List.{list_all};
+
+use std::fmt;
+use std::marker::Model;
+
+/// The code of a language: 1 to 32 bytes of `a-z`, `0-9` and `-`.
+#[derive(Clone, Copy, PartialEq, Eq, Debug)]
+pub struct Language {
+    /// The code, and zeros behind it.
+    bytes: [u8; 32],
+    len: usize,
+}
+
+impl Model for Language {
+    ghost use Rattle.std.specs.Prelude.{◌≡◌, ◌-◌, ◌≤◌, ◌++◌, List, ℕ, length, take, drop, replicate};
+    ghost use Rattle.std.proofs.Common.{arith};
+    ghost use Rattle.hyphenation_commons.specs.Language.{IsHeld, padded-take};
+
+    ghost Value = { List ℕ };
+
+    ghost view = { λ s. take s.len s.bytes };
+
+    ghost invariant = { λ s. IsHeld s.len s.bytes };
+
+    ghost inverse = { λ code. record { bytes = code ++ replicate (32 - length code) 0; len = length code } };
+
+    ghost inverse_ok = { λ s h i. record {
+      bytes = (padded-take s.len s.bytes h.within h.zeros).0 i;
+      len = (padded-take s.len s.bytes h.within h.zeros).1 i;
+    } };
+}
+
+fn is_code_byte(byte: u8) -> bool
+    ensures { result ≡ is_code_byte byte }
+{
+    matches!(byte, b'a'..=b'z' | b'0'..=b'9' | b'-')
+}
+
+fn are_code_bytes(text: &[u8]) -> bool
+    ensures { result ≡ list_all is_code_byte text.now }
+{
+    text.iter().all(|b| is_code_byte(*b))
+}
+
+fn is_code(text: &[u8]) -> bool
+    ensures { result ≡ is_code text.now }
+{
+    let is_long = 1 <= text.len();
+    let is_short = text.len() <= 32;
+    let all = are_code_bytes(text);
+    is_long && is_short && all
+}
+
+impl Language {
+    /// The language of a code, where it is one.
+    pub fn from_code(code: &str) -> Option<Language>
+        ensures some { IsSome result ↔ IsCode code.now }
+        ensures code { IfSome result (λ language. language ≡ code.now) }
+    {
+        let text = code.as_bytes();
+        let len = text.len();
+        if !is_code(text) {
+            return None;
+        }
+        let mut bytes = [0u8; 32];
+        bytes[..len].copy_from_slice(text);
+        Some(Language { bytes, len })
+    }
+
+    /// The code.
+    pub fn code(&self) -> &str
+        ensures value { result.now ≡ self.now }
+        ensures code { IsCode self.now }
+    {
+        let Language { bytes, len } = self;
+        std::str::from_utf8(&bytes[..*len]).unwrap()
+    }
+}
+
+impl fmt::Display for Language {
+    ghost use Rattle.std.specs.Prelude.{Some};
+    ghost output = { λ language. Some language };
+
+    fn fmt<W: fmt::Write>(&self, f: &mut fmt::Formatter<W>) -> fmt::Result {
+        f.pad(self.code())
+    }
+}
