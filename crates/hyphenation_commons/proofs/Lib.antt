@@ -1,2 +1,5 @@
+pub mod Below
+pub mod Codes
+pub mod PatternsLemmas
+pub mod ExceptionsLemmas
 pub mod Tied
-pub mod Patterns
