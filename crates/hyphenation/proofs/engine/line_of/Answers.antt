@@ -1,4 +1,4 @@
-use Rattle.hyphenation.proofs.Joined.{value_behind}
+use Rattle.hyphenation.proofs.Spaced.{value_behind}
 use Rattle.hyphenation.proofs.engine.line_of.Goals as goal
 
 pub loop-index-preserved : goal.loop-index-preserved
