@@ -1,0 +1,4 @@
+pub mod Fits
+pub mod Segments
+pub mod Coming
+pub mod Boundaries
