@@ -34,7 +34,8 @@ abbrev pub marked : List ℕ → List (List ℕ) → List (List ℕ)
 marked mark [] = []
 marked mark (s ∷ ss) = (s ++ mark_if_more mark ss) ∷ marked mark ss
 
--- A text with the mark put in at each of the places, the last place first.
+-- A text with the mark at each of the places: the text up to the first place, the mark, and what is behind that place
+-- in the text with the mark at the other ones.
 abbrev pub with_marks : List ℕ → List ℕ → List ℕ → List ℕ
 with_marks mark text [] = text
 with_marks mark text (p ∷ ps) = take p text ++ mark ++ drop p (with_marks mark text ps)

@@ -7,6 +7,7 @@ ghost use Rattle.std.specs.Prelude.{◌≡◌, ℕ, List, Option, Some, None, le
 ghost use Rattle.hyphenation_commons.specs.Break.{Break};
 ghost use Rattle.hyphenation.specs.Coming.{TakesFirst, TakesFirstOrRefuses};
 
+pub mod laws;
 pub mod marks;
 pub mod plain;
 
