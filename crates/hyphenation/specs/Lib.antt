@@ -1,0 +1,5 @@
+pub mod Fits
+pub mod Segments
+pub mod Laws
+pub mod Coming
+pub mod Boundaries

@@ -1,2 +1,5 @@
 //! Hyphenation of words.
 #![tactic(auto)]
+
+pub mod hyphenator;
+pub mod iter;
