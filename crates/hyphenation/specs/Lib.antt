@@ -1,0 +1,3 @@
+pub mod Places
+pub mod Folding
+pub mod SoftHyphens

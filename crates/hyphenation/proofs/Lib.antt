@@ -1,0 +1,4 @@
+pub mod Numbered
+pub mod Places
+pub mod Folds
+pub mod Shifts
