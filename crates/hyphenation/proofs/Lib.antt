@@ -1,3 +1,8 @@
-pub mod Places
+pub mod Spaced
+pub mod Bounds
 pub mod Steps
 pub mod Joined
+pub mod Numbered
+pub mod Places
+pub mod Folds
+pub mod Shifts

@@ -1,9 +1,6 @@
 -- The bounds within which a word may be broken.
-use Rattle.std.specs.Prelude.{ℕ, ◌+◌, ◌-◌, ◌&&◌, nat_le, nat_lt, max, List, length, take, Option, None, Some, chars, encode_utf8_all, if◌then◌else◌}
-
--- The place of a character by its number from 0: the number of bytes of the characters before it.
-abbrev pub place_of_character : List ℕ → ℕ → ℕ
-place_of_character text number = length (encode_utf8_all (take number (chars text)))
+use Rattle.std.specs.Prelude.{ℕ, ◌+◌, ◌-◌, ◌&&◌, nat_le, nat_lt, max, List, length, Option, None, Some, chars, if◌then◌else◌}
+use Rattle.hyphenation.specs.Places.{place_of_character}
 
 -- For the minima l and r and a word of c characters: the places of the characters l and c - max r 1, where the word
 -- has l + r characters or more, and more than l.

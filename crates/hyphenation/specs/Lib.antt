@@ -1,5 +1,8 @@
+pub mod Places
+pub mod Boundaries
 pub mod Fits
 pub mod Segments
 pub mod Laws
 pub mod Coming
-pub mod Boundaries
+pub mod Folding
+pub mod SoftHyphens

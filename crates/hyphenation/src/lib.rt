@@ -1,5 +1,7 @@
 //! Hyphenation of words.
 #![tactic(auto)]
 
+pub mod case_folding;
 pub mod hyphenator;
 pub mod iter;
+pub mod soft_hyphens;

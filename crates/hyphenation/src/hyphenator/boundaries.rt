@@ -2,7 +2,8 @@
 
 ghost use Rattle.std.specs.Prelude.{◌≡◌, ◌≤◌, IfSome};
 ghost use Rattle.std.specs.Str.{IsCharBoundary};
-ghost use Rattle.hyphenation.specs.Boundaries.{place_of_character, boundaries};
+ghost use Rattle.hyphenation.specs.Boundaries.{boundaries};
+ghost use Rattle.hyphenation.specs.Places.{place_of_character};
 
 /// The first and the last place at which minima let a word be broken, in bytes of the word: for the minima `(l, r)`,
 /// in characters, and a word of `c` characters the places of the characters number `l` and `c - max(r, 1)`, counted

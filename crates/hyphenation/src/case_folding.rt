@@ -1,0 +1,115 @@
+//! The folding of words, and the way back to the word as written.
+//!
+//! Patterns are written in small letters, so a word is folded before it is hyphenated. The
+//! folding may change how many bytes a character takes, and then a place of the folded word
+//! is no place of the word as written:
+//!
+//! ```text
+//! as written   İ(2) ẞ(3) a b    bytes c4b0 e1ba9e 61 62
+//! folded       i(1) ß(2) a b    bytes 69   c39f   61 62
+//! shifts       (0, -1) (1, -2)
+//! ```
+//!
+//! [`refold`] gives the folded word with a [`Shift`] for each such character, and [`realign`]
+//! carries a place of the folded word back by them: place 3, before the `a`, comes after the
+//! shift of the `ẞ`, and becomes 3 + 2 = 5.
+ghost use Rattle.std.specs.Prelude.{◌≡◌, ◌≤◌, ◌<◌, ◌^◌, ℕ, List, [], false, pos, ◌-ℤ◌, length, IfOk, IsOkAnd, ◌↔◌};
+ghost use Rattle.std.specs.Cow.{cow_str_bytes, IsBorrowedStr};
+ghost use Rattle.std.specs.Int.{saturate_unsigned, w64};
+ghost use Rattle.std.specs.Str.{IsUtf8};
+ghost use Rattle.hyphenation.specs.Places.{place_of_character};
+ghost use Rattle.hyphenation.specs.Folding.{fold_character, fold, has_uppercase, shifts_of, delta_below};
+
+use std::alloc::{AllocError, Global};
+use std::borrow::CowStr;
+use unicode::case::simple_fold;
+use unicode::properties::is_uppercase;
+
+/// A character of which the folding changed the number of bytes.
+#[derive(Clone, Copy, Debug)]
+pub struct Shift {
+    /// The place at which the character begins in the folded word.
+    pub index: usize,
+    /// By how many bytes the folded word is longer than the word as written, up to the end of
+    /// this character; below 0 where it is shorter.
+    pub delta: isize,
+}
+
+/// The folded word, and a shift for each character whose number of bytes changed, in order.
+///
+/// U+0130, the Turkish `İ`, becomes `i`; any other character with the property Uppercase
+/// becomes its simple case folding; all others stay as they are. A word without a character
+/// that is Uppercase is lent as it stands, with no shifts, and takes no memory; for any other,
+/// an `Err` says that memory was refused.
+pub fn refold<'t>(alloc: Global, original: &'t str) -> Result<(CowStr<'t>, Vec<Shift>), AllocError>
+    ensures folded { IfOk result (λ r. cow_str_bytes r.0 ≡ fold original.now) }
+    ensures shifts { IfOk result (λ r. r.1.items ≡ shifts_of original.now) }
+    ensures borrowed { IfOk result (λ r. IsBorrowedStr r.0 ↔ (has_uppercase original.now ≡ false)) }
+    ensures lent { has_uppercase original.now ≡ false → IsOkAnd result (λ r. IsBorrowedStr r.0 × (r.1.items ≡ [])) }
+{
+    let mut shifts = Vec::new(alloc);
+    let Some(start) = original.find(|c: char| is_uppercase(c)) else {
+        return Ok((CowStr::Borrowed(original), shifts));
+    };
+    let (unchanged, rest) = original.split_at(start);
+    let mut folded = String::from_str(alloc, unchanged)?;
+    let mut written = start;
+    for c in rest.chars() {
+        let index = folded.len();
+        folded.push(fold_char(c))?;
+        written += c.len_utf8();
+        if folded.len() - index != c.len_utf8() {
+            let delta = difference(folded.len(), written);
+            shifts.push(Shift { index, delta })?;
+        }
+    }
+    Ok((CowStr::Owned(folded), shifts))
+}
+
+fn fold_char(c: char) -> char
+    ensures { result ≡ fold_character c }
+{
+    if c == '\u{130}' {
+        'i'
+    } else if is_uppercase(c) {
+        simple_fold(c)
+    } else {
+        c
+    }
+}
+
+// By how much the first number of bytes is above the second.
+fn difference(a: usize, b: usize) -> isize
+    requires first { a < 2 ^ 63 }
+    requires second { b < 2 ^ 63 }
+    ensures { result ≡ pos a -ℤ pos b }
+{
+    a as isize - b as isize
+}
+
+/// The place in the word as written that has as many characters before it as the place `i` of
+/// the folded word, where the shifts are those of [`refold`].
+///
+/// This is `i` less the delta of the last shift whose index is below `i`, held between 0 and
+/// the greatest `usize`.
+pub fn realign(i: usize, shifts: &[Shift]) -> usize
+    ensures value { result ≡ saturate_unsigned w64 (pos i -ℤ delta_below shifts.now i) }
+    ensures carried { (original : List ℕ) (j : ℕ) → IsUtf8 original → length original ≤ usize.MAX → shifts.now ≡ shifts_of original → i ≡ place_of_character (fold original) j → result ≡ place_of_character original j }
+{
+    let delta = shifts.iter().rfind(|shift| shift.index < i).map_or(0, |shift| shift.delta);
+    i.saturating_sub_signed(delta)
+}
+
+#[cfg(test)]
+mod tests {
+    use super::*;
+    use std::test::Fail;
+
+    #[test]
+    fn words_fold_with_their_shifts(rt: HostRuntime) -> Result<(), Fail> {
+        let (folded, shifts) = refold(rt.alloc(), "İẞab")?;
+        assert_eq!(rt; folded.as_str(), "ißab");
+        assert_eq!(rt; shifts.len(), 2);
+        Ok(())
+    }
+}
