@@ -1,4 +1,3 @@
-pub mod Spaced
 pub mod Bounds
 pub mod Steps
 pub mod Joined
