@@ -1,6 +1,6 @@
 -- Changes, breaks, the ranges that they take and the halves that they leave.
 -- Source: L. Németh, Automatic non-standard hyphenation in OpenOffice.org, TUGboat 27:1 (2006).
-use Rattle.std.specs.Prelude.{ℕ, ◌+◌, ◌-◌, ◌&&◌, ◌||◌, Bool, List, [], length, take, drop, nat_le, nat_lt, slice_index, Option, None, Some}
+use Rattle.std.specs.Prelude.{ℕ, ◌+◌, ◌-◌, ◌&&◌, ◌||◌, Bool, true, List, [], length, take, drop, nat_le, nat_lt, slice_index, Option, None, Some}
 use Rattle.std.specs.Option.{is_some}
 
 -- From left bytes before a place to right bytes behind it stands the substitution, broken at the breakpoint.
@@ -48,6 +48,11 @@ after_of (Some change) = drop change.breakpoint change.substitution
 
 abbrev pub is_changed : Break → Bool
 is_changed b = is_some b.change
+
+-- A change, where there is one, is broken between characters of its substitution.
+abbrev pub has_boundary : Option Change → Bool
+has_boundary None = true
+has_boundary (Some change) = is_boundary change.substitution change.breakpoint
 
 -- A change at a place keeps within the text, on its characters.
 abbrev pub keeps_within : List ℕ → ℕ → Change → Bool
