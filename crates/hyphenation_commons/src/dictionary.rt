@@ -120,6 +120,7 @@ impl<C: Carried, B: Break> Dictionary<C, B> {
         ensures known { (text : List ℕ) → keys_of self.now text ≡ key_at result.now text }
         ensures begins { EachBeginsKey result.now }
     {
+        // The call tells the proof what is true of each trie.
         let _root = self.patterns.root();
         &self.patterns
     }
@@ -128,10 +129,7 @@ impl<C: Carried, B: Break> Dictionary<C, B> {
     pub fn exception(&self, word: &str) -> Option<&[B]>
         ensures { option_copied result ≡ finite.get self.now.exceptions word.now }
     {
-        match self.exceptions.get(word) {
-            Some(listed) => Some(listed.as_slice()),
-            None => None,
-        }
+        self.exceptions.get(word).map(Vec::as_slice)
     }
 
     /// Whether breaks may be listed for a word.
