@@ -2,3 +2,5 @@ pub mod Numbered
 pub mod Places
 pub mod Folds
 pub mod Shifts
+pub mod Uppercase
+pub mod Refolding
