@@ -5,3 +5,5 @@ pub mod Numbered
 pub mod Places
 pub mod Folds
 pub mod Shifts
+pub mod Uppercase
+pub mod Refolding
