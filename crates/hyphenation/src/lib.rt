@@ -1,2 +1,4 @@
 //! Hyphenation of words.
 #![tactic(auto)]
+
+pub mod score;

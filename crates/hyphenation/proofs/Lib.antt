@@ -1,0 +1,5 @@
+pub mod Greatest
+pub mod First
+pub mod Walked
+pub mod Longest
+
