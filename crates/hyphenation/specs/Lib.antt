@@ -1,1 +1,2 @@
 pub mod Scoring
+pub mod Examples
