@@ -7,3 +7,9 @@ pub mod Folds
 pub mod Shifts
 pub mod Uppercase
 pub mod Refolding
+pub mod Greatest
+pub mod First
+pub mod Walked
+pub mod Longest
+pub mod WordPlaces
+pub mod Winning
