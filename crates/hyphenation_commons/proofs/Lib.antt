@@ -1,2 +1,9 @@
 pub mod Tied
 pub mod Patterns
+pub mod Numbers
+pub mod Ends
+pub mod Heads
+pub mod Parts
+pub mod Kept
+pub mod AsciiSplits
+pub mod Utf8

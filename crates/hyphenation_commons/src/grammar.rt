@@ -1,5 +1,7 @@
 //! The dictionary text.
 
+pub(crate) mod lines;
+pub(crate) mod pattern;
 pub mod tokens;
 
 use std::fmt;
