@@ -1,11 +1,10 @@
 -- UTF-8 parted at ASCII bytes: what escapes and values leave of it.
-use Rattle.std.proofs.Common.{◌≡◌, ℕ, suc, zero, ◌+◌, ◌<◌, ◌≤◌, Bool, true, false, cond, eqb, List, [], ◌∷◌, ◌++◌, length, take, drop, get_or, refl, sym, ap, subst, ◌∙◌, append_assoc, arith, length-append}
-use Rattle.std.specs.Prelude.{IsUtf8, IsAscii, IsCharBoundary, flat_map}
+use Rattle.std.proofs.Common.{◌≡◌, ℕ, suc, zero, ◌+◌, ◌<◌, true, eqb, List, [], ◌∷◌, ◌++◌, length, get_or, refl, subst, arith, length-append}
+use Rattle.std.specs.Prelude.{IsUtf8, IsCharBoundary}
 use Rattle.std.proofs.lemmas.Bool.Decides.{nat_tests}
 use Rattle.std.proofs.lemmas.List.{take_at}
-use Rattle.std.proofs.Math.Seq.{get_or-append_seam, drop-append_seam, drop-append-add}
+use Rattle.std.proofs.Math.Seq.{get_or-append_seam, drop-append-add}
 use Rattle.std.proofs.lemmas.Str.{IsUtf8-append, IsUtf8-take, IsUtf8-drop, IsUtf8-from_ascii, IsCharBoundary-after_ascii}
-use Rattle.hyphenation_commons.specs.Lines.{is_digit}
 use Rattle.hyphenation_commons.specs.Tokens.{escaped_also}
 use Rattle.hyphenation_commons.specs.declared.grammar.tokens.Escapes.{Escapes}
 use Rattle.hyphenation_commons.specs.declared.grammar.tokens.Escapes.TheVariants.{Plain, Digits}
@@ -15,9 +14,10 @@ split_ascii p b rest small u =
     let here : get_or (p ++ b ∷ rest) (length p) 0 ≡ b = get_or-append_seam p b rest 0 in
     let long : length (p ++ b ∷ rest) ≡ length p + suc (length rest) = length-append p (b ∷ rest) in
     let at : IsCharBoundary (p ++ b ∷ rest) (length p) = (omega arith, λ lt big. absurd (omega arith)) in
-    let after : IsCharBoundary (p ++ b ∷ rest) (length p + 1) = IsCharBoundary-after_ascii (p ++ b ∷ rest) (length p) u (omega arith) (omega arith) in
-    (subst IsUtf8 (take_at p (b ∷ rest) (length p) refl) (IsUtf8-take (p ++ b ∷ rest) (length p) u at),
-     subst IsUtf8 (drop-append-add p (b ∷ rest) 1) (IsUtf8-drop (p ++ b ∷ rest) (length p + 1) u after))
+    let after : IsCharBoundary (p ++ b ∷ rest) (length p + 1) = IsCharBoundary-after_ascii (p ++ b ∷ rest) (length p) u (omega arith) (omega arith) in (
+      subst IsUtf8 (take_at p (b ∷ rest) (length p) refl) (IsUtf8-take (p ++ b ∷ rest) (length p) u at),
+      subst IsUtf8 (drop-append-add p (b ∷ rest) 1) (IsUtf8-drop (p ++ b ∷ rest) (length p + 1) u after),
+    )
 
 pub one_ascii : (b : ℕ) → b < 128 → IsUtf8 (b ∷ [])
 one_ascii b small = IsUtf8-from_ascii (b ∷ []) (λ i. below i)

@@ -1,8 +1,7 @@
 -- What is read of UTF-8 is UTF-8.
-use Rattle.std.proofs.Common.{◌≡◌, ℕ, ◌+◌, ◌-◌, ◌<◌, ◌≤◌, Bool, true, false, cond, not, ◌&&◌, eqb, List, [], ◌∷◌, ◌++◌, length, map, Option, Some, None, refl, sym, ap, subst, ◌∙◌, append_assoc, arith}
+use Rattle.std.proofs.Common.{◌≡◌, ℕ, ◌<◌, Bool, true, false, cond, eqb, List, [], ◌∷◌, ◌++◌, Option, Some, None, refl, sym, subst, append_assoc, arith}
 use Rattle.std.specs.Prelude.{IsUtf8}
 use Rattle.std.specs.Option.{option_map}
-use Rattle.std.proofs.lemmas.List.{append-nil}
 use Rattle.std.proofs.lemmas.Bool.Decides.{nat_tests}
 use Rattle.std.proofs.lemmas.Str.{IsUtf8-append}
 use Rattle.hyphenation_commons.specs.Tokens.{signs_behind, signs_of, meaning, escaped_also, joined, added, bytes_of}
@@ -25,6 +24,7 @@ small_meaning es c m e = by (eqb c 92) (eqb c 115) (eqb c 110) (eqb c 114) (esca
   where
     literal : (a k : ℕ) → eqb c a ≡ true → a < 128 → k < 128 → Some k ≡ Some m → (c < 128) × (m < 128)
     literal a k t sa sk h = let same : k ≡ m = cc in (same_byte c a t sa, subst (λ (x : ℕ). x < 128) same sk)
+
     by : (t1 t2 t3 t4 t5 : Bool) → eqb c 92 ≡ t1 → eqb c 115 ≡ t2 → eqb c 110 ≡ t3 → eqb c 114 ≡ t4 → escaped_also es c ≡ t5
         → cond t1 (Some 92) (cond t2 (Some 32) (cond t3 (Some 10) (cond t4 (Some 13) (cond t5 (Some c) None)))) ≡ Some m → (c < 128) × (m < 128)
     by true t2 t3 t4 t5 e1 e2 e3 e4 e5 h = literal 92 92 e1 (omega arith) (omega arith) h

@@ -7,3 +7,8 @@ pub mod Parts
 pub mod Kept
 pub mod AsciiSplits
 pub mod Utf8
+pub mod Later
+pub mod Words
+pub mod ReadTokens
+pub mod Causes
+pub mod OneLine

@@ -12,3 +12,4 @@ pub mod Items
 pub mod Judging
 pub mod Reading
 pub mod Parsed
+pub mod Said

@@ -1,5 +1,6 @@
 //! The dictionary text.
 
+pub(crate) mod items;
 pub(crate) mod lines;
 pub(crate) mod pattern;
 pub mod tokens;
