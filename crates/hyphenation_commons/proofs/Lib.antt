@@ -4,3 +4,16 @@ pub mod ExceptionsLemmas
 pub mod KeptLemmas
 pub mod PatternsLemmas
 pub mod Tied
+pub mod Patterns
+pub mod Numbers
+pub mod Ends
+pub mod Heads
+pub mod Parts
+pub mod Kept
+pub mod AsciiSplits
+pub mod Utf8
+pub mod Later
+pub mod Words
+pub mod ReadTokens
+pub mod Causes
+pub mod OneLine

@@ -1,5 +1,8 @@
 //! The dictionary text: what its lines spell, and why one is refused.
 
+pub(crate) mod items;
+pub(crate) mod lines;
+pub(crate) mod pattern;
 pub mod tokens;
 
 use crate::language::Language;
