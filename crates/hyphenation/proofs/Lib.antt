@@ -4,3 +4,4 @@ pub mod Folds
 pub mod Shifts
 pub mod Uppercase
 pub mod Refolding
+pub mod SoftHyphens
