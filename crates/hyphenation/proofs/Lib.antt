@@ -13,3 +13,4 @@ pub mod Walked
 pub mod Longest
 pub mod WordPlaces
 pub mod Winning
+pub mod SoftHyphens

@@ -1,0 +1,41 @@
+use Rattle.std.proofs.Common.{rules, arith, length, ◌≡◌, false, sym, ◌∙◌}
+use Rattle.std.specs.Str.Iter.{char_indices_rest, char_indices_offset}
+use Rattle.hyphenation.proofs.SoftHyphens.{starts, passed, found, one_met, none_found, searched_whole, ascending, within}
+use Rattle.hyphenation.proofs.soft_hyphens.soft_hyphen_indices.Goals as goal
+
+pub loop-place-preserved-in-Continue-1 : goal.loop-place-preserved-in-Continue-1
+loop-place-preserved-in-Continue-1 c =
+    let next = found _ _ (char_indices_rest c.next.new.self) _ (char_indices_offset c.next.new.self) c.in-Some.c _ c.loop-place.invariant.holds (search rules) (search rules) _ (search rules) (search rules) in
+    record { can = omega (arith, next.left, c.loop-place.invariant.holds.left, c.loop-place.invariant.can); finite = tt; holds = next }
+
+pub loop-place-preserved : goal.loop-place-preserved
+loop-place-preserved c =
+    let next = passed _ _ (char_indices_rest c.next.new.self) _ (char_indices_offset c.next.new.self) c.in-Some.c _ c.loop-place.invariant.holds (search rules) (search rules) (search rules) in
+    record { can = omega (arith, next.left, c.loop-place.invariant.holds.left, c.loop-place.invariant.can); finite = tt; holds = next }
+
+pub returns-in_err-push-clause-none : goal.returns-in_err-push-clause-none
+returns-in_err-push-clause-none c = λ none. absurd (one_met _ _ (char_indices_rest c.next.new.self) _ (char_indices_offset c.next.new.self) c.in-Some.c _ c.loop-place.invariant.holds (search rules) (search rules) (search rules) none)
+
+pub returns-in_err-push-clause-ascending : goal.returns-in_err-push-clause-ascending
+returns-in_err-push-clause-ascending c = ascending c.args.word.now
+
+pub returns-in_err-push-clause-within : goal.returns-in_err-push-clause-within
+returns-in_err-push-clause-within c = within c.args.word.now c.utf8.word
+
+pub returns-then-is_empty-clause-ascending : goal.returns-then-is_empty-clause-ascending
+returns-then-is_empty-clause-ascending c = ascending c.args.word.now
+
+pub returns-then-is_empty-clause-within : goal.returns-then-is_empty-clause-within
+returns-then-is_empty-clause-within c = within c.args.word.now c.utf8.word
+
+pub returns-then-is_empty-clause-some : goal.returns-then-is_empty-clause-some
+returns-then-is_empty-clause-some c = 
+    let empty : length c.loop-place.places.items ≡ 0 = search rules in
+    let none = none_found _ _ _ _ c.loop-place.invariant.holds (search rules) empty in
+    (λ f. cc, λ some. absurd (some none))
+
+pub returns-clause-ascending : goal.returns-clause-ascending
+returns-clause-ascending c = ascending c.args.word.now
+
+pub returns-clause-within : goal.returns-clause-within
+returns-clause-within c = within c.args.word.now c.utf8.word
