@@ -1,2 +1,5 @@
 pub mod Tied
 pub mod Patterns
+pub mod AsciiSplits
+pub mod Seams
+pub mod Passed
