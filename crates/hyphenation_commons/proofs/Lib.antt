@@ -1,5 +1,10 @@
-pub mod Tied
-pub mod Patterns
 pub mod AsciiSplits
-pub mod Seams
+pub mod Below
+pub mod Codes
+pub mod ExceptionsLemmas
+pub mod Gathered
+pub mod Order
 pub mod Passed
+pub mod PatternsLemmas
+pub mod Seams
+pub mod Tied

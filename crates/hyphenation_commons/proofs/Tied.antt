@@ -1,9 +1,9 @@
 -- A node more keeps the edges tied to the nodes.
-use Rattle.std.proofs.Common.{◌≡◌, ◌≢◌, ℕ, zero, suc, ◌+◌, ◌<◌, ◌≤◌, Bool, true, false, cond, ◌&&◌, nat_eq, eqb, List, [], ◌∷◌, ◌++◌, length, take, get_or, set, map, fold, Option, Some, None, refl, sym, ap, subst, ◌∙◌, arith, ◌⊎◌, inl, inr}
+use Rattle.std.proofs.Common.{◌≡◌, ◌≢◌, ℕ, zero, suc, ◌+◌, ◌<◌, Bool, true, false, cond, ◌&&◌, nat_eq, eqb, List, [], ◌∷◌, ◌++◌, length, take, get_or, set, map, fold, Option, Some, None, refl, sym, ap, subst, ◌∙◌, arith, ◌⊎◌, inl, inr}
 use Rattle.std.specs.Prelude.{slice_get, IsSome}
 use Rattle.std.proofs.lemmas.Bool.{cases_lt, cases_eq, eqb-true, eq-eqb}
 use Rattle.std.proofs.lemmas.List.{length-append, map_push, length-map, map-set, take_more, length-take-le, get_or_append_left, get_or_push}
-use Rattle.std.proofs.lemmas.Grind.{fold-append, common_steps}
+use Rattle.std.proofs.lemmas.Grind.{fold-append}
 use Rattle.hyphenation_commons.specs.Trie.{with_text, text_after, texts_of, IsTied, pair_eq, seen, grown, IsTrie, Tree, entries_at, key_at, text_of, Grows, AddsFront, with_entries, EachBeginsKey}
 use Rattle.std.specs.Option.{option_map}
 use Rattle.std.specs.Prelude.{Vec}
@@ -297,11 +297,12 @@ seen_entries [] i n lt read = absurd (omega arith)
 seen_entries (m ∷ ns) zero n lt read = ap (λ x. option_map (λ v. v.items) x.entries) (sym read)
 seen_entries (m ∷ ns) (suc i) n lt read = seen_entries ns i n (omega arith) read
 
-pub seen-with : {E : Type 0} (ns : List (Node E)) (i : ℕ) (n : Node E) (es : Vec E Global) → n ≡ get_or ns i n
-    → seen (set ns i (record { from = n.from; entries = Some es })) ≡ with_entries (seen ns) i es.items
-seen-with ns i n es read =
-    let froms : map (λ n. n.from) (set ns i (record { from = n.from; entries = Some es })) ≡ map (λ n. n.from) ns = map-set_same (λ n. n.from) ns i (record { from = n.from; entries = Some es }) n (ap (λ n. n.from) read) in
-    let news : map (λ n. option_map (λ v. v.items) n.entries) (set ns i (record { from = n.from; entries = Some es })) ≡ set (map (λ n. option_map (λ v. v.items) n.entries) ns) i (Some es.items) = map-set _ ns i _ in
+pub seen-with : {E : Type 0} (ns : List (Node E)) (i : ℕ) (n : Node E) (now : Option (Vec E Global)) (es : Vec E Global) → n ≡ get_or ns i n → now ≡ Some es
+    → seen (set ns i (record { from = n.from; entries = now })) ≡ with_entries (seen ns) i es.items
+seen-with {E} ns i n now es read is =
+    let froms : map (λ n. n.from) (set ns i (record { from = n.from; entries = now })) ≡ map (λ n. n.from) ns = map-set_same (λ n. n.from) ns i (record { from = n.from; entries = now }) n (ap (λ n. n.from) read) in
+    let news : map (λ n. option_map (λ v. v.items) n.entries) (set ns i (record { from = n.from; entries = now })) ≡ set (map (λ n. option_map (λ v. v.items) n.entries) ns) i (Some es.items) =
+    map-set _ ns i _ ∙ ap (λ (o : Option (List E)). set (map (λ n. option_map (λ v. v.items) n.entries) ns) i o) (ap (option_map (λ v. v.items)) is) in
     λ k. record { texts = texts_of (froms k); entries = news k }
 
 -- the entries of one key are set

@@ -1,7 +1,5 @@
 -- How a dictionary is held, and its contents' code.
-use Rattle.std.specs.Prelude.{◌≡◌, ℕ, List, [], ◌∷◌, map, Option, Some, None, refl}
-use Rattle.std.specs.Ordering.{nat_cmp}
-use Rattle.std.specs.Cmp.Lexicographic.{slice_cmp}
+use Rattle.std.specs.Prelude.{ℕ, List, [], ◌∷◌, map, Option, Some, None, refl}
 use Rattle.std.specs.Coded.{Coded, coded_ℕ, coded×, coded_list, code_by}
 use Rattle.std.specs.FinMap as finite
 use Rattle.std.specs.String.{string_bytes}

@@ -1,16 +1,24 @@
-//! Dictionaries.
+//! Dictionaries: patterns that allow and forbid breaks, and the exceptions to them.
+//!
+//! A pattern is a key, a text that may occur in words, with values at places of the key. An
+//! exception is a word with the breaks that are listed for it.
 
-ghost use Rattle.std.specs.Prelude.{◌≡◌, List, ℕ};
-ghost use Rattle.hyphenation_commons.specs.Dictionary.{keys_of};
+ghost use Rattle.std.specs.Prelude.{◌≡◌, List, ℕ, option_copied};
+ghost use Rattle.std.specs.FinMap as finite;
+ghost use Rattle.hyphenation_commons.specs.Break.{Break};
+ghost use Rattle.hyphenation_commons.specs.Dictionary.{Contents, keys_of};
+ghost use Rattle.hyphenation_commons.specs.Held.{patterns_of, exceptions_of};
+ghost use Rattle.hyphenation_commons.specs.Kept.{IsKept};
 ghost use Rattle.hyphenation_commons.specs.Trie.{key_at, EachBeginsKey};
 
 use crate::breaks::Break;
 use crate::language::Language;
 use crate::trie::Trie;
 use std::collections::HashMap;
+use std::fmt;
 use std::marker::Model;
 
-/// A value at a place of a key, and the change that it carries.
+/// A value at a place of a key, and what it carries.
 #[derive(Debug, Drop)]
 pub struct Entry<C> {
     /// The number of bytes of the key before it.
@@ -26,6 +34,7 @@ pub trait Carried: Drop {
     ghost use Rattle.std.specs.Prelude.{Option};
     ghost use Rattle.hyphenation_commons.specs.Break.{Change};
 
+    /// The change, where there is one.
     ghost change: { Self → Option Change };
 }
 
@@ -39,9 +48,12 @@ impl Carried for () {
 #[derive(Drop)]
 pub struct Dictionary<C: Carried, B: Break> {
     language: Language,
+    /// The least number of characters of a word before its first break.
     left: u8,
+    /// The least number of characters of a word behind its last break.
     right: u8,
     patterns: Trie<Entry<C>>,
+    /// Words, each with its listed breaks.
     exceptions: HashMap<String, Vec<B>>,
 }
 
@@ -65,10 +77,66 @@ impl<C: Carried, B: Break> Model for Dictionary<C, B> {
 }
 
 impl<C: Carried, B: Break> Dictionary<C, B> {
-    /// The language of its text.
+    /// A dictionary of these parts.
+    pub(crate) fn new(
+        language: Language,
+        left: u8,
+        right: u8,
+        patterns: Trie<Entry<C>>,
+        exceptions: HashMap<String, Vec<B>>,
+    ) -> Self
+        requires begins { EachBeginsKey patterns }
+        requires kept { IsKept C.change B.meaning (record { language = language; left = left; right = right; patterns = patterns_of patterns; exceptions = exceptions_of exceptions }) }
+        ensures { result ≡ record { language = language; left = left; right = right; patterns = patterns_of patterns; exceptions = exceptions_of exceptions } }
+    {
+        Dictionary {
+            language,
+            left,
+            right,
+            patterns,
+            exceptions,
+        }
+    }
+
+    /// The language whose words it breaks.
     pub fn language(&self) -> Language
         ensures { result ≡ self.now.language }
     {
         self.language
+    }
+
+    /// The least numbers of characters of a word before its first break and behind its last one.
+    pub fn minima(&self) -> (usize, usize)
+        ensures { result ≡ (self.now.left, self.now.right) }
+    {
+        (usize::from(self.left), usize::from(self.right))
+    }
+
+    /// The keys with their entries. Each node but the root begins a key.
+    pub fn patterns(&self) -> &Trie<Entry<C>>
+        ensures known { (text : List ℕ) → keys_of self.now text ≡ key_at result.now text }
+        ensures begins { EachBeginsKey result.now }
+    {
+        let _root = self.patterns.root();
+        &self.patterns
+    }
+
+    /// The breaks listed for a word, if it is an exception.
+    pub fn exception(&self, word: &str) -> Option<&[B]>
+        ensures { option_copied result ≡ finite.get self.now.exceptions word.now }
+    {
+        match self.exceptions.get(word) {
+            Some(listed) => Some(listed.as_slice()),
+            None => None,
+        }
+    }
+}
+
+impl<C: Carried, B: Break> fmt::Debug for Dictionary<C, B> {
+    fn fmt<W: fmt::Write>(&self, f: &mut fmt::Formatter<W>) -> fmt::Result {
+        f.debug_struct("Dictionary")
+            .field("language", &self.language)
+            .field("minima", &(self.left, self.right))
+            .finish_non_exhaustive()
     }
 }

@@ -83,6 +83,7 @@ impl Language {
 
 impl fmt::Display for Language {
     ghost use Rattle.std.specs.Prelude.{Some};
+
     ghost output = { λ language. Some language };
 
     fn fmt<W: fmt::Write>(&self, f: &mut fmt::Formatter<W>) -> fmt::Result {

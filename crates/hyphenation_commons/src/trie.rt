@@ -1,24 +1,58 @@
-//! Nodes of bytes in a vector.
+//! A trie: a tree that holds keys by the bytes that they share.
+//!
+//! Each node stands for a text, the root for the empty one. A step along a byte leads to the node
+//! of the text with that byte behind it, its child. A node whose text is a key holds the key's
+//! entries. Here are the keys `ir`, `rk` and `rkin`, whose nodes are marked:
+//!
+//! ```text
+//!             root
+//!         i /      \ r
+//!         i          r
+//!       r |          | k
+//!        [ir]       [rk]
+//!                    | i
+//!                   rki
+//!                    | n
+//!                  [rkin]
+//! ```
+//!
+//! To find the keys that begin at a byte of a word, one walks from the root along the bytes of the
+//! word, and stops where there is no child: below it there is no key.
+//!
+//! Nodes are numbers: those below the number of texts that a clause sees, `length texts`. A node
+//! keeps its number as the trie grows.
 
 ghost use Rattle.std.specs.Prelude.{◌≡◌, ◌≢◌, ◌+◌, ◌<◌, ◌^◌, ◌++◌, [], ◌∷◌, ℕ, List, length, None, Some, IfOk, OnOk, OnErr, if◌then◌else◌, nat_eq, IfSome, IfNone, option_copied};
-ghost use Rattle.hyphenation_commons.specs.Trie.{Tree, text_of, key_at, grown, IsTrie, Grows, AddsFront, EachBeginsKey, with_entries};
+ghost use Rattle.std.specs.Option.{option_map};
 ghost use Rattle.std.specs.Cmp.Lexicographic.{pointwise};
+ghost use Rattle.hyphenation_commons.specs.Trie.{Tree, text_of, key_at, grown, IsTrie, Grows, AddsFront, EachBeginsKey, with_entries};
 
 use std::alloc::{AllocError, Global};
 use std::collections::HashMap;
+use std::fmt;
 use std::marker::Model;
 
-/// Counts of look-ups and of reports.
+/// Counts the look-ups of a byte among a node's children, and the keys reported.
+///
+/// Each look-up counts, whether there is such a child or not.
 #[derive(Debug, Drop)]
 pub struct LookUps {
     made: u128,
     reported: u128,
 }
 
+impl Model for LookUps {
+    ghost use Rattle.hyphenation_commons.specs.Counts.{Counts};
+
+    ghost Value = { Counts };
+
+    ghost view = { λ counts. record { made = counts.made; reported = counts.reported } };
+}
+
 impl LookUps {
+    /// Counts from 0.
     pub fn new() -> Self
-        ensures made { result.made ≡ 0 }
-        ensures reported { result.reported ≡ 0 }
+        ensures { result ≡ record { made = 0; reported = 0 } }
     {
         LookUps {
             made: 0,
@@ -26,18 +60,21 @@ impl LookUps {
         }
     }
 
+    /// The number of look-ups made.
     pub fn made(&self) -> u128
         ensures { result ≡ self.now.made }
     {
         self.made
     }
 
+    /// The number of keys reported.
     pub fn reported(&self) -> u128
         ensures { result ≡ self.now.reported }
     {
         self.reported
     }
 
+    /// Counts one look-up.
     pub(crate) fn look_up(&mut self)
         requires { self.old.made + 1 < 2 ^ 128 }
         ensures { self.new ≡ record self.old { made = self.old.made + 1 } }
@@ -48,16 +85,18 @@ impl LookUps {
 
 #[derive(Drop)]
 struct Node<E> {
-    /// The parent and the byte that leads here; none at the root.
+    /// The parent and the byte that leads from it to here. The root has none.
     from: Option<(usize, u8)>,
-    /// The entries, where a key ends here.
+    /// The entries, where the node's text is a key.
     entries: Option<Vec<E>>,
 }
 
-/// The keys, each with its entries.
+/// Keys, each with its entries.
 #[derive(Drop)]
 pub struct Trie<E> {
+    /// The root, and behind it each node later than its parent.
     nodes: Vec<Node<E>>,
+    /// The child of a node at a byte. One map for all nodes: a step is one look-up by hash.
     edges: HashMap<(usize, u8), usize>,
 }
 
@@ -74,7 +113,7 @@ impl<E> Model for Trie<E> {
 }
 
 impl<E: Drop> Trie<E> {
-    /// The trie of no key.
+    /// The trie of no key: the root alone. The only error is memory.
     pub fn new(alloc: Global) -> Result<Self, AllocError>
         ensures { IfOk result (λ trie. trie ≡ record { texts = [] ∷ []; entries = None ∷ [] }) }
     {
@@ -89,7 +128,22 @@ impl<E: Drop> Trie<E> {
         })
     }
 
+    /// The root: the node of the empty text.
+    pub fn root(&self) -> usize
+        ensures root { result ≡ 0 }
+        ensures node { result < length self.now.texts }
+        ensures text { text_of self.now result ≡ [] }
+        ensures trie { IsTrie self.now }
+    {
+        // There always is one: the look at the field lets the proof know it.
+        let _nodes = &self.nodes;
+        0
+    }
+
     /// The child of a node at a byte, which counts as one look-up.
+    ///
+    /// The child's text is the node's with the byte behind it. Where there is none, no key begins
+    /// with that text. This is the only way to a child.
     pub fn child(&self, node: usize, byte: u8, count: &mut LookUps) -> Option<usize>
         requires node { node < length self.now.texts }
         requires room { count.old.made + 1 < 2 ^ 128 }
@@ -101,6 +155,34 @@ impl<E: Drop> Trie<E> {
         self.child_of(node, byte)
     }
 
+    /// The entries of the key that a node's text is; none where it is no key.
+    ///
+    /// This is the only way to a key's entries.
+    pub fn entries(&self, node: usize) -> Option<&[E]>
+        requires { node < length self.now.texts }
+        ensures key { option_copied result ≡ key_at self.now (text_of self.now node) }
+    {
+        match &self.nodes[node].entries {
+            Some(entries) => Some(entries.as_slice()),
+            None => None,
+        }
+    }
+
+    /// Gives a key these entries, and answers those that it had, if it was a key.
+    ///
+    /// No other key changes. The only error is memory, and then each key is as before.
+    pub fn insert(&mut self, key: &[u8], entries: Vec<E>) -> Result<Option<Vec<E>>, AllocError>
+        ensures ok { OnOk result ((q : List ℕ) → key_at self.new q ≡ (if pointwise nat_eq key.now q then Some entries.items else key_at self.old q)) }
+        ensures old { IfOk result (λ old. option_map (λ v. v.items) old ≡ key_at self.old key.now) }
+        ensures begins { OnOk result (EachBeginsKey self.old → EachBeginsKey self.new) }
+        ensures err { OnErr result ((q : List ℕ) → key_at self.new q ≡ key_at self.old q) }
+        ensures trie { OnOk result (IsTrie self.old × IsTrie self.new) }
+    {
+        let node = self.path(key)?;
+        Ok(self.set_entries(node, entries))
+    }
+
+    /// The child of a node at a byte, which counts as no look-up.
     fn child_of(&self, node: usize, byte: u8) -> Option<usize>
         requires { node < length self.now.texts }
         ensures found { IfSome result (λ j. (j < length self.now.texts) × (text_of self.now j ≡ text_of self.now node ++ byte ∷ [])) }
@@ -118,6 +200,7 @@ impl<E: Drop> Trie<E> {
         ensures err { OnErr result (self.new ≡ self.old) }
     {
         let child = self.nodes.len();
+        // Room first, so that no edge leads to a node that is then refused.
         self.nodes.reserve(1)?;
         self.edges.insert((node, byte), child)?;
         self.nodes
@@ -142,59 +225,35 @@ impl<E: Drop> Trie<E> {
         }
     }
 
-    /// The node of a key, made where there is none.
-    fn path(&mut self, key: &[u8]) -> Result<usize, AllocError>
-        ensures ok { IfOk result (λ j. (j < length self.new.texts) × (text_of self.new j ≡ key.now)) }
+    /// The node of a text, made where there is none.
+    fn path(&mut self, text: &[u8]) -> Result<usize, AllocError>
+        ensures ok { IfOk result (λ j. (j < length self.new.texts) × (text_of self.new j ≡ text.now)) }
         ensures keys { (q : List ℕ) → key_at self.new q ≡ key_at self.old q }
-        ensures adds { AddsFront self.old self.new key.now }
+        ensures adds { AddsFront self.old self.new text.now }
+        ensures trie { IsTrie self.old }
     {
         let mut node = self.root();
-        for byte in key {
+        for byte in text {
             node = self.step(node, *byte)?;
         }
         Ok(node)
     }
 
-    /// The node of the empty text.
-    pub fn root(&self) -> usize
-        ensures root { result ≡ 0 }
-        ensures trie { IsTrie self.now }
-    {
-        let _nodes = &self.nodes;
-        0
-    }
-
-    /// Sets the entries of a node.
-    fn set_entries(&mut self, node: usize, entries: Vec<E>)
+    /// Gives a node these entries, and answers those that it had.
+    fn set_entries(&mut self, node: usize, entries: Vec<E>) -> Option<Vec<E>>
         requires { node < length self.old.texts }
         ensures set { self.new ≡ with_entries self.old node entries.items }
-        ensures trie { IsTrie self.old }
+        ensures old { option_map (λ v. v.items) result ≡ key_at self.old (text_of self.old node) }
+        ensures trie { IsTrie self.old × IsTrie self.new }
     {
-        self.nodes[node].entries = Some(entries);
+        self.nodes[node].entries.replace(entries)
     }
+}
 
-    /// Sets the entries of a key, which is a key from now on.
-    pub fn insert(&mut self, key: &[u8], entries: Vec<E>) -> Result<(), AllocError>
-        ensures ok { OnOk result ((q : List ℕ) → key_at self.new q ≡ (if pointwise nat_eq key.now q then Some entries.items else key_at self.old q)) }
-        ensures begins { OnOk result (EachBeginsKey self.old → EachBeginsKey self.new) }
-        ensures err { OnErr result ((q : List ℕ) → key_at self.new q ≡ key_at self.old q) }
-        ensures trie { OnOk result (IsTrie self.old × IsTrie self.new) }
-    {
-        let _root = self.root();
-        let node = self.path(key)?;
-        self.set_entries(node, entries);
-        let _root = self.root();
-        Ok(())
-    }
-
-    /// The entries of the key that a node stands for.
-    pub fn entries(&self, node: usize) -> Option<&[E]>
-        requires { node < length self.now.texts }
-        ensures key { option_copied result ≡ key_at self.now (text_of self.now node) }
-    {
-        match &self.nodes[node].entries {
-            Some(entries) => Some(entries.as_slice()),
-            None => None,
-        }
+impl<E> fmt::Debug for Trie<E> {
+    fn fmt<W: fmt::Write>(&self, f: &mut fmt::Formatter<W>) -> fmt::Result {
+        f.debug_struct("Trie")
+            .field("nodes", &self.nodes.len())
+            .finish()
     }
 }

@@ -1,7 +1,6 @@
 use Rattle.std.proofs.Common.{[], ◌∷◌, ◌++◌}
-use Rattle.std.specs.Prelude.{None, IfNone}
-use Rattle.hyphenation_commons.specs.Trie.{text_of, key_at}
-use Rattle.hyphenation_commons.proofs.Walked.{no_key_if}
+use Rattle.hyphenation_commons.specs.Trie.{text_of}
+use Rattle.hyphenation_commons.proofs.Below.{no_key_if}
 use Rattle.hyphenation_commons.proofs.trie.Trie.child.Goals as goal
 
 pub returns-clause-no_key : goal.returns-clause-no_key

@@ -1,7 +1,7 @@
-use Rattle.std.proofs.Common.{◌≡◌, length, refl, ℕ, List, [], ◌∷◌, ◌++◌, None, ap, sym, subst, ◌∙◌, arith, map}
-use Rattle.std.specs.HashMap.{get_by, get}
+use Rattle.std.proofs.Common.{◌≡◌, length, ℕ, List, sym, ◌∙◌, map}
+use Rattle.std.specs.HashMap.{get}
 use Rattle.std.proofs.lemmas.List.{map_push, length-map}
-use Rattle.hyphenation_commons.specs.Trie.{Tree, text_of, grown, IsTied, texts_of, pair_eq}
+use Rattle.hyphenation_commons.specs.Trie.{pair_eq}
 use Rattle.hyphenation_commons.specs.declared.trie.Node.{Node}
 use Rattle.hyphenation_commons.proofs.Tied.{grow_keeps, length-texts_of, seen-grown}
 use Rattle.hyphenation_commons.proofs.trie.Trie.grow.Goals as goal

@@ -1,15 +1,15 @@
-use Rattle.std.proofs.Common.{◌≡◌, ◌∙◌, sym, ap, arith, rules, Some, cond, nat_eq}
+use Rattle.std.proofs.Common.{◌∙◌, ap, Some, cond, nat_eq}
 use Rattle.std.specs.Cmp.Lexicographic.{pointwise}
-use Rattle.hyphenation_commons.specs.Trie.{Tree, key_at}
+use Rattle.hyphenation_commons.specs.Trie.{key_at}
 use Rattle.hyphenation_commons.proofs.Tied.{key_at-with, begins-insert}
 use Rattle.hyphenation_commons.proofs.trie.Trie.insert.Goals as goal
 
 pub returns-clause-ok : goal.returns-clause-ok
 returns-clause-ok g c = λ q.
     ap (λ t. key_at t q) c.set_entries.ensures.set
-    ∙ key_at-with c.path.new.self c.in_ok-node.node c.args.entries.items c.args.key.now q c.set_entries.ensures.trie c.in_ok-node.ensures.ok.0 c.in_ok-node.ensures.ok.1
+    ∙ key_at-with c.path.new.self c.in_ok-node.node c.args.entries.items c.args.key.now q c.set_entries.ensures.trie.0 c.in_ok-node.ensures.ok.0 c.in_ok-node.ensures.ok.1
     ∙ ap (cond (pointwise nat_eq c.args.key.now q) (Some c.args.entries.items)) (c.in_ok-node.ensures.keys q)
 
 pub returns-clause-begins : goal.returns-clause-begins
 returns-clause-begins g c = λ begins. rw c.set_entries.ensures.set (
-    begins-insert c.args.self.now c.path.new.self c.args.key.now c.in_ok-node.node c.args.entries.items c.in_ok-node.ensures.keys c.in_ok-node.ensures.adds c.set_entries.ensures.trie c.in_ok-node.ensures.ok.0 c.in_ok-node.ensures.ok.1 begins)
+    begins-insert c.args.self.now c.path.new.self c.args.key.now c.in_ok-node.node c.args.entries.items c.in_ok-node.ensures.keys c.in_ok-node.ensures.adds c.set_entries.ensures.trie.0 c.in_ok-node.ensures.ok.0 c.in_ok-node.ensures.ok.1 begins)

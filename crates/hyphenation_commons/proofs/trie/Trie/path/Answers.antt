@@ -1,5 +1,5 @@
-use Rattle.std.proofs.Common.{◌≡◌, ◌∙◌, sym, ap, arith, rules}
-use Rattle.hyphenation_commons.specs.Trie.{Tree, text_of, key_at, AddsFront, Grows}
+use Rattle.std.proofs.Common.{◌∙◌, arith}
+use Rattle.hyphenation_commons.specs.Trie.{text_of}
 use Rattle.hyphenation_commons.proofs.Tied.{key_at-grows, adds-grows, front_more}
 use Rattle.hyphenation_commons.proofs.trie.Trie.path.Goals as goal
 
@@ -8,15 +8,15 @@ returns-in_err-node-clause-keys g c = λ q. key_at-grows c.loop-byte.self c.step
 
 pub returns-in_err-node-clause-adds : goal.returns-in_err-node-clause-adds
 returns-in_err-node-clause-adds g c =
-    let f = front_more c.args.key.now c.loop-byte.byte-index (text_of c.loop-byte.self c.loop-byte.node) c.loop-byte.invariant.text (omega arith) in
-    adds-grows c.args.self.now c.loop-byte.self c.step.new.self _ c.args.key.now c.loop-byte.invariant.adds c.in_err-node.ensures.grows f.1
+    let f = front_more c.args.text.now c.loop-byte.byte-index (text_of c.loop-byte.self c.loop-byte.node) c.loop-byte.invariant.text (omega arith) in
+    adds-grows c.args.self.now c.loop-byte.self c.step.new.self _ c.args.text.now c.loop-byte.invariant.adds c.in_err-node.ensures.grows f.1
 
 pub loop-byte-preserved : goal.loop-byte-preserved
 loop-byte-preserved g c =
-    let f = front_more c.args.key.now c.loop-byte.byte-index (text_of c.loop-byte.self c.loop-byte.node) c.loop-byte.invariant.text (omega arith) in
+    let f = front_more c.args.text.now c.loop-byte.byte-index (text_of c.loop-byte.self c.loop-byte.node) c.loop-byte.invariant.text (omega arith) in
     record {
       within = c.in_ok-node.ensures.ok.0;
       text = c.in_ok-node.ensures.ok.1 ∙ f.0;
       keys = λ q. key_at-grows c.loop-byte.self c.step.new.self _ c.in_ok-node.ensures.trie c.in_ok-node.ensures.grows q ∙ c.loop-byte.invariant.keys q;
-      adds = adds-grows c.args.self.now c.loop-byte.self c.step.new.self _ c.args.key.now c.loop-byte.invariant.adds c.in_ok-node.ensures.grows f.1;
+      adds = adds-grows c.args.self.now c.loop-byte.self c.step.new.self _ c.args.text.now c.loop-byte.invariant.adds c.in_ok-node.ensures.grows f.1;
     }

@@ -1,20 +1,19 @@
--- The finite map of keys that the nodes make.
-use Rattle.std.proofs.Common.{◌≡◌, ◌≢◌, ℕ, zero, suc, ◌+◌, ◌-◌, ◌<◌, ◌≤◌, max, Bool, true, false, cond, ◌||◌, nat_eq, List, [], ◌∷◌, ◌++◌, length, get_or, map, Option, Some, None, refl, sym, ap, subst, ◌∙◌, arith, is_some}
+-- The finite map that the nodes of a trie make.
+use Rattle.std.proofs.Common.{◌≡◌, ℕ, ◌≤◌, max, Bool, true, false, cond, ◌||◌, nat_eq, List, [], ◌∷◌, length, map, fold, Option, Some, None, refl, sym, ap, subst, ◌∙◌, arith, is_some}
 use Rattle.std.specs.Prelude.{IsSome}
-use Rattle.std.specs.List.{list_any, range_with_len}
+use Rattle.std.specs.List.{list_any}
 use Rattle.std.specs.Ordering.{nat_cmp, eq_by_cmp}
 use Rattle.std.specs.Cmp.Lexicographic.{slice_cmp, pointwise, nat_list_cmp_total, nat_list_eq_equiv, texts_ties}
 use Rattle.std.specs.FinMap as finite
-use Rattle.std.specs.FinMap.{FinMap, find, get-from_entries, get-insert, same_map, contains_key-keys, slice_cmp-IsAntisymmetric, nat_cmp-IsAntisymmetric}
-use Rattle.hyphenation_commons.specs.Trie.{Tree, entries_at, key_at, IsTrie}
-use Rattle.hyphenation_commons.specs.Scoring.{Patterns, greatest, value_at}
-use Rattle.hyphenation_commons.specs.declared.entry.Entry.{Entry}
-use Rattle.hyphenation_commons.specs.Dictionary.{pairs_of, patterns_of}
+use Rattle.std.specs.FinMap.{find, get-from_entries, get-insert, same_map, contains_key-keys, slice_cmp-IsAntisymmetric, nat_cmp-IsAntisymmetric}
+use Rattle.hyphenation_commons.specs.Dictionary.{greatest}
+use Rattle.hyphenation_commons.specs.Held.{pairs_of, patterns_of}
+use Rattle.hyphenation_commons.specs.Trie.{Tree, entries_at, key_at, IsTrie, EachBeginsKey}
+use Rattle.hyphenation_commons.proofs.Below.{node_of_key}
 use Rattle.hyphenation_commons.proofs.Tied.{AllApart, apart_rest, apart_first, same_text}
-use Rattle.hyphenation_commons.proofs.Walked.{node_of_key}
-use Rattle.hyphenation_commons.proofs.Greatest.{greatest_from}
 
-same_test : (a b : List ℕ) → eq_by_cmp (slice_cmp nat_cmp) a b ≡ pointwise nat_eq b a
+-- the test by which a finite map of texts looks up is the equality of their bytes
+pub same_test : (a b : List ℕ) → eq_by_cmp (slice_cmp nat_cmp) a b ≡ pointwise nat_eq b a
 same_test a b = sym (texts_ties a b) ∙ nat_list_eq_equiv.symm a b
 
 absent_later : {E : Type 0} (t : List ℕ) (ts : List (List ℕ)) (es : List (Option (List E))) (q : List ℕ) → AllApart (t ∷ ts) → pointwise nat_eq t q ≡ true → entries_at ts es q ≡ None
@@ -50,6 +49,10 @@ either_true : (a b : Bool) → (a || b) ≡ true → a ≡ false → b ≡ true
 either_true true b h e = absurd cc
 either_true false b h e = h
 
+greatest_from : (a : ℕ) (ns : List ℕ) → fold max a ns ≡ max a (greatest ns)
+greatest_from a [] = omega arith
+greatest_from a (n ∷ ns) = omega (arith, greatest_from (max a n) ns, greatest_from (max 0 n) ns)
+
 among_most : (q : List ℕ) (ks : List (List ℕ)) → list_any (eq_by_cmp (slice_cmp nat_cmp) q) ks ≡ true → length q ≤ greatest (map length ks)
 among_most q [] h = absurd cc
 among_most q (k ∷ ks) h =
@@ -60,12 +63,13 @@ among_most q (k ∷ ks) h =
     ] refl
 
 -- no key is longer than the longest
-pub longest_key : {E : Type 0} (t : Tree E) → IsTrie t → (q : List ℕ) → IsSome (key_at t q) → length q ≤ greatest (map length (finite.keys (patterns_of t)))
-longest_key {E} t trie q h =
+pub length-le_longest : {E : Type 0} (t : Tree E) → IsTrie t → (q : List ℕ) → IsSome (key_at t q) → length q ≤ greatest (map length (finite.keys (patterns_of t)))
+length-le_longest {E} t trie q h =
     among_most q (finite.keys (patterns_of t)) (sym (contains_key-keys (patterns_of t) q) ∙ ap is_some (get-patterns_of t trie q) ∙ h)
 
--- the values by the nodes' keys are those by the map's
-pub same_values : {C : Type 0} (t : Tree (Entry C)) → IsTrie t → (w : List ℕ) → map (λ i. value_at (key_at t) w (i + 1)) (range_with_len 0 (length w - 1)) ≡ map (λ i. value_at (λ q. finite.get (patterns_of t) q) w (i + 1)) (range_with_len 0 (length w - 1))
-same_values {C} t trie w =
-    let same : ◌≡◌ {A = Patterns C} (key_at t) (λ q. finite.get (patterns_of t) q) = λ k q. sym (get-patterns_of t trie q) k in
-    ap (λ (keys : Patterns C). map (λ i. value_at keys w (i + 1)) (range_with_len 0 (length w - 1))) same
+-- the new trie has no key
+pub patterns_of-new : (E : Type 0) → patterns_of {E = E} (record { texts = [] ∷ []; entries = None ∷ [] }) ≡ finite.empty
+patterns_of-new E = refl
+
+pub EachBeginsKey-new : (E : Type 0) → EachBeginsKey {E = E} (record { texts = [] ∷ []; entries = None ∷ [] })
+EachBeginsKey-new E j pos lt = absurd (omega arith)
