@@ -1,5 +1,5 @@
 -- What stands in an accepted text is what some line spells, and so the order of lines means nothing.
-use Rattle.std.proofs.Common.{◌≡◌, ℕ, suc, ◌+◌, Bool, true, false, cond, List, [], ◌∷◌, ◌++◌, length, Option, Some, None, is_some, refl, sym, ap, subst, ◌∙◌, append_assoc, inl, inr}
+use Rattle.std.proofs.Common.{◌≡◌, ℕ, suc, ◌+◌, Bool, true, false, cond, List, [], ◌∷◌, ◌++◌, length, Option, Some, None, is_some, unwrap_or, refl, sym, ap, subst, ◌∙◌, append_assoc, inl, inr}
 use Rattle.std.specs.Prelude.{◌⊎◌}
 use Rattle.std.proofs.lemmas.List.{append-nil}
 use Rattle.std.specs.Option.{option_map, option_or}
@@ -13,8 +13,9 @@ use Rattle.hyphenation_commons.specs.Break.{Break, Change}
 use Rattle.hyphenation_commons.specs.Dictionary.{Texts}
 use Rattle.hyphenation_commons.specs.Form.{Form}
 use Rattle.hyphenation_commons.specs.Items.{pattern_of, exception_of}
+use Rattle.hyphenation_commons.specs.Lines.{language_of, minima_of}
 use Rattle.hyphenation_commons.specs.Judging.{fault_behind, own_cause, repetition, cause_of}
-use Rattle.hyphenation_commons.specs.Reading.{gathered, told, entry_as, spelt, SomeLine, Among}
+use Rattle.hyphenation_commons.specs.Reading.{gathered, told, entry_as, spelt, contents_of, SomeLine, Among}
 use Rattle.hyphenation_commons.specs.declared.grammar.Cause.{Cause}
 use Rattle.hyphenation_commons.proofs.Gathered.{has, with_spelt, gathered-more, new_key, new_word}
 
@@ -139,3 +140,24 @@ module _ {C B : Type 0} (carries : Option Change → C) (lists : Break → B) wh
     patterns = same_gathered (told (entry_as carries) pattern_of) ls ms (patterns-told form ls e) (patterns-told form ms f) there back i;
     exceptions = same_gathered (told lists exception_of) ls ms (exceptions-told form ls e) (exceptions-told form ms f) there back i;
   }
+
+one_more : (l : List ℕ) (ls ms : List (List ℕ)) → Among ls ms → Among (l ∷ ls) (l ∷ ms)
+one_more l ls ms there q (inl e) = inl e
+one_more l ls ms there q (inr h) = inr (there q h)
+
+three_more : (first second third : List ℕ) (ls ms : List (List ℕ)) → Among ls ms → Among (first ∷ second ∷ third ∷ ls) (first ∷ second ∷ third ∷ ms)
+three_more first second third ls ms there = one_more first (second ∷ third ∷ ls) (second ∷ third ∷ ms) (one_more second (third ∷ ls) (third ∷ ms) (one_more third ls ms there))
+
+module _ {C B : Type 0} (carries : Option Change → C) (lists : Break → B) (form : Form) (first second third : List ℕ) (ls ms : List (List ℕ)) where
+  -- and so give the same dictionary
+  pub same-contents : fault_behind form [] (first ∷ second ∷ third ∷ ls) ≡ None → fault_behind form [] (first ∷ second ∷ third ∷ ms) ≡ None → Among ls ms → Among ms ls
+      → contents_of carries lists (first ∷ second ∷ third ∷ ls) ≡ contents_of carries lists (first ∷ second ∷ third ∷ ms)
+  same-contents e f there back =
+      let same = same-lines carries lists form (first ∷ second ∷ third ∷ ls) (first ∷ second ∷ third ∷ ms) e f (three_more first second third ls ms there) (three_more first second third ms ls back) in
+      λ i. record {
+        language = unwrap_or (language_of second) [];
+        left = (unwrap_or (minima_of third) (0, 0)).0;
+        right = (unwrap_or (minima_of third) (0, 0)).1;
+        patterns = (same i).patterns;
+        exceptions = (same i).exceptions;
+      }

@@ -1,5 +1,6 @@
 //! The dictionary text.
 
+pub mod laws;
 pub mod tokens;
 
 use std::fmt;
