@@ -8,3 +8,4 @@ pub mod Passed
 pub mod PatternsLemmas
 pub mod Seams
 pub mod Tied
+pub mod Whole
