@@ -1,11 +1,16 @@
 pub mod AsciiSplits
 pub mod Below
 pub mod Codes
+pub mod Ends
 pub mod ExceptionsLemmas
 pub mod Gathered
+pub mod Heads
+pub mod Numbers
 pub mod Order
+pub mod Parts
 pub mod Passed
 pub mod PatternsLemmas
 pub mod Seams
 pub mod Tied
+pub mod Utf8
 pub mod Whole

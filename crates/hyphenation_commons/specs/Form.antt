@@ -8,3 +8,7 @@ pub data Kind : Type 0 where
 -- What decides how a text is read.
 pub record Form : Type 0 where
   pub kind : Kind
+
+-- The form of a standard text.
+abbrev pub standard : Form
+standard = record { kind = Standard }

@@ -11,3 +11,4 @@ pub mod Tokens
 pub mod Items
 pub mod Judging
 pub mod Reading
+pub mod Parsed

@@ -1,6 +1,8 @@
 //! The dictionary text.
 
 pub mod laws;
+pub(crate) mod lines;
+pub(crate) mod pattern;
 pub mod tokens;
 
 use std::fmt;
