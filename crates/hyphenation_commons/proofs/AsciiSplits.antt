@@ -15,9 +15,10 @@ split_ascii p b rest small u =
     let here : get_or (p ++ b ∷ rest) (length p) 0 ≡ b = get_or-append_seam p b rest 0 in
     let long : length (p ++ b ∷ rest) ≡ length p + suc (length rest) = length-append p (b ∷ rest) in
     let at : IsCharBoundary (p ++ b ∷ rest) (length p) = (omega arith, λ lt big. absurd (omega arith)) in
-    let after : IsCharBoundary (p ++ b ∷ rest) (length p + 1) = IsCharBoundary-after_ascii (p ++ b ∷ rest) (length p) u (omega arith) (omega arith) in
-    (subst IsUtf8 (take_at p (b ∷ rest) (length p) refl) (IsUtf8-take (p ++ b ∷ rest) (length p) u at),
-     subst IsUtf8 (drop-append-add p (b ∷ rest) 1) (IsUtf8-drop (p ++ b ∷ rest) (length p + 1) u after))
+    let after : IsCharBoundary (p ++ b ∷ rest) (length p + 1) = IsCharBoundary-after_ascii (p ++ b ∷ rest) (length p) u (omega arith) (omega arith) in (
+      subst IsUtf8 (take_at p (b ∷ rest) (length p) refl) (IsUtf8-take (p ++ b ∷ rest) (length p) u at),
+      subst IsUtf8 (drop-append-add p (b ∷ rest) 1) (IsUtf8-drop (p ++ b ∷ rest) (length p + 1) u after),
+    )
 
 pub one_ascii : (b : ℕ) → b < 128 → IsUtf8 (b ∷ [])
 one_ascii b small = IsUtf8-from_ascii (b ∷ []) (λ i. below i)

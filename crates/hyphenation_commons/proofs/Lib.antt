@@ -11,6 +11,7 @@ pub mod Parts
 pub mod Passed
 pub mod PatternsLemmas
 pub mod Seams
+pub mod Taken
 pub mod Tied
 pub mod Utf8
 pub mod Whole

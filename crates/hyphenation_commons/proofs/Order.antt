@@ -75,26 +75,30 @@ tells_more {X} spells earlier line new tells k v = subst (λ (m : Texts X). (fin
     (by (spells line) refl new)
   where
     by : (o : Option (List ℕ × X)) → spells line ≡ o → has (gathered spells earlier) o ≡ false → (finite.get (with_spelt (gathered spells earlier) o) k ≡ Some v → SomeLine (λ l. spells l ≡ Some (k, v)) (earlier ++ line ∷ [])) × (SomeLine (λ l. spells l ≡ Some (k, v)) (earlier ++ line ∷ []) → finite.get (with_spelt (gathered spells earlier) o) k ≡ Some v)
-    by None e fresh = (λ h. some_front (λ l. spells l ≡ Some (k, v)) earlier line ((tells k v).0 h),
-        λ h. elim (some_of (λ l. spells l ≡ Some (k, v)) earlier line h) [ inl x ↦ (tells k v).1 x | inr x ↦ absurd cc ])
+    by None e fresh = (
+      λ h. some_front (λ l. spells l ≡ Some (k, v)) earlier line ((tells k v).0 h),
+      λ h. elim (some_of (λ l. spells l ≡ Some (k, v)) earlier line h) [ inl x ↦ (tells k v).1 x | inr x ↦ absurd cc ],
+    )
     by (Some x) e fresh = both (eq_by_cmp (slice_cmp nat_cmp) k x.0) refl
       where
         both : (t : Bool) → eq_by_cmp (slice_cmp nat_cmp) k x.0 ≡ t → (finite.get (finite.insert (gathered spells earlier) x.0 x.1) k ≡ Some v → SomeLine (λ l. spells l ≡ Some (k, v)) (earlier ++ line ∷ [])) × (SomeLine (λ l. spells l ≡ Some (k, v)) (earlier ++ line ∷ []) → finite.get (finite.insert (gathered spells earlier) x.0 x.1) k ≡ Some v)
         both true t =
             let is : k ≡ x.0 = tie k x.0 t in
-            let got : finite.get (finite.insert (gathered spells earlier) x.0 x.1) k ≡ Some x.1 = get-insert nat_list_cmp_total (gathered spells earlier) x.0 x.1 k ∙ ap (λ (b : Bool). cond b (Some x.1) (finite.get (gathered spells earlier) k)) t in
-            (λ h. let same : x.1 ≡ v = cc in some_end (λ l. spells l ≡ Some (k, v)) earlier line (e ∙ (λ i. Some (sym is i, same i))),
-             λ h. elim (some_of (λ l. spells l ≡ Some (k, v)) earlier line h) [
-               | inl y ↦ let was : finite.get (gathered spells earlier) x.0 ≡ Some v = subst (λ (q : List ℕ). finite.get (gathered spells earlier) q ≡ Some v) is ((tells k v).1 y) in absurd (no_longer (finite.get (gathered spells earlier) x.0) v fresh was)
-               | inr y ↦ got ∙ cc
-             ])
+            let got : finite.get (finite.insert (gathered spells earlier) x.0 x.1) k ≡ Some x.1 = get-insert nat_list_cmp_total (gathered spells earlier) x.0 x.1 k ∙ ap (λ (b : Bool). cond b (Some x.1) (finite.get (gathered spells earlier) k)) t in (
+              λ h. let same : x.1 ≡ v = cc in some_end (λ l. spells l ≡ Some (k, v)) earlier line (e ∙ (λ i. Some (sym is i, same i))),
+              λ h. elim (some_of (λ l. spells l ≡ Some (k, v)) earlier line h) [
+                | inl y ↦ let was : finite.get (gathered spells earlier) x.0 ≡ Some v = subst (λ (q : List ℕ). finite.get (gathered spells earlier) q ≡ Some v) is ((tells k v).1 y) in absurd (no_longer (finite.get (gathered spells earlier) x.0) v fresh was)
+                | inr y ↦ got ∙ cc
+              ],
+            )
         both false t =
-            let got : finite.get (finite.insert (gathered spells earlier) x.0 x.1) k ≡ finite.get (gathered spells earlier) k = get-insert nat_list_cmp_total (gathered spells earlier) x.0 x.1 k ∙ ap (λ (b : Bool). cond b (Some x.1) (finite.get (gathered spells earlier) k)) t in
-            (λ h. some_front (λ l. spells l ≡ Some (k, v)) earlier line ((tells k v).0 (sym got ∙ h)),
-             λ h. elim (some_of (λ l. spells l ≡ Some (k, v)) earlier line h) [
-               | inl y ↦ got ∙ (tells k v).1 y
-               | inr y ↦ absurd (untied k x.0 t cc)
-             ])
+            let got : finite.get (finite.insert (gathered spells earlier) x.0 x.1) k ≡ finite.get (gathered spells earlier) k = get-insert nat_list_cmp_total (gathered spells earlier) x.0 x.1 k ∙ ap (λ (b : Bool). cond b (Some x.1) (finite.get (gathered spells earlier) k)) t in (
+              λ h. some_front (λ l. spells l ≡ Some (k, v)) earlier line ((tells k v).0 (sym got ∙ h)),
+              λ h. elim (some_of (λ l. spells l ≡ Some (k, v)) earlier line h) [
+                | inl y ↦ got ∙ (tells k v).1 y
+                | inr y ↦ absurd (untied k x.0 t cc)
+              ],
+            )
 
 pub no_fault : (a b : Option Cause) (n : ℕ) (rest : Option (ℕ × Cause)) → option_or (option_map (λ cause. (n, cause)) (option_or a b)) rest ≡ None → (a ≡ None) × (None ≡ b) × (rest ≡ None)
 no_fault None None n rest e = (refl, refl, e)

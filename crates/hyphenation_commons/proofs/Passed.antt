@@ -114,6 +114,7 @@ apart (x ∷ y ∷ rest) e = by (nat_eq x 112) (nat_eq x 101) (nat_eq y 32) refl
   where
     clash : nat_eq x 112 ≡ true → nat_eq x 101 ≡ true → ⊥
     clash p q = grind (arith, nat_tests)
+
     by : (s t r : Bool) → nat_eq x 112 ≡ s → nat_eq x 101 ≡ t → is_some (cond {A = Option (List ℕ)} (t && (r && true)) (Some rest) None) ≡ true → is_some (cond {A = Option (List ℕ)} (s && (r && true)) (Some rest) None) ≡ false
     by true true r es et h = absurd (clash es et)
     by true false r es et h = absurd cc
@@ -141,6 +142,7 @@ module _ (form : Form) (in_pattern : Bool) (marks : List Mark) (text : List ℕ)
     where
       equal : (a b : ℕ) → eqb a b ≡ true → a ≡ b
       equal a b h = grind (arith, nat_tests)
+
       by : (t : Bool) → eqb (place_of token) place ≡ t → stays_within text place (change_at place (map listed_of later)) ≡ true → stays_within text place (cond t (listed_of token).change (change_at place (map listed_of later))) ≡ true
       by true is more = subst (λ (at : ℕ). stays_within text at (listed_of token).change ≡ true) (equal (place_of token) place is) (stays token (both_left (is_good form in_pattern marks text token) (list_all (is_good form in_pattern marks text) later) e))
       by false is more = more
@@ -182,6 +184,7 @@ module _ (key : List ℕ) (said : List Break) (within : (place : ℕ) → stays_
       quiet : (t : Bool) → ((t && false) || two_values false ms) ≡ false → two_values false ms ≡ false
       quiet true h = h
       quiet false h = h
+
       reach : (t : Bool) → least ≤ at + cond t 1 0 → least ≤ at + 1 + 0
       reach true h = omega arith
       reach false h = omega arith

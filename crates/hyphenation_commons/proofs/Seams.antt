@@ -37,6 +37,7 @@ small_meaning es c m e = by (eqb c 92) (eqb c 115) (eqb c 110) (eqb c 114) (esca
   where
     literal : (a k : ℕ) → eqb c a ≡ true → a < 128 → k < 128 → Some k ≡ Some m → (c < 128) × (m < 128)
     literal a k t sa sk h = let same : k ≡ m = cc in (same_byte c a t sa, subst (λ (x : ℕ). x < 128) same sk)
+
     by : (t1 t2 t3 t4 t5 : Bool) → eqb c 92 ≡ t1 → eqb c 115 ≡ t2 → eqb c 110 ≡ t3 → eqb c 114 ≡ t4 → escaped_also es c ≡ t5
         → cond t1 (Some 92) (cond t2 (Some 32) (cond t3 (Some 10) (cond t4 (Some 13) (cond t5 (Some c) None)))) ≡ Some m → (c < 128) × (m < 128)
     by true t2 t3 t4 t5 e1 e2 e3 e4 e5 h = literal 92 92 e1 (omega arith) (omega arith) h
@@ -98,6 +99,7 @@ digit_or_letter b = by (is_digit b) refl
   where
     small : is_digit b ≡ true → b < 128
     small e = grind (arith, nat_tests)
+
     by : (t : Bool) → is_digit b ≡ t → (cond t (Value (b - 48)) (Letter b) ≡ Letter b) ⊎ ((v : ℕ) × (cond t (Value (b - 48)) (Letter b) ≡ Value v) × (b < 128))
     by true e = inr (b - 48, refl, small e)
     by false e = inl refl

@@ -1,11 +1,11 @@
 -- What an accepted text gives is a dictionary: its head lines, and each of its patterns and exceptions.
-use Rattle.std.proofs.Common.{◌≡◌, ℕ, suc, ◌+◌, ◌<◌, ◌≤◌, Bool, true, false, cond, not, ◌&&◌, ◌==◌, eqb, nat_le, nat_lt, List, [], ◌∷◌, ◌++◌, length, map, drop, get_or, Option, Some, None, is_some, unwrap_or, refl, sym, ap, subst, ◌∙◌, arith, inl, inr}
+use Rattle.std.proofs.Common.{◌≡◌, ℕ, suc, ◌+◌, ◌<◌, ◌≤◌, Bool, true, false, cond, not, ◌&&◌, ◌==◌, eqb, nat_le, nat_lt, List, [], ◌∷◌, ◌++◌, length, map, drop, get_or, Option, Some, None, is_some, unwrap_or, refl, sym, ap, subst, ◌∙◌, arith, inl, inr, Bor}
 use Rattle.std.specs.Prelude.{IsUtf8, ◌⊎◌, is_none, option_and_then, slice_index_or, codes}
 use Rattle.std.specs.Option.{option_map}
 use Rattle.std.specs.List.{slice_split}
 use Rattle.std.proofs.lemmas.Bool.Decides.{nat_tests}
 use Rattle.std.specs.FinMap as finite
-use Rattle.hyphenation_commons.specs.Break.{Break, Change, is_boundary}
+use Rattle.hyphenation_commons.specs.Break.{Break, Change, is_boundary, plain}
 use Rattle.hyphenation_commons.specs.Dictionary.{Contents}
 use Rattle.hyphenation_commons.specs.Form.{Form}
 use Rattle.hyphenation_commons.specs.Kept.{stays_within, are_entries, are_listed, IsPattern, IsException, IsKept}
@@ -13,7 +13,8 @@ use Rattle.hyphenation_commons.specs.Language.{IsCode, is_code}
 use Rattle.hyphenation_commons.specs.Lines.{behind, language_of, minima_of, small_of, two_small, is_small, is_number, number}
 use Rattle.hyphenation_commons.specs.Items.{is_pattern, is_exception, key, word, listed, entries, pattern_of, exception_of}
 use Rattle.hyphenation_commons.specs.Judging.{fault_behind, own_cause, repetition}
-use Rattle.hyphenation_commons.specs.Reading.{told, entry_as, contents_of, SomeLine}
+use Rattle.hyphenation_commons.specs.Reading.{told, entry_as, Spelt, spelt, no_change, place_alone, contents_of, SomeLine}
+use Rattle.std.proofs.lemmas.List.{length-map, get_or-map}
 use Rattle.hyphenation_commons.specs.declared.dictionary.Entry.{Entry}
 use Rattle.hyphenation_commons.proofs.Order.{no_fault, patterns-told, exceptions-told}
 use Rattle.hyphenation_commons.proofs.Passed.{both_left, both_right, off_right, Passes, passes, pattern-kept, exception-kept}
@@ -61,6 +62,7 @@ language_code line e = by (behind (codes "language ") line) e
     checked : (code : List ℕ) (t : Bool) → is_code code ≡ t → is_some (cond {A = Option (List ℕ)} t (Some code) None) ≡ true → IsCode (unwrap_or (cond t (Some code) None) [])
     checked code true is h = is
     checked code false is h = absurd cc
+
     by : (o : Option (List ℕ)) → is_some (option_and_then (λ code. cond {A = Option (List ℕ)} (is_code code) (Some code) None) o) ≡ true → IsCode (unwrap_or (option_and_then (λ code. cond {A = Option (List ℕ)} (is_code code) (Some code) None) o) [])
     by None h = absurd cc
     by (Some code) h = checked code (is_code code) refl h
@@ -74,6 +76,7 @@ small text n e = by (is_small text) refl e
   where
     below : is_small text ≡ true → number text ≤ 255
     below h = let le : nat_le (number text) 255 ≡ true = both_right (is_number text) (nat_le (number text) 255) h in grind (arith, nat_tests)
+
     by : (t : Bool) → is_small text ≡ t → cond {A = Option ℕ} t (Some (number text)) None ≡ Some n → n ≤ 255
     by true is h = let same : number text ≡ n = cc in subst (λ (x : ℕ). x ≤ 255) same (below is)
     by false is h = absurd cc
@@ -94,6 +97,7 @@ minima_small line = by (behind (codes "minima ") line)
     kept : (o : Option (ℕ × ℕ)) → AreSmall o → ((unwrap_or o (0, 0)).0 ≤ 255) × ((unwrap_or o (0, 0)).1 ≤ 255)
     kept None h = (omega arith, omega arith)
     kept (Some minima) h = h
+
     by : (o : Option (List ℕ)) → ((unwrap_or (option_and_then (λ rest. two_small (slice_split (λ b. b == 32) rest)) o) (0, 0)).0 ≤ 255) × ((unwrap_or (option_and_then (λ rest. two_small (slice_split (λ b. b == 32) rest)) o) (0, 0)).1 ≤ 255)
     by None = (omega arith, omega arith)
     by (Some rest) = kept (two_small (slice_split (λ b. b == 32) rest)) (two_are_small (slice_split (λ b. b == 32) rest))
@@ -138,7 +142,7 @@ module _ {C B : Type 0} (carries : Option Change → C) (lists : Break → B) (c
       let here : stays_within text b.place (break_of (lists b)).change ≡ true = meant text b.place b (both_right (nat_le least b.place && is_boundary text b.place) (stays_within text b.place b.change) front) in
       subst (λ (place : ℕ). (nat_le least place && is_boundary text place && stays_within text place (break_of (lists b)).change && are_listed break_of text (place + 1) (map lists bs)) ≡ true) (sym (placed b))
       (three (nat_le least b.place && is_boundary text b.place) (stays_within text b.place (break_of (lists b)).change) (are_listed break_of text (b.place + 1) (map lists bs))
-       (both_left (nat_le least b.place && is_boundary text b.place) (stays_within text b.place b.change) front) here (listed_held text (b.place + 1) bs last))
+      (both_left (nat_le least b.place && is_boundary text b.place) (stays_within text b.place b.change) front) here (listed_held text (b.place + 1) bs last))
 
   pattern_held : (form : Form) (n : ℕ) (line k : List ℕ) (es : List (Entry C)) → own_cause form n line ≡ None → told (entry_as carries) pattern_of line ≡ Some (k, es) → IsPattern change_of k es
   pattern_held form n line k es own e =
@@ -178,3 +182,31 @@ module _ {C B : Type 0} (carries : Option Change → C) (lists : Break → B) (c
             let own = own-none form (λ l. told lists exception_of l ≡ Some (w, bs)) [] lines e ((exceptions-told carries lists form lines e w bs).0 got) in
             exception_held form own.0 own.1 w bs own.3 own.2;
       }
+
+-- the head lines of a text whose lines stand behind references
+module _ (lines : List (Bor (List ℕ))) (form : Form) (accepted : fault_behind form [] (map (λ line. line.now) lines) ≡ None) where
+  pub three-lines : 2 < length lines
+  three-lines = let long = (has-head form (map (λ line. line.now) lines) accepted).long in omega (arith, length-map lines (λ (l : Bor (List ℕ)). l.now))
+
+  pub language-stands : (d : Bor (List ℕ)) → is_some (language_of (get_or lines 1 d).now) ≡ true
+  language-stands d =
+      let long = three-lines in
+      subst (λ (l : List ℕ). is_some (language_of l) ≡ true) (get_or-map (λ (l : Bor (List ℕ)). l.now) lines 1 d [] (omega arith)) (has-language form _ (has-head form (map (λ line. line.now) lines) accepted).language)
+
+  pub minima-stand : (d : Bor (List ℕ)) → is_some (minima_of (get_or lines 2 d).now) ≡ true
+  minima-stand d =
+      let long = three-lines in
+      subst (λ (l : List ℕ). is_some (minima_of l) ≡ true) (get_or-map (λ (l : Bor (List ℕ)). l.now) lines 2 d [] (omega arith)) (has-minima form _ (has-head form (map (λ line. line.now) lines) accepted).minima)
+
+  -- the parts of the dictionary
+  pub parts-make : (d e : Bor (List ℕ)) (language : List ℕ) (minima : ℕ × ℕ) (s : Spelt (Unit {0}) ℕ) → language_of (get_or lines 1 d).now ≡ Some language → minima_of (get_or lines 2 e).now ≡ Some minima
+      → s ≡ spelt no_change place_alone (map (λ line. line.now) lines)
+      → ◌≡◌ {A = Contents (Unit {0}) ℕ} (record { language = language; left = minima.0; right = minima.1; patterns = s.patterns; exceptions = s.exceptions }) (contents_of no_change place_alone (map (λ line. line.now) lines))
+  parts-make d e language minima s hl hm hs =
+      let long = three-lines in
+      let second : Some language ≡ language_of (get_or (map (λ line. line.now) lines) 1 []) = sym hl ∙ ap language_of (sym (get_or-map (λ (l : Bor (List ℕ)). l.now) lines 1 d [] (omega arith))) in
+      let third : Some minima ≡ minima_of (get_or (map (λ line. line.now) lines) 2 []) = sym hm ∙ ap minima_of (sym (get_or-map (λ (l : Bor (List ℕ)). l.now) lines 2 e [] (omega arith))) in
+      λ i. record { language = unwrap_or (second i) []; left = (unwrap_or (third i) (0, 0)).0; right = (unwrap_or (third i) (0, 0)).1; patterns = (hs i).patterns; exceptions = (hs i).exceptions }
+
+  pub standard-kept : IsKept (λ _. None) plain (contents_of no_change place_alone (map (λ line. line.now) lines))
+  standard-kept = contents-kept no_change place_alone (λ _. None) plain (λ _ _ _ _. refl) (λ _. refl) (λ _ _ _ _. refl) form (map (λ line. line.now) lines) accepted

@@ -12,3 +12,6 @@ pub mod Items
 pub mod Judging
 pub mod Reading
 pub mod Parsed
+pub mod Said
+pub mod Draft
+pub mod Refusals
