@@ -1,10 +1,11 @@
--- UTF-8 parted at ASCII bytes: what escapes and values leave of it.
-use Rattle.std.proofs.Common.{◌≡◌, ℕ, suc, zero, ◌+◌, ◌<◌, true, eqb, List, [], ◌∷◌, ◌++◌, length, get_or, refl, subst, arith, length-append}
+-- UTF-8 parted at ASCII bytes: by escapes, values and spaces.
+use Rattle.std.proofs.Common.{◌≡◌, ℕ, suc, zero, ◌+◌, ◌<◌, ◌≤◌, Bool, true, false, cond, eqb, List, [], ◌∷◌, ◌++◌, length, take, drop, get_or, refl, sym, subst, ap, append_assoc, arith, length-append}
 use Rattle.std.specs.Prelude.{IsUtf8, IsCharBoundary}
+use Rattle.std.specs.List.{slice_split, onto_first}
 use Rattle.std.proofs.lemmas.Bool.Decides.{nat_tests}
-use Rattle.std.proofs.lemmas.List.{take_at}
+use Rattle.std.proofs.lemmas.List.{take_at, append-nil}
 use Rattle.std.proofs.Math.Seq.{get_or-append_seam, drop-append-add}
-use Rattle.std.proofs.lemmas.Str.{IsUtf8-append, IsUtf8-take, IsUtf8-drop, IsUtf8-from_ascii, IsCharBoundary-after_ascii}
+use Rattle.std.proofs.lemmas.Str.{IsUtf8-take, IsUtf8-drop, IsUtf8-nil, IsUtf8-from_ascii, IsCharBoundary-after_ascii}
 use Rattle.hyphenation_commons.specs.Tokens.{escaped_also}
 use Rattle.hyphenation_commons.specs.declared.grammar.tokens.Escapes.{Escapes}
 use Rattle.hyphenation_commons.specs.declared.grammar.tokens.Escapes.TheVariants.{Plain, Digits}
@@ -26,12 +27,45 @@ one_ascii b small = IsUtf8-from_ascii (b ∷ []) (λ i. below i)
     below zero = small
     below (suc i) = omega arith
 
-pub two_ascii : (a b : ℕ) → a < 128 → b < 128 → IsUtf8 (a ∷ b ∷ [])
-two_ascii a b sa sb = IsUtf8-append (a ∷ []) (b ∷ []) (one_ascii a sa) (one_ascii b sb)
-
 pub same_byte : (a b : ℕ) → eqb a b ≡ true → b < 128 → a < 128
 same_byte a b e h = grind (arith, nat_tests)
 
 pub small_digit : (es : Escapes) (b : ℕ) → escaped_also es b ≡ true → b < 128
 small_digit Plain b e = absurd cc
 small_digit Digits b e = grind (arith, nat_tests)
+
+-- each of the texts
+abbrev pub AllUtf8 : List (List ℕ) → Type 0
+AllUtf8 [] = Unit {0}
+AllUtf8 (t ∷ ts) = IsUtf8 t × AllUtf8 ts
+
+abbrev with_front : List ℕ → List (List ℕ) → List (List ℕ)
+with_front p [] = p ∷ []
+with_front p (t ∷ ts) = (p ++ t) ∷ ts
+
+no_front : (ts : List (List ℕ)) → AllUtf8 (with_front [] ts) → AllUtf8 ts
+no_front [] h = tt
+no_front (t ∷ ts) h = h
+
+moved_front : (p : List ℕ) (b : ℕ) (ts : List (List ℕ)) → AllUtf8 (with_front (p ++ b ∷ []) ts) → AllUtf8 (with_front p (onto_first b ts))
+moved_front p b [] h = h
+moved_front p b (t ∷ ts) h = (subst IsUtf8 (append_assoc p (b ∷ []) t) h.0, h.1)
+
+pieces : (c : ℕ) → c < 128 → (p text : List ℕ) → IsUtf8 (p ++ text) → AllUtf8 (with_front p (slice_split (λ b. eqb b c) text))
+pieces c small p [] u = (u, tt)
+pieces c small p (b ∷ text) u = by (eqb b c) refl (λ v. pieces c small [] text v) (pieces c small (p ++ b ∷ []) text (subst IsUtf8 (sym (append_assoc p (b ∷ []) text)) u))
+  where
+    by : (t : Bool) → eqb b c ≡ t → (IsUtf8 text → AllUtf8 (with_front [] (slice_split (λ b. eqb b c) text))) → AllUtf8 (with_front (p ++ b ∷ []) (slice_split (λ b. eqb b c) text))
+        → AllUtf8 (with_front p (cond t ([] ∷ slice_split (λ b. eqb b c) text) (onto_first b (slice_split (λ b. eqb b c) text))))
+    by true e more plain =
+        let parts = split_ascii p b text (same_byte b c e small) u in
+        (subst IsUtf8 (sym (append-nil p)) parts.0, no_front (slice_split (λ b. eqb b c) text) (more parts.1))
+    by false e more plain = moved_front p b (slice_split (λ b. eqb b c) text) plain
+
+-- the pieces between ASCII bytes
+pub pieces-utf8 : (c : ℕ) (text : List ℕ) → c < 128 → IsUtf8 text → AllUtf8 (slice_split (λ b. eqb b c) text)
+pieces-utf8 c text small u = no_front (slice_split (λ b. eqb b c) text) (pieces c small [] text u)
+
+pub first-utf8 : (ts : List (List ℕ)) → AllUtf8 ts → IsUtf8 (get_or ts 0 [])
+first-utf8 [] h = IsUtf8-nil
+first-utf8 (t ∷ ts) h = h.0

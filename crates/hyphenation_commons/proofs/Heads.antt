@@ -2,7 +2,8 @@
 use Rattle.std.proofs.Common.{◌≡◌, ◌∙◌, ℕ, Bool, true, false, cond, List, Some, None, refl, ap}
 use Rattle.std.specs.Prelude.{IsUtf8, codes}
 use Rattle.std.specs.Option.{option_and_then}
-use Rattle.hyphenation_commons.specs.Language.{is_code, is_code-utf8}
+use Rattle.hyphenation_commons.specs.Language.{is_code}
+use Rattle.hyphenation_commons.proofs.Codes.{is_code-utf8}
 use Rattle.hyphenation_commons.specs.Lines.{behind, language_of}
 
 no_code : (code : List ℕ) → (IsUtf8 code → ⊥) → None ≡ cond (is_code code) (Some code) None

@@ -10,7 +10,7 @@ use Rattle.hyphenation_commons.specs.Tokens.{text_of, signs_of, bytes_of}
 use Rattle.hyphenation_commons.specs.declared.grammar.tokens.Escapes.TheVariants.{Plain}
 use Rattle.hyphenation_commons.specs.declared.grammar.tokens.Sign.{Sign}
 use Rattle.hyphenation_commons.proofs.AsciiSplits.{split_ascii, same_byte}
-use Rattle.hyphenation_commons.proofs.Kept.{read-utf8}
+use Rattle.hyphenation_commons.proofs.Seams.{read-utf8}
 
 head_onto : (b : ℕ) (ps : List (List ℕ)) → get_or (onto_first b ps) 0 [] ≡ b ∷ get_or ps 0 []
 head_onto b [] = refl

@@ -13,3 +13,5 @@ pub mod Judging
 pub mod Reading
 pub mod Parsed
 pub mod Said
+pub mod Draft
+pub mod Refusals

@@ -1,8 +1,10 @@
 //! The dictionary text: what its lines spell, and why one is refused.
 
 pub(crate) mod items;
+pub mod laws;
 pub(crate) mod lines;
 pub(crate) mod pattern;
+pub mod reader;
 pub mod tokens;
 
 use crate::language::Language;
