@@ -45,7 +45,7 @@ pub starts : (word : List ℕ) → IsUtf8 word → Searching word word 0 []
 starts word u = record { rest_utf8 = u; done = []; all = refl; offset_is = refl; places_are = refl; left = omega arith }
 
 module _ (word rest next : List ℕ) (offset offset' c : ℕ) (places : List ℕ) (before : Searching word rest offset places)
-  (e : rest ≡ encode_utf8 c ++ next) (w : offset' ≡ offset + length (encode_utf8 c)) where
+    (e : rest ≡ encode_utf8 c ++ next) (w : offset' ≡ offset + length (encode_utf8 c)) where
   next_chars : chars rest ≡ c ∷ chars next
   next_chars = chars_past_char rest next c before.rest_utf8 e
 
@@ -62,7 +62,8 @@ module _ (word rest next : List ℕ) (offset offset' c : ℕ) (places : List ℕ
         offset_is = w ∙ ap (λ n. n + length (encode_utf8 c)) before.offset_is
             ∙ sym (ap length (encodes-append done (c ∷ []) ∙ ap (λ bs. encode_utf8_all done ++ bs) (append-nil (encode_utf8 c))) ∙ length-append (encode_utf8_all done) (encode_utf8 c));
         places_are = h ∙ ap (soft_hyphens_before word) (sym (length-append done (c ∷ [])));
-        left = omega (arith, before.left, ap length e, length-append (encode_utf8 c) next) }
+        left = omega (arith, before.left, ap length e, length-append (encode_utf8 c) next);
+      }
 
   grown : soft_hyphens_before word (length before.done + 1) ≡ places ++ cond (c == 0xAD) (offset ∷ []) []
   grown =
@@ -102,6 +103,9 @@ empty_list (x ∷ xs) ys e h = absurd (omega (arith, h))
 pub none_found : (word rest : List ℕ) (offset : ℕ) (places : List ℕ) → Searching word rest offset places → length rest ≡ 0 → length places ≡ 0 → soft_hyphens word ≡ []
 none_found word rest offset places s h k = empty_list places (soft_hyphens word) (searched_whole word rest offset places s h) k
 
+pub some_left : (word rest : List ℕ) (offset : ℕ) (places : List ℕ) → Searching word rest offset places → length rest ≡ 0 → 0 < length places → soft_hyphens word ≢ []
+some_left word rest offset places s h k = λ none. omega (arith, ap length (searched_whole word rest offset places s h ∙ none), k)
+
 -- What holds of the places of the first n characters holds of the soft hyphens among them.
 all_before : (P : ℕ → Type 0) (word : List ℕ) (n : ℕ) → ((j : ℕ) → j < n → P (place_of_character word j)) → All P (soft_hyphens_before word n)
 all_before P word zero h = All-nil P
@@ -110,9 +114,10 @@ all_before P word (suc n) h =
     let last = h n (omega arith) in
     let place = place_of_character word n in
     subst (λ k. All P (soft_hyphens_before word k)) (add-one n) (subst (All P) (sym (picked_more (place_of_character word) (is_soft_hyphen word) n))
-      (elim (is_soft_hyphen word n) as (λ b. All P (soft_hyphens_before word n ++ cond b (place ∷ []) [])) [
-          true ↦ All-push P (soft_hyphens_before word n) place before last
-        | false ↦ subst (All P) (sym (append-nil (soft_hyphens_before word n))) before ]))
+    (elim (is_soft_hyphen word n) as (λ b. All P (soft_hyphens_before word n ++ cond b (place ∷ []) [])) [
+      | true ↦ All-push P (soft_hyphens_before word n) place before last
+      | false ↦ subst (All P) (sym (append-nil (soft_hyphens_before word n))) before
+    ]))
 
 Rises : List ℕ → Type 0
 Rises places = AllPairs (λ p q. p < q) places
@@ -125,9 +130,10 @@ rising word (suc n) l =
     let place = place_of_character word n in
     let below = all_before (λ p. p < place) word n (λ j h. place_rises word j n h (omega arith)) in
     subst (λ k. Rises (soft_hyphens_before word k)) (add-one n) (subst Rises (sym (picked_more (place_of_character word) (is_soft_hyphen word) n))
-      (elim (is_soft_hyphen word n) as (λ b. Rises (soft_hyphens_before word n ++ cond b (place ∷ []) [])) [
-          true ↦ all_pairs_push (λ p q. p < q) (soft_hyphens_before word n) place before below
-        | false ↦ subst Rises (sym (append-nil (soft_hyphens_before word n))) before ]))
+    (elim (is_soft_hyphen word n) as (λ b. Rises (soft_hyphens_before word n ++ cond b (place ∷ []) [])) [
+      | true ↦ all_pairs_push (λ p q. p < q) (soft_hyphens_before word n) place before below
+      | false ↦ subst Rises (sym (append-nil (soft_hyphens_before word n))) before
+    ]))
 
 -- The places ascend, on boundaries of the word and before its end.
 pub ascending : (word : List ℕ) → IsStrictlyIncreasing (soft_hyphens word)

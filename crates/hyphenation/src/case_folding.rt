@@ -18,8 +18,10 @@ ghost use Rattle.std.specs.Cow.{cow_str_bytes, IsBorrowedStr};
 ghost use Rattle.std.specs.Int.{saturate_unsigned, w64};
 ghost use Rattle.std.specs.Str.{IsUtf8, IsCharBoundary};
 ghost use Rattle.std.specs.Option.{option_copied};
+ghost use Rattle.std.specs.Str.Pattern.{HasPassingCharAt};
+ghost use Rattle.unicode.specs.Binary.{is_uppercase};
 ghost use Rattle.hyphenation.specs.Places.{place_of_character};
-ghost use Rattle.hyphenation.specs.Folding.{fold_character, fold, has_uppercase, shifts_of, delta_below};
+ghost use Rattle.hyphenation.specs.Folding.{fold_character, fold, has_uppercase, shifts_of, delta_below, carried};
 
 use std::alloc::{AllocError, Global};
 use std::borrow::CowStr;
@@ -57,10 +59,10 @@ pub fn refold<'t>(alloc: Global, original: &'t str) -> Result<(CowStr<'t>, Vec<S
     let mut written = start;
     for c in rest.chars() {
         let index = folded.len();
-        let lower = fold_char(c);
-        folded.push(lower)?;
+        let folding = fold_char(c);
+        folded.push(folding)?;
         written += c.len_utf8();
-        if lower.len_utf8() != c.len_utf8() {
+        if folding.len_utf8() != c.len_utf8() {
             let delta = difference(folded.len(), written);
             shifts.push(Shift { index, delta })?;
         }
@@ -73,6 +75,7 @@ fn first_uppercase(text: &str) -> Option<usize>
     ensures none { IsNone result ↔ (has_uppercase text.now ≡ false) }
     ensures place { IfSome result (λ place. IsCharBoundary text.now place) }
     ensures first { IfSome result (λ place. has_uppercase (take place text.now) ≡ false) }
+    ensures uppercase { IfSome result (λ place. (end : ℕ) × HasPassingCharAt is_uppercase text.now place end) }
 {
     text.find(|c: char| is_uppercase(c))
 }
@@ -105,7 +108,8 @@ fn difference(a: usize, b: usize) -> isize
 /// the greatest `usize`.
 pub fn realign(i: usize, shifts: &[Shift]) -> usize
     ensures value { result ≡ saturate_unsigned w64 (pos i -ℤ delta_below shifts.now i) }
-    ensures carried { (original : List ℕ) (j : ℕ) → IsUtf8 original → length original ≤ usize.MAX → shifts.now ≡ shifts_of original → i ≡ place_of_character (fold original) j → result ≡ place_of_character original j }
+    ensures carried { (original : List ℕ) → IsUtf8 original → length original ≤ usize.MAX → shifts.now ≡ shifts_of original → IsCharBoundary (fold original) i → result ≡ carried original i }
+    ensures same_character { (original : List ℕ) (j : ℕ) → IsUtf8 original → length original ≤ usize.MAX → shifts.now ≡ shifts_of original → i ≡ place_of_character (fold original) j → result ≡ place_of_character original j }
 {
     let delta = last_shift_below(i, shifts).map_or(0, |shift| shift.delta);
     i.saturating_sub_signed(delta)
@@ -123,7 +127,13 @@ mod tests {
     use std::process::Abort;
     use std::test::Fail;
 
-    fn assert_folds(rt: &impl Abort, alloc: Global, word: &str, folded: &str, shifts: &[(usize, isize)]) -> Result<(), AllocError> {
+    fn assert_folds(
+        rt: &impl Abort,
+        alloc: Global,
+        word: &str,
+        folded: &str,
+        shifts: &[(usize, isize)],
+    ) -> Result<(), AllocError> {
         let (text, found) = refold(alloc, word)?;
         assert_eq!(rt; text.as_str(), folded);
         assert_eq!(rt; found.len(), shifts.len());
@@ -178,7 +188,16 @@ mod tests {
     #[test]
     fn realigned_places_are_held_at_the_ends(rt: HostRuntime) {
         assert_eq!(rt; realign(1, &[Shift { index: 0, delta: 2 }]), 0);
-        assert_eq!(rt; realign(usize::MAX, &[Shift { index: 0, delta: -2 }]), usize::MAX);
+        assert_eq!(rt;
+            realign(
+                usize::MAX,
+                &[Shift {
+                    index: 0,
+                    delta: -2
+                }]
+            ),
+            usize::MAX
+        );
         assert_eq!(rt; realign(1, &[]), 1);
     }
 
@@ -194,7 +213,11 @@ mod tests {
             all.push(c)?;
         }
         let (folded, shifts) = refold(alloc, &all)?;
-        let changed = all.chars().zip(folded.as_str().chars()).filter(|(c, d)| c != d).count();
+        let changed = all
+            .chars()
+            .zip(folded.as_str().chars())
+            .filter(|(c, d)| c != d)
+            .count();
         assert_eq!(rt; changed, 1402 - 86 + 75);
         assert_eq!(rt; shifts.len(), 25 + 4);
         Ok(())

@@ -41,7 +41,9 @@ mod tests {
         let alloc = rt.alloc();
         let first = soft_hyphen_indices(alloc, "\u{ad}ab")?.ok_or("none")?;
         assert_eq!(rt; first.as_slice(), [0].as_slice());
-        let each = soft_hyphen_indices(alloc, "ri\u{ad}bo\u{ad}nu\u{ad}cle\u{ad}ase")?.ok_or("none")?;
+        let each = soft_hyphen_indices(alloc, "ri\u{ad}bo\u{ad}nu\u{ad}cle\u{ad}ase")?.ok_or(
+            "none",
+        )?;
         assert_eq!(rt; each.as_slice(), [2, 6, 10, 15].as_slice());
         for word in ["", "ribonuclease", "\u{a0}\u{ac}", "ri-bo"] {
             assert!(rt; soft_hyphen_indices(alloc, word)?.is_none());

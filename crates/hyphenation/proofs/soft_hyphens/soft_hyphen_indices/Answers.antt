@@ -1,6 +1,6 @@
-use Rattle.std.proofs.Common.{rules, arith, length, ◌≡◌, false, sym, ◌∙◌}
+use Rattle.std.proofs.Common.{rules, arith, refl, length, ◌<◌, ◌≡◌, false, sym, ◌∙◌}
 use Rattle.std.specs.Str.Iter.{char_indices_rest, char_indices_offset}
-use Rattle.hyphenation.proofs.SoftHyphens.{starts, passed, found, one_met, none_found, searched_whole, ascending, within}
+use Rattle.hyphenation.proofs.SoftHyphens.{starts, passed, found, one_met, none_found, some_left, searched_whole, ascending, within}
 use Rattle.hyphenation.proofs.soft_hyphens.soft_hyphen_indices.Goals as goal
 
 pub loop-place-preserved-in-Continue-1 : goal.loop-place-preserved-in-Continue-1
@@ -29,7 +29,7 @@ pub returns-then-is_empty-clause-within : goal.returns-then-is_empty-clause-with
 returns-then-is_empty-clause-within c = within c.args.word.now c.utf8.word
 
 pub returns-then-is_empty-clause-some : goal.returns-then-is_empty-clause-some
-returns-then-is_empty-clause-some c = 
+returns-then-is_empty-clause-some c =
     let empty : length c.loop-place.places.items ≡ 0 = search rules in
     let none = none_found _ _ _ _ c.loop-place.invariant.holds (search rules) empty in
     (λ f. cc, λ some. absurd (some none))
@@ -39,3 +39,18 @@ returns-clause-ascending c = ascending c.args.word.now
 
 pub returns-clause-within : goal.returns-clause-within
 returns-clause-within c = within c.args.word.now c.utf8.word
+
+pub returns-clause-found : goal.returns-clause-found
+returns-clause-found c = searched_whole _ _ _ _ c.loop-place.invariant.holds (search rules)
+
+pub returns-clause-some : goal.returns-clause-some
+returns-clause-some c =
+    let some : 0 < length c.loop-place.places.items = search rules in
+    let left = some_left _ _ _ _ c.loop-place.invariant.holds (search rules) some in
+    (λ t. left, λ t. refl)
+
+pub returns-clause-none : goal.returns-clause-none
+returns-clause-none c =
+    let some : 0 < length c.loop-place.places.items = search rules in
+    let left = some_left _ _ _ _ c.loop-place.invariant.holds (search rules) some in
+    λ none. absurd (left none)
