@@ -1,3 +1,4 @@
 pub mod Places
+pub mod Ascending
 pub mod Steps
 pub mod Joined
