@@ -1,8 +1,9 @@
 pub mod Bounds
+pub mod Places
+pub mod Ascending
 pub mod Steps
 pub mod Joined
 pub mod Numbered
-pub mod Places
 pub mod Folds
 pub mod Shifts
 pub mod Uppercase
@@ -14,3 +15,4 @@ pub mod Longest
 pub mod WordPlaces
 pub mod Winning
 pub mod SoftHyphens
+pub mod Spaced

@@ -8,3 +8,5 @@ pub mod Folding
 pub mod SoftHyphens
 pub mod Scoring
 pub mod Examples
+pub mod Load
+pub mod Engine

@@ -5,10 +5,10 @@ ghost use Rattle.std.specs.Str.{IsCharBoundary};
 ghost use Rattle.hyphenation.specs.Boundaries.{boundaries};
 
 pub mod boundaries;
-pub mod words;
-
+pub mod laws;
 #[cfg(test)]
 mod tests;
+pub mod words;
 
 pub use boundaries::boundaries_of;
 pub use hyphenation_commons::breaks::Break;

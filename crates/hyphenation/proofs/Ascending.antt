@@ -1,0 +1,35 @@
+-- Plain breaks that fit, and places that ascend.
+use Rattle.std.proofs.Common.{◌≡◌, ℕ, ◌+◌, ◌≤◌, List, [], ◌∷◌, map, subst, sym, arith, add-zero, IsCharBoundary, true, inl, inr, length, nat_le, nat_lt, slice_index, ◌||◌}
+use Rattle.std.proofs.lemmas.Bool.{and_parts, or_cases, leb-true, ltb-true}
+use Rattle.std.proofs.Math.Nat.{sub-zero}
+use Rattle.hyphenation_commons.specs.Break.{plain, is_boundary}
+use Rattle.hyphenation.specs.Fits.{FitsFrom, Ascend}
+
+pub ascend_fits : (text : List ℕ) (last_end least : ℕ) (places : List ℕ) → last_end ≤ least → Ascend text least places → FitsFrom text last_end least (map plain places)
+ascend_fits text last_end least [] h a = tt
+ascend_fits text last_end least (p ∷ ps) h a = (
+  record {
+    ascends = a.0;
+    within = omega arith;
+    apart = omega (arith, h, a.0);
+    place = a.1;
+    begin = subst (IsCharBoundary text) (sym (sub-zero p)) a.1;
+    end = subst (IsCharBoundary text) (sym (add-zero p)) a.1;
+  },
+  ascend_fits text (p + 0) (p + 1) ps (omega arith) a.2,
+)
+
+pub fits_ascend : (text : List ℕ) (last_end least : ℕ) (places : List ℕ) → FitsFrom text last_end least (map plain places) → Ascend text least places
+fits_ascend text last_end least [] f = tt
+fits_ascend text last_end least (p ∷ ps) f = (f.0.ascends, f.0.place, fits_ascend text (p + 0) (p + 1) ps f.1)
+
+-- The test of a boundary, and std's word for it.
+pub boundary_from_test : (text : List ℕ) (at : ℕ) → is_boundary text at ≡ true → IsCharBoundary text at
+boundary_from_test text at passes =
+    let both = and_parts (nat_le at (length text)) (nat_lt (slice_index text at) 128 || nat_le 192 (slice_index text at)) passes in (
+      leb-true at (length text) both.0,
+      λ below high. elim (or_cases (nat_lt (slice_index text at) 128) (nat_le 192 (slice_index text at)) both.1) [
+        | inl low ↦ absurd (omega (arith, ltb-true (slice_index text at) 128 low, high))
+        | inr lead ↦ leb-true 192 (slice_index text at) lead
+      ],
+    )

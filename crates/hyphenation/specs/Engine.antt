@@ -1,0 +1,61 @@
+-- What is written of a word's score, and when a run is refused.
+use Rattle.std.specs.Prelude.{◌≡◌, ◌≢◌, ◌==◌, if◌then◌else◌, ℕ, List, [], ◌∷◌, ◌++◌, map, decimal, None, Result, Ok, Err, Option, Some}
+use Rattle.std.specs.List.{join_with_byte}
+use Rattle.std.specs.declared.alloc.AllocError.{AllocError}
+use Rattle.hyphenation_commons.specs.Reading.{standard_contents}
+use Rattle.hyphenation_commons.specs.declared.grammar.Cause.{Cause}
+use Rattle.hyphenation_commons.specs.declared.grammar.Error.{Error}
+use Rattle.hyphenation_commons.specs.declared.grammar.Error.TheVariants.{Deserialization, IO, LanguageMismatch, Memory as NoMemory}
+use Rattle.hyphenation.specs.declared.engine.RunError.{RunError}
+use Rattle.hyphenation.specs.declared.engine.RunError.TheVariants.{Dictionary, Output, Memory}
+use Rattle.hyphenation.specs.Load.{ReadsIn}
+
+-- Values in decimal, one space between, and a line feed.
+abbrev pub line_of : List ℕ → List ℕ
+line_of values = join_with_byte 32 (map decimal values) ++ 10 ∷ []
+
+-- The space before each value but the first.
+abbrev pub space_before : ℕ → List ℕ
+space_before index = if index == 0 then [] else 32 ∷ []
+
+-- The language of a standard text.
+abbrev pub language_in : List ℕ → List ℕ
+language_in bytes = (standard_contents bytes).language
+
+-- A dictionary's text is accepted, and of that language.
+abbrev pub IsAccepted : (List ℕ → Option (ℕ × Cause)) → (List ℕ → List ℕ) → List ℕ → List ℕ → Type 0
+IsAccepted refusal language asked bytes = (refusal bytes ≡ None) × (language bytes ≡ asked)
+
+-- Why a dictionary could not be had: the refusal of its text, a fault of its reading, or another language; never want of memory.
+abbrev pub IsRefused : (List ℕ → Option (ℕ × Cause)) → (List ℕ → List ℕ) → List ℕ → List ℕ → Error → Type 0
+IsRefused refusal language asked bytes (Deserialization line cause) = refusal bytes ≡ Some (line, cause)
+IsRefused refusal language asked bytes (IO e) = Unit {0}
+IsRefused refusal language asked bytes (LanguageMismatch expected found) = (refusal bytes ≡ None) × (language bytes ≡ found) × (expected ≡ asked) × (found ≢ asked)
+IsRefused refusal language asked bytes (NoMemory e) = ⊥
+
+-- A run over a dictionary's bytes ends well, or at the writing, exactly where the text is accepted and of the asked language.
+abbrev pub Runs : {X : Type 0} → (List ℕ → Option (ℕ × Cause)) → (List ℕ → List ℕ) → List ℕ → List ℕ → Result X RunError → Type 0
+Runs refusal language asked bytes (Ok done) = IsAccepted refusal language asked bytes
+Runs refusal language asked bytes (Err (Dictionary e)) = IsRefused refusal language asked bytes e
+Runs refusal language asked bytes (Err (Output e)) = IsAccepted refusal language asked bytes
+Runs refusal language asked bytes (Err Memory) = Unit {0}
+
+-- A run that is refused other than by its writing.
+abbrev pub IsUnwritten : RunError → Type 0
+IsUnwritten (Dictionary e) = Unit {0}
+IsUnwritten (Output e) = ⊥
+IsUnwritten Memory = Unit {0}
+
+-- A run that ended before its writing.
+abbrev pub BeforeWriting : Result (Unit {0}) RunError → Type 0 → Type 0
+BeforeWriting (Ok done) P = Unit {0}
+BeforeWriting (Err (Dictionary e)) P = P
+BeforeWriting (Err (Output e)) P = Unit {0}
+BeforeWriting (Err Memory) P = P
+
+-- What a fault of loading makes of a run.
+abbrev pub run_error : Error → RunError
+run_error (Deserialization line cause) = Dictionary (Deserialization line cause)
+run_error (IO e) = Dictionary (IO e)
+run_error (LanguageMismatch expected found) = Dictionary (LanguageMismatch expected found)
+run_error (NoMemory e) = Memory
