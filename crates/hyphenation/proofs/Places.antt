@@ -1,10 +1,10 @@
 -- Places and characters of a text.
-use Rattle.std.proofs.Common.{◌≡◌, ℕ, ◌+◌, ◌-◌, ◌<◌, ◌≤◌, ◌&&◌, Bool, true, false, zero, suc, List, [], ◌∷◌, ◌++◌, length, take, drop, chars, encode_utf8_all, refl, sym, ap, subst, ◌∙◌, arith, length-append, add-one, min, nat_lt, ltb-true, ltb-false}
-use Rattle.std.specs.Char.{encode_utf8, IsScalar, len_utf8}
+use Rattle.std.proofs.Common.{◌≡◌, ℕ, ◌+◌, ◌-◌, ◌<◌, ◌≤◌, ◌&&◌, Bool, true, false, zero, suc, List, [], ◌∷◌, ◌++◌, length, take, drop, chars, encode_utf8_all, refl, sym, ap, subst, ◌∙◌, arith, length-append, min, nat_lt, ltb-true, ltb-false}
+use Rattle.std.specs.Char.{encode_utf8}
 use Rattle.std.specs.List.{slice_index}
 use Rattle.std.specs.Str.{IsUtf8, IsCharBoundary, all_scalars}
 use Rattle.std.proofs.lemmas.List.{take_more, take_all, take_at, take_min, length-take-le, take-append-drop}
-use Rattle.std.proofs.lemmas.Str.{encodes-append, encodes-chars, chars-encodes, chars-append, scalars-chars, IsUtf8-take, IsUtf8-drop, IsCharBoundary-at_seam, length-encode, len_utf8_bounds}
+use Rattle.std.proofs.lemmas.Str.{encodes-append, encodes-chars, chars-encodes, chars-append, scalars-chars, IsUtf8-take, IsCharBoundary-at_seam, length-encode, len_utf8_bounds}
 use Rattle.hyphenation.specs.Places.{place_of_character}
 
 both_true : (a b : Bool) → (a && b) ≡ true → (a ≡ true) × (b ≡ true)
@@ -21,22 +21,9 @@ scalars_drop cs zero h = h
 scalars_drop [] (suc j) h = refl
 scalars_drop (c ∷ cs) (suc j) h = let parts = both_true _ (all_scalars cs) h in scalars_drop cs j parts.1
 
-<<<<<<< HEAD
 -- The bytes of the first j characters, and those of the others.
 text_split : (text : List ℕ) (j : ℕ) → IsUtf8 text → text ≡ encode_utf8_all (take j (chars text)) ++ encode_utf8_all (drop j (chars text))
 text_split text j u = sym (encodes-chars text u) ∙ ap encode_utf8_all (sym (take-append-drop j (chars text))) ∙ encodes-append (take j (chars text)) (drop j (chars text))
-=======
--- Of two characters the one with the lesser number starts no later.
-pub places_ascend : (text : List ℕ) (i j : ℕ) → i ≤ j → place_of_character text i ≤ place_of_character text j
-places_ascend text i j h =
-    let first = take i (chars text) in
-    let more = take (j - i) (drop i (chars text)) in
-    let sum : i + (j - i) ≡ j = omega (arith, h) in
-    let split : take j (chars text) ≡ first ++ more = subst (λ n. take n (chars text) ≡ first ++ more) sum (take-add i (j - i) (chars text)) in
-    let bytes : length (encode_utf8_all (take j (chars text))) ≡ length (encode_utf8_all first) + length (encode_utf8_all more) =
-    ap (λ cs. length (encode_utf8_all cs)) split ∙ ap length (encodes-append first more) ∙ length-append (encode_utf8_all first) (encode_utf8_all more) in
-    omega (arith, bytes)
->>>>>>> cbfd0477df3d06a0a75cdf54d7ed9d70920f4f8f
 
 -- a text whose first characters are known
 pub place_at : (text front back : List ℕ) → chars text ≡ front ++ back → place_of_character text (length front) ≡ length (encode_utf8_all front)
@@ -50,18 +37,8 @@ place_more text j h =
     ∙ length-append (encode_utf8_all (take j (chars text))) (encode_utf8_all (c ∷ []))
     ∙ ap (λ n. place_of_character text j + n) (length-append (encode_utf8 c) [] ∙ omega arith)
 
-<<<<<<< HEAD
 pub place_end : (text : List ℕ) (j : ℕ) → IsUtf8 text → length (chars text) ≤ j → place_of_character text j ≡ length text
 place_end text j u h = ap (λ cs. length (encode_utf8_all cs)) (take_all j (chars text) h) ∙ ap length (encodes-chars text u)
-=======
--- A word has characters enough for the minima.
-pub bounds_met : (l r n : ℕ) (word : List ℕ) → n ≡ length (chars word) → l < n → r ≤ n - l → boundaries l r word ≡ Some (place_of_character word l, place_of_character word (n - max r 1))
-bounds_met l r n word count below room =
-    let below_count : l < length (chars word) = omega (arith, count, below) in
-    let room_count : r ≤ length (chars word) - l = omega (arith, count, room) in
-    subst (λ m. boundaries l r word ≡ Some (place_of_character word l, place_of_character word (m - max r 1))) (sym count)
-    (bounds_kept l r (length (chars word)) _ below_count room_count)
->>>>>>> cbfd0477df3d06a0a75cdf54d7ed9d70920f4f8f
 
 grows : (text : List ℕ) (j : ℕ) → j < length (chars text) → place_of_character text j < place_of_character text (j + 1)
 grows text j h =

@@ -1,11 +1,6 @@
 use Rattle.std.proofs.Common.{rules, ◌≡◌, ◌-◌, max, length, chars, sym, arith, inl, inr}
 use Rattle.std.proofs.lemmas.Str.{chars_from_encodes}
-<<<<<<< HEAD
-use Rattle.hyphenation.specs.Places.{place_of_character}
 use Rattle.hyphenation.proofs.Bounds.{bounds_met, bounds_missed, places_ascend}
-=======
-use Rattle.hyphenation.proofs.Places.{bounds_met, bounds_missed, places_ascend}
->>>>>>> cbfd0477df3d06a0a75cdf54d7ed9d70920f4f8f
 use Rattle.hyphenation.proofs.hyphenator.boundaries.boundaries_of.Goals as goal
 use Rattle.hyphenation.proofs.hyphenator.boundaries.boundaries_of.Goals.{then-count-left-via-then-count-left, then-count-left-via-else-count-left+then-count-left-2}
 
