@@ -1,22 +1,27 @@
 //! The values of a word's places, and the entries that give them.
 //!
-//! The keys of a dictionary that stand in a word compete at its places. Here is `firkin`, between
-//! two dots, with the patterns that stand in it; below it is the greatest value at each place:
+//! The keys of a dictionary that stand in a word compete at its places. Here is the word `firkin`
+//! with a dot at each end, its frame. Below are the patterns that stand in the frame, and then the
+//! word with the greatest value at each of its places:
 //!
 //! ```text
-//!      . f i r k i n .
-//!      . f i2
-//!          i2r
-//!            r2k
-//!            r5k i n
-//!              k1i n
-//!              k i n2.          (the pattern is k2in., see below)
-//!       -------------
-//!        f0i2r5k2i0n
+//!     . f i r k i n .
+//!     . f i2
+//!         i2r
+//!           r2k
+//!           r5k i n
+//!             k1i n
+//!             k2i n .
+//!       f0i2r5k2i0n
 //! ```
 //!
-//! Of the entries that give a place its value the winner is the one whose key starts first, and of
-//! those that start there the one whose key is shortest. An odd value allows a break.
+//! An odd value allows a break, so `firkin` breaks before its `k`. Of the entries that give a place
+//! its value the winner is the one whose key starts first, and of those that start there the one
+//! whose key is shortest.
+//!
+//! A place is the number of the word's bytes before it: 1 up to the word's length less 1.
+//! [`Score`] gives the values, and [`winners`] the entries that won. Its search is a walk down the
+//! trie of the keys from each byte of the frame.
 
 ghost use Rattle.std.specs.Prelude.{◌≡◌, ◌↔◌, ◌+◌, ◌-◌, ◌*◌, ◌%◌, ◌<◌, ◌≤◌, ◌^◌, ◌==◌, if◌then◌else◌, ℕ, List, Some, None, length, filter, map, slice_index, option_copied, IfOk, OnOk, IsSome, IsTrue};
 ghost use Rattle.hyphenation_commons.specs.Dictionary.{keys_of, longest_key};
