@@ -174,6 +174,7 @@ pub fn winners<'d, C: Carried, B: Break>(
 ) -> Result<Vec<Option<&'d Entry<C>>>, AllocError>
     requires made { count.old.made ≤ 2 ^ 64 }
     requires reported { count.old.reported ≤ 2 ^ 64 }
+    ensures places { IfOk result (λ v. length v.items ≡ length word.now - 1) }
     ensures winners { IfOk result (λ v. map option_copied v.items ≡ winners (keys_of dictionary.now) word.now) }
     ensures most { count.new.made ≤ count.old.made + (length word.now + 2) * (longest_key dictionary.now + 1) }
     ensures least { OnOk result (count.old.made + (length word.now + 2) ≤ count.new.made) }
