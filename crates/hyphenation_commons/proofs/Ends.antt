@@ -1,5 +1,5 @@
 -- The last line of a text.
-use Rattle.std.proofs.Common.{◌∙◌, sym, map, Bor, arith, ◌≡◌, ℕ, suc, zero, ◌-◌, Bool, true, false, cond, eqb, List, [], ◌∷◌, length, take, Option, Some, None, refl, ap}
+use Rattle.std.proofs.Common.{◌∙◌, sym, map, Bor, arith, ◌≡◌, ℕ, suc, zero, ◌-◌, Bool, true, false, cond, eqb, List, [], ◌∷◌, length, take, Some, refl, ap}
 use Rattle.std.specs.Prelude.{slice_get}
 use Rattle.hyphenation_commons.specs.Lines.{without_empty_last}
 

@@ -1,5 +1,5 @@
 -- The language of line 2.
-use Rattle.std.proofs.Common.{◌≡◌, ◌∙◌, ℕ, Bool, true, false, cond, List, Option, Some, None, refl, ap, sym}
+use Rattle.std.proofs.Common.{◌≡◌, ◌∙◌, ℕ, Bool, true, false, cond, List, Some, None, refl, ap}
 use Rattle.std.specs.Prelude.{IsUtf8, codes}
 use Rattle.std.specs.Option.{option_and_then}
 use Rattle.hyphenation_commons.specs.Language.{is_code}

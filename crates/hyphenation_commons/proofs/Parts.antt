@@ -1,10 +1,8 @@
 -- Where the commas part a token.
-use Rattle.std.proofs.Common.{◌≡◌, ℕ, suc, ◌+◌, ◌-◌, ◌<◌, ◌≤◌, Bool, true, false, cond, not, ◌&&◌, eqb, nat_lt, List, [], ◌∷◌, length, take, drop, Option, Some, None, refl, sym, ap, ◌∙◌, arith, le-ltb, map, Bor}
+use Rattle.std.proofs.Common.{◌≡◌, ℕ, suc, ◌+◌, ◌-◌, ◌<◌, ◌≤◌, Bool, true, false, cond, not, ◌&&◌, eqb, nat_lt, List, [], ◌∷◌, length, take, drop, Some, None, refl, sym, ap, ◌∙◌, arith}
 use Rattle.std.proofs.lemmas.Bool.Decides.{nat_tests}
-use Rattle.std.proofs.lemmas.List.{take_rest, take-map, length-map}
-use Rattle.std.specs.List.{list_all}
-use Rattle.hyphenation_commons.specs.Lines.{is_number}
-use Rattle.std.specs.Prelude.{position}
+use Rattle.std.proofs.lemmas.List.{take_rest}
+use Rattle.std.specs.Prelude.{position, IsSome}
 use Rattle.std.specs.List.{position_or_len, prefix_len, onto_first}
 use Rattle.hyphenation_commons.specs.Tokens.{parts_within, put}
 
@@ -32,6 +30,7 @@ at_comma n (b ∷ rest) e h = by (eqb b 44) h (λ k. at_comma n rest e k)
   where
     one : (k : ℕ) → 1 + k ≡ suc k
     one k = omega arith
+
     by : (t : Bool) → cond (not t) (1 + prefix_len (λ x. not (eqb x 44)) rest) 0 < suc (length rest)
         → (prefix_len (λ x. not (eqb x 44)) rest < length rest → parts_within n rest ≡ take (prefix_len (λ x. not (eqb x 44)) rest) rest ∷ parts_within (n - 1) (drop (suc (prefix_len (λ x. not (eqb x 44)) rest)) rest))
         → put (t && nat_lt 0 n) b (parts_within (cond (t && nat_lt 0 n) (n - 1) n) rest)
@@ -56,26 +55,42 @@ uncut n text e = no_comma n text (far (absent (nat_lt (position_or_len (λ b. eq
 pub cut : (n : ℕ) (text : List ℕ) (at : ℕ) → (n ≡ 0 → ⊥) → Some at ≡ position (λ b. eqb b 44) text
     → (0 < n) × (parts_within n text ≡ take at text ∷ parts_within (n - 1) (take (length text - (at + 1)) (drop (at + 1) text)))
 cut n text at h e =
-    let f = found (nat_lt (position_or_len (λ b. eqb b 44) text) (length text)) (position_or_len (λ b. eqb b 44) text) at e in
-    (omega arith,
-     at_comma n text (some_left h) (near f.0) ∙ (λ i. take (sym f.1 i) text ∷ parts_within (n - 1) (drop (suc (sym f.1 i)) text)) ∙ ap (λ (k : ℕ). take at text ∷ parts_within (n - 1) (drop k text)) (next at)
-     ∙ ap (λ (xs : List ℕ). take at text ∷ parts_within (n - 1) xs) (sym (take_rest text (at + 1))))
+    let f = found (nat_lt (position_or_len (λ b. eqb b 44) text) (length text)) (position_or_len (λ b. eqb b 44) text) at e in (
+      omega arith,
+      at_comma n text (some_left h) (near f.0) ∙ (λ i. take (sym f.1 i) text ∷ parts_within (n - 1) (drop (suc (sym f.1 i)) text)) ∙ ap (λ (k : ℕ). take at text ∷ parts_within (n - 1) (drop k text)) (next at)
+          ∙ ap (λ (xs : List ℕ). take at text ∷ parts_within (n - 1) xs) (sym (take_rest text (at + 1))),
+    )
   where
     some_left : (n ≡ 0 → ⊥) → nat_lt 0 n ≡ true
     some_left h = grind (arith, nat_tests)
+
     near : nat_lt (position_or_len (λ b. eqb b 44) text) (length text) ≡ true → position_or_len (λ b. eqb b 44) text < length text
     near e = grind (arith, nat_tests)
+
     next : (k : ℕ) → suc k ≡ k + 1
     next k = omega arith
 
-many : (a b : ℕ) → a ≡ b → 1 < b → nat_lt 1 a ≡ true
-many a b e h = grind (arith, nat_tests)
+some_first : (b : ℕ) (parts : List (List ℕ)) → 0 < length (onto_first b parts)
+some_first b [] = omega arith
+some_first b (p ∷ ps) = omega arith
 
--- the parts before a comma
-pub numerals : (items : List (Bor (List ℕ))) (parts : List (List ℕ)) (count : ℕ) → map (λ part. part.now) items ≡ parts → count ≡ length items → 1 < count
-    → list_all is_number (map (λ part. part.now) (take (count - 1) items)) ≡ list_all is_number (cond (nat_lt 1 (length parts)) (take (length parts - 1) parts) parts)
-numerals items parts count e c h =
-    let len : length parts ≡ count = ap length (sym e) ∙ length-map items (λ (part : Bor (List ℕ)). part.now) ∙ sym c in
-    let more : nat_lt 1 (length parts) ≡ true = many (length parts) count len h in
-    ap (list_all is_number) (sym (take-map (λ (part : Bor (List ℕ)). part.now) (count - 1) items)) ∙ ap (λ (ps : List (List ℕ)). list_all is_number (take (count - 1) ps)) e
-    ∙ ap (λ (k : ℕ). list_all is_number (take (k - 1) parts)) (sym len) ∙ ap (λ (b : Bool). list_all is_number (cond b (take (length parts - 1) parts) parts)) (sym more)
+some_part : (n : ℕ) (text : List ℕ) → 0 < length (parts_within n text)
+some_part n [] = omega arith
+some_part n (b ∷ rest) = by (eqb b 44 && nat_lt 0 n)
+  where
+    by : (t : Bool) → 0 < length (put t b (parts_within (cond t (n - 1) n) rest))
+    by true = omega arith
+    by false = some_first b (parts_within n rest)
+
+pub two_parts : (n : ℕ) (token : List ℕ) → nat_lt 0 n ≡ true → IsSome (position (λ b. eqb b 44) token) → 1 < length (parts_within n token)
+two_parts n token e h =
+    let at = position_or_len (λ b. eqb b 44) token in
+    let is = at_comma n token e (near (nat_lt at (length token)) refl h) in
+    omega (arith, ap length is, some_part (n - 1) (drop (suc at) token))
+  where
+    below : nat_lt (position_or_len (λ b. eqb b 44) token) (length token) ≡ true → position_or_len (λ b. eqb b 44) token < length token
+    below e = grind (arith, nat_tests)
+
+    near : (t : Bool) → nat_lt (position_or_len (λ b. eqb b 44) token) (length token) ≡ t → IsSome (cond t (Some (position_or_len (λ b. eqb b 44) token)) None) → position_or_len (λ b. eqb b 44) token < length token
+    near true e h = below e
+    near false e h = absurd cc

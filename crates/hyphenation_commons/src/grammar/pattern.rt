@@ -1,11 +1,10 @@
 //! A pattern's token, read in one pass.
 
-ghost use Rattle.std.specs.Prelude.{◌≡◌, IfOk, fold, option_map};
-ghost use Rattle.hyphenation_commons.specs.Tokens.{marks_of};
-ghost use Rattle.hyphenation_commons.specs.Parsed.{shown, unread, with_mark};
+ghost use Rattle.std.specs.Prelude.{◌≡◌, IfOk, option_map};
+ghost use Rattle.hyphenation_commons.specs.Parsed.{read_pattern, shown};
 
 use crate::dictionary::Entry;
-use crate::grammar::tokens::{added, mark_of, Escapes, Mark};
+use crate::grammar::tokens::{Escapes, Mark, added, mark_of};
 use std::alloc::{AllocError, Global};
 
 /// What the marks of a pattern say, as far as they are read.
@@ -53,7 +52,7 @@ impl PatternToken {
 
 /// What a pattern's token says; none where its escapes can't be read.
 pub(crate) fn pattern_of(alloc: Global, token: &[u8]) -> Result<Option<PatternToken>, AllocError>
-    ensures { IfOk result (λ found. option_map shown found ≡ option_map (fold with_mark unread) (marks_of token.now)) }
+    ensures { IfOk result (λ found. option_map shown found ≡ read_pattern token.now) }
 {
     let mut pattern = PatternToken {
         key: Vec::with_capacity(alloc, token.len())?,

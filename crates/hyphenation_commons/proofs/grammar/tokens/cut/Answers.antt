@@ -1,5 +1,3 @@
-use Rattle.std.proofs.Common.{sym, ◌∙◌, ap, ℕ, ◌≡◌}
-use Rattle.hyphenation_commons.specs.Tokens.{parts_within}
 use Rattle.hyphenation_commons.proofs.Parts as parts
 use Rattle.hyphenation_commons.proofs.grammar.tokens.cut.Goals as goal
 
