@@ -16,6 +16,9 @@ pub mod PatternsLemmas
 pub mod ReadTokens
 pub mod Seams
 pub mod Taken
+pub mod ExceptionsLemmas
+pub mod KeptLemmas
+pub mod PatternsLemmas
 pub mod Tied
 pub mod Utf8
 pub mod Whole
