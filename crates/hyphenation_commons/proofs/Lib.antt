@@ -6,6 +6,7 @@ pub mod Ends
 pub mod ExceptionsLemmas
 pub mod Gathered
 pub mod Heads
+pub mod KeptLemmas
 pub mod Later
 pub mod Numbers
 pub mod OneLine
@@ -16,9 +17,6 @@ pub mod PatternsLemmas
 pub mod ReadTokens
 pub mod Seams
 pub mod Taken
-pub mod ExceptionsLemmas
-pub mod KeptLemmas
-pub mod PatternsLemmas
 pub mod Tied
 pub mod Utf8
 pub mod Whole
