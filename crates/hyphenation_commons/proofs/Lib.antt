@@ -1,3 +1,4 @@
+pub mod AnyOrder
 pub mod AsciiSplits
 pub mod Below
 pub mod Causes
