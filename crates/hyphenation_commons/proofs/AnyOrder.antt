@@ -1,8 +1,8 @@
 -- A text stays accepted whatever the order of its lines behind the third.
-use Rattle.std.proofs.Common.{◌≡◌, ◌≢◌, ℕ, zero, suc, ◌+◌, ◌-◌, ◌<◌, ◌≤◌, Bool, true, false, cond, ◌&&◌, ◌||◌, ◌==◌, eqb, nat_lt, not, List, [], ◌∷◌, ◌++◌, length, get_or, take, drop, Option, Some, None, refl, sym, ap, subst, ◌∙◌, arith, add-one, inl, inr, IsPermutation}
-use Rattle.std.specs.Prelude.{◌⊎◌, is_none}
-use Rattle.std.specs.Option.{option_map, option_map_or, option_or}
-use Rattle.std.specs.List.{list_any, find, swap}
+use Rattle.std.proofs.Common.{◌≡◌, ◌≢◌, ℕ, zero, suc, ◌+◌, ◌<◌, ◌≤◌, Bool, true, false, cond, ◌&&◌, ◌||◌, eqb, nat_lt, List, [], ◌∷◌, length, get_or, take, drop, Option, Some, None, refl, sym, ap, subst, ◌∙◌, arith, add-one, inl, inr, IsPermutation}
+use Rattle.std.specs.Prelude.{◌⊎◌}
+use Rattle.std.specs.Option.{option_map, option_map_or}
+use Rattle.std.specs.List.{list_any, swap}
 use Rattle.std.specs.Cmp.Lexicographic.{nat_list_eq_equiv}
 use Rattle.std.proofs.lemmas.Bool.Decides.{nat_tests}
 use Rattle.std.proofs.lemmas.List.{take_all, drop_all}
@@ -168,6 +168,7 @@ own_late form n line late = rw (other 1 n (omega arith), other 2 n (omega arith)
   where
     other : (k n : ℕ) → k < n → eqb n k ≡ false
     other k n h = grind (arith, nat_tests)
+
     above : (n : ℕ) → 3 < n → nat_lt 3 n ≡ true
     above n h = grind (arith, nat_tests)
 
@@ -213,6 +214,7 @@ module _ (form : Form) (first second third : List ℕ) where
     where
       s : Swapped (λ i. get_or ls i []) (λ i. get_or (swap ls a b) i []) a b
       s = swapped_from_swap ls (swap ls a b) a b [] ia ib refl
+
       others : (m : ℕ) → (m ≡ suc (suc (suc a)) → ⊥) → (m ≡ suc (suc (suc b)) → ⊥) → get_or (headed (swap ls a b)) m [] ≡ get_or (headed ls) m []
       others zero x y = refl
       others (suc zero) x y = refl

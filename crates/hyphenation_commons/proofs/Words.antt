@@ -1,9 +1,8 @@
 -- The word of a UTF-8 line is UTF-8.
-use Rattle.std.proofs.Common.{◌≡◌, ℕ, Bool, true, false, cond, eqb, List, [], ◌∷◌, ◌++◌, get_or, Option, Some, None, refl, sym, ap, subst, append_assoc, arith}
+use Rattle.std.proofs.Common.{◌≡◌, ℕ, Bool, true, false, cond, eqb, List, [], ◌∷◌, Option, Some, None, refl, subst, arith}
 use Rattle.std.specs.Prelude.{IsUtf8}
 use Rattle.std.specs.Option.{option_map}
-use Rattle.std.specs.List.{slice_split, onto_first}
-use Rattle.std.proofs.lemmas.List.{append-nil}
+use Rattle.std.specs.List.{slice_split}
 use Rattle.std.proofs.lemmas.Str.{IsUtf8-nil}
 use Rattle.hyphenation_commons.specs.Lines.{same}
 use Rattle.hyphenation_commons.specs.Tokens.{text_of, signs_of, bytes_of}
