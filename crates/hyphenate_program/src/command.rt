@@ -1,5 +1,8 @@
 //! The program's words, its messages and its statuses.
 
+#[cfg(test)]
+mod tests;
+
 use hyphenation::engine::{Kind, RunError, run_score};
 use hyphenation::load::Error;
 use hyphenation_commons::language::Language;

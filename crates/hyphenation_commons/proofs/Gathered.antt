@@ -1,7 +1,7 @@
 -- What lines spell, one line more; and the tests of repetition by what was spelt.
-use Rattle.std.proofs.Common.{◌≡◌, ℕ, suc, ◌+◌, Bool, true, false, cond, ◌&&◌, ◌||◌, List, [], ◌∷◌, ◌++◌, length, map, Option, Some, None, is_some, refl, sym, ap, subst, ◌∙◌}
+use Rattle.std.proofs.Common.{◌≡◌, ℕ, Bool, true, false, cond, ◌&&◌, ◌||◌, List, [], ◌∷◌, ◌++◌, map, Option, Some, None, is_some, refl, sym, ap, ◌∙◌}
 use Rattle.std.specs.Option.{option_map, option_map_or}
-use Rattle.std.specs.List.{filter_map, cons_option, list_any}
+use Rattle.std.specs.List.{filter_map, cons_option}
 use Rattle.std.proofs.lemmas.List.{append-nil}
 use Rattle.std.proofs.lemmas.List.Elements.{filter_map-append}
 use Rattle.std.specs.Ordering.{nat_cmp, eq_by_cmp}
@@ -13,7 +13,7 @@ use Rattle.hyphenation_commons.specs.Dictionary.{Texts}
 use Rattle.hyphenation_commons.specs.Lines.{same}
 use Rattle.hyphenation_commons.specs.Items.{is_pattern, is_exception, key, word, key_spelt, word_spelt, pattern_of, exception_of, entries, listed}
 use Rattle.hyphenation_commons.specs.Judging.{stands, repetition}
-use Rattle.hyphenation_commons.specs.Reading.{gathered, told, entry_as, spelt, Spelt}
+use Rattle.hyphenation_commons.specs.Reading.{gathered, told, entry_as, spelt}
 use Rattle.hyphenation_commons.specs.declared.dictionary.Entry.{Entry}
 use Rattle.hyphenation_commons.specs.declared.grammar.Cause.{Cause}
 use Rattle.hyphenation_commons.specs.declared.grammar.Cause.TheVariants.{RepeatedPattern, RepeatedException}

@@ -1,5 +1,5 @@
 -- What stands in an accepted text is what some line spells, and so the order of lines means nothing.
-use Rattle.std.proofs.Common.{◌≡◌, ℕ, suc, ◌+◌, Bool, true, false, cond, List, [], ◌∷◌, ◌++◌, length, Option, Some, None, is_some, unwrap_or, refl, sym, ap, subst, ◌∙◌, append_assoc, inl, inr}
+use Rattle.std.proofs.Common.{◌≡◌, ℕ, ◌+◌, Bool, true, false, cond, List, [], ◌∷◌, ◌++◌, length, Option, Some, None, is_some, unwrap_or, refl, sym, ap, subst, ◌∙◌, append_assoc, inl, inr}
 use Rattle.std.specs.Prelude.{◌⊎◌}
 use Rattle.std.proofs.lemmas.List.{append-nil}
 use Rattle.std.specs.Option.{option_map, option_or}
@@ -8,13 +8,13 @@ use Rattle.std.specs.declared.cmp.Ordering.{Ordering}
 use Rattle.std.specs.declared.cmp.Ordering.TheVariants.{Less, Equal, Greater}
 use Rattle.std.specs.Cmp.Lexicographic.{slice_cmp, nat_list_cmp_total, nat_list_eq_equiv, texts_ties}
 use Rattle.std.specs.FinMap as finite
-use Rattle.std.specs.FinMap.{FinMap, get-insert, get-empty, same_map, nat_cmp-IsAntisymmetric, slice_cmp-IsAntisymmetric}
+use Rattle.std.specs.FinMap.{get-insert, get-empty, same_map, nat_cmp-IsAntisymmetric, slice_cmp-IsAntisymmetric}
 use Rattle.hyphenation_commons.specs.Break.{Break, Change}
 use Rattle.hyphenation_commons.specs.Dictionary.{Texts}
 use Rattle.hyphenation_commons.specs.Form.{Form}
 use Rattle.hyphenation_commons.specs.Items.{pattern_of, exception_of}
 use Rattle.hyphenation_commons.specs.Lines.{language_of, minima_of}
-use Rattle.hyphenation_commons.specs.Judging.{fault_behind, own_cause, repetition, cause_of}
+use Rattle.hyphenation_commons.specs.Judging.{fault_behind, own_cause, repetition}
 use Rattle.hyphenation_commons.specs.Reading.{gathered, told, entry_as, spelt, contents_of, SomeLine, Among}
 use Rattle.hyphenation_commons.specs.declared.grammar.Cause.{Cause}
 use Rattle.hyphenation_commons.proofs.Gathered.{has, with_spelt, gathered-more, new_key, new_word}

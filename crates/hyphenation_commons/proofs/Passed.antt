@@ -1,21 +1,20 @@
 -- What a line that fails no test of its own spells: well-formed keys with their entries, and words with their listed breaks.
-use Rattle.std.proofs.Common.{◌≡◌, ℕ, suc, ◌+◌, ◌-◌, ◌<◌, ◌≤◌, Bool, true, false, cond, not, ◌==◌, ◌&&◌, ◌||◌, eqb, leb, nat_le, nat_lt, nat_eq, List, [], ◌∷◌, ◌++◌, length, map, drop, get_or, Option, Some, None, is_some, unwrap_or, refl, sym, ap, subst, ◌∙◌, append_assoc, arith, length-append}
-use Rattle.std.specs.Prelude.{IsUtf8, IsCharBoundary, slice_index, slice_index_or, codes}
+use Rattle.std.proofs.Common.{◌≡◌, ℕ, ◌+◌, ◌<◌, ◌≤◌, Bool, true, false, cond, not, ◌==◌, ◌&&◌, ◌||◌, eqb, nat_le, nat_lt, nat_eq, List, [], ◌∷◌, ◌++◌, length, map, drop, get_or, Option, Some, None, is_some, unwrap_or, refl, sym, ap, subst, ◌∙◌, append_assoc, arith, length-append}
+use Rattle.std.specs.Prelude.{IsUtf8, IsCharBoundary, codes}
 use Rattle.std.specs.Option.{option_map}
-use Rattle.std.specs.List.{find, list_all, slice_split}
+use Rattle.std.specs.List.{find, list_all}
 use Rattle.std.specs.Str.{is_utf8}
 use Rattle.std.proofs.lemmas.List.{get_or_past}
 use Rattle.std.proofs.lemmas.Bool.Decides.{nat_tests}
 use Rattle.std.proofs.lemmas.Str.{IsUtf8-from_is_utf8, IsUtf8-nil, IsCharBoundary-at_seam}
 use Rattle.hyphenation_commons.specs.Break.{Break, Change, is_boundary, keeps_within}
 use Rattle.hyphenation_commons.specs.Form.{Form}
-use Rattle.hyphenation_commons.specs.Kept.{has_letter, stays_within, are_entries, are_listed, IsPattern, IsException}
+use Rattle.hyphenation_commons.specs.Kept.{stays_within, are_entries, are_listed, IsPattern, IsException}
 use Rattle.hyphenation_commons.specs.Lines.{same, begins}
-use Rattle.hyphenation_commons.specs.Tokens.{signs_of, bytes_of, mark_of, marks_of, text_of, key_of, values_from, is_value, two_values, has_comma, place_of, change_of, is_whole, is_readable}
+use Rattle.hyphenation_commons.specs.Tokens.{signs_of, bytes_of, mark_of, marks_of, text_of, key_of, values_from, two_values, has_comma, place_of, change_of, is_whole, is_readable}
 use Rattle.hyphenation_commons.specs.Items.{is_pattern, is_exception, tokens_of, first_of, later_of, pattern_marks, key, word, counted, listed_of, listed, change_at, entries}
 use Rattle.hyphenation_commons.specs.Judging.{is_item, is_readable_first, is_extended, has_value_at, is_good, good_places, fails, own_cause}
 use Rattle.hyphenation_commons.specs.declared.dictionary.Entry.{Entry}
-use Rattle.hyphenation_commons.specs.declared.grammar.Cause.{Cause}
 use Rattle.hyphenation_commons.specs.declared.grammar.Cause.TheVariants.{NotUtf8, Header, Language, Minima, UnknownLine, Token, Pattern, NoLetters, Number, Place, Change as BadChange}
 use Rattle.hyphenation_commons.specs.declared.grammar.tokens.Sign.{Sign}
 use Rattle.hyphenation_commons.specs.declared.grammar.tokens.Mark.{Mark}

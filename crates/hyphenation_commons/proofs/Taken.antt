@@ -1,5 +1,5 @@
 -- One line after the other: the first fault among them, and what they spell.
-use Rattle.std.proofs.Common.{◌≡◌, ℕ, suc, ◌+◌, ◌<◌, ◌≤◌, Bool, true, false, cond, List, [], ◌∷◌, ◌++◌, length, map, get_or, take, drop, Option, Some, None, is_some, refl, sym, ap, subst, ◌∙◌, arith, add-one, Bor}
+use Rattle.std.proofs.Common.{◌≡◌, ℕ, suc, ◌+◌, ◌<◌, List, [], ◌∷◌, ◌++◌, length, map, get_or, take, drop, Option, Some, None, is_some, refl, sym, ap, subst, ◌∙◌, arith, add-one, Bor}
 use Rattle.std.specs.Option.{option_map, option_or}
 use Rattle.std.specs.Prelude.{Result, Ok, Err, MatchResult}
 use Rattle.std.specs.Result.{IsErr, IsErrAnd}
@@ -55,11 +55,11 @@ module _ (earlier : List (List ℕ)) (line : List ℕ) where
   item_more (Exception word places) says none = more_by None (Some (string_bytes word, places.items)) (ap (option_map {U = List ℕ × List (Entry (Unit {0}))} (λ x. (x.0, map (entry_as no_change) x.1))) says.0) says.1 none
 
 -- the first fault from a line on, by its two groups of tests
-abbrev from_line : ℕ → Option Cause → Option Cause → Option (ℕ × Cause) → Option (ℕ × Cause)
+abbrev pub from_line : ℕ → Option Cause → Option Cause → Option (ℕ × Cause) → Option (ℕ × Cause)
 from_line number own again rest = option_or (option_map (λ cause. (number, cause)) (option_or own again)) rest
 
 -- the line at i, taken off the rest and put behind the lines before
-at_line : (form : Form) (texts : List (List ℕ)) (i : ℕ) (d : List ℕ) → i < length texts
+pub at_line : (form : Form) (texts : List (List ℕ)) (i : ℕ) (d : List ℕ) → i < length texts
     → fault_behind form (take i texts) (drop i texts) ≡ from_line (i + 1) (own_cause form (i + 1) (get_or texts i d)) (repetition (take i texts) (get_or texts i d)) (fault_behind form (take (i + 1) texts) (drop (i + 1) texts))
 at_line form texts i d lt =
     let line = get_or texts i d in

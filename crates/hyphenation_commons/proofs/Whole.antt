@@ -1,10 +1,9 @@
 -- What an accepted text gives is a dictionary: its head lines, and each of its patterns and exceptions.
-use Rattle.std.proofs.Common.{◌≡◌, ℕ, suc, ◌+◌, ◌<◌, ◌≤◌, Bool, true, false, cond, not, ◌&&◌, ◌==◌, eqb, nat_le, nat_lt, List, [], ◌∷◌, ◌++◌, length, map, drop, get_or, Option, Some, None, is_some, unwrap_or, refl, sym, ap, subst, ◌∙◌, arith, inl, inr, Bor}
-use Rattle.std.specs.Prelude.{IsUtf8, ◌⊎◌, is_none, option_and_then, slice_index_or, codes}
+use Rattle.std.proofs.Common.{◌≡◌, ℕ, ◌+◌, ◌<◌, ◌≤◌, Bool, true, false, cond, ◌&&◌, ◌==◌, nat_le, nat_lt, List, [], ◌∷◌, ◌++◌, length, map, get_or, Option, Some, None, is_some, unwrap_or, refl, sym, ap, subst, ◌∙◌, arith, inl, inr, Bor}
+use Rattle.std.specs.Prelude.{is_none, option_and_then, slice_index_or, codes}
 use Rattle.std.specs.Option.{option_map}
 use Rattle.std.specs.List.{slice_split}
 use Rattle.std.proofs.lemmas.Bool.Decides.{nat_tests}
-use Rattle.std.specs.FinMap as finite
 use Rattle.hyphenation_commons.specs.Break.{Break, Change, is_boundary, plain}
 use Rattle.hyphenation_commons.specs.Dictionary.{Contents}
 use Rattle.hyphenation_commons.specs.Form.{Form}
@@ -17,7 +16,7 @@ use Rattle.hyphenation_commons.specs.Reading.{told, entry_as, Spelt, spelt, no_c
 use Rattle.std.proofs.lemmas.List.{length-map, get_or-map}
 use Rattle.hyphenation_commons.specs.declared.dictionary.Entry.{Entry}
 use Rattle.hyphenation_commons.proofs.Order.{no_fault, patterns-told, exceptions-told}
-use Rattle.hyphenation_commons.proofs.Passed.{both_left, both_right, off_right, Passes, passes, pattern-kept, exception-kept}
+use Rattle.hyphenation_commons.proofs.Passed.{both_left, both_right, passes, pattern-kept, exception-kept}
 
 -- each line fails no test of its own
 own-none : (form : Form) (P : List ℕ → Type 0) (earlier lines : List (List ℕ)) → fault_behind form earlier lines ≡ None → SomeLine P lines → (n : ℕ) × (l : List ℕ) × P l × (own_cause form n l ≡ None)

@@ -5,6 +5,7 @@
 
 ghost use Rattle.std.specs.Prelude.{◌≡◌, ◌↔◌, List, ℕ, [], ◌∷◌, Option, None, Some};
 ghost use Rattle.std.specs.FinMap as finite;
+ghost use Rattle.std.specs.List.Sorted.{IsPermutation};
 ghost use Rattle.hyphenation_commons.specs.Break.{Break, Change};
 ghost use Rattle.hyphenation_commons.specs.Form.{Form};
 ghost use Rattle.hyphenation_commons.specs.Items.{pattern_of, exception_of};
@@ -22,4 +23,9 @@ pub fn spelt_by_some_line<C, B>()
 /// Two accepted texts of the same lines behind the third, in whatever order, give the same dictionary.
 pub fn order_means_nothing<C, B>()
     ensures { (form : Form) (carries : Option Change → C) (lists : Break → B) (first second third : List ℕ) (ls ms : List (List ℕ)) → fault_behind form [] (first ∷ second ∷ third ∷ ls) ≡ None → fault_behind form [] (first ∷ second ∷ third ∷ ms) ≡ None → Among ls ms → Among ms ls → contents_of carries lists (first ∷ second ∷ third ∷ ls) ≡ contents_of carries lists (first ∷ second ∷ third ∷ ms) }
+{}
+
+/// Behind the third line the lines of an accepted text may stand in any order: it stays accepted.
+pub fn accepted_in_any_order()
+    ensures { (form : Form) (first second third : List ℕ) (ls ms : List (List ℕ)) → IsPermutation ls ms → fault_behind form [] (first ∷ second ∷ third ∷ ls) ≡ None → fault_behind form [] (first ∷ second ∷ third ∷ ms) ≡ None }
 {}

@@ -127,7 +127,7 @@ fn missing(count: usize) -> Option<Cause>
     }
 }
 
-/// What all lines of a text spell.
+/// What the lines of a text spell together, or the first fault among them.
 fn read_lines(alloc: Global, lines: &[&[u8]]) -> Result<Draft, Refusal>
     ensures { MatchResult result (λ draft. (fault_behind standard [] (map (λ line. line.now) lines.now) ≡ None) × (held draft ≡ spelt no_change place_alone (map (λ line. line.now) lines.now)) × EachBeginsKey draft.patterns) (λ refusal. IsRefusal refusal (fault_behind standard [] (map (λ line. line.now) lines.now))) }
 {
@@ -166,7 +166,7 @@ fn dictionary_of(alloc: Global, lines: &[&[u8]], draft: Draft) -> Result<Standar
     Ok(Dictionary::new(language, left, right, patterns, exceptions))
 }
 
-/// Reads a standard dictionary from its text, in time linear in its length. A refusal names the first line that
+/// Reads a standard dictionary from its text, looking at each line once. A refusal names the first line that
 /// fails a test, and the first test that it fails; one for want of memory says nothing of the text.
 pub fn read_standard(alloc: Global, bytes: &[u8]) -> Result<Standard, Refusal>
     ensures { MatchResult result (λ dictionary. (refusal_of standard bytes.now ≡ None) × (dictionary ≡ standard_contents bytes.now)) (λ refusal. IsRefusal refusal (refusal_of standard bytes.now)) }
@@ -174,4 +174,67 @@ pub fn read_standard(alloc: Global, bytes: &[u8]) -> Result<Standard, Refusal>
     let lines = lines_of(alloc, bytes)?;
     let draft = read_lines(alloc, &lines)?;
     Ok(dictionary_of(alloc, &lines, draft)?)
+}
+
+#[cfg(test)]
+mod tests {
+    use super::*;
+    use std::test::Fail;
+
+    /// The fault for which a text is refused, if any.
+    fn fault_of(alloc: Global, text: &[u8]) -> Result<Option<(usize, Cause)>, AllocError> {
+        match read_standard(alloc, text) {
+            Ok(_) => Ok(None),
+            Err(Refusal::Memory) => Err(AllocError),
+            Err(Refusal::Fault { line, cause }) => Ok(Some((line, cause))),
+        }
+    }
+
+    #[test]
+    fn a_text_gives_its_head_lines_and_exceptions(rt: HostRuntime) -> Result<(), Fail> {
+        let text =
+            b"hyphenation 1 standard\nlanguage en-us\nminima 2 3\n\n# a comment\np .a1b\np c2\ne table 2\ne a\\sb\n";
+        match read_standard(rt.alloc(), text) {
+            Ok(dictionary) => {
+                assert_eq!(rt; dictionary.language().code(), "en-us");
+                assert_eq!(rt; dictionary.minima(), (2, 3));
+                assert_eq!(rt; dictionary.exception("table"), Some([2].as_slice()));
+                assert!(rt; dictionary.exception("a b").is_some());
+                assert!(rt; dictionary.exception("tab").is_none());
+            }
+            Err(_) => assert!(rt; false),
+        }
+        Ok(())
+    }
+
+    #[test]
+    fn the_first_fault_is_told(rt: HostRuntime) -> Result<(), Fail> {
+        let alloc = rt.alloc();
+        let head = b"hyphenation 1 standard\nlanguage la\nminima 0 0\n";
+        assert_eq!(rt; fault_of(alloc, head)?, None);
+        assert_eq!(rt; fault_of(alloc, b"")?, Some((1, Cause::Header)));
+        assert_eq!(rt;
+            fault_of(alloc, b"hyphenation 1 standard")?,
+            Some((2, Cause::Language))
+        );
+        assert_eq!(rt;
+            fault_of(alloc, b"hyphenation 1 standard\nlanguage la\n")?,
+            Some((3, Cause::Minima))
+        );
+        assert_eq!(rt;
+            fault_of(
+                alloc,
+                b"hyphenation 1 standard\nlanguage la\nminima 0 0\np a1b\n\np a3b\nq"
+            )?,
+            Some((6, Cause::RepeatedPattern))
+        );
+        assert_eq!(rt;
+            fault_of(
+                alloc,
+                b"hyphenation 1 standard\nlanguage la\nminima 0 0\ne ab\nq\ne ab 1"
+            )?,
+            Some((5, Cause::UnknownLine))
+        );
+        Ok(())
+    }
 }

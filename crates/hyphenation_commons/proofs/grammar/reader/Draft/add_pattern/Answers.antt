@@ -1,4 +1,4 @@
-use Rattle.std.proofs.Common.{◌∙◌, sym, ap, is_some}
+use Rattle.std.proofs.Common.{◌∙◌}
 use Rattle.hyphenation_commons.proofs.PatternsLemmas.{get-patterns_of, patterns_of-insert}
 use Rattle.hyphenation_commons.proofs.Taken.{had_by}
 use Rattle.hyphenation_commons.proofs.grammar.reader.Draft.add_pattern.Goals as goal

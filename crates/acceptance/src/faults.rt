@@ -1,0 +1,134 @@
+//! Readers and writers that fail, and readers that give few bytes at a time.
+
+use crate::texts::FIRKIN;
+use hyphenation::engine::{Kind, RunError, run_score};
+use hyphenation::load::{Error, Load};
+use hyphenation_commons::dictionary::Standard;
+use hyphenation_commons::language::Language;
+use std::io;
+use std::io::{ErrorKind, Read, Write};
+use std::test::Fail;
+
+/// Gives a text in reads of one byte, and then its end or a fault of this kind.
+#[derive(Drop)]
+struct Drip<'t> {
+    left: &'t [u8],
+    fault: Option<ErrorKind>,
+}
+
+impl Read for Drip<'_> {
+    fn read(&mut self, buf: &mut [u8]) -> io::Result<usize> {
+        let Some((first, rest)) = self.left.split_first() else {
+            return match self.fault {
+                Some(kind) => Err(io::Error::from(kind)),
+                None => Ok(0),
+            };
+        };
+        let Some(slot) = buf.first_mut() else {
+            return Ok(0);
+        };
+        *slot = *first;
+        self.left = rest;
+        Ok(1)
+    }
+}
+
+/// Takes so many bytes, and then fails.
+#[derive(Drop)]
+struct Narrow {
+    room: usize,
+    taken: usize,
+}
+
+impl Write for Narrow {
+    fn write(&mut self, buf: &[u8]) -> io::Result<usize> {
+        if self.room == 0 {
+            return Err(io::Error::from(ErrorKind::OutOfMemory));
+        }
+        let count = buf.len().min(self.room);
+        self.room -= count;
+        self.taken = self.taken.saturating_add(count);
+        Ok(count)
+    }
+
+    fn flush(&mut self) -> io::Result<()> {
+        Ok(())
+    }
+}
+
+#[test]
+fn a_reader_that_never_fails_meets_no_fault(rt: HostRuntime) -> Result<(), Fail> {
+    let mut reader = Drip {
+        left: FIRKIN.as_bytes(),
+        fault: None,
+    };
+    let dictionary = Standard::any_from_reader(rt.alloc(), &mut reader)?;
+    assert_eq!(rt; dictionary.language().code(), "en-gb");
+    let mut refused = Drip {
+        left: &FIRKIN.as_bytes()[..40],
+        fault: None,
+    };
+    assert!(rt; matches!(Standard::any_from_reader(rt.alloc(), &mut refused), Err(Error::Deserialization { line: 3, .. })));
+    Ok(())
+}
+
+#[test]
+fn a_fault_of_reading_is_answered_before_any_line_is_judged(rt: HostRuntime) {
+    for length in [0, 3, 40, FIRKIN.len()] {
+        if length <= FIRKIN.len() {
+            let mut reader = Drip {
+                left: &FIRKIN.as_bytes()[..length],
+                fault: Some(ErrorKind::ConnectionReset),
+            };
+            let answer = Standard::any_from_reader(rt.alloc(), &mut reader);
+            assert!(rt; matches!(answer, Err(Error::IO(_))), "{length}");
+            let mut reader = Drip {
+                left: &FIRKIN.as_bytes()[..length],
+                fault: Some(ErrorKind::OutOfMemory),
+            };
+            let answer = Standard::any_from_reader(rt.alloc(), &mut reader);
+            assert!(rt; matches!(answer, Err(Error::Memory(_))), "{length}");
+        }
+    }
+}
+
+#[test]
+fn what_a_reading_gave_is_judged_or_passed_on(rt: HostRuntime) -> Result<(), Fail> {
+    let bytes = Vec::from_slice(rt.alloc(), FIRKIN.as_bytes())?;
+    assert!(rt; Standard::from_read(rt.alloc(), Ok(bytes)).is_ok());
+    let refused = Vec::from_slice(rt.alloc(), b"binary \0")?;
+    assert!(rt; matches!(Standard::from_read(rt.alloc(), Ok(refused)), Err(Error::Deserialization { line: 1, .. })));
+    let fault = io::Error::from(ErrorKind::PermissionDenied);
+    assert!(rt; matches!(Standard::from_read(rt.alloc(), Err(fault)), Err(Error::IO(_))));
+    let memory = io::Error::from(ErrorKind::OutOfMemory);
+    assert!(rt; matches!(Standard::from_read(rt.alloc(), Err(memory)), Err(Error::Memory(_))));
+    Ok(())
+}
+
+#[test]
+fn a_writer_that_fails_is_a_fault_of_the_output(rt: HostRuntime) -> Result<(), Fail> {
+    let language = Language::from_code("en-gb").ok_or("a code")?;
+    for room in [0, 1, 9] {
+        let mut reader = FIRKIN.as_bytes();
+        let mut writer = Narrow { room, taken: 0 };
+        let answer = run_score(rt.alloc(), Kind::Standard, language, "firkin", &mut reader, &mut writer);
+        assert!(rt; matches!(answer, Err(RunError::Output(_))), "{room}");
+        assert_eq!(rt; writer.taken, room);
+    }
+    let mut reader = FIRKIN.as_bytes();
+    let mut writer = Narrow { room: 10, taken: 0 };
+    assert!(rt; run_score(rt.alloc(), Kind::Standard, language, "firkin", &mut reader, &mut writer).is_ok());
+    assert_eq!(rt; writer.taken, 10);
+    Ok(())
+}
+
+#[test]
+fn a_run_that_is_refused_writes_nothing(rt: HostRuntime) -> Result<(), Fail> {
+    let language = Language::from_code("en-us").ok_or("a code")?;
+    let mut reader = FIRKIN.as_bytes();
+    let mut writer = Narrow { room: 10, taken: 0 };
+    let answer = run_score(rt.alloc(), Kind::Standard, language, "firkin", &mut reader, &mut writer);
+    assert!(rt; matches!(answer, Err(RunError::Dictionary(Error::LanguageMismatch { .. }))));
+    assert_eq!(rt; writer.taken, 0);
+    Ok(())
+}

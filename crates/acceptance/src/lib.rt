@@ -1,0 +1,9 @@
+//! What no clause says of the whole: tables of texts, words and faults, by tests.
+#![tactic(auto)]
+
+#[cfg(test)]
+mod faults;
+#[cfg(test)]
+mod scores;
+#[cfg(test)]
+mod texts;

@@ -1,0 +1,204 @@
+//! Which texts are refused, with which line and cause, and which are accepted.
+
+use hyphenation::load::{Cause, Error, Load};
+use hyphenation_commons::dictionary::Standard;
+use hyphenation_commons::language::Language;
+use std::alloc::{AllocError, Global};
+use std::test::Fail;
+
+/// Three complete head lines.
+const HEAD: &str = "hyphenation 1 standard\nlanguage en-us\nminima 2 3\n";
+
+/// The patterns that occur in `firkin`.
+pub const FIRKIN: &str = "hyphenation 1 standard\nlanguage en-gb\nminima 2 3\np .fi2\np i2r\np r2k\np r5kin\np k1in\np k2in.\n";
+
+/// The dictionary of a text, which has to be accepted.
+fn accepted(alloc: Global, text: &[u8]) -> Result<Standard, Error> {
+    let mut reader = text;
+    Standard::any_from_reader(alloc, &mut reader)
+}
+
+/// The line and cause for which a text is refused.
+fn refusal(alloc: Global, text: &[u8]) -> Option<(usize, Cause)> {
+    match accepted(alloc, text) {
+        Err(Error::Deserialization { line, cause }) => Some((line, cause)),
+        _ => None,
+    }
+}
+
+#[test]
+fn faulty_heads_are_refused_with_line_and_cause(rt: HostRuntime) {
+    let cases: [(&str, usize, Cause); 13] = [
+        ("", 1, Cause::Header),
+        ("\n", 1, Cause::Header),
+        ("hyphenation 1 extended\nlanguage en-us\nminima 2 3\n", 1, Cause::Header),
+        ("hyphenation 3 standard\nlanguage en-us\nminima 2 3\n", 1, Cause::Header),
+        ("hyphenation 1 standard", 2, Cause::Language),
+        ("hyphenation 1 standard\nlanguage EN\nminima 2 3\n", 2, Cause::Language),
+        ("hyphenation 1 standard\nlanguage \nminima 2 3\n", 2, Cause::Language),
+        ("hyphenation 1 standard\nlanguage en-us", 3, Cause::Minima),
+        ("hyphenation 1 standard\nlanguage en-us\nminima 2 ", 3, Cause::Minima),
+        ("hyphenation 1 standard\nlanguage en-us\nminima 02 3", 3, Cause::Minima),
+        ("hyphenation 1 standard\nlanguage en-us\nminima 2 256", 3, Cause::Minima),
+        ("hyphenation 1 standard\nlanguage en-us\nminima 2  3", 3, Cause::Minima),
+        ("hyphenation 1 standard\nlanguage en-us\nminima 2 3 4", 3, Cause::Minima),
+    ];
+    for (text, line, cause) in cases {
+        let found = refusal(rt.alloc(), text.as_bytes());
+        assert_eq!(rt; found, Some((line, cause)), "{text}");
+    }
+}
+
+#[test]
+fn faulty_lines_are_refused_with_line_and_cause(rt: HostRuntime) -> Result<(), Fail> {
+    let cases: [(&[u8], Cause); 32] = [
+        (b"x", Cause::UnknownLine),
+        (b"p", Cause::UnknownLine),
+        (b"e", Cause::UnknownLine),
+        (b" p a1b", Cause::UnknownLine),
+        (b"P a1b", Cause::UnknownLine),
+        (b"e \xc3", Cause::NotUtf8),
+        (b"# \xff", Cause::NotUtf8),
+        (b"e ", Cause::Token),
+        (b"p ", Cause::Token),
+        (b"e ab  1", Cause::Token),
+        (b"p  a1b", Cause::Token),
+        (b"p a\\e1b", Cause::Token),
+        (b"p \\e", Cause::Token),
+        (b"e a\\1b", Cause::Token),
+        (b"e a\\", Cause::Token),
+        (b"e ab\r", Cause::Token),
+        (b"e ab 1\\e", Cause::Token),
+        (b"p a12b 1", Cause::Pattern),
+        (b"p a00b", Cause::Pattern),
+        (b"p 1", Cause::NoLetters),
+        (b"p .1.", Cause::NoLetters),
+        (b"e ab 01", Cause::Number),
+        (b"e ab x", Cause::Number),
+        (b"e ab x,0", Cause::Number),
+        (b"e ab 18446744073709551616", Cause::Number),
+        (b"p a1b x", Cause::Number),
+        (b"e ab 18446744073709551615", Cause::Place),
+        (b"e ab 1 1", Cause::Place),
+        (b"e ab 3", Cause::Place),
+        (b"e ab 3,0,0", Cause::Place),
+        (b"e \xc3\xa9 1", Cause::Place),
+        (b"p a1b 9", Cause::Place),
+    ];
+    for (line, cause) in cases {
+        let text = with_line(rt.alloc(), line)?;
+        assert_eq!(rt; refusal(rt.alloc(), &text), Some((4, cause)), "{line:?}");
+    }
+    Ok(())
+}
+
+#[test]
+fn changes_are_refused_in_a_standard_text(rt: HostRuntime) -> Result<(), Fail> {
+    let cases: [&[u8]; 5] = [
+        b"p a1b 1",
+        b"e ab 1,0,0,0,x",
+        b"e ab 1,0,0,0,\\e",
+        b"p a1b 1,1,0,1,x",
+        b"e ab 1,0",
+    ];
+    for line in cases {
+        let text = with_line(rt.alloc(), line)?;
+        assert_eq!(rt; refusal(rt.alloc(), &text), Some((4, Cause::Change)), "{line:?}");
+    }
+    Ok(())
+}
+
+#[test]
+fn repeated_items_are_refused_at_the_later_line(rt: HostRuntime) -> Result<(), Fail> {
+    let cases: [(&[u8], usize, Cause); 5] = [
+        (b"p a1b\np a3b", 5, Cause::RepeatedPattern),
+        (b"p ab\n# between\n\np a\\2b\np a3b", 8, Cause::RepeatedPattern),
+        (b"e ab\ne ab 1", 5, Cause::RepeatedException),
+        (b"p a1b\ne ab 1\np ab1", 6, Cause::RepeatedPattern),
+        (b"p a1b\nx\np a1b", 5, Cause::UnknownLine),
+    ];
+    for (lines, number, cause) in cases {
+        let text = with_line(rt.alloc(), lines)?;
+        assert_eq!(rt; refusal(rt.alloc(), &text), Some((number, cause)), "{lines:?}");
+    }
+    Ok(())
+}
+
+#[test]
+fn these_lines_are_accepted(rt: HostRuntime) -> Result<(), Fail> {
+    let cases: [&[u8]; 16] = [
+        b"e ab 0 1 2",
+        b"e ab",
+        b"p a0b",
+        b"p 1ab2",
+        b"p a.1b",
+        b"e \\e",
+        b"e \\e 0",
+        b"p a\\s1b",
+        b"p x\\11y",
+        b"e a,b 1",
+        b"e a.b1 2",
+        b"",
+        b"\n\n#",
+        b"#p a12b",
+        b"p a1b\ne ab 1",
+        b"e \xc3\xa9 0 2",
+    ];
+    for line in cases {
+        let text = with_line(rt.alloc(), line)?;
+        assert!(rt; accepted(rt.alloc(), &text).is_ok(), "{line:?}");
+    }
+    Ok(())
+}
+
+#[test]
+fn a_last_line_feed_changes_nothing(rt: HostRuntime) -> Result<(), Fail> {
+    let with = accepted(rt.alloc(), b"hyphenation 1 standard\nlanguage de-1996\nminima 0 255\np a1b\n")?;
+    let without = accepted(rt.alloc(), b"hyphenation 1 standard\nlanguage de-1996\nminima 0 255\np a1b")?;
+    assert_eq!(rt; with.language().code(), "de-1996");
+    assert_eq!(rt; without.language().code(), "de-1996");
+    assert_eq!(rt; with.minima(), (0, 255));
+    assert_eq!(rt; without.minima(), (0, 255));
+    Ok(())
+}
+
+#[test]
+fn each_beginning_of_a_text_is_refused_where_it_ends(rt: HostRuntime) {
+    let text = b"hyphenation 1 standard\nlanguage en-us\nminima 2 3\np a1b";
+    for length in 0..text.len() + 1 {
+        let expected = match length {
+            0..=21 => Some((1, Cause::Header)),
+            22..=32 => Some((2, Cause::Language)),
+            33..=47 => Some((3, Cause::Minima)),
+            48 | 49 | 52 | 53 | 54 => None,
+            50 => Some((4, Cause::UnknownLine)),
+            _ => Some((4, Cause::Token)),
+        };
+        assert_eq!(rt; refusal(rt.alloc(), &text[..length]), expected, "{length}");
+    }
+}
+
+#[test]
+fn another_language_is_a_mismatch(rt: HostRuntime) -> Result<(), Fail> {
+    let text = b"hyphenation 1 standard\nlanguage hu\nminima 2 2\n";
+    let asked = Language::from_code("en-us").ok_or("a code")?;
+    let mut reader = &text[..];
+    match Standard::from_reader(rt.alloc(), asked, &mut reader) {
+        Err(error) => {
+            let shown = format!(in rt.alloc(); "{error}")?;
+            assert_eq!(rt;
+                shown.as_str(),
+                "Language mismatch: attempted to load a dictionary for `en-us`, but found\na dictionary for `hu` instead."
+            );
+        }
+        Ok(_) => assert!(rt; false, "a dictionary of another language"),
+    }
+    Ok(())
+}
+
+/// The head and then these bytes.
+fn with_line(alloc: Global, line: &[u8]) -> Result<Vec<u8>, AllocError> {
+    let mut text = Vec::from_slice(alloc, HEAD.as_bytes())?;
+    text.extend_from_slice(line)?;
+    Ok(text)
+}

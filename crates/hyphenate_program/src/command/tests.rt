@@ -1,0 +1,159 @@
+use super::*;
+use std::env;
+use std::process;
+use std::test::Fail;
+
+const FIRKIN: &str = "hyphenation 1 standard\nlanguage en-gb\nminima 2 3\np .fi2\np i2r\np r2k\np r5kin\np k1in\np k2in.\n";
+
+/// What the program writes and says for its words, and its status.
+#[derive(Drop)]
+struct Answer {
+    status: u8,
+    output: Vec<u8>,
+    faults: Vec<u8>,
+}
+
+fn answer_to(rt: &HostRuntime, words: &[&str]) -> Answer {
+    let mut output: Vec<u8> = Vec::new(rt.alloc());
+    let mut faults: Vec<u8> = Vec::new(rt.alloc());
+    let mut input: &[u8] = b"";
+    let status = answer(rt, rt.alloc(), words, &mut input, &mut output, &mut faults);
+    Answer {
+        status,
+        output,
+        faults,
+    }
+}
+
+/// A new file of these bytes, by its path.
+fn file(rt: &HostRuntime, name: &str, bytes: &[u8]) -> Result<String, Fail> {
+    let folder = env::temp_dir(rt)?;
+    let id = process::id(rt.process());
+    let path = format!(in rt.alloc(); "{}/hyphenate-test-{id}-{name}", folder.as_path().display())?;
+    fs::write(rt, path.as_str(), bytes)?;
+    Ok(path)
+}
+
+fn score_by(rt: &HostRuntime, path: &str, word: &str) -> Answer {
+    answer_to(rt, &["score", "standard", "en-gb", path, word])
+}
+
+#[test]
+fn a_score_is_written(rt: HostRuntime) -> Result<(), Fail> {
+    let path = file(&rt, "firkin", FIRKIN.as_bytes())?;
+    let cases: [(&str, &str); 4] = [
+        ("firkin", "0 2 5 2 0\n"),
+        ("firkins", "0 2 5 1 0 0\n"),
+        ("", "\n"),
+        ("score", "0 0 0 0\n"),
+    ];
+    for (word, line) in cases {
+        let given = score_by(&rt, &path, word);
+        assert_eq!(rt; given.status, 0, "{word}");
+        assert_eq!(rt; given.output.as_slice(), line.as_bytes(), "{word}");
+        assert_eq!(rt; given.faults.len(), 0);
+    }
+    fs::remove_file(&rt, path.as_str())?;
+    Ok(())
+}
+
+#[test]
+fn other_words_are_answered_by_the_usage(rt: HostRuntime) {
+    let cases: [&[&str]; 10] = [
+        &[],
+        &["score"],
+        &["score", "standard", "en-gb", "firkin.txt"],
+        &["score", "standard", "en-gb", "firkin.txt", "firkin", "more"],
+        &["score", "extended", "en-gb", "firkin.txt", "firkin"],
+        &["score", "Standard", "en-gb", "firkin.txt", "firkin"],
+        &["score", "standard", "en-GB", "firkin.txt", "firkin"],
+        &["score", "standard", "", "firkin.txt", "firkin"],
+        &["standard", "en-gb", "firkin.txt", "-"],
+        &["--help"],
+    ];
+    for words in cases {
+        let given = answer_to(&rt, words);
+        assert_eq!(rt; given.status, 2, "{words:?}");
+        assert_eq!(rt; given.output.len(), 0);
+        assert_eq!(rt;
+            given.faults.as_slice(),
+            b"usage: hyphenate KIND CODE PATH MARK [EDIT..]\n       hyphenate score KIND CODE PATH WORD\n".as_slice(),
+            "{words:?}"
+        );
+    }
+}
+
+#[test]
+fn a_dictionary_that_is_refused_is_named_with_its_fault(rt: HostRuntime) -> Result<(), Fail> {
+    let cases: [(&str, &[u8], &str); 6] = [
+        ("empty", b"", "line 1: not the head of this kind of dictionary\n"),
+        ("binary", b"\x7fELF\x02\xff\xfe\x00", "line 1: not UTF-8\n"),
+        ("version-3", b"hyphenation 3 standard\nlanguage en-gb\nminima 2 3\n", "line 1: not the head of this kind of dictionary\n"),
+        ("line-5", b"hyphenation 1 standard\nlanguage en-gb\nminima 2 3\np a1b\np a12b\n", "line 5: two values in one place\n"),
+        ("other", b"hyphenation 1 standard\nlanguage hu\nminima 2 2\n", "Language mismatch: attempted to load a dictionary for `en-gb`, but found\na dictionary for `hu` instead.\n"),
+        ("cut", b"hyphenation 1 standard\nlanguage en-gb", "line 3: not a minima line\n"),
+    ];
+    for (name, bytes, message) in cases {
+        let path = file(&rt, name, bytes)?;
+        let given = score_by(&rt, &path, "firkin");
+        let expected = format!(in rt.alloc(); "hyphenate: {path}: {message}")?;
+        assert_eq!(rt; given.status, 3, "{name}");
+        assert_eq!(rt; given.output.len(), 0, "{name}");
+        assert_eq!(rt; given.faults.as_slice(), expected.as_bytes(), "{name}");
+        fs::remove_file(&rt, path.as_str())?;
+    }
+    Ok(())
+}
+
+#[test]
+fn a_path_that_is_missing_or_a_folder_is_a_fault_of_the_dictionary(rt: HostRuntime) {
+    for path in ["no/such/dictionary.txt", ".", "", "/"] {
+        let given = score_by(&rt, path, "firkin");
+        assert_eq!(rt; given.status, 3, "{path}");
+        assert_eq!(rt; given.output.len(), 0);
+        assert!(rt; given.faults.starts_with(b"hyphenate: "), "{path}");
+    }
+}
+
+/// Takes nothing.
+#[derive(Drop)]
+struct Full;
+
+impl Write for Full {
+    fn write(&mut self, _buf: &[u8]) -> io::Result<usize> {
+        Err(io::Error::from(ErrorKind::StorageFull))
+    }
+
+    fn flush(&mut self) -> io::Result<()> {
+        Ok(())
+    }
+}
+
+#[test]
+fn a_result_that_cannot_be_written_is_told_and_a_message_that_cannot_is_not(rt: HostRuntime) -> Result<(), Fail> {
+    let path = file(&rt, "output", FIRKIN.as_bytes())?;
+    let words = ["score", "standard", "en-gb", path.as_str(), "firkin"];
+    let mut input: &[u8] = b"";
+    let mut faults: Vec<u8> = Vec::new(rt.alloc());
+    let status = answer(&rt, rt.alloc(), &words, &mut input, &mut Full, &mut faults);
+    assert_eq!(rt; status, 5);
+    assert_eq!(rt; faults.as_slice(), b"hyphenate: the result can't be written\n".as_slice());
+    let status = answer(&rt, rt.alloc(), &words, &mut input, &mut Full, &mut Full);
+    assert_eq!(rt; status, 5);
+    let mut output: Vec<u8> = Vec::new(rt.alloc());
+    let status = answer(&rt, rt.alloc(), &["score"], &mut input, &mut output, &mut Full);
+    assert_eq!(rt; status, 2);
+    fs::remove_file(&rt, path.as_str())?;
+    Ok(())
+}
+
+#[test]
+fn want_of_memory_and_words_that_are_not_utf8_have_their_status(rt: HostRuntime) {
+    let mut faults: Vec<u8> = Vec::new(rt.alloc());
+    assert_eq!(rt; report("path", &RunError::Memory, &mut faults), 6);
+    assert_eq!(rt; faults.as_slice(), b"hyphenate: no memory\n".as_slice());
+    assert!(rt; matches!(opening_fault(io::Error::from(ErrorKind::OutOfMemory)), RunError::Memory));
+    let mut faults: Vec<u8> = Vec::new(rt.alloc());
+    assert_eq!(rt; report_words(&io::Error::from(ErrorKind::OutOfMemory), &mut faults), 6);
+    assert_eq!(rt; report_words(&io::Error::from(ErrorKind::InvalidData), &mut faults), 2);
+}
