@@ -9,7 +9,7 @@ use Rattle.hyphenation_commons.specs.Tokens.{signs_of, text_of, parts_of}
 use Rattle.hyphenation_commons.specs.Parsed.{later_token}
 use Rattle.hyphenation_commons.specs.declared.grammar.tokens.Escapes.TheVariants.{Plain}
 use Rattle.hyphenation_commons.specs.declared.grammar.tokens.LaterToken.{LaterToken}
-use Rattle.hyphenation_commons.proofs.Parts.{uncut}
+use Rattle.hyphenation_commons.proofs.Parts.{unparted}
 
 abbrev told_by : List ℕ → List (List ℕ) → Option LaterToken
 told_by token ps =
@@ -29,7 +29,7 @@ one_part false s n value e = absurd cc
 whole : (token : List ℕ) → 0 < length token → None ≡ position (λ b. eqb b 44) token
     → later_token token ≡ cond (is_some (signs_of Plain token)) (Some (record { place = number_of token; has_comma = false })) None
 whole token some e =
-    ap (told_by token) (uncut 4 token e) ∙ one_part (nat_lt 0 (length token)) (is_some (signs_of Plain token)) (is_number token) (number token) (more 0 (length token) some)
+    ap (told_by token) (unparted 4 token e) ∙ one_part (nat_lt 0 (length token)) (is_some (signs_of Plain token)) (is_number token) (number token) (more 0 (length token) some)
 
 pub whole_none : (token : List ℕ) → 0 < length token → None ≡ position (λ b. eqb b 44) token → is_some (signs_of Plain token) ≡ false → None ≡ later_token token
 whole_none token some e off = sym (whole token some e ∙ ap (λ (b : Bool). cond b (Some (record { place = number_of token; has_comma = false })) None) off)

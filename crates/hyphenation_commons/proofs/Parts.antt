@@ -46,15 +46,15 @@ found : (t : Bool) (k at : ℕ) → Some at ≡ cond t (Some k) None → (t ≡ 
 found true k at e = (refl, cc)
 found false k at e = absurd cc
 
-pub uncut : (n : ℕ) (text : List ℕ) → None ≡ position (λ b. eqb b 44) text → parts_within n text ≡ text ∷ []
-uncut n text e = no_comma n text (far (absent (nat_lt (position_or_len (λ b. eqb b 44) text) (length text)) (position_or_len (λ b. eqb b 44) text) e))
+pub unparted : (n : ℕ) (text : List ℕ) → None ≡ position (λ b. eqb b 44) text → parts_within n text ≡ text ∷ []
+unparted n text e = no_comma n text (far (absent (nat_lt (position_or_len (λ b. eqb b 44) text) (length text)) (position_or_len (λ b. eqb b 44) text) e))
   where
     far : nat_lt (position_or_len (λ b. eqb b 44) text) (length text) ≡ false → length text ≤ position_or_len (λ b. eqb b 44) text
     far e = grind (arith, nat_tests)
 
-pub cut : (n : ℕ) (text : List ℕ) (at : ℕ) → (n ≡ 0 → ⊥) → Some at ≡ position (λ b. eqb b 44) text
+pub parted : (n : ℕ) (text : List ℕ) (at : ℕ) → (n ≡ 0 → ⊥) → Some at ≡ position (λ b. eqb b 44) text
     → (0 < n) × (parts_within n text ≡ take at text ∷ parts_within (n - 1) (take (length text - (at + 1)) (drop (at + 1) text)))
-cut n text at h e =
+parted n text at h e =
     let f = found (nat_lt (position_or_len (λ b. eqb b 44) text) (length text)) (position_or_len (λ b. eqb b 44) text) at e in (
       omega arith,
       at_comma n text (some_left h) (near f.0) ∙ (λ i. take (sym f.1 i) text ∷ parts_within (n - 1) (drop (suc (sym f.1 i)) text)) ∙ ap (λ (k : ℕ). take at text ∷ parts_within (n - 1) (drop k text)) (next at)

@@ -142,7 +142,7 @@ fn comma(text: &[u8]) -> Option<usize>
 }
 
 /// What stands before and behind the first comma, where commas still part a token.
-fn cut(commas: usize, text: &[u8]) -> Option<(&[u8], &[u8])>
+fn at_comma(commas: usize, text: &[u8]) -> Option<(&[u8], &[u8])>
     ensures { MatchOption result (parts_within commas text.now ≡ text.now ∷ []) (λ x. (0 < commas) × (parts_within commas text.now ≡ x.0.now ∷ parts_within (commas - 1) x.1.now)) }
 {
     if commas == 0 {
@@ -161,7 +161,7 @@ fn parts_of(alloc: Global, token: &[u8]) -> Result<Vec<&[u8]>, AllocError>
     let mut parts = Vec::new(alloc);
     let mut rest = token;
     let mut commas: usize = 4;
-    while let Some((front, after)) = cut(commas, rest) {
+    while let Some((front, after)) = at_comma(commas, rest) {
         parts.push(front)?;
         rest = after;
         commas -= 1;

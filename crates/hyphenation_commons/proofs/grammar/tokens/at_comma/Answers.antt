@@ -1,11 +1,11 @@
 use Rattle.hyphenation_commons.proofs.Parts as parts
-use Rattle.hyphenation_commons.proofs.grammar.tokens.cut.Goals as goal
+use Rattle.hyphenation_commons.proofs.grammar.tokens.at_comma.Goals as goal
 
 pub returns-then-commas-eq0 : goal.returns-then-commas-eq0
 returns-then-commas-eq0 c = rw c.if-commas-eq0.true (parts.none_left c.args.text.now)
 
 pub returns-in-None : goal.returns-in-None
-returns-in-None c = parts.uncut c.args.commas c.args.text.now c.in-None.ensures
+returns-in-None c = parts.unparted c.args.commas c.args.text.now c.in-None.ensures
 
 pub returns-in-Some : goal.returns-in-Some
-returns-in-Some c = parts.cut c.args.commas c.args.text.now c.in-Some.at c.if-commas-eq0.false c.in-Some.ensures
+returns-in-Some c = parts.parted c.args.commas c.args.text.now c.in-Some.at c.if-commas-eq0.false c.in-Some.ensures
