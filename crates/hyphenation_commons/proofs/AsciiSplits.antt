@@ -51,9 +51,9 @@ moved_front : (p : List ℕ) (b : ℕ) (ts : List (List ℕ)) → AllUtf8 (with_
 moved_front p b [] h = h
 moved_front p b (t ∷ ts) h = (subst IsUtf8 (append_assoc p (b ∷ []) t) h.0, h.1)
 
-pieces : (c : ℕ) → c < 128 → (p text : List ℕ) → IsUtf8 (p ++ text) → AllUtf8 (with_front p (slice_split (λ b. eqb b c) text))
-pieces c small p [] u = (u, tt)
-pieces c small p (b ∷ text) u = by (eqb b c) refl (λ v. pieces c small [] text v) (pieces c small (p ++ b ∷ []) text (subst IsUtf8 (sym (append_assoc p (b ∷ []) text)) u))
+split_from : (c : ℕ) → c < 128 → (p text : List ℕ) → IsUtf8 (p ++ text) → AllUtf8 (with_front p (slice_split (λ b. eqb b c) text))
+split_from c small p [] u = (u, tt)
+split_from c small p (b ∷ text) u = by (eqb b c) refl (λ v. split_from c small [] text v) (split_from c small (p ++ b ∷ []) text (subst IsUtf8 (sym (append_assoc p (b ∷ []) text)) u))
   where
     by : (t : Bool) → eqb b c ≡ t → (IsUtf8 text → AllUtf8 (with_front [] (slice_split (λ b. eqb b c) text))) → AllUtf8 (with_front (p ++ b ∷ []) (slice_split (λ b. eqb b c) text))
         → AllUtf8 (with_front p (cond t ([] ∷ slice_split (λ b. eqb b c) text) (onto_first b (slice_split (λ b. eqb b c) text))))
@@ -62,9 +62,9 @@ pieces c small p (b ∷ text) u = by (eqb b c) refl (λ v. pieces c small [] tex
         (subst IsUtf8 (sym (append-nil p)) parts.0, no_front (slice_split (λ b. eqb b c) text) (more parts.1))
     by false e more plain = moved_front p b (slice_split (λ b. eqb b c) text) plain
 
--- the pieces between ASCII bytes
-pub pieces-utf8 : (c : ℕ) (text : List ℕ) → c < 128 → IsUtf8 text → AllUtf8 (slice_split (λ b. eqb b c) text)
-pieces-utf8 c text small u = no_front (slice_split (λ b. eqb b c) text) (pieces c small [] text u)
+-- what stands between ASCII bytes
+pub split-utf8 : (c : ℕ) (text : List ℕ) → c < 128 → IsUtf8 text → AllUtf8 (slice_split (λ b. eqb b c) text)
+split-utf8 c text small u = no_front (slice_split (λ b. eqb b c) text) (split_from c small [] text u)
 
 pub first-utf8 : (ts : List (List ℕ)) → AllUtf8 ts → IsUtf8 (get_or ts 0 [])
 first-utf8 [] h = IsUtf8-nil

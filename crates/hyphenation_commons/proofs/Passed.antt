@@ -20,7 +20,7 @@ use Rattle.hyphenation_commons.specs.declared.grammar.tokens.Sign.{Sign}
 use Rattle.hyphenation_commons.specs.declared.grammar.tokens.Mark.{Mark}
 use Rattle.hyphenation_commons.specs.declared.grammar.tokens.Mark.TheVariants.{Letter, Value}
 use Rattle.hyphenation_commons.specs.declared.grammar.tokens.Escapes.TheVariants.{Plain, Digits}
-use Rattle.hyphenation_commons.proofs.AsciiSplits.{split_ascii, same_byte, pieces-utf8, first-utf8}
+use Rattle.hyphenation_commons.proofs.AsciiSplits.{split_ascii, same_byte, split-utf8, first-utf8}
 use Rattle.hyphenation_commons.proofs.Seams.{AreSeams, seams-utf8, marks-seams, read-utf8}
 
 pub both_left : (a b : Bool) → (a && b) ≡ true → a ≡ true
@@ -223,7 +223,7 @@ module _ (form : Form) (number : ℕ) (line : List ℕ) (none : own_cause form n
   line-utf8 = IsUtf8-from_is_utf8 line (on_from_not (is_utf8 line) passed.utf8)
 
   first-token-utf8 : IsUtf8 (drop 2 line) → IsUtf8 (first_of line)
-  first-token-utf8 u = first-utf8 (tokens_of line) (pieces-utf8 32 (drop 2 line) (omega arith) u)
+  first-token-utf8 u = first-utf8 (tokens_of line) (split-utf8 32 (drop 2 line) (omega arith) u)
 
   item_test : (bad : Bool) → (is_item line && not bad) ≡ false → is_item line ≡ true → bad ≡ true
   item_test bad e item = on_from_not bad (off_right (is_item line) (not bad) e item)

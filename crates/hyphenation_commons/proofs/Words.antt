@@ -8,12 +8,12 @@ use Rattle.hyphenation_commons.specs.Lines.{same}
 use Rattle.hyphenation_commons.specs.Tokens.{text_of, signs_of, bytes_of}
 use Rattle.hyphenation_commons.specs.declared.grammar.tokens.Escapes.TheVariants.{Plain}
 use Rattle.hyphenation_commons.specs.declared.grammar.tokens.Sign.{Sign}
-use Rattle.hyphenation_commons.proofs.AsciiSplits.{AllUtf8, pieces-utf8}
+use Rattle.hyphenation_commons.proofs.AsciiSplits.{AllUtf8, split-utf8}
 use Rattle.hyphenation_commons.proofs.Seams.{read-utf8}
 
 -- the first token
 pub first-utf8 : (text first : List ℕ) (rest : List (List ℕ)) → IsUtf8 text → slice_split (λ b. eqb b 32) text ≡ first ∷ rest → IsUtf8 first
-first-utf8 text first rest u e = (subst AllUtf8 e (pieces-utf8 32 text (omega arith) u)).0
+first-utf8 text first rest u e = (subst AllUtf8 e (split-utf8 32 text (omega arith) u)).0
 
 read_signs : (o : Option (List Sign)) (bytes : List ℕ) → Some bytes ≡ option_map bytes_of o → (ss : List Sign) × (o ≡ Some ss) × (bytes_of ss ≡ bytes)
 read_signs None bytes e = absurd cc
