@@ -6,3 +6,4 @@ pub mod Laws
 pub mod Coming
 pub mod Folding
 pub mod SoftHyphens
+pub mod Scoring

@@ -5,3 +5,4 @@ pub mod case_folding;
 pub mod hyphenator;
 pub mod iter;
 pub mod soft_hyphens;
+pub mod score;
