@@ -1,5 +1,6 @@
 pub mod Below
 pub mod Codes
-pub mod PatternsLemmas
 pub mod ExceptionsLemmas
+pub mod KeptLemmas
+pub mod PatternsLemmas
 pub mod Tied

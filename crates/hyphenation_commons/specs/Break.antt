@@ -1,6 +1,6 @@
 -- Changes, breaks, the ranges that they take and the halves that they leave.
 -- Source: L. Németh, Automatic non-standard hyphenation in OpenOffice.org, TUGboat 27:1 (2006).
-use Rattle.std.specs.Prelude.{ℕ, ◌+◌, ◌-◌, ◌&&◌, ◌||◌, Bool, List, [], length, take, drop, nat_le, nat_lt, slice_index, Option, None, Some}
+use Rattle.std.specs.Prelude.{ℕ, ◌+◌, ◌-◌, ◌&&◌, ◌||◌, Bool, true, List, [], length, take, drop, nat_le, nat_lt, slice_index, Option, None, Some}
 use Rattle.std.specs.Option.{is_some}
 
 -- From left bytes before a place to right bytes behind it stands the substitution, broken at the breakpoint.
@@ -15,6 +15,7 @@ pub record Break : Type 0 where
   pub place : ℕ
   pub change : Option Change
 
+-- A break that changes nothing.
 abbrev pub plain : ℕ → Break
 plain place = record { place = place; change = None }
 
@@ -22,32 +23,42 @@ plain place = record { place = place; change = None }
 abbrev pub is_boundary : List ℕ → ℕ → Bool
 is_boundary text at = nat_le at (length text) && (nat_lt (slice_index text at) 128 || nat_le 192 (slice_index text at))
 
+-- How many bytes before the place its range begins.
 abbrev pub left_of : Option Change → ℕ
 left_of None = 0
 left_of (Some change) = change.left
 
+-- How many bytes behind the place its range ends.
 abbrev pub right_of : Option Change → ℕ
 right_of None = 0
 right_of (Some change) = change.right
 
--- The range that a break takes: empty at the place of a plain one.
+-- Where the range of a break begins: at the place of a plain one.
 abbrev pub begin_of : Break → ℕ
 begin_of b = b.place - left_of b.change
 
+-- Where it ends: at the place of a plain one.
 abbrev pub end_of : Break → ℕ
 end_of b = b.place + right_of b.change
 
--- The halves that it leaves: of the substitution, and empty without a change.
+-- The first half of the substitution; empty without a change.
 abbrev pub before_of : Option Change → List ℕ
 before_of None = []
 before_of (Some change) = take change.breakpoint change.substitution
 
+-- The second half of it; empty without a change.
 abbrev pub after_of : Option Change → List ℕ
 after_of None = []
 after_of (Some change) = drop change.breakpoint change.substitution
 
+-- The break has a change.
 abbrev pub is_changed : Break → Bool
 is_changed b = is_some b.change
+
+-- A change, where there is one, is broken between characters of its substitution.
+abbrev pub has_boundary : Option Change → Bool
+has_boundary None = true
+has_boundary (Some change) = is_boundary change.substitution change.breakpoint
 
 -- A change at a place keeps within the text, on its characters.
 abbrev pub keeps_within : List ℕ → ℕ → Change → Bool

@@ -1,4 +1,4 @@
--- How a dictionary is held, and its contents' code.
+-- What a dictionary's parts hold. A code tells values apart.
 use Rattle.std.specs.Prelude.{ℕ, List, [], ◌∷◌, map, Option, Some, None, refl}
 use Rattle.std.specs.Coded.{Coded, coded_ℕ, coded×, coded_list, code_by}
 use Rattle.std.specs.FinMap as finite
@@ -10,26 +10,29 @@ use Rattle.hyphenation_commons.specs.Dictionary.{Contents, Texts}
 use Rattle.hyphenation_commons.specs.Trie.{Tree}
 use Rattle.hyphenation_commons.specs.declared.dictionary.Entry.{Entry}
 
+-- An entry is coded as its place, its value and what it carries.
 abbrev pub entry_code : {C : Type 0} → Coded C → Coded (Entry C)
 entry_code {C} code =
     code_by (ℕ × (ℕ × C)) (coded× coded_ℕ (coded× coded_ℕ code)) (λ e. (e.place, (e.value, e.change))) (λ p. record { place = p.0; value = p.1.0; change = p.1.1 }) (λ _. refl)
 
+-- Contents are coded as their parts in turn.
 abbrev pub contents_code : {C B : Type 0} → Coded C → Coded B → Coded (Contents C B)
 contents_code {C} {B} code listed =
     code_by (List ℕ × (ℕ × (ℕ × (Texts (List (Entry C)) × Texts (List B)))))
     (coded× (coded_list coded_ℕ) (coded× coded_ℕ (coded× coded_ℕ (coded× (finite.code (coded_list coded_ℕ) (coded_list (entry_code code))) (finite.code (coded_list coded_ℕ) (coded_list listed))))))
     (λ v. (v.language, (v.left, (v.right, (v.patterns, v.exceptions))))) (λ p. record { language = p.0; left = p.1.0; right = p.1.1.0; patterns = p.1.1.1.0; exceptions = p.1.1.1.1 }) (λ _. refl)
 
--- the keys of the nodes
+-- The nodes that are keys, each with its entries.
 abbrev pub pairs_of : {E : Type 0} → List (List ℕ) → List (Option (List E)) → List (List ℕ × List E)
 pairs_of [] es = []
 pairs_of (t ∷ ts) [] = []
 pairs_of (t ∷ ts) (None ∷ es) = pairs_of ts es
 pairs_of (t ∷ ts) (Some x ∷ es) = (t, x) ∷ pairs_of ts es
 
+-- The keys of a trie, each with its entries.
 abbrev pub patterns_of : {E : Type 0} → Tree E → Texts (List E)
 patterns_of t = finite.from_entries (pairs_of t.texts t.entries)
 
--- the words of the map, each with its list
+-- The words of a map, each with its list.
 abbrev pub exceptions_of : {B Y Z S : Type 0} → HashMap (String Y) (Vec B Z) S → Texts (List B)
 exceptions_of m = finite.from_entries (map (λ x. (string_bytes x.0, x.1.items)) m.entries)

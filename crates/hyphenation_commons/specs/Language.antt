@@ -11,10 +11,11 @@ is_code_byte b = (nat_le 97 b && nat_le b 122) || (nat_le 48 b && nat_le b 57) |
 abbrev pub is_code : List ℕ → Bool
 is_code text = nat_le 1 (length text) && nat_le (length text) 32 && list_all is_code_byte text
 
+-- The text is a code.
 abbrev pub IsCode : List ℕ → Type 0
 IsCode text = IsTrue (is_code text)
 
--- A code and the zeros behind it are the bytes that hold it
+-- A code and the zeros behind it are the bytes that hold it.
 pub padded-take : (n : ℕ) (bytes : List ℕ) → n ≤ length bytes → drop n bytes ≡ replicate (32 - n) 0
     → (take n bytes ++ replicate (32 - length (take n bytes)) 0 ≡ bytes) × (length (take n bytes) ≡ n)
 padded-take n bytes le zeros =

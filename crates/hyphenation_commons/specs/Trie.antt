@@ -1,59 +1,29 @@
--- The texts that the nodes of a trie stand for.
+-- Tries, as the texts that their nodes stand for.
 use Rattle.std.specs.Prelude.{◌≡◌, ℕ, ◌<◌, ◌&&◌, nat_eq, Bool, if◌then◌else◌, List, [], ◌∷◌, ◌++◌, length, map, fold, Option, Some, None, slice_index_or, slice_get, IsSome, take, ◌⊎◌, slice_set}
 use Rattle.std.specs.Option.{option_map}
 use Rattle.std.specs.Cmp.Lexicographic.{pointwise}
 use Rattle.hyphenation_commons.specs.declared.trie.Node.{Node}
 
--- A trie as its nodes: the text of each, and its entries where the text is a key.
+-- A trie as its nodes: the text of each, and its entries where the text is a key. A node is its number in both lists.
 pub record Tree (E : Type 0) : Type 0 where
   pub texts : List (List ℕ)
   pub entries : List (Option (List E))
 
--- the text of the node of that number
+-- The text of a node.
 abbrev pub text_of : {E : Type 0} → Tree E → ℕ → List ℕ
 text_of t node = slice_index_or t.texts node []
 
--- the text behind a parent and a byte; the root has neither
-abbrev pub text_after : List (List ℕ) → Option (ℕ × ℕ) → List ℕ
-text_after texts None = []
-text_after texts (Some from) = slice_index_or texts from.0 [] ++ from.1 ∷ []
-
-abbrev pub with_text : List (List ℕ) → Option (ℕ × ℕ) → List (List ℕ)
-with_text texts from = texts ++ text_after texts from ∷ []
-
--- the texts of nodes, each given by its parent, which stands before it, and its byte
-abbrev pub texts_of : List (Option (ℕ × ℕ)) → List (List ℕ)
-texts_of froms = fold with_text [] froms
-
--- what a clause sees of the nodes
-abbrev pub seen : {E : Type 0} → List (Node E) → Tree E
-seen ns = record { texts = texts_of (map (λ n. n.from) ns); entries = map (λ n. option_map (λ v. v.items) n.entries) ns }
-
--- what the first node of this text has
+-- What the first node of this text has.
 abbrev pub entries_at : {E : Type 0} → List (List ℕ) → List (Option (List E)) → List ℕ → Option (List E)
 entries_at [] es q = None
 entries_at (t ∷ ts) [] q = None
 entries_at (t ∷ ts) (e ∷ es) q = if pointwise nat_eq t q then e else entries_at ts es q
 
--- the entries of a key
+-- The entries of a text, if it is a key.
 abbrev pub key_at : {E : Type 0} → Tree E → List ℕ → Option (List E)
 key_at t q = entries_at t.texts t.entries q
 
--- How the edges tie the nodes: an edge leads to the text with one more byte, and each such text is reached so.
-pub record IsTied (texts : List (List ℕ)) (edge : ℕ → ℕ → Option ℕ) : Type 0 where
-  pub root : slice_get texts 0 ≡ Some []
-  pub sound : (i b j : ℕ) → edge i b ≡ Some j → (i < length texts) × (j < length texts) × (slice_index_or texts j [] ≡ slice_index_or texts i [] ++ b ∷ [])
-  pub complete : (i b j : ℕ) → i < length texts → j < length texts → slice_index_or texts j [] ≡ slice_index_or texts i [] ++ b ∷ [] → edge i b ≡ Some j
-  pub closed : (j : ℕ) → 0 < j → j < length texts → (i : ℕ) × (b : ℕ) × (i < length texts) × (slice_index_or texts j [] ≡ slice_index_or texts i [] ++ b ∷ [])
-
-abbrev pub pair_eq : ℕ × ℕ → ℕ × ℕ → Bool
-pair_eq x y = nat_eq x.0 y.0 && nat_eq x.1 y.1
-
--- one node more, of no key
-abbrev pub grown : {E : Type 0} → Tree E → ℕ → ℕ → Tree E
-grown t node byte = record { texts = t.texts ++ (text_of t node ++ byte ∷ []) ∷ []; entries = t.entries ++ None ∷ [] }
-
--- what is true of each trie
+-- What is true of each trie: its first node is the root, of the empty text; no two nodes have one text; and each node but the root is the child of another.
 pub record IsTrie {E : Type 0} (t : Tree E) : Type 0 where
   pub lengths : length t.entries ≡ length t.texts
   pub some : 0 < length t.texts
@@ -61,22 +31,58 @@ pub record IsTrie {E : Type 0} (t : Tree E) : Type 0 where
   pub distinct : (i j : ℕ) → i < length t.texts → j < length t.texts → text_of t i ≡ text_of t j → i ≡ j
   pub closed : (j : ℕ) → 0 < j → j < length t.texts → (i : ℕ) × (b : ℕ) × (i < length t.texts) × (text_of t j ≡ text_of t i ++ b ∷ [])
 
--- at most one node more, of that text and of no key
-abbrev pub Grows : {E : Type 0} → Tree E → Tree E → List ℕ → Type 0
-Grows old new text = (new ≡ old) ⊎ (new ≡ record { texts = old.texts ++ text ∷ []; entries = old.entries ++ None ∷ [] })
-
--- the text begins a key
+-- The text begins a key.
 abbrev pub BeginsKey : {E : Type 0} → Tree E → List ℕ → Type 0
 BeginsKey t text = (q : List ℕ) × IsSome (key_at t q) × (text ≡ take (length text) q)
 
--- the root stands also where there is no key
+-- The text of each node begins a key, save the root's, which stands also where there is no key.
 abbrev pub EachBeginsKey : {E : Type 0} → Tree E → Type 0
 EachBeginsKey t = (j : ℕ) → 0 < j → j < length t.texts → BeginsKey t (text_of t j)
 
--- each node is an old one, or its text begins this one
+-- ---- How it grows.
+
+-- With one node more, of no key.
+abbrev pub grown : {E : Type 0} → Tree E → ℕ → ℕ → Tree E
+grown t node byte = record { texts = t.texts ++ (text_of t node ++ byte ∷ []) ∷ []; entries = t.entries ++ None ∷ [] }
+
+-- With at most one node more, of that text and of no key.
+abbrev pub Grows : {E : Type 0} → Tree E → Tree E → List ℕ → Type 0
+Grows old new text = (new ≡ old) ⊎ (new ≡ record { texts = old.texts ++ text ∷ []; entries = old.entries ++ None ∷ [] })
+
+-- Each node is an old one, or its text begins this key.
 abbrev pub AddsFront : {E : Type 0} → Tree E → Tree E → List ℕ → Type 0
 AddsFront old new key = (j : ℕ) → j < length new.texts → ((j < length old.texts) × (text_of new j ≡ text_of old j)) ⊎ (text_of new j ≡ take (length (text_of new j)) key)
 
--- a node with these entries
+-- With these entries at a node.
 abbrev pub with_entries : {E : Type 0} → Tree E → ℕ → List E → Tree E
 with_entries t node es = record t { entries = slice_set t.entries node (Some es) }
+
+-- ---- How it is held.
+
+-- The text behind a parent and a byte. The root has neither.
+abbrev pub text_after : List (List ℕ) → Option (ℕ × ℕ) → List ℕ
+text_after texts None = []
+text_after texts (Some from) = slice_index_or texts from.0 [] ++ from.1 ∷ []
+
+-- The texts, with that of one node more.
+abbrev pub with_text : List (List ℕ) → Option (ℕ × ℕ) → List (List ℕ)
+with_text texts from = texts ++ text_after texts from ∷ []
+
+-- The texts of nodes, each given by its parent, which stands before it, and its byte.
+abbrev pub texts_of : List (Option (ℕ × ℕ)) → List (List ℕ)
+texts_of froms = fold with_text [] froms
+
+-- What a clause sees of the nodes.
+abbrev pub seen : {E : Type 0} → List (Node E) → Tree E
+seen ns = record { texts = texts_of (map (λ n. n.from) ns); entries = map (λ n. option_map (λ v. v.items) n.entries) ns }
+
+-- The test by which the edges are looked up.
+abbrev pub pair_eq : ℕ × ℕ → ℕ × ℕ → Bool
+pair_eq x y = nat_eq x.0 y.0 && nat_eq x.1 y.1
+
+-- How the edges tie the nodes: an edge leads to the text with one byte more, and each such text is reached so.
+pub record IsTied (texts : List (List ℕ)) (edge : ℕ → ℕ → Option ℕ) : Type 0 where
+  pub root : slice_get texts 0 ≡ Some []
+  pub sound : (i b j : ℕ) → edge i b ≡ Some j → (i < length texts) × (j < length texts) × (slice_index_or texts j [] ≡ slice_index_or texts i [] ++ b ∷ [])
+  pub complete : (i b j : ℕ) → i < length texts → j < length texts → slice_index_or texts j [] ≡ slice_index_or texts i [] ++ b ∷ [] → edge i b ≡ Some j
+  pub closed : (j : ℕ) → 0 < j → j < length texts → (i : ℕ) × (b : ℕ) × (i < length texts) × (slice_index_or texts j [] ≡ slice_index_or texts i [] ++ b ∷ [])

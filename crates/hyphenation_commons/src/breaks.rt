@@ -1,39 +1,56 @@
 //! What a break of a word is.
 
-ghost use Rattle.std.specs.Prelude.{◌≡◌, ◌≤◌, ◌<◌, ◌^◌, ◌↔◌, IsSome, IfSome};
-ghost use Rattle.hyphenation_commons.specs.Break.{Break, plain, left_of, begin_of, end_of, before_of, after_of, is_changed};
+ghost use Rattle.std.specs.Prelude.{◌≡◌, ◌≤◌, ◌<◌, ◌^◌, ◌&&◌, IsTrue, IsSome, IfSome, ◌↔◌};
+ghost use Rattle.hyphenation_commons.specs.Break.{left_of, begin_of, end_of, before_of, after_of, is_changed, is_boundary};
+ghost use Rattle.hyphenation_commons.specs.Kept.{stays_within};
 
 /// A break of a word: a place, and a change or none.
+///
+/// A change puts a substitution for a range of the word around the place, and breaks that: its
+/// first half stands at the end of one segment, its second half at the beginning of the next.
+/// All numbers are of bytes.
 pub trait Break: Drop {
+    ghost use Rattle.std.specs.Prelude.{IsTrue};
+    ghost use Rattle.hyphenation_commons.specs.Break.{Break, has_boundary};
+
     /// The place and the change.
     ghost meaning: { Self → Break };
 
-    /// The number of bytes of the word before the break.
+    /// The number of bytes of the word before it.
     fn place(&self) -> usize
         ensures { result ≡ (meaning self.now).place };
 
-    /// The range that the break takes, in bytes of the word from its begin to its end: empty at the place of a plain
-    /// break. It is `None` where the range would begin before the word, or end beyond the greatest `usize`.
+    /// Where its range begins and ends; both at the place where nothing is changed.
+    ///
+    /// None where the range would begin before 0 or end at 2^64 or later, which no word reaches.
     fn range(&self) -> Option<(usize, usize)>
         ensures known { IsSome result ↔ ((left_of (meaning self.now).change ≤ (meaning self.now).place) × (end_of (meaning self.now) < 2 ^ 64)) }
-        ensures value { IfSome result (λ range. range ≡ (begin_of (meaning self.now), end_of (meaning self.now))) };
+        ensures value { IfSome result (λ r. r ≡ (begin_of (meaning self.now), end_of (meaning self.now))) };
 
-    /// Whether the break has a change.
+    /// Whether it has a change.
     fn changed(&self) -> bool
         ensures { result ≡ is_changed (meaning self.now) };
 
-    /// What the change leaves before the mark; empty for a plain break.
+    /// The first half of its substitution; empty without a change.
     fn before(&self) -> &str
         ensures { result.now ≡ before_of (meaning self.now).change };
 
-    /// What the change leaves behind the mark; empty for a plain break.
+    /// The second half of its substitution; empty without a change.
     fn after(&self) -> &str
         ensures { result.now ≡ after_of (meaning self.now).change };
+
+    /// A change is broken between characters of its substitution.
+    ghost boundary: { (b : Self) → IsTrue (has_boundary (meaning b).change) };
 }
 
-/// A plain break, at this place.
+/// A place alone changes nothing.
 impl Break for usize {
+    ghost use Rattle.std.specs.Prelude.{refl};
+    ghost use Rattle.hyphenation_commons.specs.Break.{plain};
+
     ghost meaning = { plain };
+
+    ghost boundary = { λ _. refl };
 
     fn place(&self) -> usize {
         *self
@@ -53,5 +70,19 @@ impl Break for usize {
 
     fn after(&self) -> &str {
         ""
+    }
+}
+
+/// Whether a break's place, and the ends of its range, stand in a text between its characters.
+pub(crate) fn stands_in<B: Break>(text: &str, b: &B) -> bool
+    ensures { IsTrue result ↔ IsTrue (is_boundary text.now (B.meaning b.now).place && stays_within text.now (B.meaning b.now).place (B.meaning b.now).change) }
+{
+    match b.range() {
+        Some((begin, end)) => {
+            text.is_char_boundary(b.place())
+                && text.is_char_boundary(begin)
+                && text.is_char_boundary(end)
+        }
+        None => false,
     }
 }

@@ -3,17 +3,20 @@
 //! A pattern is a key, a text that may occur in words, with values at places of the key. An
 //! exception is a word with the breaks that are listed for it.
 
-ghost use Rattle.std.specs.Prelude.{◌≡◌, List, ℕ, option_copied};
+ghost use Rattle.std.specs.Prelude.{◌≡◌, ◌↔◌, List, ℕ, IsTrue, IfOk, OnOk, OnErr, option_copied};
 ghost use Rattle.std.specs.FinMap as finite;
+ghost use Rattle.std.specs.Option.{option_map};
+ghost use Rattle.std.specs.String.{string_bytes};
 ghost use Rattle.hyphenation_commons.specs.Break.{Break};
 ghost use Rattle.hyphenation_commons.specs.Dictionary.{Contents, keys_of};
 ghost use Rattle.hyphenation_commons.specs.Held.{patterns_of, exceptions_of};
-ghost use Rattle.hyphenation_commons.specs.Kept.{IsKept};
+ghost use Rattle.hyphenation_commons.specs.Kept.{IsKept, are_listed};
 ghost use Rattle.hyphenation_commons.specs.Trie.{key_at, EachBeginsKey};
 
-use crate::breaks::Break;
+use crate::breaks::{Break, stands_in};
 use crate::language::Language;
 use crate::trie::Trie;
+use std::alloc::AllocError;
 use std::collections::HashMap;
 use std::fmt;
 use std::marker::Model;
@@ -117,6 +120,7 @@ impl<C: Carried, B: Break> Dictionary<C, B> {
         ensures known { (text : List ℕ) → keys_of self.now text ≡ key_at result.now text }
         ensures begins { EachBeginsKey result.now }
     {
+        // The call tells the proof what is true of each trie.
         let _root = self.patterns.root();
         &self.patterns
     }
@@ -125,10 +129,52 @@ impl<C: Carried, B: Break> Dictionary<C, B> {
     pub fn exception(&self, word: &str) -> Option<&[B]>
         ensures { option_copied result ≡ finite.get self.now.exceptions word.now }
     {
-        match self.exceptions.get(word) {
-            Some(listed) => Some(listed.as_slice()),
-            None => None,
+        self.exceptions.get(word).map(Vec::as_slice)
+    }
+
+    /// Whether breaks may be listed for a word.
+    ///
+    /// They may if their places ascend strictly, and each place and each end of a changed range is
+    /// in the word, or at its end, on a boundary of characters. Ranges may overlap. No breaks at all
+    /// may always be listed.
+    pub fn fits(word: &str, listed: &[B]) -> bool
+        ensures { IsTrue result ↔ IsTrue (are_listed B.meaning word.now 0 listed.now) }
+    {
+        let mut least = 0;
+        for b in listed {
+            if b.place() < least || !stands_in(word, b) {
+                return false;
+            }
+            least = b.place() + 1;
         }
+        true
+    }
+
+    /// Lists breaks for a word, and answers those that were listed for it before.
+    ///
+    /// The caller owes that the breaks fit the word, as `fits` tests. Nothing else changes. The
+    /// only error is memory, and then the dictionary is as it was.
+    pub fn insert_exception(
+        &mut self,
+        word: String,
+        listed: Vec<B>,
+    ) -> Result<Option<Vec<B>>, AllocError>
+        requires { IsTrue (are_listed B.meaning (string_bytes word) 0 listed.items) }
+        ensures ok { OnOk result (self.new ≡ record self.old { exceptions = finite.insert self.old.exceptions (string_bytes word) listed.items }) }
+        ensures old { IfOk result (λ old. option_map (λ v. v.items) old ≡ finite.get self.old.exceptions (string_bytes word)) }
+        ensures err { OnErr result (self.new ≡ self.old) }
+    {
+        Ok(self.exceptions.insert(word, listed)?)
+    }
+
+    /// Takes a word out of the exceptions, and answers the breaks that were listed for it.
+    ///
+    /// Nothing else changes.
+    pub fn remove_exception(&mut self, word: &str) -> Option<Vec<B>>
+        ensures removed { self.new ≡ record self.old { exceptions = finite.remove self.old.exceptions word.now } }
+        ensures old { option_map (λ v. v.items) result ≡ finite.get self.old.exceptions word.now }
+    {
+        self.exceptions.remove(word)
     }
 }
 

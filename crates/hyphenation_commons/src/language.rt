@@ -1,4 +1,6 @@
 //! A language is a checked code.
+//!
+//! There is no table of languages: each text of 1 to 32 bytes of `a-z`, `0-9` and `-` is a code.
 
 ghost use Rattle.std.specs.Prelude.{◌≡◌, ◌<◌, ◌≤◌, ◌↔◌, IsTrue, IsSome, IfSome, codes};
 ghost use Rattle.hyphenation_commons.specs.Language.{IsCode, is_code, is_code_byte};
@@ -7,7 +9,9 @@ ghost use Rattle.std.specs.List.{list_all};
 use std::fmt;
 use std::marker::Model;
 
-/// The code of a language: 1 to 32 bytes of `a-z`, `0-9` and `-`.
+/// A language, by its code: 1 to 32 bytes of `a-z`, `0-9` and `-`.
+///
+/// Two languages are equal where their codes are. It shows as its code.
 #[derive(Clone, Copy, PartialEq, Eq, Debug)]
 pub struct Language {
     /// The code, and zeros behind it.
@@ -49,14 +53,11 @@ fn are_code_bytes(text: &[u8]) -> bool
 fn is_code(text: &[u8]) -> bool
     ensures { result ≡ is_code text.now }
 {
-    let is_long = 1 <= text.len();
-    let is_short = text.len() <= 32;
-    let all = are_code_bytes(text);
-    is_long && is_short && all
+    (1..=32).contains(&text.len()) && are_code_bytes(text)
 }
 
 impl Language {
-    /// The language of a code, where it is one.
+    /// The language of this code; none where the text is no code.
     pub fn from_code(code: &str) -> Option<Language>
         ensures some { IsSome result ↔ IsCode code.now }
         ensures code { IfSome result (λ language. language ≡ code.now) }
@@ -69,6 +70,27 @@ impl Language {
         let mut bytes = [0u8; 32];
         bytes[..len].copy_from_slice(text);
         Some(Language { bytes, len })
+    }
+
+    /// American English, `en-us`.
+    pub fn english_us() -> Language
+        ensures { result ≡ codes "en-us" }
+    {
+        Language::from_code("en-us").unwrap()
+    }
+
+    /// Hungarian, `hu`.
+    pub fn hungarian() -> Language
+        ensures { result ≡ codes "hu" }
+    {
+        Language::from_code("hu").unwrap()
+    }
+
+    /// Turkish, `tr`.
+    pub fn turkish() -> Language
+        ensures { result ≡ codes "tr" }
+    {
+        Language::from_code("tr").unwrap()
     }
 
     /// The code.

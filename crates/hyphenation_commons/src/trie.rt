@@ -135,7 +135,7 @@ impl<E: Drop> Trie<E> {
         ensures text { text_of self.now result ≡ [] }
         ensures trie { IsTrie self.now }
     {
-        // There always is one: the look at the field lets the proof know it.
+        // The look at a field tells the proof what is true of each trie.
         let _nodes = &self.nodes;
         0
     }
@@ -162,10 +162,7 @@ impl<E: Drop> Trie<E> {
         requires { node < length self.now.texts }
         ensures key { option_copied result ≡ key_at self.now (text_of self.now node) }
     {
-        match &self.nodes[node].entries {
-            Some(entries) => Some(entries.as_slice()),
-            None => None,
-        }
+        self.nodes[node].entries.as_deref()
     }
 
     /// Gives a key these entries, and answers those that it had, if it was a key.
