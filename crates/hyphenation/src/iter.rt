@@ -11,6 +11,9 @@ pub mod laws;
 pub mod marks;
 pub mod plain;
 
+#[cfg(test)]
+mod tests;
+
 pub use marks::{Hyphenating, Iter};
 pub use plain::Segments;
 

@@ -85,7 +85,7 @@ impl<'m, I: Texts> Iterator for Hyphenating<'m, I> {
 
     ghost next_gives = { λ s item t. GivesMarked (marked s.1 (I.texts s.0)) item (marked t.1 (I.texts t.0)) × (t.1 ≡ s.1) };
 
-    ghost remaining = { item_count (λ s. marked s.1 (I.texts s.0)) };
+    ghost remaining = { item_count (λ s. I.texts s.0) };
 
     /// The next text with its mark, or an error in its place where the memory for it is refused, here or by the iterator
     /// inside; the later ones are what they would have been. After the last one it gives `None`, as often as it is
@@ -105,9 +105,9 @@ impl<'m, I: Texts> Iterator for Hyphenating<'m, I> {
 
     /// The number of texts to come, as both bounds.
     fn size_hint(&self) -> (usize, Option<usize>)
-        ensures lower { IsWithinCount result.0 (at_most (length (marked self.now.1 (I.texts self.now.0)))) }
-        ensures upper { IfSome result.1 (UpTo (at_most (length (marked self.now.1 (I.texts self.now.0))))) }
-        ensures exact { result ≡ (length (marked self.now.1 (I.texts self.now.0)), Some (length (marked self.now.1 (I.texts self.now.0)))) }
+        ensures lower { IsWithinCount result.0 (at_most (length (I.texts self.now.0))) }
+        ensures upper { IfSome result.1 (UpTo (at_most (length (I.texts self.now.0)))) }
+        ensures exact { result ≡ (length (I.texts self.now.0), Some (length (I.texts self.now.0))) }
     {
         let left = self.len();
         (left, Some(left))

@@ -1,0 +1,185 @@
+ghost use Rattle.std.specs.Prelude.{◌≡◌, ◌+◌, map, length, vec_len, IfOk, codes};
+ghost use Rattle.std.specs.List.{concat};
+ghost use Rattle.std.specs.String.{string_bytes};
+ghost use Rattle.hyphenation_commons.specs.Break.{plain};
+ghost use Rattle.hyphenation.specs.Fits.{Fits};
+ghost use Rattle.hyphenation.specs.Segments.{segments, marked, with_marks};
+
+use super::*;
+use crate::hyphenator::Word;
+use std::alloc::Global;
+use std::test::Fail;
+
+// Callers of the iterators, which are proved with the tests.
+
+fn all_segments<'t>(alloc: Global, text: &'t str, breaks: &[usize]) -> Result<Vec<&'t str>, AllocError>
+    requires { Fits text.now (map plain breaks.now) }
+    ensures { IfOk result (λ list. map (λ segment. segment.now) list.items ≡ segments text.now (map plain breaks.now)) }
+{
+    Segments::new(text, breaks.iter().copied()).collect(alloc)
+}
+
+fn number_of_segments(text: &str, breaks: Vec<usize>) -> usize
+    requires { Fits text.now (map plain breaks.items) }
+    ensures { result ≡ vec_len breaks + 1 }
+{
+    laws::segments_are_one_more();
+    Segments::new(text, breaks.into_iter()).len()
+}
+
+fn joined_segments(alloc: Global, text: &str, breaks: &[usize]) -> Result<String, AllocError>
+    requires { Fits text.now (map plain breaks.now) }
+    ensures { IfOk result (λ joined. string_bytes joined ≡ text.now) }
+{
+    laws::segments_join();
+    let mut joined = String::new(alloc);
+    for segment in Segments::new(text, breaks.iter().copied()) {
+        joined.push_str(segment)?;
+    }
+    Ok(joined)
+}
+
+fn marked_text<I: Texts>(alloc: Global, items: Hyphenating<'_, I>) -> Result<String, AllocError>
+    ensures { IfOk result (λ joined. string_bytes joined ≡ concat (marked items.entry.1 (I.texts items.entry.0))) }
+{
+    let mut joined = String::new(alloc);
+    for item in items {
+        let item = item?;
+        joined.push_str(item.as_str())?;
+    }
+    Ok(joined)
+}
+
+fn marked_word<'t>(alloc: Global, word: Word<'t, usize>, mark: &'t str) -> Result<String, AllocError>
+    ensures { IfOk result (λ joined. string_bytes joined ≡ with_marks mark.now word.entry.text.now word.entry.breaks.items) }
+{
+    laws::marked_segments_join();
+    let mut items = word.into_iter();
+    items.mark_with(mark);
+    marked_text(alloc, items)
+}
+
+fn number_of_marked_segments(word: &Word<'_, usize>) -> usize
+    ensures { result ≡ vec_len word.now.breaks + 1 }
+{
+    laws::segments_are_one_more();
+    word.iter().len()
+}
+
+fn all_items<'t>(alloc: Global, word: Word<'t, usize>) -> Result<Vec<Result<String, AllocError>>, AllocError> {
+    word.into_iter().collect(alloc)
+}
+
+fn all_marked(alloc: Global, word: Word<'_, usize>) -> Result<Vec<String>, AllocError>
+    ensures { IfOk result (λ list. map string_bytes list.items ≡ marked (codes "-") (segments word.entry.text.now (map plain word.entry.breaks.items))) }
+{
+    let mut list = Vec::new(alloc);
+    for item in word {
+        list.push(item?)?;
+    }
+    Ok(list)
+}
+
+fn left_unmarked<'t>(alloc: Global, word: Word<'t, usize>) -> Result<Vec<&'t str>, AllocError>
+    ensures { IfOk result (λ list. map (λ segment. segment.now) list.items ≡ segments word.entry.text.now (map plain word.entry.breaks.items)) }
+{
+    word.into_iter().segments().collect(alloc)
+}
+
+fn word_of<'t>(alloc: Global, text: &'t str, breaks: &[usize]) -> Result<Word<'t, usize>, Fail> {
+    if Word::fits(text, breaks) {
+        Ok(Word::new(text, Vec::from_slice(alloc, breaks)?))
+    } else {
+        Err(Fail::from("the breaks do not fit"))
+    }
+}
+
+#[test]
+fn a_word_is_cut_at_its_breaks(rt: HostRuntime) -> Result<(), Fail> {
+    let alloc = rt.alloc();
+    let segments = left_unmarked(alloc, word_of(alloc, "hyphenation", &[2, 6, 7])?)?;
+    assert_eq!(rt; segments.as_slice(), ["hy", "phen", "a", "tion"].as_slice());
+    let ends = left_unmarked(alloc, word_of(alloc, "ab", &[0, 2])?)?;
+    assert_eq!(rt; ends.as_slice(), ["", "ab", ""].as_slice());
+    let empty = left_unmarked(alloc, word_of(alloc, "", &[])?)?;
+    assert_eq!(rt; empty.as_slice(), [""].as_slice());
+    Ok(())
+}
+
+#[test]
+fn a_mark_stands_behind_each_segment_but_the_last(rt: HostRuntime) -> Result<(), Fail> {
+    let alloc = rt.alloc();
+    let cases: [(&str, &[usize], &str); 4] = [
+        ("hyphenation", &[2, 6, 7], "hy- phen- a- tion"),
+        ("anfractuous", &[2, 6, 8], "an- frac- tu- ous"),
+        ("firkin", &[3], "fir- kin"),
+        ("bevies", &[], "bevies"),
+    ];
+    for (text, breaks, expected) in cases {
+        let list = all_marked(alloc, word_of(alloc, text, breaks)?)?;
+        let mut joined = String::new(alloc);
+        for (number, item) in list.iter().enumerate() {
+            if number > 0 {
+                joined.push(' ')?;
+            }
+            joined.push_str(item.as_str())?;
+        }
+        assert_eq!(rt; joined.as_str(), expected);
+    }
+    Ok(())
+}
+
+#[test]
+fn a_new_mark_holds_for_the_segments_to_come(rt: HostRuntime) -> Result<(), Fail> {
+    let alloc = rt.alloc();
+    let word = word_of(alloc, "hyphenation", &[2, 6, 7])?;
+    let mut items = word.iter();
+    let first = items.next().ok_or("none")??;
+    assert_eq!(rt; first.as_str(), "hy-");
+    items.mark_with("=");
+    let copy = items.clone()?;
+    assert_eq!(rt; copy.len(), 3);
+    let rest = marked_text(alloc, copy)?;
+    assert_eq!(rt; rest.as_str(), "phen=a=tion");
+    let second = items.next().ok_or("none")??;
+    assert_eq!(rt; second.as_str(), "phen=");
+    let mut unmarked = items.segments();
+    assert_eq!(rt; unmarked.next(), Some("a"));
+    Ok(())
+}
+
+#[test]
+fn hints_count_the_segments_to_come(rt: HostRuntime) -> Result<(), Fail> {
+    let alloc = rt.alloc();
+    let whole = word_of(alloc, "bevies", &[])?;
+    let mut segments = whole.iter().segments();
+    assert_eq!(rt; segments.size_hint(), (1, Some(1)));
+    assert_eq!(rt; segments.next(), Some("bevies"));
+    assert_eq!(rt; segments.size_hint(), (0, Some(0)));
+    assert_eq!(rt; segments.next(), None);
+    assert_eq!(rt; segments.next(), None);
+    let broken = word_of(alloc, "hypha", &[2])?;
+    let mut segments = broken.iter().segments();
+    assert_eq!(rt; segments.size_hint(), (2, Some(2)));
+    assert_eq!(rt; segments.next(), Some("hy"));
+    assert_eq!(rt; segments.size_hint(), (1, Some(1)));
+    assert_eq!(rt; segments.next(), Some("pha"));
+    assert_eq!(rt; segments.size_hint(), (0, Some(0)));
+    Ok(())
+}
+
+#[test]
+fn callers_count_and_join(rt: HostRuntime) -> Result<(), Fail> {
+    let alloc = rt.alloc();
+    let breaks = vec![in alloc; 2, 6, 7]?;
+    if Word::fits("hyphenation", &breaks) {
+        assert_eq!(rt; all_segments(alloc, "hyphenation", &breaks)?.len(), 4);
+        assert_eq!(rt; joined_segments(alloc, "hyphenation", &breaks)?.as_str(), "hyphenation");
+        assert_eq!(rt; number_of_segments("hyphenation", breaks), 4);
+    }
+    let word = word_of(alloc, "firkin", &[3])?;
+    assert_eq!(rt; number_of_marked_segments(&word), 2);
+    assert_eq!(rt; marked_word(alloc, word.try_clone(alloc)?, "=")?.as_str(), "fir=kin");
+    assert_eq!(rt; all_items(alloc, word)?.len(), 2);
+    Ok(())
+}
