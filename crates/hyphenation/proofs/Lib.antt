@@ -9,4 +9,5 @@ pub mod Greatest
 pub mod First
 pub mod Walked
 pub mod Longest
-
+pub mod ValuesInOrder
+pub mod Winning

@@ -7,3 +7,4 @@ pub mod Coming
 pub mod Folding
 pub mod SoftHyphens
 pub mod Scoring
+pub mod Examples

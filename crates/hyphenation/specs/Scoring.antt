@@ -70,9 +70,9 @@ pub record Scored : Type 0 where
   pub value : ℕ
   pub change : Option Change
 
--- A value allows a break where it is odd.
-abbrev pub is_odd : ℕ → Bool
-is_odd value = value % 2 == 1
+-- A value without a change, as each is in a standard dictionary.
+abbrev pub plain_value : ℕ → Scored
+plain_value value = record { value = value; change = None }
 
 -- ---- the same in terms of single keys
 

@@ -1,9 +1,35 @@
-//! The values of a word's places.
+//! The values of a word's places, and the entries that give them.
+//!
+//! The keys of a dictionary that stand in a word compete at its places. Here is `firkin`, between
+//! two dots, with the patterns that stand in it; below it is the greatest value at each place:
+//!
+//! ```text
+//!      . f i r k i n .
+//!      . f i2
+//!          i2r
+//!            r2k
+//!            r5k i n
+//!              k1i n
+//!              k i n2.          (the pattern is k2in., see below)
+//!       -------------
+//!        f0i2r5k2i0n
+//! ```
+//!
+//! Of the entries that give a place its value the winner is the one whose key starts first, and of
+//! those that start there the one whose key is shortest. An odd value allows a break.
 
-ghost use Rattle.std.specs.Prelude.{◌≡◌, ◌+◌, ◌-◌, ◌*◌, ◌<◌, ◌≤◌, ◌^◌, ◌==◌, if◌then◌else◌, ℕ, List, Some, None, length, filter, map, slice_index, option_copied, IfOk, OnOk, IsSome, IsTrue};
+ghost use Rattle.std.specs.Prelude.{◌≡◌, ◌↔◌, ◌+◌, ◌-◌, ◌*◌, ◌%◌, ◌<◌, ◌≤◌, ◌^◌, ◌==◌, if◌then◌else◌, ℕ, List, Some, None, length, filter, map, slice_index, option_copied, IfOk, OnOk, IsSome, IsTrue};
+ghost use Rattle.hyphenation_commons.specs.Dictionary.{keys_of, longest_key};
 ghost use Rattle.hyphenation_commons.specs.Trie.{key_at, EachBeginsKey};
-ghost use Rattle.hyphenation.specs.Scoring.{frame, first_greatest, bearing_from, value_of, greater, best_at, winner_at, winners, values};
+ghost use Rattle.hyphenation.specs.Scoring.{frame, first_greatest, bearing_from, value_of, greater, best_at, winners, values, plain_value};
 
+#[cfg(test)]
+mod examples;
+pub mod laws;
+#[cfg(test)]
+mod tests;
+
+use hyphenation_commons::breaks::Break;
 use hyphenation_commons::dictionary::{Carried, Dictionary, Entry, Standard};
 use hyphenation_commons::trie::Trie;
 use std::alloc::{AllocError, Global};
@@ -119,4 +145,150 @@ fn winners_of<'d, C: Drop>(
         walk(trie, word, start, &mut bests, count);
     }
     Ok(bests)
+}
+
+/// The values that winners give.
+fn values_of<C>(
+    alloc: Global,
+    winners: &[Option<&Entry<C>>],
+) -> Result<Vec<u8>, AllocError>
+    ensures { IfOk result (λ v. v.items ≡ map (λ winner. value_of (option_copied winner)) winners.now) }
+{
+    winners.iter().map(|winner| value_of(*winner)).collect(alloc)
+}
+
+/// The entries that win the places of a word, from place 1 on, a place being a number of bytes.
+///
+/// There is none where no key gives a value above 0. The hyphenator and the extended kind take
+/// from the winner what they need. The look-ups are counted, and the only error is memory.
+#[inline(always)]
+pub fn winners<'d, C: Carried, B: Break>(
+    alloc: Global,
+    dictionary: &'d Dictionary<C, B>,
+    word: &str,
+    count: &mut LookUps,
+) -> Result<Vec<Option<&'d Entry<C>>>, AllocError>
+    requires made { count.old.made ≤ 2 ^ 64 }
+    requires reported { count.old.reported ≤ 2 ^ 64 }
+    ensures winners { IfOk result (λ v. map option_copied v.items ≡ winners (keys_of dictionary.now) word.now) }
+    ensures most { count.new.made ≤ count.old.made + (length word.now + 2) * (longest_key dictionary.now + 1) }
+    ensures least { OnOk result (count.old.made + (length word.now + 2) ≤ count.new.made) }
+    ensures reported { count.new.reported ≡ count.old.reported }
+{
+    winners_of(alloc, dictionary.patterns(), word.as_bytes(), count)
+}
+
+/// The values of the places of a word, from place 1 on.
+///
+/// The look-ups are counted, and the only error is memory.
+#[inline(always)]
+fn values<C: Carried, B: Break>(
+    alloc: Global,
+    dictionary: &Dictionary<C, B>,
+    word: &str,
+    count: &mut LookUps,
+) -> Result<Vec<u8>, AllocError>
+    requires made { count.old.made ≤ 2 ^ 64 }
+    requires reported { count.old.reported ≤ 2 ^ 64 }
+    ensures places { IfOk result (λ v. length v.items ≡ length word.now - 1) }
+    ensures values { IfOk result (λ v. v.items ≡ values (keys_of dictionary.now) word.now) }
+    ensures most { count.new.made ≤ count.old.made + (length word.now + 2) * (longest_key dictionary.now + 1) }
+    ensures least { OnOk result (count.old.made + (length word.now + 2) ≤ count.new.made) }
+    ensures reported { count.new.reported ≡ count.old.reported }
+{
+    let winners = winners(alloc, dictionary, word, count)?;
+    values_of(alloc, &winners)
+}
+
+/// Scoring the places of words by the patterns of a dictionary.
+///
+/// A place of a word is a number of bytes before it: 1 up to the word's length less 1.
+pub trait Score<'d> {
+    ghost use Rattle.std.specs.Prelude.{List, ℕ};
+    ghost use Rattle.hyphenation.specs.Scoring.{Scored};
+
+    /// What a place has: its value, and in an extended dictionary the change of its winner.
+    type Value: Drop;
+
+    /// The value and the change.
+    ghost meaning: { Self.Value → Scored };
+
+    /// What a word's places have, from place 1 on.
+    ghost scores: { Self → List ℕ → List Scored };
+
+    /// The number of bytes of the longest key; 0 where there is none.
+    ghost longest: { Self → ℕ };
+
+    /// What the places of a word have, from place 1 on. The only error is memory.
+    fn score(&'d self, alloc: Global, word: &str) -> Result<Vec<Self::Value>, AllocError>
+        ensures places { IfOk result (λ v. length v.items ≡ length word.now - 1) }
+        ensures scores { IfOk result (λ v. map meaning v.items ≡ scores self.now word.now) };
+
+    /// The same, and each look-up of a byte among the children of a node is counted.
+    ///
+    /// The error is memory, and then the look-ups made so far are counted. No key is reported.
+    fn score_counted(
+        &'d self,
+        alloc: Global,
+        word: &str,
+        count: &mut LookUps,
+    ) -> Result<Vec<Self::Value>, AllocError>
+        requires made { count.old.made ≤ 2 ^ 64 }
+        requires reported { count.old.reported ≤ 2 ^ 64 }
+        ensures places { IfOk result (λ v. length v.items ≡ length word.now - 1) }
+        ensures scores { IfOk result (λ v. map meaning v.items ≡ scores self.now word.now) }
+        ensures most { count.new.made ≤ count.old.made + (length word.now + 2) * (longest self.now + 1) }
+        ensures least { OnOk result (count.old.made + (length word.now + 2) ≤ count.new.made) }
+        ensures reported { count.new.reported ≡ count.old.reported };
+
+    /// Whether such a value allows a break: whether it is odd.
+    fn denotes_opportunity(value: Self::Value) -> bool
+        ensures { IsTrue result ↔ (meaning value).value % 2 ≡ 1 };
+}
+
+impl<'d> Score<'d> for Standard {
+    ghost use Rattle.std.specs.Prelude.{None, map};
+    ghost use Rattle.hyphenation_commons.specs.Dictionary.{keys_of, longest_key};
+    ghost use Rattle.hyphenation.specs.Scoring.{values, plain_value};
+
+    type Value = u8;
+
+    ghost meaning = { plain_value };
+
+    ghost scores = { λ dictionary word. map plain_value (values (keys_of dictionary) word) };
+
+    ghost longest = { longest_key };
+
+    fn score(&'d self, alloc: Global, word: &str) -> Result<Vec<u8>, AllocError>
+        ensures places { IfOk result (λ v. length v.items ≡ length word.now - 1) }
+        ensures scores { IfOk result (λ v. map plain_value v.items ≡ map plain_value (values (keys_of self.now) word.now)) }
+        ensures values { IfOk result (λ v. v.items ≡ values (keys_of self.now) word.now) }
+    {
+        let mut count = LookUps::new();
+        values(alloc, self, word, &mut count)
+    }
+
+    fn score_counted(
+        &'d self,
+        alloc: Global,
+        word: &str,
+        count: &mut LookUps,
+    ) -> Result<Vec<u8>, AllocError>
+        requires made { count.old.made ≤ 2 ^ 64 }
+        requires reported { count.old.reported ≤ 2 ^ 64 }
+        ensures places { IfOk result (λ v. length v.items ≡ length word.now - 1) }
+        ensures scores { IfOk result (λ v. map plain_value v.items ≡ map plain_value (values (keys_of self.now) word.now)) }
+        ensures values { IfOk result (λ v. v.items ≡ values (keys_of self.now) word.now) }
+        ensures most { count.new.made ≤ count.old.made + (length word.now + 2) * (longest_key self.now + 1) }
+        ensures least { OnOk result (count.old.made + (length word.now + 2) ≤ count.new.made) }
+        ensures reported { count.new.reported ≡ count.old.reported }
+    {
+        values(alloc, self, word, count)
+    }
+
+    fn denotes_opportunity(value: u8) -> bool
+        ensures { IsTrue result ↔ value % 2 ≡ 1 }
+    {
+        value % 2 == 1
+    }
 }

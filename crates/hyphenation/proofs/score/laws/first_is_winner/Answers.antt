@@ -1,0 +1,5 @@
+use Rattle.hyphenation.proofs.Winning.{only_winner}
+use Rattle.hyphenation.proofs.score.laws.first_is_winner.Goals as goal
+
+pub returns : goal.returns
+returns g c = only_winner

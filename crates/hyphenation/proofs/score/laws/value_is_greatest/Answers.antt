@@ -1,0 +1,5 @@
+use Rattle.hyphenation.proofs.Winning.{bears_at}
+use Rattle.hyphenation.proofs.score.laws.value_is_greatest.Goals as goal
+
+pub returns : goal.returns
+returns g c = bears_at
