@@ -11,3 +11,5 @@ pub mod Walked
 pub mod Longest
 pub mod ValuesInOrder
 pub mod Winning
+pub mod Uppercase
+pub mod Refolding

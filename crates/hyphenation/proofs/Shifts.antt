@@ -1,14 +1,13 @@
 -- The shifts of a folding, and what the last one below a place tells.
-use Rattle.std.proofs.Common.{◌≡◌, ℕ, ◌+◌, ◌-◌, ◌<◌, ◌≤◌, ◌^◌, ◌==◌, Bool, true, false, cond, not, zero, suc, List, [], ◌∷◌, ◌++◌, length, map, filter, min, chars, Option, None, Some, nat_lt, ltb-true, ltb-false, lt-ltb, le-ltb, ℤ, pos, ◌-ℤ◌, refl, sym, ap, subst, ◌∙◌, arith, add-one, add-zero}
+use Rattle.std.proofs.Common.{◌≡◌, ℕ, ◌+◌, ◌-◌, ◌<◌, ◌≤◌, ◌^◌, ◌==◌, Bool, true, false, cond, not, zero, suc, List, [], ◌∷◌, ◌++◌, length, map, filter, reverse, min, chars, Option, None, Some, nat_lt, ltb-true, ltb-false, lt-ltb, le-ltb, ℤ, pos, ◌-ℤ◌, refl, sym, ap, subst, ◌∙◌, arith, add-one, add-zero}
 use Rattle.std.proofs.lemmas.Bool.{cond-true, cond-false}
 use Rattle.std.specs.Char.{encode_utf8}
 use Rattle.std.specs.Int.{saturate_unsigned, w64}
-use Rattle.std.specs.List.{slice_index, range_with_len, last_or}
+use Rattle.std.specs.List.{slice_index, range_with_len, find}
 use Rattle.std.specs.Option.{option_map_or}
 use Rattle.std.specs.Str.{IsUtf8}
 use Rattle.std.proofs.lemmas.Int.{ints}
-use Rattle.std.proofs.lemmas.List.{get_or-map, append-nil}
-use Rattle.std.proofs.lemmas.List.Elements.{filter-append}
+use Rattle.std.proofs.lemmas.List.{get_or-map, append-nil, reverse-append}
 use Rattle.hyphenation.specs.declared.case_folding.Shift.{Shift}
 use Rattle.hyphenation.specs.Places.{place_of_character}
 use Rattle.hyphenation.specs.Folding.{fold_character, fold, changes_length, shift_of, shifts_of, delta_below}
@@ -16,18 +15,12 @@ use Rattle.hyphenation.proofs.Places.{place_more, place_end, place_rises, place_
 use Rattle.hyphenation.proofs.Folds.{chars_of_fold, as_many_characters, fold_is_utf8}
 use Rattle.hyphenation.proofs.Numbered.{picked_more}
 
-last_or-append : {A : Type 0} (o : Option A) (xs ys : List A) → last_or o (xs ++ ys) ≡ last_or (last_or o xs) ys
-last_or-append o [] ys = refl
-last_or-append o (x ∷ xs) ys = last_or-append (Some x) xs ys
-
 -- One more shift counts where its index is below the place.
 delta_below_more : (shifts : List Shift) (s : Shift) (place : ℕ) → delta_below (shifts ++ s ∷ []) place ≡ cond (nat_lt s.index place) s.delta (delta_below shifts place)
 delta_below_more shifts s place =
-    let before = filter (λ (t : Shift). nat_lt t.index place) shifts in
-    ap (λ xs. option_map_or (λ (t : Shift). t.delta) (last_or None xs) (pos 0)) (filter-append (λ (t : Shift). nat_lt t.index place) shifts (s ∷ []))
-    ∙ elim (nat_lt s.index place) as (λ b. option_map_or (λ (t : Shift). t.delta) (last_or None (before ++ cond b (s ∷ []) [])) (pos 0) ≡ cond b s.delta (option_map_or (λ (t : Shift). t.delta) (last_or None before) (pos 0))) [
-        true ↦ ap (λ o. option_map_or (λ (t : Shift). t.delta) o (pos 0)) (last_or-append None before (s ∷ []))
-      | false ↦ ap (λ o. option_map_or (λ (t : Shift). t.delta) o (pos 0)) (last_or-append None before []) ]
+    let others = find (λ (t : Shift). nat_lt t.index place) (reverse shifts) in
+    ap (λ xs. option_map_or (λ (t : Shift). t.delta) (find (λ (t : Shift). nat_lt t.index place) xs) (pos 0)) (reverse-append shifts (s ∷ []))
+    ∙ elim (nat_lt s.index place) as (λ b. option_map_or (λ (t : Shift). t.delta) (cond b (Some s) others) (pos 0) ≡ cond b s.delta (option_map_or (λ (t : Shift). t.delta) others (pos 0))) [ true ↦ refl | false ↦ refl ]
 
 -- The shifts of the characters before number n.
 abbrev pub shifts_before : List ℕ → ℕ → List Shift
@@ -105,3 +98,14 @@ realigned text j u l =
     let grown = delta_is_growth text k u (omega arith) in
     let d : delta_below (shifts_of text) p ≡ pos p -ℤ pos (place_of_character text k) = subst (λ q. delta_below (shifts_of text) q ≡ pos q -ℤ pos (place_of_character text k)) folded grown in
     back p (place_of_character text k) (delta_below (shifts_of text) p) d (omega (arith, place_within text k u)) ∙ same_place text j
+
+-- What subtracting that growth gives is the place carried back.
+pub carried_back : (text : List ℕ) (j place result : ℕ) (shifts : List Shift) → IsUtf8 text → length text < 2 ^ 64 → shifts ≡ shifts_of text → place ≡ place_of_character (fold text) j → result ≡ saturate_unsigned w64 (pos place -ℤ delta_below shifts place) → result ≡ place_of_character text j
+carried_back text j place result shifts u l e k v = v ∙ ap (λ s. saturate_unsigned w64 (pos place -ℤ delta_below s place)) e ∙ ap (λ p. saturate_unsigned w64 (pos p -ℤ delta_below (shifts_of text) p)) k ∙ realigned text j u l
+
+-- Where no character changes its length there is no shift.
+pub no_shifts : (text : List ℕ) (n : ℕ) → ((j : ℕ) → j < n → changes_length text j ≡ false) → shifts_before text n ≡ []
+no_shifts text zero h = refl
+no_shifts text (suc n) h =
+    let before : shifts_before text n ≡ [] = no_shifts text n (λ j l. h j (omega arith)) in
+    subst (λ k. shifts_before text k ≡ []) (add-one n) (picked_more (shift_of text) (changes_length text) n ∙ ap (λ xs. xs ++ cond (changes_length text n) (shift_of text n ∷ []) []) before ∙ cond-false _ _ _ (h n (omega arith)))

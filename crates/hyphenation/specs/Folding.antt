@@ -1,8 +1,8 @@
 -- The folding of a word and the way back to the word as written.
 -- Sources, of Unicode 18.0.0: CaseFolding.txt (the lines of status C and S) and the property Uppercase of DerivedCoreProperties.txt.
-use Rattle.std.specs.Prelude.{ℕ, ◌+◌, ◌==◌, ◌||◌, List, Bool, not, length, take, map, filter, chars, slice_index, nat_lt, Option, None, ℤ, pos, ◌-ℤ◌, encode_utf8_all, if◌then◌else◌}
+use Rattle.std.specs.Prelude.{ℕ, ◌+◌, ◌==◌, List, Bool, not, length, take, map, filter, find, reverse, chars, slice_index, nat_lt, ℤ, pos, ◌-ℤ◌, encode_utf8_all, if◌then◌else◌}
 use Rattle.std.specs.Char.{encode_utf8}
-use Rattle.std.specs.List.{list_any, range_with_len, last_or}
+use Rattle.std.specs.List.{list_any, range_with_len}
 use Rattle.std.specs.Option.{option_map_or}
 use Rattle.unicode.specs.Binary.{is_uppercase}
 use Rattle.unicode.specs.CaseFolding.{simple_fold}
@@ -39,4 +39,4 @@ shifts_of text = map (shift_of text) (filter (changes_length text) (range_with_l
 
 -- The delta of the last shift whose index is below the place, or 0 where none is.
 abbrev pub delta_below : List Shift → ℕ → ℤ
-delta_below shifts place = option_map_or (λ shift. shift.delta) (last_or None (filter (λ shift. nat_lt shift.index place) shifts)) (pos 0)
+delta_below shifts place = option_map_or (λ shift. shift.delta) (find (λ shift. nat_lt shift.index place) (reverse shifts)) (pos 0)

@@ -13,10 +13,11 @@
 //! [`refold`] gives the folded word with a [`Shift`] for each such character, and [`realign`]
 //! carries a place of the folded word back by them: place 3, before the `a`, comes after the
 //! shift of the `ẞ`, and becomes 3 + 2 = 5.
-ghost use Rattle.std.specs.Prelude.{◌≡◌, ◌≤◌, ◌<◌, ◌^◌, ℕ, List, [], false, pos, ◌-ℤ◌, length, IfOk, IsOkAnd, ◌↔◌};
+ghost use Rattle.std.specs.Prelude.{◌≡◌, ◌≤◌, ◌<◌, ◌^◌, ℕ, List, [], false, pos, ◌-ℤ◌, length, take, find, reverse, nat_lt, IfOk, IsOkAnd, IfSome, IsNone, ◌↔◌};
 ghost use Rattle.std.specs.Cow.{cow_str_bytes, IsBorrowedStr};
 ghost use Rattle.std.specs.Int.{saturate_unsigned, w64};
-ghost use Rattle.std.specs.Str.{IsUtf8};
+ghost use Rattle.std.specs.Str.{IsUtf8, IsCharBoundary};
+ghost use Rattle.std.specs.Option.{option_copied};
 ghost use Rattle.hyphenation.specs.Places.{place_of_character};
 ghost use Rattle.hyphenation.specs.Folding.{fold_character, fold, has_uppercase, shifts_of, delta_below};
 
@@ -48,7 +49,7 @@ pub fn refold<'t>(alloc: Global, original: &'t str) -> Result<(CowStr<'t>, Vec<S
     ensures lent { has_uppercase original.now ≡ false → IsOkAnd result (λ r. IsBorrowedStr r.0 × (r.1.items ≡ [])) }
 {
     let mut shifts = Vec::new(alloc);
-    let Some(start) = original.find(|c: char| is_uppercase(c)) else {
+    let Some(start) = first_uppercase(original) else {
         return Ok((CowStr::Borrowed(original), shifts));
     };
     let (unchanged, rest) = original.split_at(start);
@@ -56,14 +57,24 @@ pub fn refold<'t>(alloc: Global, original: &'t str) -> Result<(CowStr<'t>, Vec<S
     let mut written = start;
     for c in rest.chars() {
         let index = folded.len();
-        folded.push(fold_char(c))?;
+        let lower = fold_char(c);
+        folded.push(lower)?;
         written += c.len_utf8();
-        if folded.len() - index != c.len_utf8() {
+        if lower.len_utf8() != c.len_utf8() {
             let delta = difference(folded.len(), written);
             shifts.push(Shift { index, delta })?;
         }
     }
     Ok((CowStr::Owned(folded), shifts))
+}
+
+// The place of the first character that is Uppercase.
+fn first_uppercase(text: &str) -> Option<usize>
+    ensures none { IsNone result ↔ (has_uppercase text.now ≡ false) }
+    ensures place { IfSome result (λ place. IsCharBoundary text.now place) }
+    ensures first { IfSome result (λ place. has_uppercase (take place text.now) ≡ false) }
+{
+    text.find(|c: char| is_uppercase(c))
 }
 
 fn fold_char(c: char) -> char
@@ -96,8 +107,14 @@ pub fn realign(i: usize, shifts: &[Shift]) -> usize
     ensures value { result ≡ saturate_unsigned w64 (pos i -ℤ delta_below shifts.now i) }
     ensures carried { (original : List ℕ) (j : ℕ) → IsUtf8 original → length original ≤ usize.MAX → shifts.now ≡ shifts_of original → i ≡ place_of_character (fold original) j → result ≡ place_of_character original j }
 {
-    let delta = shifts.iter().rfind(|shift| shift.index < i).map_or(0, |shift| shift.delta);
+    let delta = last_shift_below(i, shifts).map_or(0, |shift| shift.delta);
     i.saturating_sub_signed(delta)
+}
+
+fn last_shift_below(i: usize, shifts: &[Shift]) -> Option<&Shift>
+    ensures { option_copied result ≡ find (λ shift. nat_lt shift.index i) (reverse shifts.now) }
+{
+    shifts.iter().rev().find(|shift| shift.index < i)
 }
 
 #[cfg(test)]
