@@ -11,8 +11,8 @@ use std::marker::Model;
 
 /// A language, by its code: 1 to 32 bytes of `a-z`, `0-9` and `-`.
 ///
-/// Two languages are equal where their codes are. It shows as its code.
-#[derive(Clone, Copy, PartialEq, Eq, Debug)]
+/// It shows as its code.
+#[derive(Clone, Copy, Debug)]
 pub struct Language {
     /// The code, and zeros behind it.
     bytes: [u8; 32],
@@ -101,6 +101,27 @@ impl Language {
         let Language { bytes, len } = self;
         std::str::from_utf8(&bytes[..*len]).unwrap()
     }
+}
+
+/// Two languages are equal where their codes are.
+impl PartialEq for Language {
+    ghost use Rattle.std.specs.Cmp.{partial_equiv_from_equiv};
+    ghost use Rattle.std.specs.Cmp.Lexicographic.{nat_list_eq_equiv};
+    ghost use Rattle.std.specs.Str.{bytes_eq};
+
+    ghost eq = { bytes_eq };
+
+    ghost laws = { partial_equiv_from_equiv nat_list_eq_equiv };
+
+    fn eq(&self, other: &Language) -> bool {
+        self.code() == other.code()
+    }
+}
+
+impl Eq for Language {
+    ghost use Rattle.std.specs.Cmp.Lexicographic.{nat_list_eq_equiv};
+
+    ghost laws = { nat_list_eq_equiv };
 }
 
 impl fmt::Display for Language {
