@@ -11,5 +11,7 @@ pub mod Walked
 pub mod Longest
 pub mod ValuesInOrder
 pub mod Winning
+pub mod Occurrences
+pub mod Ascending
 pub mod Uppercase
 pub mod Refolding

@@ -8,3 +8,4 @@ pub mod Folding
 pub mod SoftHyphens
 pub mod Scoring
 pub mod Examples
+pub mod Opportunities
