@@ -15,3 +15,4 @@ pub mod Occurrences
 pub mod Ascending
 pub mod Uppercase
 pub mod Refolding
+pub mod SoftHyphens

@@ -42,7 +42,7 @@ differs a b h = grind (arith)
 keeps_length : (text : List ℕ) (j : ℕ) → is_uppercase (slice_index (chars text) j) ≡ false → changes_length text j ≡ false
 keeps_length text j h = differs _ _ (ap (λ c. length (encode_utf8 c)) (folds_to_itself (slice_index (chars text) j) h))
 
-pub starts : (original : List ℕ) (place : ℕ) → IsUtf8 original → IsCharBoundary original place → has_uppercase (take place original) ≡ false → Refolding original (drop place original) (take place original) place []
+starts : (original : List ℕ) (place : ℕ) → IsUtf8 original → IsCharBoundary original place → has_uppercase (take place original) ≡ false → Refolding original (drop place original) (take place original) place []
 starts original place u b n =
     let front = take place original in
     let front_utf8 = IsUtf8-take original place u b in
@@ -57,6 +57,14 @@ starts original place u b n =
       written_is = sym (ap length (encodes-chars front front_utf8) ∙ length-take-le place original b.0);
       shifts_are = sym (no_shifts original (length (chars front)) stays);
       left = omega (arith, length-drop place original, b.0) }
+
+pub begins : (original rest folded : List ℕ) (place : ℕ) (shifts : List Shift) → IsUtf8 original → IsCharBoundary original place → has_uppercase (take place original) ≡ false → rest ≡ drop place original → folded ≡ take place original → shifts ≡ [] → Refolding original rest folded place shifts
+begins original rest folded place shifts u b n r f s =
+    subst (λ x. Refolding original x folded place shifts) (sym r) (subst (λ x. Refolding original (drop place original) x place shifts) (sym f) (subst (λ x. Refolding original (drop place original) (take place original) place x) (sym s) (starts original place u b n)))
+
+-- A text without a character that is Uppercase has no shifts.
+pub stays_without_shifts : (text : List ℕ) → has_uppercase text ≡ false → shifts_of text ≡ []
+stays_without_shifts text n = no_shifts text (length (chars text)) (λ j l. keeps_length text j (not_uppercase (chars text) j n l))
 
 unequal : (a b : ℕ) → a ≢ b → not (a == b) ≡ true
 unequal a b h = grind (arith)

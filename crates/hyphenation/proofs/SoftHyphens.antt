@@ -1,0 +1,90 @@
+-- The soft hyphens of a word, and what holds while they are looked for.
+use Rattle.std.proofs.Common.{◌≡◌, ◌≢◌, ℕ, ◌+◌, ◌-◌, ◌<◌, ◌≤◌, ◌==◌, Bool, true, false, cond, not, zero, suc, List, [], ◌∷◌, ◌++◌, length, take, drop, map, filter, chars, encode_utf8_all, All, refl, sym, ap, subst, ◌∙◌, arith, length-append, append_assoc, add-one, add-zero}
+use Rattle.std.specs.Char.{encode_utf8}
+use Rattle.std.specs.List.{slice_index, range_with_len}
+use Rattle.std.specs.List.Sorted.{IsStrictlyIncreasing}
+use Rattle.std.specs.Str.{IsUtf8, IsCharBoundary}
+use Rattle.std.proofs.lemmas.Bool.{cond-true, cond-false}
+use Rattle.std.proofs.lemmas.List.{append-nil}
+use Rattle.std.proofs.Math.Seq.{get_or-append_seam}
+use Rattle.std.proofs.lemmas.Str.{chars-nil, chars_past_char, encodes-append, IsUtf8-past_char}
+use Rattle.hyphenation.specs.Places.{place_of_character}
+use Rattle.hyphenation.specs.SoftHyphens.{is_soft_hyphen, soft_hyphens}
+use Rattle.hyphenation.proofs.Numbered.{picked_more}
+use Rattle.hyphenation.proofs.Places.{place_at, place_rises, place_end, place_is_boundary}
+
+-- The soft hyphens among the first n characters.
+abbrev pub soft_hyphens_before : List ℕ → ℕ → List ℕ
+soft_hyphens_before text n = map (place_of_character text) (filter (is_soft_hyphen text) (range_with_len 0 n))
+
+-- The characters done are searched, and rest is to come, from the offset on.
+pub record Searching (word rest : List ℕ) (offset : ℕ) (places : List ℕ) : Type 0 where
+  pub rest_utf8 : IsUtf8 rest
+  pub done : List ℕ
+  pub all : chars word ≡ done ++ chars rest
+  pub offset_is : offset ≡ length (encode_utf8_all done)
+  pub places_are : places ≡ soft_hyphens_before word (length done)
+  pub left : offset + length rest ≡ length word
+
+pub starts : (word : List ℕ) → IsUtf8 word → Searching word word 0 []
+starts word u = record { rest_utf8 = u; done = []; all = refl; offset_is = refl; places_are = refl; left = omega arith }
+
+module _ (word rest next : List ℕ) (offset offset' c : ℕ) (places : List ℕ) (before : Searching word rest offset places)
+  (e : rest ≡ encode_utf8 c ++ next) (w : offset' ≡ offset + length (encode_utf8 c)) where
+  next_chars : chars rest ≡ c ∷ chars next
+  next_chars = chars_past_char rest next c before.rest_utf8 e
+
+  at : slice_index (chars word) (length before.done) ≡ c
+  at = ap (λ cs. slice_index cs (length before.done)) (before.all ∙ ap (λ cs. before.done ++ cs) next_chars) ∙ get_or-append_seam before.done c (chars next) 0
+
+  further : (places' : List ℕ) → places' ≡ soft_hyphens_before word (length before.done + 1) → Searching word next offset' places'
+  further places' h =
+      let done = before.done in
+      record {
+        rest_utf8 = IsUtf8-past_char rest next c before.rest_utf8 e;
+        done = done ++ c ∷ [];
+        all = before.all ∙ ap (λ cs. done ++ cs) next_chars ∙ sym (append_assoc done (c ∷ []) (chars next));
+        offset_is = w ∙ ap (λ n. n + length (encode_utf8 c)) before.offset_is
+            ∙ sym (ap length (encodes-append done (c ∷ []) ∙ ap (λ bs. encode_utf8_all done ++ bs) (append-nil (encode_utf8 c))) ∙ length-append (encode_utf8_all done) (encode_utf8 c));
+        places_are = h ∙ ap (soft_hyphens_before word) (sym (length-append done (c ∷ [])));
+        left = omega (arith, before.left, ap length e, length-append (encode_utf8 c) next) }
+
+  grown : soft_hyphens_before word (length before.done + 1) ≡ places ++ cond (c == 0xAD) (offset ∷ []) []
+  grown =
+      let n = length before.done in
+      let place : place_of_character word n ≡ offset = place_at word before.done (chars rest) before.all ∙ sym before.offset_is in
+      picked_more (place_of_character word) (is_soft_hyphen word) n
+      ∙ ap (λ xs. xs ++ cond (is_soft_hyphen word n) (place_of_character word n ∷ []) []) (sym before.places_are)
+      ∙ ap (λ d. places ++ cond (d == 0xAD) (place_of_character word n ∷ []) []) at
+      ∙ ap (λ p. places ++ cond (c == 0xAD) (p ∷ []) []) place
+
+  pub passed : (c == 0xAD) ≡ false → Searching word next offset' places
+  passed h = further places (sym (grown ∙ ap (λ b. places ++ cond b (offset ∷ []) []) h ∙ append-nil places))
+
+  pub found : (places' : List ℕ) → (c == 0xAD) ≡ true → places' ≡ places ++ offset ∷ [] → Searching word next offset' places'
+  found places' h k = further places' (k ∙ sym (grown ∙ ap (λ b. places ++ cond b (offset ∷ []) []) h))
+
+pub searched_whole : (word rest : List ℕ) (offset : ℕ) (places : List ℕ) → Searching word rest offset places → length rest ≡ 0 → places ≡ soft_hyphens word
+searched_whole word [] offset places s h =
+    let whole : chars word ≡ s.done = s.all ∙ ap (λ cs. s.done ++ cs) chars-nil ∙ append-nil s.done in
+    s.places_are ∙ ap (λ cs. soft_hyphens_before word (length cs)) (sym whole)
+searched_whole word (b ∷ bs) offset places s h = absurd (omega (arith, h))
+
+front_empty : (xs ys : List ℕ) → xs ++ ys ≡ [] → xs ≡ []
+front_empty [] ys e = refl
+front_empty (x ∷ xs) ys e = cc
+
+-- A word with a place found has a soft hyphen.
+pub some_found : (word : List ℕ) (n m : ℕ) → soft_hyphens_before word n ≢ [] → soft_hyphens_before word (n + m) ≢ []
+some_found word n zero h = subst (λ k. soft_hyphens_before word k ≢ []) (sym (add-zero n)) h
+some_found word n (suc m) h = λ e.
+    let k : (n + m) + 1 ≡ n + suc m = omega arith in
+    let grown = picked_more (place_of_character word) (is_soft_hyphen word) (n + m) in
+    some_found word n m h (front_empty _ _ (sym grown ∙ ap (soft_hyphens_before word) k ∙ e))
+
+-- The places ascend, on boundaries of the word and before its end.
+pub ascending : (word : List ℕ) → IsUtf8 word → IsStrictlyIncreasing (soft_hyphens word)
+ascending word u = ?
+
+pub within : (word : List ℕ) → IsUtf8 word → All (λ place. IsCharBoundary word place × (place < length word)) (soft_hyphens word)
+within word u = ?
