@@ -1,5 +1,15 @@
+ghost use Rattle.std.specs.Prelude.{◌≤◌, ◌^◌, IfOk};
+ghost use Rattle.hyphenation_commons.specs.Trie.{EachBeginsKey};
+
 use super::*;
 use std::test::Fail;
+
+fn no_keys(alloc: Global) -> Result<Trie<Entry<()>>, AllocError>
+    ensures { IfOk result (λ trie. EachBeginsKey trie) }
+{
+    let trie = Trie::new(alloc)?;
+    Ok(trie)
+}
 
 fn entry(alloc: Global, place: usize, value: u8) -> Result<Vec<Entry<()>>, AllocError> {
     let mut entries = Vec::new(alloc);
@@ -15,7 +25,7 @@ fn entry(alloc: Global, place: usize, value: u8) -> Result<Vec<Entry<()>>, Alloc
 fn english(alloc: Global) -> Result<Trie<Entry<()>>, AllocError>
     ensures { IfOk result (λ trie. EachBeginsKey trie) }
 {
-    let mut trie = Trie::new(alloc)?;
+    let mut trie = no_keys(alloc)?;
     trie.insert(b".fi", entry(alloc, 3, 2)?)?;
     trie.insert(b"ir", entry(alloc, 1, 2)?)?;
     trie.insert(b"rk", entry(alloc, 1, 2)?)?;
@@ -59,7 +69,7 @@ fn a_word_is_looked_up_from_each_byte_of_its_frame(rt: HostRuntime) -> Result<()
 #[test]
 fn without_keys_each_byte_of_the_frame_is_looked_up_once(rt: HostRuntime) -> Result<(), Fail> {
     let alloc = rt.alloc();
-    let trie = Trie::new(alloc)?;
+    let trie = no_keys(alloc)?;
     let mut count = LookUps::new();
     let found = values_in(alloc, &trie, "abc", &mut count)?;
     assert_eq!(rt; found.as_slice(), [0, 0].as_slice());
