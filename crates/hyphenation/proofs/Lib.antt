@@ -13,6 +13,7 @@ pub mod ValuesInOrder
 pub mod Winning
 pub mod Occurrences
 pub mod Ascending
+pub mod Standard
 pub mod Uppercase
 pub mod Refolding
 pub mod SoftHyphens

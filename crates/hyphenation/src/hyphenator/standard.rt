@@ -1,14 +1,14 @@
 //! How a standard dictionary hyphenates.
 
-ghost use Rattle.std.specs.Prelude.{◌≡◌, ℕ, ◌+◌, ◌-◌, ◌<◌, ◌≤◌, ◌^◌, ◌&&◌, List, IsTrue, ◌↔◌, Option, Some, None, IfOk, OnOk, OnErr, length, map, filter, slice_index};
+ghost use Rattle.std.specs.Prelude.{◌≡◌, ℕ, ◌+◌, ◌-◌, ◌<◌, ◌≤◌, ◌^◌, ◌&&◌, pos, ◌-ℤ◌, List, IsTrue, Option, Some, None, IfOk, OnOk, OnErr, length, map, filter, slice_index};
 ghost use Rattle.std.specs.List.{range_with_len};
 ghost use Rattle.std.specs.Option.{option_map};
-ghost use Rattle.std.specs.Str.{IsUtf8, IsCharBoundary};
+ghost use Rattle.std.specs.Int.{saturate_unsigned, w64};
 ghost use Rattle.std.specs.String.{string_bytes};
 ghost use Rattle.std.specs.FinMap as finite;
 ghost use Rattle.hyphenation_commons.specs.Break.{plain};
 ghost use Rattle.hyphenation_commons.specs.Kept.{are_listed};
-ghost use Rattle.hyphenation.specs.Folding.{fold, carried, shifts_of};
+ghost use Rattle.hyphenation.specs.Folding.{delta_below};
 ghost use Rattle.hyphenation.specs.Opportunities.{is_odd, within, no_change, rules_of, Lists};
 
 use super::{Hyphenator, boundaries_of};
@@ -60,9 +60,9 @@ fn places_within(
     Ok(places)
 }
 
-/// Carries the places of a folded word back to the word as written, by the shifts of the folding.
+/// Carries each place of a folded word back to the word as written, by the shifts of the folding.
 fn realign_all(places: &mut [usize], shifts: &[Shift])
-    ensures { (original : List ℕ) → IsUtf8 original → length original ≤ usize.MAX → shifts.now ≡ shifts_of original → ((k : ℕ) → k < length places.old → IsCharBoundary (fold original) (slice_index places.old k)) → places.new ≡ map (carried original) places.old }
+    ensures { places.new ≡ map (λ place. saturate_unsigned w64 (pos place -ℤ delta_below shifts.now place)) places.old }
 {
     for place in places {
         *place = realign(*place, shifts);
