@@ -4,8 +4,8 @@ use Rattle.std.specs.List.{slice_index, slice_range, IsAmong}
 use Rattle.std.specs.Str.{IsUtf8, IsCharBoundary}
 use Rattle.std.specs.FinMap as finite
 use Rattle.std.proofs.lemmas.Bool.{and_parts}
-use Rattle.std.proofs.lemmas.List.{get_or-take, get_or-drop, take-take, length-take, length-drop, length-append, get_or-append_left}
-use Rattle.std.proofs.lemmas.Str.{IsUtf8-append, IsUtf8-take, IsUtf8-drop, IsCharBoundary-start, IsCharBoundary-from_take, IsCharBoundary-from_rest}
+use Rattle.std.proofs.lemmas.List.{get_or-take, get_or-drop, take-take, length-take, length-drop, length-append, get_or_append_left}
+use Rattle.std.proofs.lemmas.Str.{IsUtf8-append, IsUtf8-take, IsUtf8-drop, IsCharBoundary-start, IsCharBoundary-from_take, IsCharBoundary-from_rest, encode_ascii, IsUtf8-encode}
 use Rattle.hyphenation_commons.specs.Break.{Break, Change, is_boundary}
 use Rattle.hyphenation_commons.specs.Dictionary.{Contents, Patterns, keys_of}
 use Rattle.hyphenation_commons.specs.Kept.{IsKept, IsPattern, are_entries, stays_within}
@@ -40,21 +40,21 @@ occurrence_boundary framed start end place u some within v b =
     IsCharBoundary-from_rest framed start place (omega arith) in_rest
 
 dot_is_utf8 : IsUtf8 (46 ∷ [])
-dot_is_utf8 = (46 ∷ [], (refl, refl))
+dot_is_utf8 = subst IsUtf8 (encode_ascii 46 (omega arith)) (IsUtf8-encode 46 refl)
 
 frame_is_utf8 : (word : List ℕ) → IsUtf8 word → IsUtf8 (frame word)
 frame_is_utf8 word u = IsUtf8-append (46 ∷ []) (word ++ 46 ∷ []) dot_is_utf8 (IsUtf8-append word (46 ∷ []) u dot_is_utf8)
 
 unframed_boundary : (word : List ℕ) (p : ℕ) → p ≤ length word → IsCharBoundary (frame word) (p + 1) → IsCharBoundary word p
 unframed_boundary word p within b = (within, λ lt k.
-    let same : slice_index (frame word) (p + 1) ≡ slice_index word p = ap (λ i. slice_index (frame word) i) (add-one p) ∙ get_or-append_left word (46 ∷ []) p 0 lt in
+    let same : slice_index (frame word) (p + 1) ≡ slice_index word p = ap (λ i. slice_index (frame word) i) (add-one p) ∙ get_or_append_left word (46 ∷ []) 0 p lt in
     let long : length (frame word) ≡ length word + 2 = omega (arith, length-append word (46 ∷ [])) in
     let high = b.1 (omega arith) (omega arith) in omega arith)
 
 entry_boundary : {C : Type 0} (change_of : C → Option Change) (key : List ℕ) (least : ℕ) (entries : List (Entry C)) (i : ℕ) (entry : Entry C)
     → are_entries change_of key least entries ≡ true → i < length entries → entry ≡ get_or entries i entry → IsCharBoundary key entry.place
-entry_boundary change_of key least [] i entry h lt is = absurd (omega arith)
-entry_boundary change_of key least (e ∷ es) i entry h lt is =
+entry_boundary {C} change_of key least [] i entry h lt is = absurd (omega arith)
+entry_boundary {C} change_of key least (e ∷ es) i entry h lt is =
     let rest = are_entries change_of key (e.place + 1) es in
     let all = and_parts (nat_le least e.place && is_boundary key e.place && nat_lt 0 e.value && stays_within key e.place (change_of e.change)) rest h in
     let most = and_parts (nat_le least e.place && is_boundary key e.place && nat_lt 0 e.value) _ all.0 in

@@ -1,10 +1,15 @@
 -- What a standard dictionary computes as places, in terms of breaks.
-use Rattle.std.proofs.Common.{◌≡◌, ℕ, zero, suc, ◌+◌, ◌-◌, ◌<◌, ◌≤◌, ◌^◌, ◌==◌, ◌&&◌, Bool, true, false, cond, List, [], ◌∷◌, ◌++◌, length, map, filter, take, chars, get_or, Option, Some, None, ℤ, pos, ◌-ℤ◌, refl, sym, ap, subst, ◌∙◌, arith, add-one}
+use Rattle.std.proofs.Common.{◌≡◌, ◌≢◌, ℕ, zero, suc, ◌+◌, ◌-◌, ◌<◌, ◌≤◌, ◌^◌, ◌==◌, nat_eq, Result, Ok, Err, drop, ◌&&◌, Bool, true, false, cond, List, [], ◌∷◌, ◌++◌, length, map, filter, take, chars, get_or, Option, Some, None, ℤ, pos, ◌-ℤ◌, refl, sym, ap, subst, ◌∙◌, arith, add-one}
 use Rattle.std.specs.List.{range_with_len, slice_index}
 use Rattle.std.specs.Int.{saturate_unsigned, w64}
-use Rattle.std.specs.Option.{option_map, option_and_then}
+use Rattle.std.specs.Option.{IfSome, IsSome, option_map, option_and_then}
+use Rattle.std.specs.Result.{IfOk, OnOk}
+use Rattle.std.specs.FinMap as finite
+use Rattle.std.specs.FinMap.{get-insert, get-remove}
+use Rattle.std.specs.Cmp.Lexicographic.{pointwise, nat_list_cmp_total}
+use Rattle.std.proofs.lemmas.Bool.{cond-true}
 use Rattle.std.specs.Str.{IsUtf8, IsCharBoundary}
-use Rattle.std.proofs.lemmas.List.{map-id, length-map}
+use Rattle.std.proofs.lemmas.List.{map-id, length-map, take_at}
 use Rattle.std.proofs.lemmas.List.FromFn.{filter_of_map_range_with_len_more, get_or-map-range_with_len, length-map-range_with_len}
 use Rattle.hyphenation_commons.specs.Break.{Break, Change, plain}
 use Rattle.hyphenation_commons.specs.Dictionary.{Contents, Patterns, keys_of}
@@ -13,7 +18,12 @@ use Rattle.hyphenation.specs.declared.case_folding.Shift.{Shift}
 use Rattle.hyphenation.specs.Places.{place_of_character}
 use Rattle.hyphenation.specs.Folding.{fold, carried, shifts_of, delta_below}
 use Rattle.hyphenation.specs.Scoring.{places, value_at, winner_at, values}
-use Rattle.hyphenation.specs.Opportunities.{is_odd, within, breaks_within, no_change, rules_of, break_at, allowed_by, by_patterns, carried_break, AscendFrom, Ascend}
+use Rattle.hyphenation.specs.Opportunities.{is_odd, within, breaks_within, no_change, Rules, rules_of, break_at, allowed_by, by_patterns, by_exception, opportunities, carried_break, breaks_of, AscendFrom, Ascend, Lists}
+use Rattle.hyphenation_commons.specs.Kept.{IsKept}
+use Rattle.hyphenation_commons.proofs.PatternsLemmas.{same_test}
+use Rattle.hyphenation.specs.Fits.{Fits}
+use Rattle.hyphenation.specs.SoftHyphens.{soft_hyphens}
+use Rattle.hyphenation.proofs.Ascending.{AreSound, rules_are_sound, by_exception_ascends, carried_ascend, ascending_fit}
 use Rattle.hyphenation.proofs.Folds.{fold_is_utf8}
 use Rattle.hyphenation.proofs.Places.{place_of_boundary}
 use Rattle.hyphenation.proofs.Shifts.{realigned}
@@ -64,6 +74,18 @@ places_by_patterns {C} {B} break_of contents word scores found bounds is e =
     ∙ same_breaks (test (values keys word)) (λ place. is_odd (value_at keys word place)) (break_at no_change keys word) bounds (wins_plain keys word) 1 n
         (λ p l h. ap (λ v. is_odd v && within bounds p) (get_or-map-range_with_len (λ q. value_at keys word q) 1 n (p - 1) p 0 (omega arith) (omega arith)))
 
+-- One more value is read.
+pub odd_more : (scores items : List ℕ) (bounds : ℕ × ℕ) (i value : ℕ) (is : Bool) → value ≡ slice_index scores i
+    → items ≡ filter (λ place. is_odd (slice_index scores (place - 1)) && within bounds place) (range_with_len 1 i)
+    → is ≡ (is_odd value && within bounds (i + 1))
+    → items ++ cond is ((i + 1) ∷ []) [] ≡ filter (λ place. is_odd (slice_index scores (place - 1)) && within bounds place) (range_with_len 1 (i + 1))
+odd_more scores items bounds i value is read before here =
+    let test : ℕ → Bool = λ place. is_odd (slice_index scores (place - 1)) && within bounds place in
+    let at : slice_index scores (i + 1 - 1) ≡ value = ap (slice_index scores) (omega arith) ∙ sym read in
+    let same : is ≡ test (i + 1) = here ∙ ap (λ v. is_odd v && within bounds (i + 1)) (sym at) in
+    ap (λ xs. xs ++ cond is ((i + 1) ∷ []) []) before ∙ ap (λ b. filter test (range_with_len 1 i) ++ cond b ((i + 1) ∷ []) []) same
+    ∙ sym (filtered_more test 1 i (i + 1) (omega arith))
+
 -- Listed places within bounds.
 pub places_by_exception : (bounds : ℕ × ℕ) (listed : List ℕ) → map plain (filter (within bounds) listed) ≡ breaks_within (map plain listed) bounds
 places_by_exception bounds [] = refl
@@ -72,6 +94,24 @@ places_by_exception bounds (p ∷ ps) =
     | true ↦ ap (λ bs. plain p ∷ bs) (places_by_exception bounds ps)
     | false ↦ places_by_exception bounds ps
     ]
+
+-- What is found for an exception.
+pub exception_found : {C : Type 0} (contents : Contents C ℕ) (word listed found : List ℕ) (bounds : ℕ × ℕ) → finite.get contents.exceptions word ≡ Some listed → found ≡ filter (within bounds) listed
+    → Some (map plain found) ≡ by_exception (rules_of no_change plain contents) word bounds
+exception_found contents word listed found bounds is e =
+    ap (λ f. Some (map plain f)) e ∙ ap Some (places_by_exception bounds listed)
+    ∙ ap (λ o. option_map (λ l. breaks_within l bounds) (option_map (map plain) o)) (sym is)
+
+pub found_ascends : (rules : Rules) (word : List ℕ) (bounds : ℕ × ℕ) (found : List Break) → AreSound rules word → Some found ≡ by_exception rules word bounds → Ascend word found
+found_ascends rules word bounds found sound is = subst (λ o. IfSome o (λ listed. Ascend word listed)) (sym is) (by_exception_ascends rules word bounds sound)
+
+-- What a standard dictionary tells of a word is sound.
+pub standard_is_sound : (contents : Contents (Unit {0}) ℕ) (word : List ℕ) → IsKept no_change plain contents → IsUtf8 word → AreSound (rules_of no_change plain contents) word
+standard_is_sound contents word kept u = rules_are_sound no_change plain contents word kept u
+
+pub ok_then : {X E : Type 0} (r : Result X E) (P Q : X → Type 0) → ((x : X) → P x → Q x) → IfOk r P → IfOk r Q
+ok_then (Ok x) P Q f h = f x h
+ok_then (Err e) P Q f h = tt
 
 -- ---- carried back
 
@@ -91,3 +131,55 @@ carried_places word least (x ∷ xs) u l a =
     let here : plain (realigned_by (shifts_of word) x) ≡ carried_break word (plain x) = ap plain (realigned_boundary word x u l a.1) in
     let rest : map plain (map (realigned_by (shifts_of word)) xs) ≡ map (carried_break word) (map plain xs) = carried_places word (x + 1) xs u l a.2 in
     ap (λ b. b ∷ map plain (map (realigned_by (shifts_of word)) xs)) here ∙ ap (λ bs. carried_break word (plain x) ∷ bs) rest
+
+pub no_soft_hyphens : (xs : List ℕ) → ((xs ≢ []) → ⊥) → (length xs == 0) ≡ true
+no_soft_hyphens [] h = refl
+no_soft_hyphens (x ∷ xs) h = absurd (h (λ e. cc))
+
+-- The opportunities of the folded word, realigned, are the breaks of a word that has no soft hyphen.
+pub written_breaks : (rules : Rules) (word found : List ℕ) → (length (soft_hyphens word) == 0) ≡ true → IsUtf8 word → length word < 2 ^ 64 → map plain found ≡ opportunities rules (fold word) → Ascend (fold word) (map plain found)
+    → map plain (map (realigned_by (shifts_of word)) found) ≡ breaks_of rules word
+written_breaks rules word found none u l is a =
+    carried_places word 0 found u l a ∙ ap (map (carried_break word)) is
+    ∙ sym (cond-true (length (soft_hyphens word) == 0) (map (carried_break word) (opportunities rules (fold word))) (map plain (soft_hyphens word)) none)
+
+pub written_fit : (word found : List ℕ) → IsUtf8 word → length word < 2 ^ 64 → Ascend (fold word) (map plain found) → Fits word (map plain (map (realigned_by (shifts_of word)) found))
+written_fit word found u l a =
+    ascending_fit word (map (realigned_by (shifts_of word)) found) (subst (Ascend word) (sym (carried_places word 0 found u l a)) (carried_ascend word (map plain found) u a))
+
+-- What a vector holds after a write to all of it.
+pub all_written : (len : ℕ) (new items : List ℕ) → length new ≡ len → take len (new ++ drop (length new) items) ≡ new
+all_written len new items e = take_at new (drop (length new) items) len e
+
+chosen_map : {B : Type 0} (break_of : B → Break) (b : Bool) (x y : Option (List B)) → option_map (map break_of) (cond b x y) ≡ cond b (option_map (map break_of) x) (option_map (map break_of) y)
+chosen_map break_of true x y = refl
+chosen_map break_of false x y = refl
+
+-- Rules after an edit of the exceptions.
+pub lists_inserted : {C B : Type 0} (change_of : C → Option Change) (break_of : B → Break) (contents : Contents C B) (word : List ℕ) (listed : List B)
+    → Lists (rules_of change_of break_of contents) (rules_of change_of break_of (record contents { exceptions = finite.insert contents.exceptions word listed })) word (Some (map break_of listed))
+lists_inserted change_of break_of contents word listed = record {
+  minima = refl;
+  listed = λ other.
+    ap (option_map (map break_of)) (get-insert nat_list_cmp_total contents.exceptions word listed other ∙ ap (λ b. cond b (Some listed) (finite.get contents.exceptions other)) (same_test other word))
+    ∙ chosen_map break_of (pointwise nat_eq word other) (Some listed) (finite.get contents.exceptions other);
+  allowed = λ other. refl;
+}
+
+pub lists_removed : {C B : Type 0} (change_of : C → Option Change) (break_of : B → Break) (contents : Contents C B) (word : List ℕ)
+    → Lists (rules_of change_of break_of contents) (rules_of change_of break_of (record contents { exceptions = finite.remove contents.exceptions word })) word None
+lists_removed change_of break_of contents word = record {
+  minima = refl;
+  listed = λ other.
+    ap (option_map (map break_of)) (get-remove nat_list_cmp_total contents.exceptions word other ∙ ap (λ b. cond b None (finite.get contents.exceptions other)) (same_test other word))
+    ∙ chosen_map break_of (pointwise nat_eq word other) None (finite.get contents.exceptions other);
+  allowed = λ other. refl;
+}
+
+pub on_ok_then : {X E : Type 0} (r : Result X E) (P Q : Type 0) → (P → Q) → OnOk r P → OnOk r Q
+on_ok_then (Ok x) P Q f h = f h
+on_ok_then (Err e) P Q f h = tt
+
+pub none_is_not_some : {X : Type 0} (o : Option X) → o ≡ None → IsSome o → ⊥
+none_is_not_some None e h = absurd cc
+none_is_not_some (Some x) e h = absurd cc

@@ -25,6 +25,13 @@ fn is_within(bounds: (usize, usize), place: usize) -> bool
     bounds.0 <= place && place <= bounds.1
 }
 
+/// Whether a value allows a break at a place within bounds.
+fn is_opportunity(value: u8, place: usize, bounds: (usize, usize)) -> bool
+    ensures { result ≡ (is_odd value && within bounds place) }
+{
+    value % 2 == 1 && is_within(bounds, place)
+}
+
 /// The places within bounds that have an odd value, where the values begin with that of place 1.
 fn odd_places(
     alloc: Global,
@@ -36,7 +43,7 @@ fn odd_places(
     let mut places = Vec::new(alloc);
     for (index, value) in values.iter().enumerate() {
         let place = index + 1;
-        if value % 2 == 1 && is_within(bounds, place) {
+        if is_opportunity(*value, place, bounds) {
             places.push(place)?;
         }
     }
