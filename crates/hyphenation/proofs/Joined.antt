@@ -61,5 +61,5 @@ marked_joined mark text a least (p ∷ ps) h f =
     let sum : a + (p - a) ≡ p = omega (arith, ascends) in
     let front : drop a (take p text) ≡ slice_range text a p = subst (λ n. drop a (take n text) ≡ slice_range text a p) sum (drop-take a (p - a) text) in
     let right : drop a (take p text ++ mark ++ later) ≡ slice_range text a p ++ mark ++ later =
-        ap (drop a) (append_assoc (take p text) mark later) ∙ drop-append-le a (take p text) (mark ++ later) (omega (arith, size, ascends)) ∙ ap (λ l. l ++ (mark ++ later)) front ∙ sym (append_assoc (slice_range text a p) mark later) in
+    ap (drop a) (append_assoc (take p text) mark later) ∙ drop-append-le a (take p text) (mark ++ later) (omega (arith, size, ascends)) ∙ ap (λ l. l ++ (mark ++ later)) front ∙ sym (append_assoc (slice_range text a p) mark later) in
     rw (plain_segment text a p, more_come mark text (plain p) (map plain ps), rest) (sym right)

@@ -1,10 +1,14 @@
 pub mod Bounds
+pub mod Places
+pub mod Ascending
 pub mod Steps
 pub mod Joined
 pub mod Numbered
-pub mod Places
 pub mod Folds
 pub mod Shifts
+pub mod Uppercase
+pub mod Refolding
+pub mod SoftHyphens
 pub mod Greatest
 pub mod First
 pub mod Walked
@@ -12,8 +16,5 @@ pub mod Longest
 pub mod ValuesInOrder
 pub mod Winning
 pub mod Occurrences
-pub mod Ascending
+pub mod Rules
 pub mod Standard
-pub mod Uppercase
-pub mod Refolding
-pub mod SoftHyphens

@@ -11,17 +11,8 @@ use Rattle.hyphenation_commons.specs.Dictionary.{Contents, Patterns, keys_of}
 use Rattle.hyphenation_commons.specs.Kept.{IsKept, IsPattern, are_entries, stays_within}
 use Rattle.hyphenation_commons.specs.declared.dictionary.Entry.{Entry}
 use Rattle.hyphenation.specs.Scoring.{frame, value_at, Bears}
+use Rattle.hyphenation.proofs.Ascending.{boundary_from_test}
 use Rattle.hyphenation.proofs.Winning.{value_borne}
-
-high_or_low : (low high : Bool) (byte : ℕ) → (low ≡ true → byte < 128) → (high ≡ true → 192 ≤ byte) → (low || high) ≡ true → 128 ≤ byte → 192 ≤ byte
-high_or_low true high byte l h e k = absurd (let below = l refl in omega arith)
-high_or_low false high byte l h e k = h e
-
-pub tested_boundary : (text : List ℕ) (at : ℕ) → is_boundary text at ≡ true → IsCharBoundary text at
-tested_boundary text at h =
-    let byte = slice_index text at in
-    let parts = and_parts (nat_le at (length text)) (nat_lt byte 128 || nat_le 192 byte) h in
-    (leb-true at (length text) parts.0, λ _ k. high_or_low (nat_lt byte 128) (nat_le 192 byte) byte (ltb-true byte 128) (leb-true 192 byte) parts.1 k)
 
 -- Where a text stands in a longer one, its boundaries are boundaries of the longer one.
 pub occurrence_boundary : (framed : List ℕ) (start end place : ℕ) → IsUtf8 framed → start < end → end ≤ length framed
@@ -61,7 +52,7 @@ entry_boundary {C} change_of key least (e ∷ es) i entry h lt is =
     let two = and_parts (nat_le least e.place && is_boundary key e.place) _ most.0 in
     let one = and_parts (nat_le least e.place) _ two.0 in
     elim i as (λ i. i < length (e ∷ es) → entry ≡ get_or (e ∷ es) i entry → IsCharBoundary key entry.place) [
-    | zero ↦ λ _ here. subst (λ (x : Entry C). IsCharBoundary key x.place) (sym here) (tested_boundary key e.place one.1)
+    | zero ↦ λ _ here. subst (λ (x : Entry C). IsCharBoundary key x.place) (sym here) (boundary_from_test key e.place one.1)
     | suc i ↦ λ lt there. entry_boundary change_of key (e.place + 1) es i entry all.1 (omega arith) there
     ] lt is
 

@@ -18,12 +18,12 @@ use Rattle.hyphenation.specs.declared.case_folding.Shift.{Shift}
 use Rattle.hyphenation.specs.Places.{place_of_character}
 use Rattle.hyphenation.specs.Folding.{fold, carried, shifts_of, delta_below}
 use Rattle.hyphenation.specs.Scoring.{places, value_at, winner_at, values}
-use Rattle.hyphenation.specs.Opportunities.{is_odd, within, breaks_within, no_change, Rules, rules_of, break_at, allowed_by, by_patterns, by_exception, opportunities, carried_break, breaks_of, AscendFrom, Ascend, Lists}
+use Rattle.hyphenation.specs.Opportunities.{is_odd, within, breaks_within, no_change, Rules, rules_of, break_at, allowed_by, by_patterns, by_exception, opportunities, carried_break, breaks_of, Ascending, Lists}
 use Rattle.hyphenation_commons.specs.Kept.{IsKept}
 use Rattle.hyphenation_commons.proofs.PatternsLemmas.{same_test}
 use Rattle.hyphenation.specs.Fits.{Fits}
 use Rattle.hyphenation.specs.SoftHyphens.{soft_hyphens}
-use Rattle.hyphenation.proofs.Ascending.{AreSound, rules_are_sound, by_exception_ascends, carried_ascend, ascending_fit}
+use Rattle.hyphenation.proofs.Rules.{AscendFrom, AreSound, rules_are_sound, by_exception_ascends, carried_ascend, ascending_fit}
 use Rattle.hyphenation.proofs.Folds.{fold_is_utf8}
 use Rattle.hyphenation.proofs.Places.{place_of_boundary}
 use Rattle.hyphenation.proofs.Shifts.{realigned}
@@ -102,8 +102,8 @@ exception_found contents word listed found bounds is e =
     ap (λ f. Some (map plain f)) e ∙ ap Some (places_by_exception bounds listed)
     ∙ ap (λ o. option_map (λ l. breaks_within l bounds) (option_map (map plain) o)) (sym is)
 
-pub found_ascends : (rules : Rules) (word : List ℕ) (bounds : ℕ × ℕ) (found : List Break) → AreSound rules word → Some found ≡ by_exception rules word bounds → Ascend word found
-found_ascends rules word bounds found sound is = subst (λ o. IfSome o (λ listed. Ascend word listed)) (sym is) (by_exception_ascends rules word bounds sound)
+pub found_ascends : (rules : Rules) (word : List ℕ) (bounds : ℕ × ℕ) (found : List Break) → AreSound rules word → Some found ≡ by_exception rules word bounds → Ascending word found
+found_ascends rules word bounds found sound is = subst (λ o. IfSome o (λ listed. Ascending word listed)) (sym is) (by_exception_ascends rules word bounds sound)
 
 -- What a standard dictionary tells of a word is sound.
 pub standard_is_sound : (contents : Contents (Unit {0}) ℕ) (word : List ℕ) → IsKept no_change plain contents → IsUtf8 word → AreSound (rules_of no_change plain contents) word
@@ -137,15 +137,15 @@ no_soft_hyphens [] h = refl
 no_soft_hyphens (x ∷ xs) h = absurd (h (λ e. cc))
 
 -- The opportunities of the folded word, realigned, are the breaks of a word that has no soft hyphen.
-pub written_breaks : (rules : Rules) (word found : List ℕ) → (length (soft_hyphens word) == 0) ≡ true → IsUtf8 word → length word < 2 ^ 64 → map plain found ≡ opportunities rules (fold word) → Ascend (fold word) (map plain found)
+pub written_breaks : (rules : Rules) (word found : List ℕ) → (length (soft_hyphens word) == 0) ≡ true → IsUtf8 word → length word < 2 ^ 64 → map plain found ≡ opportunities rules (fold word) → Ascending (fold word) (map plain found)
     → map plain (map (realigned_by (shifts_of word)) found) ≡ breaks_of rules word
 written_breaks rules word found none u l is a =
     carried_places word 0 found u l a ∙ ap (map (carried_break word)) is
     ∙ sym (cond-true (length (soft_hyphens word) == 0) (map (carried_break word) (opportunities rules (fold word))) (map plain (soft_hyphens word)) none)
 
-pub written_fit : (word found : List ℕ) → IsUtf8 word → length word < 2 ^ 64 → Ascend (fold word) (map plain found) → Fits word (map plain (map (realigned_by (shifts_of word)) found))
+pub written_fit : (word found : List ℕ) → IsUtf8 word → length word < 2 ^ 64 → Ascending (fold word) (map plain found) → Fits word (map plain (map (realigned_by (shifts_of word)) found))
 written_fit word found u l a =
-    ascending_fit word (map (realigned_by (shifts_of word)) found) (subst (Ascend word) (sym (carried_places word 0 found u l a)) (carried_ascend word (map plain found) u a))
+    ascending_fit word (map (realigned_by (shifts_of word)) found) (subst (Ascending word) (sym (carried_places word 0 found u l a)) (carried_ascend word (map plain found) u a))
 
 -- What a vector holds after a write to all of it.
 pub all_written : (len : ℕ) (new items : List ℕ) → length new ≡ len → take len (new ++ drop (length new) items) ≡ new

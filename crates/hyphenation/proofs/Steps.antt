@@ -1,21 +1,24 @@
 -- One step of the iterators over segments.
-use Rattle.std.proofs.Common.{◌≡◌, ℕ, ◌+◌, ◌-◌, ◌≤◌, ◌<◌, List, [], ◌∷◌, length, subst, sym, arith, refl, Option, Some, None, IfSome}
+use Rattle.std.proofs.Common.{◌≡◌, ℕ, ◌+◌, ◌≤◌, List, [], ◌∷◌, length, subst, sym, arith, refl, Option, Some, IfSome}
 use Rattle.hyphenation_commons.specs.Break.{Break, plain, end_of}
-use Rattle.hyphenation.specs.Fits.{FitsFrom, Stands}
-use Rattle.hyphenation.specs.Segments.{segments_behind, marked}
+use Rattle.hyphenation.specs.Fits.{FitsFrom}
+use Rattle.hyphenation.specs.Segments.{segments_behind}
 use Rattle.hyphenation.specs.Coming.{FitsBehind, segments_from}
 
 -- Breaks that fit behind a later end and place fit behind an earlier one.
 pub fits_earlier : (text : List ℕ) (last_end least last_end' least' : ℕ) (breaks : List Break) → last_end' ≤ last_end → least' ≤ least → FitsFrom text last_end least breaks → FitsFrom text last_end' least' breaks
 fits_earlier text last_end least last_end' least' [] h k f = tt
-fits_earlier text last_end least last_end' least' (b ∷ bs) h k f =
-    (record {
-        ascends = omega (arith, f.0.ascends);
-        within = f.0.within;
-        apart = omega (arith, f.0.apart);
-        place = f.0.place;
-        begin = f.0.begin;
-        end = f.0.end }, f.1)
+fits_earlier text last_end least last_end' least' (b ∷ bs) h k f = (
+  record {
+    ascends = omega (arith, f.0.ascends);
+    within = f.0.within;
+    apart = omega (arith, f.0.apart);
+    place = f.0.place;
+    begin = f.0.begin;
+    end = f.0.end;
+  },
+  f.1,
+)
 
 pub fits_next : (text : List ℕ) (start : Option ℕ) (p x : ℕ) (all rest : List Break) → start ≡ Some p → all ≡ plain x ∷ rest → FitsBehind text start all → (p ≤ x) × FitsBehind text (Some x) rest
 fits_next text start p x all rest e d h =
@@ -44,7 +47,3 @@ left_is text start p breaks e = subst (λ s. length (segments_from text s breaks
 
 pub held_is : (held : Option (List ℕ)) (first text : List ℕ) → held ≡ Some text → IfSome held (λ value. value ≡ first) → text ≡ first
 held_is held first text e k = subst (λ o. IfSome o (λ value. value ≡ first)) e k
-
-pub marked_count : (mark : List ℕ) (segments : List (List ℕ)) → length (marked mark segments) ≡ length segments
-marked_count mark [] = refl
-marked_count mark (s ∷ ss) = omega (arith, marked_count mark ss)

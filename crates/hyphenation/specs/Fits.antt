@@ -25,6 +25,11 @@ FitsFrom text last_end least (b ∷ bs) = Stands text last_end least b × FitsFr
 abbrev pub Fits : List ℕ → List Break → Type 0
 Fits text breaks = FitsFrom text 0 0 breaks
 
+-- From a least place on the places ascend strictly, on character boundaries of the text.
+abbrev pub Ascend : List ℕ → ℕ → List ℕ → Type 0
+Ascend text least [] = ⊤
+Ascend text least (p ∷ ps) = (least ≤ p) × IsCharBoundary text p × Ascend text (p + 1) ps
+
 -- Any two proofs that a break stands in a text, or that breaks fit it, are equal.
 pub Stands-prop : (text : List ℕ) (last_end least : ℕ) (b : Break) → IsProp (Stands text last_end least b)
 Stands-prop text last_end least b = hlevel props

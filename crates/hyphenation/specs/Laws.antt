@@ -1,8 +1,8 @@
--- What is true of all segments.
-use Rattle.std.specs.Prelude.{◌≡◌, ℕ, ◌+◌, ◌≤◌, List, map, length, slice_get, Some}
+-- What is true of all breaks that fit, and of all segments.
+use Rattle.std.specs.Prelude.{◌≡◌, ℕ, ◌+◌, ◌≤◌, ◌↔◌, List, map, length, slice_get, Some}
 use Rattle.std.specs.List.{concat}
 use Rattle.hyphenation_commons.specs.Break.{Break, plain}
-use Rattle.hyphenation.specs.Fits.{Fits}
+use Rattle.hyphenation.specs.Fits.{Fits, Ascend}
 use Rattle.hyphenation.specs.Segments.{segments, segment_between, with_ends, break_at, marked, with_marks}
 
 -- A segment is given by its two neighbouring breaks alone, where the two ends of the text count as breaks.
@@ -21,3 +21,7 @@ JoinsToText = (text places : List ℕ) → Fits text (map plain places) → conc
 -- The marked segments at plain breaks join to the text with the mark at each break and nowhere else.
 abbrev pub JoinsToMarkedText : Type 0
 JoinsToMarkedText = (mark text places : List ℕ) → Fits text (map plain places) → concat (marked mark (segments text (map plain places))) ≡ with_marks mark text places
+
+-- Plain breaks fit exactly where their places ascend strictly, on character boundaries.
+abbrev pub FitWhereAscending : Type 0
+FitWhereAscending = (text places : List ℕ) → Fits text (map plain places) ↔ Ascend text 0 places

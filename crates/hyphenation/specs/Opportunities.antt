@@ -1,15 +1,15 @@
 -- Where words may be broken.
 -- Sources: F. M. Liang, Word Hy-phen-a-tion by Com-put-er (1983), for odd values and for exceptions, which are asked first;
 -- the documentation of the Rust crate `hyphenation`, for bounds, soft hyphens and words with capitals.
-use Rattle.std.specs.Prelude.{◌≡◌, ℕ, ◌+◌, ◌%◌, ◌≤◌, ◌==◌, ◌&&◌, nat_le, nat_eq, Bool, if◌then◌else◌, List, [], ◌∷◌, length, map, filter, Option, Some, None, ⊤}
+use Rattle.std.specs.Prelude.{◌≡◌, ℕ, ◌%◌, ◌==◌, ◌&&◌, nat_le, nat_eq, Bool, if◌then◌else◌, List, [], length, map, filter, Option, Some, None}
 use Rattle.std.specs.Option.{option_map, option_and_then, option_map_or, unwrap_or}
 use Rattle.std.specs.Cmp.Lexicographic.{pointwise}
-use Rattle.std.specs.Str.{IsCharBoundary}
 use Rattle.std.specs.FinMap as finite
 use Rattle.hyphenation_commons.specs.Break.{Break, Change, plain}
 use Rattle.hyphenation_commons.specs.Dictionary.{Contents, Patterns, keys_of}
 use Rattle.hyphenation_commons.specs.declared.dictionary.Entry.{Entry}
 use Rattle.hyphenation.specs.Boundaries.{boundaries}
+use Rattle.hyphenation.specs.Fits.{Ascend}
 use Rattle.hyphenation.specs.Folding.{fold, carried}
 use Rattle.hyphenation.specs.Scoring.{places, value_at, winner_at}
 use Rattle.hyphenation.specs.SoftHyphens.{soft_hyphens}
@@ -92,14 +92,9 @@ breaks_of rules word =
 
 -- ---- what is true of them
 
--- From a least place on, the places of the breaks ascend strictly, each on a character boundary of the text.
-abbrev pub AscendFrom : List ℕ → ℕ → List Break → Type 0
-AscendFrom text least [] = ⊤
-AscendFrom text least (b ∷ bs) = (least ≤ b.place) × IsCharBoundary text b.place × AscendFrom text (b.place + 1) bs
-
 -- The places of the breaks ascend strictly, each on a character boundary of the text: no break parts the bytes of a character.
-abbrev pub Ascend : List ℕ → List Break → Type 0
-Ascend text breaks = AscendFrom text 0 breaks
+abbrev pub Ascending : List ℕ → List Break → Type 0
+Ascending text breaks = Ascend text 0 (map (λ b. b.place) breaks)
 
 -- The rules are as before, but for the word, which now has this list, or is no exception.
 pub record Lists (old new : Rules) (word : List ℕ) (list : Option (List Break)) : Type 0 where

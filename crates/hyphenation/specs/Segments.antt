@@ -1,5 +1,5 @@
 -- The segments of a text, and their marks.
-use Rattle.std.specs.Prelude.{ℕ, ◌+◌, List, [], ◌∷◌, ◌++◌, length, take, drop, slice_range, slice_index_or}
+use Rattle.std.specs.Prelude.{ℕ, List, [], ◌∷◌, ◌++◌, length, take, drop, slice_range, slice_index_or}
 use Rattle.hyphenation_commons.specs.Break.{Break, plain, begin_of, end_of, before_of, after_of}
 
 -- What stands between two breaks: the second half of the change before it, the text between the two ranges, and the

@@ -11,9 +11,10 @@ ghost use Rattle.std.specs.String.{string_bytes};
 ghost use Rattle.hyphenation_commons.specs.Break.{Break};
 ghost use Rattle.hyphenation_commons.specs.Kept.{are_listed};
 ghost use Rattle.hyphenation.specs.Fits.{Fits};
-ghost use Rattle.hyphenation.specs.Opportunities.{Rules, by_patterns, by_exception, boundaries_by, exception_of, opportunities, Ascend, Lists};
+ghost use Rattle.hyphenation.specs.Opportunities.{Rules, by_patterns, by_exception, boundaries_by, exception_of, opportunities, Ascending, Lists};
 
 pub mod boundaries;
+pub mod laws;
 pub mod standard;
 pub mod words;
 
@@ -66,7 +67,7 @@ pub trait Hyphenator<'h> {
         bounds: (usize, usize),
     ) -> Result<Vec<Self::Opportunity>, AllocError>
         ensures breaks { IfOk result (λ v. map Self.Opportunity.meaning v.items ≡ by_patterns (rules self.now) lowercase_word.now bounds) }
-        ensures ascend { IfOk result (λ v. Ascend lowercase_word.now (map Self.Opportunity.meaning v.items)) };
+        ensures ascend { IfOk result (λ v. Ascending lowercase_word.now (map Self.Opportunity.meaning v.items)) };
 
     /// The breaks listed for a word from the first bound to the second, both included; `None`
     /// where the word is no exception.
@@ -77,7 +78,7 @@ pub trait Hyphenator<'h> {
         bounds: (usize, usize),
     ) -> Result<Option<Vec<Self::Opportunity>>, AllocError>
         ensures breaks { IfOk result (λ found. option_map (λ v. map Self.Opportunity.meaning v.items) found ≡ by_exception (rules self.now) lowercase_word.now bounds) }
-        ensures ascend { IfOk result (λ found. IfSome found (λ v. Ascend lowercase_word.now (map Self.Opportunity.meaning v.items))) };
+        ensures ascend { IfOk result (λ found. IfSome found (λ v. Ascending lowercase_word.now (map Self.Opportunity.meaning v.items))) };
 
     /// The breaks listed for a word, within its boundaries; `None` where the word has too few
     /// characters, or is no exception.
@@ -87,7 +88,7 @@ pub trait Hyphenator<'h> {
         lowercase_word: &str,
     ) -> Result<Option<Vec<Self::Opportunity>>, AllocError>
         ensures breaks { IfOk result (λ found. option_map (λ v. map Self.Opportunity.meaning v.items) found ≡ exception_of (rules self.now) lowercase_word.now) }
-        ensures ascend { IfOk result (λ found. IfSome found (λ v. Ascend lowercase_word.now (map Self.Opportunity.meaning v.items))) };
+        ensures ascend { IfOk result (λ found. IfSome found (λ v. Ascending lowercase_word.now (map Self.Opportunity.meaning v.items))) };
 
     /// The breaks of a word in small letters, within its boundaries.
     ///
@@ -99,7 +100,7 @@ pub trait Hyphenator<'h> {
         lowercase_word: &str,
     ) -> Result<Vec<Self::Opportunity>, AllocError>
         ensures breaks { IfOk result (λ v. map Self.Opportunity.meaning v.items ≡ opportunities (rules self.now) lowercase_word.now) }
-        ensures ascend { IfOk result (λ v. Ascend lowercase_word.now (map Self.Opportunity.meaning v.items)) };
+        ensures ascend { IfOk result (λ v. Ascending lowercase_word.now (map Self.Opportunity.meaning v.items)) };
 
     /// Lists breaks for a word, and answers those that were listed for it before.
     ///

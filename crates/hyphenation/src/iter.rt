@@ -10,14 +10,12 @@ ghost use Rattle.hyphenation.specs.Coming.{TakesFirst, TakesFirstOrRefuses};
 pub mod laws;
 pub mod marks;
 pub mod plain;
-
 #[cfg(test)]
 mod tests;
 
+use hyphenation_commons::breaks::Break;
 pub use marks::{Hyphenating, Iter};
 pub use plain::Segments;
-
-use hyphenation_commons::breaks::Break;
 use std::alloc::AllocError;
 use std::iter::Copied;
 use std::{slice, vec};

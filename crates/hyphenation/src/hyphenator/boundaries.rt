@@ -19,10 +19,7 @@ pub fn boundaries_of(minima: (usize, usize), word: &str) -> Option<(usize, usize
     if count <= left || count - left < right {
         return None;
     }
-    Some((
-        place_of(word, left),
-        place_of(word, count - right.max(1)),
-    ))
+    Some((place_of(word, left), place_of(word, count - right.max(1))))
 }
 
 // The place of a character by its number from 0, and the text's end where there are not so many.

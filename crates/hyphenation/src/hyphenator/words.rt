@@ -68,7 +68,12 @@ fn end_in<B: Break>(text: &str, last_end: usize, least: usize, b: &B) -> Option<
     let place = b.place();
     let (begin, end) = b.range()?;
     let is_behind = place >= least && begin >= last_end;
-    let is_at_characters =
-        text.is_char_boundary(place) && text.is_char_boundary(begin) && text.is_char_boundary(end);
-    if is_behind && is_at_characters { Some(end) } else { None }
+    let is_at_characters = text.is_char_boundary(place)
+        && text.is_char_boundary(begin)
+        && text.is_char_boundary(end);
+    if is_behind && is_at_characters {
+        Some(end)
+    } else {
+        None
+    }
 }

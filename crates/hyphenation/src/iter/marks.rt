@@ -9,7 +9,7 @@ ghost use Rattle.hyphenation.specs.Segments.{marked, mark_if_more, segments};
 ghost use Rattle.hyphenation.specs.Coming.{GivesMarked};
 
 use crate::hyphenator::Word;
-use crate::iter::{Segments, SegmentText, Texts};
+use crate::iter::{SegmentText, Segments, Texts};
 use std::alloc::{AllocError, Global};
 use std::iter::Copied;
 use std::marker::Model;

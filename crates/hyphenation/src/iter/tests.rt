@@ -12,7 +12,11 @@ use std::test::Fail;
 
 // Callers of the iterators, which are proved with the tests.
 
-fn all_segments<'t>(alloc: Global, text: &'t str, breaks: &[usize]) -> Result<Vec<&'t str>, AllocError>
+fn all_segments<'t>(
+    alloc: Global,
+    text: &'t str,
+    breaks: &[usize],
+) -> Result<Vec<&'t str>, AllocError>
     requires { Fits text.now (map plain breaks.now) }
     ensures { IfOk result (λ list. map (λ segment. segment.now) list.items ≡ segments text.now (map plain breaks.now)) }
 {
@@ -50,7 +54,11 @@ fn marked_text<I: Texts>(alloc: Global, items: Hyphenating<'_, I>) -> Result<Str
     Ok(joined)
 }
 
-fn marked_word<'t>(alloc: Global, word: Word<'t, usize>, mark: &'t str) -> Result<String, AllocError>
+fn marked_word<'t>(
+    alloc: Global,
+    word: Word<'t, usize>,
+    mark: &'t str,
+) -> Result<String, AllocError>
     ensures { IfOk result (λ joined. string_bytes joined ≡ with_marks mark.now word.entry.text.now word.entry.breaks.items) }
 {
     laws::marked_segments_join();
@@ -66,7 +74,10 @@ fn number_of_marked_segments(word: &Word<'_, usize>) -> usize
     word.iter().len()
 }
 
-fn all_items<'t>(alloc: Global, word: Word<'t, usize>) -> Result<Vec<Result<String, AllocError>>, AllocError> {
+fn all_items<'t>(
+    alloc: Global,
+    word: Word<'t, usize>,
+) -> Result<Vec<Result<String, AllocError>>, AllocError> {
     word.into_iter().collect(alloc)
 }
 
@@ -84,6 +95,43 @@ fn left_unmarked<'t>(alloc: Global, word: Word<'t, usize>) -> Result<Vec<&'t str
     ensures { IfOk result (λ list. map (λ segment. segment.now) list.items ≡ segments word.entry.text.now (map plain word.entry.breaks.items)) }
 {
     word.into_iter().segments().collect(alloc)
+}
+
+// A text, or a refusal in its place.
+#[derive(Drop)]
+struct Given<'t>(Option<&'t str>);
+
+impl<'t> SegmentText for Given<'t> {
+    ghost use Rattle.std.specs.Option.{option_copied};
+
+    ghost held = { λ given. option_copied given.0 };
+
+    fn text(&self) -> Result<&str, AllocError> {
+        match self.0 {
+            Some(text) => Ok(text),
+            None => Err(AllocError),
+        }
+    }
+}
+
+// Segments, of which the second from the end is refused.
+#[derive(Drop)]
+struct Refusing<'t>(Segments<'t, Copied<slice::Iter<'t, usize>>>);
+
+impl<'t> Texts for Refusing<'t> {
+    type Item = Given<'t>;
+
+    ghost texts = { λ refusing. refusing.0 };
+
+    fn pull(&mut self) -> Option<Given<'t>> {
+        let is_refused = self.0.len() == 2;
+        let text = self.0.next()?;
+        Some(Given(if is_refused { None } else { Some(text) }))
+    }
+
+    fn left(&self) -> usize {
+        self.0.len()
+    }
 }
 
 fn word_of<'t>(alloc: Global, text: &'t str, breaks: &[usize]) -> Result<Word<'t, usize>, Fail> {
@@ -149,6 +197,21 @@ fn a_new_mark_holds_for_the_segments_to_come(rt: HostRuntime) -> Result<(), Fail
 }
 
 #[test]
+fn a_refusal_stands_in_its_place(rt: HostRuntime) -> Result<(), Fail> {
+    let alloc = rt.alloc();
+    let word = word_of(alloc, "hyphenation", &[2, 6, 7])?;
+    let mut items = Hyphenating::new(alloc, Refusing(word.iter().segments()));
+    assert_eq!(rt; items.next().ok_or("none")??.as_str(), "hy-");
+    assert_eq!(rt; items.next().ok_or("none")??.as_str(), "phen-");
+    assert!(rt; items.next().ok_or("none")?.is_err());
+    assert_eq!(rt; items.len(), 1);
+    assert_eq!(rt; items.next().ok_or("none")??.as_str(), "tion");
+    assert!(rt; items.next().is_none());
+    assert!(rt; items.next().is_none());
+    Ok(())
+}
+
+#[test]
 fn hints_count_the_segments_to_come(rt: HostRuntime) -> Result<(), Fail> {
     let alloc = rt.alloc();
     let whole = word_of(alloc, "bevies", &[])?;
@@ -174,12 +237,18 @@ fn callers_count_and_join(rt: HostRuntime) -> Result<(), Fail> {
     let breaks = vec![in alloc; 2, 6, 7]?;
     if Word::fits("hyphenation", &breaks) {
         assert_eq!(rt; all_segments(alloc, "hyphenation", &breaks)?.len(), 4);
-        assert_eq!(rt; joined_segments(alloc, "hyphenation", &breaks)?.as_str(), "hyphenation");
+        assert_eq!(rt;
+            joined_segments(alloc, "hyphenation", &breaks)?.as_str(),
+            "hyphenation"
+        );
         assert_eq!(rt; number_of_segments("hyphenation", breaks), 4);
     }
     let word = word_of(alloc, "firkin", &[3])?;
     assert_eq!(rt; number_of_marked_segments(&word), 2);
-    assert_eq!(rt; marked_word(alloc, word.try_clone(alloc)?, "=")?.as_str(), "fir=kin");
+    assert_eq!(rt;
+        marked_word(alloc, word.try_clone(alloc)?, "=")?.as_str(),
+        "fir=kin"
+    );
     assert_eq!(rt; all_items(alloc, word)?.len(), 2);
     Ok(())
 }

@@ -4,8 +4,8 @@ use Rattle.hyphenation_commons.specs.Break.{plain}
 use Rattle.hyphenation.specs.SoftHyphens.{soft_hyphens}
 use Rattle.hyphenation.specs.Fits.{Fits}
 use Rattle.hyphenation.specs.Folding.{fold, shifts_of}
-use Rattle.hyphenation.specs.Opportunities.{no_change, rules_of, opportunities, Ascend}
-use Rattle.hyphenation.proofs.Ascending.{increasing_fit}
+use Rattle.hyphenation.specs.Opportunities.{no_change, rules_of, opportunities, Ascending}
+use Rattle.hyphenation.proofs.Rules.{increasing_fit}
 use Rattle.hyphenation.proofs.Standard.{realigned_by, no_soft_hyphens, none_is_not_some, written_breaks, written_fit, all_written}
 use Rattle.hyphenation.proofs.hyphenator.standard.StandardHyphenator.breaks.Goals as goal
 
@@ -28,7 +28,7 @@ returns-clause-breaks c =
     let all = all_written c.in_ok-places-2.places.len new found (ap length c.realign_all.ensures ∙ length-map _ _ ∙ c.deref_mut.ensures.len) in
     let short : length word < 2 ^ 64 = omega arith in
     ap (map plain) (all ∙ new_is)
-    ∙ written_breaks rules word found none c.utf8.word short (c.in_ok-places-2.ensures.breaks ∙ ap (opportunities rules) folded) (subst (λ t. Ascend t (map plain found)) folded c.in_ok-places-2.ensures.ascend)
+    ∙ written_breaks rules word found none c.utf8.word short (c.in_ok-places-2.ensures.breaks ∙ ap (opportunities rules) folded) (subst (λ t. Ascending t (map plain found)) folded c.in_ok-places-2.ensures.ascend)
 
 pub returns-clause-fits : goal.returns-clause-fits
 returns-clause-fits c =
@@ -40,4 +40,4 @@ returns-clause-fits c =
     let new_is : new ≡ map (realigned_by (shifts_of word)) found = c.realign_all.ensures ∙ ap (λ s. map (realigned_by s) c.deref_mut.result.now) shifts ∙ ap (map (realigned_by (shifts_of word))) c.deref_mut.ensures.value in
     let all = all_written c.in_ok-places-2.places.len new found (ap length c.realign_all.ensures ∙ length-map _ _ ∙ c.deref_mut.ensures.len) in
     let short : length word < 2 ^ 64 = omega arith in
-    subst (λ xs. Fits word (map plain xs)) (sym (all ∙ new_is)) (written_fit word found c.utf8.word short (subst (λ t. Ascend t (map plain found)) folded c.in_ok-places-2.ensures.ascend))
+    subst (λ xs. Fits word (map plain xs)) (sym (all ∙ new_is)) (written_fit word found c.utf8.word short (subst (λ t. Ascending t (map plain found)) folded c.in_ok-places-2.ensures.ascend))

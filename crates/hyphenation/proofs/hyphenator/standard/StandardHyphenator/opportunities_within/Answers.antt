@@ -1,7 +1,7 @@
 use Rattle.std.proofs.Common.{◌≡◌, ◌∙◌, sym, subst, map}
 use Rattle.hyphenation_commons.specs.Break.{plain}
-use Rattle.hyphenation.specs.Opportunities.{no_change, rules_of, by_patterns, Ascend}
-use Rattle.hyphenation.proofs.Ascending.{by_patterns_ascend}
+use Rattle.hyphenation.specs.Opportunities.{no_change, rules_of, Ascending}
+use Rattle.hyphenation.proofs.Rules.{by_patterns_ascend}
 use Rattle.hyphenation.proofs.Standard.{places_by_patterns, standard_is_sound, ok_then}
 use Rattle.hyphenation.proofs.hyphenator.standard.StandardHyphenator.opportunities_within.Goals as goal
 
@@ -17,5 +17,5 @@ returns-clause-ascend c =
     let word = c.args.lowercase_word.now in
     let ascend = by_patterns_ascend rules word c.args.bounds (standard_is_sound c.args.self.now word c.minima-minima.ensures.kept c.utf8.lowercase_word) in
     ok_then c.odd_places.result _ _
-        (λ v h. subst (Ascend word) (sym (places_by_patterns plain c.args.self.now word c.deref.result.now v.items c.args.bounds (c.deref.ensures.value ∙ c.in_ok-values.ensures.values) h)) ascend)
+        (λ v h. subst (Ascending word) (sym (places_by_patterns plain c.args.self.now word c.deref.result.now v.items c.args.bounds (c.deref.ensures.value ∙ c.in_ok-values.ensures.values) h)) ascend)
         c.odd_places.ensures

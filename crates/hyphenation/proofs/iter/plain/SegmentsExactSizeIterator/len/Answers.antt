@@ -1,4 +1,4 @@
-use Rattle.std.proofs.Common.{arith, ◌∙◌, sym, ap, length, Fits, w64, ◌+◌}
+use Rattle.std.proofs.Common.{arith, ◌∙◌, sym, ap, length, ◌+◌}
 use Rattle.hyphenation.proofs.Steps.{left_fits, left_is}
 use Rattle.hyphenation.proofs.iter.plain.SegmentsExactSizeIterator.len.Goals as goal
 
