@@ -1,12 +1,12 @@
 -- No key is longer than the longest.
-use Rattle.std.proofs.Common.{◌≡◌, ℕ, ◌≤◌, max, Bool, true, false, ◌||◌, List, [], ◌∷◌, length, map, sym, ap, ◌∙◌, refl, arith, is_some, nat_eq}
+use Rattle.std.proofs.Common.{◌≡◌, ℕ, ◌≤◌, max, Bool, true, false, ◌||◌, List, [], ◌∷◌, length, map, sym, ap, ◌∙◌, refl, arith}
 use Rattle.std.specs.Prelude.{IsSome}
 use Rattle.std.specs.List.{list_any}
 use Rattle.std.specs.Ordering.{nat_cmp, eq_by_cmp}
-use Rattle.std.specs.Cmp.Lexicographic.{slice_cmp, pointwise, nat_list_cmp_total, nat_list_eq_equiv, texts_ties}
+use Rattle.std.specs.Cmp.Lexicographic.{slice_cmp, texts_ties}
 use Rattle.std.specs.FinMap as finite
 use Rattle.std.specs.FinMap.{contains_key-keys}
-use Rattle.hyphenation_commons.specs.Dictionary.{Contents, Texts, keys_of, greatest, longest_key}
+use Rattle.hyphenation_commons.specs.Dictionary.{Contents, keys_of, greatest, longest_key}
 use Rattle.hyphenation.proofs.Greatest.{greatest_from}
 use Rattle.hyphenation_commons.proofs.Tied.{same_text}
 

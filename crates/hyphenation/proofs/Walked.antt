@@ -1,16 +1,14 @@
 -- What a walk from one start has met.
-use Rattle.std.proofs.Common.{◌≡◌, ◌≢◌, ℕ, zero, suc, ◌+◌, ◌-◌, ◌<◌, ◌≤◌, max, ◌==◌, Bool, true, false, cond, nat_eq, List, [], ◌∷◌, ◌++◌, length, take, drop, get_or, map, filter, fold, Option, Some, None, refl, sym, ap, subst, ◌∙◌, arith, ◌⊎◌, inl, inr, append_assoc}
-use Rattle.std.specs.Prelude.{slice_range, IsSome, IfNone, unwrap_or}
+use Rattle.std.proofs.Common.{◌≡◌, ℕ, zero, suc, ◌+◌, ◌-◌, ◌<◌, ◌≤◌, ◌==◌, Bool, true, false, cond, List, [], ◌∷◌, ◌++◌, length, take, drop, get_or, filter, Option, Some, None, refl, sym, ap, ◌∙◌, arith, inl, inr}
+use Rattle.std.specs.Prelude.{slice_range, IsSome, unwrap_or}
 use Rattle.std.specs.List.{flat_map, range_with_len}
-use Rattle.std.specs.Cmp.Lexicographic.{pointwise}
-use Rattle.std.proofs.lemmas.Bool.{cases_eq, cases_lt}
-use Rattle.std.proofs.lemmas.List.{take_more, get_or-drop, length-take, length-drop, length-append, take-append-drop, append-nil, nil_from_length}
+use Rattle.std.proofs.lemmas.Bool.{cases_eq}
+use Rattle.std.proofs.lemmas.List.{take_more, get_or-drop, length-take, length-drop, append-nil}
 use Rattle.std.proofs.lemmas.Grind.{flat_map-append}
 use Rattle.std.proofs.Math.Seq.{take-add}
 use Rattle.hyphenation_commons.specs.declared.dictionary.Entry.{Entry}
-use Rattle.hyphenation_commons.specs.Trie.{Tree, text_of, key_at, entries_at, IsTrie, EachBeginsKey}
-use Rattle.hyphenation_commons.specs.Dictionary.{Patterns}
-use Rattle.hyphenation.specs.Scoring.{first_greatest, greater, bearing_from, bearing, bearers}
+use Rattle.hyphenation_commons.specs.Trie.{Tree, text_of, key_at, IsTrie, EachBeginsKey}
+use Rattle.hyphenation.specs.Scoring.{first_greatest, greater, bearing_from, bearing}
 use Rattle.hyphenation.proofs.Greatest.{filter-append}
 use Rattle.hyphenation.proofs.First.{first-append, greater_assoc, greater_one, greater_none}
 

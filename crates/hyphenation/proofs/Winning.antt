@@ -1,13 +1,12 @@
 -- Where an entry that wins stands.
-use Rattle.std.proofs.Common.{◌≡◌, ℕ, zero, suc, ◌+◌, ◌-◌, ◌<◌, ◌≤◌, ◌==◌, max, Bool, true, false, cond, List, [], ◌∷◌, ◌++◌, length, get_or, filter, map, Option, Some, None, refl, sym, ap, subst, ◌∙◌, arith, ◌⊎◌, inl, inr}
+use Rattle.std.proofs.Common.{◌≡◌, ℕ, zero, suc, ◌+◌, ◌-◌, ◌<◌, ◌≤◌, ◌==◌, max, Bool, true, false, cond, List, [], ◌∷◌, length, get_or, filter, map, Option, Some, None, refl, sym, ap, subst, ◌∙◌, arith, ◌⊎◌, inl, inr}
 use Rattle.std.specs.Prelude.{slice_range, unwrap_or}
 use Rattle.std.specs.List.{find, flat_map, range_with_len, IsAmong}
 use Rattle.std.proofs.lemmas.Bool.{cases_eq, cases_lt, eqb-true, eq-eqb}
-use Rattle.std.proofs.lemmas.List.{length-append}
 use Rattle.hyphenation_commons.specs.Dictionary.{Patterns}
 use Rattle.hyphenation_commons.specs.declared.dictionary.Entry.{Entry}
 use Rattle.hyphenation.specs.Scoring.{frame, bearing, bearing_from, bearers, greatest_value, first_greatest, value_of, greater, value_at, winner_at, Bears, Before, Wins}
-use Rattle.hyphenation.proofs.Greatest.{greatest_from, greatest_value-append, greatest_value-within}
+use Rattle.hyphenation.proofs.Greatest.{greatest_from, greatest_value-append}
 use Rattle.hyphenation.proofs.First.{first-append, first_none, first_some, value_of-first, greater_first, greater_second}
 
 -- ---- members of lists
@@ -67,23 +66,27 @@ row_first {C} f a (suc n) e is =
       | inl lt ↦
           let later : first_greatest rest ≡ Some e = sym (greater_second (first_greatest (f a)) (first_greatest rest) lt) ∙ both in
           let r = row_first f (a + 1) n e later in
-          let value : value_of (first_greatest rest) ≡ e.value = ap value_of later in
-          (r.0, record {
-            low = omega (arith, r.1.low);
-            high = omega (arith, r.1.high);
-            first = r.1.first;
-            less = λ j low high. elim (cases_eq j a) [
-              | inl at ↦ omega (arith, value_of-first (f a), ap (λ (x : ℕ). greatest_value (f x)) at)
-              | inr apart ↦ r.1.less j (omega arith) high
-            ];
-          })
-      | inr le ↦
-          (a, record {
-            low = omega arith;
-            high = omega arith;
-            first = sym (greater_first (first_greatest (f a)) (first_greatest rest) le) ∙ both;
-            less = λ j low high. absurd (omega arith);
-          })
+          let value : value_of (first_greatest rest) ≡ e.value = ap value_of later in (
+            r.0,
+            record {
+              low = omega (arith, r.1.low);
+              high = omega (arith, r.1.high);
+              first = r.1.first;
+              less = λ j low high. elim (cases_eq j a) [
+                | inl at ↦ omega (arith, value_of-first (f a), ap (λ (x : ℕ). greatest_value (f x)) at)
+                | inr apart ↦ r.1.less j (omega arith) high
+              ];
+            },
+          )
+      | inr le ↦ (
+        a,
+        record {
+          low = omega arith;
+          high = omega arith;
+          first = sym (greater_first (first_greatest (f a)) (first_greatest rest) le) ∙ both;
+          less = λ j low high. absurd (omega arith);
+        },
+      )
     ]
 
 -- ---- entries that bear
@@ -135,21 +138,25 @@ winner_wins keys word p entry is =
     let s = row_first (λ start. bearing_from keys (frame word) p start) 0 (length (frame word)) entry is in
     let e = row_first (λ end. bearing keys (frame word) p s.0 end) (s.0 + 1) (length (frame word) - s.0) entry s.1.first in
     let some : s.0 < e.0 = omega (arith, e.1.low) in
-    let within : e.0 ≤ length (frame word) = omega (arith, e.1.high, s.1.high) in
-    (s.0, e.0, record {
-      bears = first_bears keys word p s.0 e.0 entry some within e.1.first;
-      most = λ start end other bears. omega (arith, bears_at keys word p start end other bears);
-      before = λ start end other bears same. elim (cases_lt start s.0) [
-        | inl lt ↦ absurd (omega (arith, bears_from keys word p start end other bears, s.1.less start (omega arith) lt))
-        | inr le ↦ elim (cases_eq s.0 start) [
-          | inr apart ↦ inl (omega arith)
-          | inl at ↦ elim (cases_lt end e.0) [
-            | inr ge ↦ inr (at, ge)
-            | inl shorter ↦ absurd (omega (arith, ap (λ (x : ℕ). greatest_value (bearing keys (frame word) p x end)) at, bears_value keys word p start end other bears, bears.some, e.1.less end (omega (arith, bears.some)) shorter))
+    let within : e.0 ≤ length (frame word) = omega (arith, e.1.high, s.1.high) in (
+      s.0,
+      e.0,
+      record {
+        bears = first_bears keys word p s.0 e.0 entry some within e.1.first;
+        most = λ start end other bears. omega (arith, bears_at keys word p start end other bears);
+        before = λ start end other bears same. elim (cases_lt start s.0) [
+          | inl lt ↦ absurd (omega (arith, bears_from keys word p start end other bears, s.1.less start (omega arith) lt))
+          | inr le ↦ elim (cases_eq s.0 start) [
+            | inr apart ↦ inl (omega arith)
+            | inl at ↦ elim (cases_lt end e.0) [
+              | inr ge ↦ inr (at, ge)
+              | inl shorter ↦ absurd (omega (arith, ap (λ (x : ℕ). greatest_value (bearing keys (frame word) p x end)) at, bears_value keys word p start end other bears, bears.some, e.1.less end (omega (arith, bears.some)) shorter))
+            ]
           ]
-        ]
-      ];
-    }, value)
+        ];
+      },
+      value,
+    )
 
 pub value_borne : {C : Type 0} (keys : Patterns C) (word : List ℕ) (p : ℕ) → (value_at keys word p ≡ 0) ⊎ ((start : ℕ) × (end : ℕ) × (entry : Entry C) × (Bears keys word p start end entry) × (entry.value ≡ value_at keys word p))
 value_borne keys word p = elim (cases_eq (value_at keys word p) 0) [

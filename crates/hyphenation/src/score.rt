@@ -31,10 +31,9 @@ mod tests;
 
 use hyphenation_commons::breaks::Break;
 use hyphenation_commons::dictionary::{Carried, Dictionary, Entry, Standard};
+pub use hyphenation_commons::trie::LookUps;
 use hyphenation_commons::trie::Trie;
 use std::alloc::{AllocError, Global};
-
-pub use hyphenation_commons::trie::LookUps;
 
 /// The byte at an offset of a word's frame, which is the word between two dots.
 fn framed_at(word: &[u8], at: usize) -> u8
@@ -148,13 +147,13 @@ fn winners_of<'d, C: Drop>(
 }
 
 /// The values that winners give.
-fn values_of<C>(
-    alloc: Global,
-    winners: &[Option<&Entry<C>>],
-) -> Result<Vec<u8>, AllocError>
+fn values_of<C>(alloc: Global, winners: &[Option<&Entry<C>>]) -> Result<Vec<u8>, AllocError>
     ensures { IfOk result (λ v. v.items ≡ map (λ winner. value_of (option_copied winner)) winners.now) }
 {
-    winners.iter().map(|winner| value_of(*winner)).collect(alloc)
+    winners
+        .iter()
+        .map(|winner| value_of(*winner))
+        .collect(alloc)
 }
 
 /// The entries that win the places of a word, from place 1 on, a place being a number of bytes.

@@ -1,4 +1,4 @@
-use Rattle.std.proofs.Common.{◌≡◌, ◌+◌, ◌<◌, ◌==◌, ℕ, length, arith, rules, sym}
+use Rattle.std.proofs.Common.{◌+◌, ◌==◌, arith, sym}
 use Rattle.hyphenation.specs.Scoring.{best_at}
 use Rattle.hyphenation.proofs.First.{greater_none}
 use Rattle.hyphenation.proofs.Walked.{competed_more}

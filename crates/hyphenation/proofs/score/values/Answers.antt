@@ -1,8 +1,8 @@
-use Rattle.std.proofs.Common.{◌≡◌, ℕ, ◌-◌, List, length, map, sym, ap, ◌∙◌}
+use Rattle.std.proofs.Common.{◌≡◌, ◌-◌, length, map, sym, ap, ◌∙◌}
 use Rattle.std.specs.Prelude.{option_copied}
 use Rattle.std.proofs.lemmas.Simd.{map-map}
 use Rattle.hyphenation_commons.specs.Dictionary.{keys_of}
-use Rattle.hyphenation.specs.Scoring.{value_of, values, winners}
+use Rattle.hyphenation.specs.Scoring.{value_of, values}
 use Rattle.hyphenation.proofs.ValuesInOrder.{map-value_of, length-values, ok_same, ok_ap}
 use Rattle.hyphenation.proofs.score.values.Goals as goal
 
