@@ -66,7 +66,7 @@ fold_stays text u h = ap encode_utf8_all (all_fold_to_themselves (chars text) h)
 pub carried_place : (text : List ℕ) (j : ℕ) → IsUtf8 text → carried text (place_of_character (fold text) j) ≡ place_of_character text j
 carried_place text j u =
     let before : length (chars (take (place_of_character (fold text) j) (fold text))) ≡ min j (length (chars text)) =
-        ap length (characters_before (fold text) j (fold_is_utf8 text u) ∙ ap (take j) (chars_of_fold text u) ∙ take-map fold_character j (chars text)) ∙ length-map _ _ ∙ length-take j (chars text) in
+    ap length (characters_before (fold text) j (fold_is_utf8 text u) ∙ ap (take j) (chars_of_fold text u) ∙ take-map fold_character j (chars text)) ∙ length-map _ _ ∙ length-take j (chars text) in
     ap (place_of_character text) before ∙ same_place text j
 
 pub carried_is_boundary : (text : List ℕ) (p : ℕ) → IsUtf8 text → IsCharBoundary text (carried text p)

@@ -85,8 +85,9 @@ place_keeps_order text j k h l =
     let rises : j < k → place_of_character text j < place_of_character text k = λ m. place_rises text j k m l in
     let same : j ≡ k → place_of_character text j ≡ place_of_character text k = λ e. ap (place_of_character text) e in
     elim (nat_lt j k) as (λ b. nat_lt j k ≡ b → place_of_character text j ≤ place_of_character text k) [
-      true ↦ λ e. let m = rises (ltb-true j k e) in omega arith
-    | false ↦ λ e. let m = same (let n = ltb-false j k e in omega arith) in omega arith ] refl
+      | true ↦ λ e. let m = rises (ltb-true j k e) in omega arith
+      | false ↦ λ e. let m = same (let n = ltb-false j k e in omega arith) in omega arith
+    ] refl
 
 pub place_within : (text : List ℕ) (j : ℕ) → IsUtf8 text → place_of_character text j ≤ length text
 place_within text j u = let b = place_is_boundary text j u in b.0
@@ -94,8 +95,9 @@ place_within text j u = let b = place_is_boundary text j u in b.0
 pub place_reflects_order : (text : List ℕ) (j k : ℕ) → j ≤ length (chars text) → place_of_character text j < place_of_character text k → j < k
 place_reflects_order text j k l h =
     elim (nat_lt j k) as (λ b. nat_lt j k ≡ b → j < k) [
-      true ↦ λ e. ltb-true j k e
-    | false ↦ λ e. let m = place_keeps_order text k j (ltb-false j k e) l in absurd (omega arith) ] refl
+      | true ↦ λ e. ltb-true j k e
+      | false ↦ λ e. let m = place_keeps_order text k j (ltb-false j k e) l in absurd (omega arith)
+    ] refl
 
 -- Past the last character the place stays.
 pub same_place : (text : List ℕ) (j : ℕ) → place_of_character text (min j (length (chars text))) ≡ place_of_character text j

@@ -33,8 +33,9 @@ pub record Refolding (original rest folded : List ℕ) (written : ℕ) (shifts :
 not_uppercase : (cs : List ℕ) (j : ℕ) → list_any is_uppercase cs ≡ false → j < length cs → is_uppercase (slice_index cs j) ≡ false
 not_uppercase cs j h l =
     elim (is_uppercase (slice_index cs j)) as (λ b. is_uppercase (slice_index cs j) ≡ b → is_uppercase (slice_index cs j) ≡ false) [
-      true ↦ λ e. let no : true ≡ false = sym (list_any_at is_uppercase cs j 0 l e) ∙ h in cc
-    | false ↦ λ e. e ] refl
+      | true ↦ λ e. let no : true ≡ false = sym (list_any_at is_uppercase cs j 0 l e) ∙ h in cc
+      | false ↦ λ e. e
+    ] refl
 
 differs : (a b : ℕ) → a ≡ b → not (a == b) ≡ false
 differs a b h = grind (arith)
@@ -56,7 +57,8 @@ starts original place u b n =
       folded_is = sym (fold_stays front front_utf8 n);
       written_is = sym (ap length (encodes-chars front front_utf8) ∙ length-take-le place original b.0);
       shifts_are = sym (no_shifts original (length (chars front)) stays);
-      left = omega (arith, length-drop place original, b.0) }
+      left = omega (arith, length-drop place original, b.0);
+    }
 
 pub begins : (original rest folded : List ℕ) (place : ℕ) (shifts : List Shift) → IsUtf8 original → IsCharBoundary original place → has_uppercase (take place original) ≡ false → rest ≡ drop place original → folded ≡ take place original → shifts ≡ [] → Refolding original rest folded place shifts
 begins original rest folded place shifts u b n r f s =
@@ -82,7 +84,7 @@ folded_place original rest folded written shifts r =
 -- One character further.
 
 module _ (original rest next folded folded' : List ℕ) (written written' c : ℕ) (shifts : List Shift) (before : Refolding original rest folded written shifts)
-  (e : rest ≡ encode_utf8 c ++ next) (f : folded' ≡ folded ++ encode_utf8 (fold_character c)) (w : written' ≡ written + length (encode_utf8 c)) where
+    (e : rest ≡ encode_utf8 c ++ next) (f : folded' ≡ folded ++ encode_utf8 (fold_character c)) (w : written' ≡ written + length (encode_utf8 c)) where
   next_chars : chars rest ≡ c ∷ chars next
   next_chars = chars_past_char rest next c before.rest_utf8 e
 
@@ -105,7 +107,8 @@ module _ (original rest next folded folded' : List ℕ) (written written' c : �
         written_is = w ∙ ap (λ n. n + length (encode_utf8 c)) before.written_is
             ∙ sym (ap length (encodes-append done (c ∷ []) ∙ ap (λ bs. encode_utf8_all done ++ bs) (append-nil (encode_utf8 c))) ∙ length-append (encode_utf8_all done) (encode_utf8 c));
         shifts_are = h ∙ ap (shifts_before original) (sym (length-append done (c ∷ [])));
-        left = omega (arith, before.left, ap length e, length-append (encode_utf8 c) next) }
+        left = omega (arith, before.left, ap length e, length-append (encode_utf8 c) next);
+      }
 
   changes : changes_length original (length before.done) ≡ not (length (encode_utf8 (fold_character c)) == length (encode_utf8 c))
   changes = ap (λ d. not (length (encode_utf8 (fold_character d)) == length (encode_utf8 d))) at
@@ -124,7 +127,7 @@ module _ (original rest next folded folded' : List ℕ) (written written' c : �
       let make : ℕ → ℤ → Shift = λ index delta. record { index = index; delta = delta } in
       let this : s ≡ shift_of original n = ap (λ m. make m s.delta) (i ∙ sym index) ∙ ap (make (place_of_character (fold original) n)) (d ∙ ap (λ m. pos m -ℤ pos written') (sym folded_after) ∙ ap (λ m. pos (place_of_character (fold original) (n + 1)) -ℤ pos m) (sym after)) in
       further shifts' (k ∙ ap (λ xs. xs ++ s ∷ []) before.shifts_are ∙ ap (λ t. shifts_before original n ++ t ∷ []) this
-          ∙ sym (picked_more (shift_of original) (changes_length original) n ∙ ap (λ b. shifts_before original n ++ cond b (shift_of original n ∷ []) []) (changes ∙ unequal _ _ h)))
+      ∙ sym (picked_more (shift_of original) (changes_length original) n ∙ ap (λ b. shifts_before original n ++ cond b (shift_of original n ∷ []) []) (changes ∙ unequal _ _ h)))
 
 -- At the end.
 

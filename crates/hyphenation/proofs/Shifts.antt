@@ -34,8 +34,9 @@ one_more : (text : List ℕ) (n place : ℕ) → delta_below (shifts_before text
 one_more text n place =
     ap (λ xs. delta_below xs place) (picked_more (shift_of text) (changes_length text) n)
     ∙ elim (changes_length text n) as (λ b. delta_below (shifts_before text n ++ cond b (shift_of text n ∷ []) []) place ≡ cond b (cond (nat_lt (place_of_character (fold text) n) place) (growth text (n + 1)) (delta_below (shifts_before text n) place)) (delta_below (shifts_before text n) place)) [
-        true ↦ delta_below_more (shifts_before text n) (shift_of text n) place
-      | false ↦ ap (λ xs. delta_below xs place) (append-nil (shifts_before text n)) ]
+      | true ↦ delta_below_more (shifts_before text n) (shift_of text n) place
+      | false ↦ ap (λ xs. delta_below xs place) (append-nil (shifts_before text n))
+    ]
 
 same_difference : (a b a' b' w : ℕ) → a' ≡ a + w → b' ≡ b + w → pos a' -ℤ pos b' ≡ pos a -ℤ pos b
 same_difference a b a' b' w h k = omega (arith, ints)
@@ -61,8 +62,9 @@ up_to text j (suc n) u l h =
     let below : nat_lt (place_of_character (fold text) n) place ≡ true = lt-ltb _ _ (place_rises (fold text) n j (omega arith) (omega (arith, as_many_characters text u))) in
     let step = one_more text n place in
     subst (λ k. delta_below (shifts_before text k) place ≡ growth text k) (add-one n) (elim (changes_length text n) as (λ b. changes_length text n ≡ b → delta_below (shifts_before text (n + 1)) place ≡ growth text (n + 1)) [
-        true ↦ λ e. step ∙ cond-true _ _ _ e ∙ cond-true _ _ _ below
-      | false ↦ λ e. step ∙ cond-false _ _ _ e ∙ before ∙ sym (same_growth text n u (omega arith) e) ] refl)
+      | true ↦ λ e. step ∙ cond-true _ _ _ e ∙ cond-true _ _ _ below
+      | false ↦ λ e. step ∙ cond-false _ _ _ e ∙ before ∙ sym (same_growth text n u (omega arith) e)
+    ] refl)
 
 beyond : (text : List ℕ) (j m : ℕ) → IsUtf8 text → j + m ≤ length (chars text) → delta_below (shifts_before text (j + m)) (place_of_character (fold text) j) ≡ growth text j
 beyond text j zero u l = rw add-zero (up_to text j j u (omega arith) (omega arith))
@@ -74,8 +76,9 @@ beyond text j (suc m) u l =
     let step = one_more text n place in
     let e : n + 1 ≡ j + suc m = omega arith in
     subst (λ k. delta_below (shifts_before text k) place ≡ growth text j) e (elim (changes_length text n) as (λ b. changes_length text n ≡ b → delta_below (shifts_before text (n + 1)) place ≡ growth text j) [
-        true ↦ λ e. step ∙ cond-true _ _ _ e ∙ cond-false _ _ _ above ∙ before
-      | false ↦ λ e. step ∙ cond-false _ _ _ e ∙ before ] refl)
+      | true ↦ λ e. step ∙ cond-true _ _ _ e ∙ cond-false _ _ _ above ∙ before
+      | false ↦ λ e. step ∙ cond-false _ _ _ e ∙ before
+    ] refl)
 
 -- The last shift below a place tells by how many bytes the characters before it grow.
 pub delta_is_growth : (text : List ℕ) (j : ℕ) → IsUtf8 text → j ≤ length (chars text) → delta_below (shifts_of text) (place_of_character (fold text) j) ≡ growth text j

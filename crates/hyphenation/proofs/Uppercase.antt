@@ -33,8 +33,8 @@ pub found_by : (G : (ℕ → Bool) → Type 0) (text : List ℕ) (r : Option ℕ
 found_by G text None h g = h is_uppercase g
 found_by G text (Some i) h g = let f = h.1 is_uppercase g in (h.3, f.0, (h.0, f.1))
 
-pub is_first : (text : List ℕ) (r : Option ℕ) → IsUtf8 text → MatchOption r (NoCharPasses is_uppercase text) (λ i. IsCharBoundary text i × NoCharPasses is_uppercase (take i text) × ((j : ℕ) × HasPassingCharAt is_uppercase text i j)) → (IsNone r ↔ (has_uppercase text ≡ false)) × IfSome r (λ place. has_uppercase (take place text) ≡ false)
-is_first text None u h = ((λ _. without_uppercase text u h, λ _. refl), tt)
+pub is_first : (text : List ℕ) (r : Option ℕ) → IsUtf8 text → MatchOption r (NoCharPasses is_uppercase text) (λ i. IsCharBoundary text i × NoCharPasses is_uppercase (take i text) × ((j : ℕ) × HasPassingCharAt is_uppercase text i j)) → (IsNone r ↔ (has_uppercase text ≡ false)) × IfSome r (λ place. has_uppercase (take place text) ≡ false) × IfSome r (λ place. (end : ℕ) × HasPassingCharAt is_uppercase text place end)
+is_first text None u h = ((λ _. without_uppercase text u h, λ _. refl), tt, tt)
 is_first text (Some i) u h =
     let some : has_uppercase text ≡ true = with_uppercase text i h.2.0 u h.0 h.2.1 in
-    ((λ n. cc, λ e. let no : true ≡ false = sym some ∙ e in cc), without_uppercase (take i text) (IsUtf8-take text i u h.0) h.1)
+    ((λ n. cc, λ e. let no : true ≡ false = sym some ∙ e in cc), without_uppercase (take i text) (IsUtf8-take text i u h.0) h.1, h.2)

@@ -18,8 +18,10 @@ ghost use Rattle.std.specs.Cow.{cow_str_bytes, IsBorrowedStr};
 ghost use Rattle.std.specs.Int.{saturate_unsigned, w64};
 ghost use Rattle.std.specs.Str.{IsUtf8, IsCharBoundary};
 ghost use Rattle.std.specs.Option.{option_copied};
+ghost use Rattle.std.specs.Str.Pattern.{HasPassingCharAt};
+ghost use Rattle.unicode.specs.Binary.{is_uppercase};
 ghost use Rattle.hyphenation.specs.Places.{place_of_character};
-ghost use Rattle.hyphenation.specs.Folding.{fold_character, fold, has_uppercase, shifts_of, delta_below};
+ghost use Rattle.hyphenation.specs.Folding.{fold_character, fold, has_uppercase, shifts_of, delta_below, carried};
 
 use std::alloc::{AllocError, Global};
 use std::borrow::CowStr;
@@ -27,7 +29,7 @@ use unicode::case::simple_fold;
 use unicode::properties::is_uppercase;
 
 /// A character of which the folding changed the number of bytes.
-#[derive(Clone, Copy, Debug)]
+#[derive(Clone, Copy, Debug, PartialEq, Eq)]
 pub struct Shift {
     /// The place at which the character begins in the folded word.
     pub index: usize,
@@ -57,10 +59,10 @@ pub fn refold<'t>(alloc: Global, original: &'t str) -> Result<(CowStr<'t>, Vec<S
     let mut written = start;
     for c in rest.chars() {
         let index = folded.len();
-        let lower = fold_char(c);
-        folded.push(lower)?;
+        let folding = fold_char(c);
+        folded.push(folding)?;
         written += c.len_utf8();
-        if lower.len_utf8() != c.len_utf8() {
+        if folding.len_utf8() != c.len_utf8() {
             let delta = difference(folded.len(), written);
             shifts.push(Shift { index, delta })?;
         }
@@ -73,6 +75,7 @@ fn first_uppercase(text: &str) -> Option<usize>
     ensures none { IsNone result ↔ (has_uppercase text.now ≡ false) }
     ensures place { IfSome result (λ place. IsCharBoundary text.now place) }
     ensures first { IfSome result (λ place. has_uppercase (take place text.now) ≡ false) }
+    ensures uppercase { IfSome result (λ place. (end : ℕ) × HasPassingCharAt is_uppercase text.now place end) }
 {
     text.find(|c: char| is_uppercase(c))
 }
@@ -105,7 +108,8 @@ fn difference(a: usize, b: usize) -> isize
 /// the greatest `usize`.
 pub fn realign(i: usize, shifts: &[Shift]) -> usize
     ensures value { result ≡ saturate_unsigned w64 (pos i -ℤ delta_below shifts.now i) }
-    ensures carried { (original : List ℕ) (j : ℕ) → IsUtf8 original → length original ≤ usize.MAX → shifts.now ≡ shifts_of original → i ≡ place_of_character (fold original) j → result ≡ place_of_character original j }
+    ensures carried { (original : List ℕ) → IsUtf8 original → length original ≤ usize.MAX → shifts.now ≡ shifts_of original → IsCharBoundary (fold original) i → result ≡ carried original i }
+    ensures same_character { (original : List ℕ) (j : ℕ) → IsUtf8 original → length original ≤ usize.MAX → shifts.now ≡ shifts_of original → i ≡ place_of_character (fold original) j → result ≡ place_of_character original j }
 {
     let delta = last_shift_below(i, shifts).map_or(0, |shift| shift.delta);
     i.saturating_sub_signed(delta)
@@ -120,13 +124,102 @@ fn last_shift_below(i: usize, shifts: &[Shift]) -> Option<&Shift>
 #[cfg(test)]
 mod tests {
     use super::*;
+    use std::process::Abort;
     use std::test::Fail;
+
+    fn assert_folds(
+        rt: &impl Abort,
+        alloc: Global,
+        word: &str,
+        folded: &str,
+        shifts: &[(usize, isize)],
+    ) -> Result<(), AllocError> {
+        let (text, found) = refold(alloc, word)?;
+        assert_eq!(rt; text.as_str(), folded);
+        assert_eq!(rt; found.len(), shifts.len());
+        for (shift, (index, delta)) in found.iter().zip(shifts) {
+            assert_eq!(rt; shift.index, *index);
+            assert_eq!(rt; shift.delta, *delta);
+        }
+        Ok(())
+    }
+
+    fn is_lent(alloc: Global, word: &str) -> Result<bool, AllocError> {
+        let (text, _) = refold(alloc, word)?;
+        Ok(matches!(text, CowStr::Borrowed(_)))
+    }
 
     #[test]
     fn words_fold_with_their_shifts(rt: HostRuntime) -> Result<(), Fail> {
-        let (folded, shifts) = refold(rt.alloc(), "İẞab")?;
-        assert_eq!(rt; folded.as_str(), "ißab");
-        assert_eq!(rt; shifts.len(), 2);
+        let alloc = rt.alloc();
+        assert_folds(&rt, alloc, "İẞab", "ißab", &[(0, -1), (1, -2)])?;
+        assert_folds(&rt, alloc, "ΑΣ", "ασ", &[])?;
+        assert_folds(&rt, alloc, "\u{212a}ilim", "kilim", &[(0, -2)])?;
+        assert_folds(&rt, alloc, "ȺAB", "ⱥab", &[(0, 1)])?;
+        assert_folds(&rt, alloc, "aȺİb", "aⱥib", &[(1, 1), (4, 0)])?;
+        assert_folds(&rt, alloc, "I\u{307}", "i\u{307}", &[])?;
+        Ok(())
+    }
+
+    #[test]
+    fn words_without_uppercase_are_lent(rt: HostRuntime) -> Result<(), Fail> {
+        let alloc = rt.alloc();
+        // U+01C5 is titlecase, so it is not Uppercase.
+        for word in ["", "kilim", "i\u{307}", "\u{1c5}", "ß"] {
+            assert_folds(&rt, alloc, word, word, &[])?;
+            assert!(rt; is_lent(alloc, word)?);
+        }
+        for word in ["I\u{307}", "ΑΣ", "\u{13a0}"] {
+            assert!(rt; !is_lent(alloc, word)?);
+        }
+        Ok(())
+    }
+
+    #[test]
+    fn places_are_carried_back(rt: HostRuntime) -> Result<(), Fail> {
+        // The bytes of `İẞab` end at 2, 5, 6 and 7, those of `ißab` at 1, 3, 4 and 5.
+        let (_, shifts) = refold(rt.alloc(), "İẞab")?;
+        for (folded, written) in [(0, 0), (1, 2), (3, 5), (4, 6), (5, 7)] {
+            assert_eq!(rt; realign(folded, &shifts), written);
+        }
+        Ok(())
+    }
+
+    #[test]
+    fn realigned_places_are_held_at_the_ends(rt: HostRuntime) {
+        assert_eq!(rt; realign(1, &[Shift { index: 0, delta: 2 }]), 0);
+        assert_eq!(rt;
+            realign(
+                usize::MAX,
+                &[Shift {
+                    index: 0,
+                    delta: -2
+                }]
+            ),
+            usize::MAX
+        );
+        assert_eq!(rt; realign(1, &[]), 1);
+    }
+
+    // Of the characters of Unicode 14.0, 1402 have Uppercase and another lowercase by themselves
+    // (counting the İ, as `i`), 25 of them of another number of bytes; 86 of those are Cherokee
+    // capitals, which are their own simple case folding. Since then, up to 18.0, 75 capitals were
+    // added, of which 4 change their number of bytes.
+    #[test]
+    fn all_characters_fold(rt: HostRuntime) -> Result<(), Fail> {
+        let alloc = rt.alloc();
+        let mut all = String::new(alloc);
+        for c in '\0'..=char::MAX {
+            all.push(c)?;
+        }
+        let (folded, shifts) = refold(alloc, &all)?;
+        let changed = all
+            .chars()
+            .zip(folded.as_str().chars())
+            .filter(|(c, d)| c != d)
+            .count();
+        assert_eq!(rt; changed, 1402 - 86 + 75);
+        assert_eq!(rt; shifts.len(), 25 + 4);
         Ok(())
     }
 }

@@ -12,3 +12,8 @@ pub returns-clause-first : goal.returns-clause-first
 returns-clause-first c =
     let found = found_by _ c.args.text.now c.find.result c.find.ensures.cases (answers_always _ _ _ (λ f a r q k. search (rules, tests))) in
     (is_first c.args.text.now c.find.result c.utf8.text found).1
+
+pub returns-clause-uppercase : goal.returns-clause-uppercase
+returns-clause-uppercase c =
+    let found = found_by _ c.args.text.now c.find.result c.find.ensures.cases (answers_always _ _ _ (λ f a r q k. search (rules, tests))) in
+    (is_first c.args.text.now c.find.result c.utf8.text found).2

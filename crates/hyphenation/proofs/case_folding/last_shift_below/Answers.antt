@@ -1,7 +1,6 @@
 use Rattle.std.proofs.Common.{rules, nat_lt, tests}
 use Rattle.std.proofs.lemmas.Iterator.Adapters.{YieldsList-from_rev_slice}
 use Rattle.std.proofs.lemmas.Iterator.Search.{find_from_yields_List}
-
 use Rattle.hyphenation.specs.declared.case_folding.Shift.{Shift}
 use Rattle.hyphenation.proofs.case_folding.last_shift_below.Goals as goal
 

@@ -7,4 +7,5 @@ abbrev pub invariant-loop-c : goal.invariant-loop-c
 invariant-loop-c l = record {
   can : (goal.iterator-loop-c).can_next l.c-iterator;
   finite : (goal.iterator-loop-c).is_finite l.c-iterator;
-  holds : Refolding l.original (chars_rest l.c-iterator) (string_bytes l.folded) l.written l.shifts.items }
+  holds : Refolding l.original (chars_rest l.c-iterator) (string_bytes l.folded) l.written l.shifts.items;
+}

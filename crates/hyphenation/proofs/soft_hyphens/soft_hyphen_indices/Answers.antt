@@ -1,33 +1,56 @@
-use Rattle.std.proofs.Common.{rules, arith, ◌≡◌, false, sym, ◌∙◌}
-use Rattle.hyphenation.proofs.SoftHyphens.{starts, passed, found, searched_whole, ascending, within}
+use Rattle.std.proofs.Common.{rules, arith, refl, length, ◌<◌, ◌≡◌, false, sym, ◌∙◌}
+use Rattle.std.specs.Str.Iter.{char_indices_rest, char_indices_offset}
+use Rattle.hyphenation.proofs.SoftHyphens.{starts, passed, found, one_met, none_found, some_left, searched_whole, ascending, within}
 use Rattle.hyphenation.proofs.soft_hyphens.soft_hyphen_indices.Goals as goal
 
-pub loop-place-preserved-in_ok-push : goal.loop-place-preserved-in_ok-push
-loop-place-preserved-in_ok-push c = let next = found _ _ _ _ _ c.in-Some.c _ c.loop-place.invariant.holds (search rules) (search rules) _ (search rules) (search rules) in record { can = ?; finite = tt; holds = next }
+pub loop-place-preserved-in-Continue-1 : goal.loop-place-preserved-in-Continue-1
+loop-place-preserved-in-Continue-1 c =
+    let next = found _ _ (char_indices_rest c.next.new.self) _ (char_indices_offset c.next.new.self) c.in-Some.c _ c.loop-place.invariant.holds (search rules) (search rules) _ (search rules) (search rules) in
+    record { can = omega (arith, next.left, c.loop-place.invariant.holds.left, c.loop-place.invariant.can); finite = tt; holds = next }
 
 pub loop-place-preserved : goal.loop-place-preserved
-loop-place-preserved c = let next = passed _ _ _ _ _ c.in-Some.c _ c.loop-place.invariant.holds (search rules) (search rules) (search rules) in record { can = ?; finite = tt; holds = next }
+loop-place-preserved c =
+    let next = passed _ _ (char_indices_rest c.next.new.self) _ (char_indices_offset c.next.new.self) c.in-Some.c _ c.loop-place.invariant.holds (search rules) (search rules) (search rules) in
+    record { can = omega (arith, next.left, c.loop-place.invariant.holds.left, c.loop-place.invariant.can); finite = tt; holds = next }
 
 pub returns-in_err-push-clause-none : goal.returns-in_err-push-clause-none
-returns-in_err-push-clause-none c = ?
+returns-in_err-push-clause-none c = λ none. absurd (one_met _ _ (char_indices_rest c.next.new.self) _ (char_indices_offset c.next.new.self) c.in-Some.c _ c.loop-place.invariant.holds (search rules) (search rules) (search rules) none)
 
 pub returns-in_err-push-clause-ascending : goal.returns-in_err-push-clause-ascending
-returns-in_err-push-clause-ascending c = ascending c.args.word.now c.utf8.word
+returns-in_err-push-clause-ascending c = ascending c.args.word.now
 
 pub returns-in_err-push-clause-within : goal.returns-in_err-push-clause-within
 returns-in_err-push-clause-within c = within c.args.word.now c.utf8.word
 
-pub returns-clause-found : goal.returns-clause-found
-returns-clause-found c = let whole = searched_whole _ _ _ _ c.loop-place.invariant.holds (search rules) in ?
+pub returns-then-is_empty-clause-ascending : goal.returns-then-is_empty-clause-ascending
+returns-then-is_empty-clause-ascending c = ascending c.args.word.now
 
-pub returns-clause-some : goal.returns-clause-some
-returns-clause-some c = let whole = searched_whole _ _ _ _ c.loop-place.invariant.holds (search rules) in ?
+pub returns-then-is_empty-clause-within : goal.returns-then-is_empty-clause-within
+returns-then-is_empty-clause-within c = within c.args.word.now c.utf8.word
 
-pub returns-clause-none : goal.returns-clause-none
-returns-clause-none c = let whole = searched_whole _ _ _ _ c.loop-place.invariant.holds (search rules) in ?
+pub returns-then-is_empty-clause-some : goal.returns-then-is_empty-clause-some
+returns-then-is_empty-clause-some c =
+    let empty : length c.loop-place.places.items ≡ 0 = search rules in
+    let none = none_found _ _ _ _ c.loop-place.invariant.holds (search rules) empty in
+    (λ f. cc, λ some. absurd (some none))
 
 pub returns-clause-ascending : goal.returns-clause-ascending
-returns-clause-ascending c = ascending c.args.word.now c.utf8.word
+returns-clause-ascending c = ascending c.args.word.now
 
 pub returns-clause-within : goal.returns-clause-within
 returns-clause-within c = within c.args.word.now c.utf8.word
+
+pub returns-clause-found : goal.returns-clause-found
+returns-clause-found c = searched_whole _ _ _ _ c.loop-place.invariant.holds (search rules)
+
+pub returns-clause-some : goal.returns-clause-some
+returns-clause-some c =
+    let some : 0 < length c.loop-place.places.items = search rules in
+    let left = some_left _ _ _ _ c.loop-place.invariant.holds (search rules) some in
+    (λ t. left, λ t. refl)
+
+pub returns-clause-none : goal.returns-clause-none
+returns-clause-none c =
+    let some : 0 < length c.loop-place.places.items = search rules in
+    let left = some_left _ _ _ _ c.loop-place.invariant.holds (search rules) some in
+    λ none. absurd (left none)
