@@ -1,7 +1,7 @@
 //! What a break of a word is.
 
 ghost use Rattle.std.specs.Prelude.{◌≡◌, ◌≤◌, ◌<◌, ◌^◌, ◌&&◌, IsTrue, IsSome, IfSome, ◌↔◌};
-ghost use Rattle.hyphenation_commons.specs.Break.{left_of, begin_of, end_of, before_of, after_of, is_changed, is_boundary};
+ghost use Rattle.hyphenation_commons.specs.Break.{left_of, begin_of, end_of, before_of, after_of, is_changed, is_boundary, has_boundary};
 ghost use Rattle.hyphenation_commons.specs.Kept.{stays_within};
 
 /// A break of a word: a place, and a change or none.
@@ -10,8 +10,7 @@ ghost use Rattle.hyphenation_commons.specs.Kept.{stays_within};
 /// first half stands at the end of one segment, its second half at the beginning of the next.
 /// All numbers are of bytes.
 pub trait Break: Drop {
-    ghost use Rattle.std.specs.Prelude.{IsTrue};
-    ghost use Rattle.hyphenation_commons.specs.Break.{Break, has_boundary};
+    ghost use Rattle.hyphenation_commons.specs.Break.{Break};
 
     /// The place and the change.
     ghost meaning: { Self → Break };
@@ -23,9 +22,11 @@ pub trait Break: Drop {
     /// Where its range begins and ends; both at the place where nothing is changed.
     ///
     /// None where the range would begin before 0 or end at 2^64 or later, which no word reaches.
+    /// A change is broken between characters of its substitution.
     fn range(&self) -> Option<(usize, usize)>
         ensures known { IsSome result ↔ ((left_of (meaning self.now).change ≤ (meaning self.now).place) × (end_of (meaning self.now) < 2 ^ 64)) }
-        ensures value { IfSome result (λ r. r ≡ (begin_of (meaning self.now), end_of (meaning self.now))) };
+        ensures value { IfSome result (λ r. r ≡ (begin_of (meaning self.now), end_of (meaning self.now))) }
+        ensures boundary { IsTrue (has_boundary (meaning self.now).change) };
 
     /// Whether it has a change.
     fn changed(&self) -> bool
@@ -38,19 +39,13 @@ pub trait Break: Drop {
     /// The second half of its substitution; empty without a change.
     fn after(&self) -> &str
         ensures { result.now ≡ after_of (meaning self.now).change };
-
-    /// A change is broken between characters of its substitution.
-    ghost boundary: { (b : Self) → IsTrue (has_boundary (meaning b).change) };
 }
 
 /// A place alone changes nothing.
 impl Break for usize {
-    ghost use Rattle.std.specs.Prelude.{refl};
     ghost use Rattle.hyphenation_commons.specs.Break.{plain};
 
     ghost meaning = { plain };
-
-    ghost boundary = { λ _. refl };
 
     fn place(&self) -> usize {
         *self
