@@ -19,6 +19,8 @@ pub mod standard;
 pub mod words;
 
 #[cfg(test)]
+mod filler;
+#[cfg(test)]
 mod tests;
 
 pub use boundaries::boundaries_of;
