@@ -43,7 +43,7 @@ places_ascend text i j h =
     let sum : i + (j - i) ≡ j = omega (arith, h) in
     let split : take j (chars text) ≡ first ++ more = subst (λ n. take n (chars text) ≡ first ++ more) sum (take-add i (j - i) (chars text)) in
     let bytes : length (encode_utf8_all (take j (chars text))) ≡ length (encode_utf8_all first) + length (encode_utf8_all more) =
-        ap (λ cs. length (encode_utf8_all cs)) split ∙ ap length (encodes-append first more) ∙ length-append (encode_utf8_all first) (encode_utf8_all more) in
+    ap (λ cs. length (encode_utf8_all cs)) split ∙ ap length (encodes-append first more) ∙ length-append (encode_utf8_all first) (encode_utf8_all more) in
     omega (arith, bytes)
 
 bounds_kept : (l r n : ℕ) (bounds : Option (ℕ × ℕ)) → l < n → r ≤ n - l → (if nat_le (l + r) n && nat_lt l n then bounds else None) ≡ bounds
@@ -59,7 +59,7 @@ bounds_met l r n word count below room =
     let below_count : l < length (chars word) = omega (arith, count, below) in
     let room_count : r ≤ length (chars word) - l = omega (arith, count, room) in
     subst (λ m. boundaries l r word ≡ Some (place_of_character word l, place_of_character word (m - max r 1))) (sym count)
-        (bounds_kept l r (length (chars word)) _ below_count room_count)
+    (bounds_kept l r (length (chars word)) _ below_count room_count)
 
 -- A word has too few characters.
 pub bounds_missed : (l r n : ℕ) (word : List ℕ) → n ≡ length (chars word) → (n ≤ l) ⊎ (n - l < r) → boundaries l r word ≡ None

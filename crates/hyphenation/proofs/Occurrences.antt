@@ -37,10 +37,13 @@ frame_is_utf8 : (word : List ℕ) → IsUtf8 word → IsUtf8 (frame word)
 frame_is_utf8 word u = IsUtf8-append (46 ∷ []) (word ++ 46 ∷ []) dot_is_utf8 (IsUtf8-append word (46 ∷ []) u dot_is_utf8)
 
 unframed_boundary : (word : List ℕ) (p : ℕ) → p ≤ length word → IsCharBoundary (frame word) (p + 1) → IsCharBoundary word p
-unframed_boundary word p within b = (within, λ lt k.
-    let same : slice_index (frame word) (p + 1) ≡ slice_index word p = ap (λ i. slice_index (frame word) i) (add-one p) ∙ get_or_append_left word (46 ∷ []) 0 p lt in
-    let long : length (frame word) ≡ length word + 2 = omega (arith, length-append word (46 ∷ [])) in
-    let high = b.1 (omega arith) (omega arith) in omega arith)
+unframed_boundary word p within b = (
+  within,
+  λ lt k.
+      let same : slice_index (frame word) (p + 1) ≡ slice_index word p = ap (λ i. slice_index (frame word) i) (add-one p) ∙ get_or_append_left word (46 ∷ []) 0 p lt in
+      let long : length (frame word) ≡ length word + 2 = omega (arith, length-append word (46 ∷ [])) in
+      let high = b.1 (omega arith) (omega arith) in omega arith,
+)
 
 entry_boundary : {C : Type 0} (change_of : C → Option Change) (key : List ℕ) (least : ℕ) (entries : List (Entry C)) (i : ℕ) (entry : Entry C)
     → are_entries change_of key least entries ≡ true → i < length entries → entry ≡ get_or entries i entry → IsCharBoundary key entry.place
@@ -52,8 +55,8 @@ entry_boundary {C} change_of key least (e ∷ es) i entry h lt is =
     let two = and_parts (nat_le least e.place && is_boundary key e.place) _ most.0 in
     let one = and_parts (nat_le least e.place) _ two.0 in
     elim i as (λ i. i < length (e ∷ es) → entry ≡ get_or (e ∷ es) i entry → IsCharBoundary key entry.place) [
-    | zero ↦ λ _ here. subst (λ (x : Entry C). IsCharBoundary key x.place) (sym here) (boundary_from_test key e.place one.1)
-    | suc i ↦ λ lt there. entry_boundary change_of key (e.place + 1) es i entry all.1 (omega arith) there
+      | zero ↦ λ _ here. subst (λ (x : Entry C). IsCharBoundary key x.place) (sym here) (boundary_from_test key e.place one.1)
+      | suc i ↦ λ lt there. entry_boundary change_of key (e.place + 1) es i entry all.1 (omega arith) there
     ] lt is
 
 -- What bears on a place of a word bears on a boundary of its characters.
@@ -71,6 +74,6 @@ pub value_boundary : {C B : Type 0} (change_of : C → Option Change) (break_of 
     → IsKept change_of break_of contents → IsUtf8 word → p ≤ length word → 0 < value_at (keys_of contents) word p → IsCharBoundary word p
 value_boundary change_of break_of contents word p kept u within some =
     elim (value_borne (keys_of contents) word p) [
-    | inl nothing ↦ absurd (omega (arith, nothing))
-    | inr borne ↦ bears_boundary change_of break_of contents word p borne.0 borne.1 borne.2 kept u within borne.3
+      | inl nothing ↦ absurd (omega (arith, nothing))
+      | inr borne ↦ bears_boundary change_of break_of contents word p borne.0 borne.1 borne.2 kept u within borne.3
     ]

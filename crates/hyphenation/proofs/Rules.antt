@@ -33,8 +33,8 @@ within_ascend text least [] bounds a = tt
 within_ascend text least (b ∷ bs) bounds a =
     let rest = within_ascend text (b.place + 1) bs bounds a.2 in
     elim (within bounds b.place) as (λ t. AscendFrom text least (cond t (b ∷ breaks_within bs bounds) (breaks_within bs bounds))) [
-    | true ↦ (a.0, a.1, rest)
-    | false ↦ ascend_earlier text (b.place + 1) least (breaks_within bs bounds) (omega (arith, a.0)) rest
+      | true ↦ (a.0, a.1, rest)
+      | false ↦ ascend_earlier text (b.place + 1) least (breaks_within bs bounds) (omega (arith, a.0)) rest
     ]
 
 -- What is listed for a word, and what is allowed in it, ascends.
@@ -59,8 +59,8 @@ kept_ascend text test break_to placed first zero least h at = tt
 kept_ascend text test break_to placed first (suc n) least h at =
     let rest : (low : ℕ) → low ≤ first + 1 → AscendFrom text low (map break_to (filter test (range_with_len (first + 1) n))) = λ low l. kept_ascend text test break_to placed (first + 1) n low l (λ p lt. at p (omega arith)) in
     elim (test first) as (λ t. test first ≡ t → AscendFrom text least (map break_to (cond t (first ∷ filter test (range_with_len (first + 1) n)) (filter test (range_with_len (first + 1) n))))) [
-    | true ↦ λ passes. (omega (arith, placed first), subst (IsCharBoundary text) (sym (placed first)) (at first (omega arith) passes), rest ((break_to first).place + 1) (omega (arith, placed first)))
-    | false ↦ λ _. rest least (omega arith)
+      | true ↦ λ passes. (omega (arith, placed first), subst (IsCharBoundary text) (sym (placed first)) (at first (omega arith) passes), rest ((break_to first).place + 1) (omega (arith, placed first)))
+      | false ↦ λ _. rest least (omega arith)
     ] refl
 
 odd_is_some : (value : ℕ) → is_odd value ≡ true → 0 < value
@@ -75,9 +75,9 @@ rules_are_sound {C} {B} change_of break_of contents word kept u =
       listed = elim (finite.get contents.exceptions word) as (λ found. finite.get contents.exceptions word ≡ found → IfSome (option_map (map break_of) found) (λ listed. Ascending word listed)) [
         | None ↦ λ _. tt
         | Some listed ↦ λ is. listed_ascend break_of word 0 listed (kept.exceptions word listed is).ascend
-        ] refl;
+      ] refl;
       allowed = kept_ascend word (λ place. is_odd (value_at keys word place)) (break_at change_of keys word) (λ _. refl) 1 (length word - 1) 0 (omega arith)
-        (λ p lt odd. value_boundary change_of break_of contents word p kept u (omega arith) (odd_is_some (value_at keys word p) odd));
+          (λ p lt odd. value_boundary change_of break_of contents word p kept u (omega arith) (odd_is_some (value_at keys word p) odd));
     }
 
 -- ---- what they give
@@ -88,26 +88,26 @@ by_patterns_ascend rules word bounds sound = within_ascend word 0 (rules.allowed
 pub by_exception_ascends : (rules : Rules) (word : List ℕ) (bounds : ℕ × ℕ) → AreSound rules word → IfSome (by_exception rules word bounds) (λ listed. Ascending word listed)
 by_exception_ascends rules word bounds sound =
     elim (rules.listed word) as (λ found. IfSome found (λ listed. Ascending word listed) → IfSome (option_map (λ listed. breaks_within listed bounds) found) (λ listed. Ascending word listed)) [
-    | None ↦ λ _. tt
-    | Some listed ↦ λ a. within_ascend word 0 listed bounds a
+      | None ↦ λ _. tt
+      | Some listed ↦ λ a. within_ascend word 0 listed bounds a
     ] sound.listed
 
 pub exception_ascends : (rules : Rules) (word : List ℕ) → AreSound rules word → IfSome (exception_of rules word) (λ listed. Ascending word listed)
 exception_ascends rules word sound =
     elim (boundaries_by rules word) as (λ found. IfSome (option_and_then (by_exception rules word) found) (λ listed. Ascending word listed)) [
-    | None ↦ tt
-    | Some bounds ↦ by_exception_ascends rules word bounds sound
+      | None ↦ tt
+      | Some bounds ↦ by_exception_ascends rules word bounds sound
     ]
 
 pub opportunities_ascend : (rules : Rules) (word : List ℕ) → AreSound rules word → Ascending word (opportunities rules word)
 opportunities_ascend rules word sound =
     elim (boundaries_by rules word) as (λ found. Ascending word (option_map_or (opportunities_in rules word) found [])) [
-    | None ↦ tt
-    | Some bounds ↦
-        elim (by_exception rules word bounds) as (λ found. IfSome found (λ listed. Ascending word listed) → Ascending word (unwrap_or found (by_patterns rules word bounds))) [
-        | None ↦ λ _. by_patterns_ascend rules word bounds sound
-        | Some listed ↦ λ a. a
-        ] (by_exception_ascends rules word bounds sound)
+      | None ↦ tt
+      | Some bounds ↦
+          elim (by_exception rules word bounds) as (λ found. IfSome found (λ listed. Ascending word listed) → Ascending word (unwrap_or found (by_patterns rules word bounds))) [
+            | None ↦ λ _. by_patterns_ascend rules word bounds sound
+            | Some listed ↦ λ a. a
+          ] (by_exception_ascends rules word bounds sound)
     ]
 
 -- ---- the breaks of a word as written
@@ -130,10 +130,12 @@ increasing_tail x xs h = λ k lt. let later : slice_index xs k < slice_index (x 
 -- Increasing places on boundaries ascend.
 places_ascend : (text : List ℕ) (least : ℕ) (xs : List ℕ) → IsStrictlyIncreasing xs → All (λ place. IsCharBoundary text place × (place < length text)) xs → (0 < length xs → least ≤ slice_index xs 0) → AscendFrom text least (map plain xs)
 places_ascend text least [] h all from = tt
-places_ascend text least (x ∷ xs) h all from =
-    (from (omega arith), (All-head (λ place. IsCharBoundary text place × (place < length text)) x xs all).0,
-    places_ascend text (x + 1) xs (increasing_tail x xs h) (All-tail (λ place. IsCharBoundary text place × (place < length text)) x xs all)
-        (λ lt. let next : x < slice_index xs 0 = h 0 (omega arith) in omega arith))
+places_ascend text least (x ∷ xs) h all from = (
+  from (omega arith),
+  (All-head (λ place. IsCharBoundary text place × (place < length text)) x xs all).0,
+  places_ascend text (x + 1) xs (increasing_tail x xs h) (All-tail (λ place. IsCharBoundary text place × (place < length text)) x xs all)
+      (λ lt. let next : x < slice_index xs 0 = h 0 (omega arith) in omega arith),
+)
 
 places_of_plain : (xs : List ℕ) → map (λ b. b.place) (map plain xs) ≡ xs
 places_of_plain [] = refl

@@ -52,12 +52,12 @@ same_breaks test odd break_to bounds is first (suc n) agree =
     let here : test first ≡ (odd first && within bounds first) = agree first (omega arith) (omega arith) in
     let after = breaks_within (map break_to back) bounds in
     let both : map plain (cond (within bounds first) (first ∷ front) front) ≡ cond (within bounds first) (plain first ∷ after) after =
-        elim (within bounds first) as (λ w. map plain (cond w (first ∷ front) front) ≡ cond w (plain first ∷ after) after) [ true ↦ ap (λ bs. plain first ∷ bs) rest | false ↦ rest ] in
+    elim (within bounds first) as (λ w. map plain (cond w (first ∷ front) front) ≡ cond w (plain first ∷ after) after) [ true ↦ ap (λ bs. plain first ∷ bs) rest | false ↦ rest ] in
     ap (λ t. map plain (cond t (first ∷ front) front)) here
     ∙ elim (odd first) as (λ o. map plain (cond (o && within bounds first) (first ∷ front) front) ≡ breaks_within (map break_to (cond o (first ∷ back) back)) bounds) [
       | true ↦ subst (λ (b : Break). map plain (cond (within bounds first) (first ∷ front) front) ≡ cond (within bounds b.place) (b ∷ after) after) (sym (is first)) both
       | false ↦ rest
-      ]
+    ]
 
 -- The odd places within bounds are the breaks by patterns.
 pub places_by_patterns : {C B : Type 0} (break_of : B → Break) (contents : Contents C B) (word scores found : List ℕ) (bounds : ℕ × ℕ) → scores ≡ values (keys_of contents) word
@@ -69,10 +69,10 @@ places_by_patterns {C} {B} break_of contents word scores found bounds is e =
     let test : List ℕ → ℕ → Bool = λ scores place. is_odd (slice_index scores (place - 1)) && within bounds place in
     let count : length (values keys word) ≡ n = length-map-range_with_len (λ p. value_at keys word p) 1 n in
     let listed : found ≡ filter (test (values keys word)) (range_with_len 1 n) =
-        e ∙ ap (λ s. filter (test s) (range_with_len 1 (length s))) is ∙ ap (λ m. filter (test (values keys word)) (range_with_len 1 m)) count in
+    e ∙ ap (λ s. filter (test s) (range_with_len 1 (length s))) is ∙ ap (λ m. filter (test (values keys word)) (range_with_len 1 m)) count in
     ap (map plain) listed
     ∙ same_breaks (test (values keys word)) (λ place. is_odd (value_at keys word place)) (break_at no_change keys word) bounds (wins_plain keys word) 1 n
-        (λ p l h. ap (λ v. is_odd v && within bounds p) (get_or-map-range_with_len (λ q. value_at keys word q) 1 n (p - 1) p 0 (omega arith) (omega arith)))
+    (λ p l h. ap (λ v. is_odd v && within bounds p) (get_or-map-range_with_len (λ q. value_at keys word q) 1 n (p - 1) p 0 (omega arith) (omega arith)))
 
 -- One more value is read.
 pub odd_more : (scores items : List ℕ) (bounds : ℕ × ℕ) (i value : ℕ) (is : Bool) → value ≡ slice_index scores i
@@ -91,8 +91,8 @@ pub places_by_exception : (bounds : ℕ × ℕ) (listed : List ℕ) → map plai
 places_by_exception bounds [] = refl
 places_by_exception bounds (p ∷ ps) =
     elim (within bounds p) as (λ w. map plain (cond w (p ∷ filter (within bounds) ps) (filter (within bounds) ps)) ≡ cond w (plain p ∷ breaks_within (map plain ps) bounds) (breaks_within (map plain ps) bounds)) [
-    | true ↦ ap (λ bs. plain p ∷ bs) (places_by_exception bounds ps)
-    | false ↦ places_by_exception bounds ps
+      | true ↦ ap (λ bs. plain p ∷ bs) (places_by_exception bounds ps)
+      | false ↦ places_by_exception bounds ps
     ]
 
 -- What is found for an exception.
@@ -161,8 +161,8 @@ pub lists_inserted : {C B : Type 0} (change_of : C → Option Change) (break_of 
 lists_inserted change_of break_of contents word listed = record {
   minima = refl;
   listed = λ other.
-    ap (option_map (map break_of)) (get-insert nat_list_cmp_total contents.exceptions word listed other ∙ ap (λ b. cond b (Some listed) (finite.get contents.exceptions other)) (same_test other word))
-    ∙ chosen_map break_of (pointwise nat_eq word other) (Some listed) (finite.get contents.exceptions other);
+      ap (option_map (map break_of)) (get-insert nat_list_cmp_total contents.exceptions word listed other ∙ ap (λ b. cond b (Some listed) (finite.get contents.exceptions other)) (same_test other word))
+      ∙ chosen_map break_of (pointwise nat_eq word other) (Some listed) (finite.get contents.exceptions other);
   allowed = λ other. refl;
 }
 
@@ -171,8 +171,8 @@ pub lists_removed : {C B : Type 0} (change_of : C → Option Change) (break_of :
 lists_removed change_of break_of contents word = record {
   minima = refl;
   listed = λ other.
-    ap (option_map (map break_of)) (get-remove nat_list_cmp_total contents.exceptions word other ∙ ap (λ b. cond b None (finite.get contents.exceptions other)) (same_test other word))
-    ∙ chosen_map break_of (pointwise nat_eq word other) None (finite.get contents.exceptions other);
+      ap (option_map (map break_of)) (get-remove nat_list_cmp_total contents.exceptions word other ∙ ap (λ b. cond b None (finite.get contents.exceptions other)) (same_test other word))
+      ∙ chosen_map break_of (pointwise nat_eq word other) None (finite.get contents.exceptions other);
   allowed = λ other. refl;
 }
 

@@ -41,9 +41,10 @@ allowed_by change_of keys word = map (break_at change_of keys word) (filter (λ 
 -- The rules of a dictionary, where it is told which change an entry carries, and what break is listed.
 abbrev pub rules_of : {C B : Type 0} → (C → Option Change) → (B → Break) → Contents C B → Rules
 rules_of change_of break_of contents = record {
-    minima = (contents.left, contents.right);
-    listed = λ word. option_map (map break_of) (finite.get contents.exceptions word);
-    allowed = allowed_by change_of (keys_of contents) }
+  minima = (contents.left, contents.right);
+  listed = λ word. option_map (map break_of) (finite.get contents.exceptions word);
+  allowed = allowed_by change_of (keys_of contents);
+}
 
 -- ---- what they give
 

@@ -14,20 +14,18 @@ ghost use Rattle.hyphenation.specs.Fits.{Fits};
 ghost use Rattle.hyphenation.specs.Opportunities.{Rules, by_patterns, by_exception, boundaries_by, exception_of, opportunities, Ascending, Lists};
 
 pub mod boundaries;
-pub mod laws;
-pub mod standard;
-pub mod words;
-
 #[cfg(test)]
 mod filler;
+pub mod laws;
+pub mod standard;
 #[cfg(test)]
 mod tests;
+pub mod words;
 
 pub use boundaries::boundaries_of;
 pub use hyphenation_commons::breaks::Break;
-pub use words::Word;
-
 use std::alloc::{AllocError, Global};
+pub use words::Word;
 
 /// A dictionary that finds the breaks of single words.
 ///

@@ -4,5 +4,5 @@
 pub mod case_folding;
 pub mod hyphenator;
 pub mod iter;
-pub mod soft_hyphens;
 pub mod score;
+pub mod soft_hyphens;

@@ -10,6 +10,6 @@ loop-index-preserved c =
     let items = c.loop-index.places.items in
     let i = c.loop-index.index in
     elim c.if-is_opportunity.branch [
-    | then-is_opportunity+in_ok-push w ↦ rw w.places-is (w.in_ok-push.ensures.items ∙ odd_more values items c.args.bounds i (get_or values i 0) true refl c.loop-index.invariant (sym w.if-is_opportunity.true ∙ c.is_opportunity.ensures))
-    | else-is_opportunity w ↦ rw w.places-is (sym (append-nil items) ∙ odd_more values items c.args.bounds i (get_or values i 0) false refl c.loop-index.invariant (sym w.if-is_opportunity.false ∙ c.is_opportunity.ensures))
+      | then-is_opportunity+in_ok-push w ↦ rw w.places-is (w.in_ok-push.ensures.items ∙ odd_more values items c.args.bounds i (get_or values i 0) true refl c.loop-index.invariant (sym w.if-is_opportunity.true ∙ c.is_opportunity.ensures))
+      | else-is_opportunity w ↦ rw w.places-is (sym (append-nil items) ∙ odd_more values items c.args.bounds i (get_or values i 0) false refl c.loop-index.invariant (sym w.if-is_opportunity.false ∙ c.is_opportunity.ensures))
     ]
