@@ -1,22 +1,27 @@
 //! The values of a word's places, and the entries that give them.
 //!
-//! The keys of a dictionary that stand in a word compete at its places. Here is `firkin`, between
-//! two dots, with the patterns that stand in it; below it is the greatest value at each place:
+//! The keys of a dictionary that stand in a word compete at its places. Here is the word `firkin`
+//! with a dot at each end, its frame. Below are the patterns that stand in the frame, and then the
+//! word with the greatest value at each of its places:
 //!
 //! ```text
-//!      . f i r k i n .
-//!      . f i2
-//!          i2r
-//!            r2k
-//!            r5k i n
-//!              k1i n
-//!              k i n2.          (the pattern is k2in., see below)
-//!       -------------
-//!        f0i2r5k2i0n
+//!     . f i r k i n .
+//!     . f i2
+//!         i2r
+//!           r2k
+//!           r5k i n
+//!             k1i n
+//!             k2i n .
+//!       f0i2r5k2i0n
 //! ```
 //!
-//! Of the entries that give a place its value the winner is the one whose key starts first, and of
-//! those that start there the one whose key is shortest. An odd value allows a break.
+//! An odd value allows a break, so `firkin` breaks before its `k`. Of the entries that give a place
+//! its value the winner is the one whose key starts first, and of those that start there the one
+//! whose key is shortest.
+//!
+//! A place is the number of the word's bytes before it: 1 up to the word's length less 1.
+//! [`Score`] gives the values, and [`winners`] the entries that won. Its search is a walk down the
+//! trie of the keys from each byte of the frame.
 
 ghost use Rattle.std.specs.Prelude.{◌≡◌, ◌↔◌, ◌+◌, ◌-◌, ◌*◌, ◌%◌, ◌<◌, ◌≤◌, ◌^◌, ◌==◌, if◌then◌else◌, ℕ, List, Some, None, length, filter, map, slice_index, option_copied, IfOk, OnOk, IsSome, IsTrue};
 ghost use Rattle.hyphenation_commons.specs.Dictionary.{keys_of, longest_key};
@@ -169,6 +174,7 @@ pub fn winners<'d, C: Carried, B: Break>(
 ) -> Result<Vec<Option<&'d Entry<C>>>, AllocError>
     requires made { count.old.made ≤ 2 ^ 64 }
     requires reported { count.old.reported ≤ 2 ^ 64 }
+    ensures places { IfOk result (λ v. length v.items ≡ length word.now - 1) }
     ensures winners { IfOk result (λ v. map option_copied v.items ≡ winners (keys_of dictionary.now) word.now) }
     ensures most { count.new.made ≤ count.old.made + (length word.now + 2) * (longest_key dictionary.now + 1) }
     ensures least { OnOk result (count.old.made + (length word.now + 2) ≤ count.new.made) }

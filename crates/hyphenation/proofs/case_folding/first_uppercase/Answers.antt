@@ -1,4 +1,4 @@
-use Rattle.std.proofs.Common.{rules, tests, ◌≡◌, ℕ, arith}
+use Rattle.std.proofs.Common.{rules, tests}
 use Rattle.std.proofs.lemmas.List.Sorted.{answers_always}
 use Rattle.hyphenation.proofs.Uppercase.{found_by, is_first}
 use Rattle.hyphenation.proofs.case_folding.first_uppercase.Goals as goal
