@@ -1,20 +1,20 @@
 -- The folding, character by character, and the places that are carried back.
-use Rattle.std.proofs.Common.{◌≡◌, ◌≢◌, ℕ, ◌+◌, ◌-◌, ◌<◌, ◌≤◌, ◌==◌, ◌||◌, ◌&&◌, Bool, true, false, cond, List, [], ◌∷◌, ◌++◌, length, take, drop, map, chars, encode_utf8_all, refl, sym, ap, subst, ◌∙◌, arith, length-append, min}
-use Rattle.std.specs.Char.{encode_utf8, IsScalar}
-use Rattle.std.specs.List.{slice_index, slice_index_or, list_any}
+use Rattle.std.proofs.Common.{◌≡◌, ℕ, ◌<◌, ◌≤◌, ◌==◌, Bool, true, false, cond, List, [], ◌∷◌, length, take, map, chars, encode_utf8_all, refl, sym, ap, subst, ◌∙◌, arith, min}
+use Rattle.std.specs.Char.{IsScalar}
+use Rattle.std.specs.List.{slice_index_or, list_any}
 use Rattle.std.specs.Str.{IsUtf8, IsCharBoundary, all_scalars}
-use Rattle.std.proofs.lemmas.List.{take_min, take_all, length-take, length-take-le, take-map, length-map}
+use Rattle.std.proofs.lemmas.List.{length-take, take-map, length-map}
 use Rattle.std.proofs.lemmas.Str.{chars-encodes, scalars-chars, encodes-chars}
 use Rattle.ucd_table.specs.Rows.{in_ranges}
 use Rattle.ucd_table.proofs.Computing.{tables}
-use Rattle.ucd_table.proofs.RangedFacts.{values_ok, at_values, Stepped-at_values}
+use Rattle.ucd_table.proofs.RangedFacts.{values_ok, Stepped-at_values}
 use Rattle.ucd_case.proofs.CaseFoldingLemmas.{simple_folding_stepped}
 use Rattle.ucd_derived.specs.UppercaseRanges.{uppercase_ranges}
 use Rattle.unicode.specs.Binary.{is_uppercase}
 use Rattle.unicode.specs.CaseFolding.{simple_folding, simple_fold}
 use Rattle.hyphenation.specs.Places.{place_of_character}
 use Rattle.hyphenation.specs.Folding.{fold_character, fold, has_uppercase, carried}
-use Rattle.hyphenation.proofs.Places.{place_more, place_end, place_rises, place_reflects_order, place_of_boundary, boundary_within, characters_before, place_is_boundary, same_place}
+use Rattle.hyphenation.proofs.Places.{place_end, place_rises, place_reflects_order, place_of_boundary, boundary_within, characters_before, place_is_boundary, same_place}
 
 -- What the table folds to are characters.
 

@@ -1,10 +1,10 @@
 -- Places and characters of a text.
-use Rattle.std.proofs.Common.{◌≡◌, ℕ, ◌+◌, ◌-◌, ◌<◌, ◌≤◌, ◌&&◌, Bool, true, false, zero, suc, List, [], ◌∷◌, ◌++◌, length, take, drop, chars, encode_utf8_all, refl, sym, ap, subst, ◌∙◌, arith, length-append, add-one, min, nat_lt, ltb-true, ltb-false}
-use Rattle.std.specs.Char.{encode_utf8, IsScalar, len_utf8}
+use Rattle.std.proofs.Common.{◌≡◌, ℕ, ◌+◌, ◌-◌, ◌<◌, ◌≤◌, ◌&&◌, Bool, true, false, zero, suc, List, [], ◌∷◌, ◌++◌, length, take, drop, chars, encode_utf8_all, refl, sym, ap, subst, ◌∙◌, arith, length-append, min, nat_lt, ltb-true, ltb-false}
+use Rattle.std.specs.Char.{encode_utf8}
 use Rattle.std.specs.List.{slice_index}
 use Rattle.std.specs.Str.{IsUtf8, IsCharBoundary, all_scalars}
 use Rattle.std.proofs.lemmas.List.{take_more, take_all, take_at, take_min, length-take-le, take-append-drop}
-use Rattle.std.proofs.lemmas.Str.{encodes-append, encodes-chars, chars-encodes, chars-append, scalars-chars, IsUtf8-take, IsUtf8-drop, IsCharBoundary-at_seam, length-encode, len_utf8_bounds}
+use Rattle.std.proofs.lemmas.Str.{encodes-append, encodes-chars, chars-encodes, chars-append, scalars-chars, IsUtf8-take, IsCharBoundary-at_seam, length-encode, len_utf8_bounds}
 use Rattle.hyphenation.specs.Places.{place_of_character}
 
 both_true : (a b : Bool) → (a && b) ≡ true → (a ≡ true) × (b ≡ true)

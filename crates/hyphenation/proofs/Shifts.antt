@@ -1,5 +1,5 @@
 -- The shifts of a folding, and what the last one below a place tells.
-use Rattle.std.proofs.Common.{◌≡◌, ℕ, ◌+◌, ◌-◌, ◌<◌, ◌≤◌, ◌^◌, ◌==◌, Bool, true, false, cond, not, zero, suc, List, [], ◌∷◌, ◌++◌, length, map, filter, reverse, min, chars, Option, None, Some, nat_lt, ltb-true, ltb-false, lt-ltb, le-ltb, ℤ, pos, ◌-ℤ◌, refl, sym, ap, subst, ◌∙◌, arith, add-one, add-zero}
+use Rattle.std.proofs.Common.{◌≡◌, ℕ, ◌+◌, ◌-◌, ◌<◌, ◌≤◌, ◌^◌, ◌==◌, true, false, cond, not, zero, suc, List, [], ◌∷◌, ◌++◌, length, map, filter, reverse, min, chars, Some, nat_lt, lt-ltb, le-ltb, ℤ, pos, ◌-ℤ◌, refl, sym, ap, subst, ◌∙◌, arith, add-one, add-zero}
 use Rattle.std.proofs.lemmas.Bool.{cond-true, cond-false}
 use Rattle.std.specs.Char.{encode_utf8}
 use Rattle.std.specs.Int.{saturate_unsigned, w64}
@@ -11,8 +11,8 @@ use Rattle.std.proofs.lemmas.List.{get_or-map, append-nil, reverse-append}
 use Rattle.hyphenation.specs.declared.case_folding.Shift.{Shift}
 use Rattle.hyphenation.specs.Places.{place_of_character}
 use Rattle.hyphenation.specs.Folding.{fold_character, fold, changes_length, shift_of, shifts_of, delta_below}
-use Rattle.hyphenation.proofs.Places.{place_more, place_end, place_rises, place_keeps_order, place_within, same_place}
-use Rattle.hyphenation.proofs.Folds.{chars_of_fold, as_many_characters, fold_is_utf8}
+use Rattle.hyphenation.proofs.Places.{place_more, place_rises, place_keeps_order, place_within, same_place}
+use Rattle.hyphenation.proofs.Folds.{chars_of_fold, as_many_characters}
 use Rattle.hyphenation.proofs.Numbered.{picked_more}
 
 -- One more shift counts where its index is below the place.

@@ -1,10 +1,9 @@
 -- The soft hyphens of a word, and what holds while they are looked for.
-use Rattle.std.proofs.Common.{◌≡◌, ◌≢◌, ℕ, ◌+◌, ◌-◌, ◌<◌, ◌≤◌, ◌==◌, Bool, true, false, cond, not, AllPairs, zero, suc, List, [], ◌∷◌, ◌++◌, length, take, drop, map, filter, chars, encode_utf8_all, All, refl, sym, ap, subst, ◌∙◌, arith, length-append, append_assoc, add-one, add-zero}
+use Rattle.std.proofs.Common.{◌≡◌, ◌≢◌, ℕ, ◌+◌, ◌-◌, ◌<◌, ◌≤◌, ◌==◌, true, false, cond, AllPairs, zero, suc, List, [], ◌∷◌, ◌++◌, length, map, filter, chars, encode_utf8_all, All, refl, sym, ap, subst, ◌∙◌, arith, length-append, append_assoc, add-one, add-zero}
 use Rattle.std.specs.Char.{encode_utf8}
 use Rattle.std.specs.List.{slice_index, range_with_len}
 use Rattle.std.specs.List.Sorted.{IsStrictlyIncreasing}
 use Rattle.std.specs.Str.{IsUtf8, IsCharBoundary}
-use Rattle.std.proofs.lemmas.Bool.{cond-true, cond-false}
 use Rattle.std.proofs.lemmas.List.{append-nil}
 use Rattle.std.proofs.lemmas.List.Elements.{All-nil, All-push}
 use Rattle.std.proofs.lemmas.List.Quantifiers.{all_pairs_push}

@@ -1,6 +1,5 @@
 -- Texts with and without a character that is Uppercase.
-use Rattle.std.proofs.Common.{◌≡◌, ◌↔◌, Option, None, Some, MatchOption, IsNone, IfSome, ℕ, ◌+◌, ◌<◌, ◌≤◌, ◌==◌, ◌||◌, Bool, true, false, List, [], ◌∷◌, ◌++◌, length, take, drop, chars, encode_utf8_all, refl, sym, ap, subst, ◌∙◌, arith}
-use Rattle.std.specs.Char.{encode_utf8}
+use Rattle.std.proofs.Common.{◌≡◌, ◌↔◌, Option, None, Some, MatchOption, IsNone, IfSome, ℕ, ◌≤◌, Bool, true, false, List, [], ◌∷◌, ◌++◌, take, drop, chars, refl, sym, ap, ◌∙◌, arith}
 use Rattle.std.specs.List.{list_any}
 use Rattle.std.specs.Str.{IsUtf8, IsCharBoundary, NoCharPasses, NonePass}
 use Rattle.std.specs.Str.Pattern.{HasPassingCharAt, FindsBy}

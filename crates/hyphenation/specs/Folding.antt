@@ -17,6 +17,7 @@ fold_character c = if c == 0x130 then 0x69 else (if is_uppercase c then simple_f
 abbrev pub fold : List ℕ → List ℕ
 fold text = encode_utf8_all (map fold_character (chars text))
 
+-- Some character is Uppercase.
 abbrev pub has_uppercase : List ℕ → Bool
 has_uppercase text = list_any is_uppercase (chars text)
 

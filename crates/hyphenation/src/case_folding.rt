@@ -80,6 +80,7 @@ fn first_uppercase(text: &str) -> Option<usize>
     text.find(|c: char| is_uppercase(c))
 }
 
+// What a character becomes.
 fn fold_char(c: char) -> char
     ensures { result ≡ fold_character c }
 {
@@ -115,6 +116,7 @@ pub fn realign(i: usize, shifts: &[Shift]) -> usize
     i.saturating_sub_signed(delta)
 }
 
+// The last shift whose index is below `i`.
 fn last_shift_below(i: usize, shifts: &[Shift]) -> Option<&Shift>
     ensures { option_copied result ≡ find (λ shift. nat_lt shift.index i) (reverse shifts.now) }
 {
@@ -201,10 +203,10 @@ mod tests {
         assert_eq!(rt; realign(1, &[]), 1);
     }
 
-    // Of the characters of Unicode 14.0, 1402 have Uppercase and another lowercase by themselves
-    // (counting the İ, as `i`), 25 of them of another number of bytes; 86 of those are Cherokee
-    // capitals, which are their own simple case folding. Since then, up to 18.0, 75 capitals were
-    // added, of which 4 change their number of bytes.
+    // Python's tables, of Unicode 14.0, lower 1402 capitals to another character (the İ counted
+    // as `i`), of which 25 change their number of bytes. Among the 1402 are 86 Cherokee capitals,
+    // which are their own simple case folding. From 14.0 to 18.0 came 75 capitals more, of which
+    // 4 change their number of bytes.
     #[test]
     fn all_characters_fold(rt: HostRuntime) -> Result<(), Fail> {
         let alloc = rt.alloc();

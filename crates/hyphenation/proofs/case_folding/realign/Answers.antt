@@ -1,4 +1,4 @@
-use Rattle.std.proofs.Common.{rules, ◌≡◌, ℕ, pos, ◌-ℤ◌, arith}
+use Rattle.std.proofs.Common.{rules, ◌≡◌, pos, ◌-ℤ◌, arith}
 use Rattle.std.specs.Int.{saturate_unsigned, w64}
 use Rattle.hyphenation.specs.Folding.{fold, delta_below}
 use Rattle.hyphenation.proofs.Folds.{fold_is_utf8}

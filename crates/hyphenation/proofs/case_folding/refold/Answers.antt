@@ -1,4 +1,4 @@
-use Rattle.std.proofs.Common.{rules, arith, ◌≡◌, false, sym, ◌∙◌}
+use Rattle.std.proofs.Common.{rules, ◌≡◌, false, sym, ◌∙◌}
 use Rattle.hyphenation.specs.Folding.{has_uppercase}
 use Rattle.hyphenation.proofs.Folds.{fold_stays}
 use Rattle.hyphenation.proofs.Refolding.{begins, stays_without_shifts, same_length, new_length, folded_whole}

@@ -1,6 +1,6 @@
-use Rattle.std.proofs.Common.{rules, arith, refl, length, ◌<◌, ◌≡◌, false, sym, ◌∙◌}
+use Rattle.std.proofs.Common.{rules, arith, refl, length, ◌<◌, ◌≡◌}
 use Rattle.std.specs.Str.Iter.{char_indices_rest, char_indices_offset}
-use Rattle.hyphenation.proofs.SoftHyphens.{starts, passed, found, one_met, none_found, some_left, searched_whole, ascending, within}
+use Rattle.hyphenation.proofs.SoftHyphens.{passed, found, one_met, none_found, some_left, searched_whole, ascending, within}
 use Rattle.hyphenation.proofs.soft_hyphens.soft_hyphen_indices.Goals as goal
 
 pub loop-place-preserved-in-Continue-1 : goal.loop-place-preserved-in-Continue-1
