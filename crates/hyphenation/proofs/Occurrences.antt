@@ -1,14 +1,13 @@
 -- A value above 0 stands between characters of the word.
-use Rattle.std.proofs.Common.{◌≡◌, ℕ, zero, suc, ◌+◌, ◌-◌, ◌<◌, ◌≤◌, ◌==◌, ◌&&◌, ◌||◌, nat_le, nat_lt, ltb-true, leb-true, Bool, true, false, cond, List, [], ◌∷◌, ◌++◌, length, take, drop, get_or, Option, Some, None, refl, sym, ap, subst, ◌∙◌, arith, add-one, ◌⊎◌, inl, inr, ⊎_elim}
-use Rattle.std.specs.List.{slice_index, slice_range, IsAmong}
+use Rattle.std.proofs.Common.{◌≡◌, ℕ, zero, suc, ◌+◌, ◌-◌, ◌<◌, ◌≤◌, ◌&&◌, nat_le, nat_lt, true, List, [], ◌∷◌, ◌++◌, length, take, drop, get_or, Option, refl, sym, ap, subst, ◌∙◌, arith, add-one, inl, inr}
+use Rattle.std.specs.List.{slice_index, slice_range}
 use Rattle.std.specs.Str.{IsUtf8, IsCharBoundary}
-use Rattle.std.specs.FinMap as finite
 use Rattle.std.proofs.lemmas.Bool.{and_parts}
 use Rattle.std.proofs.lemmas.List.{get_or-take, get_or-drop, take-take, length-take, length-drop, length-append, get_or_append_left}
 use Rattle.std.proofs.lemmas.Str.{IsUtf8-append, IsUtf8-take, IsUtf8-drop, IsCharBoundary-start, IsCharBoundary-from_take, IsCharBoundary-from_rest, encode_ascii, IsUtf8-encode}
 use Rattle.hyphenation_commons.specs.Break.{Break, Change, is_boundary}
-use Rattle.hyphenation_commons.specs.Dictionary.{Contents, Patterns, keys_of}
-use Rattle.hyphenation_commons.specs.Kept.{IsKept, IsPattern, are_entries, stays_within}
+use Rattle.hyphenation_commons.specs.Dictionary.{Contents, keys_of}
+use Rattle.hyphenation_commons.specs.Kept.{IsKept, are_entries, stays_within}
 use Rattle.hyphenation_commons.specs.declared.dictionary.Entry.{Entry}
 use Rattle.hyphenation.specs.Scoring.{frame, value_at, Bears}
 use Rattle.hyphenation.proofs.Ascending.{boundary_from_test}

@@ -1,21 +1,20 @@
 -- What the rules of a dictionary give ascends on character boundaries.
-use Rattle.std.proofs.Common.{◌≡◌, ℕ, zero, suc, ◌+◌, ◌-◌, ◌<◌, ◌≤◌, ◌%◌, ◌==◌, ◌&&◌, nat_le, leb-true, Bool, true, false, cond, List, [], ◌∷◌, length, map, filter, get_or, Option, Some, None, refl, sym, ap, subst, ◌∙◌, arith, add-one}
+use Rattle.std.proofs.Common.{◌≡◌, ℕ, zero, suc, ◌+◌, ◌-◌, ◌<◌, ◌≤◌, ◌&&◌, nat_le, leb-true, Bool, true, false, cond, List, [], ◌∷◌, length, map, filter, Option, Some, None, refl, sym, ap, subst, ◌∙◌, arith, add-one}
 use Rattle.std.specs.Prelude.{All}
 use Rattle.std.specs.List.{range_with_len, slice_index}
 use Rattle.std.specs.List.Sorted.{IsStrictlyIncreasing}
 use Rattle.std.specs.Option.{IfSome, option_map, option_and_then, option_map_or, unwrap_or}
 use Rattle.std.specs.Str.{IsUtf8, IsCharBoundary}
 use Rattle.std.specs.FinMap as finite
-use Rattle.std.proofs.lemmas.Bool.{and_parts, eqb-true}
+use Rattle.std.proofs.lemmas.Bool.{and_parts}
 use Rattle.std.proofs.lemmas.List.Elements.{All-head, All-tail}
-use Rattle.hyphenation_commons.specs.Break.{Break, Change, plain, is_boundary, end_of}
-use Rattle.hyphenation_commons.specs.Dictionary.{Contents, Patterns, keys_of}
+use Rattle.hyphenation_commons.specs.Break.{Break, Change, plain, is_boundary}
+use Rattle.hyphenation_commons.specs.Dictionary.{Contents, keys_of}
 use Rattle.hyphenation_commons.specs.Kept.{IsKept, are_listed, stays_within}
-use Rattle.hyphenation_commons.specs.declared.dictionary.Entry.{Entry}
 use Rattle.hyphenation.specs.Fits.{Ascend, Fits}
 use Rattle.hyphenation.specs.Folding.{fold, carried}
-use Rattle.hyphenation.specs.Scoring.{places, value_at}
-use Rattle.hyphenation.specs.Opportunities.{Rules, rules_of, is_odd, within, breaks_within, break_at, allowed_by, by_patterns, by_exception, opportunities_in, opportunities, boundaries_by, exception_of, carried_break, Ascending}
+use Rattle.hyphenation.specs.Scoring.{value_at}
+use Rattle.hyphenation.specs.Opportunities.{Rules, rules_of, is_odd, within, breaks_within, break_at, by_patterns, by_exception, opportunities_in, opportunities, boundaries_by, exception_of, carried_break, Ascending}
 use Rattle.hyphenation.proofs.Folds.{carried_is_boundary, carried_rises}
 use Rattle.hyphenation.proofs.Ascending.{boundary_from_test, ascend_fits}
 use Rattle.hyphenation.proofs.Occurrences.{value_boundary}

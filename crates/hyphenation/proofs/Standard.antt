@@ -1,5 +1,5 @@
 -- What a standard dictionary computes as places, in terms of breaks.
-use Rattle.std.proofs.Common.{◌≡◌, ◌≢◌, ℕ, zero, suc, ◌+◌, ◌-◌, ◌<◌, ◌≤◌, ◌^◌, ◌==◌, nat_eq, Result, Ok, Err, drop, ◌&&◌, Bool, true, false, cond, List, [], ◌∷◌, ◌++◌, length, map, filter, take, chars, get_or, Option, Some, None, ℤ, pos, ◌-ℤ◌, refl, sym, ap, subst, ◌∙◌, arith, add-one}
+use Rattle.std.proofs.Common.{◌≡◌, ◌≢◌, ℕ, zero, suc, ◌+◌, ◌-◌, ◌<◌, ◌≤◌, ◌^◌, ◌==◌, nat_eq, Result, Ok, Err, drop, ◌&&◌, Bool, true, false, cond, List, [], ◌∷◌, ◌++◌, length, map, filter, take, chars, Option, Some, None, pos, ◌-ℤ◌, refl, sym, ap, subst, ◌∙◌, arith}
 use Rattle.std.specs.List.{range_with_len, slice_index}
 use Rattle.std.specs.Int.{saturate_unsigned, w64}
 use Rattle.std.specs.Option.{IfSome, IsSome, option_map, option_and_then}
@@ -9,7 +9,7 @@ use Rattle.std.specs.FinMap.{get-insert, get-remove}
 use Rattle.std.specs.Cmp.Lexicographic.{pointwise, nat_list_cmp_total}
 use Rattle.std.proofs.lemmas.Bool.{cond-true}
 use Rattle.std.specs.Str.{IsUtf8, IsCharBoundary}
-use Rattle.std.proofs.lemmas.List.{map-id, length-map, take_at}
+use Rattle.std.proofs.lemmas.List.{map-id, take_at}
 use Rattle.std.proofs.lemmas.List.FromFn.{filter_of_map_range_with_len_more, get_or-map-range_with_len, length-map-range_with_len}
 use Rattle.hyphenation_commons.specs.Break.{Break, Change, plain}
 use Rattle.hyphenation_commons.specs.Dictionary.{Contents, Patterns, keys_of}
@@ -17,8 +17,8 @@ use Rattle.hyphenation_commons.specs.declared.dictionary.Entry.{Entry}
 use Rattle.hyphenation.specs.declared.case_folding.Shift.{Shift}
 use Rattle.hyphenation.specs.Places.{place_of_character}
 use Rattle.hyphenation.specs.Folding.{fold, carried, shifts_of, delta_below}
-use Rattle.hyphenation.specs.Scoring.{places, value_at, winner_at, values}
-use Rattle.hyphenation.specs.Opportunities.{is_odd, within, breaks_within, no_change, Rules, rules_of, break_at, allowed_by, by_patterns, by_exception, opportunities, carried_break, breaks_of, Ascending, Lists}
+use Rattle.hyphenation.specs.Scoring.{value_at, winner_at, values}
+use Rattle.hyphenation.specs.Opportunities.{is_odd, within, breaks_within, no_change, Rules, rules_of, break_at, by_patterns, by_exception, opportunities, carried_break, breaks_of, Ascending, Lists}
 use Rattle.hyphenation_commons.specs.Kept.{IsKept}
 use Rattle.hyphenation_commons.proofs.PatternsLemmas.{same_test}
 use Rattle.hyphenation.specs.Fits.{Fits}

@@ -1,13 +1,12 @@
 -- Where words may be broken.
 -- Sources: F. M. Liang, Word Hy-phen-a-tion by Com-put-er (1983), for odd values and for exceptions, which are asked first;
 -- the documentation of the Rust crate `hyphenation`, for bounds, soft hyphens and words with capitals.
-use Rattle.std.specs.Prelude.{◌≡◌, ℕ, ◌%◌, ◌==◌, ◌&&◌, nat_le, nat_eq, Bool, if◌then◌else◌, List, [], length, map, filter, Option, Some, None}
+use Rattle.std.specs.Prelude.{◌≡◌, ℕ, ◌%◌, ◌==◌, ◌&&◌, nat_le, nat_eq, Bool, if◌then◌else◌, List, [], length, map, filter, Option, None}
 use Rattle.std.specs.Option.{option_map, option_and_then, option_map_or, unwrap_or}
 use Rattle.std.specs.Cmp.Lexicographic.{pointwise}
 use Rattle.std.specs.FinMap as finite
 use Rattle.hyphenation_commons.specs.Break.{Break, Change, plain}
 use Rattle.hyphenation_commons.specs.Dictionary.{Contents, Patterns, keys_of}
-use Rattle.hyphenation_commons.specs.declared.dictionary.Entry.{Entry}
 use Rattle.hyphenation.specs.Boundaries.{boundaries}
 use Rattle.hyphenation.specs.Fits.{Ascend}
 use Rattle.hyphenation.specs.Folding.{fold, carried}

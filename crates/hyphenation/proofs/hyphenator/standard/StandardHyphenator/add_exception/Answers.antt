@@ -1,8 +1,6 @@
-use Rattle.std.proofs.Common.{Ok, Err, Option, Some, map, sym, subst}
-use Rattle.std.specs.Result.{OnOk}
 use Rattle.std.specs.String.{string_bytes}
 use Rattle.hyphenation_commons.specs.Break.{plain}
-use Rattle.hyphenation.specs.Opportunities.{no_change, rules_of, Lists}
+use Rattle.hyphenation.specs.Opportunities.{no_change}
 use Rattle.hyphenation.proofs.Standard.{lists_inserted, on_ok_then}
 use Rattle.hyphenation.proofs.hyphenator.standard.StandardHyphenator.add_exception.Goals as goal
 

@@ -1,4 +1,4 @@
-use Rattle.std.proofs.Common.{◌≡◌, ◌∙◌, sym, subst, map}
+use Rattle.std.proofs.Common.{◌∙◌, sym, subst}
 use Rattle.hyphenation_commons.specs.Break.{plain}
 use Rattle.hyphenation.specs.Opportunities.{no_change, rules_of, Ascending}
 use Rattle.hyphenation.proofs.Rules.{by_patterns_ascend}
