@@ -12,7 +12,10 @@ pub mod Greatest
 pub mod First
 pub mod Walked
 pub mod Longest
-pub mod WordPlaces
 pub mod Winning
 pub mod SoftHyphens
 pub mod Spaced
+pub mod ValuesInOrder
+pub mod Occurrences
+pub mod Rules
+pub mod Standard

@@ -10,3 +10,4 @@ pub mod Scoring
 pub mod Examples
 pub mod Load
 pub mod Engine
+pub mod Opportunities

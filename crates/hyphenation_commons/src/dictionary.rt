@@ -109,8 +109,11 @@ impl<C: Carried, B: Break> Dictionary<C, B> {
     }
 
     /// The least numbers of characters of a word before its first break and behind its last one.
+    ///
+    /// Its contract also says what is true of each dictionary.
     pub fn minima(&self) -> (usize, usize)
-        ensures { result ≡ (self.now.left, self.now.right) }
+        ensures value { result ≡ (self.now.left, self.now.right) }
+        ensures kept { IsKept C.change B.meaning self.now }
     {
         (usize::from(self.left), usize::from(self.right))
     }
@@ -126,7 +129,7 @@ impl<C: Carried, B: Break> Dictionary<C, B> {
     }
 
     /// The breaks listed for a word, if it is an exception.
-    pub fn exception(&self, word: &str) -> Option<&[B]>
+    pub fn listed(&self, word: &str) -> Option<&[B]>
         ensures { option_copied result ≡ finite.get self.now.exceptions word.now }
     {
         self.exceptions.get(word).map(Vec::as_slice)

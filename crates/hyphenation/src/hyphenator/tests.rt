@@ -1,39 +1,5 @@
-ghost use Rattle.std.specs.Prelude.{◌≡◌, ◌≤◌, IfSome};
-ghost use Rattle.std.specs.Str.{IsCharBoundary};
-ghost use Rattle.hyphenation.specs.Boundaries.{boundaries};
-
 use super::*;
 use std::test::Fail;
-
-// The minima of a dictionary without patterns.
-struct Bare {
-    left: u8,
-    right: u8,
-}
-
-impl<'h> Hyphenator<'h> for Bare {
-    type Opportunity = usize;
-
-    type Exact = usize;
-
-    ghost minima = { λ bare. (bare.left, bare.right) };
-
-    fn unbreakable_chars(&self) -> (usize, usize) {
-        (self.left as usize, self.right as usize)
-    }
-
-    fn boundaries(&self, word: &str) -> Option<(usize, usize)> {
-        boundaries_of(self.unbreakable_chars(), word)
-    }
-}
-
-// A caller through the bound: the part of a word within the bounds.
-fn within_bounds<'h, 't, H: Hyphenator<'h>>(dictionary: &H, word: &'t str) -> &'t str {
-    match dictionary.boundaries(word) {
-        Some((left, right)) => &word[left..right],
-        None => "",
-    }
-}
 
 #[test]
 fn boundaries_are_the_places_of_characters(rt: HostRuntime) -> Result<(), Fail> {
@@ -43,10 +9,6 @@ fn boundaries_are_the_places_of_characters(rt: HostRuntime) -> Result<(), Fail> 
     assert_eq!(rt; boundaries_of((0, 0), ""), None);
     assert_eq!(rt; boundaries_of((2, 2), "éééé"), Some((4, 4)));
     assert_eq!(rt; boundaries_of((2, 3), "éééé"), None);
-    let dictionary = Bare { left: 1, right: 2 };
-    assert_eq!(rt; dictionary.boundaries("firkin"), Some((1, 4)));
-    assert_eq!(rt; within_bounds(&dictionary, "firkin"), "irk");
-    let Bare { left: _, right: _ } = dictionary;
     Ok(())
 }
 

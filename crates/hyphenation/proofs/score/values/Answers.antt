@@ -3,7 +3,7 @@ use Rattle.std.specs.Prelude.{option_copied}
 use Rattle.std.proofs.lemmas.Simd.{map-map}
 use Rattle.hyphenation_commons.specs.Dictionary.{keys_of}
 use Rattle.hyphenation.specs.Scoring.{value_of, values}
-use Rattle.hyphenation.proofs.WordPlaces.{map-value_of, length-values, ok_same, ok_ap}
+use Rattle.hyphenation.proofs.ValuesInOrder.{map-value_of, length-values, ok_same, ok_ap}
 use Rattle.hyphenation.proofs.score.values.Goals as goal
 
 pub returns-clause-values : goal.returns-clause-values

@@ -5,7 +5,7 @@ use Rattle.hyphenation_commons.specs.Dictionary.{keys_of, longest_key}
 use Rattle.hyphenation_commons.specs.Trie.{key_at}
 use Rattle.hyphenation.specs.Scoring.{winners}
 use Rattle.hyphenation.proofs.Longest.{no_longer}
-use Rattle.hyphenation.proofs.WordPlaces.{winners_same, length-winners, ok_same, ok_then}
+use Rattle.hyphenation.proofs.ValuesInOrder.{winners_same, length-winners, ok_same, ok_then}
 use Rattle.hyphenation.proofs.score.winners.Goals as goal
 
 pub returns-clause-winners : goal.returns-clause-winners

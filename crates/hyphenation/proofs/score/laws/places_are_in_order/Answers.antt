@@ -1,4 +1,4 @@
-use Rattle.hyphenation.proofs.WordPlaces.{length-values, length-winners, value_in_order, winner_in_order}
+use Rattle.hyphenation.proofs.ValuesInOrder.{length-values, length-winners, value_in_order, winner_in_order}
 use Rattle.hyphenation.proofs.score.laws.places_are_in_order.Goals as goal
 
 pub returns-clause-values_length : goal.returns-clause-values_length

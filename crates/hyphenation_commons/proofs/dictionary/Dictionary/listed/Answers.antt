@@ -3,7 +3,7 @@ use Rattle.std.specs.Prelude.{MatchOption, option_copied}
 use Rattle.std.specs.Option.{option_map, IsSomeAnd}
 use Rattle.std.specs.Borrow.{Bor}
 use Rattle.hyphenation_commons.proofs.ExceptionsLemmas.{get-exceptions_of}
-use Rattle.hyphenation_commons.proofs.dictionary.Dictionary.exception.Goals as goal
+use Rattle.hyphenation_commons.proofs.dictionary.Dictionary.listed.Goals as goal
 
 as_slices : {B : Type 0} (P : Bor (Vec B Global) → Bor (List B) → Type 0) → ((v : Bor (Vec B Global)) (s : Bor (List B)) → P v s → s.now ≡ v.now.items)
     → (found : Option (Bor (Vec B Global))) (result : Option (Bor (List B))) → MatchOption found (result ≡ None) (λ v. IsSomeAnd result (P v)) → option_copied result ≡ option_map (λ v. v.items) (option_copied found)
