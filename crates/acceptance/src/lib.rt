@@ -7,3 +7,5 @@ mod faults;
 mod scores;
 #[cfg(test)]
 mod texts;
+#[cfg(test)]
+mod words;

@@ -183,17 +183,30 @@ fn another_language_is_a_mismatch(rt: HostRuntime) -> Result<(), Fail> {
     let text = b"hyphenation 1 standard\nlanguage hu\nminima 2 2\n";
     let asked = Language::from_code("en-us").ok_or("a code")?;
     let mut reader = &text[..];
-    match Standard::from_reader(rt.alloc(), asked, &mut reader) {
-        Err(error) => {
-            let shown = format!(in rt.alloc(); "{error}")?;
-            assert_eq!(rt;
-                shown.as_str(),
-                "Language mismatch: attempted to load a dictionary for `en-us`, but found\na dictionary for `hu` instead."
-            );
-        }
-        Ok(_) => assert!(rt; false, "a dictionary of another language"),
-    }
+    let message = message_of(rt.alloc(), &Standard::from_reader(rt.alloc(), asked, &mut reader))?;
+    assert_eq!(rt;
+        message.as_str(),
+        "Language mismatch: attempted to load a dictionary for `en-us`, but found\na dictionary for `hu` instead."
+    );
     Ok(())
+}
+
+#[test]
+fn a_refusal_says_its_line_and_cause(rt: HostRuntime) -> Result<(), Fail> {
+    let text = b"hyphenation 1 standard\nlanguage hu\nminima 2 2\np a12b";
+    let message = message_of(rt.alloc(), &accepted(rt.alloc(), text))?;
+    assert_eq!(rt; message.as_str(), "line 4: two values in one place");
+    let message = message_of(rt.alloc(), &Err(Error::Memory(AllocError)))?;
+    assert_eq!(rt; message.as_str(), "no memory");
+    Ok(())
+}
+
+/// What a refusal says; nothing of a dictionary.
+fn message_of(alloc: Global, answer: &Result<Standard, Error>) -> Result<String, AllocError> {
+    match answer {
+        Ok(_) => Ok(String::new(alloc)),
+        Err(error) => format!(in alloc; "{error}"),
+    }
 }
 
 /// The head and then these bytes.
