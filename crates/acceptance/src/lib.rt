@@ -2,6 +2,8 @@
 #![tactic(auto)]
 
 #[cfg(test)]
+mod exceptions;
+#[cfg(test)]
 mod faults;
 #[cfg(test)]
 mod scores;
