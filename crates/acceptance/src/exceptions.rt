@@ -7,7 +7,8 @@ use hyphenation_commons::dictionary::Standard;
 use std::alloc::{AllocError, Global};
 use std::test::Fail;
 
-const ANISOTROPIC: &str = "hyphenation 1 standard\nlanguage en-us\nminima 2 3\ne anisotropic 2 5 9\ne ab 1\ne Upper 3\n";
+const ANISOTROPIC: &str =
+    "hyphenation 1 standard\nlanguage en-us\nminima 2 3\ne anisotropic 2 5 9\ne ab 1\ne Upper 3\n";
 
 /// The breaks of a word.
 fn breaks(alloc: Global, dictionary: &Standard, word: &str) -> Result<Vec<usize>, AllocError> {
@@ -34,16 +35,28 @@ fn added_words_decide_until_they_are_removed(rt: HostRuntime) -> Result<(), Fail
     let alloc = rt.alloc();
     let mut firkin = dictionary(alloc, FIRKIN)?;
     assert!(rt; list(alloc, &mut firkin, 3)?.is_none());
-    assert_eq!(rt; breaks(alloc, &firkin, "firkins")?.as_slice(), [3].as_slice());
+    assert_eq!(rt;
+        breaks(alloc, &firkin, "firkins")?.as_slice(),
+        [3].as_slice()
+    );
     let within = firkin.opportunities_within(alloc, "firkins", (0, 7))?;
     assert_eq!(rt; within.as_slice(), [3, 4].as_slice());
     let old = list(alloc, &mut firkin, 4)?.ok_or("a list")?;
     assert_eq!(rt; old.as_slice(), [3].as_slice());
-    assert_eq!(rt; breaks(alloc, &firkin, "FIRKINS")?.as_slice(), [4].as_slice());
-    assert_eq!(rt; breaks(alloc, &firkin, "firkin")?.as_slice(), [3].as_slice());
+    assert_eq!(rt;
+        breaks(alloc, &firkin, "FIRKINS")?.as_slice(),
+        [4].as_slice()
+    );
+    assert_eq!(rt;
+        breaks(alloc, &firkin, "firkin")?.as_slice(),
+        [3].as_slice()
+    );
     let old = firkin.remove_exception("firkins").ok_or("a list")?;
     assert_eq!(rt; old.as_slice(), [4].as_slice());
-    assert_eq!(rt; breaks(alloc, &firkin, "firkins")?.as_slice(), [3, 4].as_slice());
+    assert_eq!(rt;
+        breaks(alloc, &firkin, "firkins")?.as_slice(),
+        [3, 4].as_slice()
+    );
     assert!(rt; firkin.remove_exception("firkins").is_none());
     Ok(())
 }
@@ -71,14 +84,20 @@ fn listed_places_are_found_within_bounds(rt: HostRuntime) -> Result<(), Fail> {
     let listed = dictionary(alloc, ANISOTROPIC)?;
     let found = listed.exception(alloc, "anisotropic")?.ok_or("a list")?;
     assert_eq!(rt; found.as_slice(), [2, 5].as_slice());
-    let found = listed.exception_within(alloc, "anisotropic", (0, 11))?.ok_or("a list")?;
+    let found = listed
+        .exception_within(alloc, "anisotropic", (0, 11))?
+        .ok_or("a list")?;
     assert_eq!(rt; found.as_slice(), [2, 5, 9].as_slice());
-    let found = listed.exception_within(alloc, "anisotropic", (9, 2))?.ok_or("a list")?;
+    let found = listed
+        .exception_within(alloc, "anisotropic", (9, 2))?
+        .ok_or("a list")?;
     assert_eq!(rt; found.len(), 0);
     assert!(rt; listed.exception(alloc, "other")?.is_none());
     assert!(rt; listed.exception_within(alloc, "other", (0, 5))?.is_none());
     assert!(rt; listed.exception(alloc, "ab")?.is_none());
-    let found = listed.exception_within(alloc, "ab", (0, 2))?.ok_or("a list")?;
+    let found = listed
+        .exception_within(alloc, "ab", (0, 2))?
+        .ok_or("a list")?;
     assert_eq!(rt; found.as_slice(), [1].as_slice());
     assert_eq!(rt; listed.opportunities(alloc, "ab")?.len(), 0);
     Ok(())
@@ -87,9 +106,15 @@ fn listed_places_are_found_within_bounds(rt: HostRuntime) -> Result<(), Fail> {
 #[test]
 fn a_word_with_a_capital_is_found_only_as_it_is_listed(rt: HostRuntime) -> Result<(), Fail> {
     let alloc = rt.alloc();
-    let listed = dictionary(alloc, "hyphenation 1 standard\nlanguage x\nminima 1 1\ne Upper 3\n")?;
+    let listed = dictionary(
+        alloc,
+        "hyphenation 1 standard\nlanguage x\nminima 1 1\ne Upper 3\n",
+    )?;
     assert_eq!(rt; breaks(alloc, &listed, "Upper")?.len(), 0);
-    assert_eq!(rt; listed.opportunities(alloc, "Upper")?.as_slice(), [3].as_slice());
+    assert_eq!(rt;
+        listed.opportunities(alloc, "Upper")?.as_slice(),
+        [3].as_slice()
+    );
     Ok(())
 }
 

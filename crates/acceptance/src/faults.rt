@@ -68,7 +68,12 @@ fn a_reader_that_never_fails_meets_no_fault(rt: HostRuntime) -> Result<(), Fail>
         left: &FIRKIN.as_bytes()[..40],
         fault: None,
     };
-    assert!(rt; matches!(Standard::any_from_reader(rt.alloc(), &mut refused), Err(Error::Deserialization { line: 3, .. })));
+    assert!(rt;
+        matches!(
+            Standard::any_from_reader(rt.alloc(), &mut refused),
+            Err(Error::Deserialization { line: 3, .. })
+        )
+    );
     Ok(())
 }
 
@@ -97,11 +102,26 @@ fn what_a_reading_gave_is_judged_or_passed_on(rt: HostRuntime) -> Result<(), Fai
     let bytes = Vec::from_slice(rt.alloc(), FIRKIN.as_bytes())?;
     assert!(rt; Standard::from_read(rt.alloc(), Ok(bytes)).is_ok());
     let refused = Vec::from_slice(rt.alloc(), b"binary \0")?;
-    assert!(rt; matches!(Standard::from_read(rt.alloc(), Ok(refused)), Err(Error::Deserialization { line: 1, .. })));
+    assert!(rt;
+        matches!(
+            Standard::from_read(rt.alloc(), Ok(refused)),
+            Err(Error::Deserialization { line: 1, .. })
+        )
+    );
     let fault = io::Error::from(ErrorKind::PermissionDenied);
-    assert!(rt; matches!(Standard::from_read(rt.alloc(), Err(fault)), Err(Error::IO(_))));
+    assert!(rt;
+        matches!(
+            Standard::from_read(rt.alloc(), Err(fault)),
+            Err(Error::IO(_))
+        )
+    );
     let memory = io::Error::from(ErrorKind::OutOfMemory);
-    assert!(rt; matches!(Standard::from_read(rt.alloc(), Err(memory)), Err(Error::Memory(_))));
+    assert!(rt;
+        matches!(
+            Standard::from_read(rt.alloc(), Err(memory)),
+            Err(Error::Memory(_))
+        )
+    );
     Ok(())
 }
 
@@ -111,13 +131,30 @@ fn a_writer_that_fails_is_a_fault_of_the_output(rt: HostRuntime) -> Result<(), F
     for room in [0, 1, 9] {
         let mut reader = FIRKIN.as_bytes();
         let mut writer = Narrow { room, taken: 0 };
-        let answer = run_score(rt.alloc(), Kind::Standard, language, "firkin", &mut reader, &mut writer);
+        let answer = run_score(
+            rt.alloc(),
+            Kind::Standard,
+            language,
+            "firkin",
+            &mut reader,
+            &mut writer,
+        );
         assert!(rt; matches!(answer, Err(RunError::Output(_))), "{room}");
         assert_eq!(rt; writer.taken, room);
     }
     let mut reader = FIRKIN.as_bytes();
     let mut writer = Narrow { room: 10, taken: 0 };
-    assert!(rt; run_score(rt.alloc(), Kind::Standard, language, "firkin", &mut reader, &mut writer).is_ok());
+    assert!(rt;
+        run_score(
+            rt.alloc(),
+            Kind::Standard,
+            language,
+            "firkin",
+            &mut reader,
+            &mut writer
+        )
+        .is_ok()
+    );
     assert_eq!(rt; writer.taken, 10);
     Ok(())
 }
@@ -127,8 +164,20 @@ fn a_run_that_is_refused_writes_nothing(rt: HostRuntime) -> Result<(), Fail> {
     let language = Language::from_code("en-us").ok_or("a code")?;
     let mut reader = FIRKIN.as_bytes();
     let mut writer = Narrow { room: 10, taken: 0 };
-    let answer = run_score(rt.alloc(), Kind::Standard, language, "firkin", &mut reader, &mut writer);
-    assert!(rt; matches!(answer, Err(RunError::Dictionary(Error::LanguageMismatch { .. }))));
+    let answer = run_score(
+        rt.alloc(),
+        Kind::Standard,
+        language,
+        "firkin",
+        &mut reader,
+        &mut writer,
+    );
+    assert!(rt;
+        matches!(
+            answer,
+            Err(RunError::Dictionary(Error::LanguageMismatch { .. }))
+        )
+    );
     assert_eq!(rt; writer.taken, 0);
     Ok(())
 }

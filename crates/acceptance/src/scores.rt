@@ -23,10 +23,26 @@ fn the_greatest_value_decides_each_place(rt: HostRuntime) -> Result<(), Fail> {
         (FIRKIN, "FIRKIN", &[0, 0, 0, 0, 0]),
         (FIRKIN, "", &[]),
         (FIRKIN, "f", &[]),
-        ("hyphenation 1 standard\nlanguage x\nminima 0 0\np .b1c", "a.bcd", &[0, 0, 1, 0]),
-        ("hyphenation 1 standard\nlanguage x\nminima 0 0\np x\\11y", "x1y", &[0, 1]),
-        ("hyphenation 1 standard\nlanguage x\nminima 0 0\np a1\np aa", "aaa", &[1, 1]),
-        ("hyphenation 1 standard\nlanguage x\nminima 2 3", "abc", &[0, 0]),
+        (
+            "hyphenation 1 standard\nlanguage x\nminima 0 0\np .b1c",
+            "a.bcd",
+            &[0, 0, 1, 0],
+        ),
+        (
+            "hyphenation 1 standard\nlanguage x\nminima 0 0\np x\\11y",
+            "x1y",
+            &[0, 1],
+        ),
+        (
+            "hyphenation 1 standard\nlanguage x\nminima 0 0\np a1\np aa",
+            "aaa",
+            &[1, 1],
+        ),
+        (
+            "hyphenation 1 standard\nlanguage x\nminima 2 3",
+            "abc",
+            &[0, 0],
+        ),
     ];
     for (text, word, values) in cases {
         let dictionary = dictionary(rt.alloc(), text)?;
@@ -44,7 +60,10 @@ fn a_score_takes_few_look_ups(rt: HostRuntime) -> Result<(), Fail> {
     assert_eq!(rt; values.len(), 5);
     assert!(rt; 8 <= count.made() && count.made() <= 40);
     assert_eq!(rt; count.reported(), 0);
-    let no_keys = dictionary(rt.alloc(), "hyphenation 1 standard\nlanguage x\nminima 2 3\n")?;
+    let no_keys = dictionary(
+        rt.alloc(),
+        "hyphenation 1 standard\nlanguage x\nminima 2 3\n",
+    )?;
     let mut count = LookUps::new();
     let values = no_keys.score_counted(rt.alloc(), "abc", &mut count)?;
     assert_eq!(rt; values.as_slice(), [0, 0].as_slice());
@@ -71,7 +90,14 @@ fn a_run_writes_the_values_of_the_word_as_it_is_handed_in(rt: HostRuntime) -> Re
     for (word, line) in cases {
         let mut reader = FIRKIN.as_bytes();
         let mut written: Vec<u8> = Vec::new(rt.alloc());
-        let answer = run_score(rt.alloc(), Kind::Standard, language, word, &mut reader, &mut written);
+        let answer = run_score(
+            rt.alloc(),
+            Kind::Standard,
+            language,
+            word,
+            &mut reader,
+            &mut written,
+        );
         assert!(rt; answer.is_ok(), "{word}");
         assert_eq!(rt; written.as_slice(), line.as_bytes(), "{word}");
     }

@@ -10,7 +10,8 @@ use std::test::Fail;
 const HEAD: &str = "hyphenation 1 standard\nlanguage en-us\nminima 2 3\n";
 
 /// The patterns that occur in `firkin`.
-pub const FIRKIN: &str = "hyphenation 1 standard\nlanguage en-gb\nminima 2 3\np .fi2\np i2r\np r2k\np r5kin\np k1in\np k2in.\n";
+pub const FIRKIN: &str =
+    "hyphenation 1 standard\nlanguage en-gb\nminima 2 3\np .fi2\np i2r\np r2k\np r5kin\np k1in\np k2in.\n";
 
 /// The dictionary of a text, which has to be accepted.
 fn accepted(alloc: Global, text: &[u8]) -> Result<Standard, Error> {
@@ -31,17 +32,53 @@ fn faulty_heads_are_refused_with_line_and_cause(rt: HostRuntime) {
     let cases: [(&str, usize, Cause); 13] = [
         ("", 1, Cause::Header),
         ("\n", 1, Cause::Header),
-        ("hyphenation 1 extended\nlanguage en-us\nminima 2 3\n", 1, Cause::Header),
-        ("hyphenation 3 standard\nlanguage en-us\nminima 2 3\n", 1, Cause::Header),
+        (
+            "hyphenation 1 extended\nlanguage en-us\nminima 2 3\n",
+            1,
+            Cause::Header,
+        ),
+        (
+            "hyphenation 3 standard\nlanguage en-us\nminima 2 3\n",
+            1,
+            Cause::Header,
+        ),
         ("hyphenation 1 standard", 2, Cause::Language),
-        ("hyphenation 1 standard\nlanguage EN\nminima 2 3\n", 2, Cause::Language),
-        ("hyphenation 1 standard\nlanguage \nminima 2 3\n", 2, Cause::Language),
+        (
+            "hyphenation 1 standard\nlanguage EN\nminima 2 3\n",
+            2,
+            Cause::Language,
+        ),
+        (
+            "hyphenation 1 standard\nlanguage \nminima 2 3\n",
+            2,
+            Cause::Language,
+        ),
         ("hyphenation 1 standard\nlanguage en-us", 3, Cause::Minima),
-        ("hyphenation 1 standard\nlanguage en-us\nminima 2 ", 3, Cause::Minima),
-        ("hyphenation 1 standard\nlanguage en-us\nminima 02 3", 3, Cause::Minima),
-        ("hyphenation 1 standard\nlanguage en-us\nminima 2 256", 3, Cause::Minima),
-        ("hyphenation 1 standard\nlanguage en-us\nminima 2  3", 3, Cause::Minima),
-        ("hyphenation 1 standard\nlanguage en-us\nminima 2 3 4", 3, Cause::Minima),
+        (
+            "hyphenation 1 standard\nlanguage en-us\nminima 2 ",
+            3,
+            Cause::Minima,
+        ),
+        (
+            "hyphenation 1 standard\nlanguage en-us\nminima 02 3",
+            3,
+            Cause::Minima,
+        ),
+        (
+            "hyphenation 1 standard\nlanguage en-us\nminima 2 256",
+            3,
+            Cause::Minima,
+        ),
+        (
+            "hyphenation 1 standard\nlanguage en-us\nminima 2  3",
+            3,
+            Cause::Minima,
+        ),
+        (
+            "hyphenation 1 standard\nlanguage en-us\nminima 2 3 4",
+            3,
+            Cause::Minima,
+        ),
     ];
     for (text, line, cause) in cases {
         let found = refusal(rt.alloc(), text.as_bytes());
@@ -103,7 +140,11 @@ fn changes_are_refused_in_a_standard_text(rt: HostRuntime) -> Result<(), Fail> {
     ];
     for line in cases {
         let text = with_line(rt.alloc(), line)?;
-        assert_eq!(rt; refusal(rt.alloc(), &text), Some((4, Cause::Change)), "{line:?}");
+        assert_eq!(rt;
+            refusal(rt.alloc(), &text),
+            Some((4, Cause::Change)),
+            "{line:?}"
+        );
     }
     Ok(())
 }
@@ -112,14 +153,22 @@ fn changes_are_refused_in_a_standard_text(rt: HostRuntime) -> Result<(), Fail> {
 fn repeated_items_are_refused_at_the_later_line(rt: HostRuntime) -> Result<(), Fail> {
     let cases: [(&[u8], usize, Cause); 5] = [
         (b"p a1b\np a3b", 5, Cause::RepeatedPattern),
-        (b"p ab\n# between\n\np a\\2b\np a3b", 8, Cause::RepeatedPattern),
+        (
+            b"p ab\n# between\n\np a\\2b\np a3b",
+            8,
+            Cause::RepeatedPattern,
+        ),
         (b"e ab\ne ab 1", 5, Cause::RepeatedException),
         (b"p a1b\ne ab 1\np ab1", 6, Cause::RepeatedPattern),
         (b"p a1b\nx\np a1b", 5, Cause::UnknownLine),
     ];
     for (lines, number, cause) in cases {
         let text = with_line(rt.alloc(), lines)?;
-        assert_eq!(rt; refusal(rt.alloc(), &text), Some((number, cause)), "{lines:?}");
+        assert_eq!(rt;
+            refusal(rt.alloc(), &text),
+            Some((number, cause)),
+            "{lines:?}"
+        );
     }
     Ok(())
 }
@@ -153,8 +202,14 @@ fn these_lines_are_accepted(rt: HostRuntime) -> Result<(), Fail> {
 
 #[test]
 fn a_last_line_feed_changes_nothing(rt: HostRuntime) -> Result<(), Fail> {
-    let with = accepted(rt.alloc(), b"hyphenation 1 standard\nlanguage de-1996\nminima 0 255\np a1b\n")?;
-    let without = accepted(rt.alloc(), b"hyphenation 1 standard\nlanguage de-1996\nminima 0 255\np a1b")?;
+    let with = accepted(
+        rt.alloc(),
+        b"hyphenation 1 standard\nlanguage de-1996\nminima 0 255\np a1b\n",
+    )?;
+    let without = accepted(
+        rt.alloc(),
+        b"hyphenation 1 standard\nlanguage de-1996\nminima 0 255\np a1b",
+    )?;
     assert_eq!(rt; with.language().code(), "de-1996");
     assert_eq!(rt; without.language().code(), "de-1996");
     assert_eq!(rt; with.minima(), (0, 255));
@@ -183,7 +238,10 @@ fn another_language_is_a_mismatch(rt: HostRuntime) -> Result<(), Fail> {
     let text = b"hyphenation 1 standard\nlanguage hu\nminima 2 2\n";
     let asked = Language::from_code("en-us").ok_or("a code")?;
     let mut reader = &text[..];
-    let message = message_of(rt.alloc(), &Standard::from_reader(rt.alloc(), asked, &mut reader))?;
+    let message = message_of(
+        rt.alloc(),
+        &Standard::from_reader(rt.alloc(), asked, &mut reader),
+    )?;
     assert_eq!(rt;
         message.as_str(),
         "Language mismatch: attempted to load a dictionary for `en-us`, but found\na dictionary for `hu` instead."

@@ -8,9 +8,14 @@ use hyphenation_commons::dictionary::Standard;
 use std::alloc::{AllocError, Global};
 use std::test::Fail;
 
-const WORDS: &str = "hyphenation 1 standard\nlanguage en-us\nminima 2 3\ne anfractuous 2 6 8\ne hyphenation 2 6 7\ne anisotropic 2 5 9\ne capital 3 4\ne mucilaginous 2 8\ne micro 2\ne idiom 2\ne bevies\ne hypha 2\n";
-const NAMES: &str = "hyphenation 1 standard\nlanguage tr\nminima 2 2\ne ibrahim 2 4\ne ilginç 2\ne kilim 2\n";
+const WORDS: &str =
+    "hyphenation 1 standard\nlanguage en-us\nminima 2 3\ne anfractuous 2 6 8\ne hyphenation 2 6 7\ne anisotropic 2 5 9\ne capital 3 4\ne mucilaginous 2 8\ne micro 2\ne idiom 2\ne bevies\ne hypha 2\n";
+
+const NAMES: &str =
+    "hyphenation 1 standard\nlanguage tr\nminima 2 2\ne ibrahim 2 4\ne ilginç 2\ne kilim 2\n";
+
 const SHORT: &str = "hyphenation 1 standard\nlanguage x\nminima 1 1\ne ißab 3\ne ⱥab 4\np q1q\n";
+
 const PATTERNS: &str = "hyphenation 1 standard\nlanguage x\nminima 1 1\np i1l\np ß1a\np ⱥa1b\n";
 
 /// The marked segments of a word, joined.
@@ -49,7 +54,11 @@ fn words_break_at_patterns_and_exceptions(rt: HostRuntime) -> Result<(), Fail> {
         (PATTERNS, "ȺAB", &[3]),
         (FIRKIN, "\u{ad}ab", &[0]),
         (FIRKIN, "fir\u{ad}kin", &[3]),
-        (WORDS, "ri\u{ad}bo\u{ad}nu\u{ad}cle\u{ad}ase", &[2, 6, 10, 15]),
+        (
+            WORDS,
+            "ri\u{ad}bo\u{ad}nu\u{ad}cle\u{ad}ase",
+            &[2, 6, 10, 15],
+        ),
     ];
     for (text, word, breaks) in cases {
         let dictionary = dictionary(rt.alloc(), text)?;
@@ -89,7 +98,10 @@ fn the_parts_of_a_long_word_join_to_it(rt: HostRuntime) -> Result<(), Fail> {
             joined.push_str(segment)?;
         }
         assert_eq!(rt; joined.as_str(), word);
-        assert_eq!(rt; hyphenated.iter().len(), hyphenated.breaks.len().saturating_add(1));
+        assert_eq!(rt;
+            hyphenated.iter().len(),
+            hyphenated.breaks.len().saturating_add(1)
+        );
     }
     Ok(())
 }

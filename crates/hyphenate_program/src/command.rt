@@ -7,12 +7,12 @@ use hyphenation::engine::{Kind, RunError, run_score};
 use hyphenation::load::Error;
 use hyphenation_commons::language::Language;
 use std::alloc::Global;
-use std::fs;
 use std::fs::Files;
-use std::io;
 use std::io::{ErrorKind, Read, Write};
+use std::{fs, io};
 
-const USAGE: &str = "usage: hyphenate KIND CODE PATH MARK [EDIT..]\n       hyphenate score KIND CODE PATH WORD\n";
+const USAGE: &str =
+    "usage: hyphenate KIND CODE PATH MARK [EDIT..]\n       hyphenate score KIND CODE PATH WORD\n";
 
 /// What the words ask for: the score of a word by the dictionary at a path.
 #[derive(Clone, Copy)]

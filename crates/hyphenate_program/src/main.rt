@@ -6,10 +6,9 @@
 mod command;
 
 use command::answer;
-use std::env;
-use std::io;
 use std::io::ErrorKind;
 use std::process::ExitCode;
+use std::{env, io};
 
 /// The words behind the program's name.
 fn words_of(rt: &HostRuntime) -> io::Result<Vec<String>> {
@@ -18,10 +17,7 @@ fn words_of(rt: &HostRuntime) -> io::Result<Vec<String>> {
 }
 
 fn answer_words(rt: &HostRuntime, words: &[String]) -> io::Result<u8> {
-    let words: Vec<&str> = words
-        .iter()
-        .map(|word| word.as_str())
-        .collect(rt.alloc())?;
+    let words: Vec<&str> = words.iter().map(|word| word.as_str()).collect(rt.alloc())?;
     let status = answer(
         rt,
         rt.alloc(),

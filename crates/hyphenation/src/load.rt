@@ -9,12 +9,11 @@ ghost use Rattle.hyphenation_commons.specs.declared.grammar.Cause.{Cause};
 
 use hyphenation_commons::dictionary::Standard;
 use hyphenation_commons::grammar::reader::{Refusal, read_standard};
+pub use hyphenation_commons::grammar::{Cause, Error, Result};
 use hyphenation_commons::language::Language;
 use std::alloc::{AllocError, Global};
 use std::io;
 use std::io::{ErrorKind, Read};
-
-pub use hyphenation_commons::grammar::{Cause, Error, Result};
 
 /// Loading a kind of dictionary from its text.
 pub trait Load: Sized {

@@ -9,8 +9,7 @@ pub mod tokens;
 
 use crate::language::Language;
 use std::alloc::AllocError;
-use std::fmt;
-use std::io;
+use std::{fmt, io};
 use thiserror::Error;
 
 /// The first test, in this order, that a line of a dictionary text fails.
@@ -74,9 +73,7 @@ pub enum Error {
     #[error("{0}")]
     IO(#[from] io::Error),
     /// The text is accepted, and is of another language than the one asked for.
-    #[error(
-        "Language mismatch: attempted to load a dictionary for `{expected}`, but found\na dictionary for `{found}` instead."
-    )]
+    #[error("Language mismatch: attempted to load a dictionary for `{expected}`, but found\na dictionary for `{found}` instead.")]
     LanguageMismatch { expected: Language, found: Language },
     /// Memory was refused.
     #[error("no memory")]

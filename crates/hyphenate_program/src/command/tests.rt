@@ -1,9 +1,9 @@
 use super::*;
-use std::env;
-use std::process;
 use std::test::Fail;
+use std::{env, process};
 
-const FIRKIN: &str = "hyphenation 1 standard\nlanguage en-gb\nminima 2 3\np .fi2\np i2r\np r2k\np r5kin\np k1in\np k2in.\n";
+const FIRKIN: &str =
+    "hyphenation 1 standard\nlanguage en-gb\nminima 2 3\np .fi2\np i2r\np r2k\np r5kin\np k1in\np k2in.\n";
 
 /// What the program writes and says for its words, and its status.
 #[derive(Drop)]
@@ -86,12 +86,32 @@ fn other_words_are_answered_by_the_usage(rt: HostRuntime) {
 #[test]
 fn a_dictionary_that_is_refused_is_named_with_its_fault(rt: HostRuntime) -> Result<(), Fail> {
     let cases: [(&str, &[u8], &str); 6] = [
-        ("empty", b"", "line 1: not the head of this kind of dictionary\n"),
+        (
+            "empty",
+            b"",
+            "line 1: not the head of this kind of dictionary\n",
+        ),
         ("binary", b"\x7fELF\x02\xff\xfe\x00", "line 1: not UTF-8\n"),
-        ("version-3", b"hyphenation 3 standard\nlanguage en-gb\nminima 2 3\n", "line 1: not the head of this kind of dictionary\n"),
-        ("line-5", b"hyphenation 1 standard\nlanguage en-gb\nminima 2 3\np a1b\np a12b\n", "line 5: two values in one place\n"),
-        ("other", b"hyphenation 1 standard\nlanguage hu\nminima 2 2\n", "Language mismatch: attempted to load a dictionary for `en-gb`, but found\na dictionary for `hu` instead.\n"),
-        ("cut", b"hyphenation 1 standard\nlanguage en-gb", "line 3: not a minima line\n"),
+        (
+            "version-3",
+            b"hyphenation 3 standard\nlanguage en-gb\nminima 2 3\n",
+            "line 1: not the head of this kind of dictionary\n",
+        ),
+        (
+            "line-5",
+            b"hyphenation 1 standard\nlanguage en-gb\nminima 2 3\np a1b\np a12b\n",
+            "line 5: two values in one place\n",
+        ),
+        (
+            "other",
+            b"hyphenation 1 standard\nlanguage hu\nminima 2 2\n",
+            "Language mismatch: attempted to load a dictionary for `en-gb`, but found\na dictionary for `hu` instead.\n",
+        ),
+        (
+            "cut",
+            b"hyphenation 1 standard\nlanguage en-gb",
+            "line 3: not a minima line\n",
+        ),
     ];
     for (name, bytes, message) in cases {
         let path = file(&rt, name, bytes)?;
@@ -130,18 +150,30 @@ impl Write for Full {
 }
 
 #[test]
-fn a_result_that_cannot_be_written_is_told_and_a_message_that_cannot_is_not(rt: HostRuntime) -> Result<(), Fail> {
+fn a_result_that_cannot_be_written_is_told_and_a_message_that_cannot_is_not(
+    rt: HostRuntime,
+) -> Result<(), Fail> {
     let path = file(&rt, "output", FIRKIN.as_bytes())?;
     let words = ["score", "standard", "en-gb", path.as_str(), "firkin"];
     let mut input: &[u8] = b"";
     let mut faults: Vec<u8> = Vec::new(rt.alloc());
     let status = answer(&rt, rt.alloc(), &words, &mut input, &mut Full, &mut faults);
     assert_eq!(rt; status, 5);
-    assert_eq!(rt; faults.as_slice(), b"hyphenate: the result can't be written\n".as_slice());
+    assert_eq!(rt;
+        faults.as_slice(),
+        b"hyphenate: the result can't be written\n".as_slice()
+    );
     let status = answer(&rt, rt.alloc(), &words, &mut input, &mut Full, &mut Full);
     assert_eq!(rt; status, 5);
     let mut output: Vec<u8> = Vec::new(rt.alloc());
-    let status = answer(&rt, rt.alloc(), &["score"], &mut input, &mut output, &mut Full);
+    let status = answer(
+        &rt,
+        rt.alloc(),
+        &["score"],
+        &mut input,
+        &mut output,
+        &mut Full,
+    );
     assert_eq!(rt; status, 2);
     fs::remove_file(&rt, path.as_str())?;
     Ok(())
@@ -152,8 +184,19 @@ fn want_of_memory_and_words_that_are_not_utf8_have_their_status(rt: HostRuntime)
     let mut faults: Vec<u8> = Vec::new(rt.alloc());
     assert_eq!(rt; report("path", &RunError::Memory, &mut faults), 6);
     assert_eq!(rt; faults.as_slice(), b"hyphenate: no memory\n".as_slice());
-    assert!(rt; matches!(opening_fault(io::Error::from(ErrorKind::OutOfMemory)), RunError::Memory));
+    assert!(rt;
+        matches!(
+            opening_fault(io::Error::from(ErrorKind::OutOfMemory)),
+            RunError::Memory
+        )
+    );
     let mut faults: Vec<u8> = Vec::new(rt.alloc());
-    assert_eq!(rt; report_words(&io::Error::from(ErrorKind::OutOfMemory), &mut faults), 6);
-    assert_eq!(rt; report_words(&io::Error::from(ErrorKind::InvalidData), &mut faults), 2);
+    assert_eq!(rt;
+        report_words(&io::Error::from(ErrorKind::OutOfMemory), &mut faults),
+        6
+    );
+    assert_eq!(rt;
+        report_words(&io::Error::from(ErrorKind::InvalidData), &mut faults),
+        2
+    );
 }
