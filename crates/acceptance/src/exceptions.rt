@@ -2,8 +2,8 @@
 
 use crate::scores::dictionary;
 use crate::texts::FIRKIN;
+use hyphenation::Standard;
 use hyphenation::hyphenator::Hyphenator;
-use hyphenation_commons::dictionary::Standard;
 use std::alloc::{AllocError, Global};
 use std::test::Fail;
 

@@ -3,8 +3,7 @@
 use crate::texts::FIRKIN;
 use hyphenation::engine::{Kind, RunError, run_score};
 use hyphenation::load::{Error, Load};
-use hyphenation_commons::dictionary::Standard;
-use hyphenation_commons::language::Language;
+use hyphenation::{Language, Standard};
 use std::io;
 use std::io::{ErrorKind, Read, Write};
 use std::test::Fail;

@@ -4,8 +4,7 @@ use crate::texts::FIRKIN;
 use hyphenation::engine::{Kind, run_score};
 use hyphenation::load::{Error, Load};
 use hyphenation::score::{LookUps, Score};
-use hyphenation_commons::dictionary::Standard;
-use hyphenation_commons::language::Language;
+use hyphenation::{Language, Standard};
 use std::alloc::Global;
 use std::test::Fail;
 

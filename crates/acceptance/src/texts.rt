@@ -1,8 +1,7 @@
 //! Which texts are refused, with which line and cause, and which are accepted.
 
 use hyphenation::load::{Cause, Error, Load};
-use hyphenation_commons::dictionary::Standard;
-use hyphenation_commons::language::Language;
+use hyphenation::{Language, Standard};
 use std::alloc::{AllocError, Global};
 use std::test::Fail;
 

@@ -2,9 +2,9 @@
 
 use crate::scores::dictionary;
 use crate::texts::FIRKIN;
+use hyphenation::Standard;
 use hyphenation::hyphenator::{Hyphenator, Word};
 use hyphenation::iter::Iter;
-use hyphenation_commons::dictionary::Standard;
 use std::alloc::{AllocError, Global};
 use std::test::Fail;
 

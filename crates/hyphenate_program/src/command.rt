@@ -3,9 +3,9 @@
 #[cfg(test)]
 mod tests;
 
+use hyphenation::Language;
 use hyphenation::engine::{Kind, RunError, run_score};
 use hyphenation::load::Error;
-use hyphenation_commons::language::Language;
 use std::alloc::Global;
 use std::fs::Files;
 use std::io::{ErrorKind, Read, Write};

@@ -22,6 +22,7 @@ pub mod standard;
 mod tests;
 pub mod words;
 
+pub use crate::soft_hyphens::soft_hyphen_indices;
 pub use boundaries::boundaries_of;
 pub use hyphenation_commons::breaks::Break;
 use std::alloc::{AllocError, Global};

@@ -198,9 +198,9 @@ mod tests {
             Ok(dictionary) => {
                 assert_eq!(rt; dictionary.language().code(), "en-us");
                 assert_eq!(rt; dictionary.minima(), (2, 3));
-                assert_eq!(rt; dictionary.exception("table"), Some([2].as_slice()));
-                assert!(rt; dictionary.exception("a b").is_some());
-                assert!(rt; dictionary.exception("tab").is_none());
+                assert_eq!(rt; dictionary.listed("table"), Some([2].as_slice()));
+                assert!(rt; dictionary.listed("a b").is_some());
+                assert!(rt; dictionary.listed("tab").is_none());
             }
             Err(_) => assert!(rt; false),
         }
