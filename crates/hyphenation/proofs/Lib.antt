@@ -19,3 +19,4 @@ pub mod ValuesInOrder
 pub mod Occurrences
 pub mod Rules
 pub mod Standard
+pub mod Undone

@@ -1,7 +1,9 @@
 -- What is true of all breaks that fit, and of all segments.
-use Rattle.std.specs.Prelude.{◌≡◌, ℕ, ◌+◌, ◌≤◌, ◌↔◌, List, map, length, slice_get, Some}
+use Rattle.std.specs.Prelude.{◌≡◌, ℕ, ◌+◌, ◌≤◌, ◌↔◌, List, map, length, slice_get, Some, None}
 use Rattle.std.specs.List.{concat}
+use Rattle.std.specs.FinMap as finite
 use Rattle.hyphenation_commons.specs.Break.{Break, plain}
+use Rattle.hyphenation_commons.specs.Dictionary.{Texts}
 use Rattle.hyphenation.specs.Fits.{Fits, Ascend}
 use Rattle.hyphenation.specs.Segments.{segments, segment_between, with_ends, break_at, marked, with_marks}
 
@@ -25,3 +27,7 @@ JoinsToMarkedText = (mark text places : List ℕ) → Fits text (map plain place
 -- Plain breaks fit exactly where their places ascend strictly, on character boundaries.
 abbrev pub FitWhereAscending : Type 0
 FitWhereAscending = (text places : List ℕ) → Fits text (map plain places) ↔ Ascend text 0 places
+
+-- Where a word is no exception, adding it and taking it out again leaves the exceptions as they were.
+abbrev pub RemovalUndoes : Type 0
+RemovalUndoes = (exceptions : Texts (List ℕ)) (word places : List ℕ) → finite.get exceptions word ≡ None → finite.remove (finite.insert exceptions word places) word ≡ exceptions

@@ -54,7 +54,7 @@ moved P ls ms among h =
 abbrev pub Tells : {X : Type 0} → (List ℕ → Option (List ℕ × X)) → List (List ℕ) → Type 0
 Tells {X} spells lines = (k : List ℕ) (v : X) → (finite.get (gathered spells lines) k ≡ Some v → SomeLine (λ l. spells l ≡ Some (k, v)) lines) × (SomeLine (λ l. spells l ≡ Some (k, v)) lines → finite.get (gathered spells lines) k ≡ Some v)
 
-tie : (a b : List ℕ) → eq_by_cmp (slice_cmp nat_cmp) a b ≡ true → a ≡ b
+pub tie : (a b : List ℕ) → eq_by_cmp (slice_cmp nat_cmp) a b ≡ true → a ≡ b
 tie a b e = slice_cmp-IsAntisymmetric nat_cmp-IsAntisymmetric a b (equal (slice_cmp nat_cmp a b) e)
   where
     equal : (r : Ordering) → is_eq r ≡ true → r ≡ Equal

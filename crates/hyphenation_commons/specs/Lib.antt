@@ -15,3 +15,4 @@ pub mod Parsed
 pub mod Said
 pub mod Draft
 pub mod Refusals
+pub mod Examples

@@ -1,5 +1,7 @@
 //! The dictionary text: what its lines spell, and why one is refused.
 
+#[cfg(test)]
+mod examples;
 pub(crate) mod items;
 pub mod laws;
 pub(crate) mod lines;

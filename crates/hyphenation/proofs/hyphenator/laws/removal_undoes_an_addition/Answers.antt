@@ -1,0 +1,5 @@
+use Rattle.hyphenation.proofs.Undone.{undone}
+use Rattle.hyphenation.proofs.hyphenator.laws.removal_undoes_an_addition.Goals as goal
+
+pub returns : goal.returns
+returns c = undone
