@@ -1,5 +1,5 @@
 -- Lists that are still to come.
-use Rattle.std.specs.Prelude.{◌≡◌, ℕ, List, [], ◌∷◌, ⊤, Option, None, Some, MatchOption, IfSome, Result, IfOk}
+use Rattle.std.specs.Prelude.{◌≡◌, ℕ, Bool, false, List, [], ◌∷◌, ⊤, Option, None, Some, MatchOption, IfSome, Result, IfOk}
 use Rattle.std.specs.Str.{IsCharBoundary}
 use Rattle.std.specs.String.{string_bytes}
 use Rattle.std.specs.declared.string.String.{String}
@@ -28,3 +28,8 @@ segments_from text (Some start) breaks = segments_behind text (plain start) brea
 abbrev pub FitsBehind : List ℕ → Option ℕ → List Break → Type 0
 FitsBehind text None breaks = ⊤
 FitsBehind text (Some start) breaks = IsCharBoundary text start × FitsFrom text start start breaks
+
+-- Breaks may be asked until they have answered that they are empty, and then there is no start.
+abbrev pub MayAsk : Option ℕ → Bool → Type 0
+MayAsk None over = ⊤
+MayAsk (Some start) over = over ≡ false

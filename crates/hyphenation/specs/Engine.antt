@@ -8,6 +8,8 @@ use Rattle.hyphenation_commons.specs.declared.grammar.Error.{Error}
 use Rattle.hyphenation_commons.specs.declared.grammar.Error.TheVariants.{Deserialization, IO, LanguageMismatch, Memory as NoMemory}
 use Rattle.hyphenation.specs.declared.engine.RunError.{RunError}
 use Rattle.hyphenation.specs.declared.engine.RunError.TheVariants.{Dictionary, Output, Memory}
+use Rattle.std.specs.IoError.{error_kind}
+use Rattle.std.specs.declared.io.ErrorKind.TheVariants.{OutOfMemory}
 use Rattle.hyphenation.specs.Load.{ReadsIn}
 
 -- Values in decimal, one space between, and a line feed.
@@ -59,3 +61,9 @@ run_error (Deserialization line cause) = Dictionary (Deserialization line cause)
 run_error (IO e) = Dictionary (IO e)
 run_error (LanguageMismatch expected found) = Dictionary (LanguageMismatch expected found)
 run_error (NoMemory e) = Memory
+
+-- A dictionary that could not be had, other than for want of memory, whoever told it.
+abbrev pub HoldsNoWant : RunError → Type 0
+HoldsNoWant (Dictionary (IO e)) = error_kind e ≢ OutOfMemory
+HoldsNoWant (Dictionary (NoMemory e)) = ⊥
+HoldsNoWant _ = Unit {0}

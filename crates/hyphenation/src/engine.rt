@@ -7,7 +7,7 @@ ghost use Rattle.hyphenation_commons.specs.Dictionary.{keys_of};
 ghost use Rattle.hyphenation_commons.specs.Form.{standard};
 ghost use Rattle.hyphenation_commons.specs.Judging.{refusal_of};
 ghost use Rattle.hyphenation_commons.specs.Reading.{standard_contents};
-ghost use Rattle.hyphenation.specs.Engine.{line_of, space_before, language_in, Runs, BeforeWriting, IsUnwritten};
+ghost use Rattle.hyphenation.specs.Engine.{line_of, space_before, language_in, Runs, BeforeWriting, IsUnwritten, HoldsNoWant};
 ghost use Rattle.hyphenation.specs.Scoring.{values};
 
 use crate::load::{Error, Load};
@@ -110,6 +110,7 @@ fn score_line<D: Read>(
     ensures answers { IfSome (D.remaining reader.old) (λ bytes. Runs (refusal_of standard) language_in lang bytes result) }
     ensures line { IfOk result (λ line. IfSome (D.remaining reader.old) (λ bytes. string_bytes line ≡ line_of (values (keys_of (standard_contents bytes)) word.now))) }
     ensures unwritten { IfErr result IsUnwritten }
+    ensures kind { IfErr result HoldsNoWant }
 {
     let dictionary = Standard::from_reader(alloc, lang, reader)?;
     let values = dictionary.score(alloc, word)?;
@@ -129,6 +130,7 @@ pub fn run_score<D: Read, O: Write>(
     ensures answers { IfSome (D.remaining dictionary.old) (λ bytes. Runs (refusal_of standard) language_in lang bytes result) }
     ensures written { OnOk result (IfSome (D.remaining dictionary.old) (λ bytes. Appends (O.contents output.old) (O.contents output.new) (line_of (values (keys_of (standard_contents bytes)) word.now)))) }
     ensures untouched { BeforeWriting result (Keeps (O.contents output.old) (O.contents output.new)) }
+    ensures kind { IfErr result HoldsNoWant }
 {
     let line = match kind {
         Kind::Standard => score_line(alloc, lang, word, dictionary)?,

@@ -4,7 +4,7 @@ use Rattle.std.specs.Prelude.{slice_get, IsSome}
 use Rattle.std.proofs.lemmas.Bool.{cases_lt, cases_eq, eqb-true, eq-eqb}
 use Rattle.std.proofs.lemmas.List.{length-append, map_push, length-map, map-set, take_more, length-take-le, get_or_append_left, get_or_push}
 use Rattle.std.proofs.lemmas.Grind.{fold-append}
-use Rattle.hyphenation_commons.specs.Trie.{with_text, text_after, texts_of, IsTied, pair_eq, seen, grown, IsTrie, Tree, entries_at, key_at, text_of, Grows, AddsFront, with_entries, EachBeginsKey}
+use Rattle.hyphenation_commons.specs.Trie.{with_text, text_after, texts_of, IsTied, pair_eq, seen, grown, IsTrie, Tree, entries_at, key_at, text_of, Grows, AddsFront, KeepsNodes, with_entries, EachBeginsKey}
 use Rattle.std.specs.Option.{option_map}
 use Rattle.std.specs.Prelude.{Vec}
 use Rattle.std.specs.Global.{Global}
@@ -200,6 +200,14 @@ pub key_at-grows : {E : Type 0} (old new : Tree E) (t : List ℕ) → IsTrie old
 key_at-grows old new t trie g q = elim g [
   | inl same ↦ ap (λ x. key_at x q) same
   | inr more ↦ ap (λ x. key_at x q) more ∙ entries_at-push old.texts old.entries t trie.lengths q
+]
+
+pub keeps-grows : {E : Type 0} (start old new : Tree E) (t : List ℕ) → KeepsNodes start old → Grows old new t → KeepsNodes start new
+keeps-grows start old new t keeps g = elim g [
+  | inl same ↦ subst (λ x. KeepsNodes start x) (sym same) keeps
+  | inr more ↦ subst (λ x. KeepsNodes start x) (sym more) (λ i li.
+      let k = keeps i li in
+      (omega (arith, length-append old.texts (t ∷ []), k.0), get_or_append_left old.texts (t ∷ []) [] i k.0 ∙ k.1))
 ]
 
 pub adds-grows : {E : Type 0} (start old new : Tree E) (t key : List ℕ) → AddsFront start old key → Grows old new t → t ≡ take (length t) key → AddsFront start new key

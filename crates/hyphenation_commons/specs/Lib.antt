@@ -16,3 +16,4 @@ pub mod Said
 pub mod Draft
 pub mod Refusals
 pub mod Examples
+pub mod Messages

@@ -53,6 +53,10 @@ Grows old new text = (new ≡ old) ⊎ (new ≡ record { texts = old.texts ++ te
 abbrev pub AddsFront : {E : Type 0} → Tree E → Tree E → List ℕ → Type 0
 AddsFront old new key = (j : ℕ) → j < length new.texts → ((j < length old.texts) × (text_of new j ≡ text_of old j)) ⊎ (text_of new j ≡ take (length (text_of new j)) key)
 
+-- Each node keeps its number and its text.
+abbrev pub KeepsNodes : {E : Type 0} → Tree E → Tree E → Type 0
+KeepsNodes old new = (i : ℕ) → i < length old.texts → (i < length new.texts) × (text_of new i ≡ text_of old i)
+
 -- With these entries at a node.
 abbrev pub with_entries : {E : Type 0} → Tree E → ℕ → List E → Tree E
 with_entries t node es = record t { entries = slice_set t.entries node (Some es) }

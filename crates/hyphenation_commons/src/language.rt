@@ -126,8 +126,11 @@ impl Eq for Language {
 
 impl fmt::Display for Language {
     ghost use Rattle.std.specs.Prelude.{Some};
+    ghost use Rattle.std.specs.Fmt.{padded};
 
     ghost output = { λ language. Some language };
+
+    ghost styled_output = { λ language spec. Some (padded spec language) };
 
     fn fmt<W: fmt::Write>(&self, f: &mut fmt::Formatter<W>) -> fmt::Result {
         f.pad(self.code())

@@ -25,7 +25,7 @@
 ghost use Rattle.std.specs.Prelude.{◌≡◌, ◌≢◌, ◌+◌, ◌<◌, ◌^◌, ◌++◌, [], ◌∷◌, ℕ, List, length, None, Some, IfOk, OnOk, OnErr, if◌then◌else◌, nat_eq, IfSome, IfNone, option_copied};
 ghost use Rattle.std.specs.Option.{option_map};
 ghost use Rattle.std.specs.Cmp.Lexicographic.{pointwise};
-ghost use Rattle.hyphenation_commons.specs.Trie.{Tree, text_of, key_at, grown, IsTrie, Grows, AddsFront, EachBeginsKey, with_entries};
+ghost use Rattle.hyphenation_commons.specs.Trie.{Tree, text_of, key_at, grown, IsTrie, Grows, AddsFront, KeepsNodes, EachBeginsKey, with_entries};
 
 use std::alloc::{AllocError, Global};
 use std::collections::HashMap;
@@ -174,6 +174,8 @@ impl<E: Drop> Trie<E> {
         ensures begins { OnOk result (EachBeginsKey self.old → EachBeginsKey self.new) }
         ensures err { OnErr result ((q : List ℕ) → key_at self.new q ≡ key_at self.old q) }
         ensures trie { OnOk result (IsTrie self.old × IsTrie self.new) }
+        ensures adds { AddsFront self.old self.new key.now }
+        ensures nodes { KeepsNodes self.old self.new }
     {
         let node = self.path(key)?;
         Ok(self.set_entries(node, entries))
@@ -227,6 +229,7 @@ impl<E: Drop> Trie<E> {
         ensures ok { IfOk result (λ j. (j < length self.new.texts) × (text_of self.new j ≡ text.now)) }
         ensures keys { (q : List ℕ) → key_at self.new q ≡ key_at self.old q }
         ensures adds { AddsFront self.old self.new text.now }
+        ensures nodes { KeepsNodes self.old self.new }
         ensures trie { IsTrie self.old }
     {
         let mut node = self.root();

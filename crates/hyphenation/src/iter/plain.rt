@@ -1,6 +1,6 @@
 //! The segments of a text at plain breaks.
 
-ghost use Rattle.std.specs.Prelude.{◌≡◌, Some, IfSome, ⊤, length};
+ghost use Rattle.std.specs.Prelude.{◌≡◌, false, Some, IfSome, ⊤, length};
 ghost use Rattle.std.specs.Iterator.{YieldsFirstRef, item_count, UpTo, at_most};
 ghost use Rattle.std.specs.Iterator.SizeHint.{IsWithinCount};
 ghost use Rattle.hyphenation.specs.Fits.{Fits};
@@ -25,19 +25,20 @@ pub struct Segments<'t, I: Breaks<Item = usize>> {
 
 impl<'t, I: Breaks<Item = usize>> Model for Segments<'t, I> {
     ghost use Rattle.std.specs.Prelude.{List, ℕ};
-    ghost use Rattle.hyphenation.specs.Coming.{segments_from, FitsBehind};
+    ghost use Rattle.hyphenation.specs.Coming.{segments_from, FitsBehind, MayAsk};
 
     ghost Value = { List (List ℕ) };
 
     ghost view = { λ s. segments_from s.text.now s.start (I.to_come s.breaks) };
 
-    ghost invariant = { λ s. FitsBehind s.text.now s.start (I.to_come s.breaks) };
+    ghost invariant = { λ s. FitsBehind s.text.now s.start (I.to_come s.breaks) × MayAsk s.start (I.is_over s.breaks) };
 }
 
 impl<'t, I: Breaks<Item = usize>> Segments<'t, I> {
     /// All segments of the text, at breaks that fit it as `Word::fits` says.
     pub fn new(text: &'t str, breaks: I) -> Segments<'t, I>
-        requires { Fits text.now (I.to_come breaks) }
+        requires fits { Fits text.now (I.to_come breaks) }
+        requires open { I.is_over breaks ≡ false }
         ensures { result ≡ segments text.now (I.to_come breaks) }
     {
         Segments {

@@ -13,3 +13,6 @@ returns-clause-ok g c = λ q.
 pub returns-clause-begins : goal.returns-clause-begins
 returns-clause-begins g c = λ begins. rw c.set_entries.ensures.set (
     begins-insert c.args.self.now c.path.new.self c.args.key.now c.in_ok-node.node c.args.entries.items c.in_ok-node.ensures.keys c.in_ok-node.ensures.adds c.set_entries.ensures.trie.0 c.in_ok-node.ensures.ok.0 c.in_ok-node.ensures.ok.1 begins)
+
+pub returns-clause-nodes : goal.returns-clause-nodes
+returns-clause-nodes g c = rw c.set_entries.ensures.set c.in_ok-node.ensures.nodes

@@ -1,5 +1,5 @@
 use Rattle.std.proofs.Common.{◌≡◌, ◌<◌, length, take, List, ℕ}
-use Rattle.hyphenation_commons.specs.Trie.{text_of, key_at, AddsFront}
+use Rattle.hyphenation_commons.specs.Trie.{text_of, key_at, AddsFront, KeepsNodes}
 use Rattle.hyphenation_commons.proofs.trie.Trie.path.Given as goal
 
 abbrev pub invariant-loop-byte : goal.invariant-loop-byte
@@ -8,4 +8,5 @@ invariant-loop-byte g l = record {
   text : text_of l.self l.node ≡ take l.byte-index l.text;
   keys : (q : List ℕ) → key_at l.self q ≡ key_at l.fn.self q;
   adds : AddsFront l.fn.self l.self l.text;
+  nodes : KeepsNodes l.fn.self l.self;
 }
