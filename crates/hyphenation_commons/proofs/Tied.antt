@@ -1,16 +1,16 @@
 -- A node more keeps the edges tied to the nodes.
-use Rattle.std.proofs.Common.{◌≡◌, ◌≢◌, ℕ, zero, suc, ◌+◌, ◌<◌, Bool, true, false, cond, ◌&&◌, nat_eq, eqb, List, [], ◌∷◌, ◌++◌, length, take, get_or, set, map, fold, Option, Some, None, refl, sym, ap, subst, ◌∙◌, arith, ◌⊎◌, inl, inr}
-use Rattle.std.specs.Prelude.{slice_get, IsSome}
+use Rattle.std.proofs.Common.{◌≡◌, ◌≢◌, ℕ, zero, suc, ◌+◌, ◌-◌, ◌<◌, ◌≤◌, drop, Bool, true, false, cond, ◌&&◌, nat_eq, eqb, List, [], ◌∷◌, ◌++◌, length, take, get_or, set, map, fold, Option, Some, None, refl, sym, ap, subst, ◌∙◌, arith, ◌⊎◌, inl, inr}
+use Rattle.std.specs.Prelude.{slice_get, IsSome, is_some}
 use Rattle.std.proofs.lemmas.Bool.{cases_lt, cases_eq, eqb-true, eq-eqb}
-use Rattle.std.proofs.lemmas.List.{length-append, map_push, length-map, map-set, take_more, length-take-le, get_or_append_left, get_or_push}
+use Rattle.std.proofs.lemmas.List.{length-append, map_push, length-map, map-set, take_more, length-take-le, get_or-map, drop-append-le, take-append-le, length-drop, get_or_append_left, get_or_push}
 use Rattle.std.proofs.lemmas.Grind.{fold-append}
-use Rattle.hyphenation_commons.specs.Trie.{with_text, text_after, texts_of, IsTied, pair_eq, seen, grown, IsTrie, Tree, entries_at, key_at, text_of, Grows, AddsFront, KeepsNodes, with_entries, EachBeginsKey}
+use Rattle.hyphenation_commons.specs.Trie.{with_text, text_after, texts_of, IsTied, IsWithin, AreWithin, pair_eq, entries_in, seen, grown, IsTrie, Tree, entries_at, key_at, text_of, Grows, AddsFront, KeepsNodes, with_entries, EachBeginsKey}
 use Rattle.std.specs.Option.{option_map}
-use Rattle.std.specs.Prelude.{Vec}
-use Rattle.std.specs.Global.{Global}
-use Rattle.std.proofs.Math.Seq.{map-set_same}
+use Rattle.std.specs.List.{slice_range}
+use Rattle.std.proofs.Math.Seq.{map-set_same, drop-append_seam, take-length}
 use Rattle.std.specs.Cmp.Lexicographic.{pointwise}
 use Rattle.hyphenation_commons.specs.declared.trie.Node.{Node}
+use Rattle.hyphenation_commons.specs.declared.trie.Span.{Span}
 
 length-fold : (acc : List (List ℕ)) (fs : List (Option (ℕ × ℕ))) → length (fold with_text acc fs) ≡ length acc + length fs
 length-fold acc [] = omega arith
@@ -176,19 +176,68 @@ grow_keeps fs edge next n i b n-is tied li absent step =
     let len : n ≡ length (texts_of fs) = n-is ∙ sym (length-texts_of fs) in
     rw (texts_of-push fs (Some (i, b))) (IsTied-grow (texts_of fs) edge next i b tied li absent (λ k c. step k c ∙ ap (λ (x : ℕ). cond (pair_eq (i, b) (k, c)) (Some x) (edge k c)) len))
 
-pub seen-grown : {E : Type 0} (ns : List (Node E)) (i b : ℕ) → seen (ns ++ record { from = Some (i, b); entries = None } ∷ []) ≡ grown (seen ns) i b
-seen-grown ns i b = rw (map_push, map_push, texts_of-push) refl
+pub seen-grown : {E : Type 0} (ns : List Node) (es : List E) (i b : ℕ) → seen (ns ++ record { from = Some (i, b); span = None } ∷ []) es ≡ grown (seen ns es) i b
+seen-grown ns es i b = rw (map_push, map_push, texts_of-push) refl
 
-pub IsTrie-seen : {E : Type 0} (ns : List (Node E)) (edge : ℕ → ℕ → Option ℕ) → IsTied (seen ns).texts edge → IsTrie (seen ns)
-IsTrie-seen ns edge tied =
-    let r = root_text (seen ns).texts tied.root in
+pub IsTrie-seen : {E : Type 0} (ns : List Node) (es : List E) (edge : ℕ → ℕ → Option ℕ) → IsTied (texts_of (map (λ n. n.from) ns)) edge → IsTrie (seen ns es)
+IsTrie-seen ns es edge tied =
+    let r = root_text (seen ns es).texts tied.root in
     record {
       lengths = simp length-map (sym (length-texts_of (map (λ n. n.from) ns) ∙ simp length-map));
       some = r.1;
       root = r.0;
-      distinct = IsTied-distinct (seen ns).texts edge tied;
+      distinct = IsTied-distinct (seen ns es).texts edge tied;
       closed = tied.closed;
     }
+
+-- ---- entries among those of all nodes
+
+within-more : (n m : ℕ) (span : Option Span) → n ≤ m → IsWithin n span → IsWithin m span
+within-more n m None le h = tt
+within-more n m (Some span) le h = (h.0, omega (arith, h.1))
+
+pub all_within-more : (n m : ℕ) (ns : List Node) → n ≤ m → AreWithin n ns → AreWithin m ns
+all_within-more n m [] le h = h
+all_within-more n m (x ∷ ns) le h = (within-more n m x.span le h.0, all_within-more n m ns le h.1)
+
+pub all_within-push : (bound : ℕ) (ns : List Node) (x : Node) → AreWithin bound ns → IsWithin bound x.span → AreWithin bound (ns ++ x ∷ [])
+all_within-push bound [] x h is = (is, tt)
+all_within-push bound (n ∷ ns) x h is = (h.0, all_within-push bound ns x h.1 is)
+
+pub all_within-set : (bound : ℕ) (ns : List Node) (i : ℕ) (x : Node) → AreWithin bound ns → IsWithin bound x.span → AreWithin bound (set ns i x)
+all_within-set bound [] i x h is = h
+all_within-set bound (n ∷ ns) zero x h is = (is, h.1)
+all_within-set bound (n ∷ ns) (suc i) x h is = (h.0, all_within-set bound ns i x h.1 is)
+
+pub all_within-at : (bound : ℕ) (ns : List Node) (i : ℕ) (n : Node) → AreWithin bound ns → i < length ns → n ≡ get_or ns i n → IsWithin bound n.span
+all_within-at bound [] i n h lt read = absurd (omega arith)
+all_within-at bound (m ∷ ns) zero n h lt read = subst (λ (x : Node). IsWithin bound x.span) (sym read) h.0
+all_within-at bound (m ∷ ns) (suc i) n h lt read = all_within-at bound ns i n h.1 (omega arith) read
+
+pub has_entries : {E : Type 0} (es : List E) (n : Node) → is_some n.span ≡ is_some (entries_in es n)
+has_entries es n = by n.span
+  where
+    by : (span : Option Span) → is_some span ≡ is_some (option_map (λ s. slice_range es s.start s.end) span)
+    by None = refl
+    by (Some span) = refl
+
+range_kept : {E : Type 0} (es xs : List E) (a b : ℕ) → a ≤ b → b ≤ length es → slice_range (es ++ xs) a b ≡ slice_range es a b
+range_kept es xs a b ab be = ap (take (b - a)) (drop-append-le a es xs (omega arith)) ∙ take-append-le (b - a) (drop a es) xs (omega (arith, length-drop a es))
+
+kept : {E : Type 0} (es xs : List E) (span : Option Span) → IsWithin (length es) span → option_map (λ s. slice_range (es ++ xs) s.start s.end) span ≡ option_map (λ s. slice_range es s.start s.end) span
+kept es xs None h = refl
+kept es xs (Some span) h = ap (λ (ys : List _). Some ys) (range_kept es xs span.start span.end h.0 h.1)
+
+-- entries put behind the others change no node's
+all_kept : {E : Type 0} (es xs : List E) (ns : List Node) → AreWithin (length es) ns → map (entries_in (es ++ xs)) ns ≡ map (entries_in es) ns
+all_kept es xs [] h = refl
+all_kept es xs (n ∷ ns) h = λ k. kept es xs n.span h.0 k ∷ all_kept es xs ns h.1 k
+
+range_new : {E : Type 0} (es xs : List E) (a b : ℕ) → a ≡ length es → b ≡ length (es ++ xs) → slice_range (es ++ xs) a b ≡ xs
+range_new es xs a b ea eb =
+    let rest : drop a (es ++ xs) ≡ xs = ap (λ (k : ℕ). drop k (es ++ xs)) ea ∙ drop-append_seam es xs in
+    let many : b - a ≡ length xs = omega (arith, length-append es xs) in
+    ap (take (b - a)) rest ∙ ap (λ (k : ℕ). take k xs) many ∙ take-length xs
 
 entries_at-push : {E : Type 0} (ts : List (List ℕ)) (es : List (Option (List E))) (t : List ℕ) → length es ≡ length ts → (q : List ℕ) → entries_at (ts ++ t ∷ []) (es ++ None ∷ []) q ≡ entries_at ts es q
 entries_at-push {E} [] [] t len q = elim (pointwise nat_eq t q) as (λ b. cond {A = Option (List E)} b None None ≡ None) [ true ↦ refl | false ↦ refl ]
@@ -237,7 +286,7 @@ front_more key i t e lt =
 
 -- ---- the entries of a node
 
-pub seen_within : {E : Type 0} (ns : List (Node E)) (i : ℕ) → i < length (seen ns).texts → i < length ns
+pub seen_within : (ns : List Node) (i : ℕ) → i < length (texts_of (map (λ n. n.from) ns)) → i < length ns
 seen_within ns i lt =
     let e : length (map (λ n. n.from) ns) ≡ length ns = simp length-map in
     omega (arith, length-texts_of (map (λ n. n.from) ns))
@@ -300,17 +349,17 @@ entries_at-here (t ∷ ts) (e ∷ es) (suc i) apart len lt =
     ap (λ b. cond b e (entries_at ts es (get_or ts i []))) (other_text t (get_or ts i []) (λ same. apart_first t ts i apart (omega arith) same))
     ∙ entries_at-here ts es i (apart_rest t ts apart) (omega arith) (omega arith)
 
-pub seen_entries : {E : Type 0} (ns : List (Node E)) (i : ℕ) (n : Node E) → i < length ns → n ≡ get_or ns i n → get_or (seen ns).entries i None ≡ option_map (λ v. v.items) n.entries
-seen_entries [] i n lt read = absurd (omega arith)
-seen_entries (m ∷ ns) zero n lt read = ap (λ x. option_map (λ v. v.items) x.entries) (sym read)
-seen_entries (m ∷ ns) (suc i) n lt read = seen_entries ns i n (omega arith) read
+pub seen_entries : {E : Type 0} (ns : List Node) (es : List E) (i : ℕ) (n : Node) → i < length ns → n ≡ get_or ns i n → get_or (seen ns es).entries i None ≡ entries_in es n
+seen_entries ns es i n lt read = get_or-map (entries_in es) ns i n None lt ∙ ap (entries_in es) (sym read)
 
-pub seen-with : {E : Type 0} (ns : List (Node E)) (i : ℕ) (n : Node E) (now : Option (Vec E Global)) (es : Vec E Global) → n ≡ get_or ns i n → now ≡ Some es
-    → seen (set ns i (record { from = n.from; entries = now })) ≡ with_entries (seen ns) i es.items
-seen-with {E} ns i n now es read is =
-    let froms : map (λ n. n.from) (set ns i (record { from = n.from; entries = now })) ≡ map (λ n. n.from) ns = map-set_same (λ n. n.from) ns i (record { from = n.from; entries = now }) n (ap (λ n. n.from) read) in
-    let news : map (λ n. option_map (λ v. v.items) n.entries) (set ns i (record { from = n.from; entries = now })) ≡ set (map (λ n. option_map (λ v. v.items) n.entries) ns) i (Some es.items) =
-    map-set _ ns i _ ∙ ap (λ (o : Option (List E)). set (map (λ n. option_map (λ v. v.items) n.entries) ns) i o) (ap (option_map (λ v. v.items)) is) in
+pub seen-with : {E : Type 0} (ns : List Node) (es xs : List E) (i start end : ℕ) (n : Node) (now : Option Span) → n ≡ get_or ns i n → now ≡ Some (record { start = start; end = end })
+    → AreWithin (length es) ns → start ≡ length es → end ≡ length (es ++ xs) → seen (set ns i (record { from = n.from; span = now })) (es ++ xs) ≡ with_entries (seen ns es) i xs
+seen-with {E} ns es xs i start end n now read is within begin stop =
+    let x : Node = record { from = n.from; span = now } in
+    let froms : map (λ n. n.from) (set ns i x) ≡ map (λ n. n.from) ns = map-set_same (λ n. n.from) ns i x n (ap (λ n. n.from) read) in
+    let mine : entries_in (es ++ xs) x ≡ Some xs = ap (option_map (λ s. slice_range (es ++ xs) s.start s.end)) is ∙ ap (λ (ys : List E). Some ys) (range_new es xs start end begin stop) in
+    let news : map (entries_in (es ++ xs)) (set ns i x) ≡ set (map (entries_in es) ns) i (Some xs) =
+    map-set (entries_in (es ++ xs)) ns i x ∙ ap (λ (o : Option (List E)). set (map (entries_in (es ++ xs)) ns) i o) mine ∙ ap (λ (os : List (Option (List E))). set os i (Some xs)) (all_kept es xs ns within) in
     λ k. record { texts = texts_of (froms k); entries = news k }
 
 -- the entries of one key are set

@@ -1,8 +1,10 @@
 -- Tries, as the texts that their nodes stand for.
-use Rattle.std.specs.Prelude.{◌≡◌, ℕ, ◌<◌, ◌&&◌, nat_eq, Bool, if◌then◌else◌, List, [], ◌∷◌, ◌++◌, length, map, fold, Option, Some, None, slice_index_or, slice_get, IsSome, take, ◌⊎◌, slice_set}
+use Rattle.std.specs.Prelude.{◌≡◌, ℕ, ◌<◌, ◌&&◌, nat_eq, Bool, if◌then◌else◌, List, [], ◌∷◌, ◌++◌, length, map, fold, Option, Some, None, slice_index_or, slice_get, IsSome, ◌≤◌, take, ◌⊎◌, slice_set}
 use Rattle.std.specs.Option.{option_map}
+use Rattle.std.specs.List.{slice_range}
 use Rattle.std.specs.Cmp.Lexicographic.{pointwise}
 use Rattle.hyphenation_commons.specs.declared.trie.Node.{Node}
+use Rattle.hyphenation_commons.specs.declared.trie.Span.{Span}
 
 -- A trie as its nodes: the text of each, and its entries where the text is a key. A node is its number in both lists.
 pub record Tree (E : Type 0) : Type 0 where
@@ -76,9 +78,22 @@ with_text texts from = texts ++ text_after texts from ∷ []
 abbrev pub texts_of : List (Option (ℕ × ℕ)) → List (List ℕ)
 texts_of froms = fold with_text [] froms
 
--- What a clause sees of the nodes.
-abbrev pub seen : {E : Type 0} → List (Node E) → Tree E
-seen ns = record { texts = texts_of (map (λ n. n.from) ns); entries = map (λ n. option_map (λ v. v.items) n.entries) ns }
+-- The entries of a node, among those of all nodes.
+abbrev pub entries_in : {E : Type 0} → List E → Node → Option (List E)
+entries_in es n = option_map (λ span. slice_range es span.start span.end) n.span
+
+-- What a clause sees of the nodes and of all entries.
+abbrev pub seen : {E : Type 0} → List Node → List E → Tree E
+seen ns es = record { texts = texts_of (map (λ n. n.from) ns); entries = map (entries_in es) ns }
+
+-- The entries of each node stand among so many.
+abbrev pub IsWithin : ℕ → Option Span → Type 0
+IsWithin bound None = Unit {0}
+IsWithin bound (Some span) = (span.start ≤ span.end) × (span.end ≤ bound)
+
+abbrev pub AreWithin : ℕ → List Node → Type 0
+AreWithin bound [] = Unit {0}
+AreWithin bound (n ∷ ns) = IsWithin bound n.span × AreWithin bound ns
 
 -- The test by which the edges are looked up.
 abbrev pub pair_eq : ℕ × ℕ → ℕ × ℕ → Bool

@@ -22,9 +22,9 @@
 //! Nodes are numbers: those below the number of texts that a clause sees, `length texts`. A node
 //! keeps its number as the trie grows.
 
-ghost use Rattle.std.specs.Prelude.{◌≡◌, ◌≢◌, ◌+◌, ◌<◌, ◌^◌, ◌++◌, [], ◌∷◌, ℕ, List, length, None, Some, IfOk, OnOk, OnErr, if◌then◌else◌, nat_eq, IfSome, IfNone, option_copied};
-ghost use Rattle.std.specs.Option.{option_map};
+ghost use Rattle.std.specs.Prelude.{◌≡◌, ◌≢◌, ◌+◌, ◌<◌, ◌≤◌, ◌^◌, ◌++◌, [], ◌∷◌, ℕ, List, length, None, Some, IfOk, OnOk, OnErr, if◌then◌else◌, nat_eq, is_some, IfSome, IfNone, option_copied};
 ghost use Rattle.std.specs.Cmp.Lexicographic.{pointwise};
+ghost use Rattle.std.specs.List.{slice_range};
 ghost use Rattle.hyphenation_commons.specs.Trie.{Tree, text_of, key_at, grown, IsTrie, Grows, AddsFront, KeepsNodes, EachBeginsKey, with_entries};
 
 use std::alloc::{AllocError, Global};
@@ -83,33 +83,52 @@ impl LookUps {
     }
 }
 
-#[derive(Drop)]
-struct Node<E> {
+/// Where the entries of a key stand among the entries of all keys.
+#[derive(Clone, Copy, Debug)]
+struct Span {
+    start: usize,
+    end: usize,
+}
+
+#[derive(Clone, Copy, Debug)]
+struct Node {
     /// The parent and the byte that leads from it to here. The root has none.
     from: Option<(usize, u8)>,
-    /// The entries, where the node's text is a key.
-    entries: Option<Vec<E>>,
+    /// Where the entries stand, where the node's text is a key.
+    span: Option<Span>,
+}
+
+/// The entries that stand there.
+fn part<E>(entries: &[E], span: Span) -> &[E]
+    requires ordered { span.start ≤ span.end }
+    requires within { span.end ≤ length entries.now }
+    ensures { result.now ≡ slice_range entries.now span.start span.end }
+{
+    &entries[span.start..span.end]
 }
 
 /// Keys, each with its entries.
 #[derive(Drop)]
 pub struct Trie<E> {
     /// The root, and behind it each node later than its parent.
-    nodes: Vec<Node<E>>,
+    nodes: Vec<Node>,
+    /// The entries of all keys, in one list, so that a key costs no allocation of its own. Those that a key had
+    /// before it was given others stay here, unused.
+    entries: Vec<E>,
     /// The child of a node at a byte. One map for all nodes: a step is one look-up by hash.
     edges: HashMap<(usize, u8), usize>,
 }
 
 impl<E> Model for Trie<E> {
-    ghost use Rattle.std.specs.Prelude.{map};
+    ghost use Rattle.std.specs.Prelude.{map, length};
     ghost use Rattle.std.specs.HashMap.{get};
-    ghost use Rattle.hyphenation_commons.specs.Trie.{Tree, seen, texts_of, IsTied, pair_eq};
+    ghost use Rattle.hyphenation_commons.specs.Trie.{Tree, seen, texts_of, IsTied, AreWithin, pair_eq};
 
     ghost Value = { Tree E };
 
-    ghost view = { λ t. seen t.nodes.items };
+    ghost view = { λ t. seen t.nodes.items t.entries.items };
 
-    ghost invariant = { λ t. IsTied (texts_of (map (λ n. n.from) t.nodes.items)) (λ i b. get pair_eq t.edges (i, b)) };
+    ghost invariant = { λ t. IsTied (texts_of (map (λ n. n.from) t.nodes.items)) (λ i b. get pair_eq t.edges (i, b)) × AreWithin (length t.entries.items) t.nodes.items };
 }
 
 impl<E: Drop> Trie<E> {
@@ -120,10 +139,11 @@ impl<E: Drop> Trie<E> {
         let mut nodes = Vec::new(alloc);
         nodes.push(Node {
             from: None,
-            entries: None,
+            span: None,
         })?;
         Ok(Trie {
             nodes,
+            entries: Vec::new(alloc),
             edges: HashMap::new(alloc),
         })
     }
@@ -162,15 +182,20 @@ impl<E: Drop> Trie<E> {
         requires { node < length self.now.texts }
         ensures key { option_copied result ≡ key_at self.now (text_of self.now node) }
     {
-        self.nodes[node].entries.as_deref()
+        match self.nodes[node].span {
+            None => None,
+            Some(span) => Some(part(&self.entries, span)),
+        }
     }
 
-    /// Gives a key these entries, and answers those that it had, if it was a key.
+    /// Moves these entries to a key, in place of those that it had. Whether it was a key.
     ///
-    /// No other key changes. The only error is memory, and then each key is as before.
-    pub fn insert(&mut self, key: &[u8], entries: Vec<E>) -> Result<Option<Vec<E>>, AllocError>
-        ensures ok { OnOk result ((q : List ℕ) → key_at self.new q ≡ (if pointwise nat_eq key.now q then Some entries.items else key_at self.old q)) }
-        ensures old { IfOk result (λ old. option_map (λ v. v.items) old ≡ key_at self.old key.now) }
+    /// No other key changes, and the list is empty then and can be filled again. The only error is memory, and then
+    /// each key is as before.
+    pub fn insert(&mut self, key: &[u8], entries: &mut Vec<E>) -> Result<bool, AllocError>
+        ensures ok { OnOk result ((q : List ℕ) → key_at self.new q ≡ (if pointwise nat_eq key.now q then Some entries.old.items else key_at self.old q)) }
+        ensures had { IfOk result (λ had. had ≡ is_some (key_at self.old key.now)) }
+        ensures moved { OnOk result (entries.new.items ≡ []) }
         ensures begins { OnOk result (EachBeginsKey self.old → EachBeginsKey self.new) }
         ensures err { OnErr result ((q : List ℕ) → key_at self.new q ≡ key_at self.old q) }
         ensures trie { OnOk result (IsTrie self.old × IsTrie self.new) }
@@ -178,7 +203,8 @@ impl<E: Drop> Trie<E> {
         ensures nodes { KeepsNodes self.old self.new }
     {
         let node = self.path(key)?;
-        Ok(self.set_entries(node, entries))
+        let had = self.set_entries(node, entries)?;
+        Ok(had)
     }
 
     /// The child of a node at a byte, which counts as no look-up.
@@ -205,7 +231,7 @@ impl<E: Drop> Trie<E> {
         self.nodes
             .push(Node {
                 from: Some((node, byte)),
-                entries: None,
+                span: None,
             })
             .unwrap();
         Ok(child)
@@ -239,14 +265,20 @@ impl<E: Drop> Trie<E> {
         Ok(node)
     }
 
-    /// Gives a node these entries, and answers those that it had.
-    fn set_entries(&mut self, node: usize, entries: Vec<E>) -> Option<Vec<E>>
+    /// Moves these entries to a node, in place of those that it had. Whether it had any.
+    fn set_entries(&mut self, node: usize, entries: &mut Vec<E>) -> Result<bool, AllocError>
         requires { node < length self.old.texts }
-        ensures set { self.new ≡ with_entries self.old node entries.items }
-        ensures old { option_map (λ v. v.items) result ≡ key_at self.old (text_of self.old node) }
+        ensures set { OnOk result (self.new ≡ with_entries self.old node entries.old.items) }
+        ensures had { IfOk result (λ had. had ≡ is_some (key_at self.old (text_of self.old node))) }
+        ensures moved { OnOk result (entries.new.items ≡ []) }
+        ensures err { OnErr result (self.new ≡ self.old) }
         ensures trie { IsTrie self.old × IsTrie self.new }
     {
-        self.nodes[node].entries.replace(entries)
+        let start = self.entries.len();
+        self.entries.append(entries)?;
+        let end = self.entries.len();
+        let old = self.nodes[node].span.replace(Span { start, end });
+        Ok(old.is_some())
     }
 }
 

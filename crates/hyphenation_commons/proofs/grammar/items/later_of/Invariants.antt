@@ -1,6 +1,15 @@
-use Rattle.std.proofs.Common.{◌≡◌, map, drop}
+use Rattle.std.proofs.Common.{◌≡◌, suc, length}
+use Rattle.std.specs.Prelude.{IsUtf8, IfSome}
+use Rattle.std.specs.Option.{option_map, option_map_or}
+use Rattle.hyphenation_commons.specs.Lines.{tokens_behind}
 use Rattle.hyphenation_commons.specs.Parsed.{no_later, read_later, shown_later}
 use Rattle.hyphenation_commons.proofs.grammar.items.later_of.Given as goal
 
-abbrev pub invariant-loop-token : goal.invariant-loop-token
-invariant-loop-token l = read_later (shown_later l.later) (map (λ token. token.now) (drop l.token-index l.tokens)) ≡ read_later no_later (map (λ token. token.now) l.tokens)
+abbrev pub invariant-loop-rest : goal.invariant-loop-rest
+invariant-loop-rest l = record {
+  utf8 : IfSome l.rest (λ text. IsUtf8 text.now);
+  read : read_later (shown_later l.later) (tokens_behind (option_map (λ text. text.now) l.rest)) ≡ read_later no_later (tokens_behind (option_map (λ text. text.now) l.fn.behind));
+}
+
+abbrev pub decreases-loop-rest : goal.decreases-loop-rest
+decreases-loop-rest l = option_map_or (λ text. suc (length text.now)) l.rest 0
