@@ -1,21 +1,18 @@
 -- Breaks that change nothing are all kept, and those of a standard dictionary are such.
-use Rattle.std.proofs.Common.{◌≡◌, ℕ, ◌+◌, ◌-◌, ◌≤◌, ◌&&◌, ◌||◌, not, Bool, true, false, cond, nat_le, nat_lt, le-leb, le-ltb, List, [], ◌∷◌, length, map, Option, Some, None, refl, sym, ap, ◌∙◌, arith}
+use Rattle.std.proofs.Common.{◌≡◌, ℕ, ◌+◌, ◌-◌, ◌≤◌, ◌&&◌, not, Bool, true, false, cond, nat_le, le-leb, List, [], ◌∷◌, length, map, Some, None, refl, sym, ap, ◌∙◌, arith}
 use Rattle.std.specs.Option.{option_map, option_and_then, option_map_or, unwrap_or}
 use Rattle.std.specs.Str.{IsUtf8}
 use Rattle.std.specs.FinMap as finite
 use Rattle.std.proofs.lemmas.Bool.{cond-true}
-use Rattle.std.proofs.Math.Bool.{and-false}
 use Rattle.hyphenation_commons.specs.Break.{Break, plain, begin_of, end_of}
 use Rattle.hyphenation_commons.specs.Dictionary.{Contents, keys_of}
 use Rattle.hyphenation_commons.specs.Kept.{IsKept}
 use Rattle.hyphenation.specs.declared.case_folding.Shift.{Shift}
-use Rattle.hyphenation.specs.Fits.{Fits}
 use Rattle.hyphenation.specs.Fitting.{kept_by, fitted, fitted_breaks_of, holds_shift, is_steady_by}
 use Rattle.hyphenation.specs.Folding.{fold, shifts_of}
-use Rattle.hyphenation.specs.Opportunities.{Rules, no_change, rules_of, within, breaks_within, break_at, by_patterns, by_exception, opportunities_in, opportunities, boundaries_by, breaks_of, written, Ascending}
+use Rattle.hyphenation.specs.Opportunities.{Rules, no_change, rules_of, within, breaks_within, break_at, by_patterns, opportunities_in, opportunities, boundaries_by, breaks_of, written, Ascending}
 use Rattle.hyphenation.specs.Scoring.{winner_at}
-use Rattle.hyphenation.proofs.Extended.{breaks_fit}
-use Rattle.hyphenation.proofs.Fitting.{kept_from, kept_is, steady_by_shifts, fitted_by_shifts}
+use Rattle.hyphenation.proofs.Fitting.{kept_from, kept_is, fitted_by_shifts}
 use Rattle.hyphenation.proofs.Folds.{fold_is_utf8}
 use Rattle.hyphenation.proofs.Rules.{AscendFrom, rules_are_sound, opportunities_ascend}
 
