@@ -15,6 +15,7 @@ use Rattle.hyphenation_commons.specs.Items.{is_pattern, is_exception, key, word,
 use Rattle.hyphenation_commons.specs.Judging.{stands, repetition}
 use Rattle.hyphenation_commons.specs.Reading.{gathered, told, entry_as, spelt}
 use Rattle.hyphenation_commons.specs.declared.dictionary.Entry.{Entry}
+use Rattle.hyphenation_commons.specs.declared.grammar.form.Version.{Version}
 use Rattle.hyphenation_commons.specs.declared.grammar.Cause.{Cause}
 use Rattle.hyphenation_commons.specs.declared.grammar.Cause.TheVariants.{RepeatedPattern, RepeatedException}
 use Rattle.hyphenation_commons.proofs.PatternsLemmas.{same_test}
@@ -70,50 +71,50 @@ neither true q h = absurd cc
 neither false true h = absurd cc
 neither false false h = (refl, refl)
 
-module _ {C B : Type 0} (carries : Option Change → C) (lists : Break → B) where
-  key_agrees : (l : List ℕ) → option_map (λ x. x.0) (told (entry_as carries) pattern_of l) ≡ key_spelt l
-  key_agrees l = elim (is_pattern l) as (λ b. option_map (λ (x : List ℕ × List (Entry C)). x.0) (option_map {U = List ℕ × List (Entry C)} (λ x. (x.0, map (entry_as carries) x.1)) (cond {A = Option (List ℕ × List (Entry (Option Change)))} b (Some (key l, entries l)) None)) ≡ cond b (Some (key l)) None) [ true ↦ refl | false ↦ refl ]
+module _ {C B : Type 0} (version : Version) (carries : Option Change → C) (lists : Break → B) where
+  key_agrees : (l : List ℕ) → option_map (λ x. x.0) (told (entry_as carries) (pattern_of version) l) ≡ key_spelt version l
+  key_agrees l = elim (is_pattern l) as (λ b. option_map (λ (x : List ℕ × List (Entry C)). x.0) (option_map {U = List ℕ × List (Entry C)} (λ x. (x.0, map (entry_as carries) x.1)) (cond {A = Option (List ℕ × List (Entry (Option Change)))} b (Some (key version l, entries version l)) None)) ≡ cond b (Some (key version l)) None) [ true ↦ refl | false ↦ refl ]
 
   word_agrees : (l : List ℕ) → option_map (λ x. x.0) (told lists exception_of l) ≡ word_spelt l
   word_agrees l = elim (is_exception l) as (λ b. option_map (λ (x : List ℕ × List B). x.0) (option_map {U = List ℕ × List B} (λ x. (x.0, map lists x.1)) (cond {A = Option (List ℕ × List Break)} b (Some (word l, listed l)) None)) ≡ cond b (Some (word l)) None) [ true ↦ refl | false ↦ refl ]
 
-  key_stands : (earlier : List (List ℕ)) (q : List ℕ) → is_some (finite.get (spelt carries lists earlier).patterns q) ≡ stands key_spelt earlier q
-  key_stands earlier q = contains (told (entry_as carries) pattern_of) earlier q ∙ ap (λ (s : List ℕ → Option (List ℕ)). stands s earlier q) (λ k l. key_agrees l k)
+  key_stands : (earlier : List (List ℕ)) (q : List ℕ) → is_some (finite.get (spelt version carries lists earlier).patterns q) ≡ stands (key_spelt version) earlier q
+  key_stands earlier q = contains (told (entry_as carries) (pattern_of version)) earlier q ∙ ap (λ (s : List ℕ → Option (List ℕ)). stands s earlier q) (λ k l. key_agrees l k)
 
-  word_stands : (earlier : List (List ℕ)) (q : List ℕ) → is_some (finite.get (spelt carries lists earlier).exceptions q) ≡ stands word_spelt earlier q
+  word_stands : (earlier : List (List ℕ)) (q : List ℕ) → is_some (finite.get (spelt version carries lists earlier).exceptions q) ≡ stands word_spelt earlier q
   word_stands earlier q = contains (told lists exception_of) earlier q ∙ ap (λ (s : List ℕ → Option (List ℕ)). stands s earlier q) (λ k l. word_agrees l k)
 
-  has_key : (earlier : List (List ℕ)) (line : List ℕ) → has (spelt carries lists earlier).patterns (told (entry_as carries) pattern_of line) ≡ (is_pattern line && stands key_spelt earlier (key line))
+  has_key : (earlier : List (List ℕ)) (line : List ℕ) → has (spelt version carries lists earlier).patterns (told (entry_as carries) (pattern_of version) line) ≡ (is_pattern line && stands (key_spelt version) earlier (key version line))
   has_key earlier line =
-      elim (is_pattern line) as (λ b. has (spelt carries lists earlier).patterns (option_map {U = List ℕ × List (Entry C)} (λ x. (x.0, map (entry_as carries) x.1)) (cond {A = Option (List ℕ × List (Entry (Option Change)))} b (Some (key line, entries line)) None)) ≡ (b && stands key_spelt earlier (key line))) [
-        | true ↦ key_stands earlier (key line)
+      elim (is_pattern line) as (λ b. has (spelt version carries lists earlier).patterns (option_map {U = List ℕ × List (Entry C)} (λ x. (x.0, map (entry_as carries) x.1)) (cond {A = Option (List ℕ × List (Entry (Option Change)))} b (Some (key version line, entries version line)) None)) ≡ (b && stands (key_spelt version) earlier (key version line))) [
+        | true ↦ key_stands earlier (key version line)
         | false ↦ refl
       ]
 
-  has_word : (earlier : List (List ℕ)) (line : List ℕ) → has (spelt carries lists earlier).exceptions (told lists exception_of line) ≡ (is_exception line && stands word_spelt earlier (word line))
+  has_word : (earlier : List (List ℕ)) (line : List ℕ) → has (spelt version carries lists earlier).exceptions (told lists exception_of line) ≡ (is_exception line && stands word_spelt earlier (word line))
   has_word earlier line =
-      elim (is_exception line) as (λ b. has (spelt carries lists earlier).exceptions (option_map {U = List ℕ × List B} (λ x. (x.0, map lists x.1)) (cond {A = Option (List ℕ × List Break)} b (Some (word line, listed line)) None)) ≡ (b && stands word_spelt earlier (word line))) [
+      elim (is_exception line) as (λ b. has (spelt version carries lists earlier).exceptions (option_map {U = List ℕ × List B} (λ x. (x.0, map lists x.1)) (cond {A = Option (List ℕ × List Break)} b (Some (word line, listed line)) None)) ≡ (b && stands word_spelt earlier (word line))) [
         | true ↦ word_stands earlier (word line)
         | false ↦ refl
       ]
 
   -- the last two tests by what was spelt are those by the lines
   pub repeats-spelt : (earlier : List (List ℕ)) (line : List ℕ)
-      → repeats (spelt carries lists earlier).patterns (spelt carries lists earlier).exceptions (told (entry_as carries) pattern_of line) (told lists exception_of line) ≡ repetition earlier line
+      → repeats (spelt version carries lists earlier).patterns (spelt version carries lists earlier).exceptions (told (entry_as carries) (pattern_of version) line) (told lists exception_of line) ≡ repetition version earlier line
   repeats-spelt earlier line =
-      ap (λ (b : Bool). cond b (Some RepeatedPattern) (cond (has (spelt carries lists earlier).exceptions (told lists exception_of line)) (Some RepeatedException) None)) (has_key earlier line)
-      ∙ ap (λ (b : Bool). cond (is_pattern line && stands key_spelt earlier (key line)) (Some RepeatedPattern) (cond b (Some RepeatedException) None)) (has_word earlier line)
+      ap (λ (b : Bool). cond b (Some RepeatedPattern) (cond (has (spelt version carries lists earlier).exceptions (told lists exception_of line)) (Some RepeatedException) None)) (has_key earlier line)
+      ∙ ap (λ (b : Bool). cond (is_pattern line && stands (key_spelt version) earlier (key version line)) (Some RepeatedPattern) (cond b (Some RepeatedException) None)) (has_word earlier line)
 
   -- a line more, which repeats none
-  pub new_key : (earlier : List (List ℕ)) (line : List ℕ) → None ≡ repetition earlier line → has (gathered (told (entry_as carries) pattern_of) earlier) (told (entry_as carries) pattern_of line) ≡ false
-  new_key earlier line none = (neither (has (spelt carries lists earlier).patterns (told (entry_as carries) pattern_of line)) (has (spelt carries lists earlier).exceptions (told lists exception_of line)) (none ∙ sym (repeats-spelt earlier line))).0
+  pub new_key : (earlier : List (List ℕ)) (line : List ℕ) → None ≡ repetition version earlier line → has (gathered (told (entry_as carries) (pattern_of version)) earlier) (told (entry_as carries) (pattern_of version) line) ≡ false
+  new_key earlier line none = (neither (has (spelt version carries lists earlier).patterns (told (entry_as carries) (pattern_of version) line)) (has (spelt version carries lists earlier).exceptions (told lists exception_of line)) (none ∙ sym (repeats-spelt earlier line))).0
 
-  pub new_word : (earlier : List (List ℕ)) (line : List ℕ) → None ≡ repetition earlier line → has (gathered (told lists exception_of) earlier) (told lists exception_of line) ≡ false
-  new_word earlier line none = (neither (has (spelt carries lists earlier).patterns (told (entry_as carries) pattern_of line)) (has (spelt carries lists earlier).exceptions (told lists exception_of line)) (none ∙ sym (repeats-spelt earlier line))).1
+  pub new_word : (earlier : List (List ℕ)) (line : List ℕ) → None ≡ repetition version earlier line → has (gathered (told lists exception_of) earlier) (told lists exception_of line) ≡ false
+  new_word earlier line none = (neither (has (spelt version carries lists earlier).patterns (told (entry_as carries) (pattern_of version) line)) (has (spelt version carries lists earlier).exceptions (told lists exception_of line)) (none ∙ sym (repeats-spelt earlier line))).1
 
-  pub spelt-more : (earlier : List (List ℕ)) (line : List ℕ) → None ≡ repetition earlier line
-      → spelt carries lists (earlier ++ line ∷ []) ≡ record { patterns = with_spelt (spelt carries lists earlier).patterns (told (entry_as carries) pattern_of line); exceptions = with_spelt (spelt carries lists earlier).exceptions (told lists exception_of line) }
+  pub spelt-more : (earlier : List (List ℕ)) (line : List ℕ) → None ≡ repetition version earlier line
+      → spelt version carries lists (earlier ++ line ∷ []) ≡ record { patterns = with_spelt (spelt version carries lists earlier).patterns (told (entry_as carries) (pattern_of version) line); exceptions = with_spelt (spelt version carries lists earlier).exceptions (told lists exception_of line) }
   spelt-more earlier line none = λ i. record {
-    patterns = gathered-more (told (entry_as carries) pattern_of) earlier line (new_key earlier line none) i;
+    patterns = gathered-more (told (entry_as carries) (pattern_of version)) earlier line (new_key earlier line none) i;
     exceptions = gathered-more (told lists exception_of) earlier line (new_word earlier line none) i;
   }

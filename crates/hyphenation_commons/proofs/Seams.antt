@@ -1,14 +1,16 @@
 -- What is read of a UTF-8 token is UTF-8, and so is what stands between the values of a pattern.
-use Rattle.std.proofs.Common.{◌≡◌, ℕ, ◌-◌, ◌<◌, Bool, true, false, cond, eqb, List, [], ◌∷◌, ◌++◌, map, Option, Some, None, refl, sym, ap, subst, append_assoc, arith, inl, inr}
-use Rattle.std.specs.Prelude.{IsUtf8, ◌⊎◌}
-use Rattle.std.specs.Option.{option_map}
+use Rattle.std.proofs.Common.{◌≡◌, ℕ, ◌-◌, ◌<◌, Bool, true, false, cond, not, ◌&&◌, eqb, List, [], ◌∷◌, ◌++◌, map, Option, Some, None, refl, sym, subst, append_assoc, arith}
+use Rattle.std.specs.Prelude.{IsUtf8}
+use Rattle.std.specs.Option.{option_map, option_and_then}
 use Rattle.std.proofs.lemmas.List.{append-nil}
 use Rattle.std.proofs.lemmas.Bool.Decides.{nat_tests}
 use Rattle.std.proofs.lemmas.Str.{IsUtf8-append}
 use Rattle.hyphenation_commons.specs.Lines.{is_digit}
-use Rattle.hyphenation_commons.specs.Tokens.{signs_behind, signs_of, meaning, escaped_also, joined, added, bytes_of, mark_of, key_of}
+use Rattle.hyphenation_commons.specs.Tokens.{signs_behind, signs_of, meaning, escaped_also, joined, added, bytes_of, mark_of, key_of, is_raw, is_raw_digit, braced, outside, inside, marks_from, marks_of, pattern_escapes, pattern_signs}
+use Rattle.hyphenation_commons.specs.declared.grammar.form.Version.{Version}
+use Rattle.hyphenation_commons.specs.declared.grammar.form.Version.TheVariants.{First, Second}
 use Rattle.hyphenation_commons.specs.declared.grammar.tokens.Escapes.{Escapes}
-use Rattle.hyphenation_commons.specs.declared.grammar.tokens.Escapes.TheVariants.{Digits}
+use Rattle.hyphenation_commons.specs.declared.grammar.tokens.Escapes.TheVariants.{Plain, Digits, DigitsAndBraces}
 use Rattle.hyphenation_commons.specs.declared.grammar.tokens.Sign.{Sign}
 use Rattle.hyphenation_commons.specs.declared.grammar.tokens.Mark.{Mark}
 use Rattle.hyphenation_commons.specs.declared.grammar.tokens.Mark.TheVariants.{Letter, Value}
@@ -47,74 +49,158 @@ small_meaning es c m e = by (eqb c 92) (eqb c 115) (eqb c 110) (eqb c 114) (esca
     by false false false false true e1 e2 e3 e4 e5 h = let same : c ≡ m = cc in (small_digit es c e5, subst (λ (x : ℕ). x < 128) same (small_digit es c e5))
     by false false false false false e1 e2 e3 e4 e5 h = absurd cc
 
--- however signs are taken as marks, so long as a value is an ASCII byte that is not escaped
-module _ (es : Escapes) (mark : Sign → Mark) (escaped : (b : ℕ) → mark (record { byte = b; escaped = true }) ≡ Letter b)
-    (plain : (b : ℕ) → (mark (record { byte = b; escaped = false }) ≡ Letter b) ⊎ ((v : ℕ) × (mark (record { byte = b; escaped = false }) ≡ Value v) × (b < 128))) where
-  -- behind no backslash, after some letters p; and behind one
+-- after some bytes p: they and the signs that follow spell UTF-8, and each ASCII sign that is not escaped stands between characters
+abbrev AreParted : List ℕ → List Sign → Type 0
+AreParted p [] = IsUtf8 p
+AreParted p (s ∷ ss) = AreParted (p ++ s.byte ∷ []) ss × (s.escaped ≡ false → s.byte < 128 → IsUtf8 p × AreParted [] ss)
+
+module _ (es : Escapes) where
+  -- behind no backslash, after some bytes p; and behind one
   abbrev Keeps : List ℕ → Type 0
-  Keeps rest = ((p : List ℕ) (ss : List Sign) → IsUtf8 (p ++ rest) → signs_behind es false rest ≡ Some ss → AreSeams p (map mark ss))
-      × ((p : List ℕ) (ss : List Sign) → IsUtf8 p → IsUtf8 rest → signs_behind es true rest ≡ Some ss → AreSeams p (map mark ss))
+  Keeps rest = ((p : List ℕ) (ss : List Sign) → IsUtf8 (p ++ rest) → signs_behind es false rest ≡ Some ss → AreParted p ss)
+      × ((p : List ℕ) (ss : List Sign) → IsUtf8 p → IsUtf8 rest → signs_behind es true rest ≡ Some ss → AreParted p ss)
 
   keeps_plain : (b : ℕ) (rest p : List ℕ) (ss : List Sign) → Keeps rest → IsUtf8 (p ++ b ∷ rest)
-      → joined (added es false b) (signs_behind es (eqb b 92) rest) ≡ Some ss → AreSeams p (map mark ss)
+      → joined (added es false b) (signs_behind es (eqb b 92) rest) ≡ Some ss → AreParted p ss
   keeps_plain b rest p ss more u e = by (eqb b 92) (eqb b 13) refl refl e
     where
-      by : (t1 t2 : Bool) → eqb b 92 ≡ t1 → eqb b 13 ≡ t2 → joined (cond t1 (Some []) (cond t2 None (Some (record { byte = b; escaped = false } ∷ [])))) (signs_behind es t1 rest) ≡ Some ss → AreSeams p (map mark ss)
+      by : (t1 t2 : Bool) → eqb b 92 ≡ t1 → eqb b 13 ≡ t2 → joined (cond t1 (Some []) (cond t2 None (Some (record { byte = b; escaped = false } ∷ [])))) (signs_behind es t1 rest) ≡ Some ss → AreParted p ss
       by true t2 e1 e2 h =
           let j = joined_some [] (signs_behind es true rest) ss h in
           let parts = split_ascii p b rest (same_byte b 92 e1 (omega arith)) u in
-          subst (λ (xs : List Sign). AreSeams p (map mark xs)) j.2 (more.1 p j.0 parts.0 parts.1 j.1)
+          subst (AreParted p) j.2 (more.1 p j.0 parts.0 parts.1 j.1)
       by false true e1 e2 h = absurd (none_joined (signs_behind es false rest) ss h)
       by false false e1 e2 h =
           let j = joined_some (record { byte = b; escaped = false } ∷ []) (signs_behind es false rest) ss h in
-          subst (λ (xs : List Sign). AreSeams p (map mark xs)) j.2
-          (elim (plain b) [
-            | inl is ↦ subst (λ (m : Mark). AreSeams p (m ∷ map mark j.0)) (sym is) (more.0 (p ++ b ∷ []) j.0 (subst IsUtf8 (sym (append_assoc p (b ∷ []) rest)) u) j.1)
-            | inr v ↦ let parts = split_ascii p b rest v.2 u in subst (λ (m : Mark). AreSeams p (m ∷ map mark j.0)) (sym v.1) (parts.0, more.0 [] j.0 parts.1 j.1)
-          ])
+          subst (AreParted p) j.2 (
+            more.0 (p ++ b ∷ []) j.0 (subst IsUtf8 (sym (append_assoc p (b ∷ []) rest)) u) j.1,
+            λ _ small. let parts = split_ascii p b rest small u in (parts.0, more.0 [] j.0 parts.1 j.1),
+          )
 
   keeps_escaped : (c : ℕ) (rest p : List ℕ) (ss : List Sign) → Keeps rest → IsUtf8 p → IsUtf8 (c ∷ rest)
-      → joined (option_map (λ byte. record { byte = byte; escaped = true } ∷ []) (meaning es c)) (signs_behind es false rest) ≡ Some ss → AreSeams p (map mark ss)
+      → joined (option_map (λ byte. record { byte = byte; escaped = true } ∷ []) (meaning es c)) (signs_behind es false rest) ≡ Some ss → AreParted p ss
   keeps_escaped c rest p ss more up u e = by (meaning es c) refl e
     where
-      by : (o : Option ℕ) → meaning es c ≡ o → joined (option_map (λ byte. record { byte = byte; escaped = true } ∷ []) o) (signs_behind es false rest) ≡ Some ss → AreSeams p (map mark ss)
+      by : (o : Option ℕ) → meaning es c ≡ o → joined (option_map (λ byte. record { byte = byte; escaped = true } ∷ []) o) (signs_behind es false rest) ≡ Some ss → AreParted p ss
       by None m h = absurd (none_joined (signs_behind es false rest) ss h)
       by (Some byte) m h =
           let small = small_meaning es c byte m in
           let j = joined_some (record { byte = byte; escaped = true } ∷ []) (signs_behind es false rest) ss h in
           let left : IsUtf8 rest = (split_ascii [] c rest small.0 u).1 in
           let front : IsUtf8 (p ++ byte ∷ []) = IsUtf8-append p (byte ∷ []) up (one_ascii byte small.1) in
-          subst (λ (xs : List Sign). AreSeams p (map mark xs)) j.2
-          (subst (λ (m : Mark). AreSeams p (m ∷ map mark j.0)) (sym (escaped byte)) (more.0 (p ++ byte ∷ []) j.0 (IsUtf8-append (p ++ byte ∷ []) rest front left) j.1))
+          subst (AreParted p) j.2 (more.0 (p ++ byte ∷ []) j.0 (IsUtf8-append (p ++ byte ∷ []) rest front left) j.1, λ e' _. absurd cc)
 
   keeps : (rest : List ℕ) → Keeps rest
-  keeps [] = (λ p ss u e. let none : [] ≡ ss = cc in subst (λ (xs : List Sign). AreSeams p (map mark xs)) none (subst IsUtf8 (append-nil p) u), λ p ss up u e. absurd cc)
+  keeps [] = (λ p ss u e. let none : [] ≡ ss = cc in subst (AreParted p) none (subst IsUtf8 (append-nil p) u), λ p ss up u e. absurd cc)
   keeps (b ∷ rest) = (λ p ss u e. keeps_plain b rest p ss (keeps rest) u e, λ p ss up u e. keeps_escaped b rest p ss (keeps rest) up u e)
 
-  read-seams : (token : List ℕ) (ss : List Sign) → IsUtf8 token → signs_of es token ≡ Some ss → AreSeams [] (map mark ss)
-  read-seams token ss u e = (keeps token).0 [] ss u e
+  parted : (token : List ℕ) (ss : List Sign) → IsUtf8 token → signs_of es token ≡ Some ss → AreParted [] ss
+  parted token ss u e = (keeps token).0 [] ss u e
 
-digit_or_letter : (b : ℕ) → (mark_of (record { byte = b; escaped = false }) ≡ Letter b) ⊎ ((v : ℕ) × (mark_of (record { byte = b; escaped = false }) ≡ Value v) × (b < 128))
-digit_or_letter b = by (is_digit b) refl
+-- what signs spell
+spelt-utf8 : (p : List ℕ) (ss : List Sign) → AreParted p ss → IsUtf8 (p ++ bytes_of ss)
+spelt-utf8 p [] h = subst IsUtf8 (sym (append-nil p)) h
+spelt-utf8 p (s ∷ ss) h = subst IsUtf8 (append_assoc p (s.byte ∷ []) (bytes_of ss)) (spelt-utf8 (p ++ s.byte ∷ []) ss h.0)
+
+small_digit_byte : (b : ℕ) → is_digit b ≡ true → b < 128
+small_digit_byte b e = grind (arith, nat_tests)
+
+both_on : (a b : Bool) → (a && b) ≡ true → (a ≡ true) × (b ≡ true)
+both_on true b e = (refl, e)
+both_on false b e = absurd cc
+
+not_on : (b : Bool) → not b ≡ true → b ≡ false
+not_on true e = absurd cc
+not_on false e = refl
+
+-- a mark of its own
+one_mark : (p : List ℕ) (s : Sign) (ss : List Sign) (ms : List Mark) → AreParted p (s ∷ ss) → (AreParted (p ++ s.byte ∷ []) ss → AreSeams (p ++ s.byte ∷ []) ms) → (AreParted [] ss → AreSeams [] ms)
+    → AreSeams p (mark_of s ∷ ms)
+one_mark p s ss ms h letter value = by (not s.escaped && is_digit s.byte) refl
   where
-    small : is_digit b ≡ true → b < 128
-    small e = grind (arith, nat_tests)
+    by : (t : Bool) → (not s.escaped && is_digit s.byte) ≡ t → AreSeams p (cond t (Value (s.byte - 48)) (Letter s.byte) ∷ ms)
+    by true e =
+        let two = both_on (not s.escaped) (is_digit s.byte) e in
+        let cut = h.1 (not_on s.escaped two.0) (small_digit_byte s.byte two.1) in
+        (cut.0, value cut.1)
+    by false e = letter h.0
 
-    by : (t : Bool) → is_digit b ≡ t → (cond t (Value (b - 48)) (Letter b) ≡ Letter b) ⊎ ((v : ℕ) × (cond t (Value (b - 48)) (Letter b) ≡ Value v) × (b < 128))
-    by true e = inr (b - 48, refl, small e)
-    by false e = inl refl
+-- between the values of marks, outside braces and in them
+abbrev Between : Version → List Sign → Type 0
+Between version ss = ((p : List ℕ) (ms : List Mark) → AreParted p ss → marks_from version None ss ≡ Some ms → AreSeams p ms)
+    × ((p digits : List ℕ) (ms : List Mark) → IsUtf8 p → AreParted [] ss → marks_from version (Some digits) ss ≡ Some ms → AreSeams p ms)
+
+raw_byte : (b : ℕ) (s : Sign) → is_raw b s ≡ true → b < 128 → (s.escaped ≡ false) × (s.byte < 128)
+raw_byte b s e small = let two = both_on (not s.escaped) (eqb s.byte b) e in (not_on s.escaped two.0, same_byte s.byte b two.1 small)
+
+raw_digit : (s : Sign) → is_raw_digit s ≡ true → (s.escaped ≡ false) × (s.byte < 128)
+raw_digit s e = let two = both_on (not s.escaped) (is_digit s.byte) e in (not_on s.escaped two.0, small_digit_byte s.byte two.1)
+
+none_and_then : (f : Option (List ℕ) × List Mark → Option (List Mark)) (ms : List Mark) → option_and_then f None ≡ Some ms → ⊥
+none_and_then f ms e = cc
+
+abbrev rest_of : Version → List Sign → Option (List ℕ) × List Mark → Option (List Mark)
+rest_of version ss step = option_map (λ marks. step.1 ++ marks) (marks_from version step.0 ss)
+
+mapped_some : (front : List Mark) (o : Option (List Mark)) (ms : List Mark) → option_map (λ marks. front ++ marks) o ≡ Some ms → (rest : List Mark) × (o ≡ Some rest) × (front ++ rest ≡ ms)
+mapped_some front None ms e = absurd cc
+mapped_some front (Some rest) ms e = (rest, refl, cc)
+
+first_marks : (ss : List Sign) → Between First ss → (p : List ℕ) (s : Sign) (ms : List Mark) → AreParted p (s ∷ ss) → rest_of First ss (None, mark_of s ∷ []) ≡ Some ms → AreSeams p ms
+first_marks ss more p s ms h e =
+    let r = mapped_some (mark_of s ∷ []) (marks_from First None ss) ms e in
+    subst (AreSeams p) r.2 (one_mark p s ss r.0 h (λ left. more.0 (p ++ s.byte ∷ []) r.0 left r.1) (λ left. more.0 [] r.0 left r.1))
+
+outside_marks : (ss : List Sign) → Between Second ss → (p : List ℕ) (s : Sign) (ms : List Mark) → AreParted p (s ∷ ss) → option_and_then (rest_of Second ss) (outside s) ≡ Some ms → AreSeams p ms
+outside_marks ss more p s ms h e = by (is_raw 123 s) (is_raw 125 s) refl e
+  where
+    by : (t u : Bool) → is_raw 123 s ≡ t → option_and_then (rest_of Second ss) (cond t (Some (Some [], [])) (cond u None (Some (None, mark_of s ∷ [])))) ≡ Some ms → AreSeams p ms
+    by true u is e' =
+        let raw = raw_byte 123 s is (omega arith) in
+        let cut = h.1 raw.0 raw.1 in
+        let r = mapped_some [] (marks_from Second (Some []) ss) ms e' in
+        subst (AreSeams p) r.2 (more.1 p [] r.0 cut.0 cut.1 r.1)
+    by false true is e' = absurd (none_and_then (rest_of Second ss) ms e')
+    by false false is e' =
+        let r = mapped_some (mark_of s ∷ []) (marks_from Second None ss) ms e' in
+        subst (AreSeams p) r.2 (one_mark p s ss r.0 h (λ left. more.0 (p ++ s.byte ∷ []) r.0 left r.1) (λ left. more.0 [] r.0 left r.1))
+
+inside_marks : (ss : List Sign) → Between Second ss → (p digits : List ℕ) (s : Sign) (ms : List Mark) → IsUtf8 p → AreParted [] (s ∷ ss) → option_and_then (rest_of Second ss) (inside digits s) ≡ Some ms → AreSeams p ms
+inside_marks ss more p digits s ms u h e = by (is_raw 125 s) (is_raw_digit s) refl refl e
+  where
+    closed : (o : Option ℕ) → AreParted [] ss → option_and_then (rest_of Second ss) (option_map (λ value. (None, Value value ∷ [])) o) ≡ Some ms → AreSeams p ms
+    closed None left e' = absurd (none_and_then (rest_of Second ss) ms e')
+    closed (Some value) left e' =
+        let r = mapped_some (Value value ∷ []) (marks_from Second None ss) ms e' in
+        subst (AreSeams p) r.2 (u, more.0 [] r.0 left r.1)
+
+    by : (t d : Bool) → is_raw 125 s ≡ t → is_raw_digit s ≡ d
+        → option_and_then (rest_of Second ss) (cond t (option_map (λ value. (None, Value value ∷ [])) (braced digits)) (cond d (Some (Some (digits ++ s.byte ∷ []), [])) None)) ≡ Some ms → AreSeams p ms
+    by true d is isd e' = let raw = raw_byte 125 s is (omega arith) in closed (braced digits) (h.1 raw.0 raw.1).1 e'
+    by false true is isd e' =
+        let raw = raw_digit s isd in
+        let r = mapped_some [] (marks_from Second (Some (digits ++ s.byte ∷ [])) ss) ms e' in
+        subst (AreSeams p) r.2 (more.1 p (digits ++ s.byte ∷ []) r.0 u (h.1 raw.0 raw.1).1 r.1)
+    by false false is isd e' = absurd (none_and_then (rest_of Second ss) ms e')
+
+-- the first version closes no brace
+never_closed : (digits : List ℕ) (ss : List Sign) (ms : List Mark) → marks_from First (Some digits) ss ≡ Some ms → ⊥
+never_closed digits [] ms e = cc
+never_closed digits (s ∷ ss) ms e = let r = mapped_some (mark_of s ∷ []) (marks_from First (Some digits) ss) ms e in never_closed digits ss r.0 r.1
+
+between : (version : Version) (ss : List Sign) → Between version ss
+between version [] = (λ p ms h e. let none : [] ≡ ms = cc in subst (AreSeams p) none h, λ p digits ms u h e. absurd cc)
+between First (s ∷ ss) = (λ p ms h e. first_marks ss (between First ss) p s ms h e, λ p digits ms u h e. absurd (never_closed digits (s ∷ ss) ms e))
+between Second (s ∷ ss) = (λ p ms h e. outside_marks ss (between Second ss) p s ms h e, λ p digits ms u h e. inside_marks ss (between Second ss) p digits s ms u h e)
 
 -- between the values of a pattern
-pub marks-seams : (token : List ℕ) (ss : List Sign) → IsUtf8 token → signs_of Digits token ≡ Some ss → AreSeams [] (map mark_of ss)
-marks-seams = read-seams Digits mark_of (λ b. refl) digit_or_letter
-
-abbrev letter_of : Sign → Mark
-letter_of sign = Letter sign.byte
-
-letters : (ss : List Sign) → key_of (map letter_of ss) ≡ bytes_of ss
-letters [] = refl
-letters (s ∷ ss) = ap (λ (bs : List ℕ). s.byte ∷ bs) (letters ss)
+pub marks-seams : (version : Version) (token : List ℕ) (ms : List Mark) → IsUtf8 token → marks_of version token ≡ Some ms → AreSeams [] ms
+marks-seams version token ms u e = by (pattern_signs version token) refl e
+  where
+    by : (o : Option (List Sign)) → pattern_signs version token ≡ o → option_and_then (marks_from version None) o ≡ Some ms → AreSeams [] ms
+    by None is h = absurd cc
+    by (Some ss) is h = (between version ss).0 [] ms (parted (pattern_escapes version) token ss u is) h
 
 -- the bytes that a UTF-8 token is read as
 pub read-utf8 : (es : Escapes) (token : List ℕ) (ss : List Sign) → IsUtf8 token → signs_of es token ≡ Some ss → IsUtf8 (bytes_of ss)
-read-utf8 es token ss u e = subst IsUtf8 (letters ss) (seams-utf8 [] (map letter_of ss) (read-seams es letter_of (λ b. refl) (λ b. inl refl) token ss u e))
+read-utf8 es token ss u e = spelt-utf8 [] ss (parted es token ss u e)

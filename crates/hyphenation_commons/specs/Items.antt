@@ -4,6 +4,7 @@ use Rattle.std.specs.List.{list_all, list_any, slice_split}
 use Rattle.hyphenation_commons.specs.Break.{Break, Change}
 use Rattle.hyphenation_commons.specs.Lines.{begins}
 use Rattle.hyphenation_commons.specs.Tokens.{marks_of, text_of, key_of, values_from, has_comma, place_of, change_of}
+use Rattle.hyphenation_commons.specs.declared.grammar.form.Version.{Version}
 use Rattle.hyphenation_commons.specs.declared.grammar.tokens.Mark.{Mark}
 use Rattle.hyphenation_commons.specs.declared.dictionary.Entry.{Entry}
 
@@ -24,20 +25,20 @@ abbrev pub later_of : List ℕ → List (List ℕ)
 later_of line = drop 1 (tokens_of line)
 
 -- A pattern's marks and key; an exception's word; which of the two texts the places of a line count in.
-abbrev pub pattern_marks : List ℕ → List Mark
-pattern_marks line = unwrap_or (marks_of (first_of line)) []
+abbrev pub pattern_marks : Version → List ℕ → List Mark
+pattern_marks version line = unwrap_or (marks_of version (first_of line)) []
 
-abbrev pub key : List ℕ → List ℕ
-key line = key_of (pattern_marks line)
+abbrev pub key : Version → List ℕ → List ℕ
+key version line = key_of (pattern_marks version line)
 
 abbrev pub word : List ℕ → List ℕ
 word line = unwrap_or (text_of (first_of line)) []
 
-abbrev pub counted : List ℕ → List ℕ
-counted line = if is_pattern line then key line else word line
+abbrev pub counted : Version → List ℕ → List ℕ
+counted version line = if is_pattern line then key version line else word line
 
-abbrev pub key_spelt : List ℕ → Option (List ℕ)
-key_spelt line = if is_pattern line then Some (key line) else None
+abbrev pub key_spelt : Version → List ℕ → Option (List ℕ)
+key_spelt version line = if is_pattern line then Some (key version line) else None
 
 abbrev pub word_spelt : List ℕ → Option (List ℕ)
 word_spelt line = if is_exception line then Some (word line) else None
@@ -54,12 +55,12 @@ change_at place [] = None
 change_at place (b ∷ rest) = if b.place == place then b.change else change_at place rest
 
 -- The entries of a key: its values, each with its change.
-abbrev pub entries : List ℕ → List (Entry (Option Change))
-entries line = map (λ v. record { place = v.0; value = v.1; change = change_at v.0 (listed line) }) (values_from 0 (pattern_marks line))
+abbrev pub entries : Version → List ℕ → List (Entry (Option Change))
+entries version line = map (λ v. record { place = v.0; value = v.1; change = change_at v.0 (listed line) }) (values_from 0 (pattern_marks version line))
 
 -- What a line spells: a key with its entries, or a word with its listed breaks.
-abbrev pub pattern_of : List ℕ → Option (List ℕ × List (Entry (Option Change)))
-pattern_of line = if is_pattern line then Some (key line, entries line) else None
+abbrev pub pattern_of : Version → List ℕ → Option (List ℕ × List (Entry (Option Change)))
+pattern_of version line = if is_pattern line then Some (key version line, entries version line) else None
 
 abbrev pub exception_of : List ℕ → Option (List ℕ × List Break)
 exception_of line = if is_exception line then Some (word line, listed line) else None

@@ -2,7 +2,7 @@
 use Rattle.std.specs.Prelude.{ℕ, List, ◌∷◌, ◌++◌, codes, Option, Some, None}
 use Rattle.std.specs.Fmt.{decimal}
 use Rattle.hyphenation_commons.specs.declared.grammar.Cause.{Cause}
-use Rattle.hyphenation_commons.specs.declared.grammar.Cause.TheVariants.{NotUtf8, Header, Language, Minima, UnknownLine, Token, Pattern, NoLetters, Number, Place, Change, RepeatedPattern, RepeatedException}
+use Rattle.hyphenation_commons.specs.declared.grammar.Cause.TheVariants.{NotUtf8, Header, Language, Minima, UnknownLine, Token, Value, Pattern, NoLetters, Number, Place, Change, RepeatedPattern, RepeatedException}
 use Rattle.hyphenation_commons.specs.declared.grammar.Error.{Error}
 use Rattle.hyphenation_commons.specs.declared.grammar.Error.TheVariants.{Deserialization, IO, LanguageMismatch, Memory}
 
@@ -13,6 +13,7 @@ message Language = codes "not a language line"
 message Minima = codes "not a minima line"
 message UnknownLine = codes "unknown line"
 message Token = codes "bad token"
+message Value = codes "bad value"
 message Pattern = codes "two values in one place"
 message NoLetters = codes "a pattern without letters"
 message Number = codes "bad number"

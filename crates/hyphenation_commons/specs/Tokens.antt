@@ -2,17 +2,28 @@
 use Rattle.std.specs.Prelude.{◌≡◌, ℕ, zero, suc, ◌+◌, ◌-◌, ◌==◌, ◌&&◌, ◌||◌, nat_lt, nat_le, nat_eq, Bool, true, false, not, if◌then◌else◌, List, [], ◌∷◌, ◌++◌, length, map, filter, take, drop, codes, Option, Some, None, is_some, unwrap_or, option_map, option_and_then, slice_index, slice_index_or}
 use Rattle.std.specs.List.{list_all, list_any, filter_map, onto_first}
 use Rattle.hyphenation_commons.specs.Break.{Change}
-use Rattle.hyphenation_commons.specs.Lines.{is_digit, is_number, number, same}
+use Rattle.hyphenation_commons.specs.Lines.{is_digit, is_number, number, same, small_of}
 use Rattle.hyphenation_commons.specs.declared.grammar.tokens.Escapes.{Escapes}
-use Rattle.hyphenation_commons.specs.declared.grammar.tokens.Escapes.TheVariants.{Plain, Digits}
+use Rattle.hyphenation_commons.specs.declared.grammar.tokens.Escapes.TheVariants.{Plain, Digits, DigitsAndBraces}
+use Rattle.hyphenation_commons.specs.declared.grammar.form.Version.{Version}
+use Rattle.hyphenation_commons.specs.declared.grammar.form.Version.TheVariants.{First, Second}
 use Rattle.hyphenation_commons.specs.declared.grammar.tokens.Sign.{Sign}
 use Rattle.hyphenation_commons.specs.declared.grammar.tokens.Mark.{Mark}
 use Rattle.hyphenation_commons.specs.declared.grammar.tokens.Mark.TheVariants.{Letter, Value}
+
+-- Which letters may stand behind a backslash in a pattern.
+abbrev pub pattern_escapes : Version → Escapes
+pattern_escapes First = Digits
+pattern_escapes Second = DigitsAndBraces
+
+abbrev pub is_brace : ℕ → Bool
+is_brace b = b == 123 || b == 125
 
 -- The byte that a letter behind a backslash means.
 abbrev pub escaped_also : Escapes → ℕ → Bool
 escaped_also Plain c = false
 escaped_also Digits c = is_digit c
+escaped_also DigitsAndBraces c = is_digit c || is_brace c
 
 abbrev pub meaning : Escapes → ℕ → Option ℕ
 meaning escapes c = if c == 92 then Some 92 else (if c == 115 then Some 32 else (if c == 110 then Some 10 else (if c == 114 then Some 13 else (if escaped_also escapes c then Some c else None))))
@@ -45,8 +56,45 @@ text_of written = if same written (codes "\\e") then Some [] else option_map byt
 abbrev pub mark_of : Sign → Mark
 mark_of sign = if not sign.escaped && is_digit sign.byte then Value (sign.byte - 48) else Letter sign.byte
 
-abbrev pub marks_of : List ℕ → Option (List Mark)
-marks_of token = option_map (map mark_of) (signs_of Digits token)
+-- An unescaped byte.
+abbrev pub is_raw : ℕ → Sign → Bool
+is_raw b sign = not sign.escaped && sign.byte == b
+
+abbrev pub is_raw_digit : Sign → Bool
+is_raw_digit sign = not sign.escaped && is_digit sign.byte
+
+-- The value that digits in braces write: a number from 10 to 255.
+abbrev pub braced : List ℕ → Option ℕ
+braced digits = option_and_then (λ value. if nat_le 10 value then Some value else None) (small_of digits)
+
+-- A sign outside braces: the digits in the braces that it opens, if it does, and the marks that it adds. None of a closing one.
+abbrev pub outside : Sign → Option (Option (List ℕ) × List Mark)
+outside sign = if is_raw 123 sign then Some (Some [], []) else (if is_raw 125 sign then None else Some (None, mark_of sign ∷ []))
+
+-- A sign in braces, behind these digits: one more of them, or the brace that ends the value. None where it can't stand there.
+abbrev pub inside : List ℕ → Sign → Option (Option (List ℕ) × List Mark)
+inside digits sign =
+    if is_raw 125 sign then option_map (λ value. (None, Value value ∷ [])) (braced digits)
+    else (if is_raw_digit sign then Some (Some (digits ++ sign.byte ∷ []), []) else None)
+
+-- In the first version braces are letters.
+abbrev pub taken : Version → Option (List ℕ) → Sign → Option (Option (List ℕ) × List Mark)
+taken First digits sign = Some (digits, mark_of sign ∷ [])
+taken Second None sign = outside sign
+taken Second (Some digits) sign = inside digits sign
+
+-- The marks of signs, from left to right, outside braces or behind these digits in them. None where a brace opens or closes no value.
+abbrev pub marks_from : Version → Option (List ℕ) → List Sign → Option (List Mark)
+marks_from version None [] = Some []
+marks_from version (Some digits) [] = None
+marks_from version digits (sign ∷ signs) = option_and_then (λ step. option_map (λ marks. step.1 ++ marks) (marks_from version step.0 signs)) (taken version digits sign)
+
+-- The signs of a pattern's token, and its marks: each value with its braces is one.
+abbrev pub pattern_signs : Version → List ℕ → Option (List Sign)
+pattern_signs version token = signs_of (pattern_escapes version) token
+
+abbrev pub marks_of : Version → List ℕ → Option (List Mark)
+marks_of version token = option_and_then (marks_from version None) (pattern_signs version token)
 
 -- The key that marks spell.
 abbrev pub key_of : List Mark → List ℕ

@@ -1,5 +1,6 @@
+use Rattle.hyphenation_commons.specs.Form.{version_by}
 use Rattle.hyphenation_commons.proofs.AnyOrder.{accepted-anyhow}
 use Rattle.hyphenation_commons.proofs.grammar.laws.accepted_in_any_order.Goals as goal
 
 pub returns : goal.returns
-returns c = λ form first second third ls ms. accepted-anyhow form first second third ls ms
+returns c = λ kind first second third ls ms. accepted-anyhow (record { kind = kind; version = version_by kind first }) first second third ls ms
