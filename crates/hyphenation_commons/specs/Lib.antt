@@ -13,6 +13,7 @@ pub mod Judging
 pub mod Reading
 pub mod Parsed
 pub mod Said
+pub mod Matched
 pub mod Draft
 pub mod Refusals
 pub mod Examples
