@@ -16,8 +16,9 @@
 ghost use Rattle.std.specs.Prelude.{◌≡◌, ◌≤◌, ◌<◌, ◌^◌, ℕ, List, [], false, pos, ◌-ℤ◌, length, take, find, reverse, nat_lt, IfOk, IsOkAnd, IfSome, IsNone, ◌↔◌};
 ghost use Rattle.std.specs.Cow.{cow_str_bytes, IsBorrowedStr};
 ghost use Rattle.std.specs.Int.{saturate_unsigned, w64};
+ghost use Rattle.std.specs.List.Sorted.{IsNonDecreasingBy};
 ghost use Rattle.std.specs.Str.{IsUtf8, IsCharBoundary};
-ghost use Rattle.std.specs.Option.{option_copied};
+ghost use Rattle.std.specs.Option.{option_copied, option_map_or};
 ghost use Rattle.std.specs.Str.Pattern.{HasPassingCharAt};
 ghost use Rattle.unicode.specs.Binary.{is_uppercase};
 ghost use Rattle.hyphenation.specs.Places.{place_of_character};
@@ -112,8 +113,33 @@ pub fn realign(i: usize, shifts: &[Shift]) -> usize
     ensures carried { (original : List ℕ) → IsUtf8 original → length original ≤ usize.MAX → shifts.now ≡ shifts_of original → IsCharBoundary (fold original) i → result ≡ carried original i }
     ensures same_character { (original : List ℕ) (j : ℕ) → IsUtf8 original → length original ≤ usize.MAX → shifts.now ≡ shifts_of original → i ≡ place_of_character (fold original) j → result ≡ place_of_character original j }
 {
-    let delta = last_shift_below(i, shifts).map_or(0, |shift| shift.delta);
+    carried_by(i, last_shift_below(i, shifts))
+}
+
+// The place less the delta of a shift, if there is one, held between 0 and the greatest `usize`.
+fn carried_by(i: usize, shift: Option<&Shift>) -> usize
+    ensures { result ≡ saturate_unsigned w64 (pos i -ℤ option_map_or (λ shift. shift.delta) (option_copied shift.entry) (pos 0)) }
+{
+    let delta = shift.map_or(0, |shift| shift.delta);
     i.saturating_sub_signed(delta)
+}
+
+/// What [`realign`] answers, for shifts in the order of their indices: of these it asks few, by
+/// halving.
+pub(crate) fn realign_in_order(i: usize, shifts: &[Shift]) -> usize
+    requires { IsNonDecreasingBy (λ shift. shift.index) shifts.now }
+    ensures { result ≡ saturate_unsigned w64 (pos i -ℤ delta_below shifts.now i) }
+{
+    carried_by(i, last_in_order(i, shifts))
+}
+
+// The last shift whose index is below `i`, where they stand in order.
+fn last_in_order(i: usize, shifts: &[Shift]) -> Option<&Shift>
+    requires { IsNonDecreasingBy (λ shift. shift.index) shifts.now }
+    ensures { option_copied result ≡ find (λ shift. nat_lt shift.index i) (reverse shifts.now) }
+{
+    let count = shifts.partition_point(|shift| shift.index < i);
+    shifts[..count].last()
 }
 
 // The last shift whose index is below `i`.

@@ -1,0 +1,9 @@
+use Rattle.hyphenation.specs.Opportunities.{own_change, own_break}
+use Rattle.hyphenation.proofs.Extended.{breaks_fit, breaks_ascend}
+use Rattle.hyphenation.proofs.hyphenator.extended.ExtendedHyphenator.unbreakable_chars.Goals as goal
+
+pub returns-clause-fit : goal.returns-clause-fit
+returns-clause-fit c = λ word u. breaks_fit own_change own_break c.args.self.now word c.minima.ensures.kept u
+
+pub returns-clause-ascend : goal.returns-clause-ascend
+returns-clause-ascend c = λ word u. breaks_ascend own_change own_break c.args.self.now word c.minima.ensures.kept u

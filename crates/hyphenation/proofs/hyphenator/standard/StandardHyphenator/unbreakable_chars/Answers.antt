@@ -1,0 +1,17 @@
+use Rattle.std.proofs.Common.{subst}
+use Rattle.hyphenation_commons.specs.Break.{plain}
+use Rattle.hyphenation.specs.Fits.{Fits}
+use Rattle.hyphenation.specs.Opportunities.{no_change, Ascending}
+use Rattle.hyphenation.proofs.Extended.{breaks_fit, breaks_ascend}
+use Rattle.hyphenation.proofs.Plain.{fitted_alike}
+use Rattle.hyphenation.proofs.hyphenator.standard.StandardHyphenator.unbreakable_chars.Goals as goal
+
+pub returns-clause-fit : goal.returns-clause-fit
+returns-clause-fit c = λ word u.
+    let kept = c.minima.ensures.kept in
+    subst (Fits word) (fitted_alike c.args.self.now word kept u) (breaks_fit no_change plain c.args.self.now word kept u)
+
+pub returns-clause-ascend : goal.returns-clause-ascend
+returns-clause-ascend c = λ word u.
+    let kept = c.minima.ensures.kept in
+    subst (Ascending word) (fitted_alike c.args.self.now word kept u) (breaks_ascend no_change plain c.args.self.now word kept u)
