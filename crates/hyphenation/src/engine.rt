@@ -76,10 +76,7 @@ fn line_of(alloc: Global, values: &[u8]) -> Result<String, AllocError>
 }
 
 /// Values without the changes that stand beside them.
-fn values_alone(
-    alloc: Global,
-    scores: &[(u8, Option<&Subregion>)],
-) -> Result<Vec<u8>, AllocError>
+fn values_alone(alloc: Global, scores: &[(u8, Option<&Subregion>)]) -> Result<Vec<u8>, AllocError>
     ensures { IfOk result (λ values. values.items ≡ map (λ score. score.0) scores.now) }
 {
     scores.iter().map(|score| score.0).collect(alloc)
