@@ -16,4 +16,6 @@ mod scores;
 #[cfg(test)]
 mod texts;
 #[cfg(test)]
+mod version_two;
+#[cfg(test)]
 mod words;
