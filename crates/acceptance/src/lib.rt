@@ -2,7 +2,13 @@
 #![tactic(auto)]
 
 #[cfg(test)]
+mod changed_scores;
+#[cfg(test)]
+mod changes;
+#[cfg(test)]
 mod exceptions;
+#[cfg(test)]
+mod extended_texts;
 #[cfg(test)]
 mod faults;
 #[cfg(test)]

@@ -1,11 +1,12 @@
 -- The values and the winners of all places of a word.
-use Rattle.std.proofs.Common.{◌≡◌, ℕ, ◌+◌, ◌-◌, ◌<◌, List, length, map, None, Some, Result, Ok, Err, subst, ap, ◌∙◌, arith}
+use Rattle.std.proofs.Common.{◌≡◌, ℕ, ◌+◌, ◌-◌, ◌<◌, List, length, map, Option, None, Some, Bor, Result, Ok, Err, subst, ap, sym, ◌∙◌, arith}
 use Rattle.std.specs.Prelude.{IfOk, slice_get}
 use Rattle.std.proofs.lemmas.Simd.{map-map}
 use Rattle.std.proofs.lemmas.Option.{slice_get-get_or}
 use Rattle.std.proofs.lemmas.List.FromFn.{length-map-range_with_len, get_or-map-range_with_len}
+use Rattle.hyphenation_commons.specs.Break.{Change}
 use Rattle.hyphenation_commons.specs.Dictionary.{Patterns}
-use Rattle.hyphenation.specs.Scoring.{frame, places, bearers, value_at, winner_at, value_of, values, winners}
+use Rattle.hyphenation.specs.Scoring.{frame, places, bearers, value_at, winner_at, value_of, values, winners, Scored, scored_by, scored_pair, scores}
 use Rattle.hyphenation.proofs.First.{value_of-first}
 
 pub length-values : {C : Type 0} (keys : Patterns C) (word : List ℕ) → length (values keys word) ≡ length word - 1
@@ -32,6 +33,11 @@ pub map-value_of : {C : Type 0} (keys : Patterns C) (word : List ℕ) → map va
 map-value_of keys word =
     let same : ◌≡◌ {A = ℕ → ℕ} (λ p. value_of (winner_at keys word p)) (λ p. value_at keys word p) = λ k p. value_of-winner keys word p k in
     map-map value_of (λ p. winner_at keys word p) (places word) ∙ ap (λ (f : ℕ → ℕ). map f (places word)) same
+
+-- and those of scores, without their changes
+pub values-of-scores : {C : Type 0} (change_of : C → Option Change) (keys : Patterns C) (word : List ℕ) (pairs : List (ℕ × Option (Bor Change))) → map scored_pair pairs ≡ scores change_of keys word → map (λ pair. pair.0) pairs ≡ values keys word
+values-of-scores change_of keys word pairs e =
+    sym (map-map (λ s. s.value) scored_pair pairs) ∙ ap (map (λ (s : Scored). s.value)) e ∙ map-map (λ s. s.value) (scored_by change_of) (winners keys word) ∙ map-value_of keys word
 
 -- patterns that know the same of each text have the same winners
 pub winners_same : {C : Type 0} (keys other : Patterns C) (word : List ℕ) → ((text : List ℕ) → keys text ≡ other text) → winners keys word ≡ winners other word

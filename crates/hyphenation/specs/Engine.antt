@@ -1,8 +1,12 @@
 -- What is written of a word's score, and when a run is refused.
-use Rattle.std.specs.Prelude.{◌≡◌, ◌≢◌, ◌==◌, if◌then◌else◌, ℕ, List, [], ◌∷◌, ◌++◌, map, decimal, None, Result, Ok, Err, Option, Some}
+use Rattle.std.specs.Prelude.{◌≡◌, ◌≢◌, ◌==◌, if◌then◌else◌, ℕ, List, [], ◌∷◌, ◌++◌, map, decimal, None, Result, Ok, Err, Option, Some, unwrap_or, slice_index_or}
 use Rattle.std.specs.List.{join_with_byte}
 use Rattle.std.specs.declared.alloc.AllocError.{AllocError}
-use Rattle.hyphenation_commons.specs.Reading.{standard_contents}
+use Rattle.hyphenation_commons.specs.Dictionary.{keys_of}
+use Rattle.hyphenation_commons.specs.Lines.{lines_of, language_of}
+use Rattle.hyphenation_commons.specs.Reading.{standard_contents, extended_contents}
+use Rattle.hyphenation_commons.specs.declared.grammar.form.Kind.{Kind}
+use Rattle.hyphenation_commons.specs.declared.grammar.form.Kind.TheVariants.{Standard, Extended}
 use Rattle.hyphenation_commons.specs.declared.grammar.Cause.{Cause}
 use Rattle.hyphenation_commons.specs.declared.grammar.Error.{Error}
 use Rattle.hyphenation_commons.specs.declared.grammar.Error.TheVariants.{Deserialization, IO, LanguageMismatch, Memory as NoMemory}
@@ -10,7 +14,7 @@ use Rattle.hyphenation.specs.declared.engine.RunError.{RunError}
 use Rattle.hyphenation.specs.declared.engine.RunError.TheVariants.{Dictionary, Output, Memory}
 use Rattle.std.specs.IoError.{error_kind}
 use Rattle.std.specs.declared.io.ErrorKind.TheVariants.{OutOfMemory}
-use Rattle.hyphenation.specs.Load.{ReadsIn}
+use Rattle.hyphenation.specs.Scoring.{values}
 
 -- Values in decimal, one space between, and a line feed.
 abbrev pub line_of : List ℕ → List ℕ
@@ -20,9 +24,14 @@ line_of values = join_with_byte 32 (map decimal values) ++ 10 ∷ []
 abbrev pub space_before : ℕ → List ℕ
 space_before index = if index == 0 then [] else 32 ∷ []
 
--- The language of a standard text.
+-- The language that the second line of a text names, whatever the kind.
 abbrev pub language_in : List ℕ → List ℕ
-language_in bytes = (standard_contents bytes).language
+language_in bytes = unwrap_or (language_of (slice_index_or (lines_of bytes) 1 [])) []
+
+-- The values of a word's places by the dictionary of that kind that a text gives.
+abbrev pub values_by : Kind → List ℕ → List ℕ → List ℕ
+values_by Standard bytes word = values (keys_of (standard_contents bytes)) word
+values_by Extended bytes word = values (keys_of (extended_contents bytes)) word
 
 -- A dictionary's text is accepted, and of that language.
 abbrev pub IsAccepted : (List ℕ → Option (ℕ × Cause)) → (List ℕ → List ℕ) → List ℕ → List ℕ → Type 0

@@ -1,45 +1,20 @@
 //! Whole runs, from a dictionary's bytes to what is written.
 
-ghost use Rattle.std.specs.Prelude.{◌≡◌, ◌++◌, OnOk, IfOk, IfErr, IfSome, decimal};
+ghost use Rattle.std.specs.Prelude.{◌≡◌, ◌++◌, OnOk, IfOk, IfErr, IfSome, decimal, map};
 ghost use Rattle.std.specs.String.{string_bytes};
 ghost use Rattle.std.specs.Io.KnownBytes.{Appends, Keeps};
-ghost use Rattle.hyphenation_commons.specs.Dictionary.{keys_of};
-ghost use Rattle.hyphenation_commons.specs.Form.{standard};
 ghost use Rattle.hyphenation_commons.specs.Judging.{refusal_of};
-ghost use Rattle.hyphenation_commons.specs.Reading.{standard_contents};
-ghost use Rattle.hyphenation.specs.Engine.{line_of, space_before, language_in, Runs, BeforeWriting, IsUnwritten, HoldsNoWant};
-ghost use Rattle.hyphenation.specs.Scoring.{values};
+ghost use Rattle.hyphenation.specs.Engine.{line_of, space_before, language_in, values_by, Runs, BeforeWriting, IsUnwritten, HoldsNoWant};
 
 use crate::load::{Error, Load};
 use crate::score::Score;
-use hyphenation_commons::dictionary::Standard;
+use hyphenation_commons::dictionary::{Extended, Standard};
+use hyphenation_commons::extended::Subregion;
+pub use hyphenation_commons::grammar::form::Kind;
 use hyphenation_commons::language::Language;
 use std::alloc::{AllocError, Global};
 use std::io;
 use std::io::{Read, Write};
-
-/// The kind of a dictionary.
-#[derive(Clone, Copy, Debug, PartialEq, Eq)]
-pub enum Kind {
-    /// Breaks alone.
-    Standard,
-}
-
-impl Kind {
-    ghost use Rattle.std.specs.Prelude.{Some, None, if◌then◌else◌, codes, nat_eq};
-    ghost use Rattle.std.specs.Cmp.Lexicographic.{pointwise};
-
-    /// The kind of that name: `standard`.
-    pub fn from_name(name: &str) -> Option<Kind>
-        ensures { result ≡ (if pointwise nat_eq name.now (codes "standard") then Some Kind.Standard else None) }
-    {
-        if name == "standard" {
-            Some(Kind::Standard)
-        } else {
-            None
-        }
-    }
-}
 
 /// Why a run wrote nothing, or not all.
 #[derive(Debug, Drop)]
@@ -100,25 +75,68 @@ fn line_of(alloc: Global, values: &[u8]) -> Result<String, AllocError>
     Ok(line)
 }
 
-/// The line of a word's values by the dictionary of that language that a reader's bytes give.
-fn score_line<D: Read>(
+/// Values without the changes that stand beside them.
+fn values_alone(alloc: Global, scores: &[(u8, Option<&Subregion>)]) -> Result<Vec<u8>, AllocError>
+    ensures { IfOk result (λ values. values.items ≡ map (λ score. score.0) scores.now) }
+{
+    scores.iter().map(|score| score.0).collect(alloc)
+}
+
+/// The values of a word by the standard dictionary of that language that a reader's bytes give.
+fn standard_values<D: Read>(
     alloc: Global,
     lang: Language,
     word: &str,
     reader: &mut D,
-) -> Result<String, RunError>
-    ensures answers { IfSome (D.remaining reader.old) (λ bytes. Runs (refusal_of standard) language_in lang bytes result) }
-    ensures line { IfOk result (λ line. IfSome (D.remaining reader.old) (λ bytes. string_bytes line ≡ line_of (values (keys_of (standard_contents bytes)) word.now))) }
+) -> Result<Vec<u8>, RunError>
+    ensures answers { IfSome (D.remaining reader.old) (λ bytes. Runs (refusal_of Kind.Standard) language_in lang bytes result) }
+    ensures values { IfOk result (λ found. IfSome (D.remaining reader.old) (λ bytes. found.items ≡ values_by Kind.Standard bytes word.now)) }
     ensures unwritten { IfErr result IsUnwritten }
     ensures kind { IfErr result HoldsNoWant }
 {
     let dictionary = Standard::from_reader(alloc, lang, reader)?;
-    let values = dictionary.score(alloc, word)?;
+    Ok(dictionary.score(alloc, word)?)
+}
+
+/// The same by the extended dictionary: the values alone, without the changes.
+fn extended_values<D: Read>(
+    alloc: Global,
+    lang: Language,
+    word: &str,
+    reader: &mut D,
+) -> Result<Vec<u8>, RunError>
+    ensures answers { IfSome (D.remaining reader.old) (λ bytes. Runs (refusal_of Kind.Extended) language_in lang bytes result) }
+    ensures values { IfOk result (λ found. IfSome (D.remaining reader.old) (λ bytes. found.items ≡ values_by Kind.Extended bytes word.now)) }
+    ensures unwritten { IfErr result IsUnwritten }
+    ensures kind { IfErr result HoldsNoWant }
+{
+    let dictionary = Extended::from_reader(alloc, lang, reader)?;
+    let scores = dictionary.score(alloc, word)?;
+    Ok(values_alone(alloc, &scores)?)
+}
+
+/// The line of a word's values by the dictionary of that kind and language that a reader's bytes give.
+fn score_line<D: Read>(
+    alloc: Global,
+    kind: Kind,
+    lang: Language,
+    word: &str,
+    reader: &mut D,
+) -> Result<String, RunError>
+    ensures answers { IfSome (D.remaining reader.old) (λ bytes. Runs (refusal_of kind) language_in lang bytes result) }
+    ensures line { IfOk result (λ line. IfSome (D.remaining reader.old) (λ bytes. string_bytes line ≡ line_of (values_by kind bytes word.now))) }
+    ensures unwritten { IfErr result IsUnwritten }
+    ensures kind { IfErr result HoldsNoWant }
+{
+    let values = match kind {
+        Kind::Standard => standard_values(alloc, lang, word, reader)?,
+        Kind::Extended => extended_values(alloc, lang, word, reader)?,
+    };
     Ok(line_of(alloc, &values)?)
 }
 
-/// Loads a dictionary of a language, and writes the values of the word as it is handed in, unfolded: in decimal, one
-/// space between, and a line feed at the end. Before that line is whole nothing is written.
+/// Loads a dictionary of that kind and language, and writes the values of the word as it is handed in, unfolded: in
+/// decimal, one space between, and a line feed at the end. Before that line is whole nothing is written.
 pub fn run_score<D: Read, O: Write>(
     alloc: Global,
     kind: Kind,
@@ -127,13 +145,11 @@ pub fn run_score<D: Read, O: Write>(
     dictionary: &mut D,
     output: &mut O,
 ) -> Result<(), RunError>
-    ensures answers { IfSome (D.remaining dictionary.old) (λ bytes. Runs (refusal_of standard) language_in lang bytes result) }
-    ensures written { OnOk result (IfSome (D.remaining dictionary.old) (λ bytes. Appends (O.contents output.old) (O.contents output.new) (line_of (values (keys_of (standard_contents bytes)) word.now)))) }
+    ensures answers { IfSome (D.remaining dictionary.old) (λ bytes. Runs (refusal_of kind) language_in lang bytes result) }
+    ensures written { OnOk result (IfSome (D.remaining dictionary.old) (λ bytes. Appends (O.contents output.old) (O.contents output.new) (line_of (values_by kind bytes word.now)))) }
     ensures untouched { BeforeWriting result (Keeps (O.contents output.old) (O.contents output.new)) }
     ensures kind { IfErr result HoldsNoWant }
 {
-    let line = match kind {
-        Kind::Standard => score_line(alloc, lang, word, dictionary)?,
-    };
+    let line = score_line(alloc, kind, lang, word, dictionary)?;
     output.write_all(line.as_bytes()).map_err(RunError::Output)
 }

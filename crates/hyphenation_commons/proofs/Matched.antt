@@ -1,8 +1,7 @@
 -- One pass over values and listed changes, both in ascending order, finds what a search for each of them would.
-use Rattle.std.proofs.Common.{◌≡◌, ◌∙◌, ℕ, ◌+◌, ◌<◌, ◌≤◌, Bool, true, false, cond, not, ◌&&◌, ◌||◌, eqb, nat_le, List, [], ◌∷◌, ◌++◌, length, drop, get_or, map, Option, Some, None, refl, sym, ap, arith, append_assoc, drop-cons, add-one, is_some}
+use Rattle.std.proofs.Common.{◌≡◌, ◌∙◌, ℕ, ◌+◌, ◌<◌, ◌≤◌, Bool, true, false, cond, not, ◌&&◌, ◌||◌, eqb, nat_le, List, [], ◌∷◌, ◌++◌, length, drop, get_or, Option, Some, None, refl, sym, ap, arith, append_assoc, drop-cons, add-one, is_some, inl, inr, ◌⊎◌}
 use Rattle.std.proofs.Math.ListN.{drop_of_length-le}
 use Rattle.std.proofs.lemmas.List.{append-nil}
-use Rattle.std.proofs.Common.{inl, inr, ◌⊎◌}
 use Rattle.std.proofs.lemmas.Bool.{cases_order}
 use Rattle.std.specs.Option.{option_or}
 use Rattle.std.specs.List.{list_all, list_any}
@@ -11,7 +10,7 @@ use Rattle.hyphenation_commons.specs.Break.{Change as Changed, is_boundary}
 use Rattle.hyphenation_commons.specs.Items.{change_at}
 use Rattle.hyphenation_commons.specs.Matched.{ascend, have_values, waiting, first_at, left_at, matched, unmatched, is_kept_change, cause_before_match}
 use Rattle.hyphenation_commons.specs.Parsed.{ReadPattern, ReadLater, is_bad, read_pattern, no_later, read_later, first_token, pattern_parts}
-use Rattle.hyphenation_commons.specs.Said.{are_places, breaks_of, entries_of, fits_key, is_kept, pattern_cause, places_cause}
+use Rattle.hyphenation_commons.specs.Said.{are_places, breaks_of, entries_of, fits_key, pattern_cause, places_cause}
 use Rattle.hyphenation_commons.specs.Tokens.{marks_of, values_from, two_values}
 use Rattle.hyphenation_commons.specs.declared.dictionary.Entry.{Entry}
 use Rattle.hyphenation_commons.specs.declared.grammar.Cause.{Cause}
@@ -266,6 +265,10 @@ before_match form r l cause is = in_two form r l ∙ ap (λ (o : Option Cause). 
 
 pub at_match : (form : Form) (r : ReadPattern) (l : ReadLater) (all : Bool) → cause_before_match form r l ≡ None → have_values r.values l.listed ≡ all → pattern_cause form r l ≡ match_cause all
 at_match form r l all is told = in_two form r l ∙ (λ i. option_or (is i) (match_cause (told i)))
+
+-- what the match tells of values that were lent
+pub told_of : (lent values : List (ℕ × ℕ)) (listed : List (ℕ × Option Changed)) (known all : Bool) → lent ≡ values → known ≡ have_values lent listed → known ≡ all → have_values values listed ≡ all
+told_of lent values listed known all same told is = ap (λ (vs : List (ℕ × ℕ)). have_values vs listed) (sym same) ∙ sym told ∙ is
 
 -- both ascend, where the tests before have passed
 passed : (bad two dots sound kept numbers places : Bool)

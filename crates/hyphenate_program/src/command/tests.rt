@@ -57,6 +57,56 @@ fn a_score_is_written(rt: HostRuntime) -> Result<(), Fail> {
     Ok(())
 }
 
+const CHANGES: &str =
+    "hyphenation 1 extended\nlanguage hu\nminima 1 1\np a1b\np ca1bd 2,1,0,1,x\n";
+
+#[test]
+fn a_score_by_an_extended_dictionary_is_written(rt: HostRuntime) -> Result<(), Fail> {
+    let path = file(&rt, "changes", CHANGES.as_bytes())?;
+    let cases: [(&str, &str); 3] = [("cabd", "0 1 0\n"), ("abd", "1 0\n"), ("", "\n")];
+    for (word, line) in cases {
+        let given = answer_to(&rt, &["score", "extended", "hu", &path, word]);
+        assert_eq!(rt; given.status, 0, "{word}");
+        assert_eq!(rt; given.output.as_slice(), line.as_bytes(), "{word}");
+        assert_eq!(rt; given.faults.len(), 0);
+    }
+    fs::remove_file(&rt, path.as_str())?;
+    Ok(())
+}
+
+#[test]
+fn an_extended_dictionary_that_is_refused_is_named_with_its_fault(
+    rt: HostRuntime,
+) -> Result<(), Fail> {
+    let cases: [(&str, &[u8], &str); 3] = [
+        (
+            "no-change",
+            b"hyphenation 1 extended\nlanguage hu\nminima 1 1\np a1b 1\n",
+            "line 4: bad change\n",
+        ),
+        (
+            "standard",
+            b"hyphenation 1 standard\nlanguage hu\nminima 1 1\np a1b\n",
+            "line 1: not the head of this kind of dictionary\n",
+        ),
+        (
+            "german",
+            b"hyphenation 1 extended\nlanguage de\nminima 1 1\n",
+            "Language mismatch: attempted to load a dictionary for `hu`, but found\na dictionary for `de` instead.\n",
+        ),
+    ];
+    for (name, bytes, message) in cases {
+        let path = file(&rt, name, bytes)?;
+        let given = answer_to(&rt, &["score", "extended", "hu", &path, "cabd"]);
+        let expected = format!(in rt.alloc(); "hyphenate: {path}: {message}")?;
+        assert_eq!(rt; given.status, 3, "{name}");
+        assert_eq!(rt; given.output.len(), 0, "{name}");
+        assert_eq!(rt; given.faults.as_slice(), expected.as_bytes(), "{name}");
+        fs::remove_file(&rt, path.as_str())?;
+    }
+    Ok(())
+}
+
 #[test]
 fn other_words_are_answered_by_the_usage(rt: HostRuntime) {
     let cases: [&[&str]; 10] = [
@@ -64,7 +114,7 @@ fn other_words_are_answered_by_the_usage(rt: HostRuntime) {
         &["score"],
         &["score", "standard", "en-gb", "firkin.txt"],
         &["score", "standard", "en-gb", "firkin.txt", "firkin", "more"],
-        &["score", "extended", "en-gb", "firkin.txt", "firkin"],
+        &["score", "Extended", "en-gb", "firkin.txt", "firkin"],
         &["score", "Standard", "en-gb", "firkin.txt", "firkin"],
         &["score", "standard", "en-GB", "firkin.txt", "firkin"],
         &["score", "standard", "", "firkin.txt", "firkin"],

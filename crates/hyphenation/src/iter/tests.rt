@@ -7,6 +7,7 @@ ghost use Rattle.hyphenation.specs.Segments.{segments, marked, with_marks};
 
 use super::*;
 use crate::hyphenator::Word;
+use hyphenation_commons::extended::Subregion;
 use std::alloc::Global;
 use std::test::Fail;
 
@@ -134,6 +135,47 @@ impl<'t> Texts for Refusing<'t> {
     }
 }
 
+// A break that comes again after the list has answered that it is empty.
+#[derive(Drop)]
+struct ComesAgain<B: Break + Copy> {
+    place: B,
+    answers: u8,
+}
+
+impl<B: Break + Copy> Breaks for ComesAgain<B> {
+    ghost use Rattle.std.specs.Prelude.{◌==◌, [], ◌∷◌, if◌then◌else◌, nat_lt};
+
+    type Item = B;
+
+    ghost to_come = { λ again. if again.answers == 0 then B.meaning again.place ∷ [] else [] };
+
+    ghost is_over = { λ again. nat_lt 1 again.answers };
+
+    fn pull(&mut self) -> Option<B> {
+        match self.answers {
+            0 => {
+                self.answers = 1;
+                Some(self.place)
+            }
+            1 => {
+                self.answers = 2;
+                None
+            }
+            _ => Some(self.place),
+        }
+    }
+
+    fn left(&self) -> usize {
+        if self.answers == 0 { 1 } else { 0 }
+    }
+}
+
+fn coming_again<B: Break + Copy>(place: B) -> ComesAgain<B>
+    ensures { result ≡ record { place = place; answers = 0 } }
+{
+    ComesAgain { place, answers: 0 }
+}
+
 fn word_of<'t>(alloc: Global, text: &'t str, breaks: &[usize]) -> Result<Word<'t, usize>, Fail> {
     if Word::fits(text, breaks) {
         Ok(Word::new(text, Vec::from_slice(alloc, breaks)?))
@@ -228,6 +270,46 @@ fn hints_count_the_segments_to_come(rt: HostRuntime) -> Result<(), Fail> {
     assert_eq!(rt; segments.size_hint(), (1, Some(1)));
     assert_eq!(rt; segments.next(), Some("pha"));
     assert_eq!(rt; segments.size_hint(), (0, Some(0)));
+    Ok(())
+}
+
+#[test]
+fn breaks_are_asked_nothing_after_their_end(rt: HostRuntime) -> Result<(), Fail> {
+    let alloc = rt.alloc();
+    if Word::fits("ab", &[1]) {
+        let mut segments = Segments::new("ab", coming_again(1));
+        assert_eq!(rt; segments.next(), Some("a"));
+        assert_eq!(rt; segments.next(), Some("b"));
+        for _ in 0..5 {
+            assert_eq!(rt; segments.next(), None);
+            assert_eq!(rt; segments.len(), 0);
+        }
+    }
+    let pair: (usize, Option<&Subregion>) = (1, None);
+    if Word::fits("ab", &[pair]) {
+        let mut segments = SegmentsExt::new(alloc, "ab", coming_again(pair));
+        assert_eq!(rt; segments.next().ok_or("none")??.as_str(), "a");
+        assert_eq!(rt; segments.next().ok_or("none")??.as_str(), "b");
+        for _ in 0..5 {
+            assert!(rt; segments.next().is_none());
+            assert_eq!(rt; segments.len(), 0);
+        }
+    }
+    Ok(())
+}
+
+#[test]
+fn marked_segments_ask_nothing_after_their_end(rt: HostRuntime) -> Result<(), Fail> {
+    let alloc = rt.alloc();
+    if Word::fits("ab", &[1]) {
+        let mut items = Hyphenating::new(alloc, Segments::new("ab", coming_again(1)));
+        assert_eq!(rt; items.next().ok_or("none")??.as_str(), "a-");
+        assert_eq!(rt; items.next().ok_or("none")??.as_str(), "b");
+        for _ in 0..5 {
+            assert!(rt; items.next().is_none());
+            assert_eq!(rt; items.len(), 0);
+        }
+    }
     Ok(())
 }
 

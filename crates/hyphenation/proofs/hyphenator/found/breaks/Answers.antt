@@ -7,7 +7,7 @@ use Rattle.hyphenation.specs.Fitting.{is_steady_by, kept_by}
 use Rattle.hyphenation.specs.Folding.{shifts_of}
 use Rattle.hyphenation.specs.Opportunities.{rules_of, realigned_break}
 use Rattle.hyphenation.specs.SoftHyphens.{soft_hyphens}
-use Rattle.hyphenation.proofs.Extended.{whole_written, on_ok_always, Carries, breaks_are, soft_breaks_are, breaks_fit, opportunities_keep}
+use Rattle.hyphenation.proofs.FittedBreaks.{whole_written, on_ok_always, Carries, breaks_are, soft_breaks_are, breaks_fit, opportunities_keep}
 use Rattle.hyphenation.proofs.InOrder.{shifts_in_order}
 use Rattle.hyphenation.proofs.Standard.{ok_then, no_soft_hyphens, none_is_not_some}
 use Rattle.hyphenation.proofs.hyphenator.found.breaks.Goals as goal

@@ -1,5 +1,5 @@
 use Rattle.hyphenation.specs.Opportunities.{own_change, own_break}
-use Rattle.hyphenation.proofs.Extended.{breaks_fit, breaks_ascend}
+use Rattle.hyphenation.proofs.FittedBreaks.{breaks_fit, breaks_ascend}
 use Rattle.hyphenation.proofs.hyphenator.extended.ExtendedHyphenator.unbreakable_chars.Goals as goal
 
 pub returns-clause-fit : goal.returns-clause-fit

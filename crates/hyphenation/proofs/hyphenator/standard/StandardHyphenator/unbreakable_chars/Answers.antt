@@ -2,7 +2,7 @@ use Rattle.std.proofs.Common.{subst}
 use Rattle.hyphenation_commons.specs.Break.{plain}
 use Rattle.hyphenation.specs.Fits.{Fits}
 use Rattle.hyphenation.specs.Opportunities.{no_change, Ascending}
-use Rattle.hyphenation.proofs.Extended.{breaks_fit, breaks_ascend}
+use Rattle.hyphenation.proofs.FittedBreaks.{breaks_fit, breaks_ascend}
 use Rattle.hyphenation.proofs.Plain.{fitted_alike}
 use Rattle.hyphenation.proofs.hyphenator.standard.StandardHyphenator.unbreakable_chars.Goals as goal
 
