@@ -12,6 +12,8 @@ mod extended_texts;
 #[cfg(test)]
 mod faults;
 #[cfg(test)]
+mod long_words;
+#[cfg(test)]
 mod scores;
 #[cfg(test)]
 mod texts;
