@@ -7,7 +7,7 @@ use Rattle.std.specs.String.{string_bytes}
 use Rattle.std.specs.declared.string.String.{String}
 use Rattle.std.specs.declared.vec.Vec.{Vec}
 use Rattle.hyphenation_commons.specs.Break.{Break}
-use Rattle.hyphenation_commons.specs.Dictionary.{Contents, Texts}
+use Rattle.hyphenation_commons.specs.Dictionary.{Contents}
 use Rattle.hyphenation_commons.specs.Items.{word, listed, later_of, exception_of}
 use Rattle.hyphenation_commons.specs.Judging.{own_cause}
 use Rattle.hyphenation_commons.specs.Lines.{same}
@@ -31,9 +31,12 @@ is_addition edit = begins_with 43 edit
 abbrev pub is_removal : List ℕ → Bool
 is_removal edit = begins_with 45 edit
 
--- The exception that stands behind the sign, as a line.
+-- An exception as a line, and that which stands behind the sign.
+abbrev pub as_line : List ℕ → List ℕ
+as_line exception = codes "e " ++ exception
+
 abbrev pub line_of : List ℕ → List ℕ
-line_of edit = codes "e " ++ drop 1 edit
+line_of edit = as_line (drop 1 edit)
 
 -- The word that it names.
 abbrev pub named : List ℕ → List ℕ
@@ -81,14 +84,16 @@ first_refused kind edits = refused_from kind 1 edits
 abbrev pub said : {B : Type 0} → (Break → B) → List ℕ → Option (List B)
 said lists edit = if is_addition edit then Some (map lists (listed (line_of edit))) else None
 
--- Exceptions, with that said of a word.
-abbrev pub set : {B : Type 0} → Texts (List B) → List ℕ → Option (List B) → Texts (List B)
-set exceptions word None = finite.remove exceptions word
-set exceptions word (Some list) = finite.insert exceptions word list
+-- The dictionary in which the breaks of a line are listed for its word, or its word is no exception.
+abbrev pub with_exception : {C B : Type 0} → (Break → B) → Contents C B → List ℕ → Contents C B
+with_exception lists contents line = record contents { exceptions = finite.insert contents.exceptions (word line) (map lists (listed line)) }
+
+abbrev pub without_exception : {C B : Type 0} → Contents C B → List ℕ → Contents C B
+without_exception contents line = record contents { exceptions = finite.remove contents.exceptions (word line) }
 
 -- The dictionary behind an edit, and behind edits from first to last.
 abbrev pub edited : {C B : Type 0} → (Break → B) → Contents C B → List ℕ → Contents C B
-edited lists contents edit = record contents { exceptions = set contents.exceptions (named edit) (said lists edit) }
+edited lists contents edit = if is_addition edit then with_exception lists contents (line_of edit) else without_exception contents (line_of edit)
 
 abbrev pub edited_by : {C B : Type 0} → (Break → B) → Contents C B → List (List ℕ) → Contents C B
 edited_by lists contents edits = fold (edited lists) contents edits

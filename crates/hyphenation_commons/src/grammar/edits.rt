@@ -10,19 +10,17 @@
 //! An edit is judged as the line of a dictionary text that says the same, but earlier lines do not matter: the word
 //! may be an exception already.
 
-ghost use Rattle.std.specs.Prelude.{◌≡◌, ◌==◌, ◌&&◌, ◌++◌, if◌then◌else◌, codes, map, IfOk, OnErr, IsUtf8, List, ℕ};
-ghost use Rattle.std.specs.FinMap as finite;
+ghost use Rattle.std.specs.Prelude.{◌≡◌, ◌&&◌, if◌then◌else◌, IfOk, OnErr, IsUtf8, List, ℕ};
 ghost use Rattle.hyphenation_commons.specs.Break.{Break};
 ghost use Rattle.hyphenation_commons.specs.Dictionary.{Contents};
-ghost use Rattle.hyphenation_commons.specs.Edits.{LastDecides, Reads, cause_in, edited, has_feed, is_alone, is_good, is_sound, line_of};
-ghost use Rattle.hyphenation_commons.specs.Items.{listed, word};
+ghost use Rattle.hyphenation_commons.specs.Edits.{LastDecides, Reads, as_line, cause_in, edited, has_feed, is_alone, is_good, is_sound, line_of, with_exception, without_exception};
 ghost use Rattle.hyphenation_commons.specs.declared.grammar.form.Kind.{Kind};
 ghost use Rattle.hyphenation_commons.specs.declared.grammar.form.Version.{Version};
 ghost use Rattle.hyphenation_commons.specs.declared.grammar.form.Version.TheVariants.{First};
 
 use crate::dictionary::{Carried, Dictionary, Listed};
 use crate::grammar::form::{Form, Kind, Version};
-use crate::grammar::items::{Fault, Item, exception_item};
+use crate::grammar::items::{Fault, exception_of};
 use std::alloc::{AllocError, Global};
 
 /// Does what an edit says to a dictionary of that kind. Whether the edit is good: where it is not, the dictionary is
@@ -65,8 +63,8 @@ fn add<C: Carried, B: Listed>(
     exception: &[u8],
 ) -> Result<bool, AllocError>
     requires { IsUtf8 exception.now }
-    ensures good { IfOk result (λ good. good ≡ is_sound kind (codes "e " ++ exception.now)) }
-    ensures done { IfOk result (λ good. dictionary.new ≡ (if good then record dictionary.old { exceptions = finite.insert dictionary.old.exceptions (word (codes "e " ++ exception.now)) (map B.lists (listed (codes "e " ++ exception.now))) } else dictionary.old)) }
+    ensures good { IfOk result (λ good. good ≡ is_sound kind (as_line exception.now)) }
+    ensures done { IfOk result (λ good. dictionary.new ≡ (if good then with_exception B.lists dictionary.old (as_line exception.now) else dictionary.old)) }
     ensures err { OnErr result (dictionary.new ≡ dictionary.old) }
 {
     match read_exception(alloc, kind, exception)? {
@@ -86,8 +84,8 @@ fn remove<C: Carried, B: Listed>(
     exception: &[u8],
 ) -> Result<bool, AllocError>
     requires { IsUtf8 exception.now }
-    ensures good { IfOk result (λ good. good ≡ (is_sound kind (codes "e " ++ exception.now) && is_alone (codes "e " ++ exception.now))) }
-    ensures done { IfOk result (λ good. dictionary.new ≡ (if good then record dictionary.old { exceptions = finite.remove dictionary.old.exceptions (word (codes "e " ++ exception.now)) } else dictionary.old)) }
+    ensures good { IfOk result (λ good. good ≡ (is_sound kind (as_line exception.now) && is_alone (as_line exception.now))) }
+    ensures done { IfOk result (λ good. dictionary.new ≡ (if good then without_exception dictionary.old (as_line exception.now) else dictionary.old)) }
     ensures err { OnErr result (dictionary.new ≡ dictionary.old) }
 {
     let read: Option<(String, Vec<B>)> = read_exception(alloc, kind, exception)?;
@@ -110,17 +108,15 @@ fn read_exception<B: Listed>(
     exception: &[u8],
 ) -> Result<Option<(String, Vec<B>)>, AllocError>
     requires { IsUtf8 exception.now }
-    ensures { IfOk result (λ found. Reads kind B.lists found (codes "e " ++ exception.now)) }
+    ensures { IfOk result (λ found. Reads kind B.lists found (as_line exception.now)) }
 {
     // Both versions write an exception alike.
     let form = Form {
         kind,
         version: Version::First,
     };
-    let read: Result<Item<(), B>, Fault> = exception_item(alloc, form, exception);
-    match read {
-        Ok(Item::Exception { word, listed }) => Ok(Some((word, listed))),
-        Ok(_) => Ok(None),
+    match exception_of(alloc, form, exception) {
+        Ok((word, listed)) => Ok(Some((word, listed))),
         Err(Fault::Fails(_)) => Ok(None),
         Err(Fault::Memory) => Err(AllocError),
     }
