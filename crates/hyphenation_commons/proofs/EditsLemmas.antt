@@ -1,6 +1,6 @@
 -- Edits: how an exception is judged and read by itself, and that the last one decides.
-use Rattle.std.proofs.Common.{◌≡◌, ◌∙◌, ℕ, ◌<◌, ◌+◌, Bool, true, false, cond, not, ◌||◌, inr, List, [], ◌∷◌, ◌++◌, fold, Option, Some, None, unwrap_or, refl, sym, ap, subst, arith, map}
-use Rattle.std.specs.Prelude.{◌⊎◌, is_none, IsTrue, IsUtf8, codes, Result, Ok, Err, IfOk}
+use Rattle.std.proofs.Common.{◌≡◌, ◌∙◌, ℕ, ◌<◌, Bool, true, false, cond, not, ◌||◌, inr, List, [], ◌∷◌, ◌++◌, Option, Some, None, unwrap_or, refl, sym, ap, subst, arith, map}
+use Rattle.std.specs.Prelude.{◌⊎◌, is_none, IsTrue, IsUtf8, codes, Result, Ok, Err}
 use Rattle.std.specs.Option.{option_or}
 use Rattle.std.specs.Cmp.Lexicographic.{nat_list_cmp_total}
 use Rattle.std.specs.FinMap as finite
@@ -14,10 +14,9 @@ use Rattle.hyphenation_commons.specs.Break.{Break, Change, plain}
 use Rattle.hyphenation_commons.specs.Dictionary.{Contents}
 use Rattle.hyphenation_commons.specs.Edits.{Reads, LastDecides, is_addition, is_sound, line_of, said, named, edited, last_said}
 use Rattle.hyphenation_commons.specs.Items.{listed}
-use Rattle.hyphenation_commons.specs.Judging.{own_cause, before_item, is_known}
-use Rattle.hyphenation_commons.specs.Kept.{are_listed, IsException}
+use Rattle.hyphenation_commons.specs.Judging.{own_cause, is_known}
+use Rattle.hyphenation_commons.specs.Kept.{are_listed}
 use Rattle.hyphenation_commons.specs.Lines.{same, behind}
-use Rattle.hyphenation_commons.specs.Reading.{told}
 use Rattle.hyphenation_commons.specs.Said.{Lists, item_cause}
 use Rattle.hyphenation_commons.specs.declared.grammar.form.Form.{Form}
 use Rattle.hyphenation_commons.specs.declared.grammar.form.Kind.{Kind}

@@ -12,7 +12,6 @@ use Rattle.hyphenation_commons.specs.Items.{word, listed, later_of, exception_of
 use Rattle.hyphenation_commons.specs.Judging.{own_cause}
 use Rattle.hyphenation_commons.specs.Lines.{same}
 use Rattle.hyphenation_commons.specs.Reading.{told}
-use Rattle.hyphenation_commons.specs.declared.grammar.form.Form.{Form}
 use Rattle.hyphenation_commons.specs.declared.grammar.form.Kind.{Kind}
 use Rattle.hyphenation_commons.specs.declared.grammar.form.Version.{Version}
 use Rattle.hyphenation_commons.specs.declared.grammar.form.Version.TheVariants.{First}

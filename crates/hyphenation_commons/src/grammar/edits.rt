@@ -88,8 +88,7 @@ fn remove<C: Carried, B: Listed>(
     ensures done { IfOk result (λ good. dictionary.new ≡ (if good then without_exception dictionary.old (as_line exception.now) else dictionary.old)) }
     ensures err { OnErr result (dictionary.new ≡ dictionary.old) }
 {
-    let read: Option<(String, Vec<B>)> = read_exception(alloc, kind, exception)?;
-    match read {
+    match read_exception::<B>(alloc, kind, exception)? {
         None => Ok(false),
         Some((word, listed)) => {
             if !listed.is_empty() {
@@ -131,3 +130,144 @@ pub fn the_last_edit_decides<C, B>()
 pub fn versions_judge_alike()
     ensures { (kind : Kind) (version : Version) (edit : List ℕ) → cause_in kind version (line_of edit) ≡ cause_in kind First (line_of edit) }
 {}
+
+#[cfg(test)]
+mod tests {
+    use super::*;
+    use crate::dictionary::{Extended, Standard};
+    use crate::extended::Subregion;
+    use crate::grammar::reader::{read_extended, read_standard};
+    use std::test::Fail;
+
+    const STANDARD: &[u8] = b"hyphenation 1 standard\nlanguage en-us\nminima 2 3\ne other 2\ne \\e\n";
+
+    const EXTENDED: &[u8] = b"hyphenation 2 extended\nlanguage hu\nminima 2 2\ne other 2\n";
+
+    fn standard(alloc: Global) -> Option<Standard> {
+        read_standard(alloc, STANDARD).ok()
+    }
+
+    fn extended(alloc: Global) -> Option<Extended> {
+        read_extended(alloc, EXTENDED).ok()
+    }
+
+    /// Whether an edit is good for either kind; none where no dictionary is read.
+    fn judged(alloc: Global, edit: &str) -> Result<Option<(bool, bool)>, AllocError> {
+        let Some(mut plain) = standard(alloc) else {
+            return Ok(None);
+        };
+        let Some(mut changing) = extended(alloc) else {
+            return Ok(None);
+        };
+        let plain = apply_edit(alloc, Kind::Standard, &mut plain, edit)?;
+        let changing = apply_edit(alloc, Kind::Extended, &mut changing, edit)?;
+        Ok(Some((plain, changing)))
+    }
+
+    #[test]
+    fn some_edits_are_good_for_both_kinds(rt: HostRuntime) -> Result<(), Fail> {
+        let edits: [&str; 11] = [
+            "+firkins",
+            "+firkins 3 4",
+            "+other 3",
+            "+other",
+            "+\\e",
+            "+a{b",
+            "+ab 0 1 2",
+            "-other",
+            "-firkins",
+            "-\\e",
+            "-a\\sb",
+        ];
+        for edit in edits {
+            assert_eq!(rt; judged(rt.alloc(), edit)?, Some((true, true)), "{edit}");
+        }
+        Ok(())
+    }
+
+    #[test]
+    fn some_edits_are_refused_by_both_kinds(rt: HostRuntime) -> Result<(), Fail> {
+        let edits: [&str; 23] = [
+            "",
+            "+",
+            "-",
+            "*firkins",
+            "firkins",
+            " +firkins",
+            "+ firkins",
+            "+firkins ",
+            "+firkins  3",
+            "+firkins 8",
+            "+firkins 4 3",
+            "+firkins 03",
+            "+firkins three",
+            "+esszé 5",
+            "+fir\\kins",
+            "+fir\rkins",
+            "+firkins\n",
+            "-other\n",
+            "-other ",
+            "-firkins 3",
+            "-a 1",
+            "+ab 1,0,0,3,xy",
+            "-ab 1,1,1,1,xy",
+        ];
+        for edit in edits {
+            assert_eq!(rt; judged(rt.alloc(), edit)?, Some((false, false)), "{edit}");
+        }
+        Ok(())
+    }
+
+    #[test]
+    fn changes_are_for_extended_dictionaries_alone(rt: HostRuntime) -> Result<(), Fail> {
+        let edits: [&str; 3] = [
+            "+asszonnyal 2,1,2,2,szsz",
+            "+asszonnyal 2,1,2,2,szsz 6,1,2,2,nyny",
+            "+ab 1,1,1,1,xy 2",
+        ];
+        for edit in edits {
+            assert_eq!(rt; judged(rt.alloc(), edit)?, Some((false, true)), "{edit}");
+        }
+        Ok(())
+    }
+
+    #[test]
+    fn the_last_edit_of_a_word_decides(rt: HostRuntime) -> Result<(), Fail> {
+        let alloc = rt.alloc();
+        match standard(alloc) {
+            Some(mut dictionary) => {
+                assert!(rt; apply_edit(alloc, Kind::Standard, &mut dictionary, "+firkins 3")?);
+                assert_eq!(rt; dictionary.listed("firkins"), Some([3].as_slice()));
+                assert!(rt; apply_edit(alloc, Kind::Standard, &mut dictionary, "+firkins 4")?);
+                assert_eq!(rt; dictionary.listed("firkins"), Some([4].as_slice()));
+                assert!(rt; !apply_edit(alloc, Kind::Standard, &mut dictionary, "+firkins 8")?);
+                assert_eq!(rt; dictionary.listed("firkins"), Some([4].as_slice()));
+                assert!(rt; apply_edit(alloc, Kind::Standard, &mut dictionary, "-firkins")?);
+                assert!(rt; dictionary.listed("firkins").is_none());
+                assert_eq!(rt; dictionary.listed("other"), Some([2].as_slice()));
+                assert!(rt; apply_edit(alloc, Kind::Standard, &mut dictionary, "-\\e")?);
+                assert!(rt; dictionary.listed("").is_none());
+            }
+            None => assert!(rt; false),
+        }
+        Ok(())
+    }
+
+    #[test]
+    fn a_change_is_listed_as_it_is_written(rt: HostRuntime) -> Result<(), Fail> {
+        let alloc = rt.alloc();
+        let edit = "+asszonnyal 2,1,2,2,szsz 8";
+        match extended(alloc) {
+            Some(mut dictionary) => {
+                assert!(rt; apply_edit(alloc, Kind::Extended, &mut dictionary, edit)?);
+                let change = Subregion::new(1, 2, String::from_str(alloc, "szsz")?, 2);
+                assert_eq!(rt;
+                    dictionary.listed("asszonnyal"),
+                    Some([(2, Some(change)), (8, None)].as_slice())
+                );
+            }
+            None => assert!(rt; false),
+        }
+        Ok(())
+    }
+}

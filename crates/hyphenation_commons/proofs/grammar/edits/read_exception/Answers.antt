@@ -1,4 +1,3 @@
-use Rattle.std.proofs.Common.{sym}
 use Rattle.hyphenation_commons.proofs.EditsLemmas.{read, unread}
 use Rattle.hyphenation_commons.proofs.grammar.edits.read_exception.Goals as goal
 
