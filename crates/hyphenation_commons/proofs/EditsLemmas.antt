@@ -12,7 +12,7 @@ use Rattle.std.specs.declared.vec.Vec.{Vec}
 use Rattle.std.proofs.lemmas.Str.{IsUtf8-append, is_utf8-from_IsUtf8}
 use Rattle.hyphenation_commons.specs.Break.{Break, Change, plain}
 use Rattle.hyphenation_commons.specs.Dictionary.{Contents}
-use Rattle.hyphenation_commons.specs.Edits.{Reads, LastDecides, is_addition, is_sound, line_of, said, named, edited, last_said}
+use Rattle.hyphenation_commons.specs.Edits.{Reads, as_line, form_in, is_addition, is_sound, line_of, said, named, edited, edited_by, last_said}
 use Rattle.hyphenation_commons.specs.Items.{listed}
 use Rattle.hyphenation_commons.specs.Judging.{own_cause, is_known}
 use Rattle.hyphenation_commons.specs.Kept.{are_listed}
@@ -39,14 +39,14 @@ either_way false = refl
 passed : (u k : Bool) → u ≡ true → k ≡ true → cond {A = Option Cause} (not u) (Some NotUtf8) (cond (not k) (Some UnknownLine) None) ≡ None
 passed u k eu ek = rw (eu, ek) refl
 
-line-utf8 : (text : List ℕ) → IsUtf8 text → IsUtf8 (codes "e " ++ text)
+line-utf8 : (text : List ℕ) → IsUtf8 text → IsUtf8 (as_line text)
 line-utf8 text u = IsUtf8-append (101 ∷ []) (32 ∷ text) (one_ascii 101 (omega arith)) (IsUtf8-append (32 ∷ []) text (one_ascii 32 (omega arith)) u)
 
-pub only_item : (form : Form) (text : List ℕ) → IsUtf8 text → own_cause form 4 (codes "e " ++ text) ≡ item_cause form (codes "e " ++ text)
+pub only_item : (form : Form) (text : List ℕ) → IsUtf8 text → own_cause form 4 (as_line text) ≡ item_cause form (as_line text)
 only_item form text u =
-    halves form 4 (codes "e " ++ text)
-    ∙ ap (λ (o : Option Cause). option_or o (item_cause form (codes "e " ++ text)))
-    (passed (is_utf8 (codes "e " ++ text)) (is_known (codes "e " ++ text)) (is_utf8-from_IsUtf8 (codes "e " ++ text) (line-utf8 text u)) (either_way _))
+    halves form 4 (as_line text)
+    ∙ ap (λ (o : Option Cause). option_or o (item_cause form (as_line text)))
+    (passed (is_utf8 (as_line text)) (is_known (as_line text)) (is_utf8-from_IsUtf8 (as_line text) (line-utf8 text u)) (either_way _))
 
 -- ---- so it is sound exactly where it can be read, and what it lists may be listed
 
@@ -61,23 +61,23 @@ none_there None e = refl
 none_there (Some x) e = absurd cc
 
 pub read : {B Y Z : Type 0} (kind : Kind) (lists : Break → B) (text : List ℕ) (r : Result (String Y × Vec B Z) Fault) → IsUtf8 text
-    → ((line : List ℕ) → Some text ≡ behind (codes "e ") line → Lists (record { kind = kind; version = First }) lists line r) → (x : String Y × Vec B Z) → r ≡ Ok x → Reads kind lists (Some x) (codes "e " ++ text)
+    → ((line : List ℕ) → Some text ≡ behind (codes "e ") line → Lists (form_in kind First) lists line r) → (x : String Y × Vec B Z) → r ≡ Ok x → Reads kind lists (Some x) (as_line text)
 read {B} {Y} {Z} kind lists text r u answers x e =
-    let form : Form = record { kind = kind; version = First } in
-    let h : Lists form lists (codes "e " ++ text) (Ok x) = subst (λ (s : Result (String Y × Vec B Z) Fault). Lists form lists (codes "e " ++ text) s) e (answers (codes "e " ++ text) refl) in
-    (no_cause (own_cause form 4 (codes "e " ++ text)) (only_item form text u ∙ h.0), h.1.1)
+    let form = form_in kind First in
+    let h : Lists form lists (as_line text) (Ok x) = subst (λ (s : Result (String Y × Vec B Z) Fault). Lists form lists (as_line text) s) e (answers (as_line text) refl) in
+    (no_cause (own_cause form 4 (as_line text)) (only_item form text u ∙ h.0), h.1.1)
 
 pub unread : {B Y Z : Type 0} (kind : Kind) (lists : Break → B) (text : List ℕ) (r : Result (String Y × Vec B Z) Fault) → IsUtf8 text
-    → ((line : List ℕ) → Some text ≡ behind (codes "e ") line → Lists (record { kind = kind; version = First }) lists line r) → (fault : Fault) (cause : Cause) → r ≡ Err fault → fault ≡ Fails cause → is_sound kind (codes "e " ++ text) ≡ false
+    → ((line : List ℕ) → Some text ≡ behind (codes "e ") line → Lists (form_in kind First) lists line r) → (fault : Fault) (cause : Cause) → r ≡ Err fault → fault ≡ Fails cause → is_sound kind (as_line text) ≡ false
 unread {B} {Y} {Z} kind lists text r u answers fault cause e fails =
-    let form : Form = record { kind = kind; version = First } in
-    let h : item_cause form (codes "e " ++ text) ≡ Some cause = subst (λ (s : Result (String Y × Vec B Z) Fault). Lists form lists (codes "e " ++ text) s) (e ∙ ap Err fails) (answers (codes "e " ++ text) refl) in
-    some_cause (own_cause form 4 (codes "e " ++ text)) cause (only_item form text u ∙ h)
+    let form = form_in kind First in
+    let h : item_cause form (as_line text) ≡ Some cause = subst (λ (s : Result (String Y × Vec B Z) Fault). Lists form lists (as_line text) s) (e ∙ ap Err fails) (answers (as_line text) refl) in
+    some_cause (own_cause form 4 (as_line text)) cause (only_item form text u ∙ h)
 
 pub may_be_listed : {B Y Z : Type 0} (kind : Kind) (lists : Break → B) (break_of : B → Break) → ((b : Break) → (break_of (lists b) ≡ b) ⊎ (break_of (lists b) ≡ plain b.place))
     → (line : List ℕ) (found : Option (String Y × Vec B Z)) (x : String Y × Vec B Z) → found ≡ Some x → Reads kind lists found line → IsTrue (are_listed break_of (string_bytes x.0) 0 x.1.items)
 may_be_listed {B} {Y} {Z} kind lists break_of kept line found x e reads =
-    let form : Form = record { kind = kind; version = First } in
+    let form = form_in kind First in
     let h : Reads kind lists (Some x) line = subst (λ (o : Option (String Y × Vec B Z)). Reads kind lists o line) e reads in
     (exception_held (λ (c : Option Change). tt) lists (λ (u : Unit {0}). None) break_of (λ c. inr refl) kept form 4 line (string_bytes x.0) x.1.items (none_there (own_cause form 4 line) h.0) h.1).ascend
 
@@ -106,7 +106,8 @@ either_or : {X : Type 0} (o p : Option X) (x y : X) → y ≡ unwrap_or p x → 
 either_or None p x y e = e
 either_or (Some z) p x y e = refl
 
-pub last_decides : {C B : Type 0} (lists : Break → B) (dictionary : Contents C B) (edits : List (List ℕ)) (word : List ℕ) → LastDecides lists dictionary edits word
+pub last_decides : {C B : Type 0} (lists : Break → B) (dictionary : Contents C B) (edits : List (List ℕ)) (word : List ℕ)
+    → finite.get (edited_by lists dictionary edits).exceptions word ≡ unwrap_or (last_said lists word edits) (finite.get dictionary.exceptions word)
 last_decides lists dictionary [] word = refl
 last_decides {C} {B} lists dictionary (e ∷ es) word =
     last_decides lists (edited lists dictionary e) es word

@@ -1,5 +1,5 @@
 -- Edits of the exceptions: which are good, and what they do.
-use Rattle.std.specs.Prelude.{◌≡◌, ℕ, ◌+◌, ◌==◌, ◌&&◌, ◌||◌, Bool, true, false, not, if◌then◌else◌, List, [], ◌∷◌, ◌++◌, length, map, drop, fold, codes, Option, Some, None, is_none, unwrap_or}
+use Rattle.std.specs.Prelude.{◌≡◌, ℕ, ◌+◌, ◌==◌, ◌&&◌, ◌||◌, Bool, true, false, not, if◌then◌else◌, List, [], ◌∷◌, ◌++◌, length, map, drop, fold, codes, Option, Some, None, is_none, unwrap_or, find, IsUtf8}
 use Rattle.std.specs.List.{list_any}
 use Rattle.std.specs.Option.{option_or}
 use Rattle.std.specs.FinMap as finite
@@ -9,13 +9,15 @@ use Rattle.std.specs.declared.vec.Vec.{Vec}
 use Rattle.hyphenation_commons.specs.Break.{Break}
 use Rattle.hyphenation_commons.specs.Dictionary.{Contents}
 use Rattle.hyphenation_commons.specs.Items.{word, listed, later_of, exception_of}
-use Rattle.hyphenation_commons.specs.Judging.{own_cause}
+use Rattle.hyphenation_commons.specs.Judging.{fails, own_cause}
 use Rattle.hyphenation_commons.specs.Lines.{same}
 use Rattle.hyphenation_commons.specs.Reading.{told}
+use Rattle.hyphenation_commons.specs.declared.grammar.form.Form.{Form}
 use Rattle.hyphenation_commons.specs.declared.grammar.form.Kind.{Kind}
 use Rattle.hyphenation_commons.specs.declared.grammar.form.Version.{Version}
 use Rattle.hyphenation_commons.specs.declared.grammar.form.Version.TheVariants.{First}
 use Rattle.hyphenation_commons.specs.declared.grammar.Cause.{Cause}
+use Rattle.hyphenation_commons.specs.declared.grammar.Cause.TheVariants.{Token, Number, Place, Change}
 
 -- ---- an edit, and the line of a dictionary text that says the same of its word
 
@@ -47,23 +49,26 @@ abbrev pub has_feed : List ℕ → Bool
 has_feed edit = list_any (λ b. b == 10) edit
 
 -- The first test that a later line fails by itself, in a text of that kind and version.
+abbrev pub form_in : Kind → Version → Form
+form_in kind version = record { kind = kind; version = version }
+
 abbrev pub cause_in : Kind → Version → List ℕ → Option Cause
-cause_in kind version line = own_cause (record { kind = kind; version = version }) 4 line
+cause_in kind version line = own_cause (form_in kind version) 4 line
 
 -- The line of an exception fails no test by itself. It is written alike in both versions.
 abbrev pub is_sound : Kind → List ℕ → Bool
 is_sound kind line = is_none (cause_in kind First line)
 
--- The word stands there alone, without breaks.
-abbrev pub is_alone : List ℕ → Bool
-is_alone line = length (later_of line) == 0
+-- It is sound too, and its word stands there alone, without breaks.
+abbrev pub is_word_alone : Kind → List ℕ → Bool
+is_word_alone kind line = is_sound kind line && length (later_of line) == 0
 
 -- Behind a `+` stands an exception, and behind a `-` a word alone.
 abbrev pub is_good_addition : Kind → List ℕ → Bool
 is_good_addition kind edit = is_addition edit && is_sound kind (line_of edit)
 
 abbrev pub is_good_removal : Kind → List ℕ → Bool
-is_good_removal kind edit = is_removal edit && (is_sound kind (line_of edit) && is_alone (line_of edit))
+is_good_removal kind edit = is_removal edit && is_word_alone kind (line_of edit)
 
 -- It is one of the two, and holds no line feed.
 abbrev pub is_good : Kind → List ℕ → Bool
@@ -105,9 +110,18 @@ last_said lists word [] = None
 last_said lists word (edit ∷ edits) = option_or (last_said lists word edits) (if same (named edit) word then Some (said lists edit) else None)
 
 -- Of the edits that name a word the last one decides, and where there is none, the dictionary before them.
-abbrev pub LastDecides : {C B : Type 0} → (Break → B) → Contents C B → List (List ℕ) → List ℕ → Type 0
-LastDecides lists dictionary edits word =
+abbrev pub LastDecides : Type 0 → Type 0 → Type 0
+LastDecides C B = (lists : Break → B) (dictionary : Contents C B) (edits : List (List ℕ)) (word : List ℕ) →
     finite.get (edited_by lists dictionary edits).exceptions word ≡ unwrap_or (last_said lists word edits) (finite.get dictionary.exceptions word)
+
+-- Both versions judge the line of an edit alike.
+abbrev pub VersionsAgree : Type 0
+VersionsAgree = (kind : Kind) (version : Version) (edit : List ℕ) → cause_in kind version (line_of edit) ≡ cause_in kind First (line_of edit)
+
+-- Of all tests the line of an exception can fail these by itself.
+abbrev pub FourTests : Type 0
+FourTests = (kind : Kind) (version : Version) (exception : List ℕ) → IsUtf8 exception →
+    cause_in kind version (as_line exception) ≡ find (fails (form_in kind version) 4 (as_line exception)) (Token ∷ Number ∷ Place ∷ Change ∷ [])
 
 -- ---- what reading the exception of an edit answers
 

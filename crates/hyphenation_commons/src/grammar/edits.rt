@@ -10,13 +10,9 @@
 //! An edit is judged as the line of a dictionary text that says the same, but earlier lines do not matter: the word
 //! may be an exception already.
 
-ghost use Rattle.std.specs.Prelude.{◌≡◌, ◌&&◌, if◌then◌else◌, IfOk, OnErr, IsUtf8, List, ℕ};
-ghost use Rattle.hyphenation_commons.specs.Break.{Break};
-ghost use Rattle.hyphenation_commons.specs.Dictionary.{Contents};
-ghost use Rattle.hyphenation_commons.specs.Edits.{LastDecides, Reads, as_line, cause_in, edited, has_feed, is_alone, is_good, is_sound, line_of, with_exception, without_exception};
-ghost use Rattle.hyphenation_commons.specs.declared.grammar.form.Kind.{Kind};
-ghost use Rattle.hyphenation_commons.specs.declared.grammar.form.Version.{Version};
-ghost use Rattle.hyphenation_commons.specs.declared.grammar.form.Version.TheVariants.{First};
+ghost use Rattle.std.specs.Prelude.{◌≡◌, IfOk, IsTrue, IsUtf8, OnErr, not};
+ghost use Rattle.hyphenation_commons.specs.Edits.{FourTests, LastDecides, Reads, VersionsAgree};
+ghost use Rattle.hyphenation_commons.specs.Edits.{as_line, edited, has_feed, is_good, is_sound, is_word_alone, with_exception, without_exception};
 
 use crate::dictionary::{Carried, Dictionary, Listed};
 use crate::grammar::form::{Form, Kind, Version};
@@ -34,7 +30,8 @@ pub fn apply_edit<C: Carried, B: Listed>(
     edit: &str,
 ) -> Result<bool, AllocError>
     ensures good { IfOk result (λ good. good ≡ is_good kind edit.now) }
-    ensures done { IfOk result (λ good. dictionary.new ≡ (if good then edited B.lists dictionary.old edit.now else dictionary.old)) }
+    ensures done { IfOk result (λ good. IsTrue good → dictionary.new ≡ edited B.lists dictionary.old edit.now) }
+    ensures refused { IfOk result (λ good. IsTrue (not good) → dictionary.new ≡ dictionary.old) }
     ensures err { OnErr result (dictionary.new ≡ dictionary.old) }
 {
     let edit = edit.as_bytes();
@@ -64,7 +61,8 @@ fn add<C: Carried, B: Listed>(
 ) -> Result<bool, AllocError>
     requires { IsUtf8 exception.now }
     ensures good { IfOk result (λ good. good ≡ is_sound kind (as_line exception.now)) }
-    ensures done { IfOk result (λ good. dictionary.new ≡ (if good then with_exception B.lists dictionary.old (as_line exception.now) else dictionary.old)) }
+    ensures done { IfOk result (λ good. IsTrue good → dictionary.new ≡ with_exception B.lists dictionary.old (as_line exception.now)) }
+    ensures refused { IfOk result (λ good. IsTrue (not good) → dictionary.new ≡ dictionary.old) }
     ensures err { OnErr result (dictionary.new ≡ dictionary.old) }
 {
     match read_exception(alloc, kind, exception)? {
@@ -84,8 +82,9 @@ fn remove<C: Carried, B: Listed>(
     exception: &[u8],
 ) -> Result<bool, AllocError>
     requires { IsUtf8 exception.now }
-    ensures good { IfOk result (λ good. good ≡ (is_sound kind (as_line exception.now) && is_alone (as_line exception.now))) }
-    ensures done { IfOk result (λ good. dictionary.new ≡ (if good then without_exception dictionary.old (as_line exception.now) else dictionary.old)) }
+    ensures good { IfOk result (λ good. good ≡ is_word_alone kind (as_line exception.now)) }
+    ensures done { IfOk result (λ good. IsTrue good → dictionary.new ≡ without_exception dictionary.old (as_line exception.now)) }
+    ensures refused { IfOk result (λ good. IsTrue (not good) → dictionary.new ≡ dictionary.old) }
     ensures err { OnErr result (dictionary.new ≡ dictionary.old) }
 {
     match read_exception::<B>(alloc, kind, exception)? {
@@ -123,12 +122,17 @@ fn read_exception<B: Listed>(
 
 /// Of the edits that name a word the last one decides, and the dictionary where there is none.
 pub fn the_last_edit_decides<C, B>()
-    ensures { (lists : Break → B) (dictionary : Contents C B) (edits : List (List ℕ)) (word : List ℕ) → LastDecides lists dictionary edits word }
+    ensures { LastDecides C B }
 {}
 
 /// An edit means the same in both versions of the dictionary text.
 pub fn versions_judge_alike()
-    ensures { (kind : Kind) (version : Version) (edit : List ℕ) → cause_in kind version (line_of edit) ≡ cause_in kind First (line_of edit) }
+    ensures { VersionsAgree }
+{}
+
+/// By itself an exception can fail the tests of its tokens, numbers, places and changes, and no other.
+pub fn four_tests_judge_an_exception()
+    ensures { FourTests }
 {}
 
 #[cfg(test)]
