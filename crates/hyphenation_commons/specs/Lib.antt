@@ -16,5 +16,6 @@ pub mod Said
 pub mod Matched
 pub mod Draft
 pub mod Refusals
+pub mod Edits
 pub mod Examples
 pub mod Messages

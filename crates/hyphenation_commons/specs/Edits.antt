@@ -1,0 +1,118 @@
+-- Edits of the exceptions: which are good, and what they do.
+use Rattle.std.specs.Prelude.{◌≡◌, ℕ, ◌+◌, ◌==◌, ◌&&◌, ◌||◌, Bool, true, false, not, if◌then◌else◌, List, [], ◌∷◌, ◌++◌, length, map, drop, fold, codes, Option, Some, None, is_none, unwrap_or}
+use Rattle.std.specs.List.{list_any}
+use Rattle.std.specs.Option.{option_or}
+use Rattle.std.specs.FinMap as finite
+use Rattle.std.specs.String.{string_bytes}
+use Rattle.std.specs.declared.string.String.{String}
+use Rattle.std.specs.declared.vec.Vec.{Vec}
+use Rattle.hyphenation_commons.specs.Break.{Break}
+use Rattle.hyphenation_commons.specs.Dictionary.{Contents}
+use Rattle.hyphenation_commons.specs.Items.{word, listed, later_of, exception_of}
+use Rattle.hyphenation_commons.specs.Judging.{own_cause}
+use Rattle.hyphenation_commons.specs.Lines.{same}
+use Rattle.hyphenation_commons.specs.Reading.{told}
+use Rattle.hyphenation_commons.specs.declared.grammar.form.Form.{Form}
+use Rattle.hyphenation_commons.specs.declared.grammar.form.Kind.{Kind}
+use Rattle.hyphenation_commons.specs.declared.grammar.form.Version.{Version}
+use Rattle.hyphenation_commons.specs.declared.grammar.form.Version.TheVariants.{First}
+use Rattle.hyphenation_commons.specs.declared.grammar.Cause.{Cause}
+
+-- ---- an edit, and the line of a dictionary text that says the same of its word
+
+abbrev pub begins_with : ℕ → List ℕ → Bool
+begins_with sign [] = false
+begins_with sign (b ∷ bs) = b == sign
+
+-- With `+` it lists breaks for a word, with `-` it takes a word out.
+abbrev pub is_addition : List ℕ → Bool
+is_addition edit = begins_with 43 edit
+
+abbrev pub is_removal : List ℕ → Bool
+is_removal edit = begins_with 45 edit
+
+-- An exception as a line, and that which stands behind the sign.
+abbrev pub as_line : List ℕ → List ℕ
+as_line exception = codes "e " ++ exception
+
+abbrev pub line_of : List ℕ → List ℕ
+line_of edit = as_line (drop 1 edit)
+
+-- The word that it names.
+abbrev pub named : List ℕ → List ℕ
+named edit = word (line_of edit)
+
+-- ---- which edits are good
+
+abbrev pub has_feed : List ℕ → Bool
+has_feed edit = list_any (λ b. b == 10) edit
+
+-- The first test that a later line fails by itself, in a text of that kind and version.
+abbrev pub cause_in : Kind → Version → List ℕ → Option Cause
+cause_in kind version line = own_cause (record { kind = kind; version = version }) 4 line
+
+-- The line of an exception fails no test by itself. It is written alike in both versions.
+abbrev pub is_sound : Kind → List ℕ → Bool
+is_sound kind line = is_none (cause_in kind First line)
+
+-- The word stands there alone, without breaks.
+abbrev pub is_alone : List ℕ → Bool
+is_alone line = length (later_of line) == 0
+
+-- Behind a `+` stands an exception, and behind a `-` a word alone.
+abbrev pub is_good_addition : Kind → List ℕ → Bool
+is_good_addition kind edit = is_addition edit && is_sound kind (line_of edit)
+
+abbrev pub is_good_removal : Kind → List ℕ → Bool
+is_good_removal kind edit = is_removal edit && (is_sound kind (line_of edit) && is_alone (line_of edit))
+
+-- It is one of the two, and holds no line feed.
+abbrev pub is_good : Kind → List ℕ → Bool
+is_good kind edit = not (has_feed edit) && (is_good_addition kind edit || is_good_removal kind edit)
+
+-- The number, from one on, of the first that is not.
+abbrev pub refused_from : Kind → ℕ → List (List ℕ) → Option ℕ
+refused_from kind number [] = None
+refused_from kind number (edit ∷ edits) = if is_good kind edit then refused_from kind (number + 1) edits else Some number
+
+abbrev pub first_refused : Kind → List (List ℕ) → Option ℕ
+first_refused kind edits = refused_from kind 1 edits
+
+-- ---- what they do, in a dictionary that lists a break by lists
+
+-- What an edit says of its word: the breaks that are listed for it, or that it is no exception.
+abbrev pub said : {B : Type 0} → (Break → B) → List ℕ → Option (List B)
+said lists edit = if is_addition edit then Some (map lists (listed (line_of edit))) else None
+
+-- The dictionary in which the breaks of a line are listed for its word, or its word is no exception.
+abbrev pub with_exception : {C B : Type 0} → (Break → B) → Contents C B → List ℕ → Contents C B
+with_exception lists contents line = record contents { exceptions = finite.insert contents.exceptions (word line) (map lists (listed line)) }
+
+abbrev pub without_exception : {C B : Type 0} → Contents C B → List ℕ → Contents C B
+without_exception contents line = record contents { exceptions = finite.remove contents.exceptions (word line) }
+
+-- The dictionary behind an edit, and behind edits from first to last.
+abbrev pub edited : {C B : Type 0} → (Break → B) → Contents C B → List ℕ → Contents C B
+edited lists contents edit = if is_addition edit then with_exception lists contents (line_of edit) else without_exception contents (line_of edit)
+
+abbrev pub edited_by : {C B : Type 0} → (Break → B) → Contents C B → List (List ℕ) → Contents C B
+edited_by lists contents edits = fold (edited lists) contents edits
+
+-- ---- the laws of them
+
+-- What the last edit that names a word says of it; none, where no edit names it.
+abbrev pub last_said : {B : Type 0} → (Break → B) → List ℕ → List (List ℕ) → Option (Option (List B))
+last_said lists word [] = None
+last_said lists word (edit ∷ edits) = option_or (last_said lists word edits) (if same (named edit) word then Some (said lists edit) else None)
+
+-- Of the edits that name a word the last one decides, and where there is none, the dictionary before them.
+abbrev pub LastDecides : {C B : Type 0} → (Break → B) → Contents C B → List (List ℕ) → List ℕ → Type 0
+LastDecides lists dictionary edits word =
+    finite.get (edited_by lists dictionary edits).exceptions word ≡ unwrap_or (last_said lists word edits) (finite.get dictionary.exceptions word)
+
+-- ---- what reading the exception of an edit answers
+
+-- The word and its listed breaks, exactly where the line of it is sound.
+abbrev pub Reads : {B Y Z : Type 0} → Kind → (Break → B) → Option (String Y × Vec B Z) → List ℕ → Type 0
+Reads kind lists None line = is_sound kind line ≡ false
+Reads kind lists (Some x) line = (is_sound kind line ≡ true) × (told lists exception_of line ≡ Some (string_bytes x.0, x.1.items))
