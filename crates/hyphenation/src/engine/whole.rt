@@ -13,7 +13,7 @@ ghost use Rattle.hyphenation.specs.Load.{ReadsIn, IsNoWant};
 use super::RunError;
 use crate::load;
 use crate::load::{Load, read_all};
-use crate::text::hyphenate_text;
+use crate::text::hyphenated_text;
 use hyphenation_commons::dictionary::{Extended, Standard};
 use hyphenation_commons::grammar::edits::apply_edit;
 use hyphenation_commons::grammar::form::Kind;
@@ -81,9 +81,7 @@ impl WholeTexts for Standard {
     }
 
     fn hyphenated(&self, alloc: Global, mark: &str, text: &str) -> Result<String, AllocError> {
-        let mut output = String::with_capacity(alloc, text.len())?;
-        hyphenate_text(&mut output, alloc, self, text, mark)?;
-        Ok(output)
+        hyphenated_text(alloc, self, text, mark)
     }
 }
 
@@ -111,9 +109,7 @@ impl WholeTexts for Extended {
     }
 
     fn hyphenated(&self, alloc: Global, mark: &str, text: &str) -> Result<String, AllocError> {
-        let mut output = String::with_capacity(alloc, text.len())?;
-        hyphenate_text(&mut output, alloc, self, text, mark)?;
-        Ok(output)
+        hyphenated_text(alloc, self, text, mark)
     }
 }
 
