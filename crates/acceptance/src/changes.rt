@@ -3,7 +3,6 @@
 use hyphenation::Load;
 use hyphenation::extended::{Extended, Subregion};
 use hyphenation::hyphenator::{Hyphenator, Word};
-use hyphenation::iter::SegmentsExt;
 use hyphenation::load::Error;
 use std::alloc::{AllocError, Global};
 use std::borrow::CowStr;
@@ -137,25 +136,31 @@ fn a_range_that_passes_an_edge_of_the_word_is_left_out(rt: HostRuntime) -> Resul
     Ok(())
 }
 
+/// The breaks but those at a place.
+fn without<'d>(
+    alloc: Global,
+    breaks: &[(usize, Option<&'d Subregion>)],
+    place: usize,
+) -> Result<Vec<(usize, Option<&'d Subregion>)>, AllocError> {
+    let mut others = Vec::new(alloc);
+    for found in breaks {
+        if found.0 != place {
+            others.push(*found)?;
+        }
+    }
+    Ok(others)
+}
+
 #[test]
 fn breaks_fit_where_no_range_begins_before_the_end_of_another(rt: HostRuntime) -> Result<(), Fail> {
     let alloc = rt.alloc();
     let lines = "e abcdef 2,1,2,1,x 3,0,1,0,y 5,0,0,0,z";
     let dictionary = extended(alloc, "1 1", lines)?;
-    let bounds = (0, 6);
-    let mut breaks = Vec::new(alloc);
-    let listed = dictionary.exception_within(alloc, "abcdef", bounds)?;
-    for listed in listed.ok_or("a list")? {
-        breaks.push(listed)?;
-    }
+    let listed = dictionary.exception_within(alloc, "abcdef", (0, 6))?;
+    let breaks = listed.ok_or("a list")?;
     assert_eq!(rt; breaks.len(), 3);
     assert!(rt; !Word::fits("abcdef", &breaks));
-    let mut apart = Vec::new(alloc);
-    for (place, change) in breaks {
-        if place != 3 {
-            apart.push((place, change))?;
-        }
-    }
+    let apart = without(alloc, &breaks, 3)?;
     assert_eq!(rt; apart.len(), 2);
     assert!(rt; Word::fits("abcdef", &apart));
     Ok(())
@@ -168,16 +173,13 @@ fn segments_beside_no_change_are_lent(rt: HostRuntime) -> Result<(), Fail> {
     let word = dictionary.hyphenate(alloc, "abcdefg")?;
     let mut lent = 0u8;
     let mut made = 0u8;
-    let mut segments: SegmentsExt<'_, _> = word.into_iter().segments();
-    while let Some(segment) = segments.next() {
+    for segment in word.into_iter().segments() {
         match segment? {
             CowStr::Borrowed(_) => lent = lent.saturating_add(1),
             CowStr::Owned(_) => made = made.saturating_add(1),
         }
     }
     assert_eq!(rt; (made, lent), (2, 2));
-    assert_eq!(rt; segments.len(), 0);
-    assert!(rt; segments.next().is_none());
     Ok(())
 }
 
