@@ -94,7 +94,11 @@ fn a_place_within_a_kept_range_is_left_out(rt: HostRuntime) -> Result<(), Fail> 
     assert_eq!(rt; listed.len(), 3);
     let word = dictionary.hyphenate(alloc, "asszonnyal")?;
     assert_eq!(rt; word.breaks.len(), 2);
-    assert!(rt; word.breaks.iter().all(|(place, change)| *place != 3 && change.is_some()));
+    assert!(rt;
+        word.breaks
+            .iter()
+            .all(|(place, change)| *place != 3 && change.is_some())
+    );
     Ok(())
 }
 
@@ -108,7 +112,11 @@ fn a_range_over_a_letter_whose_length_folding_changed_is_left_out(
     assert_eq!(rt; barred(alloc, &dictionary, "AẞB")?.as_str(), "A|ẞB");
     let word = dictionary.hyphenate(alloc, "AẞB")?;
     assert_eq!(rt; word.breaks.len(), 1);
-    assert!(rt; word.breaks.iter().all(|(place, change)| *place == 1 && change.is_none()));
+    assert!(rt;
+        word.breaks
+            .iter()
+            .all(|(place, change)| *place == 1 && change.is_none())
+    );
     Ok(())
 }
 
@@ -118,7 +126,11 @@ fn a_range_that_passes_an_edge_of_the_word_is_left_out(rt: HostRuntime) -> Resul
     let dictionary = extended(alloc, "1 1", "p .a1b 2,2,0,1,x")?;
     let found = dictionary.opportunities(alloc, "abc")?;
     assert_eq!(rt; found.len(), 1);
-    assert!(rt; found.iter().all(|(place, change)| *place == 1 && substitutes(change, "x")));
+    assert!(rt;
+        found
+            .iter()
+            .all(|(place, change)| *place == 1 && substitutes(change, "x"))
+    );
     assert_eq!(rt; dictionary.hyphenate(alloc, "abc")?.breaks.len(), 0);
     let soft = dictionary.hyphenate(alloc, "\u{ad}ab")?;
     assert_eq!(rt; soft.breaks.len(), 1);
@@ -126,9 +138,7 @@ fn a_range_that_passes_an_edge_of_the_word_is_left_out(rt: HostRuntime) -> Resul
 }
 
 #[test]
-fn breaks_fit_where_no_range_begins_before_the_end_of_another(
-    rt: HostRuntime,
-) -> Result<(), Fail> {
+fn breaks_fit_where_no_range_begins_before_the_end_of_another(rt: HostRuntime) -> Result<(), Fail> {
     let alloc = rt.alloc();
     let lines = "e abcdef 2,1,2,1,x 3,0,1,0,y 5,0,0,0,z";
     let dictionary = extended(alloc, "1 1", lines)?;
@@ -225,6 +235,10 @@ fn a_listed_change_is_told_and_replaced(rt: HostRuntime) -> Result<(), Fail> {
     }
     let found = dictionary.exception(alloc, "esszé")?.ok_or("a list")?;
     assert_eq!(rt; found.len(), 1);
-    assert!(rt; found.iter().all(|(place, change)| *place == 3 && change.is_none()));
+    assert!(rt;
+        found
+            .iter()
+            .all(|(place, change)| *place == 3 && change.is_none())
+    );
     Ok(())
 }

@@ -12,6 +12,12 @@ mod extended_texts;
 #[cfg(test)]
 mod faults;
 #[cfg(test)]
+mod files;
+#[cfg(test)]
+mod run_faults;
+#[cfg(test)]
+mod runs;
+#[cfg(test)]
 mod scores;
 #[cfg(test)]
 mod texts;
