@@ -12,7 +12,13 @@ mod extended_texts;
 #[cfg(test)]
 mod faults;
 #[cfg(test)]
+mod files;
+#[cfg(test)]
 mod long_words;
+#[cfg(test)]
+mod run_faults;
+#[cfg(test)]
+mod runs;
 #[cfg(test)]
 mod scores;
 #[cfg(test)]

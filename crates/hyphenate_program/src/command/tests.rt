@@ -14,9 +14,13 @@ struct Answer {
 }
 
 fn answer_to(rt: &HostRuntime, words: &[&str]) -> Answer {
+    answer_over(rt, words, b"")
+}
+
+fn answer_over(rt: &HostRuntime, words: &[&str], text: &[u8]) -> Answer {
     let mut output: Vec<u8> = Vec::new(rt.alloc());
     let mut faults: Vec<u8> = Vec::new(rt.alloc());
-    let mut input: &[u8] = b"";
+    let mut input = text;
     let status = answer(rt, rt.alloc(), words, &mut input, &mut output, &mut faults);
     Answer {
         status,
@@ -57,8 +61,7 @@ fn a_score_is_written(rt: HostRuntime) -> Result<(), Fail> {
     Ok(())
 }
 
-const CHANGES: &str =
-    "hyphenation 1 extended\nlanguage hu\nminima 1 1\np a1b\np ca1bd 2,1,0,1,x\n";
+const CHANGES: &str = "hyphenation 1 extended\nlanguage hu\nminima 1 1\np a1b\np ca1bd 2,1,0,1,x\n";
 
 fn extended_score_by(rt: &HostRuntime, path: &str, word: &str) -> Answer {
     answer_to(rt, &["score", "extended", "hu", path, word])
@@ -113,7 +116,7 @@ fn an_extended_dictionary_that_is_refused_is_named_with_its_fault(
 
 #[test]
 fn other_words_are_answered_by_the_usage(rt: HostRuntime) {
-    let cases: [&[&str]; 10] = [
+    let cases: [&[&str]; 12] = [
         &[],
         &["score"],
         &["score", "standard", "en-gb", "firkin.txt"],
@@ -122,7 +125,9 @@ fn other_words_are_answered_by_the_usage(rt: HostRuntime) {
         &["score", "Standard", "en-gb", "firkin.txt", "firkin"],
         &["score", "standard", "en-GB", "firkin.txt", "firkin"],
         &["score", "standard", "", "firkin.txt", "firkin"],
-        &["standard", "en-gb", "firkin.txt", "-"],
+        &["standard", "en-gb", "firkin.txt"],
+        &["Standard", "en-gb", "firkin.txt", "-"],
+        &["standard", "en gb", "firkin.txt", "-"],
         &["--help"],
     ];
     for words in cases {
@@ -186,7 +191,165 @@ fn a_path_that_is_missing_or_a_folder_is_a_fault_of_the_dictionary(rt: HostRunti
         assert_eq!(rt; given.status, 3, "{path}");
         assert_eq!(rt; given.output.len(), 0);
         assert!(rt; given.faults.starts_with(b"hyphenate: "), "{path}");
+        let given = answer_over(&rt, &["standard", "en-gb", path, "-", "*"], b"\xff");
+        assert_eq!(rt; given.status, 3, "{path}");
+        assert_eq!(rt; given.output.len(), 0);
+        assert!(rt; given.faults.starts_with(b"hyphenate: "), "{path}");
     }
+}
+
+/// What the program answers for a text, a standard dictionary, and the words behind its path.
+fn hyphenated_by(rt: &HostRuntime, path: &str, rest: &[&str], text: &[u8]) -> Result<Answer, Fail> {
+    let mut words: Vec<&str> = Vec::new(rt.alloc());
+    for word in ["standard", "en-gb", path] {
+        words.push(word)?;
+    }
+    for word in rest {
+        words.push(*word)?;
+    }
+    Ok(answer_over(rt, &words, text))
+}
+
+#[test]
+fn a_text_is_hyphenated_behind_edits(rt: HostRuntime) -> Result<(), Fail> {
+    let path = file(&rt, "text", FIRKIN.as_bytes())?;
+    let cases: [(&[&str], &str); 6] = [
+        (&["\u{ad}"], "Fir\u{ad}kin, fir\u{ad}k\u{ad}ins.\n"),
+        (&["<->"], "Fir<->kin, fir<->k<->ins.\n"),
+        (&["-"], "Fir-kin, fir-k-ins.\n"),
+        (&[""], "Firkin, firkins.\n"),
+        (&["-", "+firkins 3"], "Fir-kin, fir-kins.\n"),
+        (&["=", "+firkins 3", "-firkins"], "Fir=kin, fir=k=ins.\n"),
+    ];
+    for (rest, wanted) in cases {
+        let given = hyphenated_by(&rt, &path, rest, b"Firkin, firkins.\n")?;
+        assert_eq!(rt; given.status, 0, "{rest:?}");
+        assert_eq!(rt; given.output.as_slice(), wanted.as_bytes(), "{rest:?}");
+        assert_eq!(rt; given.faults.len(), 0);
+    }
+    fs::remove_file(&rt, path.as_str())?;
+    Ok(())
+}
+
+#[test]
+fn a_text_that_is_refused_is_told_with_its_status(rt: HostRuntime) -> Result<(), Fail> {
+    let path = file(&rt, "refused", FIRKIN.as_bytes())?;
+    let cases: [(&[&str], &[u8], u8, &str); 3] = [
+        (
+            &["-", "-firkin", "firkins"],
+            b"\xff",
+            2,
+            "hyphenate: edit 2 is refused\n",
+        ),
+        (
+            &["-", "+firkins 3"],
+            b"fir\xffkin",
+            4,
+            "hyphenate: the text is not UTF-8\n",
+        ),
+        (
+            &["-", "+firkins 8"],
+            b"firkin",
+            2,
+            "hyphenate: edit 1 is refused\n",
+        ),
+    ];
+    for (rest, text, status, message) in cases {
+        let given = hyphenated_by(&rt, &path, rest, text)?;
+        assert_eq!(rt; given.status, status, "{rest:?}");
+        assert_eq!(rt; given.output.len(), 0, "{rest:?}");
+        assert_eq!(rt; given.faults.as_slice(), message.as_bytes(), "{rest:?}");
+    }
+    let given = answer_over(&rt, &["standard", "hu", path.as_str(), "-", "*"], b"\xff");
+    assert_eq!(rt; given.status, 3);
+    assert_eq!(rt; given.output.len(), 0);
+    fs::remove_file(&rt, path.as_str())?;
+    Ok(())
+}
+
+/// Gives nothing but a fault.
+#[derive(Drop)]
+struct Torn(ErrorKind);
+
+impl Read for Torn {
+    fn read(&mut self, _buf: &mut [u8]) -> io::Result<usize> {
+        Err(io::Error::from(self.0))
+    }
+}
+
+#[test]
+fn an_input_that_cannot_be_read_is_told(rt: HostRuntime) -> Result<(), Fail> {
+    let path = file(&rt, "torn", FIRKIN.as_bytes())?;
+    let words = ["standard", "en-gb", path.as_str(), "-"];
+    let cases: [(ErrorKind, u8, &str); 2] = [
+        (
+            ErrorKind::ConnectionReset,
+            5,
+            "hyphenate: the text can't be read\n",
+        ),
+        (ErrorKind::OutOfMemory, 6, "hyphenate: no memory\n"),
+    ];
+    for (kind, status, message) in cases {
+        let mut output: Vec<u8> = Vec::new(rt.alloc());
+        let mut faults: Vec<u8> = Vec::new(rt.alloc());
+        let given = answer(
+            &rt,
+            rt.alloc(),
+            &words,
+            &mut Torn(kind),
+            &mut output,
+            &mut faults,
+        );
+        assert_eq!(rt; given, status);
+        assert_eq!(rt; output.len(), 0);
+        assert_eq!(rt; faults.as_slice(), message.as_bytes());
+    }
+    let mut input: &[u8] = b"firkin";
+    let mut faults: Vec<u8> = Vec::new(rt.alloc());
+    let given = answer(&rt, rt.alloc(), &words, &mut input, &mut Full, &mut faults);
+    assert_eq!(rt; given, 5);
+    assert_eq!(rt;
+        faults.as_slice(),
+        b"hyphenate: the result can't be written\n".as_slice()
+    );
+    fs::remove_file(&rt, path.as_str())?;
+    Ok(())
+}
+
+const DOUBLED: &str =
+    "hyphenation 1 extended\nlanguage hu\nminima 2 2\ne asszonnyal 2,1,2,2,szsz 6,1,2,2,nyny\n";
+
+#[test]
+fn a_text_is_hyphenated_by_an_extended_dictionary(rt: HostRuntime) -> Result<(), Fail> {
+    let path = file(&rt, "doubled", DOUBLED.as_bytes())?;
+    let cases: [(&[&str], &str); 3] = [
+        (
+            &["extended", "hu", path.as_str(), "-"],
+            "Az asz-szony-nyal.\r\n",
+        ),
+        (
+            &[
+                "extended",
+                "hu",
+                path.as_str(),
+                "-",
+                "+asszonnyal 2,1,2,2,szsz",
+            ],
+            "Az asz-szonnyal.\r\n",
+        ),
+        (
+            &["extended", "hu", path.as_str(), "", "-asszonnyal"],
+            "Az asszonnyal.\r\n",
+        ),
+    ];
+    for (words, wanted) in cases {
+        let given = answer_over(&rt, words, b"Az asszonnyal.\r\n");
+        assert_eq!(rt; given.status, 0, "{words:?}");
+        assert_eq!(rt; given.output.as_slice(), wanted.as_bytes(), "{words:?}");
+        assert_eq!(rt; given.faults.len(), 0);
+    }
+    fs::remove_file(&rt, path.as_str())?;
+    Ok(())
 }
 
 /// Takes nothing.

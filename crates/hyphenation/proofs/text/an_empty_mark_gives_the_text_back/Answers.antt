@@ -12,5 +12,5 @@ returns c = λ text u.
     let dictionary = c.args.dictionary.now in
     let kept = c.minima-minima.ensures.kept in
     given_back (breaks_of (rules_of no_change plain dictionary))
-        (λ word v. subst (Fits word) (fitted_alike dictionary word kept v) (breaks_fit no_change plain dictionary word kept v))
-        (breaks_plain dictionary) text u
+    (λ word v. subst (Fits word) (fitted_alike dictionary word kept v) (breaks_fit no_change plain dictionary word kept v))
+    (breaks_plain dictionary) text u

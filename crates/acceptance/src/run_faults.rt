@@ -1,0 +1,217 @@
+//! Runs over readers and writers that fail: each fault is told as it was, and nothing is written before it is known.
+
+use crate::runs::FIRKIN;
+use hyphenation::engine::{Kind, RunError, run, run_score};
+use hyphenation::load::{Error, Load};
+use hyphenation::{Language, Standard};
+use std::alloc::Global;
+use std::io;
+use std::io::{ErrorKind, Read, Write};
+use std::test::Fail;
+
+const TEXT: &[u8] = b"Firkin, firkins.";
+
+const MARKED: &[u8] = b"Fir-kin, fir-k-ins.";
+
+/// The least accepted text with a pattern.
+const LEAST: &[u8] = b"hyphenation 1 standard\nlanguage en-us\nminima 2 3\np a1b";
+
+/// Gives a text in reads of one byte, up to a fault at the read of this number, counted from 1.
+#[derive(Drop)]
+struct Faulty<'t> {
+    left: &'t [u8],
+    until: usize,
+    kind: ErrorKind,
+}
+
+impl Read for Faulty<'_> {
+    fn read(&mut self, buf: &mut [u8]) -> io::Result<usize> {
+        if self.until <= 1 {
+            return Err(io::Error::from(self.kind));
+        }
+        self.until -= 1;
+        let Some((first, rest)) = self.left.split_first() else {
+            return Ok(0);
+        };
+        let Some(slot) = buf.first_mut() else {
+            return Ok(0);
+        };
+        *slot = *first;
+        self.left = rest;
+        Ok(1)
+    }
+}
+
+/// A reader whose read of this number fails.
+fn torn(left: &[u8], until: usize) -> Faulty<'_> {
+    Faulty {
+        left,
+        until,
+        kind: ErrorKind::ConnectionReset,
+    }
+}
+
+/// Takes one byte a write, but for a fault at the write of this number, counted from 1: it fails once, and then takes
+/// bytes again.
+#[derive(Drop)]
+struct Hiccup {
+    until: usize,
+    taken: Vec<u8>,
+}
+
+impl Write for Hiccup {
+    fn write(&mut self, buf: &[u8]) -> io::Result<usize> {
+        self.until = self.until.saturating_sub(1);
+        if self.until == 0 {
+            self.until = usize::MAX;
+            return Err(io::Error::from(ErrorKind::BrokenPipe));
+        }
+        match buf.first() {
+            Some(first) => {
+                self.taken.push(*first)?;
+                Ok(1)
+            }
+            None => Ok(0),
+        }
+    }
+
+    fn flush(&mut self) -> io::Result<()> {
+        Ok(())
+    }
+}
+
+fn failing_once(alloc: Global, until: usize) -> Hiccup {
+    Hiccup {
+        until,
+        taken: Vec::new(alloc),
+    }
+}
+
+fn run_with<D: Read, I: Read>(
+    alloc: Global,
+    dictionary: &mut D,
+    input: &mut I,
+    output: &mut Hiccup,
+) -> Result<(), RunError> {
+    run(
+        alloc,
+        Kind::Standard,
+        Language::english_us(),
+        &[],
+        "-",
+        dictionary,
+        input,
+        output,
+    )
+}
+
+/// It is the fault of a torn reader.
+fn is_torn(error: &Error) -> bool {
+    matches!(error, Error::IO(e) if e.kind() == ErrorKind::ConnectionReset)
+}
+
+#[test]
+fn a_torn_dictionary_is_a_fault_of_reading_at_each_read(rt: HostRuntime) {
+    let language = Language::english_us();
+    for number in 1..=55 {
+        let any = Standard::any_from_reader(rt.alloc(), &mut torn(LEAST, number));
+        assert!(rt; matches!(&any, Err(e) if is_torn(e)), "{number}");
+        let asked = Standard::from_reader(rt.alloc(), language, &mut torn(LEAST, number));
+        assert!(rt; matches!(&asked, Err(e) if is_torn(e)), "{number}");
+        let mut output = failing_once(rt.alloc(), usize::MAX);
+        let end = run_with(
+            rt.alloc(),
+            &mut torn(LEAST, number),
+            &mut torn(TEXT, 1),
+            &mut output,
+        );
+        assert!(rt;
+            matches!(&end, Err(RunError::Dictionary(e)) if is_torn(e)),
+            "{number}"
+        );
+        let end = run_score(
+            rt.alloc(),
+            Kind::Standard,
+            language,
+            "ab",
+            &mut torn(LEAST, number),
+            &mut output,
+        );
+        assert!(rt;
+            matches!(&end, Err(RunError::Dictionary(e)) if is_torn(e)),
+            "{number}"
+        );
+        assert_eq!(rt; output.taken.len(), 0, "{number}");
+    }
+    let whole = Standard::any_from_reader(rt.alloc(), &mut torn(LEAST, 56));
+    assert!(rt; whole.is_ok());
+}
+
+#[test]
+fn a_faulty_line_before_the_fault_is_not_judged(rt: HostRuntime) {
+    let mut reader = torn(b"no head\n", 9);
+    let answer = Standard::any_from_reader(rt.alloc(), &mut reader);
+    assert!(rt; matches!(&answer, Err(e) if is_torn(e)));
+}
+
+#[test]
+fn a_torn_input_is_told_at_each_read_and_nothing_is_written(rt: HostRuntime) {
+    for number in 1..=17 {
+        let mut output = failing_once(rt.alloc(), usize::MAX);
+        let end = run_with(
+            rt.alloc(),
+            &mut FIRKIN.as_bytes(),
+            &mut torn(TEXT, number),
+            &mut output,
+        );
+        assert!(rt;
+            matches!(&end, Err(RunError::Input(e)) if e.kind() == ErrorKind::ConnectionReset),
+            "{number}"
+        );
+        assert_eq!(rt; output.taken.len(), 0, "{number}");
+    }
+}
+
+#[test]
+fn readers_of_one_byte_a_read_change_nothing(rt: HostRuntime) {
+    let mut output = failing_once(rt.alloc(), usize::MAX);
+    let end = run_with(
+        rt.alloc(),
+        &mut torn(FIRKIN.as_bytes(), usize::MAX),
+        &mut torn(TEXT, usize::MAX),
+        &mut output,
+    );
+    assert!(rt; end.is_ok());
+    assert_eq!(rt; output.taken.as_slice(), MARKED);
+}
+
+#[test]
+fn an_input_that_wants_memory_is_want_of_memory(rt: HostRuntime) {
+    let mut input = Faulty {
+        left: TEXT,
+        until: 5,
+        kind: ErrorKind::OutOfMemory,
+    };
+    let mut output = failing_once(rt.alloc(), usize::MAX);
+    let end = run_with(rt.alloc(), &mut FIRKIN.as_bytes(), &mut input, &mut output);
+    assert!(rt; matches!(end, Err(RunError::Memory)));
+    assert_eq!(rt; output.taken.len(), 0);
+}
+
+#[test]
+fn a_writer_that_fails_once_has_a_beginning_of_the_result(rt: HostRuntime) {
+    for number in 1..=19 {
+        let mut output = failing_once(rt.alloc(), number);
+        let end = run_with(
+            rt.alloc(),
+            &mut FIRKIN.as_bytes(),
+            &mut &TEXT[..],
+            &mut output,
+        );
+        assert!(rt;
+            matches!(&end, Err(RunError::Output(e)) if e.kind() == ErrorKind::BrokenPipe),
+            "{number}"
+        );
+        assert_eq!(rt; output.taken.as_slice(), &MARKED[..number - 1], "{number}");
+    }
+}

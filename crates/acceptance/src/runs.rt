@@ -1,0 +1,271 @@
+//! Whole texts: what a run writes, and why it writes nothing.
+
+use hyphenation::engine::{Kind, RunError, run};
+use hyphenation::load::{Cause, Error, Load};
+use hyphenation::{Language, Standard, hyphenate_text};
+use std::alloc::Global;
+use std::test::Fail;
+
+/// The patterns that occur in `firkin`, in American English.
+pub const FIRKIN: &str =
+    "hyphenation 1 standard\nlanguage en-us\nminima 2 3\np .fi2\np i2r\np r2k\np r5kin\np k1in\np k2in.\n";
+
+/// What a run wrote, and how it ended.
+#[derive(Drop)]
+struct Run {
+    end: Result<(), RunError>,
+    output: Vec<u8>,
+}
+
+/// A run by a standard dictionary of American English.
+fn run_by(
+    alloc: Global,
+    dictionary: &str,
+    edits: &[&str],
+    mark: &str,
+    text: &[u8],
+) -> Result<Run, Fail> {
+    run_of(
+        alloc,
+        Kind::Standard,
+        Language::english_us(),
+        dictionary,
+        edits,
+        mark,
+        text,
+    )
+}
+
+fn run_of(
+    alloc: Global,
+    kind: Kind,
+    language: Language,
+    dictionary: &str,
+    edits: &[&str],
+    mark: &str,
+    text: &[u8],
+) -> Result<Run, Fail> {
+    let mut dictionary = dictionary.as_bytes();
+    let mut input = text;
+    let mut output: Vec<u8> = Vec::new(alloc);
+    let end = run(
+        alloc,
+        kind,
+        language,
+        edits,
+        mark,
+        &mut dictionary,
+        &mut input,
+        &mut output,
+    );
+    Ok(Run { end, output })
+}
+
+#[test]
+fn each_piece_between_word_bounds_is_hyphenated(rt: HostRuntime) -> Result<(), Fail> {
+    let verse =
+        "hyphenation 1 standard\nlanguage en-us\nminima 2 3\ne noble 2\ne accents 2\ne lucid 2\ne inescapable 2";
+    let lake =
+        "hyphenation 1 standard\nlanguage en-us\nminima 2 3\ne burning 4\ne sulphur 3\ne unconsumed 2 5\n";
+    let cases: [(&str, &str, &str, &str); 8] = [
+        (
+            verse,
+            "-",
+            "I know noble accents / And lucid, inescapable rhythms; […]",
+            "I know no-ble ac-cents / And lu-cid, in-escapable rhythms; […]",
+        ),
+        (
+            verse,
+            "",
+            "I know noble accents / And lucid, inescapable rhythms; […]",
+            "I know noble accents / And lucid, inescapable rhythms; […]",
+        ),
+        (
+            verse,
+            "\u{ad}",
+            "Noble LUCID\n",
+            "No\u{ad}ble LU\u{ad}CID\n",
+        ),
+        (
+            lake,
+            "-",
+            "ever-burning sulphur unconsumed",
+            "ever-burn-ing sul-phur un-con-sumed",
+        ),
+        (FIRKIN, "-", "Firkin, firkins.", "Fir-kin, fir-k-ins."),
+        (FIRKIN, "-", "", ""),
+        (FIRKIN, "=", "fir\u{ad}kin", "fir=\u{ad}kin"),
+        (
+            FIRKIN,
+            "-",
+            "\u{feff}firkin\r\n\0FIRKIN",
+            "\u{feff}fir-kin\r\n\0FIR-KIN",
+        ),
+    ];
+    for (dictionary, mark, text, wanted) in cases {
+        let ran = run_by(rt.alloc(), dictionary, &[], mark, text.as_bytes())?;
+        assert!(rt; ran.end.is_ok(), "{text}");
+        assert_eq!(rt; ran.output.as_slice(), wanted.as_bytes(), "{text}");
+    }
+    Ok(())
+}
+
+#[test]
+fn edits_are_done_from_first_to_last(rt: HostRuntime) -> Result<(), Fail> {
+    let cases: [(&[&str], &str); 7] = [
+        (&[], "Fir-kin, fir-k-ins."),
+        (&["+firkins 3"], "Fir-kin, fir-kins."),
+        (&["+firkins 3", "-firkins"], "Fir-kin, fir-k-ins."),
+        (&["-firkins", "+firkins 3"], "Fir-kin, fir-kins."),
+        (&["+firkins"], "Fir-kin, firkins."),
+        (&["-other"], "Fir-kin, fir-k-ins."),
+        (
+            &["+firkins 3", "+firkins 4", "+firkin"],
+            "Firkin, firk-ins.",
+        ),
+    ];
+    for (edits, wanted) in cases {
+        let ran = run_by(rt.alloc(), FIRKIN, edits, "-", b"Firkin, firkins.")?;
+        assert!(rt; ran.end.is_ok(), "{edits:?}");
+        assert_eq!(rt; ran.output.as_slice(), wanted.as_bytes(), "{edits:?}");
+    }
+    Ok(())
+}
+
+#[test]
+fn the_first_edit_that_is_refused_is_told(rt: HostRuntime) -> Result<(), Fail> {
+    let cases: [(&[&str], usize); 20] = [
+        (&["+"], 1),
+        (&["-"], 1),
+        (&[""], 1),
+        (&["firkins 3"], 1),
+        (&["+firkins 8"], 1),
+        (&["+firkins 3 3"], 1),
+        (&["+firkins 03"], 1),
+        (&["+firkins x"], 1),
+        (&["+firkins 1,0,0,0,x"], 1),
+        (&["+firkins  3"], 1),
+        (&["+ firkins 3"], 1),
+        (&["+fir\\kins 3"], 1),
+        (&["+fir\nkins 3"], 1),
+        (&["-fir\nkins"], 1),
+        (&["+é 1"], 1),
+        (&["-firkins 3"], 1),
+        (&["-firkins "], 1),
+        (&["-other", "*firkins"], 2),
+        (&["+firkins 3", "-a", "+a\r"], 3),
+        (&["+a", "+b 2", "+c 2"], 2),
+    ];
+    for (edits, number) in cases {
+        let ran = run_by(rt.alloc(), FIRKIN, edits, "-", b"Firkin, firkins.")?;
+        assert!(rt;
+            matches!(ran.end, Err(RunError::Edit(k)) if k == number),
+            "{edits:?}"
+        );
+        assert_eq!(rt; ran.output.len(), 0, "{edits:?}");
+    }
+    let ran = run_by(rt.alloc(), FIRKIN, &["-\\e", "+a\\sb 1"], "-", b"")?;
+    assert!(rt; ran.end.is_ok());
+    Ok(())
+}
+
+#[test]
+fn the_first_refusal_in_order_is_answered(rt: HostRuntime) -> Result<(), Fail> {
+    let none: [&str; 0] = [];
+    let ran = run_by(rt.alloc(), "", &["+firkins 8"], "-", b"\xff")?;
+    assert!(rt;
+        matches!(
+            ran.end,
+            Err(RunError::Dictionary(Error::Deserialization {
+                line: 1,
+                cause: Cause::Header
+            }))
+        )
+    );
+    let other = "hyphenation 1 standard\nlanguage hu\nminima 2 3\n";
+    let ran = run_by(rt.alloc(), other, &["+firkins 8"], "-", b"\xff")?;
+    assert!(rt;
+        matches!(
+            ran.end,
+            Err(RunError::Dictionary(Error::LanguageMismatch { .. }))
+        )
+    );
+    let ran = run_by(rt.alloc(), FIRKIN, &["+firkins 8"], "-", b"\xff")?;
+    assert!(rt; matches!(ran.end, Err(RunError::Edit(1))));
+    assert_eq!(rt; ran.output.len(), 0);
+    let ran = run_by(rt.alloc(), FIRKIN, &none, "-", b"firkin \xff")?;
+    assert!(rt; matches!(ran.end, Err(RunError::TextNotUtf8)));
+    assert_eq!(rt; ran.output.len(), 0);
+    Ok(())
+}
+
+const DOUBLED: &str =
+    "hyphenation 1 extended\nlanguage hu\nminima 2 2\ne asszonnyal 2,1,2,2,szsz 6,1,2,2,nyny\n";
+
+#[test]
+fn letters_are_changed_where_a_text_is_broken(rt: HostRuntime) -> Result<(), Fail> {
+    let cases: [(&[&str], &str); 5] = [
+        (&[], "Az asz-szony-nyal."),
+        (&["+asszonnyal 2,1,2,2,szsz"], "Az asz-szonnyal."),
+        (&["+asszonnyal 3"], "Az ass-zonnyal."),
+        (&["-asszonnyal"], "Az asszonnyal."),
+        (
+            &["-asszonnyal", "+asszonnyal 6,1,2,2,nyny"],
+            "Az asszony-nyal.",
+        ),
+    ];
+    for (edits, wanted) in cases {
+        let ran = run_of(
+            rt.alloc(),
+            Kind::Extended,
+            Language::hungarian(),
+            DOUBLED,
+            edits,
+            "-",
+            b"Az asszonnyal.",
+        )?;
+        assert!(rt; ran.end.is_ok(), "{edits:?}");
+        assert_eq!(rt; ran.output.as_slice(), wanted.as_bytes(), "{edits:?}");
+    }
+    Ok(())
+}
+
+#[test]
+fn edits_of_an_extended_dictionary_are_judged_by_its_kind(rt: HostRuntime) -> Result<(), Fail> {
+    let cases: [(&[&str], usize); 4] = [
+        (&["+asszonnyal 2,1,2,9,szsz"], 1),
+        (&["+asszonnyal 2,3,2,2,szsz"], 1),
+        (&["-asszonnyal 2"], 1),
+        (&["+asszonnyal 2,1,2,2,szsz", "+a 2"], 2),
+    ];
+    for (edits, number) in cases {
+        let ran = run_of(
+            rt.alloc(),
+            Kind::Extended,
+            Language::hungarian(),
+            DOUBLED,
+            edits,
+            "-",
+            b"Az asszonnyal.",
+        )?;
+        assert!(rt;
+            matches!(ran.end, Err(RunError::Edit(k)) if k == number),
+            "{edits:?}"
+        );
+        assert_eq!(rt; ran.output.len(), 0, "{edits:?}");
+    }
+    Ok(())
+}
+
+#[test]
+fn a_text_is_appended_by_a_loaded_dictionary(rt: HostRuntime) -> Result<(), Fail> {
+    let alloc = rt.alloc();
+    let mut reader = FIRKIN.as_bytes();
+    let dictionary = Standard::any_from_reader(alloc, &mut reader)?;
+    let mut page = String::from_str(alloc, "Ale: ")?;
+    hyphenate_text(&mut page, alloc, &dictionary, "Firkin, firkins.", "-")?;
+    hyphenate_text(&mut page, alloc, &dictionary, " Firkin", "")?;
+    hyphenate_text(&mut page, alloc, &dictionary, "", "-")?;
+    assert_eq!(rt; page.as_str(), "Ale: Fir-kin, fir-k-ins. Firkin");
+    Ok(())
+}
