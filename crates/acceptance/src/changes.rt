@@ -3,7 +3,6 @@
 use hyphenation::Load;
 use hyphenation::extended::{Extended, Subregion};
 use hyphenation::hyphenator::{Hyphenator, Word};
-use hyphenation::iter::SegmentsExt;
 use hyphenation::load::Error;
 use std::alloc::{AllocError, Global};
 use std::borrow::CowStr;
@@ -94,7 +93,11 @@ fn a_place_within_a_kept_range_is_left_out(rt: HostRuntime) -> Result<(), Fail> 
     assert_eq!(rt; listed.len(), 3);
     let word = dictionary.hyphenate(alloc, "asszonnyal")?;
     assert_eq!(rt; word.breaks.len(), 2);
-    assert!(rt; word.breaks.iter().all(|(place, change)| *place != 3 && change.is_some()));
+    assert!(rt;
+        word.breaks
+            .iter()
+            .all(|(place, change)| *place != 3 && change.is_some())
+    );
     Ok(())
 }
 
@@ -108,7 +111,11 @@ fn a_range_over_a_letter_whose_length_folding_changed_is_left_out(
     assert_eq!(rt; barred(alloc, &dictionary, "AẞB")?.as_str(), "A|ẞB");
     let word = dictionary.hyphenate(alloc, "AẞB")?;
     assert_eq!(rt; word.breaks.len(), 1);
-    assert!(rt; word.breaks.iter().all(|(place, change)| *place == 1 && change.is_none()));
+    assert!(rt;
+        word.breaks
+            .iter()
+            .all(|(place, change)| *place == 1 && change.is_none())
+    );
     Ok(())
 }
 
@@ -118,34 +125,42 @@ fn a_range_that_passes_an_edge_of_the_word_is_left_out(rt: HostRuntime) -> Resul
     let dictionary = extended(alloc, "1 1", "p .a1b 2,2,0,1,x")?;
     let found = dictionary.opportunities(alloc, "abc")?;
     assert_eq!(rt; found.len(), 1);
-    assert!(rt; found.iter().all(|(place, change)| *place == 1 && substitutes(change, "x")));
+    assert!(rt;
+        found
+            .iter()
+            .all(|(place, change)| *place == 1 && substitutes(change, "x"))
+    );
     assert_eq!(rt; dictionary.hyphenate(alloc, "abc")?.breaks.len(), 0);
     let soft = dictionary.hyphenate(alloc, "\u{ad}ab")?;
     assert_eq!(rt; soft.breaks.len(), 1);
     Ok(())
 }
 
+/// The breaks but those at a place.
+fn without<'d>(
+    alloc: Global,
+    breaks: &[(usize, Option<&'d Subregion>)],
+    place: usize,
+) -> Result<Vec<(usize, Option<&'d Subregion>)>, AllocError> {
+    let mut others = Vec::new(alloc);
+    for found in breaks {
+        if found.0 != place {
+            others.push(*found)?;
+        }
+    }
+    Ok(others)
+}
+
 #[test]
-fn breaks_fit_where_no_range_begins_before_the_end_of_another(
-    rt: HostRuntime,
-) -> Result<(), Fail> {
+fn breaks_fit_where_no_range_begins_before_the_end_of_another(rt: HostRuntime) -> Result<(), Fail> {
     let alloc = rt.alloc();
     let lines = "e abcdef 2,1,2,1,x 3,0,1,0,y 5,0,0,0,z";
     let dictionary = extended(alloc, "1 1", lines)?;
-    let bounds = (0, 6);
-    let mut breaks = Vec::new(alloc);
-    let listed = dictionary.exception_within(alloc, "abcdef", bounds)?;
-    for listed in listed.ok_or("a list")? {
-        breaks.push(listed)?;
-    }
+    let listed = dictionary.exception_within(alloc, "abcdef", (0, 6))?;
+    let breaks = listed.ok_or("a list")?;
     assert_eq!(rt; breaks.len(), 3);
     assert!(rt; !Word::fits("abcdef", &breaks));
-    let mut apart = Vec::new(alloc);
-    for (place, change) in breaks {
-        if place != 3 {
-            apart.push((place, change))?;
-        }
-    }
+    let apart = without(alloc, &breaks, 3)?;
     assert_eq!(rt; apart.len(), 2);
     assert!(rt; Word::fits("abcdef", &apart));
     Ok(())
@@ -158,16 +173,13 @@ fn segments_beside_no_change_are_lent(rt: HostRuntime) -> Result<(), Fail> {
     let word = dictionary.hyphenate(alloc, "abcdefg")?;
     let mut lent = 0u8;
     let mut made = 0u8;
-    let mut segments: SegmentsExt<'_, _> = word.into_iter().segments();
-    while let Some(segment) = segments.next() {
+    for segment in word.into_iter().segments() {
         match segment? {
             CowStr::Borrowed(_) => lent = lent.saturating_add(1),
             CowStr::Owned(_) => made = made.saturating_add(1),
         }
     }
     assert_eq!(rt; (made, lent), (2, 2));
-    assert_eq!(rt; segments.len(), 0);
-    assert!(rt; segments.next().is_none());
     Ok(())
 }
 
@@ -225,6 +237,10 @@ fn a_listed_change_is_told_and_replaced(rt: HostRuntime) -> Result<(), Fail> {
     }
     let found = dictionary.exception(alloc, "esszé")?.ok_or("a list")?;
     assert_eq!(rt; found.len(), 1);
-    assert!(rt; found.iter().all(|(place, change)| *place == 3 && change.is_none()));
+    assert!(rt;
+        found
+            .iter()
+            .all(|(place, change)| *place == 3 && change.is_none())
+    );
     Ok(())
 }

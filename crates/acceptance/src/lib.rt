@@ -12,8 +12,12 @@ mod extended_texts;
 #[cfg(test)]
 mod faults;
 #[cfg(test)]
+mod long_words;
+#[cfg(test)]
 mod scores;
 #[cfg(test)]
 mod texts;
+#[cfg(test)]
+mod version_two;
 #[cfg(test)]
 mod words;

@@ -1,16 +1,17 @@
 -- Breaks that change nothing are all kept, and those of a standard dictionary are such.
-use Rattle.std.proofs.Common.{◌≡◌, ℕ, ◌+◌, ◌-◌, ◌≤◌, ◌&&◌, not, Bool, true, false, cond, nat_le, le-leb, List, [], ◌∷◌, length, map, Some, None, refl, sym, ap, ◌∙◌, arith}
+use Rattle.std.proofs.Common.{◌≡◌, ℕ, ◌+◌, ◌-◌, ◌≤◌, ◌==◌, ◌&&◌, not, Bool, true, false, cond, nat_le, le-leb, List, [], ◌∷◌, length, map, Some, None, refl, sym, ap, ◌∙◌, arith}
 use Rattle.std.specs.Option.{option_map, option_and_then, option_map_or, unwrap_or}
 use Rattle.std.specs.Str.{IsUtf8}
 use Rattle.std.specs.FinMap as finite
 use Rattle.std.proofs.lemmas.Bool.{cond-true}
-use Rattle.hyphenation_commons.specs.Break.{Break, plain, begin_of, end_of}
+use Rattle.hyphenation_commons.specs.Break.{Break, plain, changed_by, begin_of, end_of}
 use Rattle.hyphenation_commons.specs.Dictionary.{Contents, keys_of}
 use Rattle.hyphenation_commons.specs.Kept.{IsKept}
 use Rattle.hyphenation.specs.declared.case_folding.Shift.{Shift}
 use Rattle.hyphenation.specs.Fitting.{kept_by, fitted, fitted_breaks_of, holds_shift, is_steady_by}
-use Rattle.hyphenation.specs.Folding.{fold, shifts_of}
-use Rattle.hyphenation.specs.Opportunities.{Rules, no_change, rules_of, within, breaks_within, break_at, by_patterns, opportunities_in, opportunities, boundaries_by, breaks_of, written, Ascending}
+use Rattle.hyphenation.specs.Folding.{fold, carried, shifts_of}
+use Rattle.hyphenation.specs.Opportunities.{Rules, no_change, rules_of, within, breaks_within, break_at, by_patterns, opportunities_in, opportunities, boundaries_by, breaks_of, written, carried_break, Ascending}
+use Rattle.hyphenation.specs.SoftHyphens.{soft_hyphens}
 use Rattle.hyphenation.specs.Scoring.{winner_at}
 use Rattle.hyphenation.proofs.Fitting.{kept_from, kept_is, fitted_by_shifts}
 use Rattle.hyphenation.proofs.Folds.{fold_is_utf8}
@@ -49,6 +50,10 @@ all_kept text test last_end least (b ∷ bs) steady h a p =
 pub plain_kept : (text : List ℕ) (shifts : List Shift) (breaks : List Break) → Ascending text breaks → ArePlain breaks → kept_by (is_steady_by (length text) shifts) breaks ≡ breaks
 plain_kept text shifts breaks a p = kept_is _ breaks ∙ all_kept text (is_steady_by (length text) shifts) 0 0 breaks (plain_is_steady (length text) shifts) (omega arith) a p
 
+carried_plain : (word : List ℕ) (breaks : List Break) → ArePlain breaks → ArePlain (map (carried_break word) breaks)
+carried_plain word [] p = tt
+carried_plain word (b ∷ bs) p = (ap (λ x. changed_by (carried word b.place) x.change) p.0, carried_plain word bs p.1)
+
 -- ---- of a standard dictionary
 
 pub plain_made : {X : Type 0} (make : X → Break) → ((x : X) → make x ≡ plain (make x).place) → (xs : List X) → ArePlain (map make xs)
@@ -84,6 +89,15 @@ module _ (contents : Contents (Unit {0}) ℕ) (word : List ℕ) where
               | None ↦ plain_within (rules.allowed text) bounds (plain_made (break_at no_change (keys_of contents) text) (changes_nothing text) _)
               | Some listed ↦ plain_within (map plain listed) bounds (plain_made plain (λ _. refl) listed)
             ]
+      ]
+
+  -- Its breaks change nothing.
+  pub breaks_plain : ArePlain (breaks_of rules word)
+  breaks_plain =
+      let found : List Break = opportunities rules (fold word) in
+      elim (length (soft_hyphens word) == 0) as (λ t. ArePlain (cond t (map (carried_break word) found) (map plain (soft_hyphens word)))) [
+        | true ↦ carried_plain word found (opportunities_plain (fold word))
+        | false ↦ plain_made plain (λ _. refl) (soft_hyphens word)
       ]
 
   -- Its breaks are the same where they are fitted first.

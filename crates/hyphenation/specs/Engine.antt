@@ -1,19 +1,23 @@
 -- What is written of a word's score, and when a run is refused.
-use Rattle.std.specs.Prelude.{◌≡◌, ◌≢◌, ◌==◌, if◌then◌else◌, ℕ, List, [], ◌∷◌, ◌++◌, map, decimal, None, Result, Ok, Err, Option, Some, unwrap_or, slice_index_or}
+use Rattle.std.specs.Prelude.{◌≡◌, ◌≢◌, ◌==◌, if◌then◌else◌, ℕ, List, [], ◌∷◌, ◌++◌, map, decimal, IsUtf8, None, Result, Ok, Err, Option, Some, unwrap_or, slice_index_or}
 use Rattle.std.specs.List.{join_with_byte}
 use Rattle.std.specs.declared.alloc.AllocError.{AllocError}
+use Rattle.hyphenation_commons.specs.Break.{Break, plain}
 use Rattle.hyphenation_commons.specs.Dictionary.{keys_of}
+use Rattle.hyphenation_commons.specs.Edits.{edited_by, first_refused}
 use Rattle.hyphenation_commons.specs.Lines.{lines_of, language_of}
-use Rattle.hyphenation_commons.specs.Reading.{standard_contents, extended_contents}
+use Rattle.hyphenation_commons.specs.Reading.{place_alone, place_and_change, standard_contents, extended_contents}
 use Rattle.hyphenation_commons.specs.declared.grammar.form.Kind.{Kind}
 use Rattle.hyphenation_commons.specs.declared.grammar.form.Kind.TheVariants.{Standard, Extended}
 use Rattle.hyphenation_commons.specs.declared.grammar.Cause.{Cause}
 use Rattle.hyphenation_commons.specs.declared.grammar.Error.{Error}
 use Rattle.hyphenation_commons.specs.declared.grammar.Error.TheVariants.{Deserialization, IO, LanguageMismatch, Memory as NoMemory}
 use Rattle.hyphenation.specs.declared.engine.RunError.{RunError}
-use Rattle.hyphenation.specs.declared.engine.RunError.TheVariants.{Dictionary, Output, Memory}
+use Rattle.hyphenation.specs.declared.engine.RunError.TheVariants.{Dictionary, Edit, TextNotUtf8, Input, Output, Memory}
 use Rattle.std.specs.IoError.{error_kind}
 use Rattle.std.specs.declared.io.ErrorKind.TheVariants.{OutOfMemory}
+use Rattle.hyphenation.specs.Fitting.{fitted_breaks_of}
+use Rattle.hyphenation.specs.Opportunities.{no_change, own_change, own_break, rules_of, breaks_of}
 use Rattle.hyphenation.specs.Scoring.{values}
 
 -- Values in decimal, one space between, and a line feed.
@@ -48,12 +52,18 @@ IsRefused refusal language asked bytes (NoMemory e) = ⊥
 abbrev pub Runs : {X : Type 0} → (List ℕ → Option (ℕ × Cause)) → (List ℕ → List ℕ) → List ℕ → List ℕ → Result X RunError → Type 0
 Runs refusal language asked bytes (Ok done) = IsAccepted refusal language asked bytes
 Runs refusal language asked bytes (Err (Dictionary e)) = IsRefused refusal language asked bytes e
+Runs refusal language asked bytes (Err (Edit number)) = ⊥
+Runs refusal language asked bytes (Err TextNotUtf8) = ⊥
+Runs refusal language asked bytes (Err (Input e)) = ⊥
 Runs refusal language asked bytes (Err (Output e)) = IsAccepted refusal language asked bytes
 Runs refusal language asked bytes (Err Memory) = Unit {0}
 
 -- A run that is refused other than by its writing.
 abbrev pub IsUnwritten : RunError → Type 0
 IsUnwritten (Dictionary e) = Unit {0}
+IsUnwritten (Edit number) = Unit {0}
+IsUnwritten TextNotUtf8 = Unit {0}
+IsUnwritten (Input e) = Unit {0}
 IsUnwritten (Output e) = ⊥
 IsUnwritten Memory = Unit {0}
 
@@ -61,6 +71,9 @@ IsUnwritten Memory = Unit {0}
 abbrev pub BeforeWriting : Result (Unit {0}) RunError → Type 0 → Type 0
 BeforeWriting (Ok done) P = Unit {0}
 BeforeWriting (Err (Dictionary e)) P = P
+BeforeWriting (Err (Edit number)) P = P
+BeforeWriting (Err TextNotUtf8) P = P
+BeforeWriting (Err (Input e)) P = P
 BeforeWriting (Err (Output e)) P = Unit {0}
 BeforeWriting (Err Memory) P = P
 
@@ -71,8 +84,48 @@ run_error (IO e) = Dictionary (IO e)
 run_error (LanguageMismatch expected found) = Dictionary (LanguageMismatch expected found)
 run_error (NoMemory e) = Memory
 
--- A dictionary that could not be had, other than for want of memory, whoever told it.
+-- A dictionary or an input that could not be had, other than for want of memory, whoever told it.
 abbrev pub HoldsNoWant : RunError → Type 0
 HoldsNoWant (Dictionary (IO e)) = error_kind e ≢ OutOfMemory
 HoldsNoWant (Dictionary (NoMemory e)) = ⊥
+HoldsNoWant (Input e) = error_kind e ≢ OutOfMemory
 HoldsNoWant _ = Unit {0}
+
+-- ---- a run over a whole text
+
+-- The breaks of a word as written by the dictionary of that kind that a text gives, behind edits.
+abbrev pub breaks_by : Kind → List ℕ → List (List ℕ) → List ℕ → List Break
+breaks_by Standard bytes edits word = breaks_of (rules_of no_change plain (edited_by place_alone (standard_contents bytes) edits)) word
+breaks_by Extended bytes edits word = fitted_breaks_of (rules_of own_change own_break (edited_by place_and_change (extended_contents bytes) edits)) word
+
+-- The dictionary is judged first: only where it is accepted, and of the asked language, anything else is answered.
+abbrev pub JudgesDictionary : {X : Type 0} → (List ℕ → Option (ℕ × Cause)) → List ℕ → List ℕ → Result X RunError → Type 0
+JudgesDictionary refusal asked bytes (Err (Dictionary e)) = IsRefused refusal language_in asked bytes e
+JudgesDictionary refusal asked bytes (Err Memory) = Unit {0}
+JudgesDictionary refusal asked bytes _ = IsAccepted refusal language_in asked bytes
+
+-- Then the edits: only where each is good, anything later is answered; else the first that is refused, by its number.
+abbrev pub JudgesEdits : {X : Type 0} → Kind → List (List ℕ) → Result X RunError → Type 0
+JudgesEdits kind edits (Err (Dictionary e)) = Unit {0}
+JudgesEdits kind edits (Err (Edit number)) = first_refused kind edits ≡ Some number
+JudgesEdits kind edits (Err Memory) = Unit {0}
+JudgesEdits kind edits _ = first_refused kind edits ≡ None
+
+-- Then the text: only where it is UTF-8, it is written.
+abbrev pub JudgesText : {X : Type 0} → List ℕ → Result X RunError → Type 0
+JudgesText text (Ok done) = IsUtf8 text
+JudgesText text (Err TextNotUtf8) = ¬ (IsUtf8 text)
+JudgesText text (Err (Output e)) = IsUtf8 text
+JudgesText text (Err _) = Unit {0}
+
+-- Why edits are not all done.
+abbrev pub IsOfEdits : RunError → Type 0
+IsOfEdits (Edit number) = Unit {0}
+IsOfEdits Memory = Unit {0}
+IsOfEdits _ = ⊥
+
+-- Why the input can't be had: a fault of it that is no want of memory, or that want.
+abbrev pub IsOfInput : RunError → Type 0
+IsOfInput (Input e) = error_kind e ≢ OutOfMemory
+IsOfInput Memory = Unit {0}
+IsOfInput _ = ⊥

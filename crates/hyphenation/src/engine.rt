@@ -4,7 +4,10 @@ ghost use Rattle.std.specs.Prelude.{◌≡◌, ◌++◌, OnOk, IfOk, IfErr, IfSo
 ghost use Rattle.std.specs.String.{string_bytes};
 ghost use Rattle.std.specs.Io.KnownBytes.{Appends, Keeps};
 ghost use Rattle.hyphenation_commons.specs.Judging.{refusal_of};
-ghost use Rattle.hyphenation.specs.Engine.{line_of, space_before, language_in, values_by, Runs, BeforeWriting, IsUnwritten, HoldsNoWant};
+ghost use Rattle.hyphenation.specs.Engine.{line_of, space_before, language_in, values_by, breaks_by, Runs, JudgesDictionary, JudgesEdits, JudgesText, BeforeWriting, IsUnwritten, HoldsNoWant};
+ghost use Rattle.hyphenation.specs.Hyphenated.{hyphenated};
+
+mod whole;
 
 use crate::load::{Error, Load};
 use crate::score::Score;
@@ -15,12 +18,19 @@ use hyphenation_commons::language::Language;
 use std::alloc::{AllocError, Global};
 use std::io;
 use std::io::{Read, Write};
+use whole::whole_text;
 
 /// Why a run wrote nothing, or not all.
 #[derive(Debug, Drop)]
 pub enum RunError {
     /// The dictionary could not be had; never for want of memory.
     Dictionary(Error),
+    /// The edit of that number, counted from 1, is refused, and none before it.
+    Edit(usize),
+    /// The text is not UTF-8.
+    TextNotUtf8,
+    /// The text could not be read, other than for want of memory.
+    Input(io::Error),
     /// The result could not be written; a beginning of it may have gone out.
     Output(io::Error),
     /// Memory was refused.
@@ -152,4 +162,56 @@ pub fn run_score<D: Read, O: Write>(
 {
     let line = score_line(alloc, kind, lang, word, dictionary)?;
     output.write_all(line.as_bytes()).map_err(RunError::Output)
+}
+
+/// The text of an input with its words hyphenated by the dictionary of that kind and language that a reader's bytes
+/// give, behind edits.
+fn text_by<D: Read, I: Read>(
+    alloc: Global,
+    kind: Kind,
+    lang: Language,
+    edits: &[&str],
+    mark: &str,
+    reader: &mut D,
+    input: &mut I,
+) -> Result<String, RunError>
+    ensures dictionary { IfSome (D.remaining reader.old) (λ bytes. JudgesDictionary (refusal_of kind) lang bytes result) }
+    ensures edits { JudgesEdits kind (map (λ edit. edit.now) edits.now) result }
+    ensures text { IfSome (I.remaining input.old) (λ text. JudgesText text result) }
+    ensures output { IfOk result (λ output. IfSome (D.remaining reader.old) (λ bytes. IfSome (I.remaining input.old) (λ text.
+        string_bytes output ≡ hyphenated (breaks_by kind bytes (map (λ edit. edit.now) edits.now)) mark.now text))) }
+    ensures unwritten { IfErr result IsUnwritten }
+    ensures kind { IfErr result HoldsNoWant }
+{
+    match kind {
+        Kind::Standard => whole_text::<Standard, D, I>(alloc, lang, edits, mark, reader, input),
+        Kind::Extended => whole_text::<Extended, D, I>(alloc, lang, edits, mark, reader, input),
+    }
+}
+
+/// Loads a dictionary of that kind and language, edits its exceptions, and writes the text of the input with the mark
+/// at each break of its words: what stands between word bounds is hyphenated, piece by piece.
+///
+/// In this order: the dictionary is loaded; the edits are judged and done, from first to last; the whole input is
+/// read, and has to be UTF-8; the result is written. Before it is whole nothing is written.
+pub fn run<D: Read, I: Read, O: Write>(
+    alloc: Global,
+    kind: Kind,
+    lang: Language,
+    edits: &[&str],
+    mark: &str,
+    dictionary: &mut D,
+    input: &mut I,
+    output: &mut O,
+) -> Result<(), RunError>
+    ensures dictionary { IfSome (D.remaining dictionary.old) (λ bytes. JudgesDictionary (refusal_of kind) lang bytes result) }
+    ensures edits { JudgesEdits kind (map (λ edit. edit.now) edits.now) result }
+    ensures text { IfSome (I.remaining input.old) (λ text. JudgesText text result) }
+    ensures written { OnOk result (IfSome (D.remaining dictionary.old) (λ bytes. IfSome (I.remaining input.old) (λ text.
+        Appends (O.contents output.old) (O.contents output.new) (hyphenated (breaks_by kind bytes (map (λ edit. edit.now) edits.now)) mark.now text)))) }
+    ensures untouched { BeforeWriting result (Keeps (O.contents output.old) (O.contents output.new)) }
+    ensures kind { IfErr result HoldsNoWant }
+{
+    let text = text_by(alloc, kind, lang, edits, mark, dictionary, input)?;
+    output.write_all(text.as_bytes()).map_err(RunError::Output)
 }

@@ -1,6 +1,6 @@
 -- What the `p` and `e` lines spell.
-use Rattle.std.specs.Prelude.{◌≡◌, ℕ, ◌+◌, ◌==◌, ◌&&◌, ◌||◌, nat_lt, nat_eq, Bool, true, false, not, if◌then◌else◌, List, [], ◌∷◌, ◌++◌, length, map, drop, codes, Option, Some, None, is_some, unwrap_or, option_map, option_and_then, slice_index_or, find}
-use Rattle.std.specs.List.{list_all, list_any, slice_split}
+use Rattle.std.specs.Prelude.{ℕ, ◌==◌, Bool, if◌then◌else◌, List, [], ◌∷◌, map, drop, codes, Option, Some, None, unwrap_or, slice_index_or}
+use Rattle.std.specs.List.{slice_split}
 use Rattle.hyphenation_commons.specs.Break.{Break, Change}
 use Rattle.hyphenation_commons.specs.Lines.{begins}
 use Rattle.hyphenation_commons.specs.Tokens.{marks_of, text_of, key_of, values_from, has_comma, place_of, change_of}

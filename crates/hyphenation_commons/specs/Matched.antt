@@ -1,4 +1,5 @@
 -- The values of a pattern and the changes that are listed behind it, matched in one pass over both.
+-- Private functions of the reader cite this, and no public contract does: it follows their steps, and they are proved equal to Items and Judging.
 use Rattle.std.specs.Prelude.{ℕ, ◌+◌, ◌==◌, ◌&&◌, nat_le, Bool, true, false, if◌then◌else◌, List, [], ◌∷◌, Option, Some, None}
 use Rattle.std.specs.List.{list_all, list_any}
 use Rattle.hyphenation_commons.specs.Break.{Change as Changed}

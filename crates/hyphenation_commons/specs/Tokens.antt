@@ -1,8 +1,8 @@
 -- Tokens: escapes, the marks of a pattern, and the parts of a later token.
-use Rattle.std.specs.Prelude.{◌≡◌, ℕ, zero, suc, ◌+◌, ◌-◌, ◌==◌, ◌&&◌, ◌||◌, nat_lt, nat_le, nat_eq, Bool, true, false, not, if◌then◌else◌, List, [], ◌∷◌, ◌++◌, length, map, filter, take, drop, codes, Option, Some, None, is_some, unwrap_or, option_map, option_and_then, slice_index, slice_index_or}
-use Rattle.std.specs.List.{list_all, list_any, filter_map, onto_first}
+use Rattle.std.specs.Prelude.{ℕ, ◌+◌, ◌-◌, ◌==◌, ◌&&◌, ◌||◌, nat_lt, nat_le, Bool, true, false, not, if◌then◌else◌, List, [], ◌∷◌, ◌++◌, length, map, take, drop, codes, Option, Some, None, is_some, unwrap_or, option_map, option_and_then, slice_index_or}
+use Rattle.std.specs.List.{list_all, onto_first}
 use Rattle.hyphenation_commons.specs.Break.{Change}
-use Rattle.hyphenation_commons.specs.Lines.{is_digit, is_number, number, same, small_of}
+use Rattle.hyphenation_commons.specs.Lines.{is_digit, number, same, small_of}
 use Rattle.hyphenation_commons.specs.declared.grammar.tokens.Escapes.{Escapes}
 use Rattle.hyphenation_commons.specs.declared.grammar.tokens.Escapes.TheVariants.{Plain, Digits, DigitsAndBraces}
 use Rattle.hyphenation_commons.specs.declared.grammar.form.Version.{Version}

@@ -136,7 +136,16 @@ impl<E: Drop> Trie<E> {
     pub fn new(alloc: Global) -> Result<Self, AllocError>
         ensures { IfOk result (λ trie. trie ≡ record { texts = [] ∷ []; entries = None ∷ [] }) }
     {
-        let mut nodes = Vec::new(alloc);
+        Self::with_room(alloc, 0)
+    }
+
+    /// The trie of no key, with room for so many nodes. The only error is memory.
+    ///
+    /// Room that is not used costs addresses and no memory. It saves the copies that growing makes.
+    pub fn with_room(alloc: Global, nodes: usize) -> Result<Self, AllocError>
+        ensures { IfOk result (λ trie. trie ≡ record { texts = [] ∷ []; entries = None ∷ [] }) }
+    {
+        let mut nodes = Vec::with_capacity(alloc, nodes)?;
         nodes.push(Node {
             from: None,
             span: None,

@@ -60,12 +60,16 @@ fn a_score_is_written(rt: HostRuntime) -> Result<(), Fail> {
 const CHANGES: &str =
     "hyphenation 1 extended\nlanguage hu\nminima 1 1\np a1b\np ca1bd 2,1,0,1,x\n";
 
+fn extended_score_by(rt: &HostRuntime, path: &str, word: &str) -> Answer {
+    answer_to(rt, &["score", "extended", "hu", path, word])
+}
+
 #[test]
 fn a_score_by_an_extended_dictionary_is_written(rt: HostRuntime) -> Result<(), Fail> {
     let path = file(&rt, "changes", CHANGES.as_bytes())?;
     let cases: [(&str, &str); 3] = [("cabd", "0 1 0\n"), ("abd", "1 0\n"), ("", "\n")];
     for (word, line) in cases {
-        let given = answer_to(&rt, &["score", "extended", "hu", &path, word]);
+        let given = extended_score_by(&rt, &path, word);
         assert_eq!(rt; given.status, 0, "{word}");
         assert_eq!(rt; given.output.as_slice(), line.as_bytes(), "{word}");
         assert_eq!(rt; given.faults.len(), 0);
@@ -97,7 +101,7 @@ fn an_extended_dictionary_that_is_refused_is_named_with_its_fault(
     ];
     for (name, bytes, message) in cases {
         let path = file(&rt, name, bytes)?;
-        let given = answer_to(&rt, &["score", "extended", "hu", &path, "cabd"]);
+        let given = extended_score_by(&rt, &path, "cabd");
         let expected = format!(in rt.alloc(); "hyphenate: {path}: {message}")?;
         assert_eq!(rt; given.status, 3, "{name}");
         assert_eq!(rt; given.output.len(), 0, "{name}");

@@ -2,4 +2,4 @@ use Rattle.hyphenation.proofs.Undone.{undone}
 use Rattle.hyphenation.proofs.hyphenator.laws.removal_undoes_an_addition.Goals as goal
 
 pub returns : goal.returns
-returns c = undone
+returns g c = λ exceptions word listed none. undone exceptions word listed none

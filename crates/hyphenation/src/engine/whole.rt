@@ -1,0 +1,186 @@
+//! What a run over a whole text needs of a kind of dictionary, and the steps of it.
+
+ghost use Rattle.std.specs.Prelude.{◌≡◌, ◌≢◌, List, ℕ, IsTrue, IfErr, IfOk, IfSome, OnOk, IsUtf8, MatchResult, map, fold};
+ghost use Rattle.std.specs.IoError.{error_kind};
+ghost use Rattle.std.specs.String.{string_bytes};
+ghost use Rattle.hyphenation_commons.specs.Break.{Break};
+ghost use Rattle.hyphenation_commons.specs.Edits.{is_good};
+ghost use Rattle.hyphenation_commons.specs.Judging.{refusal_of};
+ghost use Rattle.hyphenation.specs.Engine.{IsOfEdits, IsOfInput, JudgesDictionary, JudgesEdits, JudgesText, IsUnwritten, HoldsNoWant, language_in};
+ghost use Rattle.hyphenation.specs.Hyphenated.{hyphenated};
+ghost use Rattle.hyphenation.specs.Load.{ReadsIn, IsNoWant};
+
+use super::RunError;
+use crate::load;
+use crate::load::{Load, read_all};
+use crate::text::hyphenated_text;
+use hyphenation_commons::dictionary::{Extended, Standard};
+use hyphenation_commons::grammar::edits::apply_edit;
+use hyphenation_commons::grammar::form::Kind;
+use hyphenation_commons::language::Language;
+use std::alloc::{AllocError, Global};
+use std::io;
+use std::io::{ErrorKind, Read};
+
+/// A kind of dictionary, as a run over a whole text uses it: loaded, edited, and asked for the whole text.
+///
+/// Of a dictionary that a function has loaded itself it can't be said that it is a `Hyphenator<'h>` for the time that
+/// the function lends it, so each kind says here what it does.
+pub(super) trait WholeTexts: Drop {
+    ghost use Rattle.hyphenation_commons.specs.Break.{Break};
+    ghost use Rattle.hyphenation_commons.specs.declared.grammar.form.Kind.{Kind};
+
+    /// The kind.
+    ghost kind: { Kind };
+
+    /// The dictionary that an accepted text gives.
+    ghost contents: { List ℕ → Self };
+
+    /// The dictionary behind an edit.
+    ghost edited: { Self → List ℕ → Self };
+
+    /// The breaks of a word as written.
+    ghost breaks_of: { Self → List ℕ → List Break };
+
+    /// The dictionary of a language that a reader's bytes give.
+    fn load<D: Read>(alloc: Global, lang: Language, reader: &mut D) -> load::Result<Self>
+        ensures bytes { IfSome (D.remaining reader.old) (λ bytes. ReadsIn (refusal_of kind) (λ bytes given. given ≡ contents bytes) language_in lang bytes result) }
+        ensures kind { IfErr result IsNoWant };
+
+    /// Does what an edit says. Whether the edit is good.
+    fn edit(&mut self, alloc: Global, edit: &str) -> Result<bool, AllocError>
+        ensures good { IfOk result (λ good. good ≡ is_good kind edit.now) }
+        ensures done { IfOk result (λ good. IsTrue good → self.new ≡ edited self.old edit.now) };
+
+    /// The text with its words hyphenated.
+    fn hyphenated(&self, alloc: Global, mark: &str, text: &str) -> Result<String, AllocError>
+        ensures { IfOk result (λ output. string_bytes output ≡ hyphenated (breaks_of self.now) mark.now text.now) };
+}
+
+impl WholeTexts for Standard {
+    ghost use Rattle.hyphenation_commons.specs.declared.grammar.form.Kind.TheVariants.{Standard as OfStandard};
+    ghost use Rattle.hyphenation_commons.specs.Break.{plain};
+    ghost use Rattle.hyphenation_commons.specs.Edits.{edited};
+    ghost use Rattle.hyphenation_commons.specs.Reading.{place_alone, standard_contents};
+    ghost use Rattle.hyphenation.specs.Opportunities.{no_change, rules_of, breaks_of};
+
+    ghost kind = { OfStandard };
+
+    ghost contents = { standard_contents };
+
+    ghost edited = { edited place_alone };
+
+    ghost breaks_of = { λ dictionary word. breaks_of (rules_of no_change plain dictionary) word };
+
+    fn load<D: Read>(alloc: Global, lang: Language, reader: &mut D) -> load::Result<Standard> {
+        Standard::from_reader(alloc, lang, reader)
+    }
+
+    fn edit(&mut self, alloc: Global, edit: &str) -> Result<bool, AllocError> {
+        apply_edit(alloc, Kind::Standard, self, edit)
+    }
+
+    fn hyphenated(&self, alloc: Global, mark: &str, text: &str) -> Result<String, AllocError> {
+        hyphenated_text(alloc, self, text, mark)
+    }
+}
+
+impl WholeTexts for Extended {
+    ghost use Rattle.hyphenation_commons.specs.declared.grammar.form.Kind.TheVariants.{Extended as OfExtended};
+    ghost use Rattle.hyphenation_commons.specs.Edits.{edited};
+    ghost use Rattle.hyphenation_commons.specs.Reading.{place_and_change, extended_contents};
+    ghost use Rattle.hyphenation.specs.Fitting.{fitted_breaks_of};
+    ghost use Rattle.hyphenation.specs.Opportunities.{own_change, own_break, rules_of};
+
+    ghost kind = { OfExtended };
+
+    ghost contents = { extended_contents };
+
+    ghost edited = { edited place_and_change };
+
+    ghost breaks_of = { λ dictionary word. fitted_breaks_of (rules_of own_change own_break dictionary) word };
+
+    fn load<D: Read>(alloc: Global, lang: Language, reader: &mut D) -> load::Result<Extended> {
+        Extended::from_reader(alloc, lang, reader)
+    }
+
+    fn edit(&mut self, alloc: Global, edit: &str) -> Result<bool, AllocError> {
+        apply_edit(alloc, Kind::Extended, self, edit)
+    }
+
+    fn hyphenated(&self, alloc: Global, mark: &str, text: &str) -> Result<String, AllocError> {
+        hyphenated_text(alloc, self, text, mark)
+    }
+}
+
+/// Does what edits say, from first to last, up to the first one that is refused.
+fn edit_all<K: WholeTexts>(
+    dictionary: &mut K,
+    alloc: Global,
+    edits: &[&str],
+) -> Result<(), RunError>
+    ensures judged { JudgesEdits K.kind (map (λ edit. edit.now) edits.now) result }
+    ensures refused { IfErr result IsOfEdits }
+    ensures done { OnOk result (dictionary.new ≡ fold K.edited dictionary.old (map (λ edit. edit.now) edits.now)) }
+{
+    for (index, edit) in edits.iter().enumerate() {
+        if !dictionary.edit(alloc, edit)? {
+            return Err(RunError::Edit(index + 1));
+        }
+    }
+    Ok(())
+}
+
+/// Why the input could not be read: want of memory, or the fault.
+fn input_fault(e: io::Error) -> RunError
+    ensures memory { error_kind e ≡ ErrorKind.OutOfMemory → result ≡ RunError.Memory }
+    ensures fault { error_kind e ≢ ErrorKind.OutOfMemory → result ≡ RunError.Input e }
+    ensures input { IsOfInput result }
+{
+    match e.kind() {
+        ErrorKind::OutOfMemory => RunError::Memory,
+        _ => RunError::Input(e),
+    }
+}
+
+/// All that the input has left.
+fn read_input<I: Read>(alloc: Global, input: &mut I) -> Result<Vec<u8>, RunError>
+    ensures read { IfOk result (λ read. IfSome (I.remaining input.old) (λ bytes. read.items ≡ bytes)) }
+    ensures fault { IfErr result IsOfInput }
+{
+    read_all(alloc, input).map_err(input_fault)
+}
+
+/// The bytes as a text.
+fn as_text(bytes: &[u8]) -> Result<&str, RunError>
+    ensures { MatchResult result (λ text. (text.now ≡ bytes.now) × IsUtf8 bytes.now) (λ e. (e ≡ RunError.TextNotUtf8) × (¬ (IsUtf8 bytes.now))) }
+{
+    match std::str::from_utf8(bytes) {
+        Ok(text) => Ok(text),
+        Err(_) => Err(RunError::TextNotUtf8),
+    }
+}
+
+/// The whole of a text, hyphenated by a kind of dictionary behind edits.
+pub(super) fn whole_text<K: WholeTexts, D: Read, I: Read>(
+    alloc: Global,
+    lang: Language,
+    edits: &[&str],
+    mark: &str,
+    reader: &mut D,
+    input: &mut I,
+) -> Result<String, RunError>
+    ensures dictionary { IfSome (D.remaining reader.old) (λ bytes. JudgesDictionary (refusal_of K.kind) lang bytes result) }
+    ensures edits { JudgesEdits K.kind (map (λ edit. edit.now) edits.now) result }
+    ensures text { IfSome (I.remaining input.old) (λ text. JudgesText text result) }
+    ensures output { IfOk result (λ output. IfSome (D.remaining reader.old) (λ bytes. IfSome (I.remaining input.old) (λ text.
+        string_bytes output ≡ hyphenated (K.breaks_of (fold K.edited (K.contents bytes) (map (λ edit. edit.now) edits.now))) mark.now text))) }
+    ensures unwritten { IfErr result IsUnwritten }
+    ensures kind { IfErr result HoldsNoWant }
+{
+    let mut dictionary = K::load(alloc, lang, reader)?;
+    edit_all(&mut dictionary, alloc, edits)?;
+    let bytes = read_input(alloc, input)?;
+    let text = as_text(&bytes)?;
+    Ok(dictionary.hyphenated(alloc, mark, text)?)
+}
