@@ -1,5 +1,5 @@
 -- Edits: how an exception is judged and read by itself, and that the last one decides.
-use Rattle.std.proofs.Common.{◌≡◌, ◌∙◌, ℕ, ◌<◌, Bool, true, false, cond, not, ◌||◌, inr, List, [], ◌∷◌, ◌++◌, Option, Some, None, unwrap_or, refl, sym, ap, subst, arith, map}
+use Rattle.std.proofs.Common.{◌≡◌, ◌∙◌, ℕ, ◌<◌, Bool, true, false, cond, not, ◌||◌, inr, List, [], ◌∷◌, Option, Some, None, unwrap_or, refl, sym, ap, subst, arith, map}
 use Rattle.std.specs.Prelude.{◌⊎◌, is_none, IsTrue, IsUtf8, codes, Result, Ok, Err}
 use Rattle.std.specs.Option.{option_or}
 use Rattle.std.specs.Cmp.Lexicographic.{nat_list_cmp_total}

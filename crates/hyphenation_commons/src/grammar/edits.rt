@@ -143,7 +143,8 @@ mod tests {
     use crate::grammar::reader::{read_extended, read_standard};
     use std::test::Fail;
 
-    const STANDARD: &[u8] = b"hyphenation 1 standard\nlanguage en-us\nminima 2 3\ne other 2\ne \\e\n";
+    const STANDARD: &[u8] =
+        b"hyphenation 1 standard\nlanguage en-us\nminima 2 3\ne other 2\ne \\e\n";
 
     const EXTENDED: &[u8] = b"hyphenation 2 extended\nlanguage hu\nminima 2 2\ne other 2\n";
 
