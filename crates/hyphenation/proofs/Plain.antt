@@ -8,7 +8,7 @@ use Rattle.hyphenation_commons.specs.Break.{Break, plain, changed_by, begin_of, 
 use Rattle.hyphenation_commons.specs.Dictionary.{Contents, keys_of}
 use Rattle.hyphenation_commons.specs.Kept.{IsKept}
 use Rattle.hyphenation.specs.declared.case_folding.Shift.{Shift}
-use Rattle.hyphenation.specs.Fitting.{kept_by, fitted, fitted_breaks_of, holds_shift, is_steady_by}
+use Rattle.hyphenation.specs.Fitting.{kept_by, fitted_breaks_of, holds_shift, is_steady_by}
 use Rattle.hyphenation.specs.Folding.{fold, carried, shifts_of}
 use Rattle.hyphenation.specs.Opportunities.{Rules, no_change, rules_of, within, breaks_within, break_at, by_patterns, opportunities_in, opportunities, boundaries_by, breaks_of, written, carried_break, Ascending}
 use Rattle.hyphenation.specs.SoftHyphens.{soft_hyphens}

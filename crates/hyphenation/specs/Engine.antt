@@ -1,7 +1,6 @@
 -- What is written of a word's score, and when a run is refused.
 use Rattle.std.specs.Prelude.{◌≡◌, ◌≢◌, ◌==◌, if◌then◌else◌, ℕ, List, [], ◌∷◌, ◌++◌, map, decimal, IsUtf8, None, Result, Ok, Err, Option, Some, unwrap_or, slice_index_or}
 use Rattle.std.specs.List.{join_with_byte}
-use Rattle.std.specs.declared.alloc.AllocError.{AllocError}
 use Rattle.hyphenation_commons.specs.Break.{Break, plain}
 use Rattle.hyphenation_commons.specs.Dictionary.{keys_of}
 use Rattle.hyphenation_commons.specs.Edits.{edited_by, first_refused}
