@@ -42,6 +42,10 @@ fn score_by(rt: &HostRuntime, path: &str, word: &str) -> Answer {
     answer_to(rt, &["score", "standard", "en-gb", path, word])
 }
 
+fn changed_score_by(rt: &HostRuntime, path: &str, word: &str) -> Answer {
+    answer_to(rt, &["score", "extended", "hu", path, word])
+}
+
 #[test]
 fn a_score_is_written(rt: HostRuntime) -> Result<(), Fail> {
     let path = file(&rt, "firkin", FIRKIN.as_bytes())?;
@@ -63,16 +67,12 @@ fn a_score_is_written(rt: HostRuntime) -> Result<(), Fail> {
 
 const CHANGES: &str = "hyphenation 1 extended\nlanguage hu\nminima 1 1\np a1b\np ca1bd 2,1,0,1,x\n";
 
-fn extended_score_by(rt: &HostRuntime, path: &str, word: &str) -> Answer {
-    answer_to(rt, &["score", "extended", "hu", path, word])
-}
-
 #[test]
 fn a_score_by_an_extended_dictionary_is_written(rt: HostRuntime) -> Result<(), Fail> {
     let path = file(&rt, "changes", CHANGES.as_bytes())?;
     let cases: [(&str, &str); 3] = [("cabd", "0 1 0\n"), ("abd", "1 0\n"), ("", "\n")];
     for (word, line) in cases {
-        let given = extended_score_by(&rt, &path, word);
+        let given = changed_score_by(&rt, &path, word);
         assert_eq!(rt; given.status, 0, "{word}");
         assert_eq!(rt; given.output.as_slice(), line.as_bytes(), "{word}");
         assert_eq!(rt; given.faults.len(), 0);
@@ -104,7 +104,7 @@ fn an_extended_dictionary_that_is_refused_is_named_with_its_fault(
     ];
     for (name, bytes, message) in cases {
         let path = file(&rt, name, bytes)?;
-        let given = extended_score_by(&rt, &path, "cabd");
+        let given = changed_score_by(&rt, &path, "cabd");
         let expected = format!(in rt.alloc(); "hyphenate: {path}: {message}")?;
         assert_eq!(rt; given.status, 3, "{name}");
         assert_eq!(rt; given.output.len(), 0, "{name}");
@@ -198,10 +198,17 @@ fn a_path_that_is_missing_or_a_folder_is_a_fault_of_the_dictionary(rt: HostRunti
     }
 }
 
-/// What the program answers for a text, a standard dictionary, and the words behind its path.
-fn hyphenated_by(rt: &HostRuntime, path: &str, rest: &[&str], text: &[u8]) -> Result<Answer, Fail> {
+/// What the program answers for a text, a dictionary of that kind and code, and the words behind its path.
+fn hyphenated_by(
+    rt: &HostRuntime,
+    kind: &str,
+    code: &str,
+    path: &str,
+    rest: &[&str],
+    text: &[u8],
+) -> Result<Answer, Fail> {
     let mut words: Vec<&str> = Vec::new(rt.alloc());
-    for word in ["standard", "en-gb", path] {
+    for word in [kind, code, path] {
         words.push(word)?;
     }
     for word in rest {
@@ -222,7 +229,7 @@ fn a_text_is_hyphenated_behind_edits(rt: HostRuntime) -> Result<(), Fail> {
         (&["=", "+firkins 3", "-firkins"], "Fir=kin, fir=k=ins.\n"),
     ];
     for (rest, wanted) in cases {
-        let given = hyphenated_by(&rt, &path, rest, b"Firkin, firkins.\n")?;
+        let given = hyphenated_by(&rt, "standard", "en-gb", &path, rest, b"Firkin, firkins.\n")?;
         assert_eq!(rt; given.status, 0, "{rest:?}");
         assert_eq!(rt; given.output.as_slice(), wanted.as_bytes(), "{rest:?}");
         assert_eq!(rt; given.faults.len(), 0);
@@ -255,7 +262,7 @@ fn a_text_that_is_refused_is_told_with_its_status(rt: HostRuntime) -> Result<(),
         ),
     ];
     for (rest, text, status, message) in cases {
-        let given = hyphenated_by(&rt, &path, rest, text)?;
+        let given = hyphenated_by(&rt, "standard", "en-gb", &path, rest, text)?;
         assert_eq!(rt; given.status, status, "{rest:?}");
         assert_eq!(rt; given.output.len(), 0, "{rest:?}");
         assert_eq!(rt; given.faults.as_slice(), message.as_bytes(), "{rest:?}");
@@ -323,29 +330,14 @@ const DOUBLED: &str =
 fn a_text_is_hyphenated_by_an_extended_dictionary(rt: HostRuntime) -> Result<(), Fail> {
     let path = file(&rt, "doubled", DOUBLED.as_bytes())?;
     let cases: [(&[&str], &str); 3] = [
-        (
-            &["extended", "hu", path.as_str(), "-"],
-            "Az asz-szony-nyal.\r\n",
-        ),
-        (
-            &[
-                "extended",
-                "hu",
-                path.as_str(),
-                "-",
-                "+asszonnyal 2,1,2,2,szsz",
-            ],
-            "Az asz-szonnyal.\r\n",
-        ),
-        (
-            &["extended", "hu", path.as_str(), "", "-asszonnyal"],
-            "Az asszonnyal.\r\n",
-        ),
+        (&["-"], "Az asz-szony-nyal.\r\n"),
+        (&["-", "+asszonnyal 2,1,2,2,szsz"], "Az asz-szonnyal.\r\n"),
+        (&["", "-asszonnyal"], "Az asszonnyal.\r\n"),
     ];
-    for (words, wanted) in cases {
-        let given = answer_over(&rt, words, b"Az asszonnyal.\r\n");
-        assert_eq!(rt; given.status, 0, "{words:?}");
-        assert_eq!(rt; given.output.as_slice(), wanted.as_bytes(), "{words:?}");
+    for (rest, wanted) in cases {
+        let given = hyphenated_by(&rt, "extended", "hu", &path, rest, b"Az asszonnyal.\r\n")?;
+        assert_eq!(rt; given.status, 0, "{rest:?}");
+        assert_eq!(rt; given.output.as_slice(), wanted.as_bytes(), "{rest:?}");
         assert_eq!(rt; given.faults.len(), 0);
     }
     fs::remove_file(&rt, path.as_str())?;
