@@ -11,7 +11,7 @@ use std::marker::Model;
 
 /// A language, by its code: 1 to 32 bytes of `a-z`, `0-9` and `-`.
 ///
-/// It shows as its code.
+/// Displayed it is its code.
 #[derive(Clone, Copy, Debug)]
 pub struct Language {
     /// The code, and zeros behind it.

@@ -20,7 +20,7 @@ use crate::grammar::items::{Fault, exception_of};
 use std::alloc::{AllocError, Global};
 
 /// Does what an edit says to a dictionary of that kind. Whether the edit is good: where it is not, the dictionary is
-/// as it was.
+/// as it was. The kind is to be the dictionary's: by another one changes are refused, or dropped.
 ///
 /// The only error is memory, and then the dictionary is as it was too.
 pub fn apply_edit<C: Carried, B: Listed>(
