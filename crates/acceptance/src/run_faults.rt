@@ -14,11 +14,11 @@ const TEXT: &[u8] = b"Firkin, firkins.";
 const MARKED: &[u8] = b"Fir-kin, fir-k-ins.";
 
 /// The least accepted text with a pattern.
-const LEAST: &[u8] = b"hyphenation 1 standard\nlanguage en-us\nminima 2 3\np a1b";
+pub const LEAST: &[u8] = b"hyphenation 1 standard\nlanguage en-us\nminima 2 3\np a1b";
 
 /// Gives a text in reads of one byte, up to a fault at the read of this number, counted from 1.
 #[derive(Drop)]
-struct Faulty<'t> {
+pub struct Faulty<'t> {
     left: &'t [u8],
     until: usize,
     kind: ErrorKind,
@@ -43,7 +43,7 @@ impl Read for Faulty<'_> {
 }
 
 /// A reader whose read of this number fails.
-fn torn(left: &[u8], until: usize) -> Faulty<'_> {
+pub fn torn(left: &[u8], until: usize) -> Faulty<'_> {
     Faulty {
         left,
         until,
@@ -106,7 +106,7 @@ fn run_with<D: Read, I: Read>(
 }
 
 /// It is the fault of a torn reader.
-fn is_torn(error: &Error) -> bool {
+pub fn is_torn(error: &Error) -> bool {
     matches!(error, Error::IO(e) if e.kind() == ErrorKind::ConnectionReset)
 }
 
