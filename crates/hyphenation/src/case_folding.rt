@@ -78,7 +78,18 @@ fn first_uppercase(text: &str) -> Option<usize>
     ensures first { IfSome result (λ place. has_uppercase (take place text.now) ≡ false) }
     ensures uppercase { IfSome result (λ place. (end : ℕ) × HasPassingCharAt is_uppercase text.now place end) }
 {
-    text.find(|c: char| is_uppercase(c))
+    text.find(|c: char| is_upper(c))
+}
+
+// Whether a character has the property Uppercase, by a short road for ASCII, of which most texts are.
+fn is_upper(c: char) -> bool
+    ensures { result ≡ is_uppercase c }
+{
+    if c.is_ascii() {
+        c.is_ascii_uppercase()
+    } else {
+        is_uppercase(c)
+    }
 }
 
 // What a character becomes.
@@ -87,7 +98,7 @@ fn fold_char(c: char) -> char
 {
     if c == '\u{130}' {
         'i'
-    } else if is_uppercase(c) {
+    } else if is_upper(c) {
         simple_fold(c)
     } else {
         c

@@ -19,6 +19,10 @@ pub fn soft_hyphen_indices(alloc: Global, word: &str) -> Result<Option<Vec<usize
     ensures ascending { IsStrictlyIncreasing (soft_hyphens word.now) }
     ensures within { All (λ place. IsCharBoundary word.now place × (place < length word.now)) (soft_hyphens word.now) }
 {
+    // A short road, since most words are ASCII.
+    if word.is_ascii() {
+        return Ok(None);
+    }
     let mut places = Vec::new(alloc);
     for (place, c) in word.char_indices() {
         if c == SOFT_HYPHEN {
