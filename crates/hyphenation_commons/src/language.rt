@@ -2,7 +2,7 @@
 //!
 //! There is no table of languages: each text of 1 to 32 bytes of `a-z`, `0-9` and `-` is a code.
 
-ghost use Rattle.std.specs.Prelude.{◌≡◌, ◌<◌, ◌≤◌, ◌↔◌, IsTrue, IsSome, IfSome, codes};
+ghost use Rattle.std.specs.Prelude.{◌≡◌, ◌<◌, ◌≤◌, ◌↔◌, IsSome, IfSome, codes};
 ghost use Rattle.hyphenation_commons.specs.Language.{IsCode, is_code, is_code_byte};
 ghost use Rattle.std.specs.List.{list_all};
 
@@ -20,8 +20,7 @@ pub struct Language {
 }
 
 impl Model for Language {
-    ghost use Rattle.std.specs.Prelude.{◌≡◌, ◌-◌, ◌≤◌, ◌++◌, List, ℕ, length, take, drop, replicate};
-    ghost use Rattle.std.proofs.Common.{arith};
+    ghost use Rattle.std.specs.Prelude.{◌≡◌, ◌-◌, ◌≤◌, ◌++◌, List, ℕ, length, take, replicate};
     ghost use Rattle.hyphenation_commons.specs.Language.{IsHeld, padded-take};
 
     ghost Value = { List ℕ };

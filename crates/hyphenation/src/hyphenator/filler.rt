@@ -1,9 +1,8 @@
 //! A stand-in for a line filler, which knows a dictionary by its bound alone.
 
-ghost use Rattle.std.specs.Prelude.{◌≡◌, ◌==◌, ℕ, ◌++◌, List, map, codes, IfOk};
+ghost use Rattle.std.specs.Prelude.{◌≡◌, ◌==◌, ◌++◌, List, map, codes, IfOk};
 ghost use Rattle.std.specs.List.{concat, flat_map, slice_split};
 ghost use Rattle.std.specs.String.{string_bytes};
-ghost use Rattle.hyphenation_commons.specs.Break.{plain};
 ghost use Rattle.hyphenation.specs.Segments.{segments, marked};
 
 use crate::hyphenator::Hyphenator;
