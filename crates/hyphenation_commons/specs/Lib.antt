@@ -3,6 +3,7 @@ pub mod Break
 pub mod Dictionary
 pub mod Kept
 pub mod Held
+pub mod Canonical
 pub mod Counts
 pub mod Trie
 pub mod Form
