@@ -75,6 +75,10 @@ abbrev pub greatest : Version → ℕ
 greatest First = 9
 greatest Second = 255
 
+pub greatest-byte : (version : Version) (v : ℕ) → v ≤ greatest version → v ≤ 255
+greatest-byte First v h = omega arith
+greatest-byte Second v h = h
+
 abbrev pub AllValues : Version → List Mark → Type 0
 AllValues version [] = Unit {0}
 AllValues version (Letter b ∷ ms) = AllValues version ms
