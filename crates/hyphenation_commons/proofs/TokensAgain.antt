@@ -1,33 +1,36 @@
--- A later token that is written says again what it was written of.
+-- A later token that is spelt says again what it was spelt of.
 use Rattle.std.proofs.Common.{◌≡◌, ℕ, suc, zero, ◌+◌, ◌-◌, ◌^◌, ◌<◌, ◌≤◌, Bool, true, false, cond, not, ◌&&◌, ◌||◌, eqb, nat_le, nat_lt, nat_eq, List, [], ◌∷◌, ◌++◌, length, take, drop, map, get_or, Option, Some, None, is_some, unwrap_or, refl, sym, ap, subst, ◌∙◌, append_assoc, arith, length-append}
 use Rattle.std.specs.Prelude.{decimal, flat_map, codes, IsUtf8}
 use Rattle.std.specs.Option.{option_map}
 use Rattle.std.specs.List.{list_all, onto_first}
 use Rattle.std.specs.Str.{is_utf8}
 use Rattle.std.proofs.lemmas.Fmt.{decimal_nonempty}
+use Rattle.std.proofs.lemmas.List.{append-nil}
 use Rattle.std.proofs.lemmas.Str.{IsUtf8-from_is_utf8}
 use Rattle.std.proofs.lemmas.Bool.Decides.{nat_tests}
 use Rattle.hyphenation_commons.specs.Break.{Break, Change, keeps_within}
 use Rattle.hyphenation_commons.specs.declared.grammar.form.Form.{Form}
+use Rattle.hyphenation_commons.specs.declared.grammar.form.Kind.{Kind}
 use Rattle.hyphenation_commons.specs.Items.{listed_of}
 use Rattle.hyphenation_commons.specs.Judging.{is_good, is_extended, has_value_at}
-use Rattle.hyphenation_commons.specs.Kept.{stays_within}
+use Rattle.hyphenation_commons.specs.Kept.{is_short, can_be_said, is_said, stays_within}
 use Rattle.hyphenation_commons.specs.Lines.{is_digit, is_number, number, same}
 use Rattle.hyphenation_commons.specs.Tokens.{signs_behind, signs_of, text_of, escaped_also, parts_within, parts_of, put, has_comma, numerals_of, is_readable, place_of, change_of, is_whole, bytes_of}
-use Rattle.hyphenation_commons.specs.Canonical.{written, text_token, before_comma, break_token, is_writable_change, is_writable_break}
+use Rattle.hyphenation_commons.specs.Canonical.{byte_spelling, text_token, before_comma, break_token}
 use Rattle.hyphenation_commons.specs.declared.grammar.tokens.Escapes.TheVariants.{Plain}
 use Rattle.hyphenation_commons.specs.declared.grammar.tokens.Sign.{Sign}
 use Rattle.hyphenation_commons.specs.declared.grammar.tokens.Mark.{Mark}
-use Rattle.hyphenation_commons.proofs.Decimals.{IsWritten, decimal-written, decimal-number, decimal-utf8, both_left, both_right, both}
+use Rattle.hyphenation_commons.proofs.Decimals.{decimal-written, decimal-number, decimal-utf8, both}
 use Rattle.hyphenation_commons.proofs.Free.{Free, IsGap, digits-free, comma-free, text-free, number-free}
 use Rattle.hyphenation_commons.proofs.Parts.{none_left}
+use Rattle.hyphenation_commons.proofs.Passed.{both_left, both_right}
 use Rattle.hyphenation_commons.proofs.Valid.{token-utf8, comma-utf8}
-use Rattle.hyphenation_commons.proofs.Written.{reads_text, read_plain}
+use Rattle.hyphenation_commons.proofs.Written.{reads_text, raw, digits-signs}
 
 -- ---- Texts.
 
 -- the token of a text with letters is not that of the empty one
-not_empty : (b : ℕ) (rest : List ℕ) → same (written Plain b ++ rest) (92 ∷ 101 ∷ []) ≡ false
+not_empty : (b : ℕ) (rest : List ℕ) → same (byte_spelling Plain b ++ rest) (92 ∷ 101 ∷ []) ≡ false
 not_empty b rest = by (eqb b 92) (eqb b 32) (eqb b 10) (eqb b 13) refl
   where
     by : (t1 t2 t3 t4 : Bool) → eqb b 92 ≡ t1
@@ -42,7 +45,7 @@ pub text-again : (text : List ℕ) → text_of (text_token text) ≡ Some text
 text-again [] = refl
 text-again (b ∷ text) =
     let r = reads_text Plain (b ∷ text) in
-    ap (λ (t : Bool). cond {A = Option (List ℕ)} t (Some []) (option_map bytes_of (signs_of Plain (text_token (b ∷ text))))) (not_empty b (flat_map (written Plain) text))
+    ap (λ (t : Bool). cond {A = Option (List ℕ)} t (Some []) (option_map bytes_of (signs_of Plain (text_token (b ∷ text))))) (not_empty b (flat_map (byte_spelling Plain) text))
     ∙ ap (option_map bytes_of) r.1 ∙ ap (λ (xs : List ℕ). Some xs) r.2
 
 positive : (k : ℕ) → nat_lt 0 (suc k) ≡ true
@@ -52,33 +55,16 @@ pub token-some : (text : List ℕ) → nat_lt 0 (length (text_token text)) ≡ t
 token-some [] = refl
 token-some (b ∷ text) = by (eqb b 92) (eqb b 32) (eqb b 10) (eqb b 13)
   where
-    by : (t1 t2 t3 t4 : Bool) → nat_lt 0 (length (cond t1 (92 ∷ 92 ∷ []) (cond t2 (92 ∷ 115 ∷ []) (cond t3 (92 ∷ 110 ∷ []) (cond t4 (92 ∷ 114 ∷ []) (b ∷ [])))) ++ flat_map (written Plain) text)) ≡ true
-    by true t2 t3 t4 = positive (suc (length (flat_map (written Plain) text)))
-    by false true t3 t4 = positive (suc (length (flat_map (written Plain) text)))
-    by false false true t4 = positive (suc (length (flat_map (written Plain) text)))
-    by false false false true = positive (suc (length (flat_map (written Plain) text)))
-    by false false false false = positive (length (flat_map (written Plain) text))
-
--- ---- Digits are read as they stand.
-
-digit_plain : (b : ℕ) → is_digit b ≡ true → (eqb b 92 ≡ false) × (eqb b 13 ≡ false)
-digit_plain b e = (apart b 92 e (omega arith), low b 13 e (omega arith))
-  where
-    apart : (b c : ℕ) → is_digit b ≡ true → 58 ≤ c → eqb b c ≡ false
-    apart b c e h = grind (arith, nat_tests)
-
-    low : (b c : ℕ) → is_digit b ≡ true → c < 48 → eqb b c ≡ false
-    low b c e h = grind (arith, nat_tests)
-
-digits-signs : (ds : List ℕ) → list_all is_digit ds ≡ true → (ss : List Sign) × (signs_of Plain ds ≡ Some ss)
-digits-signs [] e = ([], refl)
-digits-signs (b ∷ ds) e =
-    let rest = digits-signs ds (both_right (is_digit b) (list_all is_digit ds) e) in
-    let p = digit_plain b (both_left (is_digit b) (list_all is_digit ds) e) in
-    (record { byte = b; escaped = false } ∷ rest.0, read_plain Plain b ds rest.0 p.0 p.1 rest.1)
+    by : (t1 t2 t3 t4 : Bool) → nat_lt 0 (length (cond t1 (92 ∷ 92 ∷ []) (cond t2 (92 ∷ 115 ∷ []) (cond t3 (92 ∷ 110 ∷ []) (cond t4 (92 ∷ 114 ∷ []) (b ∷ [])))) ++ flat_map (byte_spelling Plain) text)) ≡ true
+    by true t2 t3 t4 = positive (suc (length (flat_map (byte_spelling Plain) text)))
+    by false true t3 t4 = positive (suc (length (flat_map (byte_spelling Plain) text)))
+    by false false true t4 = positive (suc (length (flat_map (byte_spelling Plain) text)))
+    by false false false true = positive (suc (length (flat_map (byte_spelling Plain) text)))
+    by false false false false = positive (length (flat_map (byte_spelling Plain) text))
 
 number-signs : (n : ℕ) → n < 2 ^ 64 → is_some (signs_of Plain (decimal n)) ≡ true
-number-signs n h = let r = digits-signs (decimal n) (decimal-written n h).digits in ap is_some r.1
+number-signs n h =
+    ap (λ (ds : List ℕ). is_some (signs_of Plain ds)) (sym (append-nil (decimal n))) ∙ ap is_some (digits-signs Plain (decimal n) [] [] (decimal-written n h).digits refl)
 
 -- ---- Commas.
 
@@ -179,22 +165,26 @@ tells_change place c hp hl hr hk u =
 below : (n : ℕ) → nat_lt n (2 ^ 64) ≡ true → n < 2 ^ 64
 below n e = grind (arith, nat_tests)
 
--- each break that can be written
-pub tells : (form : Form) (place : ℕ) (change : Option Change) → nat_lt place (2 ^ 64) ≡ true → is_writable_change form change ≡ true → Tells (break_token place change) (record { place = place; change = change })
-tells form place None h w = tells_place place (below place h)
-tells form place (Some c) h w =
-    let w4 = both_left (is_extended form.kind && nat_lt c.left (2 ^ 64) && nat_lt c.right (2 ^ 64) && nat_lt c.breakpoint (2 ^ 64)) (is_utf8 c.substitution) w in
-    let w3 = both_left (is_extended form.kind && nat_lt c.left (2 ^ 64) && nat_lt c.right (2 ^ 64)) (nat_lt c.breakpoint (2 ^ 64)) w4 in
-    let w2 = both_left (is_extended form.kind && nat_lt c.left (2 ^ 64)) (nat_lt c.right (2 ^ 64)) w3 in
+-- each break that can be said
+pub tells : (place : ℕ) (change : Option Change) → is_short place ≡ true → is_said change ≡ true → Tells (break_token place change) (record { place = place; change = change })
+tells place None h w = tells_place place (below place h)
+tells place (Some c) h w =
+    let w3 = both_left (is_short c.left && is_short c.right && is_short c.breakpoint) (is_utf8 c.substitution) w in
+    let w2 = both_left (is_short c.left && is_short c.right) (is_short c.breakpoint) w3 in
     tells_change place c (below place h)
-    (below c.left (both_right (is_extended form.kind) (nat_lt c.left (2 ^ 64)) w2))
-    (below c.right (both_right (is_extended form.kind && nat_lt c.left (2 ^ 64)) (nat_lt c.right (2 ^ 64)) w3))
-    (below c.breakpoint (both_right (is_extended form.kind && nat_lt c.left (2 ^ 64) && nat_lt c.right (2 ^ 64)) (nat_lt c.breakpoint (2 ^ 64)) w4))
-    (IsUtf8-from_is_utf8 c.substitution (both_right (is_extended form.kind && nat_lt c.left (2 ^ 64) && nat_lt c.right (2 ^ 64) && nat_lt c.breakpoint (2 ^ 64)) (is_utf8 c.substitution) w))
+    (below c.left (both_left (is_short c.left) (is_short c.right) w2))
+    (below c.right (both_right (is_short c.left) (is_short c.right) w2))
+    (below c.breakpoint (both_right (is_short c.left && is_short c.right) (is_short c.breakpoint) w3))
+    (IsUtf8-from_is_utf8 c.substitution (both_right (is_short c.left && is_short c.right && is_short c.breakpoint) (is_utf8 c.substitution) w))
+
+-- A change stands in an extended text alone.
+abbrev pub is_allowed : Kind → Option Change → Bool
+is_allowed kind None = true
+is_allowed kind (Some c) = is_extended kind
 
 -- The test Change: a break of an `e` line, or a change of a `p` line that belongs to a value.
 module _ (form : Form) (in_pattern : Bool) (marks : List Mark) (text : List ℕ) where
-  pub good : (token : List ℕ) (place : ℕ) (change : Option Change) → Tells token (record { place = place; change = change }) → is_writable_change form change ≡ true → stays_within text place change ≡ true
+  pub good : (token : List ℕ) (place : ℕ) (change : Option Change) → Tells token (record { place = place; change = change }) → is_allowed form.kind change ≡ true → stays_within text place change ≡ true
       → (in_pattern ≡ true → (is_some change ≡ true) × (has_value_at marks place ≡ true)) → is_good form in_pattern marks text token ≡ true
   good token place None tells w stays belongs =
       ap (λ (t : Bool). cond t (is_extended form.kind && is_whole token && keeps_within text (place_of token) (change_of token) && (not in_pattern || has_value_at marks (place_of token))) (not in_pattern)) tells.comma
@@ -211,8 +201,7 @@ module _ (form : Form) (in_pattern : Bool) (marks : List Mark) (text : List ℕ)
       ∙ ap (λ (p : ℕ). is_extended form.kind && is_whole token && keeps_within text p (change_of token) && (not in_pattern || has_value_at marks p)) at
       ∙ ap (λ (ch : Change). is_extended form.kind && is_whole token && keeps_within text place ch && (not in_pattern || has_value_at marks place)) is
       ∙ all (is_extended form.kind) (is_whole token) (keeps_within text place c) (has_value_at marks place) in_pattern
-        (both_left (is_extended form.kind) (nat_lt c.left (2 ^ 64)) (both_left (is_extended form.kind && nat_lt c.left (2 ^ 64)) (nat_lt c.right (2 ^ 64)) (both_left (is_extended form.kind && nat_lt c.left (2 ^ 64) && nat_lt c.right (2 ^ 64)) (nat_lt c.breakpoint (2 ^ 64)) (both_left (is_extended form.kind && nat_lt c.left (2 ^ 64) && nat_lt c.right (2 ^ 64) && nat_lt c.breakpoint (2 ^ 64)) (is_utf8 c.substitution) w))))
-        (tells.whole refl) stays (λ e. (belongs e).1)
+        w (tells.whole refl) (both_right (is_short place && can_be_said c) (keeps_within text place c) stays) (λ e. (belongs e).1)
     where
       all : (a b d h t : Bool) → a ≡ true → b ≡ true → d ≡ true → (t ≡ true → h ≡ true) → (a && b && d && (not t || h)) ≡ true
       all a b d h true x y z v = rw (x, y, z, v refl) refl

@@ -1,5 +1,4 @@
-use Rattle.hyphenation_commons.proofs.Free.{marks-free}
-use Rattle.hyphenation_commons.proofs.Valid.{marks-utf8}
+use Rattle.hyphenation_commons.proofs.TokensAgain.{good}
 use Rattle.hyphenation_commons.proofs.grammar.laws.written_is_read_again.Goals as goal
 
 pub returns-clause-accepted : goal.returns-clause-accepted
