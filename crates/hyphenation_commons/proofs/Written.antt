@@ -1,5 +1,5 @@
 -- What the canonical text spells is read again: escapes, marks, keys and values, lines.
-use Rattle.std.proofs.Common.{◌≡◌, ℕ, suc, ◌+◌, ◌-◌, ◌<◌, ◌≤◌, Bool, true, false, cond, not, ◌&&◌, ◌||◌, eqb, nat_le, List, [], ◌∷◌, ◌++◌, length, map, Option, Some, None, refl, sym, ap, subst, ◌∙◌, append_assoc, arith}
+use Rattle.std.proofs.Common.{◌≡◌, ℕ, suc, ◌+◌, ◌-◌, ◌<◌, ◌≤◌, Bool, true, false, cond, not, ◌&&◌, ◌||◌, eqb, nat_le, List, [], ◌∷◌, ◌++◌, length, map, Option, Some, None, is_some, refl, sym, ap, subst, ◌∙◌, append_assoc, arith}
 use Rattle.std.specs.Prelude.{flat_map, decimal}
 use Rattle.std.specs.Option.{option_map, option_and_then}
 use Rattle.std.specs.List.{list_all, slice_split, All}
@@ -9,7 +9,7 @@ use Rattle.std.proofs.lemmas.Bool.{eqb-true, leb-true}
 use Rattle.std.proofs.lemmas.Bool.Decides.{nat_tests}
 use Rattle.hyphenation_commons.specs.Break.{Break, Change}
 use Rattle.hyphenation_commons.specs.Lines.{is_digit, lines_of, without_empty_last}
-use Rattle.hyphenation_commons.specs.Tokens.{signs_behind, signs_of, meaning, is_brace, escaped_also, bytes_of, mark_of, is_raw, is_raw_digit, braced, outside, inside, taken, marks_from, marks_of, pattern_escapes, key_of, values_from}
+use Rattle.hyphenation_commons.specs.Tokens.{signs_behind, signs_of, meaning, is_brace, escaped_also, bytes_of, mark_of, is_raw, is_raw_digit, braced, outside, inside, taken, marks_from, marks_of, pattern_escapes, pattern_signs, key_of, values_from}
 use Rattle.hyphenation_commons.specs.Canonical.{byte_spelling, mark_spelling, marks_for, ended}
 use Rattle.hyphenation_commons.specs.declared.dictionary.Entry.{Entry}
 use Rattle.hyphenation_commons.specs.declared.grammar.form.Version.{Version}
@@ -212,6 +212,9 @@ reads_marks version (Value v ∷ ms) h = reads_value version v (flat_map (mark_s
 -- a pattern token that is written is read as its marks
 pub marks-again : (version : Version) (ms : List Mark) → AllValues version ms → marks_of version (flat_map (mark_spelling version) ms) ≡ Some ms
 marks-again version ms h = let r = reads_marks version ms h in ap (option_and_then (marks_from version None)) r.read ∙ r.marks
+
+pub signs-again : (version : Version) (ms : List Mark) → AllValues version ms → is_some (pattern_signs version (flat_map (mark_spelling version) ms)) ≡ true
+signs-again version ms h = let r = reads_marks version ms h in ap is_some r.read
 
 -- entries ascend from a place on, up to a length, and none is 0
 abbrev pub Ascend : ℕ → ℕ → List (Entry (Option Change)) → Type 0
