@@ -1,9 +1,7 @@
--- The canonical text is accepted, and gives its dictionary again.
-use Rattle.std.proofs.Common.{◌≡◌, ℕ, suc, zero, ◌+◌, ◌-◌, ◌^◌, ◌<◌, ◌≤◌, Bool, true, false, cond, not, ◌&&◌, ◌||◌, ◌==◌, eqb, nat_le, nat_lt, nat_eq, List, [], ◌∷◌, ◌++◌, length, take, drop, map, get_or, Option, Some, None, is_some, is_none, unwrap_or, refl, sym, ap, subst, ◌∙◌, append_assoc, arith, length-append, T}
-use Rattle.std.specs.Prelude.{decimal, flat_map, codes, IsUtf8}
+-- Lines of ascending texts are accepted, and the lines of a finite map spell that map.
+use Rattle.std.proofs.Common.{◌≡◌, ℕ, suc, ◌+◌, ◌<◌, Bool, true, false, cond, ◌&&◌, ◌||◌, eqb, List, [], ◌∷◌, ◌++◌, length, map, Option, Some, None, refl, sym, ap, subst, ◌∙◌, append_assoc, arith, length-append, T}
 use Rattle.std.specs.Option.{option_map, option_map_or, option_or}
-use Rattle.std.specs.List.{find as find_in, filter_map, cons_option, list_all, list_any, slice_split, All, AllByRecursion}
-use Rattle.std.specs.Str.{is_utf8}
+use Rattle.std.specs.List.{filter_map, cons_option, list_all, list_any}
 use Rattle.std.specs.Ordering.{nat_cmp, eq_by_cmp, is_eq, is_lt}
 use Rattle.std.specs.declared.cmp.Ordering.{Ordering}
 use Rattle.std.specs.declared.cmp.Ordering.TheVariants.{Less, Equal, Greater}
@@ -12,30 +10,16 @@ use Rattle.std.specs.FinMap as finite
 use Rattle.std.specs.FinMap.{find, is_sorted, entries_sorted, get-entries, get-from_entries, same_map, nat_cmp-IsAntisymmetric, slice_cmp-IsAntisymmetric}
 use Rattle.std.proofs.lemmas.List.{append-nil}
 use Rattle.std.proofs.lemmas.List.Folds.{list_any-append}
-use Rattle.std.proofs.lemmas.List.Elements.{All-from_recursion, filter_map-append}
-use Rattle.std.proofs.lemmas.List.Splits.{slice_split_at, slice_split_none}
-use Rattle.std.proofs.lemmas.Str.{IsUtf8-append, IsUtf8-nil, is_utf8-from_IsUtf8, IsUtf8-from_is_utf8}
+use Rattle.std.proofs.lemmas.List.Elements.{filter_map-append}
 use Rattle.std.proofs.lemmas.Bool.Decides.{nat_tests}
-use Rattle.hyphenation_commons.specs.Break.{Break, Change}
-use Rattle.hyphenation_commons.specs.Dictionary.{Contents, Texts}
-use Rattle.hyphenation_commons.specs.Form.{Kind, Form, Standard, Extended}
-use Rattle.hyphenation_commons.specs.Items.{is_pattern, is_exception, key, word, entries, listed, key_spelt, word_spelt, pattern_of, exception_of}
-use Rattle.hyphenation_commons.specs.Judging.{own_cause, repetition, stands, cause_of, fault_behind, refusal_of, missing, fails}
-use Rattle.hyphenation_commons.specs.Kept.{IsKept, IsPattern, IsException, are_entries, are_listed, has_letter}
-use Rattle.hyphenation_commons.specs.Language.{is_code, is_code_byte, IsCode}
-use Rattle.hyphenation_commons.specs.Lines.{same, head, head_of, language_of, minima_of, small_of, is_small, two_small, is_number, number, lines_of}
-use Rattle.hyphenation_commons.specs.Reading.{gathered, told, entry_as, spelt, contents_of}
-use Rattle.hyphenation_commons.specs.Canonical.{entry_of, pattern_line, exception_line, minima_line, language_line, pattern_lines, exception_lines, canonical_lines, ended, canonical, IsWritable, is_writable_entry, is_writable_break}
-use Rattle.hyphenation_commons.specs.declared.dictionary.Entry.{Entry}
+use Rattle.hyphenation_commons.specs.Dictionary.{Texts}
+use Rattle.hyphenation_commons.specs.Judging.{own_cause, repetition, stands, cause_of, fault_behind, missing}
+use Rattle.hyphenation_commons.specs.Lines.{same}
+use Rattle.hyphenation_commons.specs.Reading.{gathered}
 use Rattle.hyphenation_commons.specs.declared.grammar.Cause.{Cause}
-use Rattle.hyphenation_commons.specs.declared.grammar.Cause.TheVariants.{NotUtf8, Header, Language, Minima, UnknownLine, Token, Pattern, NoLetters, Number, Place, Change as BadChange, RepeatedPattern, RepeatedException}
-use Rattle.hyphenation_commons.proofs.AsciiSplits.{one_ascii}
-use Rattle.hyphenation_commons.proofs.Codes.{is_code-utf8}
-use Rattle.hyphenation_commons.proofs.Decimals.{both_left, both_right, both, decimal-number, decimal-utf8}
-use Rattle.hyphenation_commons.proofs.Free.{Free, free-append, digits-free}
-use Rattle.hyphenation_commons.proofs.LinesAgain.{Faultless, own-none, skip, le_test, pattern-faultless, pattern-spelt, pattern-feed, exception-faultless, exception-spelt, exception-feed}
+use Rattle.hyphenation_commons.specs.declared.grammar.form.Form.{Form}
+use Rattle.hyphenation_commons.proofs.Passed.{both_left, both_right}
 use Rattle.hyphenation_commons.proofs.Tied.{same_text}
-use Rattle.hyphenation_commons.proofs.Written.{AllLines, lines-ended}
 
 -- ---- The entries of a finite map.
 
@@ -87,13 +71,22 @@ all-found {X} P (e ∷ es) s f =
 pub all-entries : {X : Type 0} (P : List ℕ → X → Type 0) (m : Texts X) → ((q : List ℕ) (v : X) → finite.get m q ≡ Some v → P q v) → AllPairs P (finite.entries m)
 all-entries P m f = all-found P (finite.entries m) (entries_sorted m) (λ q v h. f q v (get-entries m q ∙ h))
 
+-- what a test finds of each of them, and two such findings together
+pub all-tested : {X : Type 0} (test : List ℕ × X → Bool) (xs : List (List ℕ × X)) → list_all test xs ≡ true → AllPairs (λ q v. test (q, v) ≡ true) xs
+all-tested test [] e = tt
+all-tested test (x ∷ xs) e = (both_left (test x) (list_all test xs) e, all-tested test xs (both_right (test x) (list_all test xs) e))
+
+pub all-both : {X : Type 0} (P Q R : List ℕ → X → Type 0) (xs : List (List ℕ × X)) → ((q : List ℕ) (v : X) → P q v → Q q v → R q v) → AllPairs P xs → AllPairs Q xs → AllPairs R xs
+all-both P Q R [] f h k = tt
+all-both P Q R (x ∷ xs) f h k = (f x.0 x.1 h.0 k.0, all-both P Q R xs f h.1 k.1)
+
 -- ---- Lines of ascending texts are not refused.
 
 module _ (form : Form) where
-  pub passes_line : (earlier : List (List ℕ)) (l : List ℕ) (rest : List (List ℕ)) → own_cause form (length earlier + 1) l ≡ None → repetition earlier l ≡ None
+  pub passes_line : (earlier : List (List ℕ)) (l : List ℕ) (rest : List (List ℕ)) → own_cause form (length earlier + 1) l ≡ None → repetition form.version earlier l ≡ None
       → fault_behind form (earlier ++ l ∷ []) rest ≡ None → fault_behind form earlier (l ∷ rest) ≡ None
   passes_line earlier l rest o r f =
-      ap (λ (c : Option Cause). option_or (option_map {U = ℕ × Cause} (λ cause. (length earlier + 1, cause)) (option_or c (repetition earlier l))) (fault_behind form (earlier ++ l ∷ []) rest)) o
+      ap (λ (c : Option Cause). option_or (option_map {U = ℕ × Cause} (λ cause. (length earlier + 1, cause)) (option_or c (repetition form.version earlier l))) (fault_behind form (earlier ++ l ∷ []) rest)) o
       ∙ ap (λ (c : Option Cause). option_or (option_map {U = ℕ × Cause} (λ cause. (length earlier + 1, cause)) c) (fault_behind form (earlier ++ l ∷ []) rest)) r ∙ f
 
   pub enough : (n : ℕ) → 2 < n → option_map {U = ℕ × Cause} (λ cause. (n + 1, cause)) (missing n) ≡ None
@@ -106,7 +99,7 @@ module _ (form : Form) where
     pub record Fine (q : List ℕ) (v : X) : Type 0 where
       pub own : (n : ℕ) → 3 < n → own_cause form n (line (q, v)) ≡ None
       pub says : spells (line (q, v)) ≡ Some q
-      pub alone : (earlier : List (List ℕ)) → stands spells earlier q ≡ false → repetition earlier (line (q, v)) ≡ None
+      pub alone : (earlier : List (List ℕ)) → stands spells earlier q ≡ false → repetition form.version earlier (line (q, v)) ≡ None
 
     abbrev pub AllNew : List (List ℕ) → List (List ℕ × X) → Type 0
     AllNew earlier [] = Unit {0}

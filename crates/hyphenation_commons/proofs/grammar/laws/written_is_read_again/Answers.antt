@@ -1,4 +1,4 @@
-use Rattle.hyphenation_commons.proofs.LinesAgain.{pattern-spelt}
+use Rattle.hyphenation_commons.proofs.Accepted.{gathered_again}
 use Rattle.hyphenation_commons.proofs.grammar.laws.written_is_read_again.Goals as goal
 
 pub returns-clause-accepted : goal.returns-clause-accepted
