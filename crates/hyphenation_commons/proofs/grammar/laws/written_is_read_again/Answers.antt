@@ -1,8 +1,8 @@
-use Rattle.hyphenation_commons.proofs.Accepted.{gathered_again}
+use Rattle.hyphenation_commons.proofs.ReadAgain.{canonical-accepted, canonical-contents}
 use Rattle.hyphenation_commons.proofs.grammar.laws.written_is_read_again.Goals as goal
 
-pub returns-clause-accepted : goal.returns-clause-accepted
-returns-clause-accepted g c = ?
-
-pub returns-clause-equal : goal.returns-clause-equal
-returns-clause-equal g c = ?
+pub returns : goal.returns
+returns g c = record {
+  accepted = λ kind carries lists change_of break_of contents exact kept. canonical-accepted kind carries lists change_of break_of exact contents kept;
+  equal = λ kind carries lists change_of break_of contents exact kept. canonical-contents kind carries lists change_of break_of exact contents kept;
+}
