@@ -49,7 +49,7 @@ heads Extended First = refl
 heads Extended Second = refl
 
 -- the first line says its version
-version-again : (k : Kind) (v : Version) → version_by k (head_of k v) ≡ v
+pub version-again : (k : Kind) (v : Version) → version_by k (head_of k v) ≡ v
 version-again Standard First = refl
 version-again Standard Second = refl
 version-again Extended First = refl
@@ -82,7 +82,7 @@ free-test c (b ∷ text) e = (off (eqb b c) (both_left (not (eqb b c)) (list_all
     off true h = absurd cc
     off false h = refl
 
-head_feed : (k : Kind) (v : Version) → Free 10 (head_of k v)
+pub head_feed : (k : Kind) (v : Version) → Free 10 (head_of k v)
 head_feed Standard First = free-test 10 (head_of Standard First) refl
 head_feed Standard Second = free-test 10 (head_of Standard Second) refl
 head_feed Extended First = free-test 10 (head_of Extended First) refl
