@@ -1,6 +1,6 @@
 -- The canonical text takes the first version where it can say each value.
-use Rattle.std.proofs.Common.{◌≡◌, ℕ, suc, ◌≤◌, Bool, true, false, cond, eqb, nat_le, List, [], ◌∷◌, ◌++◌, length, get_or, Option, Some, None, refl, sym, ap, ◌∙◌, append_assoc, arith}
-use Rattle.std.specs.Prelude.{◌↔◌, ⊥}
+use Rattle.std.proofs.Common.{◌≡◌, ℕ, suc, ◌≤◌, Bool, true, false, cond, eqb, nat_le, List, [], ◌∷◌, ◌++◌, length, drop, get_or, Option, Some, None, refl, sym, ap, ◌∙◌, append_assoc, arith}
+use Rattle.std.specs.Prelude.{◌↔◌}
 use Rattle.std.specs.List.{list_all, slice_split, All, AllByRecursion}
 use Rattle.std.specs.Ordering.{nat_cmp, eq_by_cmp}
 use Rattle.std.specs.Cmp.Lexicographic.{slice_cmp}
@@ -54,11 +54,11 @@ same_version kind v w e = sym (version-again kind v) ∙ ap (version_by kind) e 
 
 found-passes : {X : Type 0} (p : X → Bool) (q : List ℕ) (v : X) (es : List (List ℕ × X)) → list_all (λ x. p x.1) es ≡ true → find (slice_cmp nat_cmp) q es ≡ Some v → p v ≡ true
 found-passes p q v [] all is = absurd cc
-found-passes {X} p q v (e ∷ es) all is = by (eq_by_cmp (slice_cmp nat_cmp) q e.0) is
+found-passes {X} p q v (e ∷ es) all is = by (eq_by_cmp (slice_cmp nat_cmp) q e.0) (λ h. found-passes p q v es (both_right (p e.1) (list_all (λ x. p x.1) es) all) h) is
   where
-    by : (t : Bool) → cond {A = Option X} t (Some e.1) (find (slice_cmp nat_cmp) q es) ≡ Some v → p v ≡ true
-    by true h = let same : e.1 ≡ v = cc in ap p (sym same) ∙ both_left (p e.1) (list_all (λ x. p x.1) es) all
-    by false h = found-passes p q v es (both_right (p e.1) (list_all (λ x. p x.1) es) all) h
+    by : (t : Bool) → (find (slice_cmp nat_cmp) q es ≡ Some v → p v ≡ true) → cond {A = Option X} t (Some e.1) (find (slice_cmp nat_cmp) q es) ≡ Some v → p v ≡ true
+    by true more h = let same : e.1 ≡ v = cc in ap p (sym same) ∙ both_left (p e.1) (list_all (λ x. p x.1) es) all
+    by false more h = more h
 
 pairs-pass : {X : Type 0} (p : X → Bool) (es : List (List ℕ × X)) → AllPairs (λ q v. p v ≡ true) es → list_all (λ x. p x.1) es ≡ true
 pairs-pass p [] h = refl
@@ -87,7 +87,7 @@ version-least {C} {B} kind change_of break_of contents = (
     )
   where
     first : get_or (lines_of (canonical_text_of kind change_of break_of contents)) 0 [] ≡ head_of kind (version_for contents)
-    first = head_again kind (version_for contents) _
+    first = head_again kind (version_for contents) (drop 1 (canonical_lines (record { kind = kind; version = version_for contents }) change_of break_of contents))
 
     chosen : (t : Bool) → cond t First Second ≡ First → t ≡ true
     chosen true e = refl
