@@ -1,7 +1,7 @@
 -- Lines of ascending texts are accepted, and the lines of a finite map spell that map.
-use Rattle.std.proofs.Common.{◌≡◌, ℕ, suc, ◌+◌, ◌<◌, Bool, true, false, cond, ◌&&◌, ◌||◌, eqb, List, [], ◌∷◌, ◌++◌, length, map, Option, Some, None, refl, sym, ap, subst, ◌∙◌, append_assoc, arith, length-append, T}
+use Rattle.std.proofs.Common.{◌≡◌, ℕ, ◌+◌, ◌<◌, Bool, true, false, cond, ◌&&◌, ◌||◌, eqb, List, [], ◌∷◌, ◌++◌, length, map, Option, Some, None, refl, sym, ap, subst, ◌∙◌, append_assoc, arith, length-append, T}
 use Rattle.std.specs.Option.{option_map, option_map_or, option_or}
-use Rattle.std.specs.List.{filter_map, cons_option, list_all, list_any}
+use Rattle.std.specs.List.{filter_map, cons_option, list_all}
 use Rattle.std.specs.Ordering.{nat_cmp, eq_by_cmp, is_eq, is_lt}
 use Rattle.std.specs.declared.cmp.Ordering.{Ordering}
 use Rattle.std.specs.declared.cmp.Ordering.TheVariants.{Less, Equal, Greater}
@@ -13,7 +13,7 @@ use Rattle.std.proofs.lemmas.List.Folds.{list_any-append}
 use Rattle.std.proofs.lemmas.List.Elements.{filter_map-append}
 use Rattle.std.proofs.lemmas.Bool.Decides.{nat_tests}
 use Rattle.hyphenation_commons.specs.Dictionary.{Texts}
-use Rattle.hyphenation_commons.specs.Judging.{own_cause, repetition, stands, cause_of, fault_behind, missing}
+use Rattle.hyphenation_commons.specs.Judging.{own_cause, repetition, stands, fault_behind, missing}
 use Rattle.hyphenation_commons.specs.Lines.{same}
 use Rattle.hyphenation_commons.specs.Reading.{gathered}
 use Rattle.hyphenation_commons.specs.declared.grammar.Cause.{Cause}

@@ -1,10 +1,8 @@
 -- What is spelt holds no space, no line feed, and in its numbers no comma.
-use Rattle.std.proofs.Common.{◌≡◌, ℕ, suc, zero, ◌+◌, ◌-◌, ◌^◌, ◌<◌, ◌≤◌, Bool, true, false, cond, not, ◌&&◌, ◌||◌, eqb, nat_le, nat_lt, List, [], ◌∷◌, ◌++◌, length, map, Option, Some, None, is_some, refl, sym, ap, subst, ◌∙◌, append_assoc, arith}
-use Rattle.std.specs.Prelude.{decimal, flat_map, codes}
-use Rattle.std.specs.List.{list_all, All, AllByRecursion}
-use Rattle.std.proofs.lemmas.List.Elements.{All-from_recursion}
+use Rattle.std.proofs.Common.{◌≡◌, ℕ, ◌+◌, ◌^◌, ◌<◌, ◌≤◌, Bool, true, false, cond, ◌||◌, eqb, nat_le, List, [], ◌∷◌, ◌++◌, refl, arith}
+use Rattle.std.specs.Prelude.{decimal, flat_map}
+use Rattle.std.specs.List.{AllByRecursion}
 use Rattle.std.proofs.lemmas.Bool.Decides.{nat_tests}
-use Rattle.hyphenation_commons.specs.Break.{Break, Change}
 use Rattle.hyphenation_commons.specs.Lines.{is_digit}
 use Rattle.hyphenation_commons.specs.Tokens.{escaped_also, pattern_escapes}
 use Rattle.hyphenation_commons.specs.Canonical.{byte_spelling, mark_spelling, text_token, before_comma}

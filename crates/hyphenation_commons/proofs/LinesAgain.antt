@@ -1,8 +1,7 @@
 -- A line that is spelt passes its tests, and spells again what it was spelt of.
-use Rattle.std.proofs.Common.{◌≡◌, ℕ, suc, zero, ◌+◌, ◌-◌, ◌^◌, ◌<◌, ◌≤◌, Bool, true, false, cond, not, ◌&&◌, ◌||◌, ◌==◌, eqb, nat_le, nat_lt, nat_eq, List, [], ◌∷◌, ◌++◌, length, take, drop, map, get_or, Option, Some, None, is_some, is_none, unwrap_or, refl, sym, ap, subst, ◌∙◌, append_assoc, arith, length-append}
-use Rattle.std.specs.Prelude.{decimal, flat_map, codes, IsUtf8}
-use Rattle.std.specs.Option.{option_map}
-use Rattle.std.specs.List.{find, list_all, list_any, slice_split, All, AllByRecursion}
+use Rattle.std.proofs.Common.{◌≡◌, ℕ, suc, ◌+◌, ◌<◌, ◌≤◌, Bool, true, false, cond, not, ◌&&◌, ◌||◌, ◌==◌, eqb, nat_le, nat_lt, List, [], ◌∷◌, ◌++◌, length, drop, map, get_or, Option, Some, None, is_some, is_none, unwrap_or, refl, ap, ◌∙◌, arith}
+use Rattle.std.specs.Prelude.{IsUtf8}
+use Rattle.std.specs.List.{find, list_all, list_any, slice_split}
 use Rattle.std.specs.Str.{is_utf8}
 use Rattle.std.proofs.lemmas.List.{append-nil}
 use Rattle.std.proofs.lemmas.List.Elements.{All-from_recursion}
@@ -14,12 +13,12 @@ use Rattle.hyphenation_commons.specs.Break.{Break, Change, is_boundary, keeps_wi
 use Rattle.hyphenation_commons.specs.declared.grammar.form.Form.{Form}
 use Rattle.hyphenation_commons.specs.declared.grammar.form.Kind.{Kind}
 use Rattle.hyphenation_commons.specs.declared.grammar.form.Version.{Version}
-use Rattle.hyphenation_commons.specs.Items.{listed_of, change_at, pattern_of, exception_of, tokens_of}
+use Rattle.hyphenation_commons.specs.Items.{listed_of, change_at, pattern_of, exception_of}
 use Rattle.hyphenation_commons.specs.Judging.{is_good, good_places, has_value_at, fails, own_cause, is_known}
 use Rattle.hyphenation_commons.specs.Kept.{is_short, can_be_said, is_said, stays_within, lists_within, is_value, are_entries, are_listed, has_letter}
 use Rattle.hyphenation_commons.specs.Lines.{is_number}
 use Rattle.hyphenation_commons.specs.Tokens.{marks_of, pattern_signs, text_of, key_of, values_from, two_values, numerals_of, is_readable, place_of}
-use Rattle.hyphenation_commons.specs.Canonical.{mark_spelling, marks_for, pattern_token, text_token, break_token, later_tokens, with_change, changes_of, pattern_line, exception_line}
+use Rattle.hyphenation_commons.specs.Canonical.{marks_for, pattern_token, text_token, break_token, later_tokens, with_change, changes_of, pattern_line, exception_line}
 use Rattle.hyphenation_commons.specs.declared.dictionary.Entry.{Entry}
 use Rattle.hyphenation_commons.specs.declared.grammar.Cause.{Cause}
 use Rattle.hyphenation_commons.specs.declared.grammar.Cause.TheVariants.{NotUtf8, Header, Language, Minima, UnknownLine, Token, Value as BadValue, Pattern, NoLetters, Number, Place, Change as BadChange}
@@ -27,7 +26,7 @@ use Rattle.hyphenation_commons.specs.declared.grammar.tokens.Mark.{Mark}
 use Rattle.hyphenation_commons.specs.declared.grammar.tokens.Mark.TheVariants.{Letter, Value}
 use Rattle.hyphenation_commons.proofs.AsciiSplits.{one_ascii}
 use Rattle.hyphenation_commons.proofs.Decimals.{both}
-use Rattle.hyphenation_commons.proofs.Free.{Free, IsGap, space, feed, free-append, marks-free, text-free}
+use Rattle.hyphenation_commons.proofs.Free.{Free, space, feed, free-append, marks-free, text-free}
 use Rattle.hyphenation_commons.proofs.Passed.{both_left, both_right}
 use Rattle.hyphenation_commons.proofs.TokensAgain.{Tells, tells, is_allowed, good, text-again, token-some}
 use Rattle.hyphenation_commons.proofs.Valid.{AllSeams, marks-utf8, token-utf8}

@@ -1,5 +1,5 @@
 -- The canonical text is accepted, and gives its dictionary again.
-use Rattle.std.proofs.Common.{◌≡◌, ℕ, suc, ◌+◌, ◌<◌, ◌≤◌, Bool, true, false, cond, not, ◌&&◌, ◌||◌, eqb, nat_le, nat_lt, List, [], ◌∷◌, ◌++◌, length, map, Option, Some, None, is_some, is_none, unwrap_or, refl, sym, ap, subst, ◌∙◌, arith}
+use Rattle.std.proofs.Common.{◌≡◌, ℕ, suc, ◌+◌, ◌<◌, ◌≤◌, Bool, true, false, cond, not, ◌&&◌, eqb, nat_le, nat_lt, List, [], ◌∷◌, ◌++◌, length, map, Option, Some, None, is_none, unwrap_or, refl, sym, ap, subst, ◌∙◌, arith}
 use Rattle.std.specs.Prelude.{decimal, codes, IsUtf8}
 use Rattle.std.specs.Option.{option_map, option_and_then}
 use Rattle.std.specs.List.{list_all, slice_split, All}
@@ -223,9 +223,6 @@ module _ {C B : Type 0} (kind : Kind) (carries : Option Change → C) (lists : B
   keys_small : AllPairs (IsSmall version) (finite.entries contents.patterns)
   keys_small = by (list_all (λ x. are_digits x.1) (finite.entries contents.patterns)) refl
     where
-      xs : List (List ℕ × List (Entry C))
-      xs = finite.entries contents.patterns
-
       by : (t : Bool) → list_all (λ x. are_digits x.1) (finite.entries contents.patterns) ≡ t → AllPairs (IsSmall (cond t First Second)) (finite.entries contents.patterns)
       by true e =
           let each = all-tested (λ x. are_digits x.1) (finite.entries contents.patterns) e in

@@ -1,6 +1,6 @@
 -- A later token that is spelt says again what it was spelt of.
-use Rattle.std.proofs.Common.{◌≡◌, ℕ, suc, zero, ◌+◌, ◌-◌, ◌^◌, ◌<◌, ◌≤◌, Bool, true, false, cond, not, ◌&&◌, ◌||◌, eqb, nat_le, nat_lt, nat_eq, List, [], ◌∷◌, ◌++◌, length, take, drop, map, get_or, Option, Some, None, is_some, unwrap_or, refl, sym, ap, subst, ◌∙◌, append_assoc, arith, length-append}
-use Rattle.std.specs.Prelude.{decimal, flat_map, codes, IsUtf8}
+use Rattle.std.proofs.Common.{◌≡◌, ℕ, suc, ◌-◌, ◌^◌, ◌<◌, Bool, true, false, cond, not, ◌&&◌, ◌||◌, eqb, nat_lt, List, [], ◌∷◌, ◌++◌, length, take, drop, get_or, Option, Some, None, is_some, unwrap_or, refl, sym, ap, ◌∙◌, arith, length-append}
+use Rattle.std.specs.Prelude.{decimal, flat_map, IsUtf8}
 use Rattle.std.specs.Option.{option_map}
 use Rattle.std.specs.List.{list_all, onto_first}
 use Rattle.std.specs.Str.{is_utf8}
@@ -14,18 +14,17 @@ use Rattle.hyphenation_commons.specs.declared.grammar.form.Kind.{Kind}
 use Rattle.hyphenation_commons.specs.Items.{listed_of}
 use Rattle.hyphenation_commons.specs.Judging.{is_good, is_extended, has_value_at}
 use Rattle.hyphenation_commons.specs.Kept.{is_short, can_be_said, is_said, stays_within}
-use Rattle.hyphenation_commons.specs.Lines.{is_digit, is_number, number, same}
-use Rattle.hyphenation_commons.specs.Tokens.{signs_behind, signs_of, text_of, escaped_also, parts_within, parts_of, put, has_comma, numerals_of, is_readable, place_of, change_of, is_whole, bytes_of}
+use Rattle.hyphenation_commons.specs.Lines.{is_number, number, same}
+use Rattle.hyphenation_commons.specs.Tokens.{signs_of, text_of, parts_within, parts_of, put, has_comma, numerals_of, is_readable, place_of, change_of, is_whole, bytes_of}
 use Rattle.hyphenation_commons.specs.Canonical.{byte_spelling, text_token, before_comma, break_token}
 use Rattle.hyphenation_commons.specs.declared.grammar.tokens.Escapes.TheVariants.{Plain}
-use Rattle.hyphenation_commons.specs.declared.grammar.tokens.Sign.{Sign}
 use Rattle.hyphenation_commons.specs.declared.grammar.tokens.Mark.{Mark}
 use Rattle.hyphenation_commons.proofs.Decimals.{decimal-written, decimal-number, decimal-utf8, both}
 use Rattle.hyphenation_commons.proofs.Free.{Free, IsGap, digits-free, comma-free, text-free, number-free}
 use Rattle.hyphenation_commons.proofs.Parts.{none_left}
 use Rattle.hyphenation_commons.proofs.Passed.{both_left, both_right}
 use Rattle.hyphenation_commons.proofs.Valid.{token-utf8, comma-utf8}
-use Rattle.hyphenation_commons.proofs.Written.{reads_text, raw, digits-signs}
+use Rattle.hyphenation_commons.proofs.Written.{reads_text, digits-signs}
 
 -- ---- Texts.
 

@@ -1,5 +1,5 @@
 -- What the canonical text spells is read again: escapes, marks, keys and values, lines.
-use Rattle.std.proofs.Common.{◌≡◌, ℕ, suc, ◌+◌, ◌-◌, ◌<◌, ◌≤◌, Bool, true, false, cond, not, ◌&&◌, ◌||◌, eqb, nat_le, List, [], ◌∷◌, ◌++◌, length, map, Option, Some, None, is_some, refl, sym, ap, subst, ◌∙◌, append_assoc, arith}
+use Rattle.std.proofs.Common.{◌≡◌, ℕ, ◌+◌, ◌<◌, ◌≤◌, Bool, true, false, cond, not, ◌&&◌, ◌||◌, eqb, nat_le, List, [], ◌∷◌, ◌++◌, length, map, Option, Some, None, is_some, refl, sym, ap, subst, ◌∙◌, append_assoc, arith}
 use Rattle.std.specs.Prelude.{flat_map, decimal}
 use Rattle.std.specs.Option.{option_map, option_and_then}
 use Rattle.std.specs.List.{list_all, slice_split, All}
@@ -7,9 +7,9 @@ use Rattle.std.proofs.lemmas.List.{append-nil}
 use Rattle.std.proofs.lemmas.List.Splits.{slice_split_at}
 use Rattle.std.proofs.lemmas.Bool.{eqb-true, leb-true}
 use Rattle.std.proofs.lemmas.Bool.Decides.{nat_tests}
-use Rattle.hyphenation_commons.specs.Break.{Break, Change}
+use Rattle.hyphenation_commons.specs.Break.{Change}
 use Rattle.hyphenation_commons.specs.Lines.{is_digit, lines_of, without_empty_last}
-use Rattle.hyphenation_commons.specs.Tokens.{signs_behind, signs_of, meaning, is_brace, escaped_also, bytes_of, mark_of, is_raw, is_raw_digit, braced, outside, inside, taken, marks_from, marks_of, pattern_escapes, pattern_signs, key_of, values_from}
+use Rattle.hyphenation_commons.specs.Tokens.{signs_behind, signs_of, meaning, is_brace, escaped_also, bytes_of, mark_of, braced, inside, taken, marks_from, marks_of, pattern_escapes, pattern_signs, key_of, values_from}
 use Rattle.hyphenation_commons.specs.Canonical.{byte_spelling, mark_spelling, marks_for, ended}
 use Rattle.hyphenation_commons.specs.declared.dictionary.Entry.{Entry}
 use Rattle.hyphenation_commons.specs.declared.grammar.form.Version.{Version}
@@ -127,8 +127,8 @@ value-inside digits (b ∷ ds) v ss ms e is h =
     ∙ one_more (Value v ∷ ms) (marks_from Second (Some (digits ++ b ∷ [])) (map raw ds ++ raw 125 ∷ ss)) (value-inside (digits ++ b ∷ []) ds v ss ms (both_right (is_digit b) (list_all is_digit ds) e) (ap braced (append_assoc digits (b ∷ []) ds) ∙ is) h)
 
 -- a letter stands outside braces, and so does a digit
-letter_mark : (b : ℕ) (s : Sign) (t : Bool) → s.byte ≡ b → (not s.escaped && is_digit s.byte) ≡ false → mark_of s ≡ Letter b
-letter_mark b s t is off = rw off (ap (λ (x : ℕ). Letter x) is)
+letter_mark : (b : ℕ) (s : Sign) → s.byte ≡ b → (not s.escaped && is_digit s.byte) ≡ false → mark_of s ≡ Letter b
+letter_mark b s is off = rw off (ap (λ (x : ℕ). Letter x) is)
 
 no_digit : (a b c : Bool) → (not a && (b || c)) ≡ false → (not a && b) ≡ false
 no_digit true b c e = refl
@@ -142,10 +142,10 @@ no_brace false false true d e = absurd cc
 no_brace false false false d e = (refl, e)
 
 letter_taken : (version : Version) (b : ℕ) (s : Sign) → s.byte ≡ b → (not s.escaped && escaped_also (pattern_escapes version) s.byte) ≡ false → taken version None s ≡ Some (None, Letter b ∷ [])
-letter_taken First b s is off = ap (λ (m : Mark). Some (None, m ∷ [])) (letter_mark b s true is off)
+letter_taken First b s is off = ap (λ (m : Mark). Some (None, m ∷ [])) (letter_mark b s is off)
 letter_taken Second b s is off =
     let n = no_brace s.escaped (is_digit s.byte) (eqb s.byte 123) (eqb s.byte 125) off in
-    rw (n.0, n.1) (ap (λ (m : Mark). Some (None, m ∷ [])) (letter_mark b s true is (no_digit s.escaped (is_digit s.byte) (is_brace s.byte) off)))
+    rw (n.0, n.1) (ap (λ (m : Mark). Some (None, m ∷ [])) (letter_mark b s is (no_digit s.escaped (is_digit s.byte) (is_brace s.byte) off)))
 
 pub value_plain : (v : ℕ) → v < 10 → (eqb (48 + v) 92 ≡ false) × (eqb (48 + v) 13 ≡ false) × (is_digit (48 + v) ≡ true)
 value_plain v h = (apart (48 + v) 92 (omega arith), sym_apart, both)
