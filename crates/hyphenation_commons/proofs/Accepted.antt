@@ -109,11 +109,12 @@ module _ (form : Form) where
     new-more earlier l q v [] says s new = tt
     new-more earlier l q v (x ∷ xs) says s new =
         let p = pick (is_lt (slice_cmp nat_cmp q x.0)) _ _ _ s in
-        let apart : same q x.0 ≡ false = texts_ties q x.0 ∙ less_off (slice_cmp nat_cmp q x.0) p.0 in
-        (list_any-append (λ other. option_map_or (λ t. same t x.0) (spells other) false) earlier (l ∷ [])
-         ∙ ap (λ (o : Option (List ℕ)). stands spells earlier x.0 || (option_map_or (λ t. same t x.0) o false || false)) says
-         ∙ ap (λ (t : Bool). stands spells earlier x.0 || (t || false)) apart ∙ ap (λ (t : Bool). t || false) new.0,
-         new-more earlier l q v xs says p.1 new.1)
+        let apart : same q x.0 ≡ false = texts_ties q x.0 ∙ less_off (slice_cmp nat_cmp q x.0) p.0 in (
+          list_any-append (λ other. option_map_or (λ t. same t x.0) (spells other) false) earlier (l ∷ [])
+              ∙ ap (λ (o : Option (List ℕ)). stands spells earlier x.0 || (option_map_or (λ t. same t x.0) o false || false)) says
+              ∙ ap (λ (t : Bool). stands spells earlier x.0 || (t || false)) apart ∙ ap (λ (t : Bool). t || false) new.0,
+          new-more earlier l q v xs says p.1 new.1,
+        )
 
     pub chain : (xs : List (List ℕ × X)) → AllPairs Fine xs → T (is_sorted (slice_cmp nat_cmp) xs) → (earlier : List (List ℕ)) → 2 < length earlier → AllNew earlier xs
         → (rest : List (List ℕ)) → fault_behind form (earlier ++ map line xs) rest ≡ None → fault_behind form earlier (map line xs ++ rest) ≡ None
@@ -122,7 +123,7 @@ module _ (form : Form) where
         let f = fine.0 in
         passes_line earlier (line x) (map line xs ++ rest) (f.own (length earlier + 1) (omega arith)) (f.alone earlier new.0)
         (chain xs fine.1 (second _ _ s) (earlier ++ line x ∷ []) (omega (arith, length-append earlier (line x ∷ []))) (new-more earlier (line x) x.0 x.1 xs f.says s new.1) rest
-         (subst (λ (ls : List (List ℕ)). fault_behind form ls rest ≡ None) (sym (append_assoc earlier (line x ∷ []) (map line xs))) h))
+        (subst (λ (ls : List (List ℕ)). fault_behind form ls rest ≡ None) (sym (append_assoc earlier (line x ∷ []) (map line xs))) h))
 
     -- lines that spell no such text
     abbrev pub AllSilent : List (List ℕ) → Type 0
@@ -163,8 +164,8 @@ module _ {X : Type 0} (spells : List ℕ → Option (List ℕ × X)) (line : Lis
   gathered_again m before after h b a =
       ap (λ (es : List (List ℕ × X)). finite.from_entries {R = slice_cmp nat_cmp} es)
       (filter_map-append spells before (map line (finite.entries m) ++ after)
-       ∙ ap (λ (es : List (List ℕ × X)). es ++ filter_map spells (map line (finite.entries m) ++ after)) (quiet before b)
-       ∙ filter_map-append spells (map line (finite.entries m)) after
-       ∙ ap (λ (es : List (List ℕ × X)). es ++ filter_map spells after) (spelt_each (finite.entries m) h)
-       ∙ ap (λ (es : List (List ℕ × X)). finite.entries m ++ es) (quiet after a) ∙ append-nil (finite.entries m))
+      ∙ ap (λ (es : List (List ℕ × X)). es ++ filter_map spells (map line (finite.entries m) ++ after)) (quiet before b)
+      ∙ filter_map-append spells (map line (finite.entries m)) after
+      ∙ ap (λ (es : List (List ℕ × X)). es ++ filter_map spells after) (spelt_each (finite.entries m) h)
+      ∙ ap (λ (es : List (List ℕ × X)). finite.entries m ++ es) (quiet after a) ∙ append-nil (finite.entries m))
       ∙ entries_again m

@@ -77,14 +77,14 @@ each-digits (e ∷ es) h = both (nat_le e.value 9) (are_digits es) (below e.valu
 
 pub version-least : {C B : Type 0} (kind : Kind) (change_of : C → Option Change) (break_of : B → Break) (contents : Contents C B)
     → (get_or (lines_of (canonical_text_of kind change_of break_of contents)) 0 [] ≡ head_of kind First)
-      ↔ ((key : List ℕ) (entries : List (Entry C)) → finite.get contents.patterns key ≡ Some entries → All (λ e. e.value ≤ 9) entries)
+    ↔ ((key : List ℕ) (entries : List (Entry C)) → finite.get contents.patterns key ≡ Some entries → All (λ e. e.value ≤ 9) entries)
 version-least {C} {B} kind change_of break_of contents = (
-      λ is key entries has. All-from_recursion (λ e. e.value ≤ 9) entries (digits-each entries (found-passes are_digits key entries (finite.entries contents.patterns)
-       (chosen (list_all (λ x. are_digits x.1) (finite.entries contents.patterns)) (same_version kind (version_for contents) First (sym first ∙ is)))
-       (sym (get-entries contents.patterns key) ∙ has))),
-      λ small. first ∙ ap (λ (t : Bool). head_of kind (cond t First Second)) (pairs-pass are_digits (finite.entries contents.patterns)
-       (all-entries (λ q es. are_digits es ≡ true) contents.patterns (λ q es has. each-digits es (recursion_from_All (λ e. e.value ≤ 9) es (small q es has))))),
-    )
+  λ is key entries has. All-from_recursion (λ e. e.value ≤ 9) entries (digits-each entries (found-passes are_digits key entries (finite.entries contents.patterns)
+      (chosen (list_all (λ x. are_digits x.1) (finite.entries contents.patterns)) (same_version kind (version_for contents) First (sym first ∙ is)))
+      (sym (get-entries contents.patterns key) ∙ has))),
+  λ small. first ∙ ap (λ (t : Bool). head_of kind (cond t First Second)) (pairs-pass are_digits (finite.entries contents.patterns)
+      (all-entries (λ q es. are_digits es ≡ true) contents.patterns (λ q es has. each-digits es (recursion_from_All (λ e. e.value ≤ 9) es (small q es has))))),
+)
   where
     first : get_or (lines_of (canonical_text_of kind change_of break_of contents)) 0 [] ≡ head_of kind (version_for contents)
     first = head_again kind (version_for contents) (drop 1 (canonical_lines (record { kind = kind; version = version_for contents }) change_of break_of contents))

@@ -65,8 +65,8 @@ listed-sayable kind text least (b ∷ bs) l w =
     let here = both_right (nat_le least b.place && is_boundary text b.place) (lists_within text b.place b.change) front in
     both (is_sayable kind b) (list_all (is_sayable kind) bs)
     (both (is_short b.place && is_said b.change) (is_allowed kind b.change)
-     (both (is_short b.place) (is_said b.change) (both_left (is_short b.place) (stays_within text b.place b.change) here) (said_of text b.place b.change (both_right (is_short b.place) (stays_within text b.place b.change) here)))
-     (both_left (is_allowed kind b.change) (are_allowed kind bs) w))
+    (both (is_short b.place) (is_said b.change) (both_left (is_short b.place) (stays_within text b.place b.change) here) (said_of text b.place b.change (both_right (is_short b.place) (stays_within text b.place b.change) here)))
+    (both_left (is_allowed kind b.change) (are_allowed kind bs) w))
     (listed-sayable kind text (b.place + 1) bs (both_right (nat_le least b.place && is_boundary text b.place && lists_within text b.place b.change) (are_listed (λ b. b) text (b.place + 1) bs) l) (both_right (is_allowed kind b.change) (are_allowed kind bs) w))
 
 module _ (form : Form) where
@@ -114,8 +114,8 @@ module _ (form : Form) where
       let front = both_left (nat_le least b.place && is_boundary text b.place && lists_within text b.place b.change) (are_listed (λ b. b) text (b.place + 1) bs) l in
       ap (λ (p : ℕ). nat_le least p && is_boundary text p && good_places text (p + 1) (tokens_for bs)) at
       ∙ both (nat_le least b.place && is_boundary text b.place) (good_places text (b.place + 1) (tokens_for bs))
-        (both_left (nat_le least b.place && is_boundary text b.place) (lists_within text b.place b.change) front)
-        (places_each text (b.place + 1) bs (rest_of b bs w) (both_right (nat_le least b.place && is_boundary text b.place && lists_within text b.place b.change) (are_listed (λ b. b) text (b.place + 1) bs) l))
+      (both_left (nat_le least b.place && is_boundary text b.place) (lists_within text b.place b.change) front)
+      (places_each text (b.place + 1) bs (rest_of b bs w) (both_right (nat_le least b.place && is_boundary text b.place && lists_within text b.place b.change) (are_listed (λ b. b) text (b.place + 1) bs) l))
 
   -- each is a change at the place of a value
   abbrev pub AllBelong : List Mark → List Break → Type 0
@@ -129,7 +129,7 @@ module _ (form : Form) where
       let front = both_left (nat_le least b.place && is_boundary text b.place && lists_within text b.place b.change) (are_listed (λ b. b) text (b.place + 1) bs) l in
       both (is_good form in_pattern marks text (token_of b)) (list_all (is_good form in_pattern marks text) (tokens_for bs))
       (good form in_pattern marks text (token_of b) b.place b.change (tell b (first_of b bs w)) (both_right (is_short b.place && is_said b.change) (is_allowed form.kind b.change) (first_of b bs w))
-       (both_right (is_short b.place) (stays_within text b.place b.change) (both_right (nat_le least b.place && is_boundary text b.place) (lists_within text b.place b.change) front)) (λ e. (belong e).0))
+      (both_right (is_short b.place) (stays_within text b.place b.change) (both_right (nat_le least b.place && is_boundary text b.place) (lists_within text b.place b.change) front)) (λ e. (belong e).0))
       (good_each in_pattern marks text (b.place + 1) bs (rest_of b bs w) (both_right (nat_le least b.place && is_boundary text b.place && lists_within text b.place b.change) (are_listed (λ b. b) text (b.place + 1) bs) l) (λ e. (belong e).1))
 
 -- ---- A line that passes each test of its own.
@@ -158,16 +158,16 @@ pub own-none : (form : Form) (n : ℕ) (line : List ℕ) → 3 < n → Faultless
 own-none form n line big f =
     skip (fails form n line) NotUtf8 (Header ∷ Language ∷ Minima ∷ UnknownLine ∷ Token ∷ BadValue ∷ Pattern ∷ NoLetters ∷ Number ∷ Place ∷ BadChange ∷ []) (ap not f.utf8)
     (skip (fails form n line) Header (Language ∷ Minima ∷ UnknownLine ∷ Token ∷ BadValue ∷ Pattern ∷ NoLetters ∷ Number ∷ Place ∷ BadChange ∷ []) (off_front (eqb n 1) _ (other n 1 (omega arith)))
-     (skip (fails form n line) Language (Minima ∷ UnknownLine ∷ Token ∷ BadValue ∷ Pattern ∷ NoLetters ∷ Number ∷ Place ∷ BadChange ∷ []) (off_front (eqb n 2) _ (other n 2 (omega arith)))
-      (skip (fails form n line) Minima (UnknownLine ∷ Token ∷ BadValue ∷ Pattern ∷ NoLetters ∷ Number ∷ Place ∷ BadChange ∷ []) (off_front (eqb n 3) _ (other n 3 (omega arith)))
-       (skip (fails form n line) UnknownLine (Token ∷ BadValue ∷ Pattern ∷ NoLetters ∷ Number ∷ Place ∷ BadChange ∷ []) (ap (λ (k : Bool). nat_lt 3 n && not k) f.known ∙ off_back (nat_lt 3 n))
-        (skip (fails form n line) Token (BadValue ∷ Pattern ∷ NoLetters ∷ Number ∷ Place ∷ BadChange ∷ []) f.token
-         (skip (fails form n line) BadValue (Pattern ∷ NoLetters ∷ Number ∷ Place ∷ BadChange ∷ []) f.value
-         (skip (fails form n line) Pattern (NoLetters ∷ Number ∷ Place ∷ BadChange ∷ []) f.pattern
-          (skip (fails form n line) NoLetters (Number ∷ Place ∷ BadChange ∷ []) f.letters
-           (skip (fails form n line) Number (Place ∷ BadChange ∷ []) f.number
-            (skip (fails form n line) Place (BadChange ∷ []) f.place
-             (skip (fails form n line) BadChange [] f.change refl)))))))))))
+    (skip (fails form n line) Language (Minima ∷ UnknownLine ∷ Token ∷ BadValue ∷ Pattern ∷ NoLetters ∷ Number ∷ Place ∷ BadChange ∷ []) (off_front (eqb n 2) _ (other n 2 (omega arith)))
+    (skip (fails form n line) Minima (UnknownLine ∷ Token ∷ BadValue ∷ Pattern ∷ NoLetters ∷ Number ∷ Place ∷ BadChange ∷ []) (off_front (eqb n 3) _ (other n 3 (omega arith)))
+    (skip (fails form n line) UnknownLine (Token ∷ BadValue ∷ Pattern ∷ NoLetters ∷ Number ∷ Place ∷ BadChange ∷ []) (ap (λ (k : Bool). nat_lt 3 n && not k) f.known ∙ off_back (nat_lt 3 n))
+    (skip (fails form n line) Token (BadValue ∷ Pattern ∷ NoLetters ∷ Number ∷ Place ∷ BadChange ∷ []) f.token
+    (skip (fails form n line) BadValue (Pattern ∷ NoLetters ∷ Number ∷ Place ∷ BadChange ∷ []) f.value
+    (skip (fails form n line) Pattern (NoLetters ∷ Number ∷ Place ∷ BadChange ∷ []) f.pattern
+    (skip (fails form n line) NoLetters (Number ∷ Place ∷ BadChange ∷ []) f.letters
+    (skip (fails form n line) Number (Place ∷ BadChange ∷ []) f.number
+    (skip (fails form n line) Place (BadChange ∷ []) f.place
+    (skip (fails form n line) BadChange [] f.change refl)))))))))))
   where
     off_back : (t : Bool) → (t && false) ≡ false
     off_back true = refl

@@ -117,7 +117,7 @@ language_passes form code h =
     let line = language_line code in
     skip (fails form 2 line) NotUtf8 (Header ∷ Language ∷ Minima ∷ UnknownLine ∷ Token ∷ BadValue ∷ Pattern ∷ NoLetters ∷ Number ∷ Place ∷ BadChange ∷ []) (ap not (is_utf8-from_IsUtf8 line (IsUtf8-append (codes "language ") code language_name (is_code-utf8 code h))))
     (skip (fails form 2 line) Header (Language ∷ Minima ∷ UnknownLine ∷ Token ∷ BadValue ∷ Pattern ∷ NoLetters ∷ Number ∷ Place ∷ BadChange ∷ []) refl
-     (skip (fails form 2 line) Language (Minima ∷ UnknownLine ∷ Token ∷ BadValue ∷ Pattern ∷ NoLetters ∷ Number ∷ Place ∷ BadChange ∷ []) (ap is_none (language_again code h)) refl))
+    (skip (fails form 2 line) Language (Minima ∷ UnknownLine ∷ Token ∷ BadValue ∷ Pattern ∷ NoLetters ∷ Number ∷ Place ∷ BadChange ∷ []) (ap is_none (language_again code h)) refl))
 
 minima_split : (l r : ℕ) → l ≤ 255 → r ≤ 255 → slice_split (λ b. eqb b 32) (decimal l ++ 32 ∷ decimal r) ≡ decimal l ∷ (decimal r ∷ [])
 minima_split l r hl hr =
@@ -136,8 +136,8 @@ minima_passes form l r hl hr =
     skip (fails form 3 line) NotUtf8 (Header ∷ Language ∷ Minima ∷ UnknownLine ∷ Token ∷ BadValue ∷ Pattern ∷ NoLetters ∷ Number ∷ Place ∷ BadChange ∷ [])
     (ap not (is_utf8-from_IsUtf8 line (IsUtf8-append (codes "minima ") (decimal l ++ 32 ∷ decimal r) minima_name (IsUtf8-append (decimal l) (32 ∷ decimal r) (decimal-utf8 l (wide l hl)) (IsUtf8-append (32 ∷ []) (decimal r) (one_ascii 32 (omega arith)) (decimal-utf8 r (wide r hr)))))))
     (skip (fails form 3 line) Header (Language ∷ Minima ∷ UnknownLine ∷ Token ∷ BadValue ∷ Pattern ∷ NoLetters ∷ Number ∷ Place ∷ BadChange ∷ []) refl
-     (skip (fails form 3 line) Language (Minima ∷ UnknownLine ∷ Token ∷ BadValue ∷ Pattern ∷ NoLetters ∷ Number ∷ Place ∷ BadChange ∷ []) refl
-      (skip (fails form 3 line) Minima (UnknownLine ∷ Token ∷ BadValue ∷ Pattern ∷ NoLetters ∷ Number ∷ Place ∷ BadChange ∷ []) (ap is_none (minima_again l r hl hr)) refl)))
+    (skip (fails form 3 line) Language (Minima ∷ UnknownLine ∷ Token ∷ BadValue ∷ Pattern ∷ NoLetters ∷ Number ∷ Place ∷ BadChange ∷ []) refl
+    (skip (fails form 3 line) Minima (UnknownLine ∷ Token ∷ BadValue ∷ Pattern ∷ NoLetters ∷ Number ∷ Place ∷ BadChange ∷ []) (ap is_none (minima_again l r hl hr)) refl)))
 
 -- ---- Lists.
 
@@ -321,7 +321,7 @@ module _ {C B : Type 0} (kind : Kind) (carries : Option Change → C) (lists : B
   lines-accepted =
       passes_line form [] (head form) (language_line contents.language ∷ (minima_line contents.left contents.right ∷ (p_lines ++ e_lines))) (heads kind version) (head_alone kind version)
       (passes_line form (head form ∷ []) (language_line contents.language) (minima_line contents.left contents.right ∷ (p_lines ++ e_lines)) (language_passes form contents.language kept.code) refl
-       (passes_line form (head form ∷ (language_line contents.language ∷ [])) (minima_line contents.left contents.right) (p_lines ++ e_lines) (minima_passes form contents.left contents.right kept.left kept.right) refl keys_pass))
+      (passes_line form (head form ∷ (language_line contents.language ∷ [])) (minima_line contents.left contents.right) (p_lines ++ e_lines) (minima_passes form contents.left contents.right kept.left kept.right) refl keys_pass))
 
   -- the lines are those of the text
   feed-free : (l : List ℕ) → Free 10 l → All (λ b. eqb b 10 ≡ false) l
@@ -340,11 +340,16 @@ module _ {C B : Type 0} (kind : Kind) (carries : Option Change → C) (lists : B
 
   pub canonical-lines : lines_of (canonical_text_of kind change_of break_of contents) ≡ canonical_lines form change_of break_of contents
   canonical-lines =
-      lines-ended (canonical_lines form change_of break_of contents)
-      (feed-free (head form) (head_feed kind version),
-       (feed-free (language_line contents.language) (free-append 10 (codes "language ") contents.language (free-test 10 (codes "language ") refl) (code_feed contents.language (both_right (nat_le 1 (length contents.language) && nat_le (length contents.language) 32) (list_all is_code_byte contents.language) kept.code))),
-        (feed-free (minima_line contents.left contents.right) (minima_feed contents.left contents.right kept.left kept.right),
-         each_all p_lines (p_feed (finite.entries contents.patterns) key_lines) e_lines (e_feed (finite.entries contents.exceptions) word_lines))))
+      lines-ended (canonical_lines form change_of break_of contents) (
+        feed-free (head form) (head_feed kind version),
+        (
+          feed-free (language_line contents.language) (free-append 10 (codes "language ") contents.language (free-test 10 (codes "language ") refl) (code_feed contents.language (both_right (nat_le 1 (length contents.language) && nat_le (length contents.language) 32) (list_all is_code_byte contents.language) kept.code))),
+          (
+            feed-free (minima_line contents.left contents.right) (minima_feed contents.left contents.right kept.left kept.right),
+            each_all p_lines (p_feed (finite.entries contents.patterns) key_lines) e_lines (e_feed (finite.entries contents.exceptions) word_lines),
+          ),
+        ),
+      )
 
   -- The text is accepted.
   pub canonical-accepted : refusal_of kind (canonical_text_of kind change_of break_of contents) ≡ None

@@ -85,9 +85,9 @@ parts_again : (p l r k : ℕ) (s : List ℕ) → p < 2 ^ 64 → l < 2 ^ 64 → r
 parts_again p l r k s hp hl hr hk =
     part_of 4 p (before_comma l (before_comma r (before_comma k s))) refl hp
     ∙ ap (λ (ps : List (List ℕ)). decimal p ∷ ps) (part_of 3 l (before_comma r (before_comma k s)) refl hl
-     ∙ ap (λ (ps : List (List ℕ)). decimal l ∷ ps) (part_of 2 r (before_comma k s) refl hr
-      ∙ ap (λ (ps : List (List ℕ)). decimal r ∷ ps) (part_of 1 k s refl hk
-       ∙ ap (λ (ps : List (List ℕ)). decimal k ∷ ps) (none_left s))))
+    ∙ ap (λ (ps : List (List ℕ)). decimal l ∷ ps) (part_of 2 r (before_comma k s) refl hr
+    ∙ ap (λ (ps : List (List ℕ)). decimal r ∷ ps) (part_of 1 k s refl hk
+    ∙ ap (λ (ps : List (List ℕ)). decimal k ∷ ps) (none_left s))))
 
 -- ---- What a token says.
 
@@ -117,7 +117,7 @@ tells_place place h =
     record {
       readable = both (nat_lt 0 (length (decimal place)) && list_all (λ w. is_some (signs_of Plain w)) (take 4 (parts_of (decimal place)))) (list_all (λ w. is_some (text_of w)) (drop 4 (parts_of (decimal place))))
           (both (nat_lt 0 (length (decimal place))) (list_all (λ w. is_some (signs_of Plain w)) (take 4 (parts_of (decimal place)))) (short place h)
-           (ap (λ (ps : List (List ℕ)). list_all (λ w. is_some (signs_of Plain w)) (take 4 ps)) e ∙ both (is_some (signs_of Plain (decimal place))) true (number-signs place h) refl))
+          (ap (λ (ps : List (List ℕ)). list_all (λ w. is_some (signs_of Plain w)) (take 4 ps)) e ∙ both (is_some (signs_of Plain (decimal place))) true (number-signs place h) refl))
           (ap (λ (ps : List (List ℕ)). list_all (λ w. is_some (text_of w)) (drop 4 ps)) e);
       numbers = ap (λ (ps : List (List ℕ)). list_all is_number (cond (nat_lt 1 (length ps)) (take (length ps - 1) ps) ps)) e ∙ both (is_number (decimal place)) true n.0 refl;
       listed = ap (λ (ps : List (List ℕ)). record { place = number (get_or ps 0 []); change = cond {A = Option Change} (nat_lt 1 (length ps)) (Some (change_of (decimal place))) None }) e ∙ (λ i. record { place = n.1 i; change = None });
@@ -148,8 +148,8 @@ tells_change place c hp hl hr hk u =
     record {
       readable = both (nat_lt 0 (length token) && list_all (λ w. is_some (signs_of Plain w)) (take 4 (parts_of token))) (list_all (λ w. is_some (text_of w)) (drop 4 (parts_of token)))
           (both (nat_lt 0 (length token)) (list_all (λ w. is_some (signs_of Plain w)) (take 4 (parts_of token))) (long place (before_comma c.left (before_comma c.right (before_comma c.breakpoint s))) hp)
-           (ap (λ (ps : List (List ℕ)). list_all (λ w. is_some (signs_of Plain w)) (take 4 ps)) e
-            ∙ four (is_some (signs_of Plain d)) (is_some (signs_of Plain l)) (is_some (signs_of Plain r)) (is_some (signs_of Plain k)) (number-signs place hp) (number-signs c.left hl) (number-signs c.right hr) (number-signs c.breakpoint hk)))
+          (ap (λ (ps : List (List ℕ)). list_all (λ w. is_some (signs_of Plain w)) (take 4 ps)) e
+          ∙ four (is_some (signs_of Plain d)) (is_some (signs_of Plain l)) (is_some (signs_of Plain r)) (is_some (signs_of Plain k)) (number-signs place hp) (number-signs c.left hl) (number-signs c.right hr) (number-signs c.breakpoint hk)))
           (ap (λ (ps : List (List ℕ)). list_all (λ w. is_some (text_of w)) (drop 4 ps)) e ∙ both (is_some (text_of s)) true (ap is_some t) refl);
       numbers = ap (λ (ps : List (List ℕ)). list_all is_number (cond (nat_lt 1 (length ps)) (take (length ps - 1) ps) ps)) e
           ∙ four (is_number d) (is_number l) (is_number r) (is_number k) np.0 nl.0 nr.0 nk.0;
@@ -200,7 +200,7 @@ module _ (form : Form) (in_pattern : Bool) (marks : List Mark) (text : List ℕ)
       ∙ ap (λ (p : ℕ). is_extended form.kind && is_whole token && keeps_within text p (change_of token) && (not in_pattern || has_value_at marks p)) at
       ∙ ap (λ (ch : Change). is_extended form.kind && is_whole token && keeps_within text place ch && (not in_pattern || has_value_at marks place)) is
       ∙ all (is_extended form.kind) (is_whole token) (keeps_within text place c) (has_value_at marks place) in_pattern
-        w (tells.whole refl) (both_right (is_short place && can_be_said c) (keeps_within text place c) stays) (λ e. (belongs e).1)
+      w (tells.whole refl) (both_right (is_short place && can_be_said c) (keeps_within text place c) stays) (λ e. (belongs e).1)
     where
       all : (a b d h t : Bool) → a ≡ true → b ≡ true → d ≡ true → (t ≡ true → h ≡ true) → (a && b && d && (not t || h)) ≡ true
       all a b d h true x y z v = rw (x, y, z, v refl) refl

@@ -99,7 +99,7 @@ marks-utf8 version whole front p (b ∷ key) at (e ∷ es) is len seams u =
         let parts = seam-utf8 front p (b ∷ key) at len on u in
         IsUtf8-append p (mark_spelling version (Value e.value) ++ (byte_spelling (pattern_escapes version) b ++ flat_map (mark_spelling version) (marks_for (at + 1) key es))) parts.0
         (IsUtf8-append (mark_spelling version (Value e.value)) (byte_spelling (pattern_escapes version) b ++ flat_map (mark_spelling version) (marks_for (at + 1) key es)) (value-utf8 version e.value seams.1)
-         (step-utf8 (pattern_escapes version) [] b key (flat_map (mark_spelling version) (marks_for (at + 1) key es)) parts.1 taken))
+        (step-utf8 (pattern_escapes version) [] b key (flat_map (mark_spelling version) (marks_for (at + 1) key es)) parts.1 taken))
     by false t taken left = step-utf8 (pattern_escapes version) p b key (flat_map (mark_spelling version) (marks_for (at + 1) key (e ∷ es))) u left
 
 pub comma-utf8 : (n : ℕ) (rest : List ℕ) → n < 2 ^ 64 → IsUtf8 rest → IsUtf8 (before_comma n rest)

@@ -45,6 +45,7 @@ reads_byte es b rest ss h = by (eqb b 92) (eqb b 32) (eqb b 10) (eqb b 13) (esca
   where
     literal : (c m : ℕ) → meaning es c ≡ Some m → m ≡ b → SignFor es b (92 ∷ c ∷ rest) ss
     literal c m e is = record { sign = record { byte = m; escaped = true }; read = read_escaped es c m rest ss e h; byte = is; letter = refl }
+
     by : (t1 t2 t3 t4 t5 : Bool) → eqb b 92 ≡ t1 → eqb b 32 ≡ t2 → eqb b 10 ≡ t3 → eqb b 13 ≡ t4 → escaped_also es b ≡ t5
         → SignFor es b (cond t1 (92 ∷ 92 ∷ []) (cond t2 (92 ∷ 115 ∷ []) (cond t3 (92 ∷ 110 ∷ []) (cond t4 (92 ∷ 114 ∷ []) (cond t5 (92 ∷ b ∷ []) (b ∷ []))))) ++ rest) ss
     by true t2 t3 t4 t5 e1 e2 e3 e4 e5 = literal 92 92 refl (sym (eqb-true b 92 e1))
@@ -152,6 +153,7 @@ value_plain v h = (apart (48 + v) 92 (omega arith), sym_apart, both)
   where
     sym_apart : eqb (48 + v) 13 ≡ false
     sym_apart = grind (arith, nat_tests)
+
     both : is_digit (48 + v) ≡ true
     both = grind (arith, nat_tests)
 
@@ -197,7 +199,7 @@ reads_value version v rest ms le r = by version (nat_le v 9) refl le r
           signs = raw 123 ∷ (map raw (decimal v) ++ (raw 125 ∷ r.signs));
           read = read_plain DigitsAndBraces 123 ((decimal v ++ 125 ∷ []) ++ rest) (map raw (decimal v) ++ (raw 125 ∷ r.signs)) refl refl
               (ap (signs_behind DigitsAndBraces false) (append_assoc (decimal v) (125 ∷ []) rest)
-               ∙ digits-signs DigitsAndBraces (decimal v) (125 ∷ rest) (raw 125 ∷ r.signs) w.digits (read_plain DigitsAndBraces 125 rest r.signs refl refl r.read));
+              ∙ digits-signs DigitsAndBraces (decimal v) (125 ∷ rest) (raw 125 ∷ r.signs) w.digits (read_plain DigitsAndBraces 125 rest r.signs refl refl r.read));
           marks = one_more (Value v ∷ ms) (marks_from Second (Some []) (map raw (decimal v) ++ (raw 125 ∷ r.signs))) (value-inside [] (decimal v) v r.signs ms w.digits (braced-again v e le) r.marks);
         }
 
