@@ -3,21 +3,19 @@ use Rattle.std.proofs.Common.{◌≡◌, ℕ, suc, ◌+◌, ◌-◌, ◌*◌, �
 use Rattle.std.specs.Prelude.{decimal, IsUtf8}
 use Rattle.std.specs.List.{fold, list_all, AllByRecursion}
 use Rattle.std.proofs.lemmas.Fmt.{decimal_by_steps, IsAscii-decimal}
+use Rattle.std.proofs.lemmas.Bool.{and_from, le-leb}
 use Rattle.std.proofs.lemmas.Bool.Decides.{nat_tests}
 use Rattle.std.proofs.lemmas.Str.{IsUtf8-from_ascii}
 use Rattle.hyphenation_commons.specs.Lines.{is_digit, with_digit, number, has_no_idle_zero, is_number, small_of}
 use Rattle.hyphenation_commons.specs.Tokens.{braced}
 use Rattle.hyphenation_commons.proofs.Passed.{both_left, both_right}
 
-pub both : (a b : Bool) → a ≡ true → b ≡ true → (a && b) ≡ true
-both a b x y = rw (x, y) refl
-
 digit_is : (n : ℕ) → n < 10 → is_digit (48 + n) ≡ true
 digit_is n h = grind (arith, nat_tests)
 
 all_more : (ds : List ℕ) (d : ℕ) → list_all is_digit ds ≡ true → is_digit d ≡ true → list_all is_digit (ds ++ d ∷ []) ≡ true
-all_more [] d e h = both (is_digit d) true h refl
-all_more (b ∷ ds) d e h = both (is_digit b) (list_all is_digit (ds ++ d ∷ [])) (both_left (is_digit b) (list_all is_digit ds) e) (all_more ds d (both_right (is_digit b) (list_all is_digit ds) e) h)
+all_more [] d e h = and_from (is_digit d) true h refl
+all_more (b ∷ ds) d e h = and_from (is_digit b) (list_all is_digit (ds ++ d ∷ [])) (both_left (is_digit b) (list_all is_digit ds) e) (all_more ds d (both_right (is_digit b) (list_all is_digit ds) e) h)
 
 fold_more : (ds : List ℕ) (at d : ℕ) → fold with_digit at (ds ++ d ∷ []) ≡ with_digit (fold with_digit at ds) d
 fold_more [] at d = refl
@@ -30,7 +28,7 @@ pub record IsWritten (n : ℕ) (ds : List ℕ) : Type 0 where
   pub first : has_no_idle_zero ds ≡ true
 
 one : (n : ℕ) → n < 10 → IsWritten n ((48 + n) ∷ [])
-one n h = record { digits = both (is_digit (48 + n)) true (digit_is n h) refl; value = sums n; first = either (48 + n) }
+one n h = record { digits = and_from (is_digit (48 + n)) true (digit_is n h) refl; value = sums n; first = either (48 + n) }
   where
     sums : (n : ℕ) → 0 * 10 + ((48 + n) - 48) ≡ n
     sums n = omega arith
@@ -69,7 +67,7 @@ decimal-written n h = decimal_by_steps IsWritten one more n h
 pub decimal-number : (n : ℕ) → n < 2 ^ 64 → (is_number (decimal n) ≡ true) × (number (decimal n) ≡ n)
 decimal-number n h =
     let w = decimal-written n h in
-    (both (list_all is_digit (decimal n) && has_no_idle_zero (decimal n)) (nat_lt (number (decimal n)) (2 ^ 64)) (both (list_all is_digit (decimal n)) (has_no_idle_zero (decimal n)) w.digits w.first) (rw w.value (below n h)), w.value)
+    (and_from (list_all is_digit (decimal n) && has_no_idle_zero (decimal n)) (nat_lt (number (decimal n)) (2 ^ 64)) (and_from (list_all is_digit (decimal n)) (has_no_idle_zero (decimal n)) w.digits w.first) (rw w.value (below n h)), w.value)
   where
     below : (n : ℕ) → n < 2 ^ 64 → nat_lt n (2 ^ 64) ≡ true
     below n h = grind (arith, nat_tests)
@@ -89,10 +87,7 @@ wide n h = omega arith
 pub small-again : (n : ℕ) → n ≤ 255 → small_of (decimal n) ≡ Some n
 small-again n h =
     let d = decimal-number n (wide n h) in
-    ap (λ (t : Bool). cond {A = Option ℕ} t (Some (number (decimal n))) None) (both (is_number (decimal n)) (nat_le (number (decimal n)) 255) d.0 (ap (λ (k : ℕ). nat_le k 255) d.1 ∙ within n 255 h)) ∙ ap (λ (k : ℕ). Some k) d.1
-  where
-    within : (a b : ℕ) → a ≤ b → nat_le a b ≡ true
-    within a b le = grind (arith, nat_tests)
+    ap (λ (t : Bool). cond {A = Option ℕ} t (Some (number (decimal n))) None) (and_from (is_number (decimal n)) (nat_le (number (decimal n)) 255) d.0 (ap (λ (k : ℕ). nat_le k 255) d.1 ∙ le-leb n 255 h)) ∙ ap (λ (k : ℕ). Some k) d.1
 
 pub braced-again : (n : ℕ) → nat_le n 9 ≡ false → n ≤ 255 → braced (decimal n) ≡ Some n
 braced-again n big h = rw (small-again n h, from_ten n big) refl

@@ -6,7 +6,7 @@ use Rattle.std.specs.Ordering.{nat_cmp, eq_by_cmp}
 use Rattle.std.specs.Cmp.Lexicographic.{slice_cmp}
 use Rattle.std.specs.FinMap as finite
 use Rattle.std.specs.FinMap.{find, get-entries}
-use Rattle.std.proofs.lemmas.Bool.{leb-true}
+use Rattle.std.proofs.lemmas.Bool.{leb-true, and_from, le-leb}
 use Rattle.std.proofs.lemmas.Bool.Decides.{nat_tests}
 use Rattle.std.proofs.lemmas.List.Elements.{All-from_recursion, recursion_from_All}
 use Rattle.std.proofs.lemmas.List.Splits.{slice_split_at}
@@ -21,7 +21,6 @@ use Rattle.hyphenation_commons.specs.declared.grammar.form.Kind.TheVariants.{Sta
 use Rattle.hyphenation_commons.specs.declared.grammar.form.Version.{Version}
 use Rattle.hyphenation_commons.specs.declared.grammar.form.Version.TheVariants.{First, Second}
 use Rattle.hyphenation_commons.proofs.Accepted.{AllPairs, all-entries}
-use Rattle.hyphenation_commons.proofs.Decimals.{both}
 use Rattle.hyphenation_commons.proofs.Free.{Free}
 use Rattle.hyphenation_commons.proofs.Passed.{both_left, both_right}
 use Rattle.hyphenation_commons.proofs.ReadAgain.{head_feed, version-again}
@@ -62,7 +61,7 @@ found-passes {X} p q v (e ∷ es) all is = by (eq_by_cmp (slice_cmp nat_cmp) q e
 
 pairs-pass : {X : Type 0} (p : X → Bool) (es : List (List ℕ × X)) → AllPairs (λ q v. p v ≡ true) es → list_all (λ x. p x.1) es ≡ true
 pairs-pass p [] h = refl
-pairs-pass p (e ∷ es) h = both (p e.1) (list_all (λ x. p x.1) es) h.0 (pairs-pass p es h.1)
+pairs-pass p (e ∷ es) h = and_from (p e.1) (list_all (λ x. p x.1) es) h.0 (pairs-pass p es h.1)
 
 digits-each : {C : Type 0} (es : List (Entry C)) → are_digits es ≡ true → AllByRecursion (λ e. e.value ≤ 9) es
 digits-each [] h = tt
@@ -70,10 +69,7 @@ digits-each (e ∷ es) h = (leb-true e.value 9 (both_left (nat_le e.value 9) (ar
 
 each-digits : {C : Type 0} (es : List (Entry C)) → AllByRecursion (λ e. e.value ≤ 9) es → are_digits es ≡ true
 each-digits [] h = refl
-each-digits (e ∷ es) h = both (nat_le e.value 9) (are_digits es) (below e.value 9 h.0) (each-digits es h.1)
-  where
-    below : (a b : ℕ) → a ≤ b → nat_le a b ≡ true
-    below a b le = grind (arith, nat_tests)
+each-digits (e ∷ es) h = and_from (nat_le e.value 9) (are_digits es) (le-leb e.value 9 h.0) (each-digits es h.1)
 
 pub version-least : {C B : Type 0} (kind : Kind) (change_of : C → Option Change) (break_of : B → Break) (contents : Contents C B)
     → (get_or (lines_of (canonical_text_of kind change_of break_of contents)) 0 [] ≡ head_of kind First)

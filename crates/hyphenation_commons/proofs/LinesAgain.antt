@@ -7,7 +7,7 @@ use Rattle.std.proofs.lemmas.List.{append-nil}
 use Rattle.std.proofs.lemmas.List.Elements.{All-from_recursion}
 use Rattle.std.proofs.lemmas.List.Splits.{slice_split_at, slice_split_none}
 use Rattle.std.proofs.lemmas.Str.{IsUtf8-append, IsUtf8-nil, is_utf8-from_IsUtf8}
-use Rattle.std.proofs.lemmas.Bool.{leb-true}
+use Rattle.std.proofs.lemmas.Bool.{leb-true, and_from, and_left, le-leb, ltb-true, not-true}
 use Rattle.std.proofs.lemmas.Bool.Decides.{nat_tests}
 use Rattle.hyphenation_commons.specs.Break.{Break, Change, is_boundary, keeps_within}
 use Rattle.hyphenation_commons.specs.declared.grammar.form.Form.{Form}
@@ -25,7 +25,6 @@ use Rattle.hyphenation_commons.specs.declared.grammar.Cause.TheVariants.{NotUtf8
 use Rattle.hyphenation_commons.specs.declared.grammar.tokens.Mark.{Mark}
 use Rattle.hyphenation_commons.specs.declared.grammar.tokens.Mark.TheVariants.{Letter, Value}
 use Rattle.hyphenation_commons.proofs.AsciiSplits.{one_ascii}
-use Rattle.hyphenation_commons.proofs.Decimals.{both}
 use Rattle.hyphenation_commons.proofs.Free.{Free, space, feed, free-append, marks-free, text-free}
 use Rattle.hyphenation_commons.proofs.Passed.{both_left, both_right}
 use Rattle.hyphenation_commons.proofs.TokensAgain.{Tells, tells, is_allowed, good, text-again, token-some}
@@ -39,12 +38,6 @@ token_of b = break_token b.place b.change
 
 abbrev pub tokens_for : List Break → List (List ℕ)
 tokens_for bs = map token_of bs
-
-pub le_test : (a b : ℕ) → a ≤ b → nat_le a b ≡ true
-le_test a b h = grind (arith, nat_tests)
-
-lt_from : (a b : ℕ) → nat_lt a b ≡ true → a < b
-lt_from a b e = grind (arith, nat_tests)
 
 -- What a text of that kind can say as a break.
 abbrev pub is_sayable : Kind → Break → Bool
@@ -63,9 +56,9 @@ listed-sayable kind text least [] l w = refl
 listed-sayable kind text least (b ∷ bs) l w =
     let front = both_left (nat_le least b.place && is_boundary text b.place && lists_within text b.place b.change) (are_listed (λ b. b) text (b.place + 1) bs) l in
     let here = both_right (nat_le least b.place && is_boundary text b.place) (lists_within text b.place b.change) front in
-    both (is_sayable kind b) (list_all (is_sayable kind) bs)
-    (both (is_short b.place && is_said b.change) (is_allowed kind b.change)
-    (both (is_short b.place) (is_said b.change) (both_left (is_short b.place) (stays_within text b.place b.change) here) (said_of text b.place b.change (both_right (is_short b.place) (stays_within text b.place b.change) here)))
+    and_from (is_sayable kind b) (list_all (is_sayable kind) bs)
+    (and_from (is_short b.place && is_said b.change) (is_allowed kind b.change)
+    (and_from (is_short b.place) (is_said b.change) (both_left (is_short b.place) (stays_within text b.place b.change) here) (said_of text b.place b.change (both_right (is_short b.place) (stays_within text b.place b.change) here)))
     (both_left (is_allowed kind b.change) (are_allowed kind bs) w))
     (listed-sayable kind text (b.place + 1) bs (both_right (nat_le least b.place && is_boundary text b.place && lists_within text b.place b.change) (are_listed (λ b. b) text (b.place + 1) bs) l) (both_right (is_allowed kind b.change) (are_allowed kind bs) w))
 
@@ -89,11 +82,11 @@ module _ (form : Form) where
 
   pub readable_each : (bs : List Break) → list_all (is_sayable form.kind) bs ≡ true → list_all is_readable (tokens_for bs) ≡ true
   readable_each [] w = refl
-  readable_each (b ∷ bs) w = both (is_readable (token_of b)) (list_all is_readable (tokens_for bs)) (tell b (first_of b bs w)).readable (readable_each bs (rest_of b bs w))
+  readable_each (b ∷ bs) w = and_from (is_readable (token_of b)) (list_all is_readable (tokens_for bs)) (tell b (first_of b bs w)).readable (readable_each bs (rest_of b bs w))
 
   pub numbers_each : (bs : List Break) → list_all (is_sayable form.kind) bs ≡ true → list_all (λ token. list_all is_number (numerals_of token)) (tokens_for bs) ≡ true
   numbers_each [] w = refl
-  numbers_each (b ∷ bs) w = both (list_all is_number (numerals_of (token_of b))) (list_all (λ token. list_all is_number (numerals_of token)) (tokens_for bs)) (tell b (first_of b bs w)).numbers (numbers_each bs (rest_of b bs w))
+  numbers_each (b ∷ bs) w = and_from (list_all is_number (numerals_of (token_of b))) (list_all (λ token. list_all is_number (numerals_of token)) (tokens_for bs)) (tell b (first_of b bs w)).numbers (numbers_each bs (rest_of b bs w))
 
   pub listed_each : (bs : List Break) → list_all (is_sayable form.kind) bs ≡ true → map listed_of (tokens_for bs) ≡ bs
   listed_each [] w = refl
@@ -113,7 +106,7 @@ module _ (form : Form) where
       let at : place_of (token_of b) ≡ b.place = ap (λ (x : Break). x.place) (tell b (first_of b bs w)).listed in
       let front = both_left (nat_le least b.place && is_boundary text b.place && lists_within text b.place b.change) (are_listed (λ b. b) text (b.place + 1) bs) l in
       ap (λ (p : ℕ). nat_le least p && is_boundary text p && good_places text (p + 1) (tokens_for bs)) at
-      ∙ both (nat_le least b.place && is_boundary text b.place) (good_places text (b.place + 1) (tokens_for bs))
+      ∙ and_from (nat_le least b.place && is_boundary text b.place) (good_places text (b.place + 1) (tokens_for bs))
       (both_left (nat_le least b.place && is_boundary text b.place) (lists_within text b.place b.change) front)
       (places_each text (b.place + 1) bs (rest_of b bs w) (both_right (nat_le least b.place && is_boundary text b.place && lists_within text b.place b.change) (are_listed (λ b. b) text (b.place + 1) bs) l))
 
@@ -127,7 +120,7 @@ module _ (form : Form) where
   good_each in_pattern marks text least [] w l belong = refl
   good_each in_pattern marks text least (b ∷ bs) w l belong =
       let front = both_left (nat_le least b.place && is_boundary text b.place && lists_within text b.place b.change) (are_listed (λ b. b) text (b.place + 1) bs) l in
-      both (is_good form in_pattern marks text (token_of b)) (list_all (is_good form in_pattern marks text) (tokens_for bs))
+      and_from (is_good form in_pattern marks text (token_of b)) (list_all (is_good form in_pattern marks text) (tokens_for bs))
       (good form in_pattern marks text (token_of b) b.place b.change (tell b (first_of b bs w)) (both_right (is_short b.place && is_said b.change) (is_allowed form.kind b.change) (first_of b bs w))
       (both_right (is_short b.place) (stays_within text b.place b.change) (both_right (nat_le least b.place && is_boundary text b.place) (lists_within text b.place b.change) front)) (λ e. (belong e).0))
       (good_each in_pattern marks text (b.place + 1) bs (rest_of b bs w) (both_right (nat_le least b.place && is_boundary text b.place && lists_within text b.place b.change) (are_listed (λ b. b) text (b.place + 1) bs) l) (λ e. (belong e).1))
@@ -148,18 +141,15 @@ pub record Faultless (form : Form) (line : List ℕ) : Type 0 where
 pub skip : (p : Cause → Bool) (x : Cause) (xs : List Cause) → p x ≡ false → find p xs ≡ None → find p (x ∷ xs) ≡ None
 skip p x xs e h = ap (λ (t : Bool). cond t (Some x) (find p xs)) e ∙ h
 
-pub off_front : (a b : Bool) → a ≡ false → (a && b) ≡ false
-off_front a b e = ap (λ (t : Bool). t && b) e
-
 other : (n k : ℕ) → k < n → eqb n k ≡ false
 other n k h = grind (arith, nat_tests)
 
 pub own-none : (form : Form) (n : ℕ) (line : List ℕ) → 3 < n → Faultless form line → own_cause form n line ≡ None
 own-none form n line big f =
     skip (fails form n line) NotUtf8 (Header ∷ Language ∷ Minima ∷ UnknownLine ∷ Token ∷ BadValue ∷ Pattern ∷ NoLetters ∷ Number ∷ Place ∷ BadChange ∷ []) (ap not f.utf8)
-    (skip (fails form n line) Header (Language ∷ Minima ∷ UnknownLine ∷ Token ∷ BadValue ∷ Pattern ∷ NoLetters ∷ Number ∷ Place ∷ BadChange ∷ []) (off_front (eqb n 1) _ (other n 1 (omega arith)))
-    (skip (fails form n line) Language (Minima ∷ UnknownLine ∷ Token ∷ BadValue ∷ Pattern ∷ NoLetters ∷ Number ∷ Place ∷ BadChange ∷ []) (off_front (eqb n 2) _ (other n 2 (omega arith)))
-    (skip (fails form n line) Minima (UnknownLine ∷ Token ∷ BadValue ∷ Pattern ∷ NoLetters ∷ Number ∷ Place ∷ BadChange ∷ []) (off_front (eqb n 3) _ (other n 3 (omega arith)))
+    (skip (fails form n line) Header (Language ∷ Minima ∷ UnknownLine ∷ Token ∷ BadValue ∷ Pattern ∷ NoLetters ∷ Number ∷ Place ∷ BadChange ∷ []) (and_left (eqb n 1) _ (other n 1 (omega arith)))
+    (skip (fails form n line) Language (Minima ∷ UnknownLine ∷ Token ∷ BadValue ∷ Pattern ∷ NoLetters ∷ Number ∷ Place ∷ BadChange ∷ []) (and_left (eqb n 2) _ (other n 2 (omega arith)))
+    (skip (fails form n line) Minima (UnknownLine ∷ Token ∷ BadValue ∷ Pattern ∷ NoLetters ∷ Number ∷ Place ∷ BadChange ∷ []) (and_left (eqb n 3) _ (other n 3 (omega arith)))
     (skip (fails form n line) UnknownLine (Token ∷ BadValue ∷ Pattern ∷ NoLetters ∷ Number ∷ Place ∷ BadChange ∷ []) (ap (λ (k : Bool). nat_lt 3 n && not k) f.known ∙ off_back (nat_lt 3 n))
     (skip (fails form n line) Token (BadValue ∷ Pattern ∷ NoLetters ∷ Number ∷ Place ∷ BadChange ∷ []) f.token
     (skip (fails form n line) BadValue (Pattern ∷ NoLetters ∷ Number ∷ Place ∷ BadChange ∷ []) f.value
@@ -193,7 +183,7 @@ module _ (form : Form) (word : List ℕ) (bs : List Break) (u : IsUtf8 word) (al
         utf8 = is_utf8-from_IsUtf8 (exception_line word bs) (IsUtf8-append (101 ∷ 32 ∷ []) (text_token word ++ later_tokens bs) (IsUtf8-append (101 ∷ []) (32 ∷ []) (one_ascii 101 (omega arith)) (one_ascii 32 (omega arith))) (IsUtf8-append (text_token word) (later_tokens bs) (token-utf8 word u) (utf8_each form bs w)));
         known = known_by (eqb (length (exception_line word bs)) 0);
         token = ap (λ (ts : List (List ℕ)). not ((nat_lt 0 (length (get_or ts 0 [])) && is_some (text_of (get_or ts 0 []))) && list_all is_readable (drop 1 ts))) e_toks
-            ∙ ap not (both (nat_lt 0 (length (text_token word)) && is_some (text_of (text_token word))) (list_all is_readable (tokens_for bs)) (both (nat_lt 0 (length (text_token word))) (is_some (text_of (text_token word))) (token-some word) (ap is_some t)) (readable_each form bs w));
+            ∙ ap not (and_from (nat_lt 0 (length (text_token word)) && is_some (text_of (text_token word))) (list_all is_readable (tokens_for bs)) (and_from (nat_lt 0 (length (text_token word))) (is_some (text_of (text_token word))) (token-some word) (ap is_some t)) (readable_each form bs w));
         value = refl;
         pattern = refl;
         letters = refl;
@@ -237,7 +227,7 @@ ascend : (key : List ℕ) (least : ℕ) (es : List (Entry (Option Change))) → 
 ascend key least [] a = tt
 ascend key least (e ∷ es) a =
     let t = entry_tests key least e es a in
-    (leb-true least e.place t.0, leb-true e.place (length key) (both_left (nat_le e.place (length key)) _ t.1), lt_from 0 e.value (both_left (nat_lt 0 e.value) (nat_le e.value 255) t.2), ascend key (e.place + 1) es t.4)
+    (leb-true least e.place t.0, leb-true e.place (length key) (both_left (nat_le e.place (length key)) _ t.1), ltb-true 0 e.value (both_left (nat_lt 0 e.value) (nat_le e.value 255) t.2), ascend key (e.place + 1) es t.4)
 
 seams : (version : Version) (key : List ℕ) (least : ℕ) (es : List (Entry (Option Change))) → are_entries (λ c. c) key least es ≡ true → are_small version es ≡ true → AllSeams version key es
 seams version key least [] a v = tt
@@ -251,7 +241,7 @@ changes-allowed kind (e ∷ es) w = by e.change (both_left (is_allowed kind e.ch
   where
     by : (o : Option Change) → is_allowed kind o ≡ true → are_allowed kind (changes_of es) ≡ true → are_allowed kind (with_change e.place o (changes_of es)) ≡ true
     by None h more = more
-    by (Some c) h more = both (is_allowed kind (Some c)) (are_allowed kind (changes_of es)) h more
+    by (Some c) h more = and_from (is_allowed kind (Some c)) (are_allowed kind (changes_of es)) h more
 
 pub all-values : (version : Version) (whole : List ℕ) (at : ℕ) (key : List ℕ) (es : List (Entry (Option Change))) → AllSeams version whole es → AllValues version (marks_for at key es)
 all-values version whole at [] [] s = tt
@@ -280,15 +270,15 @@ changes-listed key least at [] le a = refl
 changes-listed key least at (e ∷ es) le a =
     let t = entry_tests key least e es a in
     let near : least ≤ e.place = leb-true least e.place t.0 in
-    by e.place e.change (le_test at e.place (omega arith)) t.1 t.3 (changes-listed key (e.place + 1) at es (omega arith) t.4) (changes-listed key (e.place + 1) (e.place + 1) es (omega arith) t.4)
+    by e.place e.change (le-leb at e.place (omega arith)) t.1 t.3 (changes-listed key (e.place + 1) at es (omega arith) t.4) (changes-listed key (e.place + 1) (e.place + 1) es (omega arith) t.4)
   where
     by : (p : ℕ) (o : Option Change) → nat_le at p ≡ true → is_boundary key p ≡ true → stays_within key p o ≡ true → are_listed (λ b. b) key at (changes_of es) ≡ true → are_listed (λ b. b) key (p + 1) (changes_of es) ≡ true
         → are_listed (λ b. b) key at (with_change p o (changes_of es)) ≡ true
     by p None h k s more next = more
     by p (Some c) h k s more next =
         let short = both_left (is_short p) (can_be_said c) (both_left (is_short p && can_be_said c) (keeps_within key p c) s) in
-        both (nat_le at p && is_boundary key p && lists_within key p (Some c)) (are_listed (λ b. b) key (p + 1) (changes_of es))
-        (both (nat_le at p && is_boundary key p) (lists_within key p (Some c)) (both (nat_le at p) (is_boundary key p) h k) (both (is_short p) (stays_within key p (Some c)) short s)) next
+        and_from (nat_le at p && is_boundary key p && lists_within key p (Some c)) (are_listed (λ b. b) key (p + 1) (changes_of es))
+        (and_from (nat_le at p && is_boundary key p) (lists_within key p (Some c)) (and_from (nat_le at p) (is_boundary key p) h k) (and_from (is_short p) (stays_within key p (Some c)) short s)) next
 
 -- each of them belongs to a value
 one_is : (p : ℕ) → eqb p p ≡ true
@@ -360,10 +350,6 @@ some_byte version (b ∷ token) ms key m k letter = above (length token)
     above : (n : ℕ) → nat_lt 0 (suc n) ≡ true
     above n = grind (arith, nat_tests)
 
-not_off : (b : Bool) → not b ≡ true → b ≡ false
-not_off true e = absurd cc
-not_off false e = refl
-
 module _ (form : Form) (whole : List ℕ) (es : List (Entry (Option Change))) (u : IsUtf8 whole) (letter : has_letter whole ≡ true) (v : are_small form.version es ≡ true) (w : have_allowed form.kind es ≡ true) (a : are_entries (λ c. c) whole 0 es ≡ true) where
   abbrev the_marks : List Mark
   the_marks = marks_for 0 whole es
@@ -408,10 +394,10 @@ module _ (form : Form) (whole : List ℕ) (es : List (Entry (Option Change))) (u
         utf8 = is_utf8-from_IsUtf8 (pattern_line form.version whole es) (IsUtf8-append (112 ∷ 32 ∷ []) (first ++ later_tokens the_breaks) (IsUtf8-append (112 ∷ []) (32 ∷ []) (one_ascii 112 (omega arith)) (one_ascii 32 (omega arith))) (IsUtf8-append first (later_tokens the_breaks) (marks-utf8 form.version whole [] [] whole 0 es refl refl p_seams u) (utf8_each form the_breaks p_writable)));
         known = known_by (eqb (length (pattern_line form.version whole es)) 0);
         token = ap (λ (ts : List (List ℕ)). not ((nat_lt 0 (length (get_or ts 0 [])) && is_some (pattern_signs form.version (get_or ts 0 []))) && list_all is_readable (drop 1 ts))) p_toks
-            ∙ ap not (both (nat_lt 0 (length first) && is_some (pattern_signs form.version first)) (list_all is_readable (tokens_for the_breaks)) (both (nat_lt 0 (length first)) (is_some (pattern_signs form.version first)) (some_byte form.version first the_marks whole p_marks p_key letter) (signs-again form.version the_marks p_spelt)) (readable_each form the_breaks p_writable));
+            ∙ ap not (and_from (nat_lt 0 (length first) && is_some (pattern_signs form.version first)) (list_all is_readable (tokens_for the_breaks)) (and_from (nat_lt 0 (length first)) (is_some (pattern_signs form.version first)) (some_byte form.version first the_marks whole p_marks p_key letter) (signs-again form.version the_marks p_spelt)) (readable_each form the_breaks p_writable));
         value = ap (λ (ts : List (List ℕ)). is_none (marks_of form.version (get_or ts 0 []))) p_toks ∙ ap is_none p_marks;
         pattern = ap (λ (ts : List (List ℕ)). two_values false (read_marks (get_or ts 0 []))) p_toks ∙ ap (λ (o : Option (List Mark)). two_values false (unwrap_or o [])) p_marks ∙ no_two 0 whole es;
-        letters = ap (λ (ts : List (List ℕ)). list_all (λ b. b == 46) (key_of (read_marks (get_or ts 0 [])))) p_toks ∙ ap (λ (o : Option (List Mark)). list_all (λ b. b == 46) (key_of (unwrap_or o []))) p_marks ∙ ap (list_all (λ b. b == 46)) p_key ∙ not_off (list_all (λ b. b == 46) whole) letter;
+        letters = ap (λ (ts : List (List ℕ)). list_all (λ b. b == 46) (key_of (read_marks (get_or ts 0 [])))) p_toks ∙ ap (λ (o : Option (List Mark)). list_all (λ b. b == 46) (key_of (unwrap_or o []))) p_marks ∙ ap (list_all (λ b. b == 46)) p_key ∙ not-true (list_all (λ b. b == 46) whole) letter;
         number = ap (λ (ts : List (List ℕ)). not (list_all (λ token. list_all is_number (numerals_of token)) (drop 1 ts))) p_toks ∙ ap not (numbers_each form the_breaks p_writable);
         place = ap (λ (ts : List (List ℕ)). not (good_places (key_of (read_marks (get_or ts 0 []))) 0 (drop 1 ts))) p_toks
             ∙ ap (λ (o : Option (List Mark)). not (good_places (key_of (unwrap_or o [])) 0 (tokens_for the_breaks))) p_marks

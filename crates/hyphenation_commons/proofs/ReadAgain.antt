@@ -10,6 +10,7 @@ use Rattle.std.proofs.lemmas.List.{append-nil}
 use Rattle.std.proofs.lemmas.List.Elements.{All-from_recursion}
 use Rattle.std.proofs.lemmas.List.Splits.{slice_split_at, slice_split_none}
 use Rattle.std.proofs.lemmas.Str.{IsUtf8-append, is_utf8-from_IsUtf8, IsUtf8-from_is_utf8}
+use Rattle.std.proofs.lemmas.Bool.{and_from, not-true}
 use Rattle.std.proofs.lemmas.Bool.Decides.{nat_tests}
 use Rattle.hyphenation_commons.specs.Break.{Break, Change, is_boundary}
 use Rattle.hyphenation_commons.specs.Dictionary.{Contents}
@@ -32,7 +33,7 @@ use Rattle.hyphenation_commons.specs.declared.grammar.form.Version.TheVariants.{
 use Rattle.hyphenation_commons.proofs.Accepted.{AllPairs, all-entries, all-tested, all-both, passes_line, enough, Fine, AllNew, AllSilent, chain, all-new, Again, AllQuiet, gathered_again}
 use Rattle.hyphenation_commons.proofs.AsciiSplits.{one_ascii}
 use Rattle.hyphenation_commons.proofs.Codes.{is_code-utf8}
-use Rattle.hyphenation_commons.proofs.Decimals.{both, decimal-utf8, wide, small-again}
+use Rattle.hyphenation_commons.proofs.Decimals.{decimal-utf8, wide, small-again}
 use Rattle.hyphenation_commons.proofs.Free.{Free, free-append, digits-free}
 use Rattle.hyphenation_commons.proofs.LinesAgain.{Faultless, own-none, skip, are_small, have_allowed, are_allowed, pattern-faultless, pattern-spelt, pattern-feed, exception-faultless, exception-spelt, exception-feed}
 use Rattle.hyphenation_commons.proofs.Passed.{both_left, both_right}
@@ -76,11 +77,7 @@ head_word Extended Second = refl
 -- a text of which each byte is another one
 free-test : (c : ℕ) (text : List ℕ) → list_all (λ b. not (eqb b c)) text ≡ true → Free c text
 free-test c [] e = tt
-free-test c (b ∷ text) e = (off (eqb b c) (both_left (not (eqb b c)) (list_all (λ x. not (eqb x c)) text) e), free-test c text (both_right (not (eqb b c)) (list_all (λ x. not (eqb x c)) text) e))
-  where
-    off : (t : Bool) → not t ≡ true → t ≡ false
-    off true h = absurd cc
-    off false h = refl
+free-test c (b ∷ text) e = (not-true (eqb b c) (both_left (not (eqb b c)) (list_all (λ x. not (eqb x c)) text) e), free-test c text (both_right (not (eqb b c)) (list_all (λ x. not (eqb x c)) text) e))
 
 pub head_feed : (k : Kind) (v : Version) → Free 10 (head_of k v)
 head_feed Standard First = free-test 10 (head_of Standard First) refl
@@ -158,12 +155,12 @@ values-small change_of q least (e ∷ es) a =
     let rest = are_entries change_of q (e.place + 1) es in
     let front = both_left (nat_le least e.place && is_boundary q e.place && is_value e.value && stays_within q e.place (change_of e.change)) rest a in
     let value = both_right (nat_le least e.place && is_boundary q e.place) (is_value e.value) (both_left (nat_le least e.place && is_boundary q e.place && is_value e.value) (stays_within q e.place (change_of e.change)) front) in
-    both (nat_le e.value 255) (are_small Second (map (entry_of change_of) es)) (both_right (nat_lt 0 e.value) (nat_le e.value 255) value)
+    and_from (nat_le e.value 255) (are_small Second (map (entry_of change_of) es)) (both_right (nat_lt 0 e.value) (nat_le e.value 255) value)
     (values-small change_of q (e.place + 1) es (both_right (nat_le least e.place && is_boundary q e.place && is_value e.value && stays_within q e.place (change_of e.change)) rest a))
 
 digits-small : {C : Type 0} (change_of : C → Option Change) (es : List (Entry C)) → are_digits es ≡ true → are_small First (map (entry_of change_of) es) ≡ true
 digits-small change_of [] e = refl
-digits-small change_of (x ∷ es) e = both (nat_le x.value 9) (are_small First (map (entry_of change_of) es)) (both_left (nat_le x.value 9) (are_digits es) e) (digits-small change_of es (both_right (nat_le x.value 9) (are_digits es) e))
+digits-small change_of (x ∷ es) e = and_from (nat_le x.value 9) (are_small First (map (entry_of change_of) es)) (both_left (nat_le x.value 9) (are_digits es) e) (digits-small change_of es (both_right (nat_le x.value 9) (are_digits es) e))
 
 -- ---- The dictionary.
 
@@ -207,11 +204,11 @@ module _ {C B : Type 0} (kind : Kind) (carries : Option Change → C) (lists : B
   -- a standard dictionary holds no change
   entries-allowed : (es : List (Entry C)) → have_allowed kind (map (entry_of change_of) es) ≡ true
   entries-allowed [] = refl
-  entries-allowed (e ∷ es) = both (is_allowed kind (change_of e.change)) (have_allowed kind (map (entry_of change_of) es)) (one_allowed kind (change_of e.change) (λ is. exact.no_change is e.change)) (entries-allowed es)
+  entries-allowed (e ∷ es) = and_from (is_allowed kind (change_of e.change)) (have_allowed kind (map (entry_of change_of) es)) (one_allowed kind (change_of e.change) (λ is. exact.no_change is e.change)) (entries-allowed es)
 
   listed-allowed : (bs : List B) → are_allowed kind (map break_of bs) ≡ true
   listed-allowed [] = refl
-  listed-allowed (b ∷ bs) = both (is_allowed kind (break_of b).change) (are_allowed kind (map break_of bs)) (one_allowed kind (break_of b).change (λ is. exact.no_listed_change is b)) (listed-allowed bs)
+  listed-allowed (b ∷ bs) = and_from (is_allowed kind (break_of b).change) (are_allowed kind (map break_of bs)) (one_allowed kind (break_of b).change (λ is. exact.no_listed_change is b)) (listed-allowed bs)
 
   -- the version says each value
   keys_kept : AllPairs (IsPattern change_of) (finite.entries contents.patterns)

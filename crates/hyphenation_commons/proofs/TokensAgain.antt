@@ -7,6 +7,7 @@ use Rattle.std.specs.Str.{is_utf8}
 use Rattle.std.proofs.lemmas.Fmt.{decimal_nonempty}
 use Rattle.std.proofs.lemmas.List.{append-nil}
 use Rattle.std.proofs.lemmas.Str.{IsUtf8-from_is_utf8}
+use Rattle.std.proofs.lemmas.Bool.{and_from}
 use Rattle.std.proofs.lemmas.Bool.Decides.{nat_tests}
 use Rattle.hyphenation_commons.specs.Break.{Break, Change, keeps_within}
 use Rattle.hyphenation_commons.specs.declared.grammar.form.Form.{Form}
@@ -19,7 +20,7 @@ use Rattle.hyphenation_commons.specs.Tokens.{signs_of, text_of, parts_within, pa
 use Rattle.hyphenation_commons.specs.Canonical.{byte_spelling, text_token, before_comma, break_token}
 use Rattle.hyphenation_commons.specs.declared.grammar.tokens.Escapes.TheVariants.{Plain}
 use Rattle.hyphenation_commons.specs.declared.grammar.tokens.Mark.{Mark}
-use Rattle.hyphenation_commons.proofs.Decimals.{decimal-written, decimal-number, decimal-utf8, both}
+use Rattle.hyphenation_commons.proofs.Decimals.{decimal-written, decimal-number, decimal-utf8}
 use Rattle.hyphenation_commons.proofs.Free.{Free, IsGap, digits-free, comma-free, text-free, number-free}
 use Rattle.hyphenation_commons.proofs.Parts.{none_left}
 use Rattle.hyphenation_commons.proofs.Passed.{both_left, both_right}
@@ -115,11 +116,11 @@ tells_place place h =
     let e = whole_again 4 (decimal place) (digits-free 44 place (omega arith) h) in
     let n = decimal-number place h in
     record {
-      readable = both (nat_lt 0 (length (decimal place)) && list_all (λ w. is_some (signs_of Plain w)) (take 4 (parts_of (decimal place)))) (list_all (λ w. is_some (text_of w)) (drop 4 (parts_of (decimal place))))
-          (both (nat_lt 0 (length (decimal place))) (list_all (λ w. is_some (signs_of Plain w)) (take 4 (parts_of (decimal place)))) (short place h)
-          (ap (λ (ps : List (List ℕ)). list_all (λ w. is_some (signs_of Plain w)) (take 4 ps)) e ∙ both (is_some (signs_of Plain (decimal place))) true (number-signs place h) refl))
+      readable = and_from (nat_lt 0 (length (decimal place)) && list_all (λ w. is_some (signs_of Plain w)) (take 4 (parts_of (decimal place)))) (list_all (λ w. is_some (text_of w)) (drop 4 (parts_of (decimal place))))
+          (and_from (nat_lt 0 (length (decimal place))) (list_all (λ w. is_some (signs_of Plain w)) (take 4 (parts_of (decimal place)))) (short place h)
+          (ap (λ (ps : List (List ℕ)). list_all (λ w. is_some (signs_of Plain w)) (take 4 ps)) e ∙ and_from (is_some (signs_of Plain (decimal place))) true (number-signs place h) refl))
           (ap (λ (ps : List (List ℕ)). list_all (λ w. is_some (text_of w)) (drop 4 ps)) e);
-      numbers = ap (λ (ps : List (List ℕ)). list_all is_number (cond (nat_lt 1 (length ps)) (take (length ps - 1) ps) ps)) e ∙ both (is_number (decimal place)) true n.0 refl;
+      numbers = ap (λ (ps : List (List ℕ)). list_all is_number (cond (nat_lt 1 (length ps)) (take (length ps - 1) ps) ps)) e ∙ and_from (is_number (decimal place)) true n.0 refl;
       listed = ap (λ (ps : List (List ℕ)). record { place = number (get_or ps 0 []); change = cond {A = Option Change} (nat_lt 1 (length ps)) (Some (change_of (decimal place))) None }) e ∙ (λ i. record { place = n.1 i; change = None });
       comma = ap (λ (ps : List (List ℕ)). nat_lt 1 (length ps)) e;
       whole = λ some. absurd cc;
@@ -146,11 +147,11 @@ tells_change place c hp hl hr hk u =
     let nk = decimal-number c.breakpoint hk in
     let t = text-again c.substitution in
     record {
-      readable = both (nat_lt 0 (length token) && list_all (λ w. is_some (signs_of Plain w)) (take 4 (parts_of token))) (list_all (λ w. is_some (text_of w)) (drop 4 (parts_of token)))
-          (both (nat_lt 0 (length token)) (list_all (λ w. is_some (signs_of Plain w)) (take 4 (parts_of token))) (long place (before_comma c.left (before_comma c.right (before_comma c.breakpoint s))) hp)
+      readable = and_from (nat_lt 0 (length token) && list_all (λ w. is_some (signs_of Plain w)) (take 4 (parts_of token))) (list_all (λ w. is_some (text_of w)) (drop 4 (parts_of token)))
+          (and_from (nat_lt 0 (length token)) (list_all (λ w. is_some (signs_of Plain w)) (take 4 (parts_of token))) (long place (before_comma c.left (before_comma c.right (before_comma c.breakpoint s))) hp)
           (ap (λ (ps : List (List ℕ)). list_all (λ w. is_some (signs_of Plain w)) (take 4 ps)) e
           ∙ four (is_some (signs_of Plain d)) (is_some (signs_of Plain l)) (is_some (signs_of Plain r)) (is_some (signs_of Plain k)) (number-signs place hp) (number-signs c.left hl) (number-signs c.right hr) (number-signs c.breakpoint hk)))
-          (ap (λ (ps : List (List ℕ)). list_all (λ w. is_some (text_of w)) (drop 4 ps)) e ∙ both (is_some (text_of s)) true (ap is_some t) refl);
+          (ap (λ (ps : List (List ℕ)). list_all (λ w. is_some (text_of w)) (drop 4 ps)) e ∙ and_from (is_some (text_of s)) true (ap is_some t) refl);
       numbers = ap (λ (ps : List (List ℕ)). list_all is_number (cond (nat_lt 1 (length ps)) (take (length ps - 1) ps) ps)) e
           ∙ four (is_number d) (is_number l) (is_number r) (is_number k) np.0 nl.0 nr.0 nk.0;
       listed = ap (λ (ps : List (List ℕ)). record { place = number (get_or ps 0 []); change = cond {A = Option Change} (nat_lt 1 (length ps)) (Some (record { left = number (get_or ps 1 []); right = number (get_or ps 2 []); substitution = unwrap_or (text_of (get_or ps 4 [])) []; breakpoint = number (get_or ps 3 []) })) None }) e
