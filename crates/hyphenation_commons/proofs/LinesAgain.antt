@@ -1,13 +1,13 @@
 -- A line that is spelt passes its tests, and spells again what it was spelt of.
 use Rattle.std.proofs.Common.{◌≡◌, ℕ, suc, ◌+◌, ◌<◌, ◌≤◌, Bool, true, false, cond, not, ◌&&◌, ◌||◌, ◌==◌, eqb, nat_le, nat_lt, List, [], ◌∷◌, ◌++◌, length, drop, map, get_or, Option, Some, None, is_some, is_none, unwrap_or, refl, ap, ◌∙◌, arith}
 use Rattle.std.specs.Prelude.{IsUtf8}
-use Rattle.std.specs.List.{find, list_all, list_any, slice_split}
+use Rattle.std.specs.List.{find, list_all, list_any, slice_split, AllByRecursion}
 use Rattle.std.specs.Str.{is_utf8}
 use Rattle.std.proofs.lemmas.List.{append-nil}
 use Rattle.std.proofs.lemmas.List.Elements.{All-from_recursion}
 use Rattle.std.proofs.lemmas.List.Splits.{slice_split_at, slice_split_none}
 use Rattle.std.proofs.lemmas.Str.{IsUtf8-append, IsUtf8-nil, is_utf8-from_IsUtf8}
-use Rattle.std.proofs.lemmas.Bool.{leb-true, and_from, and_left, le-leb, ltb-true, not-true}
+use Rattle.std.proofs.lemmas.Bool.{leb-true, and_from, and_left, and_right, le-leb, ltb-true, not-true, or_left, or_right}
 use Rattle.std.proofs.lemmas.Bool.Decides.{nat_tests}
 use Rattle.hyphenation_commons.specs.Break.{Break, Change, is_boundary, keeps_within}
 use Rattle.hyphenation_commons.specs.declared.grammar.form.Form.{Form}
@@ -138,30 +138,32 @@ pub record Faultless (form : Form) (line : List ℕ) : Type 0 where
   pub place : fails form 4 line Place ≡ false
   pub change : fails form 4 line BadChange ≡ false
 
-pub skip : (p : Cause → Bool) (x : Cause) (xs : List Cause) → p x ≡ false → find p xs ≡ None → find p (x ∷ xs) ≡ None
-skip p x xs e h = ap (λ (t : Bool). cond t (Some x) (find p xs)) e ∙ h
+-- The tests of a line by itself, and that it passes them where it fails none.
+abbrev pub own_tests : List Cause
+own_tests = NotUtf8 ∷ Header ∷ Language ∷ Minima ∷ UnknownLine ∷ Token ∷ BadValue ∷ Pattern ∷ NoLetters ∷ Number ∷ Place ∷ BadChange ∷ []
+
+pub none-found : (p : Cause → Bool) (xs : List Cause) → AllByRecursion (λ x. p x ≡ false) xs → find p xs ≡ None
+none-found p [] h = refl
+none-found p (x ∷ xs) h = ap (λ (t : Bool). cond t (Some x) (find p xs)) h.0 ∙ none-found p xs h.1
 
 other : (n k : ℕ) → k < n → eqb n k ≡ false
 other n k h = grind (arith, nat_tests)
 
 pub own-none : (form : Form) (n : ℕ) (line : List ℕ) → 3 < n → Faultless form line → own_cause form n line ≡ None
 own-none form n line big f =
-    skip (fails form n line) NotUtf8 (Header ∷ Language ∷ Minima ∷ UnknownLine ∷ Token ∷ BadValue ∷ Pattern ∷ NoLetters ∷ Number ∷ Place ∷ BadChange ∷ []) (ap not f.utf8)
-    (skip (fails form n line) Header (Language ∷ Minima ∷ UnknownLine ∷ Token ∷ BadValue ∷ Pattern ∷ NoLetters ∷ Number ∷ Place ∷ BadChange ∷ []) (and_left (eqb n 1) _ (other n 1 (omega arith)))
-    (skip (fails form n line) Language (Minima ∷ UnknownLine ∷ Token ∷ BadValue ∷ Pattern ∷ NoLetters ∷ Number ∷ Place ∷ BadChange ∷ []) (and_left (eqb n 2) _ (other n 2 (omega arith)))
-    (skip (fails form n line) Minima (UnknownLine ∷ Token ∷ BadValue ∷ Pattern ∷ NoLetters ∷ Number ∷ Place ∷ BadChange ∷ []) (and_left (eqb n 3) _ (other n 3 (omega arith)))
-    (skip (fails form n line) UnknownLine (Token ∷ BadValue ∷ Pattern ∷ NoLetters ∷ Number ∷ Place ∷ BadChange ∷ []) (ap (λ (k : Bool). nat_lt 3 n && not k) f.known ∙ off_back (nat_lt 3 n))
-    (skip (fails form n line) Token (BadValue ∷ Pattern ∷ NoLetters ∷ Number ∷ Place ∷ BadChange ∷ []) f.token
-    (skip (fails form n line) BadValue (Pattern ∷ NoLetters ∷ Number ∷ Place ∷ BadChange ∷ []) f.value
-    (skip (fails form n line) Pattern (NoLetters ∷ Number ∷ Place ∷ BadChange ∷ []) f.pattern
-    (skip (fails form n line) NoLetters (Number ∷ Place ∷ BadChange ∷ []) f.letters
-    (skip (fails form n line) Number (Place ∷ BadChange ∷ []) f.number
-    (skip (fails form n line) Place (BadChange ∷ []) f.place
-    (skip (fails form n line) BadChange [] f.change refl)))))))))))
-  where
-    off_back : (t : Bool) → (t && false) ≡ false
-    off_back true = refl
-    off_back false = refl
+    none-found (fails form n line) own_tests (
+      ap not f.utf8,
+      (
+        and_left (eqb n 1) _ (other n 1 (omega arith)),
+        (
+          and_left (eqb n 2) _ (other n 2 (omega arith)),
+          (
+            and_left (eqb n 3) _ (other n 3 (omega arith)),
+            (ap (λ (k : Bool). nat_lt 3 n && not k) f.known ∙ and_right (nat_lt 3 n) false refl, (f.token, (f.value, (f.pattern, (f.letters, (f.number, (f.place, (f.change, tt)))))))),
+          ),
+        ),
+      ),
+    )
 
 known_by : (t : Bool) → (t || false || true) ≡ true
 known_by true = refl
@@ -286,19 +288,11 @@ one_is p = grind (arith, nat_tests)
 
 changes-belong : (form : Form) (marks : List Mark) (es : List (Entry (Option Change))) → ((p : ℕ) → list_any (λ v. eqb v.0 p) (pairs es) ≡ true → has_value_at marks p ≡ true) → AllBelong form marks (changes_of es)
 changes-belong form marks [] f = tt
-changes-belong form marks (e ∷ es) f = by e.change (changes-belong form marks es (λ p h. f p (either (eqb e.place p) (list_any (λ v. eqb v.0 p) (pairs es)) h)))
+changes-belong form marks (e ∷ es) f = by e.change (changes-belong form marks es (λ p h. f p (or_right (eqb e.place p) (list_any (λ v. eqb v.0 p) (pairs es)) h)))
   where
-    either : (a b : Bool) → b ≡ true → (a || b) ≡ true
-    either true b h = refl
-    either false b h = h
-
-    here : (a b : Bool) → a ≡ true → (a || b) ≡ true
-    here true b h = refl
-    here false b h = absurd cc
-
     by : (o : Option Change) → AllBelong form marks (changes_of es) → AllBelong form marks (with_change e.place o (changes_of es))
     by None h = h
-    by (Some c) h = ((refl, f e.place (here (eqb e.place e.place) (list_any (λ v. eqb v.0 e.place) (pairs es)) (one_is e.place))), h)
+    by (Some c) h = ((refl, f e.place (or_left (eqb e.place e.place) (list_any (λ v. eqb v.0 e.place) (pairs es)) (one_is e.place))), h)
 
 -- the change at a place below all others, and at that of an entry
 none_at : (key : List ℕ) (least p : ℕ) (es : List (Entry (Option Change))) → p < least → are_entries (λ c. c) key least es ≡ true → change_at p (changes_of es) ≡ None

@@ -24,7 +24,7 @@ use Rattle.hyphenation_commons.specs.Reading.{gathered, told, entry_as, contents
 use Rattle.hyphenation_commons.specs.Canonical.{entry_of, pattern_line, exception_line, minima_line, language_line, canonical_lines, canonical_text_of, are_digits, version_for, HoldsExactly}
 use Rattle.hyphenation_commons.specs.declared.dictionary.Entry.{Entry}
 use Rattle.hyphenation_commons.specs.declared.grammar.Cause.{Cause}
-use Rattle.hyphenation_commons.specs.declared.grammar.Cause.TheVariants.{NotUtf8, Header, Language, Minima, UnknownLine, Token, Value as BadValue, Pattern, NoLetters, Number, Place, Change as BadChange, RepeatedPattern, RepeatedException}
+use Rattle.hyphenation_commons.specs.declared.grammar.Cause.TheVariants.{RepeatedPattern, RepeatedException}
 use Rattle.hyphenation_commons.specs.declared.grammar.form.Form.{Form}
 use Rattle.hyphenation_commons.specs.declared.grammar.form.Kind.{Kind}
 use Rattle.hyphenation_commons.specs.declared.grammar.form.Kind.TheVariants.{Standard, Extended}
@@ -35,7 +35,7 @@ use Rattle.hyphenation_commons.proofs.AsciiSplits.{one_ascii}
 use Rattle.hyphenation_commons.proofs.Codes.{is_code-utf8}
 use Rattle.hyphenation_commons.proofs.Decimals.{decimal-utf8, wide, small-again}
 use Rattle.hyphenation_commons.proofs.Free.{Free, free-append, digits-free}
-use Rattle.hyphenation_commons.proofs.LinesAgain.{Faultless, own-none, skip, are_small, have_allowed, are_allowed, pattern-faultless, pattern-spelt, pattern-feed, exception-faultless, exception-spelt, exception-feed}
+use Rattle.hyphenation_commons.proofs.LinesAgain.{Faultless, own_tests, own-none, none-found, are_small, have_allowed, are_allowed, pattern-faultless, pattern-spelt, pattern-feed, exception-faultless, exception-spelt, exception-feed}
 use Rattle.hyphenation_commons.proofs.Passed.{both_left, both_right}
 use Rattle.hyphenation_commons.proofs.TokensAgain.{is_allowed}
 use Rattle.hyphenation_commons.proofs.Written.{AllLines, lines-ended}
@@ -112,9 +112,10 @@ code_feed (b ∷ code) e = (no_feed b (both_left (is_code_byte b) (list_all is_c
 language_passes : (form : Form) (code : List ℕ) → IsCode code → own_cause form 2 (language_line code) ≡ None
 language_passes form code h =
     let line = language_line code in
-    skip (fails form 2 line) NotUtf8 (Header ∷ Language ∷ Minima ∷ UnknownLine ∷ Token ∷ BadValue ∷ Pattern ∷ NoLetters ∷ Number ∷ Place ∷ BadChange ∷ []) (ap not (is_utf8-from_IsUtf8 line (IsUtf8-append (codes "language ") code language_name (is_code-utf8 code h))))
-    (skip (fails form 2 line) Header (Language ∷ Minima ∷ UnknownLine ∷ Token ∷ BadValue ∷ Pattern ∷ NoLetters ∷ Number ∷ Place ∷ BadChange ∷ []) refl
-    (skip (fails form 2 line) Language (Minima ∷ UnknownLine ∷ Token ∷ BadValue ∷ Pattern ∷ NoLetters ∷ Number ∷ Place ∷ BadChange ∷ []) (ap is_none (language_again code h)) refl))
+    none-found (fails form 2 line) own_tests (
+      ap not (is_utf8-from_IsUtf8 line (IsUtf8-append (codes "language ") code language_name (is_code-utf8 code h))),
+      (refl, (ap is_none (language_again code h), (refl, (refl, (refl, (refl, (refl, (refl, (refl, (refl, (refl, tt))))))))))),
+    )
 
 minima_split : (l r : ℕ) → l ≤ 255 → r ≤ 255 → slice_split (λ b. eqb b 32) (decimal l ++ 32 ∷ decimal r) ≡ decimal l ∷ (decimal r ∷ [])
 minima_split l r hl hr =
@@ -130,11 +131,10 @@ minima_again l r hl hr = ap two_small (minima_split l r hl hr) ∙ two (small_of
 minima_passes : (form : Form) (l r : ℕ) → l ≤ 255 → r ≤ 255 → own_cause form 3 (minima_line l r) ≡ None
 minima_passes form l r hl hr =
     let line = minima_line l r in
-    skip (fails form 3 line) NotUtf8 (Header ∷ Language ∷ Minima ∷ UnknownLine ∷ Token ∷ BadValue ∷ Pattern ∷ NoLetters ∷ Number ∷ Place ∷ BadChange ∷ [])
-    (ap not (is_utf8-from_IsUtf8 line (IsUtf8-append (codes "minima ") (decimal l ++ 32 ∷ decimal r) minima_name (IsUtf8-append (decimal l) (32 ∷ decimal r) (decimal-utf8 l (wide l hl)) (IsUtf8-append (32 ∷ []) (decimal r) (one_ascii 32 (omega arith)) (decimal-utf8 r (wide r hr)))))))
-    (skip (fails form 3 line) Header (Language ∷ Minima ∷ UnknownLine ∷ Token ∷ BadValue ∷ Pattern ∷ NoLetters ∷ Number ∷ Place ∷ BadChange ∷ []) refl
-    (skip (fails form 3 line) Language (Minima ∷ UnknownLine ∷ Token ∷ BadValue ∷ Pattern ∷ NoLetters ∷ Number ∷ Place ∷ BadChange ∷ []) refl
-    (skip (fails form 3 line) Minima (UnknownLine ∷ Token ∷ BadValue ∷ Pattern ∷ NoLetters ∷ Number ∷ Place ∷ BadChange ∷ []) (ap is_none (minima_again l r hl hr)) refl)))
+    none-found (fails form 3 line) own_tests (
+      ap not (is_utf8-from_IsUtf8 line (IsUtf8-append (codes "minima ") (decimal l ++ 32 ∷ decimal r) minima_name (IsUtf8-append (decimal l) (32 ∷ decimal r) (decimal-utf8 l (wide l hl)) (IsUtf8-append (32 ∷ []) (decimal r) (one_ascii 32 (omega arith)) (decimal-utf8 r (wide r hr)))))),
+      (refl, (refl, (ap is_none (minima_again l r hl hr), (refl, (refl, (refl, (refl, (refl, (refl, (refl, (refl, tt))))))))))),
+    )
 
 -- ---- Lists.
 
