@@ -22,7 +22,7 @@ pub two_ascii : (a b : ℕ) → a < 128 → b < 128 → IsUtf8 (a ∷ b ∷ [])
 two_ascii a b sa sb = IsUtf8-append (a ∷ []) (b ∷ []) (one_ascii a sa) (one_ascii b sb)
 
 -- A byte behind some bytes p of its character, then what is written of the bytes behind it.
-pub step-utf8 : (es : Escapes) (p : List ℕ) (b : ℕ) (text tail : List ℕ) → IsUtf8 (p ++ b ∷ text) → ((q : List ℕ) → IsUtf8 (q ++ text) → IsUtf8 (q ++ tail)) → IsUtf8 (p ++ (byte_spelling es b ++ tail))
+step-utf8 : (es : Escapes) (p : List ℕ) (b : ℕ) (text tail : List ℕ) → IsUtf8 (p ++ b ∷ text) → ((q : List ℕ) → IsUtf8 (q ++ text) → IsUtf8 (q ++ tail)) → IsUtf8 (p ++ (byte_spelling es b ++ tail))
 step-utf8 es p b text tail u more =
     by (eqb b 92) (eqb b 32) (eqb b 10) (eqb b 13) (escaped_also es b) refl refl refl refl refl (more (p ++ b ∷ []) (subst IsUtf8 (sym (append_assoc p (b ∷ []) text)) u))
   where

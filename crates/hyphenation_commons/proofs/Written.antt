@@ -22,10 +22,10 @@ use Rattle.hyphenation_commons.specs.declared.grammar.tokens.Mark.TheVariants.{L
 use Rattle.hyphenation_commons.proofs.Decimals.{decimal-written, braced-again, wide}
 use Rattle.hyphenation_commons.proofs.Passed.{both_left, both_right}
 
-pub apart : (a b : ℕ) → a < b → eqb a b ≡ false
+apart : (a b : ℕ) → a < b → eqb a b ≡ false
 apart a b h = grind (arith, nat_tests)
 
-pub read_plain : (es : Escapes) (b : ℕ) (rest : List ℕ) (ss : List Sign) → eqb b 92 ≡ false → eqb b 13 ≡ false → signs_behind es false rest ≡ Some ss
+read_plain : (es : Escapes) (b : ℕ) (rest : List ℕ) (ss : List Sign) → eqb b 92 ≡ false → eqb b 13 ≡ false → signs_behind es false rest ≡ Some ss
     → signs_behind es false (b ∷ rest) ≡ Some (record { byte = b; escaped = false } ∷ ss)
 read_plain es b rest ss e1 e2 h = rw (e1, e2, h) refl
 
@@ -34,13 +34,13 @@ read_escaped : (es : Escapes) (c m : ℕ) (rest : List ℕ) (ss : List Sign) →
 read_escaped es c m rest ss e h = rw (e, h) refl
 
 -- A sign for the byte: of that byte, and escaped where a digit would be a value.
-pub record SignFor (es : Escapes) (b : ℕ) (token : List ℕ) (ss : List Sign) : Type 0 where
+record SignFor (es : Escapes) (b : ℕ) (token : List ℕ) (ss : List Sign) : Type 0 where
   pub sign : Sign
   pub read : signs_behind es false token ≡ Some (sign ∷ ss)
   pub byte : sign.byte ≡ b
   pub letter : (not sign.escaped && escaped_also es sign.byte) ≡ false
 
-pub reads_byte : (es : Escapes) (b : ℕ) (rest : List ℕ) (ss : List Sign) → signs_behind es false rest ≡ Some ss → SignFor es b (byte_spelling es b ++ rest) ss
+reads_byte : (es : Escapes) (b : ℕ) (rest : List ℕ) (ss : List Sign) → signs_behind es false rest ≡ Some ss → SignFor es b (byte_spelling es b ++ rest) ss
 reads_byte es b rest ss h = by (eqb b 92) (eqb b 32) (eqb b 10) (eqb b 13) (escaped_also es b) refl refl refl refl refl
   where
     literal : (c m : ℕ) → meaning es c ≡ Some m → m ≡ b → SignFor es b (92 ∷ c ∷ rest) ss
@@ -148,7 +148,7 @@ letter_taken Second b s is off =
     let n = no_brace s.escaped (is_digit s.byte) (eqb s.byte 123) (eqb s.byte 125) off in
     rw (n.0, n.1) (ap (λ (m : Mark). Some (None, m ∷ [])) (letter_mark b s is (no_digit s.escaped (is_digit s.byte) (is_brace s.byte) off)))
 
-pub value_plain : (v : ℕ) → v < 10 → (eqb (48 + v) 92 ≡ false) × (eqb (48 + v) 13 ≡ false) × (is_digit (48 + v) ≡ true)
+value_plain : (v : ℕ) → v < 10 → (eqb (48 + v) 92 ≡ false) × (eqb (48 + v) 13 ≡ false) × (is_digit (48 + v) ≡ true)
 value_plain v h = (apart (48 + v) 92 (omega arith), sym_apart, both)
   where
     sym_apart : eqb (48 + v) 13 ≡ false
@@ -170,7 +170,7 @@ mark-more version m s ss ms e h =
     ∙ ap (option_map {U = List Mark} (λ marks. m ∷ marks)) h
 
 -- The signs of marks as they are spelt, and that they say them.
-pub record ReadsMarks (version : Version) (token : List ℕ) (ms : List Mark) : Type 0 where
+record ReadsMarks (version : Version) (token : List ℕ) (ms : List Mark) : Type 0 where
   pub signs : List Sign
   pub read : signs_of (pattern_escapes version) token ≡ Some signs
   pub marks : marks_from version None signs ≡ Some ms
