@@ -1,0 +1,8 @@
+use Rattle.hyphenation_commons.proofs.ReadAgain.{canonical-accepted, canonical-contents}
+use Rattle.hyphenation_commons.proofs.grammar.laws.written_is_read_again.Goals as goal
+
+pub returns : goal.returns
+returns g c = record {
+  accepted = λ kind carries lists change_of break_of contents exact kept. canonical-accepted kind carries lists change_of break_of exact contents kept;
+  equal = λ kind carries lists change_of break_of contents exact kept. canonical-contents kind carries lists change_of break_of exact contents kept;
+}
