@@ -143,7 +143,7 @@ impl Dice {
         for cut in &self.cuts(alloc, &key, is_extended)? {
             let number = self.below(if is_first { 9 } else { 255 });
             values.push(Value {
-                value: (number as u8).saturating_add(1),
+                value: u8::try_from(number).unwrap_or(0).saturating_add(1),
                 cut: *cut,
             })?;
         }

@@ -1,0 +1,11 @@
+use Rattle.std.proofs.Common.{ap, ◌∙◌, sym}
+use Rattle.hyphenation_commons.specs.Lines.{lines_of}
+use Rattle.hyphenation_commons.specs.Reading.{contents_of}
+use Rattle.hyphenation_commons.proofs.ReadAgain.{canonical-contents}
+use Rattle.hyphenation_commons.proofs.grammar.laws.equal_texts_are_of_equal_dictionaries.Goals as goal
+
+pub returns : goal.returns
+returns g c = λ kind carries lists change_of break_of contents others exact kept other same.
+    sym (canonical-contents kind carries lists change_of break_of exact contents kept)
+    ∙ ap (λ text. contents_of kind carries lists (lines_of text)) same
+    ∙ canonical-contents kind carries lists change_of break_of exact others other
