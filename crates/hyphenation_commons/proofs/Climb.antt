@@ -64,9 +64,10 @@ pub step_up : (ns : List Node) (at : ℕ) (n : Node) (from : ℕ × ℕ) → Are
 step_up ns at n from h lt read is =
     let fs = map (λ (n : Node). n.from) ns in
     let len : length fs ≡ length ns = simp length-map in
-    let here : get_or fs at None ≡ Some from = get_or-map (λ (n : Node). n.from) ns at n None lt ∙ ap (λ (n : Node). n.from) (sym read) ∙ is in
-    (subst (IsBehind at) here (subst (λ (k : ℕ). IsBehind k (get_or fs at None)) (omega arith) (behind-at fs 0 at h (omega (arith, len)))),
-     text_of-node fs at h (omega (arith, len)) ∙ ap (text_after (texts_of fs)) here)
+    let here : get_or fs at None ≡ Some from = get_or-map (λ (n : Node). n.from) ns at n None lt ∙ ap (λ (n : Node). n.from) (sym read) ∙ is in (
+      subst (IsBehind at) here (subst (λ (k : ℕ). IsBehind k (get_or fs at None)) (omega arith) (behind-at fs 0 at h (omega (arith, len)))),
+      text_of-node fs at h (omega (arith, len)) ∙ ap (text_after (texts_of fs)) here,
+    )
 
 -- at the root the way up ends
 pub at_root : (ns : List Node) (at : ℕ) (n : Node) → AreBehind 0 (map (λ n. n.from) ns) → at < length ns → n ≡ get_or ns at n → n.from ≡ None

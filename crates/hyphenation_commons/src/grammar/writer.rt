@@ -90,7 +90,7 @@ fn push_break(
     place: usize,
     change: Option<&Subregion>,
 ) -> Result<(), AllocError>
-    ensures { OnOk result (text.new.items ≡ text.old.items ++ break_token place (option_copied change)) }
+    ensures { OnOk result (text.new.items ≡ text.old.items ++ break_token place (option_copied change.entry)) }
 {
     match change {
         Some(change) => push_change(text, place, change),
@@ -321,4 +321,47 @@ pub fn write_text<C: Carried, B: Listed>(
     push_patterns(&mut text, version, &keys)?;
     push_exceptions(&mut text, &words)?;
     Ok(text)
+}
+
+#[cfg(test)]
+mod tests {
+    use super::*;
+    use crate::grammar::reader::{Refusal, read_extended, read_standard};
+    use std::test::Fail;
+
+    fn standard_again(alloc: Global, text: &[u8]) -> Result<Vec<u8>, Refusal> {
+        let dictionary = read_standard(alloc, text)?;
+        Ok(write_text(alloc, Kind::Standard, &dictionary)?)
+    }
+
+    fn extended_again(alloc: Global, text: &[u8]) -> Result<Vec<u8>, Refusal> {
+        let dictionary = read_extended(alloc, text)?;
+        Ok(write_text(alloc, Kind::Extended, &dictionary)?)
+    }
+
+    #[test]
+    fn lines_stand_in_the_order_of_their_bytes(rt: HostRuntime) -> Result<(), Fail> {
+        let read =
+            b"hyphenation 1 standard\nlanguage hu\nminima 2 13\n# two kinds\n\ne kilim 2 3\np s1szo0\np x\\11y{\np a\\s1b\np .fi2\ne \\e\ne k\\sa 0";
+        let written =
+            b"hyphenation 1 standard\nlanguage hu\nminima 2 13\np .fi2\np a\\s1b\np s1szo\np x\\11y{\ne \\e\ne k\\sa 0\ne kilim 2 3\n";
+        match standard_again(rt.alloc(), read) {
+            Ok(text) => assert_eq!(rt; text.as_slice(), written.as_slice()),
+            Err(_) => assert!(rt; false),
+        }
+        Ok(())
+    }
+
+    #[test]
+    fn changes_and_great_values_are_written(rt: HostRuntime) -> Result<(), Fail> {
+        let read =
+            b"hyphenation 2 extended\nlanguage hu\nminima 0 255\np a9s\\{{255} 1,1,1,2,a,b 3,0,0,0,\\e\ne ab 1,1,1,2,a,b 2\np .{10}b\\1";
+        let written =
+            b"hyphenation 2 extended\nlanguage hu\nminima 0 255\np .{10}b\\1\np a9s\\{{255} 1,1,1,2,a,b 3,0,0,0,\\e\ne ab 1,1,1,2,a,b 2\n";
+        match extended_again(rt.alloc(), read) {
+            Ok(text) => assert_eq!(rt; text.as_slice(), written.as_slice()),
+            Err(_) => assert!(rt; false),
+        }
+        Ok(())
+    }
 }

@@ -20,9 +20,10 @@ pub loop-parent-preserved : goal.loop-parent-preserved
 loop-parent-preserved g c =
     let ns = c.self.inside.nodes.items in
     let within = rw (← c.self.view_is) at c.loop-parent.invariant.0 in
-    let up = step_up ns c.loop-parent.at c.index.result.now (c.in-Some.parent, c.in-Some.byte) c.self.invariant.2 (seen_within ns c.loop-parent.at within) c.index.ensures c.in-Some.is in
-    (omega (arith, up.0, c.loop-parent.invariant.0),
-     more_text (text_of c.args.self.now c.in-Some.parent) (text_of c.args.self.now c.loop-parent.at) _ _ _ c.in-Some.byte (rw (← c.self.view_is) up.1) c.in_ok-push.ensures.items c.loop-parent.invariant.1)
+    let up = step_up ns c.loop-parent.at c.index.result.now (c.in-Some.parent, c.in-Some.byte) c.self.invariant.2 (seen_within ns c.loop-parent.at within) c.index.ensures c.in-Some.is in (
+      omega (arith, up.0, c.loop-parent.invariant.0),
+      more_text (text_of c.args.self.now c.in-Some.parent) (text_of c.args.self.now c.loop-parent.at) _ _ _ c.in-Some.byte (rw (← c.self.view_is) up.1) c.in_ok-push.ensures.items c.loop-parent.invariant.1,
+    )
 
 pub returns : goal.returns
 returns g c =
