@@ -1,4 +1,4 @@
-use Rattle.std.proofs.Common.{◌≡◌, ◌∙◌, ◌<◌, ap, sym, subst, arith, length, []}
+use Rattle.std.proofs.Common.{◌≡◌, ◌∙◌, ap, sym, arith, length, []}
 use Rattle.std.specs.Prelude.{◌++◌, reverse}
 use Rattle.hyphenation_commons.specs.Trie.{text_of}
 use Rattle.hyphenation_commons.proofs.Climb.{step_up, at_root, more_text, written_over}
