@@ -20,7 +20,6 @@ use crate::grammar::pattern::pattern_escapes;
 use crate::grammar::tokens::{Escapes, escaped_also};
 use crate::language::Language;
 use std::alloc::{AllocError, Global};
-use std::collections::BTreeMap;
 
 /// A byte of a text, escaped where it must be.
 fn push_byte(text: &mut Vec<u8>, escapes: Escapes, byte: u8) -> Result<(), AllocError>
@@ -202,13 +201,13 @@ fn push_pattern<C: Carried>(
     push_changes(text, entries)
 }
 
-/// The lines of keys, in the order of a map.
+/// The lines of keys, in the order that they have here.
 fn push_patterns<C: Carried>(
     text: &mut Vec<u8>,
     version: Version,
-    keys: &BTreeMap<&[u8], &[Entry<C>]>,
+    keys: &[(&[u8], &[Entry<C>])],
 ) -> Result<(), AllocError>
-    ensures { OnOk result (text.new.items ≡ text.old.items ++ ended (map (key_line version C.change) (shown_pairs keys.now.entries))) }
+    ensures { OnOk result (text.new.items ≡ text.old.items ++ ended (map (key_line version C.change) (shown_pairs keys.now))) }
 {
     for (key, entries) in keys {
         push_pattern(text, version, key, entries)?;
@@ -217,12 +216,9 @@ fn push_patterns<C: Carried>(
     Ok(())
 }
 
-/// The lines of words, in the order of a map.
-fn push_exceptions<B: Listed>(
-    text: &mut Vec<u8>,
-    words: &BTreeMap<&[u8], &[B]>,
-) -> Result<(), AllocError>
-    ensures { OnOk result (text.new.items ≡ text.old.items ++ ended (map (word_line B.meaning) (shown_pairs words.now.entries))) }
+/// The lines of words, in the order that they have here.
+fn push_exceptions<B: Listed>(text: &mut Vec<u8>, words: &[(&[u8], &[B])]) -> Result<(), AllocError>
+    ensures { OnOk result (text.new.items ≡ text.old.items ++ ended (map (word_line B.meaning) (shown_pairs words.now))) }
 {
     for (word, listed) in words {
         push_exception(text, word, listed)?;
@@ -270,8 +266,8 @@ fn are_digits<C>(entries: &[Entry<C>]) -> bool
 }
 
 /// The first version where it can say each value of these keys, else the second.
-fn version_for<C>(keys: &BTreeMap<&[u8], &[Entry<C>]>) -> Version
-    ensures { result ≡ version_of_keys (shown_pairs keys.now.entries) }
+fn version_for<C>(keys: &[(&[u8], &[Entry<C>])]) -> Version
+    ensures { result ≡ version_of_keys (shown_pairs keys.now) }
 {
     for (_, entries) in keys {
         if !are_digits(entries) {
@@ -295,6 +291,26 @@ fn lent_keys<'a, X>(
     Ok(lent)
 }
 
+/// The three head lines, and behind them the lines of keys and of words, in the order that they have here.
+fn whole_text<C: Carried, B: Listed>(
+    alloc: Global,
+    form: Form,
+    language: Language,
+    minima: (usize, usize),
+    keys: &[(&[u8], &[Entry<C>])],
+    words: &[(&[u8], &[B])],
+) -> Result<Vec<u8>, AllocError>
+    ensures { IfOk result (λ text. text.items ≡ ended (head form ∷ language_line language ∷ minima_line minima.0 minima.1 ∷ (map (key_line form.version C.change) (shown_pairs keys.now) ++ map (word_line B.meaning) (shown_pairs words.now)))) }
+{
+    let mut text = Vec::new(alloc);
+    push_head(&mut text, form)?;
+    push_language(&mut text, language)?;
+    push_minima(&mut text, minima.0, minima.1)?;
+    push_patterns(&mut text, form.version, keys)?;
+    push_exceptions(&mut text, words)?;
+    Ok(text)
+}
+
 /// The canonical text of a dictionary of that kind, which is a text of the format that reading gives the dictionary
 /// back of: keys, and behind them words, in the order of their bytes, and no more escapes than are needed. It is of
 /// version 1 where each value is a digit, else of version 2.
@@ -308,19 +324,20 @@ pub fn write_text<C: Carried, B: Listed>(
     ensures { IfOk result (λ text. text.items ≡ canonical_text_of kind C.change B.meaning dictionary.now) }
 {
     let keys = dictionary.keys(alloc)?;
-    let keys = lent_keys(alloc, &keys)?;
-    let keys = in_order(alloc, &keys)?;
+    let lent = lent_keys(alloc, &keys)?;
+    let keys = in_order(alloc, &lent)?;
     let words = dictionary.words(alloc)?;
     let words = in_order(alloc, &words)?;
     let version = version_for(&keys);
-    let (left, right) = dictionary.minima();
-    let mut text = Vec::new(alloc);
-    push_head(&mut text, Form { kind, version })?;
-    push_language(&mut text, dictionary.language())?;
-    push_minima(&mut text, left, right)?;
-    push_patterns(&mut text, version, &keys)?;
-    push_exceptions(&mut text, &words)?;
-    Ok(text)
+    let form = Form { kind, version };
+    whole_text(
+        alloc,
+        form,
+        dictionary.language(),
+        dictionary.minima(),
+        &keys,
+        &words,
+    )
 }
 
 #[cfg(test)]
