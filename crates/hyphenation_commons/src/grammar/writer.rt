@@ -1,9 +1,9 @@
 //! The canonical text of a dictionary, piece by piece. Each function but the last ones appends to a text.
 
-ghost use Rattle.std.specs.Prelude.{◌≡◌, ◌++◌, ◌∷◌, [], OnOk, IfOk, decimal, flat_map, map, nat_le, option_copied};
+ghost use Rattle.std.specs.Prelude.{◌≡◌, ◌++◌, ◌∷◌, [], None, Some, OnOk, IfOk, decimal, flat_map, map, nat_le, option_copied};
 ghost use Rattle.std.specs.List.{list_all};
 ghost use Rattle.std.specs.FinMap as finite;
-ghost use Rattle.hyphenation_commons.specs.Canonical.{are_digits, before_comma, break_token, byte_spelling, canonical_text_of, changes_of, ended, entry_of, exception_line, language_line, later_tokens, mark_spelling, minima_line, pattern_line, pattern_token, text_token};
+ghost use Rattle.hyphenation_commons.specs.Canonical.{are_digits, before_comma, break_token, byte_spelling, canonical_text_of, changes_of, ended, entry_of, exception_line, language_line, later_tokens, mark_spelling, minima_line, pattern_line, pattern_token, text_token, standard_text, extended_text};
 ghost use Rattle.hyphenation_commons.specs.Form.{head};
 ghost use Rattle.hyphenation_commons.specs.Ordered.{as_texts, shown_keys, shown_pairs};
 ghost use Rattle.hyphenation_commons.specs.Writing.{behind_place, key_line, value_at, version_of_keys, word_line};
@@ -11,7 +11,7 @@ ghost use Rattle.hyphenation_commons.specs.declared.grammar.tokens.Escapes.TheVa
 ghost use Rattle.hyphenation_commons.specs.declared.grammar.tokens.Mark.TheVariants.{Value};
 ghost use Rattle.hyphenation_commons.specs.Tokens.{pattern_escapes};
 
-use crate::dictionary::{Carried, Dictionary, Entry, Listed};
+use crate::dictionary::{Carried, Dictionary, Entry, Extended, Listed, Standard};
 use crate::extended::Subregion;
 use crate::grammar::form::{Form, Kind, Version};
 use crate::grammar::lines::head_of;
@@ -340,6 +340,20 @@ pub fn write_text<C: Carried, B: Listed>(
     )
 }
 
+/// The canonical text of a standard dictionary, as `write_text` has it.
+pub fn write_standard(alloc: Global, dictionary: &Standard) -> Result<Vec<u8>, AllocError>
+    ensures { IfOk result (λ text. text.items ≡ standard_text dictionary.now) }
+{
+    write_text(alloc, Kind::Standard, dictionary)
+}
+
+/// The canonical text of an extended dictionary, as `write_text` has it.
+pub fn write_extended(alloc: Global, dictionary: &Extended) -> Result<Vec<u8>, AllocError>
+    ensures { IfOk result (λ text. text.items ≡ extended_text dictionary.now) }
+{
+    write_text(alloc, Kind::Extended, dictionary)
+}
+
 #[cfg(test)]
 mod tests {
     use super::*;
@@ -348,12 +362,12 @@ mod tests {
 
     fn standard_again(alloc: Global, text: &[u8]) -> Result<Vec<u8>, Refusal> {
         let dictionary = read_standard(alloc, text)?;
-        Ok(write_text(alloc, Kind::Standard, &dictionary)?)
+        Ok(write_standard(alloc, &dictionary)?)
     }
 
     fn extended_again(alloc: Global, text: &[u8]) -> Result<Vec<u8>, Refusal> {
         let dictionary = read_extended(alloc, text)?;
-        Ok(write_text(alloc, Kind::Extended, &dictionary)?)
+        Ok(write_extended(alloc, &dictionary)?)
     }
 
     #[test]
