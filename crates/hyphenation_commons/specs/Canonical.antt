@@ -2,14 +2,14 @@
 use Rattle.std.specs.Prelude.{◌≡◌, ℕ, ◌+◌, ◌==◌, nat_le, Bool, if◌then◌else◌, List, [], ◌∷◌, ◌++◌, map, codes, Option, Some, None, decimal, flat_map}
 use Rattle.std.specs.List.{list_all}
 use Rattle.std.specs.FinMap as finite
-use Rattle.hyphenation_commons.specs.Break.{Break, Change, changed_by}
+use Rattle.hyphenation_commons.specs.Break.{Break, Change, changed_by, plain}
 use Rattle.hyphenation_commons.specs.Dictionary.{Contents}
 use Rattle.hyphenation_commons.specs.Form.{head}
 use Rattle.hyphenation_commons.specs.Tokens.{escaped_also, pattern_escapes}
 use Rattle.hyphenation_commons.specs.declared.dictionary.Entry.{Entry}
 use Rattle.hyphenation_commons.specs.declared.grammar.form.Form.{Form}
 use Rattle.hyphenation_commons.specs.declared.grammar.form.Kind.{Kind}
-use Rattle.hyphenation_commons.specs.declared.grammar.form.Kind.TheVariants.{Standard}
+use Rattle.hyphenation_commons.specs.declared.grammar.form.Kind.TheVariants.{Standard, Extended}
 use Rattle.hyphenation_commons.specs.declared.grammar.form.Version.{Version}
 use Rattle.hyphenation_commons.specs.declared.grammar.form.Version.TheVariants.{First, Second}
 use Rattle.hyphenation_commons.specs.declared.grammar.tokens.Escapes.{Escapes}
@@ -107,6 +107,13 @@ ended lines = flat_map (λ line. line ++ 10 ∷ []) lines
 -- The canonical text of a dictionary of that kind, which holds a change as change_of says, and a listed break as break_of says.
 abbrev pub canonical_text_of : {C B : Type 0} → Kind → (C → Option Change) → (B → Break) → Contents C B → List ℕ
 canonical_text_of kind change_of break_of contents = ended (canonical_lines (record { kind = kind; version = version_for contents }) change_of break_of contents)
+
+-- The canonical text of a standard dictionary, which holds no change, and that of an extended one, which holds each as it is.
+abbrev pub standard_text : Contents (Unit {0}) ℕ → List ℕ
+standard_text contents = canonical_text_of Standard (λ _. None) plain contents
+
+abbrev pub extended_text : Contents (Option Change) (ℕ × Option Change) → List ℕ
+extended_text contents = canonical_text_of Extended (λ change. change) (λ b. changed_by b.0 b.1) contents
 
 -- A kind of dictionary holds exactly what its texts say: what it holds of a change or a listed break says
 -- that again, and a standard one holds no change.

@@ -4,6 +4,8 @@ pub mod Dictionary
 pub mod Kept
 pub mod Held
 pub mod Canonical
+pub mod Ordered
+pub mod Writing
 pub mod Counts
 pub mod Trie
 pub mod Form

@@ -1,5 +1,5 @@
 -- Tries, as the texts that their nodes stand for.
-use Rattle.std.specs.Prelude.{◌≡◌, ℕ, ◌<◌, ◌&&◌, nat_eq, Bool, if◌then◌else◌, List, [], ◌∷◌, ◌++◌, length, map, fold, Option, Some, None, slice_index_or, slice_get, IsSome, ◌≤◌, take, ◌⊎◌, slice_set}
+use Rattle.std.specs.Prelude.{◌≡◌, ℕ, ◌+◌, ◌<◌, ◌&&◌, nat_eq, Bool, if◌then◌else◌, List, [], ◌∷◌, ◌++◌, length, map, fold, Option, Some, None, slice_index_or, slice_get, IsSome, ◌≤◌, take, ◌⊎◌, slice_set}
 use Rattle.std.specs.Option.{option_map}
 use Rattle.std.specs.List.{slice_range}
 use Rattle.std.specs.Cmp.Lexicographic.{pointwise}
@@ -94,6 +94,15 @@ IsWithin bound (Some span) = (span.start ≤ span.end) × (span.end ≤ bound)
 abbrev pub AreWithin : ℕ → List Node → Type 0
 AreWithin bound [] = Unit {0}
 AreWithin bound (n ∷ ns) = IsWithin bound n.span × AreWithin bound ns
+
+-- A parent stands before its node, the first of which has that number.
+abbrev pub IsBehind : ℕ → Option (ℕ × ℕ) → Type 0
+IsBehind node None = Unit {0}
+IsBehind node (Some from) = from.0 < node
+
+abbrev pub AreBehind : ℕ → List (Option (ℕ × ℕ)) → Type 0
+AreBehind node [] = Unit {0}
+AreBehind node (from ∷ froms) = IsBehind node from × AreBehind (node + 1) froms
 
 -- The test by which the edges are looked up.
 abbrev pub pair_eq : ℕ × ℕ → ℕ × ℕ → Bool

@@ -25,6 +25,8 @@
 ghost use Rattle.std.specs.Prelude.{◌≡◌, ◌≢◌, ◌+◌, ◌<◌, ◌≤◌, ◌^◌, ◌++◌, [], ◌∷◌, ℕ, List, length, None, Some, IfOk, OnOk, OnErr, if◌then◌else◌, nat_eq, is_some, IfSome, IfNone, option_copied};
 ghost use Rattle.std.specs.Cmp.Lexicographic.{pointwise};
 ghost use Rattle.std.specs.List.{slice_range};
+ghost use Rattle.hyphenation_commons.specs.Held.{pairs_of};
+ghost use Rattle.hyphenation_commons.specs.Ordered.{shown_keys};
 ghost use Rattle.hyphenation_commons.specs.Trie.{Tree, text_of, key_at, grown, IsTrie, Grows, AddsFront, KeepsNodes, EachBeginsKey, with_entries};
 
 use std::alloc::{AllocError, Global};
@@ -122,13 +124,13 @@ pub struct Trie<E> {
 impl<E> Model for Trie<E> {
     ghost use Rattle.std.specs.Prelude.{map, length};
     ghost use Rattle.std.specs.HashMap.{get};
-    ghost use Rattle.hyphenation_commons.specs.Trie.{Tree, seen, texts_of, IsTied, AreWithin, pair_eq};
+    ghost use Rattle.hyphenation_commons.specs.Trie.{Tree, seen, texts_of, IsTied, AreWithin, AreBehind, pair_eq};
 
     ghost Value = { Tree E };
 
     ghost view = { λ t. seen t.nodes.items t.entries.items };
 
-    ghost invariant = { λ t. IsTied (texts_of (map (λ n. n.from) t.nodes.items)) (λ i b. get pair_eq t.edges (i, b)) × AreWithin (length t.entries.items) t.nodes.items };
+    ghost invariant = { λ t. IsTied (texts_of (map (λ n. n.from) t.nodes.items)) (λ i b. get pair_eq t.edges (i, b)) × AreWithin (length t.entries.items) t.nodes.items × AreBehind 0 (map (λ n. n.from) t.nodes.items) };
 }
 
 impl<E: Drop> Trie<E> {
@@ -214,6 +216,35 @@ impl<E: Drop> Trie<E> {
         let node = self.path(key)?;
         let had = self.set_entries(node, entries)?;
         Ok(had)
+    }
+
+    /// The keys, each with its entries, in no order that means anything.
+    pub(crate) fn keys(&self, alloc: Global) -> Result<Vec<(Vec<u8>, &[E])>, AllocError>
+        ensures { IfOk result (λ keys. shown_keys keys.items ≡ pairs_of self.now.texts self.now.entries) }
+    {
+        let mut keys = Vec::new(alloc);
+        for node in 0..self.nodes.len() {
+            if let Some(entries) = self.entries(node) {
+                let key = self.text(alloc, node)?;
+                keys.push((key, entries))?;
+            }
+        }
+        Ok(keys)
+    }
+
+    /// The text of a node, by the bytes on the way up to the root.
+    fn text(&self, alloc: Global, node: usize) -> Result<Vec<u8>, AllocError>
+        requires { node < length self.now.texts }
+        ensures { IfOk result (λ text. text.items ≡ text_of self.now node) }
+    {
+        let mut text = Vec::new(alloc);
+        let mut at = node;
+        while let Some((parent, byte)) = self.nodes[at].from {
+            text.push(byte)?;
+            at = parent;
+        }
+        text.as_mut_slice().reverse();
+        Ok(text)
     }
 
     /// The child of a node at a byte, which counts as no look-up.
