@@ -180,3 +180,16 @@ fn a_run_that_is_refused_writes_nothing(rt: HostRuntime) -> Result<(), Fail> {
     assert_eq!(rt; writer.taken, 0);
     Ok(())
 }
+
+#[test]
+fn a_dictionary_meets_a_writer_that_fails(rt: HostRuntime) -> Result<(), Fail> {
+    let mut reader = FIRKIN.as_bytes();
+    let dictionary = Standard::any_from_reader(rt.alloc(), &mut reader)?;
+    for room in [0, 1, 40] {
+        let mut writer = Narrow { room, taken: 0 };
+        let answer = dictionary.to_writer(rt.alloc(), &mut writer);
+        assert!(rt; matches!(answer, Err(Error::IO(_))), "{room}");
+        assert_eq!(rt; writer.taken, room);
+    }
+    Ok(())
+}

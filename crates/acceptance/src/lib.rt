@@ -29,3 +29,5 @@ mod texts;
 mod version_two;
 #[cfg(test)]
 mod words;
+#[cfg(test)]
+mod writing;
