@@ -5,6 +5,9 @@ ghost use Rattle.std.specs.List.{list_all};
 ghost use Rattle.std.specs.FinMap as finite;
 ghost use Rattle.hyphenation_commons.specs.Canonical.{are_digits, before_comma, break_token, byte_spelling, canonical_text_of, changes_of, ended, entry_of, exception_line, language_line, later_tokens, mark_spelling, minima_line, pattern_line, pattern_token, text_token, standard_text, extended_text};
 ghost use Rattle.hyphenation_commons.specs.Form.{head};
+ghost use Rattle.hyphenation_commons.specs.declared.grammar.form.Kind.TheVariants.{Standard as OfStandard, Extended as OfExtended};
+ghost use Rattle.hyphenation_commons.specs.Judging.{refusal_of};
+ghost use Rattle.hyphenation_commons.specs.Reading.{standard_contents, extended_contents};
 ghost use Rattle.hyphenation_commons.specs.Ordered.{as_texts, shown_keys, shown_pairs};
 ghost use Rattle.hyphenation_commons.specs.Writing.{behind_place, key_line, value_at, version_of_keys, word_line};
 ghost use Rattle.hyphenation_commons.specs.declared.grammar.tokens.Escapes.TheVariants.{Plain};
@@ -14,6 +17,7 @@ ghost use Rattle.hyphenation_commons.specs.Tokens.{pattern_escapes};
 use crate::dictionary::{Carried, Dictionary, Entry, Extended, Listed, Standard};
 use crate::extended::Subregion;
 use crate::grammar::form::{Form, Kind, Version};
+use crate::grammar::laws::written_is_read_again;
 use crate::grammar::lines::head_of;
 use crate::grammar::order::in_order;
 use crate::grammar::pattern::pattern_escapes;
@@ -340,17 +344,28 @@ pub fn write_text<C: Carried, B: Listed>(
     )
 }
 
-/// The canonical text of a standard dictionary, as `write_text` has it.
+/// The canonical text of a standard dictionary, as `write_text` has it. It is accepted, and gives that very dictionary.
 pub fn write_standard(alloc: Global, dictionary: &Standard) -> Result<Vec<u8>, AllocError>
-    ensures { IfOk result (λ text. text.items ≡ standard_text dictionary.now) }
+    ensures text { IfOk result (λ text. text.items ≡ standard_text dictionary.now) }
+    ensures accepted { refusal_of OfStandard (standard_text dictionary.now) ≡ None }
+    ensures given { dictionary.now ≡ standard_contents (standard_text dictionary.now) }
 {
+    // These calls tell the proof what is true of each text that was written, and of each dictionary.
+    written_is_read_again::<(), usize>();
+    let _minima = dictionary.minima();
     write_text(alloc, Kind::Standard, dictionary)
 }
 
-/// The canonical text of an extended dictionary, as `write_text` has it.
+/// The canonical text of an extended dictionary, as `write_text` has it. It is accepted, and gives that very
+/// dictionary.
 pub fn write_extended(alloc: Global, dictionary: &Extended) -> Result<Vec<u8>, AllocError>
-    ensures { IfOk result (λ text. text.items ≡ extended_text dictionary.now) }
+    ensures text { IfOk result (λ text. text.items ≡ extended_text dictionary.now) }
+    ensures accepted { refusal_of OfExtended (extended_text dictionary.now) ≡ None }
+    ensures given { dictionary.now ≡ extended_contents (extended_text dictionary.now) }
 {
+    // These calls tell the proof what is true of each text that was written, and of each dictionary.
+    written_is_read_again::<Option<Subregion>, (usize, Option<Subregion>)>();
+    let _minima = dictionary.minima();
     write_text(alloc, Kind::Extended, dictionary)
 }
 
