@@ -6,6 +6,9 @@ pub mod Held
 pub mod Canonical
 pub mod Counts
 pub mod Trie
+pub mod Chains
+pub mod Rows
+pub mod Links
 pub mod Form
 pub mod Lines
 pub mod Tokens

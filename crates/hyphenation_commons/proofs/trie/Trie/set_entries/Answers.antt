@@ -29,6 +29,7 @@ invariant_of-self-2 g c =
     (omega (arith, grown, c.len-start.ensures, c.len-end.ensures, c.self.inside.entries.ok.0, c.append.new.self.ok.0), omega (arith, c.len-end.ensures, c.append.new.self.ok.0)) in (
       rw (map-set_same (λ n. n.from) ns c.args.node x c.index_mut.result.now (ap (λ n. n.from) c.index_mut.ensures.value)) c.self.invariant.0,
       all_within-set bound ns c.args.node x more (subst (λ (s : Option Span). IsWithin bound s) (sym c.replace-old.ensures.after) span),
+      rw (map-set_same (λ n. n.from) ns c.args.node x c.index_mut.result.now (ap (λ n. n.from) c.index_mut.ensures.value)) c.self.invariant.2,
     )
 
 pub returns-clause-set : goal.returns-clause-set
