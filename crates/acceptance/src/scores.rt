@@ -79,8 +79,18 @@ fn a_score_takes_few_look_ups(rt: HostRuntime) -> Result<(), Fail> {
 fn no_byte_is_read_again(rt: HostRuntime) -> Result<(), Fail> {
     let word = "aaaaaaaaaaaaaaaaaaaa";
     let cases: [(&str, usize, u8, u128); 2] = [
-        ("hyphenation 1 standard\nlanguage x\nminima 0 0\np aaaaaaa1b", 19, 0, 0),
-        ("hyphenation 1 standard\nlanguage x\nminima 0 0\np aaaaaaa1", 6, 1, 14),
+        (
+            "hyphenation 1 standard\nlanguage x\nminima 0 0\np aaaaaaa1b",
+            19,
+            0,
+            0,
+        ),
+        (
+            "hyphenation 1 standard\nlanguage x\nminima 0 0\np aaaaaaa1",
+            6,
+            1,
+            14,
+        ),
     ];
     for (text, zeros, rest, reported) in cases {
         let dictionary = dictionary(rt.alloc(), text)?;

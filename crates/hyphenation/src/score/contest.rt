@@ -127,7 +127,15 @@ pub(super) fn winners_in<'d, C: Drop>(
     let mut node = automaton.root();
     for at in 0..word.len() + 2 {
         node = automaton.step(node, framed_at(word, at), count);
-        compete_reported(automaton, word, node, at + 1, &mut bests, &mut starts, count);
+        compete_reported(
+            automaton,
+            word,
+            node,
+            at + 1,
+            &mut bests,
+            &mut starts,
+            count,
+        );
     }
     Ok(bests)
 }
