@@ -4,7 +4,7 @@ use crate::changes::{extended, substitutes, text_of};
 use hyphenation::Language;
 use hyphenation::engine::{Kind, RunError, run_score};
 use hyphenation::load::{Cause, Error};
-use hyphenation::score::Score;
+use hyphenation::score::{LookUps, Score};
 use std::test::Fail;
 
 #[test]
@@ -50,6 +50,17 @@ fn the_winner_of_a_place_gives_its_value_and_its_change(rt: HostRuntime) -> Resu
             assert!(rt; is_told, "{lines}");
         }
     }
+    Ok(())
+}
+
+#[test]
+fn a_changed_score_takes_few_look_ups(rt: HostRuntime) -> Result<(), Fail> {
+    let dictionary = extended(rt.alloc(), "1 1", "p a1b 1,1,0,1,x\np ca1bd\np d1d")?;
+    let mut count = LookUps::new();
+    let scores = dictionary.score_counted(rt.alloc(), "cabd", &mut count)?;
+    assert_eq!(rt; scores.len(), 3);
+    assert!(rt; 6 <= count.made() && count.made() <= 12);
+    assert_eq!(rt; count.reported(), 2);
     Ok(())
 }
 

@@ -57,8 +57,13 @@ fn a_score_takes_few_look_ups(rt: HostRuntime) -> Result<(), Fail> {
     let mut count = LookUps::new();
     let values = firkin.score_counted(rt.alloc(), "firkin", &mut count)?;
     assert_eq!(rt; values.len(), 5);
-    assert!(rt; 8 <= count.made() && count.made() <= 40);
-    assert_eq!(rt; count.reported(), 0);
+    assert!(rt; 8 <= count.made() && count.made() <= 16);
+    assert_eq!(rt; count.reported(), 6);
+    let mut count = LookUps::new();
+    let values = firkin.score_counted(rt.alloc(), "firkins", &mut count)?;
+    assert_eq!(rt; values.len(), 6);
+    assert!(rt; 9 <= count.made() && count.made() <= 18);
+    assert_eq!(rt; count.reported(), 5);
     let no_keys = dictionary(
         rt.alloc(),
         "hyphenation 1 standard\nlanguage x\nminima 2 3\n",
@@ -67,6 +72,58 @@ fn a_score_takes_few_look_ups(rt: HostRuntime) -> Result<(), Fail> {
     let values = no_keys.score_counted(rt.alloc(), "abc", &mut count)?;
     assert_eq!(rt; values.as_slice(), [0, 0].as_slice());
     assert_eq!(rt; count.made(), 5);
+    Ok(())
+}
+
+#[test]
+fn no_byte_is_read_again(rt: HostRuntime) -> Result<(), Fail> {
+    let word = "aaaaaaaaaaaaaaaaaaaa";
+    let cases: [(&str, usize, u8, u128); 2] = [
+        (
+            "hyphenation 1 standard\nlanguage x\nminima 0 0\np aaaaaaa1b",
+            19,
+            0,
+            0,
+        ),
+        (
+            "hyphenation 1 standard\nlanguage x\nminima 0 0\np aaaaaaa1",
+            6,
+            1,
+            14,
+        ),
+    ];
+    for (text, zeros, rest, reported) in cases {
+        let dictionary = dictionary(rt.alloc(), text)?;
+        let mut count = LookUps::new();
+        let values = dictionary.score_counted(rt.alloc(), word, &mut count)?;
+        assert_eq!(rt; values.len(), 19);
+        for (index, value) in values.iter().enumerate() {
+            assert_eq!(rt; *value, if index < zeros { 0 } else { rest });
+        }
+        assert!(rt; 22 <= count.made() && count.made() <= 44);
+        assert_eq!(rt; count.reported(), reported);
+    }
+    Ok(())
+}
+
+#[test]
+fn each_key_is_reported_where_it_stands(rt: HostRuntime) -> Result<(), Fail> {
+    let cases: [(&str, &str, u128); 4] = [
+        ("p a1\np aa", "aaa", 5),
+        ("p a1\np aa\np .aa\np aa.", "aaa", 7),
+        ("p abc1d", "abc", 0),
+        ("p he2\np she1\np his3\np hers1", "ushers", 3),
+    ];
+    for (lines, word, reported) in cases {
+        let text = format!(in rt.alloc();
+            "hyphenation 1 standard\nlanguage x\nminima 0 0\n{lines}\n"
+        )?;
+        let dictionary = dictionary(rt.alloc(), &text)?;
+        let mut count = LookUps::new();
+        let values = dictionary.score_counted(rt.alloc(), word, &mut count)?;
+        assert_eq!(rt; values.len() + 1, word.len());
+        assert_eq!(rt; count.reported(), reported, "{lines}");
+    }
     Ok(())
 }
 

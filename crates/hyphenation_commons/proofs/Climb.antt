@@ -4,49 +4,10 @@ use Rattle.std.specs.Prelude.{reverse}
 use Rattle.std.proofs.lemmas.List.{length-append, get_or_append_left, get_or_push, get_or-map, length-map, map_push, append-nil, reverse-append, take-append-le}
 use Rattle.std.proofs.Math.Seq.{take-length}
 use Rattle.hyphenation_commons.specs.Held.{pairs_of}
-use Rattle.hyphenation_commons.specs.Trie.{with_text, text_after, texts_of, IsBehind, AreBehind, Tree, IsTrie, text_of, key_at}
+use Rattle.hyphenation_commons.specs.Links.{parent_of, byte_of}
+use Rattle.hyphenation_commons.specs.Trie.{texts_of, HasFroms, Tree, IsTrie, text_of, key_at}
 use Rattle.hyphenation_commons.specs.declared.trie.Node.{Node}
 use Rattle.hyphenation_commons.proofs.Tied.{entries_at-here, length-texts_of}
-
-pub all_behind-push : (froms : List (Option (ℕ × ℕ))) (node : ℕ) (from : Option (ℕ × ℕ)) → AreBehind node froms → IsBehind (node + length froms) from → AreBehind node (froms ++ from ∷ [])
-all_behind-push [] node from h is = (subst (λ (n : ℕ). IsBehind n from) (omega arith) is, tt)
-all_behind-push (f ∷ fs) node from h is = (h.0, all_behind-push fs (node + 1) from h.1 (subst (λ (n : ℕ). IsBehind n from) (omega arith) is))
-
--- later texts leave the earlier ones as they are
-kept : (fs : List (Option (ℕ × ℕ))) (acc : List (List ℕ)) (k : ℕ) → k < length acc → get_or (fold with_text acc fs) k [] ≡ get_or acc k []
-kept [] acc k lt = refl
-kept (f ∷ fs) acc k lt =
-    kept fs (with_text acc f) k (omega (arith, length-append acc (text_after acc f ∷ []))) ∙ get_or_append_left acc (text_after acc f ∷ []) [] k lt
-
-same_after : (fs : List (Option (ℕ × ℕ))) (acc : List (List ℕ)) (f : Option (ℕ × ℕ)) → IsBehind (length acc) f → text_after acc f ≡ text_after (fold with_text acc fs) f
-same_after fs acc None h = refl
-same_after fs acc (Some from) h = ap (λ (t : List ℕ). t ++ from.1 ∷ []) (sym (kept fs acc from.0 h))
-
-text_at : (fs : List (Option (ℕ × ℕ))) (acc : List (List ℕ)) (j : ℕ) → AreBehind (length acc) fs → j < length fs
-    → get_or (fold with_text acc fs) (length acc + j) [] ≡ text_after (fold with_text acc fs) (get_or fs j None)
-text_at [] acc j h lt = absurd (omega arith)
-text_at (f ∷ fs) acc zero h lt =
-    let now : List (List ℕ) = with_text acc f in
-    let len : length now ≡ length acc + 1 = length-append acc (text_after acc f ∷ []) in
-    kept fs now (length acc + 0) (omega (arith, len)) ∙ get_or_push acc (text_after acc f) [] (length acc + 0) (omega arith)
-    ∙ same_after (f ∷ fs) acc f h.0
-text_at (f ∷ fs) acc (suc j) h lt =
-    let now : List (List ℕ) = with_text acc f in
-    let len : length now ≡ length acc + 1 = length-append acc (text_after acc f ∷ []) in
-    let next : length acc + suc j ≡ length now + j = omega (arith, len) in
-    ap (λ (n : ℕ). get_or (fold with_text now fs) n []) next
-    ∙ text_at fs now j (subst (λ (n : ℕ). AreBehind n fs) (sym len) h.1) (omega arith)
-
-pub text_of-node : (fs : List (Option (ℕ × ℕ))) (j : ℕ) → AreBehind 0 fs → j < length fs → get_or (texts_of fs) j [] ≡ text_after (texts_of fs) (get_or fs j None)
-text_of-node fs j h lt = ap (λ (n : ℕ). get_or (texts_of fs) n []) none ∙ text_at fs [] j h lt
-  where
-    none : j ≡ 0 + j
-    none = omega arith
-
-pub behind-at : (fs : List (Option (ℕ × ℕ))) (node j : ℕ) → AreBehind node fs → j < length fs → IsBehind (node + j) (get_or fs j None)
-behind-at [] node j h lt = absurd (omega arith)
-behind-at (f ∷ fs) node zero h lt = subst (λ (n : ℕ). IsBehind n f) (omega arith) h.0
-behind-at (f ∷ fs) node (suc j) h lt = subst (λ (n : ℕ). IsBehind n (get_or fs j None)) (omega arith) (behind-at fs (node + 1) j h.1 (omega arith))
 
 -- the keys from a node on
 pub pairs_from : {E : Type 0} (ts : List (List ℕ)) (es : List (Option (List E))) (i : ℕ) (o : Option (List E)) → i < length ts → i < length es → get_or es i None ≡ o
@@ -58,24 +19,17 @@ pub entries_here : {E : Type 0} (t : Tree E) (i : ℕ) → IsTrie t → i < leng
 entries_here t i trie lt = entries_at-here t.texts t.entries i trie.distinct trie.lengths lt
 
 -- a step up: the parent stands before the node, and its text lacks the last byte
-pub step_up : (ns : List Node) (at : ℕ) (n : Node) (from : ℕ × ℕ) → AreBehind 0 (map (λ n. n.from) ns) → at < length ns → n ≡ get_or ns at n → n.from ≡ Some from
-    → (from.0 < at) × (get_or (texts_of (map (λ n. n.from) ns)) at [] ≡ get_or (texts_of (map (λ n. n.from) ns)) from.0 [] ++ from.1 ∷ [])
-step_up ns at n from h lt read is =
+pub step_up : (ns : List Node) (at : ℕ) (n : Node) → HasFroms (texts_of (map (λ n. n.from) ns)) (map (λ n. n.from) ns) → 0 < at → at < length (texts_of (map (λ n. n.from) ns)) → n ≡ get_or ns at n
+    → (parent_of n.from < at) × (get_or (texts_of (map (λ n. n.from) ns)) at [] ≡ get_or (texts_of (map (λ n. n.from) ns)) (parent_of n.from) [] ++ byte_of n.from ∷ [])
+step_up ns at n froms some lt read =
     let fs = map (λ (n : Node). n.from) ns in
     let len : length fs ≡ length ns = simp length-map in
-    let here : get_or fs at None ≡ Some from = get_or-map (λ (n : Node). n.from) ns at n None lt ∙ ap (λ (n : Node). n.from) (sym read) ∙ is in (
-      subst (IsBehind at) here (subst (λ (k : ℕ). IsBehind k (get_or fs at None)) (omega arith) (behind-at fs 0 at h (omega (arith, len)))),
-      text_of-node fs at h (omega (arith, len)) ∙ ap (text_after (texts_of fs)) here,
+    let up = froms at some lt in
+    let here : n.from ≡ Some up.0 =
+    ap (λ (n : Node). n.from) read ∙ sym (get_or-map (λ (n : Node). n.from) ns at n None (omega (arith, len, lt, length-texts_of fs))) ∙ up.1 in (
+      subst (λ (f : Option (ℕ × ℕ)). parent_of f < at) (sym here) up.2,
+      subst (λ (f : Option (ℕ × ℕ)). get_or (texts_of fs) at [] ≡ get_or (texts_of fs) (parent_of f) [] ++ byte_of f ∷ []) (sym here) up.3,
     )
-
--- at the root the way up ends
-pub at_root : (ns : List Node) (at : ℕ) (n : Node) → AreBehind 0 (map (λ n. n.from) ns) → at < length ns → n ≡ get_or ns at n → n.from ≡ None
-    → get_or (texts_of (map (λ n. n.from) ns)) at [] ≡ []
-at_root ns at n h lt read is =
-    let fs = map (λ (n : Node). n.from) ns in
-    let len : length fs ≡ length ns = simp length-map in
-    let here : get_or fs at None ≡ None = get_or-map (λ (n : Node). n.from) ns at n None lt ∙ ap (λ (n : Node). n.from) (sym read) ∙ is in
-    text_of-node fs at h (omega (arith, len)) ∙ ap (text_after (texts_of fs)) here
 
 pub more_text : (up text new items all : List ℕ) (byte : ℕ) → text ≡ up ++ byte ∷ [] → new ≡ items ++ byte ∷ [] → text ++ reverse items ≡ all → up ++ reverse new ≡ all
 more_text up text new items all byte t n e =

@@ -8,6 +8,9 @@ pub mod Ordered
 pub mod Writing
 pub mod Counts
 pub mod Trie
+pub mod Chains
+pub mod Rows
+pub mod Links
 pub mod Form
 pub mod Lines
 pub mod Tokens

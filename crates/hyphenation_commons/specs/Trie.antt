@@ -95,15 +95,6 @@ abbrev pub AreWithin : ℕ → List Node → Type 0
 AreWithin bound [] = Unit {0}
 AreWithin bound (n ∷ ns) = IsWithin bound n.span × AreWithin bound ns
 
--- A parent stands before its node, the first of which has that number.
-abbrev pub IsBehind : ℕ → Option (ℕ × ℕ) → Type 0
-IsBehind node None = Unit {0}
-IsBehind node (Some from) = from.0 < node
-
-abbrev pub AreBehind : ℕ → List (Option (ℕ × ℕ)) → Type 0
-AreBehind node [] = Unit {0}
-AreBehind node (from ∷ froms) = IsBehind node from × AreBehind (node + 1) froms
-
 -- The test by which the edges are looked up.
 abbrev pub pair_eq : ℕ × ℕ → ℕ × ℕ → Bool
 pair_eq x y = nat_eq x.0 y.0 && nat_eq x.1 y.1
@@ -114,3 +105,12 @@ pub record IsTied (texts : List (List ℕ)) (edge : ℕ → ℕ → Option ℕ) 
   pub sound : (i b j : ℕ) → edge i b ≡ Some j → (i < length texts) × (j < length texts) × (slice_index_or texts j [] ≡ slice_index_or texts i [] ++ b ∷ [])
   pub complete : (i b j : ℕ) → i < length texts → j < length texts → slice_index_or texts j [] ≡ slice_index_or texts i [] ++ b ∷ [] → edge i b ≡ Some j
   pub closed : (j : ℕ) → 0 < j → j < length texts → (i : ℕ) × (b : ℕ) × (i < length texts) × (slice_index_or texts j [] ≡ slice_index_or texts i [] ++ b ∷ [])
+
+-- Each node but the root is behind a parent, which stands before it, and a byte.
+abbrev pub HasFroms : List (List ℕ) → List (Option (ℕ × ℕ)) → Type 0
+HasFroms texts froms =
+    (j : ℕ) → 0 < j → j < length texts → (from : ℕ × ℕ) × (slice_index_or froms j None ≡ Some from) × (from.0 < j) × (slice_index_or texts j [] ≡ slice_index_or texts from.0 [] ++ from.1 ∷ [])
+
+-- No two of the texts are the same.
+abbrev pub AreApart : List (List ℕ) → Type 0
+AreApart texts = (i j : ℕ) → i < length texts → j < length texts → slice_index_or texts i [] ≡ slice_index_or texts j [] → i ≡ j

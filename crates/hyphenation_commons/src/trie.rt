@@ -16,18 +16,21 @@
 //!                  [rkin]
 //! ```
 //!
-//! To find the keys that begin at a byte of a word, one walks from the root along the bytes of the
-//! word, and stops where there is no child: below it there is no key.
+//! A trie grows key by key. Then it is frozen, which makes it an [`automaton::Automaton`]: that grows no more, and finds
+//! the keys that stand in a word in one pass over the word's bytes.
 //!
 //! Nodes are numbers: those below the number of texts that a clause sees, `length texts`. A node
-//! keeps its number as the trie grows.
+//! keeps its number as the trie grows, and when it is frozen.
 
 ghost use Rattle.std.specs.Prelude.{◌≡◌, ◌≢◌, ◌+◌, ◌<◌, ◌≤◌, ◌^◌, ◌++◌, [], ◌∷◌, ℕ, List, length, None, Some, IfOk, OnOk, OnErr, if◌then◌else◌, nat_eq, is_some, IfSome, IfNone, option_copied};
 ghost use Rattle.std.specs.Cmp.Lexicographic.{pointwise};
 ghost use Rattle.std.specs.List.{slice_range};
-ghost use Rattle.hyphenation_commons.specs.Held.{pairs_of};
-ghost use Rattle.hyphenation_commons.specs.Ordered.{shown_keys};
 ghost use Rattle.hyphenation_commons.specs.Trie.{Tree, text_of, key_at, grown, IsTrie, Grows, AddsFront, KeepsNodes, EachBeginsKey, with_entries};
+
+pub mod automaton;
+mod chains;
+mod frozen;
+mod rows;
 
 use std::alloc::{AllocError, Global};
 use std::collections::HashMap;
@@ -83,6 +86,14 @@ impl LookUps {
     {
         self.made += 1;
     }
+
+    /// Counts one report.
+    pub(crate) fn report(&mut self)
+        requires { self.old.reported + 1 < 2 ^ 128 }
+        ensures { self.new ≡ record self.old { reported = self.old.reported + 1 } }
+    {
+        self.reported += 1;
+    }
 }
 
 /// Where the entries of a key stand among the entries of all keys.
@@ -124,13 +135,13 @@ pub struct Trie<E> {
 impl<E> Model for Trie<E> {
     ghost use Rattle.std.specs.Prelude.{map, length};
     ghost use Rattle.std.specs.HashMap.{get};
-    ghost use Rattle.hyphenation_commons.specs.Trie.{Tree, seen, texts_of, IsTied, AreWithin, AreBehind, pair_eq};
+    ghost use Rattle.hyphenation_commons.specs.Trie.{Tree, seen, texts_of, IsTied, AreWithin, HasFroms, pair_eq};
 
     ghost Value = { Tree E };
 
     ghost view = { λ t. seen t.nodes.items t.entries.items };
 
-    ghost invariant = { λ t. IsTied (texts_of (map (λ n. n.from) t.nodes.items)) (λ i b. get pair_eq t.edges (i, b)) × AreWithin (length t.entries.items) t.nodes.items × AreBehind 0 (map (λ n. n.from) t.nodes.items) };
+    ghost invariant = { λ t. IsTied (texts_of (map (λ n. n.from) t.nodes.items)) (λ i b. get pair_eq t.edges (i, b)) × AreWithin (length t.entries.items) t.nodes.items × HasFroms (texts_of (map (λ n. n.from) t.nodes.items)) (map (λ n. n.from) t.nodes.items) };
 }
 
 impl<E: Drop> Trie<E> {
@@ -159,46 +170,6 @@ impl<E: Drop> Trie<E> {
         })
     }
 
-    /// The root: the node of the empty text.
-    pub fn root(&self) -> usize
-        ensures root { result ≡ 0 }
-        ensures node { result < length self.now.texts }
-        ensures text { text_of self.now result ≡ [] }
-        ensures trie { IsTrie self.now }
-    {
-        // The look at a field tells the proof what is true of each trie.
-        let _nodes = &self.nodes;
-        0
-    }
-
-    /// The child of a node at a byte, which counts as one look-up.
-    ///
-    /// The child's text is the node's with the byte behind it. Where there is none, no key begins
-    /// with that text. This is the only way to a child.
-    pub fn child(&self, node: usize, byte: u8, count: &mut LookUps) -> Option<usize>
-        requires node { node < length self.now.texts }
-        requires room { count.old.made + 1 < 2 ^ 128 }
-        ensures counted { count.new ≡ record count.old { made = count.old.made + 1 } }
-        ensures found { IfSome result (λ j. (j < length self.now.texts) × (text_of self.now j ≡ text_of self.now node ++ byte ∷ [])) }
-        ensures no_key { IfNone result ((rest : List ℕ) → key_at self.now ((text_of self.now node ++ byte ∷ []) ++ rest) ≡ None) }
-    {
-        count.look_up();
-        self.child_of(node, byte)
-    }
-
-    /// The entries of the key that a node's text is; none where it is no key.
-    ///
-    /// This is the only way to a key's entries.
-    pub fn entries(&self, node: usize) -> Option<&[E]>
-        requires { node < length self.now.texts }
-        ensures key { option_copied result ≡ key_at self.now (text_of self.now node) }
-    {
-        match self.nodes[node].span {
-            None => None,
-            Some(span) => Some(part(&self.entries, span)),
-        }
-    }
-
     /// Moves these entries to a key, in place of those that it had. Whether it was a key.
     ///
     /// No other key changes, and the list is empty then and can be filled again. The only error is memory, and then
@@ -218,36 +189,19 @@ impl<E: Drop> Trie<E> {
         Ok(had)
     }
 
-    /// The keys, each with its entries, in no order that means anything.
-    pub(crate) fn keys(&self, alloc: Global) -> Result<Vec<(Vec<u8>, &[E])>, AllocError>
-        ensures { IfOk result (λ keys. shown_keys keys.items ≡ pairs_of self.now.texts self.now.entries) }
+    /// The root: the node of the empty text.
+    fn root(&self) -> usize
+        ensures root { result ≡ 0 }
+        ensures node { result < length self.now.texts }
+        ensures text { text_of self.now result ≡ [] }
+        ensures trie { IsTrie self.now }
     {
-        let mut keys = Vec::new(alloc);
-        for node in 0..self.nodes.len() {
-            if let Some(entries) = self.entries(node) {
-                let key = self.text(alloc, node)?;
-                keys.push((key, entries))?;
-            }
-        }
-        Ok(keys)
+        // The look at a field tells the proof what is true of each trie.
+        let _nodes = &self.nodes;
+        0
     }
 
-    /// The text of a node, by the bytes on the way up to the root.
-    fn text(&self, alloc: Global, node: usize) -> Result<Vec<u8>, AllocError>
-        requires { node < length self.now.texts }
-        ensures { IfOk result (λ text. text.items ≡ text_of self.now node) }
-    {
-        let mut text = Vec::new(alloc);
-        let mut at = node;
-        while let Some((parent, byte)) = self.nodes[at].from {
-            text.push(byte)?;
-            at = parent;
-        }
-        text.as_mut_slice().reverse();
-        Ok(text)
-    }
-
-    /// The child of a node at a byte, which counts as no look-up.
+    /// The child of a node at a byte.
     fn child_of(&self, node: usize, byte: u8) -> Option<usize>
         requires { node < length self.now.texts }
         ensures found { IfSome result (λ j. (j < length self.now.texts) × (text_of self.now j ≡ text_of self.now node ++ byte ∷ [])) }

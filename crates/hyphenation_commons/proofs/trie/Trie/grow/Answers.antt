@@ -3,8 +3,8 @@ use Rattle.std.specs.HashMap.{get}
 use Rattle.std.proofs.lemmas.List.{map_push, length-map}
 use Rattle.hyphenation_commons.specs.Trie.{pair_eq, AreWithin}
 use Rattle.hyphenation_commons.specs.declared.trie.Node.{Node}
-use Rattle.hyphenation_commons.proofs.Tied.{grow_keeps, length-texts_of, seen-grown, all_within-push, seen_within}
-use Rattle.hyphenation_commons.proofs.Climb.{all_behind-push}
+use Rattle.hyphenation_commons.proofs.Frozen.{froms_keep}
+use Rattle.hyphenation_commons.proofs.Tied.{grow_keeps, length-texts_of, seen-grown, all_within-push}
 use Rattle.hyphenation_commons.proofs.trie.Trie.grow.Goals as goal
 
 froms_count : (ns : List Node) (n : ℕ) → n ≡ length ns → n ≡ length (map (λ n. n.from) ns)
@@ -26,7 +26,7 @@ invariant_of-self-2 g c =
     let count = froms_count c.self.inside.nodes.items c.len-child.result (c.len-child.ensures ∙ c.self.inside.nodes.ok.0) in (
       rw (items, map_push) (grow_keeps _ (λ i b. get pair_eq c.self.inside.edges (i, b)) _ c.len-child.result c.args.node c.args.byte count c.self.invariant.0 asked.node asked.absent (λ k b. c.in_ok-insert.ensures.updates.0 (k, b))),
       subst (AreWithin (length c.self.inside.entries.items)) (sym items) (all_within-push (length c.self.inside.entries.items) c.self.inside.nodes.items (record { from = Some (c.args.node, c.args.byte); span = None }) c.self.invariant.1 tt),
-      rw (items, map_push) (all_behind-push (map (λ n. n.from) c.self.inside.nodes.items) 0 (Some (c.args.node, c.args.byte)) c.self.invariant.2 (behind_end c.self.inside.nodes.items c.args.node (seen_within c.self.inside.nodes.items c.args.node asked.node))),
+      rw (items, map_push) (froms_keep _ c.args.node c.args.byte asked.node c.self.invariant.2),
     )
 
 pub returns-clause-ok : goal.returns-clause-ok

@@ -1,0 +1,10 @@
+use Rattle.std.proofs.Common.{◌≡◌, ◌+◌, ◌<◌, ◌==◌, max, ℕ, length, filter, take, slice_index, arith}
+use Rattle.hyphenation.specs.Scoring.{greatest_value}
+use Rattle.hyphenation.proofs.OnePass.{raised_more}
+use Rattle.hyphenation.proofs.score.greatest.raise.Goals as goal
+
+pub loop-entry-preserved : goal.loop-entry-preserved
+loop-entry-preserved g c = λ i lt.
+    raised_more (λ entry. c.args.start + entry.place == (i + 1) + 1) c.args.entries.now c.loop-entry.entry-index c.entry-item.result
+    (slice_index c.args.values.now i) (slice_index c.loop-entry.values i) (slice_index c.raise_at.new.values i)
+    c.loop-entry-test.true c.entry-item.is (c.loop-entry.invariant i (omega arith)) (c.raise_at.ensures i (omega arith))

@@ -1,0 +1,121 @@
+//! The values of the places of a word, in one pass over its frame.
+//!
+//! Each place keeps the greatest value that a key has given it so far. In what order the keys are met makes no
+//! difference.
+
+ghost use Rattle.std.specs.Prelude.{◌≡◌, ◌+◌, ◌-◌, ◌*◌, ◌<◌, ◌≤◌, ◌^◌, ◌==◌, if◌then◌else◌, max, ℕ, List, None, length, filter, slice_index, IfOk, OnOk};
+ghost use Rattle.hyphenation_commons.specs.Dictionary.{keys_of, longest_key};
+ghost use Rattle.hyphenation_commons.specs.Links.{keys_in};
+ghost use Rattle.hyphenation_commons.specs.Trie.{text_of, key_at, EachBeginsKey};
+ghost use Rattle.hyphenation.specs.OnePass.{ending, occurrences};
+ghost use Rattle.hyphenation.specs.Scoring.{frame, greatest_value, values};
+
+use super::framed_at;
+use hyphenation_commons::breaks::Break;
+use hyphenation_commons::dictionary::{Carried, Dictionary, Entry};
+use hyphenation_commons::trie::LookUps;
+use hyphenation_commons::trie::automaton::Automaton;
+use std::alloc::{AllocError, Global};
+
+/// Raises the value of the place for which `start + place` stands, if that is within the word.
+fn raise_at(values: &mut [u8], start: usize, place: usize, value: u8)
+    ensures { (i : ℕ) → i < length values.old → slice_index values.new i ≡ max (slice_index values.old i) (if start + place == (i + 1) + 1 then value else 0) }
+{
+    // The frame has a dot before the word, and the first place stands behind the word's first byte.
+    if let Some(place) = start.checked_add(place) {
+        if 2 <= place && place - 2 < values.len() {
+            let at = place - 2;
+            if values[at] < value {
+                values[at] = value;
+            }
+        }
+    }
+}
+
+/// Raises the values to those of the entries of a key that stands at `start`.
+fn raise<C>(entries: &[Entry<C>], start: usize, values: &mut [u8])
+    ensures { (i : ℕ) → i < length values.old → slice_index values.new i ≡ max (slice_index values.old i) (greatest_value (filter (λ entry. start + entry.place == (i + 1) + 1) entries.now)) }
+{
+    for entry in entries {
+        raise_at(values, start, entry.place, entry.value);
+    }
+}
+
+/// Raises the values to those of the keys that end the text of a node, which ends at `end`, with one report for each.
+fn raise_reported<C: Drop>(
+    automaton: &Automaton<Entry<C>>,
+    from: usize,
+    end: usize,
+    values: &mut [u8],
+    count: &mut LookUps,
+)
+    requires from { from < length automaton.now.texts }
+    requires end { length (text_of automaton.now from) ≤ end }
+    requires room { count.old.reported + length (text_of automaton.now from) + 1 < 2 ^ 128 }
+    ensures values { (i : ℕ) → i < length values.old → slice_index values.new i ≡ max (slice_index values.old i) (greatest_value (ending (key_at automaton.now) (text_of automaton.now from) end (i + 1))) }
+    ensures reported { count.new.reported ≡ count.old.reported + keys_in automaton.now (text_of automaton.now from) (length (text_of automaton.now from)) }
+    ensures made { count.new.made ≡ count.old.made }
+{
+    let _root = automaton.root();
+    let mut node = automaton.report(from);
+    while node != 0 {
+        let entries = automaton.entries(node, count);
+        raise(entries, end - automaton.depth(node), values);
+        node = automaton.next_report(node);
+    }
+}
+
+/// The values of a word's places, in one pass over its frame.
+#[inline(always)]
+pub(super) fn values_in<C: Drop>(
+    alloc: Global,
+    automaton: &Automaton<Entry<C>>,
+    word: &[u8],
+    count: &mut LookUps,
+) -> Result<Vec<u8>, AllocError>
+    requires begins { EachBeginsKey automaton.now }
+    requires made { count.old.made ≤ 2 ^ 64 }
+    requires reported { count.old.reported ≤ 2 ^ 64 }
+    ensures values { IfOk result (λ v. v.items ≡ values (key_at automaton.now) word.now) }
+    ensures linear { count.new.made ≤ count.old.made + 2 * (length word.now + 2) }
+    ensures alone { ((q : List ℕ) → key_at automaton.now q ≡ None) → count.new.made ≤ count.old.made + (length word.now + 2) }
+    ensures least { OnOk result (count.old.made + (length word.now + 2) ≤ count.new.made) }
+    ensures kept { count.old.made ≤ count.new.made }
+    ensures reported { OnOk result (count.new.reported ≡ count.old.reported + occurrences (key_at automaton.now) (frame word.now)) }
+    ensures visited { count.new.reported ≤ count.old.reported + occurrences (key_at automaton.now) (frame word.now) }
+{
+    let places = word.len().saturating_sub(1);
+    let mut values = vec![in alloc; 0u8; places]?;
+    let mut node = automaton.root();
+    for at in 0..word.len() + 2 {
+        node = automaton.step(node, framed_at(word, at), count);
+        raise_reported(automaton, node, at + 1, &mut values, count);
+    }
+    Ok(values)
+}
+
+/// The values of the places of a word, from place 1 on, in one pass over the word.
+///
+/// The look-ups and the reports are counted, and the only error is memory.
+#[inline(always)]
+pub(super) fn values<C: Carried, B: Break>(
+    alloc: Global,
+    dictionary: &Dictionary<C, B>,
+    word: &str,
+    count: &mut LookUps,
+) -> Result<Vec<u8>, AllocError>
+    requires made { count.old.made ≤ 2 ^ 64 }
+    requires reported { count.old.reported ≤ 2 ^ 64 }
+    ensures places { IfOk result (λ v. length v.items ≡ length word.now - 1) }
+    ensures values { IfOk result (λ v. v.items ≡ values (keys_of dictionary.now) word.now) }
+    ensures most { count.new.made ≤ count.old.made + (length word.now + 2) * (longest_key dictionary.now + 1) }
+    ensures linear { count.new.made ≤ count.old.made + 2 * (length word.now + 2) }
+    ensures least { OnOk result (count.old.made + (length word.now + 2) ≤ count.new.made) }
+    ensures kept { count.old.made ≤ count.new.made }
+    ensures reported { OnOk result (count.new.reported ≡ count.old.reported + occurrences (keys_of dictionary.now) (frame word.now)) }
+    ensures visited { count.new.reported ≤ count.old.reported + occurrences (keys_of dictionary.now) (frame word.now) }
+{
+    // The call tells the proof what is true of each dictionary.
+    let _minima = dictionary.minima();
+    values_in(alloc, dictionary.patterns(), word.as_bytes(), count)
+}
