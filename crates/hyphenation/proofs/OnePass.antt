@@ -1,17 +1,16 @@
 -- What one pass has met: keys by their ends.
-use Rattle.std.proofs.Common.{◌≡◌, ◌≢◌, ℕ, zero, suc, ◌+◌, ◌-◌, ◌*◌, ◌<◌, ◌≤◌, max, ◌==◌, Bool, true, false, cond, List, [], ◌∷◌, ◌++◌, length, take, drop, get_or, map, filter, Option, Some, None, refl, sym, ap, subst, ◌∙◌, arith, add-zero, zero-add, ◌⊎◌, inl, inr}
+use Rattle.std.proofs.Common.{◌≡◌, ℕ, zero, suc, ◌+◌, ◌-◌, ◌<◌, ◌≤◌, max, ◌==◌, Bool, true, false, cond, List, [], ◌∷◌, ◌++◌, length, take, drop, get_or, filter, Option, Some, None, refl, sym, ap, subst, ◌∙◌, arith, add-zero, zero-add, inl, inr}
 use Rattle.std.specs.Prelude.{slice_range, IsSome, is_some, unwrap_or, count_by}
 use Rattle.std.specs.List.{flat_map, range_with_len}
-use Rattle.std.proofs.lemmas.Bool.{cases_eq, cases_lt}
-use Rattle.std.proofs.lemmas.List.{take_more, length-take, length-drop, length-append, append-nil, drop-drop, drop-take}
+use Rattle.std.proofs.lemmas.Bool.{cases_eq}
+use Rattle.std.proofs.lemmas.List.{take_more, length-take, length-drop, append-nil, drop-drop, drop-take}
 use Rattle.std.proofs.lemmas.Grind.{flat_map-append, common_steps}
 use Rattle.hyphenation_commons.specs.declared.dictionary.Entry.{Entry}
 use Rattle.hyphenation_commons.specs.Dictionary.{Patterns}
-use Rattle.hyphenation_commons.specs.Trie.{Tree, text_of, key_at, IsTrie, EachBeginsKey}
+use Rattle.hyphenation_commons.specs.Trie.{Tree, text_of, key_at, EachBeginsKey}
 use Rattle.hyphenation_commons.specs.Links.{Ends, IsLongest, IsReport, keys_in}
-use Rattle.hyphenation_commons.proofs.Below.{node_of_key}
-use Rattle.hyphenation_commons.proofs.Suffixes.{Ends-refl, Ends-nil, Ends-both, Ends-trans, Ends-rest, Ends-whole, Ends-same, longest_more}
-use Rattle.hyphenation.specs.Scoring.{greatest_value, bearing, bearing_from, bearers, value_at, values, frame}
+use Rattle.hyphenation_commons.proofs.KeyNodes.{node_of_key}
+use Rattle.hyphenation.specs.Scoring.{greatest_value, bearing, bearing_from, bearers, values}
 use Rattle.hyphenation.specs.OnePass.{piece, ending, keys_ending, occurrences}
 use Rattle.hyphenation.proofs.Greatest.{greatest_value-append, greatest_value-within, filter-append}
 use Rattle.hyphenation.proofs.Ranges.{range-append, range_more, flat_map_none}

@@ -1,16 +1,16 @@
-use Rattle.std.proofs.Common.{◌≡◌, ◌+◌, ◌-◌, ◌*◌, ◌<◌, ◌≤◌, max, ℕ, List, [], ◌∷◌, ◌++◌, length, map, take, drop, get_or, slice_index, None, inl, inr, refl, ap, sym, subst, ◌∙◌, arith}
+use Rattle.std.proofs.Common.{◌≡◌, ◌+◌, ◌-◌, ◌<◌, ◌≤◌, ℕ, List, [], ◌∷◌, ◌++◌, length, map, take, drop, get_or, None, refl, ap, sym, subst, ◌∙◌, arith}
 use Rattle.std.specs.Option.{option_copied}
-use Rattle.std.specs.List.{range_with_len, flat_map, sum_by}
+use Rattle.std.specs.List.{range_with_len, sum_by}
 use Rattle.std.proofs.Math.Nat.{mul-le-mul_right}
 use Rattle.std.proofs.lemmas.List.{length-append, length-take, take_at, take_more, length-map, get_or-map, ext_get_or}
 use Rattle.std.proofs.lemmas.List.FromFn.{length-map-range_with_len, get_or-map-range_with_len}
 use Rattle.std.proofs.lemmas.List.Sums.{sum_by-append}
-use Rattle.hyphenation_commons.specs.Trie.{Tree, text_of, key_at}
-use Rattle.hyphenation_commons.specs.Links.{IsLongest, keys_in}
+use Rattle.hyphenation_commons.specs.Trie.{text_of, key_at}
+use Rattle.hyphenation_commons.specs.Links.{IsLongest}
 use Rattle.hyphenation_commons.proofs.Suffixes.{longest_more}
 use Rattle.hyphenation.specs.Scoring.{frame, winner_at}
 use Rattle.hyphenation.specs.OnePass.{keys_ending}
-use Rattle.hyphenation.specs.Winners.{best_of, Best, Holds, Asked, IsPair}
+use Rattle.hyphenation.specs.Winners.{best_of, Holds, Asked}
 use Rattle.hyphenation.proofs.Visits.{met_end}
 use Rattle.hyphenation.proofs.Ranges.{range_more}
 use Rattle.hyphenation.proofs.OnePass.{alone_is, counted_is, keys_in_most}

@@ -1,11 +1,11 @@
-use Rattle.std.proofs.Common.{◌≡◌, ◌+◌, ◌-◌, ◌*◌, ◌<◌, ◌≤◌, max, ℕ, List, [], ◌∷◌, ◌++◌, length, map, take, drop, get_or, slice_index, refl, ap, sym, subst, ◌∙◌, arith}
+use Rattle.std.proofs.Common.{◌≡◌, ◌+◌, ◌-◌, ◌<◌, ◌≤◌, max, ℕ, List, [], ◌∷◌, ◌++◌, length, map, take, drop, get_or, slice_index, refl, ap, sym, subst, ◌∙◌, arith}
 use Rattle.std.specs.List.{range_with_len, flat_map, sum_by}
 use Rattle.std.proofs.Math.Nat.{mul-le-mul_right}
-use Rattle.std.proofs.lemmas.List.{length-append, length-take, take_at, take_more, take_all, ext_get_or}
+use Rattle.std.proofs.lemmas.List.{length-append, length-take, take_at, take_more, ext_get_or}
 use Rattle.std.proofs.lemmas.List.FromFn.{length-map-range_with_len, get_or-map-range_with_len}
 use Rattle.std.proofs.lemmas.List.Sums.{sum_by-append}
-use Rattle.hyphenation_commons.specs.Trie.{Tree, text_of, key_at}
-use Rattle.hyphenation_commons.specs.Links.{IsLongest, keys_in}
+use Rattle.hyphenation_commons.specs.Trie.{text_of, key_at}
+use Rattle.hyphenation_commons.specs.Links.{IsLongest}
 use Rattle.hyphenation_commons.proofs.Suffixes.{longest_more}
 use Rattle.hyphenation.specs.Scoring.{frame, greatest_value, value_at}
 use Rattle.hyphenation.specs.OnePass.{ending, keys_ending}
