@@ -122,26 +122,8 @@ greater_second a b lt = ap (λ t. cond t b a) (lt-ltb (value_of a) (value_of b) 
 pub greater_first : {C : Type 0} (a b : Option (Entry C)) → value_of b ≤ value_of a → greater a b ≡ a
 greater_first a b le = ap (λ t. cond t b a) (le-ltb (value_of a) (value_of b) le)
 
-pub greater_assoc : {C : Type 0} (a b c : Option (Entry C)) → greater (greater a b) c ≡ greater a (greater b c)
-greater_assoc a b c = elim (cases_lt (value_of a) (value_of b)) [
-  | inl ab ↦ elim (cases_lt (value_of b) (value_of c)) [
-    | inl bc ↦ ap (λ x. greater x c) (greater_second a b ab) ∙ greater_second b c bc ∙ sym (greater_second a c (omega arith)) ∙ ap (greater a) (sym (greater_second b c bc))
-    | inr cb ↦ ap (λ x. greater x c) (greater_second a b ab) ∙ greater_first b c cb ∙ sym (greater_second a b ab) ∙ ap (greater a) (sym (greater_first b c cb))
-  ]
-  | inr ba ↦ elim (cases_lt (value_of b) (value_of c)) [
-    | inl bc ↦ ap (λ x. greater x c) (greater_first a b ba) ∙ ap (greater a) (sym (greater_second b c bc))
-    | inr cb ↦ ap (λ x. greater x c) (greater_first a b ba) ∙ greater_first a c (omega arith) ∙ sym (greater_first a b ba) ∙ ap (greater a) (sym (greater_first b c cb))
-  ]
-]
-
 pub greater_none : {C : Type 0} (a : Option (Entry C)) → greater a None ≡ a
 greater_none a = greater_first a None (omega arith)
-
-pub none_greater : {C : Type 0} (es : List (Entry C)) → greater None (first_greatest es) ≡ first_greatest es
-none_greater es = elim (cases_eq (greatest_value es) 0) [
-  | inl nil ↦ greater_first None (first_greatest es) (omega (arith, value_of-first es)) ∙ sym (first_none es nil)
-  | inr some ↦ greater_second None (first_greatest es) (omega (arith, value_of-first es))
-]
 
 one_value : {C : Type 0} (e : Entry C) → greatest_value (e ∷ []) ≡ e.value
 one_value e = omega arith

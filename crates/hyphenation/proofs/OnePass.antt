@@ -1,17 +1,17 @@
 -- What one pass has met: keys by their ends.
-use Rattle.std.proofs.Common.{◌≡◌, ◌≢◌, ℕ, zero, suc, ◌+◌, ◌-◌, ◌*◌, ◌<◌, ◌≤◌, max, ◌==◌, Bool, true, false, cond, List, [], ◌∷◌, ◌++◌, length, take, drop, get_or, map, filter, Option, Some, None, refl, sym, ap, subst, ◌∙◌, arith, add-zero, zero-add, ◌⊎◌, inl, inr}
+use Rattle.std.proofs.Common.{◌≡◌, ℕ, zero, suc, ◌+◌, ◌-◌, ◌<◌, ◌≤◌, max, ◌==◌, Bool, true, false, cond, List, [], ◌∷◌, ◌++◌, length, take, drop, get_or, filter, Option, Some, None, refl, sym, ap, subst, ◌∙◌, arith, add-zero, zero-add, inl, inr}
 use Rattle.std.specs.Prelude.{slice_range, IsSome, is_some, unwrap_or, count_by}
-use Rattle.std.specs.List.{flat_map, range_with_len}
-use Rattle.std.proofs.lemmas.Bool.{cases_eq, cases_lt}
-use Rattle.std.proofs.lemmas.List.{take_more, length-take, length-drop, length-append, append-nil, drop-drop, drop-take}
+use Rattle.std.specs.List.{flat_map, range_with_len, sum_by}
+use Rattle.std.proofs.lemmas.Bool.{cases_eq}
+use Rattle.std.proofs.lemmas.List.Sums.{sum_by-append}
+use Rattle.std.proofs.lemmas.List.{length-append, take_more, length-take, length-drop, append-nil, drop-drop, drop-take}
 use Rattle.std.proofs.lemmas.Grind.{flat_map-append, common_steps}
 use Rattle.hyphenation_commons.specs.declared.dictionary.Entry.{Entry}
 use Rattle.hyphenation_commons.specs.Dictionary.{Patterns}
-use Rattle.hyphenation_commons.specs.Trie.{Tree, text_of, key_at, IsTrie, EachBeginsKey}
+use Rattle.hyphenation_commons.specs.Trie.{Tree, text_of, key_at, EachBeginsKey}
 use Rattle.hyphenation_commons.specs.Links.{Ends, IsLongest, IsReport, keys_in}
-use Rattle.hyphenation_commons.proofs.Below.{node_of_key}
-use Rattle.hyphenation_commons.proofs.Suffixes.{Ends-refl, Ends-nil, Ends-both, Ends-trans, Ends-rest, Ends-whole, Ends-same, longest_more}
-use Rattle.hyphenation.specs.Scoring.{greatest_value, bearing, bearing_from, bearers, value_at, values, frame}
+use Rattle.hyphenation_commons.proofs.KeyNodes.{node_of_key}
+use Rattle.hyphenation.specs.Scoring.{frame, greatest_value, bearing, bearing_from, bearers, values}
 use Rattle.hyphenation.specs.OnePass.{piece, ending, keys_ending, occurrences}
 use Rattle.hyphenation.proofs.Greatest.{greatest_value-append, greatest_value-within, filter-append}
 use Rattle.hyphenation.proofs.Ranges.{range-append, range_more, flat_map_none}
@@ -281,3 +281,16 @@ values_same keys other word h = ap (λ ks. values ks word) (same_keys keys other
 
 pub occurrences_same : {C : Type 0} (keys other : Patterns C) (framed : List ℕ) → ((text : List ℕ) → keys text ≡ other text) → occurrences keys framed ≡ occurrences other framed
 occurrences_same keys other framed h = ap (λ ks. occurrences ks framed) (same_keys keys other h)
+
+-- ---- one byte more
+
+pub length-frame : (word : List ℕ) → length (frame word) ≡ length word + 2
+length-frame word = omega (arith, length-append word (46 ∷ []))
+
+pub read_more : (texts : List (List ℕ)) (framed t : List ℕ) (at byte node : ℕ) → at < length framed → byte ≡ get_or framed at 0 → t ≡ take at framed → IsLongest texts (t ++ byte ∷ []) node → IsLongest texts (take (at + 1) framed) node
+read_more texts framed t at byte node lt read is longest =
+    let more : take (at + 1) framed ≡ t ++ byte ∷ [] = take_more framed at 0 lt ∙ ap (λ (b : ℕ). take at framed ++ b ∷ []) (sym read) ∙ ap (λ (x : List ℕ). x ++ byte ∷ []) (sym is) in
+    subst (λ (x : List ℕ). IsLongest texts x node) (sym more) longest
+
+pub sum_more : (f : ℕ → ℕ) (a n : ℕ) → sum_by f (range_with_len a (n + 1)) ≡ sum_by f (range_with_len a n) + f (a + n)
+sum_more f a n = omega (arith, ap (sum_by f) (range_more a n), sum_by-append f (range_with_len a n) ((a + n) ∷ []))

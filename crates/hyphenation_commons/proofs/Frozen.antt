@@ -12,9 +12,6 @@ use Rattle.hyphenation_commons.proofs.Tied.{texts_of-push, length-texts_of, last
 
 -- ---- where nodes come from
 
-pub HasFroms-new : HasFroms ([] ∷ []) (None ∷ [])
-HasFroms-new j pos lj = absurd (omega arith)
-
 pub HasFroms-grow : (texts : List (List ℕ)) (froms : List (Option (ℕ × ℕ))) (i b : ℕ) → length froms ≡ length texts → i < length texts → HasFroms texts froms
     → HasFroms (texts ++ (get_or texts i [] ++ b ∷ []) ∷ []) (froms ++ Some (i, b) ∷ [])
 HasFroms-grow texts froms i b len li has j pos lj =

@@ -9,7 +9,7 @@ use Rattle.std.specs.FinMap.{find, get-from_entries, get-insert, same_map, conta
 use Rattle.hyphenation_commons.specs.Dictionary.{greatest}
 use Rattle.hyphenation_commons.specs.Held.{pairs_of, patterns_of}
 use Rattle.hyphenation_commons.specs.Trie.{Tree, entries_at, key_at, IsTrie, EachBeginsKey}
-use Rattle.hyphenation_commons.proofs.Below.{node_of_key}
+use Rattle.hyphenation_commons.proofs.KeyNodes.{node_of_key}
 use Rattle.hyphenation_commons.proofs.Tied.{AllApart, apart_rest, apart_first, same_text}
 
 -- the test by which a finite map of texts looks up is the equality of their bytes

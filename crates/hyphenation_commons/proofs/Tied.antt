@@ -300,9 +300,6 @@ apart_rest t ts h i j li lj e = omega (arith, h (suc i) (suc j) (omega arith) (o
 pub apart_first : (t : List ℕ) (ts : List (List ℕ)) (i : ℕ) → AllApart (t ∷ ts) → i < length ts → t ≡ get_or ts i [] → ⊥
 apart_first t ts i h li e = omega (arith, h 0 (suc i) (omega arith) (omega arith) e)
 
-pub AllApart-trie : {E : Type 0} (t : Tree E) → IsTrie t → AllApart t.texts
-AllApart-trie t trie = trie.distinct
-
 shadowed : {X : Type 0} (b : Bool) (x y z : X) → cond b x z ≡ cond b x (cond b y z)
 shadowed true x y z = refl
 shadowed false x y z = refl

@@ -3,7 +3,7 @@
 //! Keys are met by their ends, and of equal values the one whose key starts first has to win: so each place keeps, with
 //! the best entry so far, where its key starts. Of two that start at one byte the shorter is met first.
 
-ghost use Rattle.std.specs.Prelude.{◌≡◌, ◌+◌, ◌-◌, ◌*◌, ◌<◌, ◌≤◌, ◌^◌, ◌==◌, if◌then◌else◌, ℕ, List, None, Some, length, filter, map, take, slice_index, option_copied, IfOk, OnOk};
+ghost use Rattle.std.specs.Prelude.{◌≡◌, ◌+◌, ◌-◌, ◌*◌, ◌<◌, ◌≤◌, ◌^◌, ◌==◌, if◌then◌else◌, ℕ, List, None, Some, length, filter, map, take, option_copied, IfOk, OnOk};
 ghost use Rattle.hyphenation_commons.specs.Dictionary.{keys_of, longest_key};
 ghost use Rattle.hyphenation_commons.specs.Links.{IsLongest, keys_in};
 ghost use Rattle.hyphenation_commons.specs.Trie.{text_of, key_at, EachBeginsKey};

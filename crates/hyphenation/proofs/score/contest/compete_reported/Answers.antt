@@ -1,7 +1,7 @@
-use Rattle.std.proofs.Common.{◌≡◌, ◌+◌, ◌-◌, ◌<◌, ◌≤◌, ℕ, Some, length, take, ap, refl, sym, subst, arith, ◌∙◌}
-use Rattle.std.proofs.lemmas.List.{length-drop, length-take}
-use Rattle.hyphenation_commons.specs.Trie.{Tree, text_of, key_at}
-use Rattle.hyphenation_commons.specs.Links.{Ends, keys_in}
+use Rattle.std.proofs.Common.{◌≡◌, ◌+◌, ◌-◌, ◌<◌, ℕ, length, take, ap, refl, sym, subst, arith, ◌∙◌}
+use Rattle.std.proofs.lemmas.List.{length-drop}
+use Rattle.hyphenation_commons.specs.Trie.{text_of, key_at}
+use Rattle.hyphenation_commons.specs.Links.{keys_in}
 use Rattle.hyphenation_commons.proofs.Suffixes.{depth_pos, Ends-whole, Ends-trans}
 use Rattle.hyphenation.specs.Scoring.{frame}
 use Rattle.hyphenation.specs.Winners.{best_of, Holds, Asked}

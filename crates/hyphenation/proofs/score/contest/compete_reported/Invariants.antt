@@ -1,6 +1,6 @@
 use Rattle.std.proofs.Common.{◌≡◌, ℕ, ◌+◌, ◌-◌, ◌<◌, ◌≤◌, length}
 use Rattle.std.specs.Prelude.{IsSome}
-use Rattle.hyphenation_commons.specs.Trie.{Tree, text_of, key_at}
+use Rattle.hyphenation_commons.specs.Trie.{text_of, key_at}
 use Rattle.hyphenation_commons.specs.Links.{Ends, keys_in}
 use Rattle.hyphenation.specs.Scoring.{frame}
 use Rattle.hyphenation.specs.Winners.{best_of, Holds, Asked}

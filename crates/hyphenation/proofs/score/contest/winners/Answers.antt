@@ -1,14 +1,10 @@
-use Rattle.std.proofs.Common.{◌≡◌, ◌+◌, ◌-◌, ◌*◌, ◌≤◌, ℕ, List, Option, Some, None, length, map, refl, sym, ap, subst, ◌∙◌, arith, inl, inr}
-use Rattle.std.specs.Prelude.{is_some, IsSome}
+use Rattle.std.proofs.Common.{◌≡◌, ◌+◌, ◌-◌, ℕ, length, map, sym, ap, ◌∙◌, arith, inl, inr}
 use Rattle.std.proofs.Math.Nat.{mul-le-mul_right}
 use Rattle.std.proofs.lemmas.Bool.{cases_eq}
 use Rattle.std.proofs.lemmas.List.{length-map}
 use Rattle.std.specs.Option.{option_copied}
-use Rattle.hyphenation_commons.specs.Break.{Break, Change}
-use Rattle.hyphenation_commons.specs.Dictionary.{Contents, Patterns, keys_of, longest_key}
-use Rattle.hyphenation_commons.specs.Kept.{IsKept}
+use Rattle.hyphenation_commons.specs.Dictionary.{keys_of, longest_key}
 use Rattle.hyphenation_commons.specs.Trie.{key_at}
-use Rattle.hyphenation_commons.specs.declared.dictionary.Entry.{Entry}
 use Rattle.hyphenation.specs.Scoring.{frame, winners}
 use Rattle.hyphenation.specs.OnePass.{occurrences}
 use Rattle.hyphenation.proofs.NoKeys.{none_at_all}

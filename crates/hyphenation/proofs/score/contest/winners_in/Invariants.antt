@@ -1,6 +1,6 @@
 use Rattle.std.proofs.Common.{◌≡◌, ◌+◌, ◌-◌, ◌*◌, ◌<◌, ◌≤◌, ℕ, List, None, length, take}
 use Rattle.std.specs.List.{range_with_len, sum_by}
-use Rattle.hyphenation_commons.specs.Trie.{Tree, text_of, key_at}
+use Rattle.hyphenation_commons.specs.Trie.{text_of, key_at}
 use Rattle.hyphenation_commons.specs.Links.{IsLongest}
 use Rattle.hyphenation.specs.Scoring.{frame}
 use Rattle.hyphenation.specs.OnePass.{keys_ending}

@@ -1,5 +1,4 @@
-use Rattle.std.proofs.Common.{◌≡◌, ◌+◌, ◌<◌, ◌==◌, max, ℕ, length, filter, take, slice_index, arith}
-use Rattle.hyphenation.specs.Scoring.{greatest_value}
+use Rattle.std.proofs.Common.{◌+◌, ◌==◌, slice_index, arith}
 use Rattle.hyphenation.proofs.OnePass.{raised_more}
 use Rattle.hyphenation.proofs.score.greatest.raise.Goals as goal
 

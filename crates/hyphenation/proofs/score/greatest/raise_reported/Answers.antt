@@ -1,9 +1,8 @@
-use Rattle.std.proofs.Common.{◌≡◌, ◌+◌, ◌-◌, ◌<◌, ◌≤◌, ◌==◌, max, ℕ, Some, None, List, [], length, ap, refl, sym, subst, arith, ◌∙◌, filter, slice_index, add-zero}
-use Rattle.std.specs.Prelude.{unwrap_or, IsSome}
+use Rattle.std.proofs.Common.{◌≡◌, ◌+◌, ◌-◌, ◌<◌, max, ℕ, Some, length, ap, refl, sym, arith, ◌∙◌, slice_index}
 use Rattle.std.specs.List.{flat_map, range_with_len}
 use Rattle.std.proofs.lemmas.List.{length-drop}
-use Rattle.hyphenation_commons.specs.Trie.{Tree, text_of, key_at}
-use Rattle.hyphenation_commons.specs.Links.{Ends, keys_in}
+use Rattle.hyphenation_commons.specs.Trie.{text_of, key_at}
+use Rattle.hyphenation_commons.specs.Links.{keys_in}
 use Rattle.hyphenation_commons.proofs.Suffixes.{depth_pos, Ends-whole, Ends-trans}
 use Rattle.hyphenation.specs.Scoring.{greatest_value}
 use Rattle.hyphenation.specs.OnePass.{piece}

@@ -1,7 +1,7 @@
-use Rattle.std.proofs.Common.{◌≡◌, ℕ, ◌+◌, ◌-◌, ◌*◌, ◌<◌, ◌≤◌, max, length, slice_index}
+use Rattle.std.proofs.Common.{◌≡◌, ℕ, ◌+◌, ◌-◌, ◌<◌, ◌≤◌, max, length, slice_index}
 use Rattle.std.specs.Prelude.{IsSome}
 use Rattle.std.specs.List.{flat_map, range_with_len}
-use Rattle.hyphenation_commons.specs.Trie.{Tree, text_of, key_at}
+use Rattle.hyphenation_commons.specs.Trie.{text_of, key_at}
 use Rattle.hyphenation_commons.specs.Links.{Ends, keys_in}
 use Rattle.hyphenation.specs.Scoring.{greatest_value}
 use Rattle.hyphenation.specs.OnePass.{piece}

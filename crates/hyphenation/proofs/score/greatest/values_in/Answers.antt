@@ -1,28 +1,14 @@
-use Rattle.std.proofs.Common.{◌≡◌, ◌+◌, ◌-◌, ◌*◌, ◌<◌, ◌≤◌, max, ℕ, List, [], ◌∷◌, ◌++◌, length, map, take, drop, get_or, slice_index, refl, ap, sym, subst, ◌∙◌, arith}
+use Rattle.std.proofs.Common.{◌≡◌, ◌+◌, ◌-◌, ◌<◌, ◌≤◌, max, ℕ, [], ◌∷◌, ◌++◌, length, map, take, drop, slice_index, refl, ap, sym, ◌∙◌, arith}
 use Rattle.std.specs.List.{range_with_len, flat_map, sum_by}
 use Rattle.std.proofs.Math.Nat.{mul-le-mul_right}
-use Rattle.std.proofs.lemmas.List.{length-append, length-take, take_at, take_more, take_all, ext_get_or}
+use Rattle.std.proofs.lemmas.List.{length-append, length-take, take_at, ext_get_or}
 use Rattle.std.proofs.lemmas.List.FromFn.{length-map-range_with_len, get_or-map-range_with_len}
-use Rattle.std.proofs.lemmas.List.Sums.{sum_by-append}
-use Rattle.hyphenation_commons.specs.Trie.{Tree, text_of, key_at}
-use Rattle.hyphenation_commons.specs.Links.{IsLongest, keys_in}
+use Rattle.hyphenation_commons.specs.Trie.{text_of, key_at}
 use Rattle.hyphenation_commons.proofs.Suffixes.{longest_more}
 use Rattle.hyphenation.specs.Scoring.{frame, greatest_value, value_at}
 use Rattle.hyphenation.specs.OnePass.{ending, keys_ending}
-use Rattle.hyphenation.proofs.Ranges.{range_more}
-use Rattle.hyphenation.proofs.OnePass.{greatest_more, ending_at, ending_is, by_ends, alone_is, counted_is, keys_in_most}
+use Rattle.hyphenation.proofs.OnePass.{length-frame, read_more, sum_more, greatest_more, ending_at, ending_is, by_ends, alone_is, counted_is, keys_in_most}
 use Rattle.hyphenation.proofs.score.greatest.values_in.Goals as goal
-
-length-frame : (word : List ℕ) → length (frame word) ≡ length word + 2
-length-frame word = omega (arith, length-append word (46 ∷ []))
-
-read_more : (texts : List (List ℕ)) (framed t : List ℕ) (at byte node : ℕ) → at < length framed → byte ≡ get_or framed at 0 → t ≡ take at framed → IsLongest texts (t ++ byte ∷ []) node → IsLongest texts (take (at + 1) framed) node
-read_more texts framed t at byte node lt read is longest =
-    let more : take (at + 1) framed ≡ t ++ byte ∷ [] = take_more framed at 0 lt ∙ ap (λ (b : ℕ). take at framed ++ b ∷ []) (sym read) ∙ ap (λ (x : List ℕ). x ++ byte ∷ []) (sym is) in
-    subst (λ (x : List ℕ). IsLongest texts x node) (sym more) longest
-
-sum_more : (f : ℕ → ℕ) (a n : ℕ) → sum_by f (range_with_len a (n + 1)) ≡ sum_by f (range_with_len a n) + f (a + n)
-sum_more f a n = omega (arith, ap (sum_by f) (range_more a n), sum_by-append f (range_with_len a n) ((a + n) ∷ []))
 
 pub raise_reported-requires-clause-end : goal.raise_reported-requires-clause-end
 raise_reported-requires-clause-end g c =

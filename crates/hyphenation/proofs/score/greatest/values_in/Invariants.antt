@@ -1,6 +1,6 @@
 use Rattle.std.proofs.Common.{◌≡◌, ◌+◌, ◌-◌, ◌*◌, ◌<◌, ◌≤◌, ℕ, List, length, take, None, slice_index}
 use Rattle.std.specs.List.{range_with_len, flat_map, sum_by}
-use Rattle.hyphenation_commons.specs.Trie.{Tree, text_of, key_at}
+use Rattle.hyphenation_commons.specs.Trie.{text_of, key_at}
 use Rattle.hyphenation_commons.specs.Links.{IsLongest}
 use Rattle.hyphenation.specs.Scoring.{frame, greatest_value}
 use Rattle.hyphenation.specs.OnePass.{keys_ending}
