@@ -18,6 +18,7 @@ use hyphenation_commons::language::Language;
 use std::alloc::{AllocError, Global};
 use std::io;
 use std::io::{Read, Write};
+pub use whole::read_input;
 use whole::whole_text;
 
 /// Why a run wrote nothing, or not all.
