@@ -405,6 +405,10 @@ fn a_result_that_cannot_be_written_is_told_and_a_message_that_cannot_is_not(
 
 const VERSE: &str = "hyphenation 1 standard\nlanguage en-gb\nminima 2 3\ne noble 2\ne accents 2\n";
 
+fn filled_by(rt: &HostRuntime, path: &str, columns: &str, text: &[u8]) -> Answer {
+    answer_over(rt, &["fill", "en-gb", path, columns], text)
+}
+
 #[test]
 fn a_text_is_filled(rt: HostRuntime) -> Result<(), Fail> {
     let path = file(&rt, "verse", VERSE.as_bytes())?;
@@ -419,8 +423,7 @@ fn a_text_is_filled(rt: HostRuntime) -> Result<(), Fail> {
         ("72", "", ""),
     ];
     for (columns, text, wanted) in cases {
-        let words = ["fill", "en-gb", path.as_str(), columns];
-        let given = answer_over(&rt, &words, text.as_bytes());
+        let given = filled_by(&rt, &path, columns, text.as_bytes());
         assert_eq!(rt; given.status, 0, "{columns}");
         assert_eq!(rt; given.output.as_slice(), wanted.as_bytes(), "{columns}");
         assert_eq!(rt; given.faults.len(), 0);
