@@ -16,6 +16,8 @@ mod faults;
 #[cfg(test)]
 mod files;
 #[cfg(test)]
+mod lines;
+#[cfg(test)]
 mod long_words;
 #[cfg(test)]
 mod run_faults;

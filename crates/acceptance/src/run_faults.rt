@@ -54,9 +54,10 @@ pub fn torn(left: &[u8], until: usize) -> Faulty<'_> {
 /// Takes one byte a write, but for a fault at the write of this number, counted from 1: it fails once, and then takes
 /// bytes again.
 #[derive(Drop)]
-struct Hiccup {
+pub struct Hiccup {
     until: usize,
-    taken: Vec<u8>,
+    /// What was taken.
+    pub taken: Vec<u8>,
 }
 
 impl Write for Hiccup {
@@ -80,7 +81,8 @@ impl Write for Hiccup {
     }
 }
 
-fn failing_once(alloc: Global, until: usize) -> Hiccup {
+/// A writer whose write of this number fails.
+pub fn failing_once(alloc: Global, until: usize) -> Hiccup {
     Hiccup {
         until,
         taken: Vec::new(alloc),

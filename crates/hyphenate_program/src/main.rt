@@ -1,4 +1,5 @@
-//! The program `hyphenate`: a text with marks at the breaks of its words, or the score of a word, by a dictionary.
+//! The program `hyphenate`: a text with marks at the breaks of its words, its lines of a column width, or the score of
+//! a word, by a dictionary.
 //!
 //! `main` hands its words to `command::answer`, which does all and which the tests call.
 #![tactic(auto)]

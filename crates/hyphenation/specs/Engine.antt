@@ -128,3 +128,8 @@ abbrev pub IsOfInput : RunError → Type 0
 IsOfInput (Input e) = error_kind e ≢ OutOfMemory
 IsOfInput Memory = Unit {0}
 IsOfInput _ = ⊥
+
+-- Why the text can't be had: as the input, or it is not UTF-8.
+abbrev pub IsOfText : RunError → Type 0
+IsOfText TextNotUtf8 = Unit {0}
+IsOfText e = IsOfInput e

@@ -14,10 +14,12 @@ use crate::score::Score;
 use hyphenation_commons::dictionary::{Extended, Standard};
 use hyphenation_commons::extended::Subregion;
 pub use hyphenation_commons::grammar::form::Kind;
+pub use hyphenation_commons::grammar::number_of;
 use hyphenation_commons::language::Language;
 use std::alloc::{AllocError, Global};
 use std::io;
 use std::io::{Read, Write};
+pub use whole::read_input;
 use whole::whole_text;
 
 /// Why a run wrote nothing, or not all.

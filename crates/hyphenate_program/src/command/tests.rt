@@ -116,8 +116,19 @@ fn an_extended_dictionary_that_is_refused_is_named_with_its_fault(
 
 #[test]
 fn other_words_are_answered_by_the_usage(rt: HostRuntime) {
-    let cases: [&[&str]; 12] = [
+    let cases: [&[&str]; 23] = [
         &[],
+        &["fill"],
+        &["fill", "en-gb", "firkin.txt"],
+        &["fill", "en-gb", "firkin.txt", "72", "more"],
+        &["fill", "standard", "en-gb", "firkin.txt", "72"],
+        &["fill", "en-GB", "firkin.txt", "72"],
+        &["fill", "en-gb", "firkin.txt", ""],
+        &["fill", "en-gb", "firkin.txt", "-1"],
+        &["fill", "en-gb", "firkin.txt", "+1"],
+        &["fill", "en-gb", "firkin.txt", "072"],
+        &["fill", "en-gb", "firkin.txt", " 72"],
+        &["fill", "en-gb", "firkin.txt", "18446744073709551616"],
         &["score"],
         &["score", "standard", "en-gb", "firkin.txt"],
         &["score", "standard", "en-gb", "firkin.txt", "firkin", "more"],
@@ -136,7 +147,7 @@ fn other_words_are_answered_by_the_usage(rt: HostRuntime) {
         assert_eq!(rt; given.output.len(), 0);
         assert_eq!(rt;
             given.faults.as_slice(),
-            b"usage: hyphenate KIND CODE PATH MARK [EDIT..]\n       hyphenate score KIND CODE PATH WORD\n".as_slice(),
+            b"usage: hyphenate KIND CODE PATH MARK [EDIT..]\n       hyphenate score KIND CODE PATH WORD\n       hyphenate fill CODE PATH COLUMNS\n".as_slice(),
             "{words:?}"
         );
     }
@@ -192,6 +203,10 @@ fn a_path_that_is_missing_or_a_folder_is_a_fault_of_the_dictionary(rt: HostRunti
         assert_eq!(rt; given.output.len(), 0);
         assert!(rt; given.faults.starts_with(b"hyphenate: "), "{path}");
         let given = answer_over(&rt, &["standard", "en-gb", path, "-", "*"], b"\xff");
+        assert_eq!(rt; given.status, 3, "{path}");
+        assert_eq!(rt; given.output.len(), 0);
+        assert!(rt; given.faults.starts_with(b"hyphenate: "), "{path}");
+        let given = answer_over(&rt, &["fill", "en-gb", path, "72"], b"\xff");
         assert_eq!(rt; given.status, 3, "{path}");
         assert_eq!(rt; given.output.len(), 0);
         assert!(rt; given.faults.starts_with(b"hyphenate: "), "{path}");
@@ -384,6 +399,78 @@ fn a_result_that_cannot_be_written_is_told_and_a_message_that_cannot_is_not(
         &mut Full,
     );
     assert_eq!(rt; status, 2);
+    fs::remove_file(&rt, path.as_str())?;
+    Ok(())
+}
+
+const VERSE: &str = "hyphenation 1 standard\nlanguage en-gb\nminima 2 3\ne noble 2\ne accents 2\n";
+
+fn filled_by(rt: &HostRuntime, path: &str, columns: &str, text: &[u8]) -> Answer {
+    answer_over(rt, &["fill", "en-gb", path, columns], text)
+}
+
+#[test]
+fn a_text_is_filled(rt: HostRuntime) -> Result<(), Fail> {
+    let path = file(&rt, "verse", VERSE.as_bytes())?;
+    let cases: [(&str, &str, &str); 4] = [
+        ("10", "I know noble accents", "I know no-\nble ac-\ncents\n"),
+        ("0", "noble accents", "no-\nble \nac-\ncents\n"),
+        (
+            "18446744073709551615",
+            "noble accents\n",
+            "noble accents\n\n",
+        ),
+        ("72", "", ""),
+    ];
+    for (columns, text, wanted) in cases {
+        let given = filled_by(&rt, &path, columns, text.as_bytes());
+        assert_eq!(rt; given.status, 0, "{columns}");
+        assert_eq!(rt; given.output.as_slice(), wanted.as_bytes(), "{columns}");
+        assert_eq!(rt; given.faults.len(), 0);
+    }
+    fs::remove_file(&rt, path.as_str())?;
+    Ok(())
+}
+
+#[test]
+fn a_text_that_cannot_be_filled_is_told_with_its_status(rt: HostRuntime) -> Result<(), Fail> {
+    let path = file(&rt, "unfilled", VERSE.as_bytes())?;
+    let given = answer_over(&rt, &["fill", "en-us", path.as_str(), "72"], b"\xff");
+    assert_eq!(rt; given.status, 3);
+    assert_eq!(rt; given.output.len(), 0);
+    let words = ["fill", "en-gb", path.as_str(), "72"];
+    let given = answer_over(&rt, &words, b"noble \xff");
+    assert_eq!(rt; given.status, 4);
+    assert_eq!(rt; given.output.len(), 0);
+    assert_eq!(rt;
+        given.faults.as_slice(),
+        b"hyphenate: the text is not UTF-8\n".as_slice()
+    );
+    let mut output: Vec<u8> = Vec::new(rt.alloc());
+    let mut faults: Vec<u8> = Vec::new(rt.alloc());
+    let mut input = Torn(ErrorKind::ConnectionReset);
+    let given = answer(
+        &rt,
+        rt.alloc(),
+        &words,
+        &mut input,
+        &mut output,
+        &mut faults,
+    );
+    assert_eq!(rt; given, 5);
+    assert_eq!(rt; output.len(), 0);
+    assert_eq!(rt;
+        faults.as_slice(),
+        b"hyphenate: the text can't be read\n".as_slice()
+    );
+    let mut text: &[u8] = b"noble";
+    let mut faults: Vec<u8> = Vec::new(rt.alloc());
+    let given = answer(&rt, rt.alloc(), &words, &mut text, &mut Full, &mut faults);
+    assert_eq!(rt; given, 5);
+    assert_eq!(rt;
+        faults.as_slice(),
+        b"hyphenate: the result can't be written\n".as_slice()
+    );
     fs::remove_file(&rt, path.as_str())?;
     Ok(())
 }

@@ -1,12 +1,12 @@
 //! What a run over a whole text needs of a kind of dictionary, and the steps of it.
 
-ghost use Rattle.std.specs.Prelude.{◌≡◌, ◌≢◌, List, ℕ, IsTrue, IfErr, IfOk, IfSome, OnOk, IsUtf8, MatchResult, map, fold};
+ghost use Rattle.std.specs.Prelude.{◌≡◌, ◌≢◌, List, ℕ, IsTrue, IfErr, IfOk, IfSome, OnOk, map, fold};
 ghost use Rattle.std.specs.IoError.{error_kind};
 ghost use Rattle.std.specs.String.{string_bytes};
 ghost use Rattle.hyphenation_commons.specs.Break.{Break};
 ghost use Rattle.hyphenation_commons.specs.Edits.{is_good};
 ghost use Rattle.hyphenation_commons.specs.Judging.{refusal_of};
-ghost use Rattle.hyphenation.specs.Engine.{IsOfEdits, IsOfInput, JudgesDictionary, JudgesEdits, JudgesText, IsUnwritten, HoldsNoWant, language_in};
+ghost use Rattle.hyphenation.specs.Engine.{IsOfEdits, IsOfInput, IsOfText, JudgesDictionary, JudgesEdits, JudgesText, IsUnwritten, HoldsNoWant, language_in};
 ghost use Rattle.hyphenation.specs.Hyphenated.{hyphenated};
 ghost use Rattle.hyphenation.specs.Load.{ReadsIn, IsNoWant};
 
@@ -143,19 +143,25 @@ fn input_fault(e: io::Error) -> RunError
     }
 }
 
-/// All that the input has left.
-fn read_input<I: Read>(alloc: Global, input: &mut I) -> Result<Vec<u8>, RunError>
+/// All bytes that an input has left.
+fn read_bytes<I: Read>(alloc: Global, input: &mut I) -> Result<Vec<u8>, RunError>
     ensures read { IfOk result (λ read. IfSome (I.remaining input.old) (λ bytes. read.items ≡ bytes)) }
     ensures fault { IfErr result IsOfInput }
 {
     read_all(alloc, input).map_err(input_fault)
 }
 
-/// The bytes as a text.
-fn as_text(bytes: &[u8]) -> Result<&str, RunError>
-    ensures { MatchResult result (λ text. (text.now ≡ bytes.now) × IsUtf8 bytes.now) (λ e. (e ≡ RunError.TextNotUtf8) × (¬ (IsUtf8 bytes.now))) }
+/// All that an input has left, as a text.
+///
+/// The only errors are [`RunError::Input`], where the input can't be read other than for want of memory;
+/// [`RunError::TextNotUtf8`]; and [`RunError::Memory`]. How far the input was read then is not said.
+pub fn read_input<I: Read>(alloc: Global, input: &mut I) -> Result<String, RunError>
+    ensures text { IfSome (I.remaining input.old) (λ bytes. JudgesText bytes result) }
+    ensures read { IfOk result (λ text. IfSome (I.remaining input.old) (λ bytes. string_bytes text ≡ bytes)) }
+    ensures fault { IfErr result IsOfText }
 {
-    match std::str::from_utf8(bytes) {
+    let bytes = read_bytes(alloc, input)?;
+    match String::from_utf8(bytes) {
         Ok(text) => Ok(text),
         Err(_) => Err(RunError::TextNotUtf8),
     }
@@ -180,7 +186,6 @@ pub(super) fn whole_text<K: WholeTexts, D: Read, I: Read>(
 {
     let mut dictionary = K::load(alloc, lang, reader)?;
     edit_all(&mut dictionary, alloc, edits)?;
-    let bytes = read_input(alloc, input)?;
-    let text = as_text(&bytes)?;
-    Ok(dictionary.hyphenated(alloc, mark, text)?)
+    let text = read_input(alloc, input)?;
+    Ok(dictionary.hyphenated(alloc, mark, &text)?)
 }

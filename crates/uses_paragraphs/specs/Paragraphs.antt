@@ -1,0 +1,12 @@
+-- What is written of a paragraph.
+use Rattle.std.specs.Prelude.{ℕ, List, [], ◌∷◌, ◌++◌}
+use Rattle.linefill.specs.Run.{with_line_feeds}
+
+-- The line feed of a paragraph that has no lines.
+abbrev pub empty_line : List ℕ → List ℕ
+empty_line [] = 10 ∷ []
+empty_line (b ∷ bs) = []
+
+-- Its lines, each with a line feed behind it; of an empty paragraph a line feed alone.
+abbrev pub written : List ℕ → List (List ℕ) → List ℕ
+written paragraph lines = with_line_feeds lines ++ empty_line paragraph
