@@ -53,17 +53,20 @@ fn the_greatest_value_decides_each_place(rt: HostRuntime) -> Result<(), Fail> {
 
 #[test]
 fn a_score_takes_few_look_ups(rt: HostRuntime) -> Result<(), Fail> {
+    let cases: [(&str, u128, u128, u128); 2] = [("firkin", 8, 16, 6), ("firkins", 9, 18, 5)];
     let firkin = dictionary(rt.alloc(), FIRKIN)?;
-    let mut count = LookUps::new();
-    let values = firkin.score_counted(rt.alloc(), "firkin", &mut count)?;
-    assert_eq!(rt; values.len(), 5);
-    assert!(rt; 8 <= count.made() && count.made() <= 16);
-    assert_eq!(rt; count.reported(), 6);
-    let mut count = LookUps::new();
-    let values = firkin.score_counted(rt.alloc(), "firkins", &mut count)?;
-    assert_eq!(rt; values.len(), 6);
-    assert!(rt; 9 <= count.made() && count.made() <= 18);
-    assert_eq!(rt; count.reported(), 5);
+    for (word, least, most, reported) in cases {
+        let mut count = LookUps::new();
+        let values = firkin.score_counted(rt.alloc(), word, &mut count)?;
+        assert_eq!(rt; values.len() + 1, word.len());
+        assert!(rt; least <= count.made() && count.made() <= most);
+        assert_eq!(rt; count.reported(), reported);
+    }
+    Ok(())
+}
+
+#[test]
+fn without_keys_each_byte_of_the_frame_is_looked_up_once(rt: HostRuntime) -> Result<(), Fail> {
     let no_keys = dictionary(
         rt.alloc(),
         "hyphenation 1 standard\nlanguage x\nminima 2 3\n",
@@ -72,6 +75,7 @@ fn a_score_takes_few_look_ups(rt: HostRuntime) -> Result<(), Fail> {
     let values = no_keys.score_counted(rt.alloc(), "abc", &mut count)?;
     assert_eq!(rt; values.as_slice(), [0, 0].as_slice());
     assert_eq!(rt; count.made(), 5);
+    assert_eq!(rt; count.reported(), 0);
     Ok(())
 }
 
