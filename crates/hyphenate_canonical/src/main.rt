@@ -19,7 +19,7 @@ use std::process::ExitCode;
 const USAGE: &str = "usage: hyphenate-canonical KIND\n";
 
 /// Reads a dictionary text, and writes the canonical text of its dictionary.
-fn put_in_order<D: Load, R: Read, W: Write>(
+fn put_in_order<D: Load + Drop, R: Read, W: Write>(
     alloc: Global,
     input: &mut R,
     output: &mut W,
