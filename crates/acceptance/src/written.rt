@@ -9,7 +9,7 @@ use std::io::{ErrorKind, Write};
 use std::test::Fail;
 
 /// What is written of the dictionary of that text.
-fn rewritten<D: Load>(alloc: Global, text: &[u8]) -> Result<Vec<u8>, Error> {
+fn rewritten<D: Load + Drop>(alloc: Global, text: &[u8]) -> Result<Vec<u8>, Error> {
     let mut reader = text;
     let dictionary = D::any_from_reader(alloc, &mut reader)?;
     let mut written = Vec::new(alloc);
