@@ -20,6 +20,8 @@ mod lines;
 #[cfg(test)]
 mod long_words;
 #[cfg(test)]
+mod readers;
+#[cfg(test)]
 mod run_faults;
 #[cfg(test)]
 mod runs;

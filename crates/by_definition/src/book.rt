@@ -159,6 +159,21 @@ impl Bearing {
 }
 
 impl Book {
+    /// Takes a word out of the listings; whether it was one.
+    pub fn take_out(&mut self, word: &str) -> bool {
+        let before = self.listings.len();
+        self.listings
+            .retain(|listing| listing.word.as_str() != word);
+        self.listings.len() < before
+    }
+
+    /// Lists a word that is none of the listings.
+    pub fn list(&mut self, alloc: Global, word: &str, cuts: Vec<Cut>) -> Result<(), AllocError> {
+        let word = String::from_str(alloc, word)?;
+        self.listings.push(Listing { word, cuts })?;
+        Ok(())
+    }
+
     /// Its dictionary text.
     pub fn text(&self, alloc: Global, kind: &str) -> Result<String, AllocError> {
         let is_first = self.patterns.iter().all(|pattern| pattern

@@ -1,6 +1,6 @@
 //! The library beside the second hand.
 
-use crate::book::{Book, Cut, Listing};
+use crate::book::{Book, Cut};
 use crate::chance::Dice;
 use hyphenation::extended::{Extended, Subregion};
 use hyphenation::hyphenator::Break;
@@ -85,11 +85,38 @@ fn is_extended_as(
     Ok(is_same && are_those(&broken.breaks, &book.breaks(alloc, word)?))
 }
 
+/// What was compared: words, books of version 2, and exceptions set and taken out that changed the dictionary.
+#[derive(Clone, Copy)]
+struct Compared {
+    words: u32,
+    second: u32,
+    set: u32,
+    taken_out: u32,
+}
+
+impl Compared {
+    fn note(&mut self, text: &str, words: u32, set: bool, taken_out: bool) {
+        let second = text.starts_with("hyphenation 2 ");
+        self.words = self.words.saturating_add(words);
+        self.second = self.second.saturating_add(u32::from(second));
+        self.set = self.set.saturating_add(u32::from(set));
+        self.taken_out = self.taken_out.saturating_add(u32::from(taken_out));
+    }
+}
+
+const NOTHING: Compared = Compared {
+    words: 0,
+    second: 0,
+    set: 0,
+    taken_out: 0,
+};
+
 #[test]
 fn standard_dictionaries_answer_as_the_second_hand(rt: HostRuntime) -> Result<(), Fail> {
     let alloc = rt.alloc();
     let mut dice = Dice(1);
-    for _ in 0..1000 {
+    let mut compared = NOTHING;
+    for _ in 0..2_000 {
         let mut book = dice.book(alloc, false)?;
         let text = book.text(alloc, "standard")?;
         let mut reader = text.as_bytes();
@@ -105,33 +132,62 @@ fn standard_dictionaries_answer_as_the_second_hand(rt: HostRuntime) -> Result<()
         let word = dice.word_near(alloc, &book)?;
         let cuts = dice.cuts(alloc, &word, false)?;
         let places = listed_places(alloc, &cuts)?;
-        book.listings.retain(|listing| listing.word != word);
-        if dice.below(3) == 0 {
-            let _old = dictionary.remove_exception(&word);
+        let is_listed = book.take_out(&word);
+        let takes_out = dice.below(3) == 0;
+        let old = if takes_out {
+            dictionary.remove_exception(&word)
         } else if Standard::fits(&word, &places) {
-            let _old = dictionary.add_exception(String::from_str(alloc, &word)?, places)?;
-            book.listings.push(Listing {
-                word: String::from_str(alloc, &word)?,
-                cuts,
-            })?;
-        }
+            book.list(alloc, &word, cuts)?;
+            dictionary.add_exception(String::from_str(alloc, &word)?, places)?
+        } else {
+            return Err(Fail::from("the places do not fit"));
+        };
+        assert_eq!(rt; old.is_some(), is_listed, "{text}{word}");
         assert!(rt;
             is_standard_as(alloc, &dictionary, &book, &word)?,
             "{text}{word}"
         );
+        compared.note(&text, 5, !takes_out, takes_out && is_listed);
     }
+    assert_eq!(rt; compared.words, 10_000);
+    assert!(rt; compared.second > 200 && compared.set > 1_000 && compared.taken_out > 50);
     Ok(())
+}
+
+/// The list of an exception, as an extended dictionary takes it; nothing where a change can't be made.
+fn listed_changes(
+    alloc: Global,
+    cuts: &[Cut],
+) -> Result<Option<Vec<(usize, Option<Subregion>)>>, AllocError> {
+    let mut list = Vec::new(alloc);
+    for cut in cuts {
+        let change = match cut.change {
+            None => None,
+            Some(change) => {
+                let substitution = String::from_str(alloc, change.substitution)?;
+                let at = change.breakpoint;
+                if !substitution.is_char_boundary(at) {
+                    return Ok(None);
+                }
+                Some(Subregion::new(change.left, change.right, substitution, at))
+            }
+        };
+        list.push((cut.place, change))?;
+    }
+    Ok(Some(list))
 }
 
 #[test]
 fn extended_dictionaries_answer_as_the_second_hand(rt: HostRuntime) -> Result<(), Fail> {
     let alloc = rt.alloc();
     let mut dice = Dice(2);
-    for _ in 0..1000 {
-        let book = dice.book(alloc, true)?;
+    let mut compared = NOTHING;
+    let mut changed: u32 = 0;
+    for _ in 0..2_000 {
+        let mut book = dice.book(alloc, true)?;
         let text = book.text(alloc, "extended")?;
         let mut reader = text.as_bytes();
-        let dictionary = Extended::any_from_reader(alloc, &mut reader)?;
+        let mut dictionary = Extended::any_from_reader(alloc, &mut reader)?;
         for _ in 0..4 {
             let word = dice.word_near(alloc, &book)?;
             assert!(rt;
@@ -139,6 +195,31 @@ fn extended_dictionaries_answer_as_the_second_hand(rt: HostRuntime) -> Result<()
                 "{text}{word}"
             );
         }
+        // an exception more, of which some places have changes, or one taken out
+        let word = dice.word_near(alloc, &book)?;
+        let cuts = dice.cuts(alloc, &word, true)?;
+        let has_change = cuts.iter().any(|cut| cut.change.is_some());
+        let list = listed_changes(alloc, &cuts)?.ok_or("no change")?;
+        let is_listed = book.take_out(&word);
+        let takes_out = dice.below(3) == 0;
+        let old = if takes_out {
+            dictionary.remove_exception(&word)
+        } else if Extended::fits(&word, &list) {
+            book.list(alloc, &word, cuts)?;
+            dictionary.add_exception(String::from_str(alloc, &word)?, list)?
+        } else {
+            return Err(Fail::from("the list does not fit"));
+        };
+        assert_eq!(rt; old.is_some(), is_listed, "{text}{word}");
+        assert!(rt;
+            is_extended_as(alloc, &dictionary, &book, &word)?,
+            "{text}{word}"
+        );
+        compared.note(&text, 5, !takes_out, takes_out && is_listed);
+        changed = changed.saturating_add(u32::from(has_change && !takes_out));
     }
+    assert_eq!(rt; compared.words, 10_000);
+    assert!(rt; compared.second > 200 && compared.set > 1_000 && compared.taken_out > 50);
+    assert!(rt; changed > 500);
     Ok(())
 }

@@ -12,9 +12,9 @@ use hyphenation::engine::Kind;
 use hyphenation::extended::Extended;
 use hyphenation::load::{Error, Load, Result};
 use std::alloc::Global;
-use std::env;
-use std::io::{Read, Write};
+use std::io::{ErrorKind, Read, Write};
 use std::process::ExitCode;
+use std::{env, io};
 
 const USAGE: &str = "usage: hyphenate-canonical KIND\n";
 
@@ -64,29 +64,55 @@ fn answer<R: Read, W: Write, E: Write>(
     }
 }
 
+/// Says why the program's words could not be had, and gives the status: memory is wanting, or they are not UTF-8.
+fn report_words<E: Write>(fault: &io::Error, faults: &mut E) -> u8 {
+    match fault.kind() {
+        ErrorKind::OutOfMemory => {
+            let _ = faults.write_all(b"hyphenate-canonical: no memory\n");
+            6
+        }
+        _ => {
+            let _ = faults.write_all(USAGE.as_bytes());
+            2
+        }
+    }
+}
+
+/// The words behind the program's name.
+fn words_of(rt: &HostRuntime) -> io::Result<Vec<String>> {
+    let words = env::args(rt)?.skip(1).collect(rt.alloc())?;
+    Ok(words)
+}
+
+fn answer_words(rt: &HostRuntime, words: &[String]) -> io::Result<u8> {
+    let words: Vec<&str> = words.iter().map(|word| word.as_str()).collect(rt.alloc())?;
+    let status = answer(
+        rt.alloc(),
+        &words,
+        &mut rt.stdin(),
+        &mut rt.stdout(),
+        &mut rt.stderr(),
+    );
+    Ok(status)
+}
+
 fn main(rt: HostRuntime) -> ExitCode {
-    let mut input = rt.stdin();
-    let mut output = rt.stdout();
-    let mut faults = rt.stderr();
-    let status = match env::args(&rt) {
-        Ok(args) => match args.skip(1).next() {
-            Some(word) => answer(
-                rt.alloc(),
-                &[word.as_str()],
-                &mut input,
-                &mut output,
-                &mut faults,
-            ),
-            None => answer(rt.alloc(), &[], &mut input, &mut output, &mut faults),
-        },
-        Err(_) => answer(rt.alloc(), &[], &mut input, &mut output, &mut faults),
+    let answered = match words_of(&rt) {
+        Ok(words) => answer_words(&rt, &words),
+        Err(e) => Err(e),
+    };
+    let status = match answered {
+        Ok(status) => status,
+        Err(e) => report_words(&e, &mut rt.stderr()),
     };
     ExitCode::from(status)
 }
 
 #[cfg(test)]
 mod tests {
-    use super::answer;
+    use super::{answer, report_words};
+    use std::io;
+    use std::io::ErrorKind;
     use std::test::Fail;
 
     #[test]
@@ -133,5 +159,23 @@ mod tests {
             assert_eq!(rt; faults.as_slice(), fault.as_bytes(), "{lines}");
         }
         Ok(())
+    }
+
+    #[test]
+    fn words_that_cannot_be_had_are_told(rt: HostRuntime) {
+        let cases: [(ErrorKind, u8, &str); 2] = [
+            (
+                ErrorKind::OutOfMemory,
+                6,
+                "hyphenate-canonical: no memory\n",
+            ),
+            (ErrorKind::InvalidData, 2, super::USAGE),
+        ];
+        for (kind, wanted, message) in cases {
+            let mut faults: Vec<u8> = Vec::new(rt.alloc());
+            let status = report_words(&io::Error::from(kind), &mut faults);
+            assert_eq!(rt; status, wanted);
+            assert_eq!(rt; faults.as_slice(), message.as_bytes());
+        }
     }
 }

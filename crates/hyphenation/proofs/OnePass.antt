@@ -273,7 +273,7 @@ counted_is {C} tree framed end node le longest =
 
 -- ---- what is known of the keys in two ways
 
-same_keys : {A B : Type 0} (f g : A → B) → ((x : A) → f x ≡ g x) → f ≡ g
+pub same_keys : {A B : Type 0} (f g : A → B) → ((x : A) → f x ≡ g x) → f ≡ g
 same_keys f g h = λ i x. h x i
 
 pub values_same : {C : Type 0} (keys other : Patterns C) (word : List ℕ) → ((text : List ℕ) → keys text ≡ other text) → values keys word ≡ values other word

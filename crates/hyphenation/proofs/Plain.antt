@@ -5,7 +5,7 @@ use Rattle.std.specs.Str.{IsUtf8}
 use Rattle.std.specs.FinMap as finite
 use Rattle.std.proofs.lemmas.Bool.{cond-true}
 use Rattle.hyphenation_commons.specs.Break.{Break, plain, changed_by, begin_of, end_of}
-use Rattle.hyphenation_commons.specs.Dictionary.{Contents, keys_of}
+use Rattle.hyphenation_commons.specs.Dictionary.{Contents, Patterns, keys_of}
 use Rattle.hyphenation_commons.specs.Kept.{IsKept}
 use Rattle.hyphenation.specs.declared.case_folding.Shift.{Shift}
 use Rattle.hyphenation.specs.Fitting.{kept_by, fitted_breaks_of, holds_shift, is_steady_by}
@@ -69,16 +69,16 @@ plain_within (b ∷ bs) bounds p =
       | false ↦ rest
     ]
 
+pub changes_nothing : {C : Type 0} (keys : Patterns C) (text : List ℕ) (place : ℕ) → break_at no_change keys text place ≡ plain place
+changes_nothing keys text place =
+    elim (winner_at keys text place) as (λ winner. record { place = place; change = option_and_then (λ entry. no_change entry.change) winner } ≡ plain place) [
+      | None ↦ refl
+      | Some entry ↦ refl
+    ]
+
 module _ (contents : Contents (Unit {0}) ℕ) (word : List ℕ) where
   abbrev rules : Rules
   rules = rules_of no_change plain contents
-
-  changes_nothing : (text : List ℕ) (place : ℕ) → break_at no_change (keys_of contents) text place ≡ plain place
-  changes_nothing text place =
-      elim (winner_at (keys_of contents) text place) as (λ winner. record { place = place; change = option_and_then (λ entry. no_change entry.change) winner } ≡ plain place) [
-        | None ↦ refl
-        | Some entry ↦ refl
-      ]
 
   opportunities_plain : (text : List ℕ) → ArePlain (opportunities rules text)
   opportunities_plain text =
@@ -86,7 +86,7 @@ module _ (contents : Contents (Unit {0}) ℕ) (word : List ℕ) where
         | None ↦ tt
         | Some bounds ↦
             elim (finite.get contents.exceptions text) as (λ found. ArePlain (unwrap_or (option_map (λ listed. breaks_within listed bounds) (option_map (map plain) found)) (by_patterns rules text bounds))) [
-              | None ↦ plain_within (rules.allowed text) bounds (plain_made (break_at no_change (keys_of contents) text) (changes_nothing text) _)
+              | None ↦ plain_within (rules.allowed text) bounds (plain_made (break_at no_change (keys_of contents) text) (changes_nothing (keys_of contents) text) _)
               | Some listed ↦ plain_within (map plain listed) bounds (plain_made plain (λ _. refl) listed)
             ]
       ]

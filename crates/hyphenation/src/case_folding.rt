@@ -22,6 +22,7 @@ ghost use Rattle.std.specs.Option.{option_copied, option_map_or};
 ghost use Rattle.std.specs.Str.Pattern.{HasPassingCharAt};
 ghost use Rattle.unicode.specs.Binary.{is_uppercase};
 ghost use Rattle.hyphenation.specs.Places.{place_of_character};
+ghost use Rattle.hyphenation.specs.SmallLetters.{is_small_letter, are_small_letters};
 ghost use Rattle.hyphenation.specs.Folding.{fold_character, fold, has_uppercase, shifts_of, delta_below, carried};
 
 use std::alloc::{AllocError, Global};
@@ -81,12 +82,34 @@ fn first_uppercase(text: &str) -> Option<usize>
     text.find(|c: char| is_upper(c))
 }
 
-// Whether a character has the property Uppercase, by a short road for ASCII, of which most texts are.
+/// Whether a character is one of the small letters of which most words are made.
+///
+/// It may say no of others; the `÷` counts as one.
+#[inline(always)]
+fn is_small_letter(c: char) -> bool
+    ensures { result ≡ is_small_letter c }
+{
+    ('a' <= c && c <= 'z')
+        || ('ß' <= c && c <= 'ÿ')
+        || ('а' <= c && c <= 'џ')
+        || (c == 'ő' || c == 'ű')
+}
+
+/// Whether each character is such a letter: then the word folds to itself, and has no soft hyphen.
+pub(crate) fn are_small_letters(word: &str) -> bool
+    ensures { result ≡ are_small_letters word.now }
+{
+    word.chars().all(|c| is_small_letter(c))
+}
+
+// Whether a character has the property Uppercase, by short roads for ASCII and for the letters of which most words are.
 fn is_upper(c: char) -> bool
     ensures { result ≡ is_uppercase c }
 {
     if c.is_ascii() {
         c.is_ascii_uppercase()
+    } else if is_small_letter(c) {
+        false
     } else {
         is_uppercase(c)
     }

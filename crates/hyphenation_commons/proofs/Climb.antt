@@ -1,13 +1,11 @@
 -- The text of a node is read on the way up to the root.
-use Rattle.std.proofs.Common.{◌≡◌, ℕ, zero, suc, ◌+◌, ◌<◌, ◌≤◌, List, [], ◌∷◌, ◌++◌, length, take, drop, drop-cons, get_or, map, fold, Option, Some, None, refl, sym, ap, subst, ◌∙◌, arith, append_assoc}
+use Rattle.std.proofs.Common.{◌≡◌, ℕ, zero, suc, ◌+◌, ◌<◌, ◌≤◌, List, [], ◌∷◌, ◌++◌, length, take, drop, drop-cons, get_or, map, Option, Some, None, refl, sym, ap, ◌∙◌, arith, append_assoc}
 use Rattle.std.specs.Prelude.{reverse}
-use Rattle.std.proofs.lemmas.List.{length-append, get_or_append_left, get_or_push, get_or-map, length-map, map_push, append-nil, reverse-append, take-append-le}
+use Rattle.std.proofs.lemmas.List.{map_push, append-nil, reverse-append, take-append-le}
 use Rattle.std.proofs.Math.Seq.{take-length}
 use Rattle.hyphenation_commons.specs.Held.{pairs_of}
-use Rattle.hyphenation_commons.specs.Links.{parent_of, byte_of}
-use Rattle.hyphenation_commons.specs.Trie.{texts_of, HasFroms, Tree, IsTrie, text_of, key_at}
-use Rattle.hyphenation_commons.specs.declared.trie.Node.{Node}
-use Rattle.hyphenation_commons.proofs.Tied.{entries_at-here, length-texts_of}
+use Rattle.hyphenation_commons.specs.Trie.{Tree, IsTrie, text_of, key_at}
+use Rattle.hyphenation_commons.proofs.Tied.{entries_at-here}
 
 -- the keys from a node on
 pub pairs_from : {E : Type 0} (ts : List (List ℕ)) (es : List (Option (List E))) (i : ℕ) (o : Option (List E)) → i < length ts → i < length es → get_or es i None ≡ o
@@ -17,19 +15,6 @@ pairs_from ts es i o a b e = ap (λ xs. pairs_of xs (drop i es)) (drop-cons ts i
 
 pub entries_here : {E : Type 0} (t : Tree E) (i : ℕ) → IsTrie t → i < length t.texts → key_at t (text_of t i) ≡ get_or t.entries i None
 entries_here t i trie lt = entries_at-here t.texts t.entries i trie.distinct trie.lengths lt
-
--- a step up: the parent stands before the node, and its text lacks the last byte
-pub step_up : (ns : List Node) (at : ℕ) (n : Node) → HasFroms (texts_of (map (λ n. n.from) ns)) (map (λ n. n.from) ns) → 0 < at → at < length (texts_of (map (λ n. n.from) ns)) → n ≡ get_or ns at n
-    → (parent_of n.from < at) × (get_or (texts_of (map (λ n. n.from) ns)) at [] ≡ get_or (texts_of (map (λ n. n.from) ns)) (parent_of n.from) [] ++ byte_of n.from ∷ [])
-step_up ns at n froms some lt read =
-    let fs = map (λ (n : Node). n.from) ns in
-    let len : length fs ≡ length ns = simp length-map in
-    let up = froms at some lt in
-    let here : n.from ≡ Some up.0 =
-    ap (λ (n : Node). n.from) read ∙ sym (get_or-map (λ (n : Node). n.from) ns at n None (omega (arith, len, lt, length-texts_of fs))) ∙ up.1 in (
-      subst (λ (f : Option (ℕ × ℕ)). parent_of f < at) (sym here) up.2,
-      subst (λ (f : Option (ℕ × ℕ)). get_or (texts_of fs) at [] ≡ get_or (texts_of fs) (parent_of f) [] ++ byte_of f ∷ []) (sym here) up.3,
-    )
 
 pub more_text : (up text new items all : List ℕ) (byte : ℕ) → text ≡ up ++ byte ∷ [] → new ≡ items ++ byte ∷ [] → text ++ reverse items ≡ all → up ++ reverse new ≡ all
 more_text up text new items all byte t n e =
@@ -42,16 +27,6 @@ written_over len new items e f =
     ap (λ (n : ℕ). take n (new ++ drop (length new) items)) (e ∙ sym f) ∙ take-append-le (length new) new (drop (length new) items) (omega arith) ∙ take-length new
 
 -- ---- the keys, node by node
-
-pub all_nodes : (ns : List Node) (i n : ℕ) → n ≡ length ns → i < n → i < length (texts_of (map (λ n. n.from) ns))
-all_nodes ns i n e lt =
-    let len : length (map (λ (n : Node). n.from) ns) ≡ length ns = simp length-map in
-    omega (arith, len, length-texts_of (map (λ (n : Node). n.from) ns))
-
-pub no_node : (ns : List Node) (i n : ℕ) → n ≡ length ns → n ≤ i → length (texts_of (map (λ n. n.from) ns)) ≤ i
-no_node ns i n e le =
-    let len : length (map (λ (n : Node). n.from) ns) ≡ length ns = simp length-map in
-    omega (arith, len, length-texts_of (map (λ (n : Node). n.from) ns))
 
 next : (n : ℕ) → suc n ≡ n + 1
 next n = omega arith

@@ -8,7 +8,7 @@ use Rattle.hyphenation_commons.specs.Links.{HasParents, parent_of, byte_of, IsDe
 use Rattle.hyphenation_commons.specs.declared.trie.rows.Cell.{Cell}
 use Rattle.hyphenation_commons.specs.declared.trie.Node.{Node}
 use Rattle.std.proofs.lemmas.Simd.{map-map}
-use Rattle.hyphenation_commons.proofs.Tied.{texts_of-push, length-texts_of, last_same, not_empty}
+use Rattle.hyphenation_commons.proofs.Tied.{length-texts_of, last_same, not_empty}
 
 -- ---- where nodes come from
 
@@ -29,9 +29,6 @@ HasFroms-grow texts froms i b len li has j pos lj =
           let up : get_or new i [] ≡ get_or texts i [] = get_or_append_left texts (t ∷ []) [] i li in
           ((i, b), get_or_push froms (Some (i, b)) None j (len ∙ sym is), omega arith, at ∙ ap (λ (x : List ℕ). x ++ b ∷ []) (sym up))
     ]
-
-pub froms_keep : (fs : List (Option (ℕ × ℕ))) (i b : ℕ) → i < length (texts_of fs) → HasFroms (texts_of fs) fs → HasFroms (texts_of (fs ++ Some (i, b) ∷ [])) (fs ++ Some (i, b) ∷ [])
-froms_keep fs i b li has = rw (texts_of-push fs (Some (i, b))) (HasFroms-grow (texts_of fs) fs i b (sym (length-texts_of fs)) li has)
 
 -- ---- parents
 

@@ -3,7 +3,6 @@ use Rattle.std.proofs.Common.{◌≡◌, ℕ, Option, None, refl}
 use Rattle.hyphenation_commons.specs.Break.{Change, plain, changed_by}
 use Rattle.hyphenation_commons.specs.Canonical.{HoldsExactly}
 use Rattle.hyphenation_commons.specs.Reading.{no_change, place_alone, own_change, place_and_change}
-use Rattle.hyphenation_commons.specs.declared.grammar.form.Kind.{Kind}
 use Rattle.hyphenation_commons.specs.declared.grammar.form.Kind.TheVariants.{Standard, Extended}
 
 pub standard_holds : HoldsExactly {C = Unit {0}} {B = ℕ} Standard no_change place_alone (λ _. None) plain

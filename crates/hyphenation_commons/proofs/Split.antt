@@ -2,6 +2,7 @@
 use Rattle.std.proofs.Common.{◌≡◌, ℕ, suc, ◌+◌, ◌-◌, ◌<◌, ◌≤◌, Bool, true, false, cond, not, eqb, nat_lt, List, [], ◌∷◌, ◌++◌, append_assoc, subst, length, take, drop, Some, None, refl, sym, ap, ◌∙◌, arith}
 use Rattle.std.proofs.lemmas.Bool.Decides.{nat_tests}
 use Rattle.std.proofs.lemmas.List.{take_rest, length-drop, append-nil}
+use Rattle.std.proofs.lemmas.Str.{IsUtf8-nil}
 use Rattle.std.specs.Prelude.{IsUtf8, position}
 use Rattle.hyphenation_commons.specs.Lines.{lines_of, without_empty_last}
 use Rattle.std.specs.List.{slice_split, position_or_len, prefix_len, onto_first}
@@ -116,6 +117,9 @@ none_behind text = ap (λ (k : ℕ). take k (drop (length text) text)) (nothing 
   where
     nothing : (k : ℕ) → k - k ≡ 0
     nothing k = omega arith
+
+pub nothing-utf8 : (text : List ℕ) → IsUtf8 (take (length text - length text) (drop (length text) text))
+nothing-utf8 text = subst IsUtf8 (sym (none_behind text)) IsUtf8-nil
 
 -- a text without a line feed is its last line
 pub last_line : (text : List ℕ) → 0 < length text → None ≡ position (λ b. eqb b 10) text

@@ -1,10 +1,11 @@
--- A node more keeps the edges tied to the nodes.
-use Rattle.std.proofs.Common.{◌≡◌, ◌≢◌, ℕ, zero, suc, ◌+◌, ◌-◌, ◌<◌, ◌≤◌, drop, Bool, true, false, cond, ◌&&◌, nat_eq, eqb, List, [], ◌∷◌, ◌++◌, length, take, get_or, set, map, fold, Option, Some, None, refl, sym, ap, subst, ◌∙◌, arith, ◌⊎◌, inl, inr}
+-- Texts of nodes and their entries, as a trie grows.
+use Rattle.std.proofs.Common.{◌≡◌, ℕ, zero, suc, ◌+◌, ◌-◌, ◌<◌, ◌≤◌, drop, Bool, true, false, cond, ◌&&◌, nat_eq, eqb, List, [], ◌∷◌, ◌++◌, length, take, get_or, set, map, fold, Option, Some, None, refl, sym, ap, subst, ◌∙◌, arith, ◌⊎◌, inl, inr}
 use Rattle.std.specs.Prelude.{slice_get, IsSome, is_some}
-use Rattle.std.proofs.lemmas.Bool.{cases_lt, cases_eq, eqb-true, eq-eqb}
+use Rattle.std.proofs.lemmas.Bool.{cases_lt, eqb-true, eq-eqb}
 use Rattle.std.proofs.lemmas.List.{length-append, map_push, length-map, map-set, take_more, length-take-le, get_or-map, drop-append-le, take-append-le, length-drop, get_or_append_left, get_or_push}
 use Rattle.std.proofs.lemmas.Grind.{fold-append}
-use Rattle.hyphenation_commons.specs.Trie.{with_text, text_after, texts_of, IsTied, IsWithin, AreWithin, pair_eq, entries_in, seen, grown, IsTrie, Tree, entries_at, key_at, text_of, Grows, AddsFront, KeepsNodes, with_entries, EachBeginsKey}
+use Rattle.hyphenation_commons.specs.Growing.{IsHeld}
+use Rattle.hyphenation_commons.specs.Trie.{with_text, text_after, texts_of, IsWithin, AreWithin, entries_in, seen, grown, IsTrie, Tree, entries_at, key_at, text_of, Grows, AddsFront, KeepsNodes, with_entries, EachBeginsKey}
 use Rattle.std.specs.Option.{option_map}
 use Rattle.std.specs.List.{slice_range}
 use Rattle.std.proofs.Math.Seq.{map-set_same, drop-append_seam, take-length}
@@ -39,47 +40,15 @@ pub not_empty : (xs : List ℕ) (b : ℕ) → [] ≡ xs ++ b ∷ [] → ⊥
 not_empty [] b e = cc
 not_empty (x ∷ xs) b e = cc
 
-same_some : (a b : ℕ) → Some a ≡ Some b → a ≡ b
-same_some a b e = cc
-
-root_text : (texts : List (List ℕ)) → slice_get texts 0 ≡ Some [] → (get_or texts 0 [] ≡ []) × (0 < length texts)
+pub root_text : (texts : List (List ℕ)) → slice_get texts 0 ≡ Some [] → (get_or texts 0 [] ≡ []) × (0 < length texts)
 root_text [] e = absurd cc
 root_text (t ∷ ts) e = (cc, omega arith)
-
--- no two nodes have one text
-pub IsTied-distinct : (texts : List (List ℕ)) (edge : ℕ → ℕ → Option ℕ) → IsTied texts edge → (i j : ℕ) → i < length texts → j < length texts → get_or texts i [] ≡ get_or texts j [] → i ≡ j
-IsTied-distinct texts edge tied i j li lj e =
-    let r = root_text texts tied.root in
-    elim (cases_eq i 0) [
-      | inl i0 ↦ elim (cases_eq j 0) [
-        | inl j0 ↦ omega arith
-        | inr j1 ↦
-            let up = tied.closed j (omega arith) lj in
-            absurd (not_empty (get_or texts up.0 []) up.1 (sym r.0 ∙ ap (λ (k : ℕ). get_or texts k []) (sym i0) ∙ e ∙ up.3))
-      ]
-      | inr i1 ↦ elim (cases_eq j 0) [
-        | inl j0 ↦
-            let up = tied.closed i (omega arith) li in
-            absurd (not_empty (get_or texts up.0 []) up.1 (sym r.0 ∙ ap (λ (k : ℕ). get_or texts k []) (sym j0) ∙ sym e ∙ up.3))
-        | inr j1 ↦
-            let up = tied.closed i (omega arith) li in
-            same_some i j (sym (tied.complete up.0 up.1 i up.2 li up.3) ∙ tied.complete up.0 up.1 j up.2 lj (sym e ∙ up.3))
-      ]
-    ]
 
 both_true : (a b : Bool) → (a && b) ≡ true → (a ≡ true) × (b ≡ true)
 both_true true b e = (refl, e)
 both_true false b e = absurd cc
 
-pair_eq-true : (i b k c : ℕ) → pair_eq (i, b) (k, c) ≡ true → (i ≡ k) × (b ≡ c)
-pair_eq-true i b k c e =
-    let h = both_true (nat_eq i k) (nat_eq b c) e in
-    (eqb-true i k h.0, eqb-true b c h.1)
-
-pair_eq-refl : (i b : ℕ) → pair_eq (i, b) (i, b) ≡ true
-pair_eq-refl i b = let one : eqb i i ≡ true = eq-eqb i i refl in let two : eqb b b ≡ true = eq-eqb b b refl in rw (one, two) refl
-
-root-push : (texts : List (List ℕ)) (t : List ℕ) → slice_get texts 0 ≡ Some [] → slice_get (texts ++ t ∷ []) 0 ≡ Some []
+pub root-push : (texts : List (List ℕ)) (t : List ℕ) → slice_get texts 0 ≡ Some [] → slice_get (texts ++ t ∷ []) 0 ≡ Some []
 root-push [] t e = absurd cc
 root-push (x ∷ xs) t e = e
 
@@ -87,107 +56,18 @@ pub chosen : {X : Type 0} (b : Bool) (x y z : X) → cond b x y ≡ z → ((b �
 chosen true x y z e = inl (refl, e)
 chosen false x y z e = inr (refl, e)
 
--- no node stands below a text that is not there
-orphan : (texts : List (List ℕ)) (edge : ℕ → ℕ → Option ℕ) → IsTied texts edge → (i b : ℕ) → i < length texts
-    → ((j : ℕ) → j < length texts → get_or texts j [] ≢ get_or texts i [] ++ b ∷ [])
-    → (j c : ℕ) → j < length texts → get_or texts j [] ≡ (get_or texts i [] ++ b ∷ []) ++ c ∷ [] → ⊥
-orphan texts edge tied i b li absent j c lj e =
-    elim (cases_eq j 0) [
-      | inl j0 ↦ not_empty (get_or texts i [] ++ b ∷ []) c (sym (root_text texts tied.root).0 ∙ ap (λ (k : ℕ). get_or texts k []) (sym j0) ∙ e)
-      | inr j1 ↦
-          let up = tied.closed j (omega arith) lj in
-          absent up.0 up.2 (last_same (get_or texts up.0 []) (get_or texts i [] ++ b ∷ []) up.1 c (sym up.3 ∙ e)).0
-    ]
-
-pub IsTied-grow : (texts : List (List ℕ)) (edge next : ℕ → ℕ → Option ℕ) (i b : ℕ) → IsTied texts edge → i < length texts
-    → ((j : ℕ) → j < length texts → get_or texts j [] ≢ get_or texts i [] ++ b ∷ [])
-    → ((k c : ℕ) → next k c ≡ cond (pair_eq (i, b) (k, c)) (Some (length texts)) (edge k c))
-    → IsTied (texts ++ (get_or texts i [] ++ b ∷ []) ∷ []) next
-IsTied-grow texts edge next i b tied li absent step =
-    let t : List ℕ = get_or texts i [] ++ b ∷ [] in
-    let new : List (List ℕ) = texts ++ t ∷ [] in
-    let n : ℕ = length texts in
-    let len : length new ≡ n + 1 = length-append texts (t ∷ []) in
-    let at_new : get_or new n [] ≡ t = get_or_push texts t [] n refl in
-    let at_old : (k : ℕ) → k < n → get_or new k [] ≡ get_or texts k [] = λ k lt. get_or_append_left texts (t ∷ []) [] k lt in
-    let here : next i b ≡ Some n = step i b ∙ ap (λ (x : Bool). cond x (Some n) (edge i b)) (pair_eq-refl i b) in
-    record {
-      root = root-push texts t tied.root;
-      sound = λ k c j e. elim (chosen (pair_eq (i, b) (k, c)) (Some n) (edge k c) (Some j) (sym (step k c) ∙ e)) [
-        | inl h ↦
-            let nj : n ≡ j = same_some n j h.1 in
-            let p = pair_eq-true i b k c h.0 in
-            let lk : k < n = omega (arith, p.0) in (
-              omega arith,
-              omega arith,
-              ap (λ (x : ℕ). get_or new x []) (sym nj) ∙ at_new ∙ ap (λ (x : ℕ). get_or texts i [] ++ x ∷ []) p.1
-                  ∙ ap (λ (x : ℕ). get_or texts x [] ++ c ∷ []) p.0 ∙ ap (λ (x : List ℕ). x ++ c ∷ []) (sym (at_old k lk)),
-            )
-        | inr h ↦
-            let s = tied.sound k c j h.1 in
-            (omega (arith, s.0), omega (arith, s.1), at_old j s.1 ∙ s.2 ∙ ap (λ (x : List ℕ). x ++ c ∷ []) (sym (at_old k s.0)))
-      ];
-      complete = λ k c j lk lj e. elim (cases_lt j n) [
-        | inl jn ↦ elim (cases_lt k n) [
-          | inl kn ↦
-              let old : get_or texts j [] ≡ get_or texts k [] ++ c ∷ [] = sym (at_old j jn) ∙ e ∙ ap (λ (x : List ℕ). x ++ c ∷ []) (at_old k kn) in
-              let was = tied.complete k c j kn jn old in
-              elim (chosen (pair_eq (i, b) (k, c)) (Some n) (edge k c) (next k c) (sym (step k c))) [
-                | inl h ↦
-                    let p = pair_eq-true i b k c h.0 in
-                    absurd (absent j jn (old ∙ ap (λ (x : ℕ). get_or texts x [] ++ c ∷ []) (sym p.0) ∙ ap (λ (x : ℕ). get_or texts i [] ++ x ∷ []) (sym p.1)))
-                | inr h ↦ sym h.1 ∙ was
-              ]
-          | inr kn ↦
-              -- a child of the new node would have stood there before its parent
-              let k-is : k ≡ n = omega arith in
-              let old : get_or texts j [] ≡ t ++ c ∷ [] = sym (at_old j jn) ∙ e ∙ ap (λ (x : ℕ). get_or new x [] ++ c ∷ []) k-is ∙ ap (λ (x : List ℕ). x ++ c ∷ []) at_new in
-              absurd (orphan texts edge tied i b li absent j c jn old)
-        ]
-        | inr jn ↦
-            let j-is : j ≡ n = omega arith in
-            let mine : t ≡ get_or new k [] ++ c ∷ [] = sym at_new ∙ ap (λ (x : ℕ). get_or new x []) (sym j-is) ∙ e in
-            let parts = last_same (get_or texts i []) (get_or new k []) b c mine in
-            elim (cases_lt k n) [
-              | inl kn ↦
-                  let ik = IsTied-distinct texts edge tied i k li kn (parts.0 ∙ at_old k kn) in
-                  ap (λ (x : ℕ). next x c) (sym ik) ∙ ap (λ (x : ℕ). next i x) (sym parts.1) ∙ here ∙ ap (λ (x : ℕ). Some x) (sym j-is)
-              | inr kn ↦
-                  let k-is : k ≡ n = omega arith in
-                  let loop : get_or texts i [] ≡ t = parts.0 ∙ ap (λ (x : ℕ). get_or new x []) k-is ∙ at_new in
-                  absurd (omega (arith, ap length loop, length-append (get_or texts i []) (b ∷ [])))
-            ]
-      ];
-      closed = λ j pos lj. elim (cases_lt j n) [
-        | inl jn ↦
-            let up = tied.closed j pos jn in
-            (up.0, up.1, omega (arith, up.2), at_old j jn ∙ up.3 ∙ ap (λ (x : List ℕ). x ++ up.1 ∷ []) (sym (at_old up.0 up.2)))
-        | inr jn ↦
-            let j-is : j ≡ n = omega arith in
-            (i, b, omega arith, ap (λ (x : ℕ). get_or new x []) j-is ∙ at_new ∙ ap (λ (x : List ℕ). x ++ b ∷ []) (sym (at_old i li)))
-      ];
-    }
-
-pub grow_keeps : (fs : List (Option (ℕ × ℕ))) (edge next : ℕ → ℕ → Option ℕ) (n i b : ℕ) → n ≡ length fs → IsTied (texts_of fs) edge → i < length (texts_of fs)
-    → ((j : ℕ) → j < length (texts_of fs) → get_or (texts_of fs) j [] ≢ get_or (texts_of fs) i [] ++ b ∷ [])
-    → ((k c : ℕ) → next k c ≡ cond (pair_eq (i, b) (k, c)) (Some n) (edge k c))
-    → IsTied (texts_of (fs ++ Some (i, b) ∷ [])) next
-grow_keeps fs edge next n i b n-is tied li absent step =
-    let len : n ≡ length (texts_of fs) = n-is ∙ sym (length-texts_of fs) in
-    rw (texts_of-push fs (Some (i, b))) (IsTied-grow (texts_of fs) edge next i b tied li absent (λ k c. step k c ∙ ap (λ (x : ℕ). cond (pair_eq (i, b) (k, c)) (Some x) (edge k c)) len))
-
 pub seen-grown : {E : Type 0} (ns : List Node) (es : List E) (i b : ℕ) → seen (ns ++ record { from = Some (i, b); span = None } ∷ []) es ≡ grown (seen ns es) i b
 seen-grown ns es i b = rw (map_push, map_push, texts_of-push) refl
 
-pub IsTrie-seen : {E : Type 0} (ns : List Node) (es : List E) (edge : ℕ → ℕ → Option ℕ) → IsTied (texts_of (map (λ n. n.from) ns)) edge → IsTrie (seen ns es)
-IsTrie-seen ns es edge tied =
-    let r = root_text (seen ns es).texts tied.root in
+pub IsTrie-seen : {E : Type 0} (ns : List Node) (es : List E) (lasts befores : List ℕ) → IsHeld (map (λ n. n.from) ns) lasts befores → IsTrie (seen ns es)
+IsTrie-seen ns es lasts befores held =
+    let r = root_text (seen ns es).texts held.root in
     record {
       lengths = simp length-map (sym (length-texts_of (map (λ n. n.from) ns) ∙ simp length-map));
       some = r.1;
       root = r.0;
-      distinct = IsTied-distinct (seen ns es).texts edge tied;
-      closed = tied.closed;
+      distinct = held.apart;
+      closed = λ j pos lj. let h = held.from j pos lj in (h.0.0, h.0.1, omega (arith, h.2), h.3);
     }
 
 -- ---- entries among those of all nodes

@@ -1,5 +1,5 @@
 -- Tries, as the texts that their nodes stand for.
-use Rattle.std.specs.Prelude.{◌≡◌, ℕ, ◌+◌, ◌<◌, ◌&&◌, nat_eq, Bool, if◌then◌else◌, List, [], ◌∷◌, ◌++◌, length, map, fold, Option, Some, None, slice_index_or, slice_get, IsSome, ◌≤◌, take, ◌⊎◌, slice_set}
+use Rattle.std.specs.Prelude.{◌≡◌, ℕ, ◌<◌, nat_eq, if◌then◌else◌, List, [], ◌∷◌, ◌++◌, length, map, fold, Option, Some, None, slice_index_or, IsSome, ◌≤◌, take, ◌⊎◌, slice_set}
 use Rattle.std.specs.Option.{option_map}
 use Rattle.std.specs.List.{slice_range}
 use Rattle.std.specs.Cmp.Lexicographic.{pointwise}
@@ -94,17 +94,6 @@ IsWithin bound (Some span) = (span.start ≤ span.end) × (span.end ≤ bound)
 abbrev pub AreWithin : ℕ → List Node → Type 0
 AreWithin bound [] = Unit {0}
 AreWithin bound (n ∷ ns) = IsWithin bound n.span × AreWithin bound ns
-
--- The test by which the edges are looked up.
-abbrev pub pair_eq : ℕ × ℕ → ℕ × ℕ → Bool
-pair_eq x y = nat_eq x.0 y.0 && nat_eq x.1 y.1
-
--- How the edges tie the nodes: an edge leads to the text with one byte more, and each such text is reached so.
-pub record IsTied (texts : List (List ℕ)) (edge : ℕ → ℕ → Option ℕ) : Type 0 where
-  pub root : slice_get texts 0 ≡ Some []
-  pub sound : (i b j : ℕ) → edge i b ≡ Some j → (i < length texts) × (j < length texts) × (slice_index_or texts j [] ≡ slice_index_or texts i [] ++ b ∷ [])
-  pub complete : (i b j : ℕ) → i < length texts → j < length texts → slice_index_or texts j [] ≡ slice_index_or texts i [] ++ b ∷ [] → edge i b ≡ Some j
-  pub closed : (j : ℕ) → 0 < j → j < length texts → (i : ℕ) × (b : ℕ) × (i < length texts) × (slice_index_or texts j [] ≡ slice_index_or texts i [] ++ b ∷ [])
 
 -- Each node but the root is behind a parent, which stands before it, and a byte.
 abbrev pub HasFroms : List (List ℕ) → List (Option (ℕ × ℕ)) → Type 0

@@ -25,6 +25,7 @@
 ghost use Rattle.std.specs.Prelude.{◌≡◌, ◌≢◌, ◌+◌, ◌<◌, ◌≤◌, ◌^◌, ◌++◌, [], ◌∷◌, ℕ, List, length, None, Some, IfOk, OnOk, OnErr, if◌then◌else◌, nat_eq, is_some, IfSome, IfNone};
 ghost use Rattle.std.specs.Cmp.Lexicographic.{pointwise};
 ghost use Rattle.std.specs.List.{slice_range};
+ghost use Rattle.hyphenation_commons.specs.Links.{parent_of, byte_of};
 ghost use Rattle.hyphenation_commons.specs.Trie.{Tree, text_of, key_at, grown, IsTrie, Grows, AddsFront, KeepsNodes, EachBeginsKey, with_entries};
 
 pub mod automaton;
@@ -32,8 +33,8 @@ mod chains;
 mod frozen;
 mod rows;
 
+use chains::Chains;
 use std::alloc::{AllocError, Global};
-use std::collections::HashMap;
 use std::fmt;
 use std::marker::Model;
 
@@ -120,6 +121,26 @@ fn part<E>(entries: &[E], span: Span) -> &[E]
     &entries[span.start..span.end]
 }
 
+/// The number of a node's parent; 0 for the root.
+fn parent_of(from: Option<(usize, u8)>) -> usize
+    ensures { result ≡ parent_of from }
+{
+    match from {
+        Some((parent, _byte)) => parent,
+        None => 0,
+    }
+}
+
+/// The byte that leads to a node from its parent; 0 for the root.
+fn byte_of(from: Option<(usize, u8)>) -> u8
+    ensures { result ≡ byte_of from }
+{
+    match from {
+        Some((_parent, byte)) => byte,
+        None => 0,
+    }
+}
+
 /// Keys, each with its entries.
 #[derive(Drop)]
 pub struct Trie<E> {
@@ -128,20 +149,21 @@ pub struct Trie<E> {
     /// The entries of all keys, in one list, so that a key costs no allocation of its own. Those that a key had
     /// before it was given others stay here, unused.
     entries: Vec<E>,
-    /// The child of a node at a byte. One map for all nodes: a step is one look-up by hash.
-    edges: HashMap<(usize, u8), usize>,
+    /// The children of each node. In a text whose keys stand in order the child that is asked for is the last one or
+    /// new.
+    children: Chains,
 }
 
 impl<E> Model for Trie<E> {
     ghost use Rattle.std.specs.Prelude.{map, length};
-    ghost use Rattle.std.specs.HashMap.{get};
-    ghost use Rattle.hyphenation_commons.specs.Trie.{Tree, seen, texts_of, IsTied, AreWithin, HasFroms, pair_eq};
+    ghost use Rattle.hyphenation_commons.specs.Growing.{IsHeld};
+    ghost use Rattle.hyphenation_commons.specs.Trie.{Tree, seen, AreWithin};
 
     ghost Value = { Tree E };
 
     ghost view = { λ t. seen t.nodes.items t.entries.items };
 
-    ghost invariant = { λ t. IsTied (texts_of (map (λ n. n.from) t.nodes.items)) (λ i b. get pair_eq t.edges (i, b)) × AreWithin (length t.entries.items) t.nodes.items × HasFroms (texts_of (map (λ n. n.from) t.nodes.items)) (map (λ n. n.from) t.nodes.items) };
+    ghost invariant = { λ t. IsHeld (map (λ n. n.from) t.nodes.items) t.children.last.items t.children.before.items × AreWithin (length t.entries.items) t.nodes.items };
 }
 
 impl<E: Drop> Trie<E> {
@@ -158,6 +180,7 @@ impl<E: Drop> Trie<E> {
     pub fn with_room(alloc: Global, nodes: usize) -> Result<Self, AllocError>
         ensures { IfOk result (λ trie. trie ≡ record { texts = [] ∷ []; entries = None ∷ [] }) }
     {
+        let children = Chains::with_room(alloc, nodes)?;
         let mut nodes = Vec::with_capacity(alloc, nodes)?;
         nodes.push(Node {
             from: None,
@@ -166,7 +189,7 @@ impl<E: Drop> Trie<E> {
         Ok(Trie {
             nodes,
             entries: Vec::new(alloc),
-            edges: HashMap::new(alloc),
+            children,
         })
     }
 
@@ -208,7 +231,14 @@ impl<E: Drop> Trie<E> {
         ensures none { IfNone result ((j : ℕ) → j < length self.now.texts → text_of self.now j ≢ text_of self.now node ++ byte ∷ []) }
         ensures trie { IsTrie self.now }
     {
-        self.edges.get(&(node, byte)).copied()
+        let mut child = self.children.last[node];
+        while child != 0 {
+            if byte_of(self.nodes[child].from) == byte {
+                return Some(child);
+            }
+            child = self.children.before[child];
+        }
+        None
     }
 
     /// A new child of a node.
@@ -219,9 +249,9 @@ impl<E: Drop> Trie<E> {
         ensures err { OnErr result (self.new ≡ self.old) }
     {
         let child = self.nodes.len();
-        // Room first, so that no edge leads to a node that is then refused.
+        // Room first, so that no chain has a node that is then refused.
         self.nodes.reserve(1)?;
-        self.edges.insert((node, byte), child)?;
+        self.children.add(node)?;
         self.nodes
             .push(Node {
                 from: Some((node, byte)),

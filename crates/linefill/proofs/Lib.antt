@@ -4,3 +4,4 @@ pub mod Rows
 pub mod Walk
 pub mod Whole
 pub mod Widths
+pub mod WordBreaks

@@ -1,7 +1,7 @@
 //! The bounds within which a word may be broken.
 
 ghost use Rattle.std.specs.Prelude.{◌≡◌, ◌≤◌, IfSome};
-ghost use Rattle.std.specs.Str.{IsCharBoundary};
+ghost use Rattle.std.specs.Str.{IsAscii, IsCharBoundary};
 ghost use Rattle.hyphenation.specs.Boundaries.{boundaries};
 ghost use Rattle.hyphenation.specs.Places.{place_of_character};
 
@@ -20,6 +20,19 @@ pub fn boundaries_of(minima: (usize, usize), word: &str) -> Option<(usize, usize
         return None;
     }
     Some((place_of(word, left), place_of(word, count - right.max(1))))
+}
+
+/// The same for a word of ASCII, whose characters are its bytes.
+pub(super) fn boundaries_of_ascii(minima: (usize, usize), word: &str) -> Option<(usize, usize)>
+    requires { IsAscii word.now }
+    ensures { result ≡ boundaries minima.0 minima.1 word.now }
+{
+    let (left, right) = minima;
+    let bytes = word.len();
+    if bytes <= left || bytes - left < right {
+        return None;
+    }
+    Some((left, bytes - right.max(1)))
 }
 
 // The place of a character by its number from 0, and the text's end where there are not so many.

@@ -104,7 +104,7 @@ fn compete_reported<'d, C: Drop>(
 
 /// The entries that win the places of a word, from place 1 on, by the automaton of the keys.
 #[inline(always)]
-pub(super) fn winners_in<'d, C: Drop>(
+pub(crate) fn winners_in<'d, C: Drop>(
     alloc: Global,
     automaton: &'d Automaton<Entry<C>>,
     word: &[u8],

@@ -3,14 +3,13 @@
 //! Each place keeps the greatest value that a key has given it so far. In what order the keys are met makes no
 //! difference.
 
-ghost use Rattle.std.specs.Prelude.{◌≡◌, ◌+◌, ◌-◌, ◌*◌, ◌<◌, ◌≤◌, ◌^◌, ◌==◌, if◌then◌else◌, max, ℕ, List, None, length, filter, slice_index, IfOk, OnOk};
+ghost use Rattle.std.specs.Prelude.{◌≡◌, ◌+◌, ◌-◌, ◌*◌, ◌<◌, ◌≤◌, ◌^◌, ◌==◌, ◌++◌, ◌∷◌, [], if◌then◌else◌, max, ℕ, List, None, length, filter, slice_index, IfOk, OnOk};
 ghost use Rattle.hyphenation_commons.specs.Dictionary.{keys_of, longest_key};
-ghost use Rattle.hyphenation_commons.specs.Links.{keys_in};
+ghost use Rattle.hyphenation_commons.specs.Links.{IsLongest, keys_in};
 ghost use Rattle.hyphenation_commons.specs.Trie.{text_of, key_at, EachBeginsKey};
 ghost use Rattle.hyphenation.specs.OnePass.{ending, occurrences};
 ghost use Rattle.hyphenation.specs.Scoring.{frame, greatest_value, values};
 
-use super::framed_at;
 use hyphenation_commons::breaks::Break;
 use hyphenation_commons::dictionary::{Carried, Dictionary, Entry};
 use hyphenation_commons::trie::LookUps;
@@ -19,21 +18,24 @@ use std::alloc::{AllocError, Global};
 
 /// Raises the value of the place for which `start + place` stands, if that is within the word.
 fn raise_at(values: &mut [u8], start: usize, place: usize, value: u8)
+    requires start { start ≤ length values.old + 2 }
+    requires room { length values.old + 1 < 2 ^ 63 }
     ensures { (i : ℕ) → i < length values.old → slice_index values.new i ≡ max (slice_index values.old i) (if start + place == (i + 1) + 1 then value else 0) }
 {
-    // The frame has a dot before the word, and the first place stands behind the word's first byte.
-    if let Some(place) = start.checked_add(place) {
-        if 2 <= place && place - 2 < values.len() {
-            let at = place - 2;
-            if values[at] < value {
-                values[at] = value;
-            }
+    // A place behind the word is passed over first, so that no sum is too great.
+    if place <= values.len() + 1 {
+        // The frame has a dot before the word, and the first place stands behind the word's first byte.
+        let at = (start + place).wrapping_sub(2);
+        if at < values.len() && values[at] < value {
+            values[at] = value;
         }
     }
 }
 
 /// Raises the values to those of the entries of a key that stands at `start`.
 fn raise<C>(entries: &[Entry<C>], start: usize, values: &mut [u8])
+    requires start { start ≤ length values.old + 2 }
+    requires room { length values.old + 1 < 2 ^ 63 }
     ensures { (i : ℕ) → i < length values.old → slice_index values.new i ≡ max (slice_index values.old i) (greatest_value (filter (λ entry. start + entry.place == (i + 1) + 1) entries.now)) }
 {
     for entry in entries {
@@ -51,6 +53,8 @@ fn raise_reported<C: Drop>(
 )
     requires from { from < length automaton.now.texts }
     requires end { length (text_of automaton.now from) ≤ end }
+    requires within { end ≤ length values.old + 3 }
+    requires short { length values.old + 1 < 2 ^ 63 }
     requires room { count.old.reported + length (text_of automaton.now from) + 1 < 2 ^ 128 }
     ensures values { (i : ℕ) → i < length values.old → slice_index values.new i ≡ max (slice_index values.old i) (greatest_value (ending (key_at automaton.now) (text_of automaton.now from) end (i + 1))) }
     ensures reported { count.new.reported ≡ count.old.reported + keys_in automaton.now (text_of automaton.now from) (length (text_of automaton.now from)) }
@@ -63,6 +67,62 @@ fn raise_reported<C: Drop>(
         raise(entries, end - automaton.depth(node), values);
         node = automaton.next_report(node);
     }
+}
+
+/// Reads one byte of a word's frame, and raises the values to those of the keys that end with it.
+#[inline(always)]
+fn read<C: Drop>(
+    automaton: &Automaton<Entry<C>>,
+    from: usize,
+    byte: u8,
+    end: usize,
+    values: &mut [u8],
+    count: &mut LookUps,
+) -> usize
+    requires from { from < length automaton.now.texts }
+    requires end { length (text_of automaton.now from) + 1 ≤ end }
+    requires within { end ≤ length values.old + 3 }
+    requires short { length values.old + 1 < 2 ^ 63 }
+    requires made { count.old.made ≤ 2 ^ 100 }
+    requires reported { count.old.reported ≤ 2 ^ 127 }
+    ensures longest { IsLongest automaton.now.texts (text_of automaton.now from ++ byte ∷ []) result }
+    ensures values { (i : ℕ) → i < length values.old → slice_index values.new i ≡ max (slice_index values.old i) (greatest_value (ending (key_at automaton.now) (text_of automaton.now result) end (i + 1))) }
+    ensures least { count.old.made + 1 ≤ count.new.made }
+    ensures most { count.new.made + length (text_of automaton.now result) ≤ count.old.made + length (text_of automaton.now from) + 2 }
+    ensures alone { count.new.made ≤ count.old.made + length (text_of automaton.now from) + 1 }
+    ensures reported { count.new.reported ≡ count.old.reported + keys_in automaton.now (text_of automaton.now result) (length (text_of automaton.now result)) }
+{
+    let node = automaton.step(from, byte, count);
+    raise_reported(automaton, node, end, values, count);
+    node
+}
+
+/// Raises values, which are 0, to those of a word's places, in one pass over its frame.
+#[inline(always)]
+pub(crate) fn raise_all<C: Drop>(
+    automaton: &Automaton<Entry<C>>,
+    word: &[u8],
+    scores: &mut [u8],
+    count: &mut LookUps,
+)
+    requires begins { EachBeginsKey automaton.now }
+    requires made { count.old.made ≤ 2 ^ 64 }
+    requires reported { count.old.reported ≤ 2 ^ 64 }
+    requires places { length scores.old ≡ length word.now - 1 }
+    requires zeros { (i : ℕ) → i < length scores.old → slice_index scores.old i ≡ 0 }
+    ensures values { scores.new ≡ values (key_at automaton.now) word.now }
+    ensures linear { count.new.made ≤ count.old.made + 2 * (length word.now + 2) }
+    ensures alone { ((q : List ℕ) → key_at automaton.now q ≡ None) → count.new.made ≤ count.old.made + (length word.now + 2) }
+    ensures least { count.old.made + (length word.now + 2) ≤ count.new.made }
+    ensures reported { count.new.reported ≡ count.old.reported + occurrences (key_at automaton.now) (frame word.now) }
+{
+    // The dots of the frame are read before the word and behind it.
+    let root = automaton.root();
+    let mut node = read(automaton, root, b'.', 1, scores, count);
+    for at in 0..word.len() {
+        node = read(automaton, node, word[at], at + 2, scores, count);
+    }
+    read(automaton, node, b'.', word.len() + 2, scores, count);
 }
 
 /// The values of a word's places, in one pass over its frame.
@@ -86,11 +146,7 @@ pub(super) fn values_in<C: Drop>(
 {
     let places = word.len().saturating_sub(1);
     let mut values = vec![in alloc; 0u8; places]?;
-    let mut node = automaton.root();
-    for at in 0..word.len() + 2 {
-        node = automaton.step(node, framed_at(word, at), count);
-        raise_reported(automaton, node, at + 1, &mut values, count);
-    }
+    raise_all(automaton, word, &mut values, count);
     Ok(values)
 }
 

@@ -1,79 +1,45 @@
-use Rattle.std.proofs.Common.{◌≡◌, ℕ, List, map, length, IsUtf8, refl, sym, ap, subst, ◌∙◌, arith}
-use Rattle.std.specs.List.Sorted.{IsNonDecreasingBy}
-use Rattle.hyphenation_commons.specs.Break.{plain}
-use Rattle.hyphenation.specs.declared.case_folding.Shift.{Shift}
+use Rattle.std.proofs.Common.{sym, subst}
 use Rattle.hyphenation.specs.Fits.{Fits}
-use Rattle.hyphenation.specs.Fitting.{is_steady_by, kept_by}
-use Rattle.hyphenation.specs.Folding.{shifts_of}
-use Rattle.hyphenation.specs.Opportunities.{rules_of, realigned_break}
-use Rattle.hyphenation.specs.SoftHyphens.{soft_hyphens}
-use Rattle.hyphenation.proofs.FittedBreaks.{whole_written, on_ok_always, Carries, breaks_are, soft_breaks_are, breaks_fit, opportunities_keep}
-use Rattle.hyphenation.proofs.InOrder.{shifts_in_order}
-use Rattle.hyphenation.proofs.Standard.{ok_then, no_soft_hyphens, none_is_not_some}
+use Rattle.hyphenation.proofs.FittedBreaks.{on_ok_always, breaks_fit, opportunities_keep}
+use Rattle.hyphenation.proofs.Standard.{ok_then}
 use Rattle.hyphenation.proofs.hyphenator.found.breaks.Goals as goal
 
--- A word with soft hyphens.
-
-pub returns-in-Some-clause-breaks : goal.returns-in-Some-clause-breaks
-returns-in-Some-clause-breaks g c =
-    let m = g.F.Break.meaning in
+pub returns-then-are_letters-clause-fits : goal.returns-then-are_letters-clause-fits
+returns-then-are_letters-clause-fits g c =
     let word = c.args.word.now in
-    let found = rw c.in-Some.is at c.in_ok-places.ensures.found in
-    let some = rw c.in-Some.is at c.in_ok-places.ensures.some in
-    ok_then c.unchanged.result _ _
-    (λ v h. soft_breaks_are (rules_of g.F.Carries.Carried.change g.F.Listed.Break.meaning c.args.dictionary.now) word (map m v.items) (some.0 refl) (h ∙ ap (map plain) found))
-    c.unchanged.ensures
+    let fit = breaks_fit g.F.Carries.Carried.change g.F.Listed.Break.meaning c.args.dictionary.now word c.minima-minima.ensures.kept c.utf8.word in
+    ok_then c.breaks_of_letters.result _ _ (λ v is. subst (Fits word) (sym is) fit) c.breaks_of_letters.ensures
 
-pub returns-in-Some-clause-fits : goal.returns-in-Some-clause-fits
-returns-in-Some-clause-fits g c =
-    let m = g.F.Break.meaning in
-    ok_then c.unchanged.result _ _
-    (λ v is. subst (Fits c.args.word.now) (sym is) (breaks_fit g.F.Carries.Carried.change g.F.Listed.Break.meaning c.args.dictionary.now c.args.word.now c.minima-minima.ensures.kept c.utf8.word))
-    (returns-in-Some-clause-breaks g c)
-
-pub returns-in-Some-clause-ranges : goal.returns-in-Some-clause-ranges
-returns-in-Some-clause-ranges g c =
+pub returns-then-are_letters-clause-ranges : goal.returns-then-are_letters-clause-ranges
+returns-then-are_letters-clause-ranges g c =
     on_ok_always _ _ (opportunities_keep g.F.Carries.Carried.change g.F.Listed.Break.meaning c.args.dictionary.now c.args.word.now c.minima-minima.ensures.kept c.utf8.word)
 
--- Any other word.
-
-in_order : (word : List ℕ) (shifts : List Shift) → IsUtf8 word → shifts ≡ shifts_of word → IsNonDecreasingBy (λ (s : Shift). s.index) shifts
-in_order word shifts u is = subst (IsNonDecreasingBy (λ (s : Shift). s.index)) (sym is) (shifts_in_order word u)
-
-pub kept-requires : goal.kept-requires
-kept-requires g c κs = ((refl, tt), (in_order c.args.word.now c.deref.result.now c.utf8.word (c.deref.ensures.value ∙ c.in_ok-folded.ensures.shifts), c.in_ok-found.ensures.ascend))
-
-pub realign_all-requires : goal.realign_all-requires
-realign_all-requires g c κs = ((refl, tt), in_order c.args.word.now c.deref-2.result.now c.utf8.word (c.deref-2.ensures.value ∙ c.in_ok-folded.ensures.shifts))
-
-pub returns-clause-breaks : goal.returns-clause-breaks
-returns-clause-breaks g c =
-    let m = g.F.Break.meaning in
+pub returns-then-is_ascii-clause-fits : goal.returns-then-is_ascii-clause-fits
+returns-then-is_ascii-clause-fits g c =
     let word = c.args.word.now in
-    let contents = c.args.dictionary.now in
-    let rules = rules_of g.F.Carries.Carried.change g.F.Listed.Break.meaning contents in
-    let text = c.as_str-text.result.now in
-    let size = length text in
-    let shifts = c.in_ok-folded.shifts.items in
-    let none = no_soft_hyphens (soft_hyphens word) (λ some. none_is_not_some c.in_ok-places.field-0 c.in_default.is (c.in_ok-places.ensures.some.1 some)) in
-    let carries : Carries rules word text size shifts (map m c.in_ok-found.found.items) (map m c.in_ok-breaks.breaks.items) (map m c.realign_all.new.breaks) =
-    record {
-      folded_is = c.as_str-text.ensures.value ∙ c.in_ok-folded.ensures.folded;
-      size_is = refl;
-      shifts_are = c.in_ok-folded.ensures.shifts;
-      found_are = c.in_ok-found.ensures.breaks;
-      ascend = c.in_ok-found.ensures.ascend;
-      kept_are = c.in_ok-breaks.ensures ∙ ap (λ s. kept_by (is_steady_by size s) (map m c.in_ok-found.found.items)) c.deref.ensures.value;
-      new_are = c.realign_all.ensures ∙ ap (λ s. map (realigned_break s) (map m c.deref_mut.result.now)) c.deref-2.ensures.value
-          ∙ ap (map (realigned_break shifts)) (ap (map m) c.deref_mut.ensures.value);
-    } in
-    let written = whole_written c.in_ok-breaks.breaks.len c.realign_all.new.breaks c.in_ok-breaks.breaks.items (c.realign_all.auto.breaks ∙ c.deref_mut.ensures.len) in
-    ap (map m) written ∙ breaks_are _ _ _ _ _ _ _ _ c.utf8.word (omega arith) none carries
+    let fit = breaks_fit g.F.Carries.Carried.change g.F.Listed.Break.meaning c.args.dictionary.now word c.minima-minima.ensures.kept c.utf8.word in
+    ok_then c.breaks_of_ascii.result _ _ (λ v is. subst (Fits word) (sym is) fit) c.breaks_of_ascii.ensures
 
-pub returns-clause-fits : goal.returns-clause-fits
-returns-clause-fits g c =
-    subst (Fits c.args.word.now) (sym (returns-clause-breaks g c))
-    (breaks_fit g.F.Carries.Carried.change g.F.Listed.Break.meaning c.args.dictionary.now c.args.word.now c.minima-minima.ensures.kept c.utf8.word)
+pub returns-then-is_ascii-clause-ranges : goal.returns-then-is_ascii-clause-ranges
+returns-then-is_ascii-clause-ranges g c =
+    on_ok_always _ _ (opportunities_keep g.F.Carries.Carried.change g.F.Listed.Break.meaning c.args.dictionary.now c.args.word.now c.minima-minima.ensures.kept c.utf8.word)
 
-pub returns-clause-ranges : goal.returns-clause-ranges
-returns-clause-ranges g c = opportunities_keep g.F.Carries.Carried.change g.F.Listed.Break.meaning c.args.dictionary.now c.args.word.now c.minima-minima.ensures.kept c.utf8.word
+pub returns-then-are_small_letters-clause-fits : goal.returns-then-are_small_letters-clause-fits
+returns-then-are_small_letters-clause-fits g c =
+    let word = c.args.word.now in
+    let fit = breaks_fit g.F.Carries.Carried.change g.F.Listed.Break.meaning c.args.dictionary.now word c.minima-minima.ensures.kept c.utf8.word in
+    ok_then c.breaks_of_small_letters.result _ _ (λ v is. subst (Fits word) (sym is) fit) c.breaks_of_small_letters.ensures
+
+pub returns-then-are_small_letters-clause-ranges : goal.returns-then-are_small_letters-clause-ranges
+returns-then-are_small_letters-clause-ranges g c =
+    on_ok_always _ _ (opportunities_keep g.F.Carries.Carried.change g.F.Listed.Break.meaning c.args.dictionary.now c.args.word.now c.minima-minima.ensures.kept c.utf8.word)
+
+pub returns-else-are_small_letters-clause-fits : goal.returns-else-are_small_letters-clause-fits
+returns-else-are_small_letters-clause-fits g c =
+    let word = c.args.word.now in
+    let fit = breaks_fit g.F.Carries.Carried.change g.F.Listed.Break.meaning c.args.dictionary.now word c.minima-minima.ensures.kept c.utf8.word in
+    ok_then c.breaks_of_any.result _ _ (λ v is. subst (Fits word) (sym is) fit) c.breaks_of_any.ensures
+
+pub returns-else-are_small_letters-clause-ranges : goal.returns-else-are_small_letters-clause-ranges
+returns-else-are_small_letters-clause-ranges g c =
+    on_ok_always _ _ (opportunities_keep g.F.Carries.Carried.change g.F.Listed.Break.meaning c.args.dictionary.now c.args.word.now c.minima-minima.ensures.kept c.utf8.word)

@@ -10,8 +10,8 @@ use Rattle.hyphenation_commons.proofs.trie.Trie.set_entries.Goals as goal
 
 pub returns-in_err-append-clause-trie : goal.returns-in_err-append-clause-trie
 returns-in_err-append-clause-trie g c =
-    let now = IsTrie-seen c.self.inside.nodes.items c.append.new.self.items _ c.self.invariant.0 in
-    (rw (← c.self.view_is) (IsTrie-seen c.self.inside.nodes.items c.self.inside.entries.items _ c.self.invariant.0), now)
+    let now = IsTrie-seen c.self.inside.nodes.items c.append.new.self.items _ _ c.self.invariant.0 in
+    (rw (← c.self.view_is) (IsTrie-seen c.self.inside.nodes.items c.self.inside.entries.items _ _ c.self.invariant.0), now)
 
 pub index_mut-requires : goal.index_mut-requires
 index_mut-requires g c =
@@ -29,7 +29,6 @@ invariant_of-self-2 g c =
     (omega (arith, grown, c.len-start.ensures, c.len-end.ensures, c.self.inside.entries.ok.0, c.append.new.self.ok.0), omega (arith, c.len-end.ensures, c.append.new.self.ok.0)) in (
       rw (map-set_same (λ n. n.from) ns c.args.node x c.index_mut.result.now (ap (λ n. n.from) c.index_mut.ensures.value)) c.self.invariant.0,
       all_within-set bound ns c.args.node x more (subst (λ (s : Option Span). IsWithin bound s) (sym c.replace-old.ensures.after) span),
-      rw (map-set_same (λ n. n.from) ns c.args.node x c.index_mut.result.now (ap (λ n. n.from) c.index_mut.ensures.value)) c.self.invariant.2,
     )
 
 pub returns-clause-set : goal.returns-clause-set
@@ -48,7 +47,7 @@ returns-clause-had g c =
     let asked = rw (← c.self.view_is) at c.requires in
     let ns = c.self.inside.nodes.items in
     let es = c.self.inside.entries.items in
-    let trie = IsTrie-seen ns es _ c.self.invariant.0 in
+    let trie = IsTrie-seen ns es _ _ c.self.invariant.0 in
     rw (← c.self.view_is) (
     c.is_some.ensures ∙ ap is_some c.replace-old.ensures.value ∙ has_entries es c.index_mut.result.now
     ∙ ap is_some (sym (seen_entries ns es c.args.node c.index_mut.result.now (seen_within ns c.args.node asked) c.index_mut.ensures.value)
@@ -56,5 +55,5 @@ returns-clause-had g c =
 
 pub returns-clause-trie : goal.returns-clause-trie
 returns-clause-trie g c =
-    let now = IsTrie-seen _ _ _ (invariant_of-self-2 g c).0 in
-    (rw (← c.self.view_is) (IsTrie-seen c.self.inside.nodes.items c.self.inside.entries.items _ c.self.invariant.0), now)
+    let now = IsTrie-seen _ _ _ _ (invariant_of-self-2 g c).0 in
+    (rw (← c.self.view_is) (IsTrie-seen c.self.inside.nodes.items c.self.inside.entries.items _ _ c.self.invariant.0), now)

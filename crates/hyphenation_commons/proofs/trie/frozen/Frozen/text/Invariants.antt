@@ -4,7 +4,7 @@ use Rattle.hyphenation_commons.specs.Trie.{text_of}
 use Rattle.hyphenation_commons.proofs.trie.frozen.Frozen.text.Given as goal
 
 abbrev pub invariant-loop-at : goal.invariant-loop-at
-invariant-loop-at g l = (l.at < length l.self.texts) × (text_of l.self l.at ++ reverse l.text.items ≡ text_of l.self l.node)
+invariant-loop-at g l = (l.at < length l.self.tree.texts) × (text_of l.self.tree l.at ++ reverse l.text.items ≡ text_of l.self.tree l.node)
 
 abbrev pub decreases-loop-at : goal.decreases-loop-at
 decreases-loop-at g l = l.at

@@ -1,0 +1,264 @@
+//! The program's messages and statuses.
+
+#[cfg(test)]
+mod tests;
+
+use crate::request::{Request, Sort, form_of};
+use hyphenation::engine::Kind;
+use hyphenation::load::{Error, Load};
+use hyphenation_commons::dictionary::{Carried, Dictionary, Listed};
+use hyphenation_commons::extended::Subregion;
+use pattern_files::convert::convert;
+use pattern_files::fault::Refusal;
+use pattern_files::group::{File, Form};
+use pattern_files::libreoffice::{Converted, convert_dic};
+use pattern_files::notes::Note;
+use pattern_files::told::{minima_of, notes_of};
+use std::alloc::{AllocError, Global};
+use std::fs::Files;
+use std::io::{ErrorKind, Read, Write};
+use std::{fs, io};
+
+const USAGE: &str =
+    "usage: hyphenate-convert KIND CODE LEFT RIGHT FILE..\n       FILE: one .dic; or .tex, .pat.txt and .hyp.txt. LEFT and RIGHT: 0 to 255, or - for what the file says\n";
+
+/// Why nothing, or not all, was written.
+#[derive(Debug, Drop)]
+enum Failure {
+    /// A file, counted from 0, can't be opened or read.
+    Reading(usize, io::Error),
+    /// A file can't be understood.
+    Refused(Refusal),
+    /// No minima were given, and no file says them.
+    Minima,
+    /// The result can't be written.
+    Writing,
+    Memory,
+}
+
+impl From<AllocError> for Failure {
+    fn from(_error: AllocError) -> Failure {
+        Failure::Memory
+    }
+}
+
+impl From<Refusal> for Failure {
+    fn from(refusal: Refusal) -> Failure {
+        Failure::Refused(refusal)
+    }
+}
+
+/// All bytes of a file.
+fn read_file<F: Files>(rt: &F, alloc: Global, path: &str) -> io::Result<Vec<u8>> {
+    let mut file = fs::open(rt, path)?;
+    let mut bytes = Vec::new(alloc);
+    file.read_to_end(&mut bytes)?;
+    Ok(bytes)
+}
+
+/// All bytes of the files.
+fn read_files<F: Files>(rt: &F, alloc: Global, paths: &[&str]) -> Result<Vec<Vec<u8>>, Failure> {
+    let mut files = Vec::new(alloc);
+    for (index, path) in paths.iter().enumerate() {
+        match read_file(rt, alloc, path) {
+            Ok(bytes) => {
+                if files.push(bytes).is_err() {
+                    return Err(Failure::Memory);
+                }
+            }
+            Err(e) => return Err(Failure::Reading(index, e)),
+        }
+    }
+    Ok(files)
+}
+
+/// The files with their forms.
+fn formed<'a>(
+    alloc: Global,
+    paths: &[&str],
+    files: &'a [Vec<u8>],
+) -> Result<Vec<File<'a>>, AllocError> {
+    let mut formed = Vec::new(alloc);
+    for (index, bytes) in files.iter().enumerate() {
+        let form = match paths.get(index) {
+            Some(path) => form_of(path).unwrap_or(Form::Tex),
+            None => Form::Tex,
+        };
+        formed.push(File { form, bytes })?;
+    }
+    Ok(formed)
+}
+
+/// The minima that are asked for, or those that a file says.
+fn minima_for(request: &Request<'_>, files: &[File<'_>]) -> Option<(u8, u8)> {
+    let mut left = request.left;
+    let mut right = request.right;
+    for file in files {
+        let told = minima_of(file.bytes);
+        left = left.or(told.left);
+        right = right.or(told.right);
+    }
+    Some((left?, right?))
+}
+
+/// The dictionary of TeX's files.
+fn convert_tex<C: Carried, B: Listed>(
+    alloc: Global,
+    request: &Request<'_>,
+    bytes: &[Vec<u8>],
+) -> Result<Converted<C, B>, Failure> {
+    let files = formed(alloc, request.paths, bytes)?;
+    let (left, right) = minima_for(request, &files).unwrap_or((0, 0));
+    let dictionary: Dictionary<C, B> = convert(alloc, request.language, left, right, &files)?;
+    let notes = notes_of(alloc, &files)?;
+    if minima_for(request, &files).is_none() {
+        return Err(Failure::Minima);
+    }
+    Ok(Converted { dictionary, notes })
+}
+
+/// The dictionary of the files.
+fn convert_files<C: Carried, B: Listed>(
+    alloc: Global,
+    request: &Request<'_>,
+    changes: bool,
+    bytes: &[Vec<u8>],
+) -> Result<Converted<C, B>, Failure> {
+    match request.sort {
+        Sort::Tex => convert_tex(alloc, request, bytes),
+        Sort::Dic => {
+            let first = match bytes.first() {
+                Some(first) => first.as_slice(),
+                None => &[],
+            };
+            let converted = convert_dic(
+                alloc,
+                request.language,
+                changes,
+                request.left,
+                request.right,
+                first,
+            )?;
+            Ok(converted)
+        }
+    }
+}
+
+/// What went wrong in the writing.
+fn failure_of(error: Error) -> Failure {
+    match error {
+        Error::Memory(_) => Failure::Memory,
+        _ => Failure::Writing,
+    }
+}
+
+/// Reads the files, makes a dictionary of them and writes that; what there is to tell of it.
+fn run<F: Files, O: Write>(
+    rt: &F,
+    alloc: Global,
+    request: &Request<'_>,
+    output: &mut O,
+) -> Result<Vec<Note>, Failure> {
+    let bytes = read_files(rt, alloc, request.paths)?;
+    match request.kind {
+        Kind::Standard => {
+            let Converted { dictionary, notes } = convert_files::<(), usize>(
+                alloc, request, false, &bytes,
+            )?;
+            dictionary.to_writer(alloc, output).map_err(failure_of)?;
+            Ok(notes)
+        }
+        Kind::Extended => {
+            let Converted { dictionary, notes } = convert_files::<
+                Option<Subregion>,
+                (usize, Option<Subregion>),
+            >(alloc, request, true, &bytes)?;
+            dictionary.to_writer(alloc, output).map_err(failure_of)?;
+            Ok(notes)
+        }
+    }
+}
+
+/// Writes what was noted. That it can't be written changes nothing.
+fn report_notes<E: Write>(paths: &[&str], notes: &[Note], faults: &mut E) {
+    for note in notes {
+        let path = paths.get(note.first.file).copied().unwrap_or("");
+        let line = note.first.line;
+        let what = note.what;
+        let times = note.times;
+        let _ = writeln!(
+            faults,
+            "hyphenate-convert: {path}:{line}: note: {what} ({times})"
+        );
+    }
+}
+
+fn report_memory<E: Write>(faults: &mut E) -> u8 {
+    let _ = faults.write_all(b"hyphenate-convert: no memory\n");
+    6
+}
+
+/// Writes why nothing was written, and gives the status.
+fn report<E: Write>(paths: &[&str], failure: &Failure, faults: &mut E) -> u8 {
+    match failure {
+        Failure::Reading(index, e) => {
+            let path = paths.get(*index).copied().unwrap_or("");
+            if let ErrorKind::OutOfMemory = e.kind() {
+                return report_memory(faults);
+            }
+            let _ = writeln!(faults, "hyphenate-convert: {path}: {e}");
+            3
+        }
+        Failure::Refused(Refusal::Fault { file, line, cause }) => {
+            let path = paths.get(*file).copied().unwrap_or("");
+            let _ = writeln!(faults, "hyphenate-convert: {path}:{line}: {cause}");
+            3
+        }
+        Failure::Minima => {
+            let _ = faults.write_all(
+                b"hyphenate-convert: no file says the minima: give LEFT and RIGHT\n",
+            );
+            2
+        }
+        Failure::Writing => {
+            let _ = faults.write_all(b"hyphenate-convert: the result can't be written\n");
+            5
+        }
+        Failure::Refused(Refusal::Memory) => report_memory(faults),
+        Failure::Memory => report_memory(faults),
+    }
+}
+
+/// Writes why the program's words could not be had, and gives the status.
+pub fn report_words<E: Write>(fault: &io::Error, faults: &mut E) -> u8 {
+    match fault.kind() {
+        ErrorKind::OutOfMemory => report_memory(faults),
+        _ => {
+            let _ = faults.write_all(USAGE.as_bytes());
+            2
+        }
+    }
+}
+
+/// Does what the words ask for, and gives the status to end with: 0 where it is done; 2 where the words are of no
+/// form, or the minima are missing; 3 where a file can't be opened, read or understood; 5 where the result can't be
+/// written; 6 where memory is wanting.
+pub fn answer<F: Files, O: Write, E: Write>(
+    rt: &F,
+    alloc: Global,
+    words: &[&str],
+    output: &mut O,
+    faults: &mut E,
+) -> u8 {
+    let Some(request) = Request::from_words(words) else {
+        let _ = faults.write_all(USAGE.as_bytes());
+        return 2;
+    };
+    match run(rt, alloc, &request, output) {
+        Ok(notes) => {
+            report_notes(request.paths, &notes, faults);
+            0
+        }
+        Err(failure) => report(request.paths, &failure, faults),
+    }
+}

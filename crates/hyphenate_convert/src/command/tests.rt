@@ -1,0 +1,192 @@
+use super::*;
+use std::test::Fail;
+use std::{env, process};
+
+/// What the program writes and says for its words, and its status.
+#[derive(Drop)]
+struct Answer {
+    status: u8,
+    output: Vec<u8>,
+    faults: Vec<u8>,
+}
+
+fn answer_to(rt: &HostRuntime, words: &[&str]) -> Answer {
+    let mut output: Vec<u8> = Vec::new(rt.alloc());
+    let mut faults: Vec<u8> = Vec::new(rt.alloc());
+    let status = answer(rt, rt.alloc(), words, &mut output, &mut faults);
+    Answer {
+        status,
+        output,
+        faults,
+    }
+}
+
+/// A new file of these bytes, by its path.
+fn file(rt: &HostRuntime, name: &str, bytes: &[u8]) -> Result<String, Fail> {
+    let folder = env::temp_dir(rt)?;
+    let id = process::id(rt.process());
+    let path = format!(in rt.alloc(); "{}/convert-test-{id}-{name}", folder.as_path().display())?;
+    fs::write(rt, path.as_str(), bytes)?;
+    Ok(path)
+}
+
+/// What the program answers of a new file of these bytes, which goes then.
+fn answer_to_file(
+    rt: &HostRuntime,
+    name: &str,
+    bytes: &[u8],
+    left: &str,
+    right: &str,
+) -> Result<Answer, Fail> {
+    let path = file(rt, name, bytes)?;
+    let answer = answer_to(rt, &["standard", "xx", left, right, path.as_str()]);
+    fs::remove_file(rt, path.as_str())?;
+    Ok(answer)
+}
+
+/// Whether the file gives a dictionary of minima 2 and 3 with these lines, and notes that end so.
+fn converts(
+    rt: &HostRuntime,
+    name: &str,
+    text: &str,
+    minima: (&str, &str),
+    lines: &str,
+    noted: &str,
+) -> Result<bool, Fail> {
+    let answer = answer_to_file(rt, name, text.as_bytes(), minima.0, minima.1)?;
+    let wanted = format!(in rt.alloc();
+        "hyphenation 1 standard\nlanguage xx\nminima 2 3\n{lines}"
+    )?;
+    Ok(
+        answer.status == 0
+            && answer.output.as_slice() == wanted.as_bytes()
+            && answer.faults.ends_with(noted.as_bytes())
+            && answer.faults.is_empty() == noted.is_empty(),
+    )
+}
+
+#[test]
+fn a_file_of_each_form_is_converted(rt: HostRuntime) -> Result<(), Fail> {
+    let given = ("2", "3");
+    assert!(rt; converts(&rt, "a.pat.txt", "a1b\n.b2\n", given, "p .b2\np a1b\n", "")?);
+    assert!(rt;
+        converts(
+            &rt,
+            "b.hyp.txt",
+            "as-so-ciate\n",
+            given,
+            "e associate 2 4\n",
+            ""
+        )?
+    );
+    let tex = "% hyphenmins:\n%  typesetting:\n%   left: 2\n%   right: 3\n\\patterns{a1b}\n";
+    assert!(rt; converts(&rt, "c.tex", tex, ("-", "-"), "p a1b\n", "")?);
+    let dic = "UTF-8\nLEFTHYPHENMIN 2\nRIGHTHYPHENMIN 3\nNEXTLEVEL\na1b\nab1c/b=b,2,1\n";
+    let levels =
+        "d.dic:4: note: two levels (LibreOffice hyphenates parts of compounds apart): joined (1)\n";
+    assert!(rt; converts(&rt, "d.dic", dic, ("-", "-"), "p a1b\n", levels)?);
+    Ok(())
+}
+
+/// Whether the file is refused with that status, a message that ends so, and nothing written.
+fn is_refused(
+    rt: &HostRuntime,
+    name: &str,
+    bytes: &[u8],
+    minimum: &str,
+    status: u8,
+    message: &str,
+) -> Result<bool, Fail> {
+    let answer = answer_to_file(rt, name, bytes, minimum, minimum)?;
+    Ok(
+        answer.status == status
+            && answer.output.is_empty()
+            && answer.faults.ends_with(message.as_bytes()),
+    )
+}
+
+#[test]
+fn what_is_wrong_is_told_and_nothing_is_written(rt: HostRuntime) -> Result<(), Fail> {
+    assert!(rt;
+        is_refused(
+            &rt,
+            "e.pat.txt",
+            b"a1b\nc1\xff\n",
+            "2",
+            3,
+            ":2: not UTF-8\n"
+        )?
+    );
+    assert!(rt;
+        is_refused(
+            &rt,
+            "f.dic",
+            b"EBCDIC\na1b\n",
+            "-",
+            3,
+            ":1: no charset that is known here\n"
+        )?
+    );
+    assert!(rt;
+        is_refused(
+            &rt,
+            "g.tex",
+            b"\\patterns{\na1b\n",
+            "2",
+            3,
+            ":1: the group of patterns or exceptions that begins here is not closed\n"
+        )?
+    );
+    assert!(rt;
+        is_refused(
+            &rt,
+            "h.pat.txt",
+            b"Copyright (C) 2005\n",
+            "2",
+            3,
+            ":1: a sign that stands in no pattern or exception\n"
+        )?
+    );
+    assert!(rt;
+        is_refused(
+            &rt,
+            "i.tex",
+            b"This is a licence.\n",
+            "2",
+            3,
+            ":1: no pattern and no exception in the file\n"
+        )?
+    );
+    assert!(rt;
+        is_refused(
+            &rt,
+            "j.pat.txt",
+            b"a1b\n",
+            "-",
+            2,
+            "hyphenate-convert: no file says the minima: give LEFT and RIGHT\n"
+        )?
+    );
+    let missing = answer_to(&rt, &["standard", "xx", "2", "3", "no-such-folder/a.tex"]);
+    assert_eq!(rt; missing.status, 3);
+    assert!(rt; missing.output.is_empty());
+    Ok(())
+}
+
+#[test]
+fn words_of_no_form_are_answered_by_the_usage(rt: HostRuntime) {
+    let cases: [&[&str]; 7] = [
+        &[],
+        &["standard", "xx", "2", "3"],
+        &["standard", "xx", "2", "3", "licence.txt"],
+        &["standard", "XX", "2", "3", "a.dic"],
+        &["standard", "xx", "2", "256", "a.dic"],
+        &["standard", "xx", "2", "3", "a.dic", "b.dic"],
+        &["latin", "xx", "2", "3", "a.dic"],
+    ];
+    for words in cases {
+        let answer = answer_to(&rt, words);
+        assert_eq!(rt; answer.status, 2);
+        assert_eq!(rt; answer.faults.as_slice(), USAGE.as_bytes());
+    }
+}

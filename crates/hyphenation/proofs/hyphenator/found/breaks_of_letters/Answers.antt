@@ -1,0 +1,20 @@
+use Rattle.std.proofs.Common.{map, refl, sym}
+use Rattle.hyphenation.specs.Folding.{fold}
+use Rattle.hyphenation.specs.Opportunities.{rules_of}
+use Rattle.hyphenation.proofs.AsciiWords.{letters_ascii, letters_fold, ascii_breaks}
+use Rattle.hyphenation.proofs.Folds.{fold_is_utf8}
+use Rattle.hyphenation.proofs.Rules.{rules_are_sound, opportunities_ascend}
+use Rattle.hyphenation.proofs.Standard.{ok_then}
+use Rattle.hyphenation.proofs.hyphenator.found.breaks_of_letters.Goals as goal
+
+pub unmoved_breaks-requires : goal.unmoved_breaks-requires
+unmoved_breaks-requires g c κs = ((refl, tt), letters_ascii c.args.word.now c.requires)
+
+pub returns : goal.returns
+returns g c =
+    let word = c.args.word.now in
+    let change_of = g.F.Carries.Carried.change in
+    let break_of = g.F.Listed.Break.meaning in
+    let rules = rules_of change_of break_of c.args.dictionary.now in
+    let ascend = opportunities_ascend rules (fold word) (rules_are_sound change_of break_of c.args.dictionary.now (fold word) c.minima-minima.ensures.kept (fold_is_utf8 word c.utf8.word)) in
+    ok_then c.unmoved_breaks.result _ _ (λ v is. ascii_breaks rules word word (map g.F.Break.meaning v.items) (letters_ascii word c.requires) (sym (letters_fold word c.requires)) ascend is) c.unmoved_breaks.ensures

@@ -1,0 +1,93 @@
+use Rattle.std.proofs.Common.{◌≡◌, ◌+◌, ◌<◌, ◌∷◌, [], ℕ, List, max, length, slice_index, refl, ap, sym, subst, ◌∙◌, arith, add-one}
+use Rattle.std.proofs.Math.Seq.{get_or-append_seam}
+use Rattle.std.proofs.lemmas.List.{get_or_append_left}
+use Rattle.hyphenation_commons.specs.Trie.{text_of, key_at}
+use Rattle.hyphenation.specs.Scoring.{frame, greatest_value}
+use Rattle.hyphenation.specs.OnePass.{ending}
+use Rattle.hyphenation.proofs.Passing.{Passed, passed_none, passed_more, passed_short, passed_room, passed_values, passed_reported}
+use Rattle.hyphenation.proofs.score.greatest.raise_all.Goals as goal
+
+word_byte : (word : List ℕ) (at : ℕ) → at < length word → slice_index word at ≡ slice_index (frame word) (at + 1)
+word_byte word at lt = sym (get_or_append_left word (46 ∷ []) 0 at lt) ∙ ap (slice_index (frame word)) (sym (add-one at))
+
+last_byte : (word : List ℕ) → 46 ≡ slice_index (frame word) (length word + 1)
+last_byte word = sym (get_or-append_seam word 46 [] 0) ∙ ap (slice_index (frame word)) (sym (add-one (length word)))
+
+pub loop-at-init : goal.loop-at-init
+loop-at-init g c =
+    let tree = c.args.automaton.now in
+    let word = c.args.word.now in
+    let trie = c.root-root.ensures.trie in
+    let none = subst (λ k. Passed tree word 0 k c.args.scores.now c.args.count.now.made c.args.count.now.reported c.args.count.now.made c.args.count.now.reported) (sym c.root-root.ensures.root)
+    (passed_none tree word trie c.args.scores.now c.args.count.now.made c.args.count.now.reported c.requires.zeros) in
+    let r = c.read-node.ensures in
+    record {
+      len = c.read-node.auto.values;
+      passed = passed_more tree word trie c.requires.begins 0 c.root-root.result 46 c.read-node.result c.args.scores.now c.read-node.new.values _ _ _ _ c.read-node.new.count.made c.read-node.new.count.reported (omega arith) refl none r.longest c.read-node.auto.values r.values r.least r.most r.alone r.reported;
+    }
+
+pub read-node-requires-in-loop-at-clause-from : goal.read-node-requires-in-loop-at-clause-from
+read-node-requires-in-loop-at-clause-from g c = c.loop-at.invariant.passed.longest.within
+
+pub read-node-requires-in-loop-at-clause-end : goal.read-node-requires-in-loop-at-clause-end
+read-node-requires-in-loop-at-clause-end g c =
+    omega (arith, passed_short c.args.automaton.now c.args.word.now c.root-root.ensures.trie (c.loop-at.at + 1) c.loop-at.node _ _ _ _ _ (omega arith) c.loop-at.invariant.passed)
+
+pub read-node-requires-in-loop-at-clause-made : goal.read-node-requires-in-loop-at-clause-made
+read-node-requires-in-loop-at-clause-made g c = (passed_room c.args.automaton.now c.args.word.now c.root-root.ensures.trie (c.loop-at.at + 1) c.loop-at.node _ _ _ _ _ (omega arith) (omega arith) c.requires.made c.requires.reported c.loop-at.invariant.passed).0
+
+pub read-node-requires-in-loop-at-clause-reported : goal.read-node-requires-in-loop-at-clause-reported
+read-node-requires-in-loop-at-clause-reported g c = (passed_room c.args.automaton.now c.args.word.now c.root-root.ensures.trie (c.loop-at.at + 1) c.loop-at.node _ _ _ _ _ (omega arith) (omega arith) c.requires.made c.requires.reported c.loop-at.invariant.passed).1
+
+pub loop-at-preserved : goal.loop-at-preserved
+loop-at-preserved g c =
+    let tree = c.args.automaton.now in
+    let word = c.args.word.now in
+    let trie = c.root-root.ensures.trie in
+    let r = c.read-node-in-loop-at.ensures in
+    let two : c.loop-at.at + 2 ≡ (c.loop-at.at + 1) + 1 = omega arith in
+    let raised = subst (λ k. (i : ℕ) → i < length c.loop-at.scores → slice_index c.read-node-in-loop-at.new.values i ≡ max (slice_index c.loop-at.scores i) (greatest_value (ending (key_at tree) (text_of tree c.read-node-in-loop-at.result) k (i + 1)))) two r.values in
+    record {
+      len = c.read-node-in-loop-at.auto.values ∙ c.loop-at.invariant.len;
+      passed = passed_more tree word trie c.requires.begins (c.loop-at.at + 1) c.loop-at.node (slice_index word c.loop-at.at) c.read-node-in-loop-at.result c.loop-at.scores c.read-node-in-loop-at.new.values _ _ _ _ c.read-node-in-loop-at.new.count.made c.read-node-in-loop-at.new.count.reported (omega arith) (word_byte word c.loop-at.at (omega arith)) c.loop-at.invariant.passed r.longest c.read-node-in-loop-at.auto.values raised r.least r.most r.alone r.reported;
+    }
+
+pub read-requires-clause-from : goal.read-requires-clause-from
+read-requires-clause-from g c = c.loop-at.invariant.passed.longest.within
+
+pub read-requires-clause-end : goal.read-requires-clause-end
+read-requires-clause-end g c =
+    omega (arith, passed_short c.args.automaton.now c.args.word.now c.root-root.ensures.trie (c.loop-at.at + 1) c.loop-at.node _ _ _ _ _ (omega arith) c.loop-at.invariant.passed)
+
+pub read-requires-clause-made : goal.read-requires-clause-made
+read-requires-clause-made g c = (passed_room c.args.automaton.now c.args.word.now c.root-root.ensures.trie (c.loop-at.at + 1) c.loop-at.node _ _ _ _ _ (omega arith) (omega arith) c.requires.made c.requires.reported c.loop-at.invariant.passed).0
+
+pub read-requires-clause-reported : goal.read-requires-clause-reported
+read-requires-clause-reported g c = (passed_room c.args.automaton.now c.args.word.now c.root-root.ensures.trie (c.loop-at.at + 1) c.loop-at.node _ _ _ _ _ (omega arith) (omega arith) c.requires.made c.requires.reported c.loop-at.invariant.passed).1
+
+all : (g : _) (c : goal.After-slice_known-3-1 g) → Passed c.args.automaton.now c.args.word.now (length c.args.word.now + 2) c.read.result c.read.new.values c.args.count.now.made c.args.count.now.reported c.read.new.count.made c.read.new.count.reported
+all g c =
+    let tree = c.args.automaton.now in
+    let word = c.args.word.now in
+    let r = c.read.ensures in
+    let ends : c.loop-at.at ≡ length word = omega arith in
+    let two : (length word + 1) + 1 ≡ length word + 2 = omega arith in
+    let last = subst (λ k. Passed tree word (k + 1) c.loop-at.node c.loop-at.scores c.args.count.now.made c.args.count.now.reported c.loop-at.count.made c.loop-at.count.reported) ends c.loop-at.invariant.passed in
+    let raised = subst (λ k. (i : ℕ) → i < length c.loop-at.scores → slice_index c.read.new.values i ≡ max (slice_index c.loop-at.scores i) (greatest_value (ending (key_at tree) (text_of tree c.read.result) k (i + 1)))) (sym two) r.values in
+    subst (λ k. Passed tree word k c.read.result c.read.new.values c.args.count.now.made c.args.count.now.reported c.read.new.count.made c.read.new.count.reported) two
+    (passed_more tree word c.root-root.ensures.trie c.requires.begins (length word + 1) c.loop-at.node 46 c.read.result c.loop-at.scores c.read.new.values _ _ _ _ c.read.new.count.made c.read.new.count.reported (omega arith) (last_byte word) last r.longest c.read.auto.values raised r.least r.most r.alone r.reported)
+
+pub returns-clause-values : goal.returns-clause-values
+returns-clause-values g c = passed_values c.args.automaton.now c.args.word.now c.root-root.ensures.trie c.read.result c.read.new.values _ _ _ _ (c.read.auto.values ∙ c.loop-at.invariant.len ∙ c.requires.places) (all g c)
+
+pub returns-clause-linear : goal.returns-clause-linear
+returns-clause-linear g c = let p = all g c in omega (arith, p.most)
+
+pub returns-clause-alone : goal.returns-clause-alone
+returns-clause-alone g c = (all g c).alone
+
+pub returns-clause-least : goal.returns-clause-least
+returns-clause-least g c = (all g c).least
+
+pub returns-clause-reported : goal.returns-clause-reported
+returns-clause-reported g c = passed_reported c.args.automaton.now c.args.word.now c.root-root.ensures.trie c.read.result c.read.new.values _ _ _ _ (all g c)

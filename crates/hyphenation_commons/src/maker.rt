@@ -1,0 +1,111 @@
+//! Dictionaries made of keys and words.
+//!
+//! A dictionary mostly comes from its text. Who has patterns and exceptions in another form makes one of them here,
+//! and can then write it as a text.
+
+ghost use Rattle.std.specs.Prelude.{◌≡◌, ◌↔◌, IsTrue, IfOk, map, All};
+ghost use Rattle.std.specs.String.{string_bytes};
+ghost use Rattle.hyphenation_commons.specs.Held.{patterns_of};
+ghost use Rattle.hyphenation_commons.specs.Kept.{has_letter, are_entries, are_listed};
+ghost use Rattle.hyphenation_commons.specs.Made.{last_said, said_of, fits_key};
+ghost use Rattle.hyphenation_commons.specs.Trie.{EachBeginsKey};
+
+use crate::breaks::stands_in;
+use crate::dictionary::{Carried, Dictionary, Entry, Listed};
+use crate::exceptions::Exceptions;
+use crate::language::Language;
+use crate::trie::Trie;
+use std::alloc::{AllocError, Global};
+
+/// Whether a key has a character other than a dot.
+fn has_letter(key: &str) -> bool
+    ensures { result ≡ has_letter key.now }
+{
+    for b in key.as_bytes() {
+        if *b != b'.' {
+            return true;
+        }
+    }
+    false
+}
+
+/// Whether entries ascend on the boundaries of a key, with values above 0 and changes that keep within it.
+fn are_entries<C: Carried>(key: &str, entries: &[Entry<C>]) -> bool
+    ensures { IsTrue result ↔ IsTrue (are_entries C.change key.now 0 entries.now) }
+{
+    let mut least = 0;
+    for entry in entries {
+        if entry.place < least || entry.value == 0 {
+            return false;
+        }
+        if !stands_in(key, &(entry.place, entry.change.carried())) {
+            return false;
+        }
+        least = entry.place + 1;
+    }
+    true
+}
+
+/// Whether a key may have these entries.
+///
+/// It may if it has a character other than a dot, if their places ascend strictly, and each place and each end of a
+/// changed range is in the key, or at its end, on a boundary of characters, and if no value is 0. A key may have no
+/// entries; it then bears on nothing.
+pub fn fits_key<C: Carried>(key: &str, entries: &[Entry<C>]) -> bool
+    ensures { IsTrue result ↔ IsTrue (fits_key C.change key.now entries.now) }
+{
+    has_letter(key) && are_entries(key, entries)
+}
+
+/// The trie of these keys.
+fn trie_of<C: Carried>(
+    alloc: Global,
+    patterns: Vec<(String, Vec<Entry<C>>)>,
+) -> Result<Trie<Entry<C>>, AllocError>
+    ensures keys { IfOk result (λ trie. patterns_of trie ≡ last_said (map said_of patterns.items)) }
+    ensures begins { IfOk result (λ trie. EachBeginsKey trie) }
+{
+    let mut trie = Trie::new(alloc)?;
+    for (key, mut entries) in patterns {
+        trie.insert(key.as_bytes(), &mut entries)?;
+    }
+    Ok(trie)
+}
+
+/// The map of these words.
+fn map_of<B: Listed>(
+    alloc: Global,
+    exceptions: Vec<(String, Vec<B>)>,
+) -> Result<Exceptions<B>, AllocError>
+    ensures { IfOk result (λ words. words ≡ last_said (map said_of exceptions.items)) }
+{
+    let mut words = Exceptions::new(alloc)?;
+    for (word, listed) in exceptions {
+        words.insert(word, listed)?;
+    }
+    Ok(words)
+}
+
+/// Makes a dictionary of these patterns and exceptions. Where a key or a word stands several times, the last one
+/// counts.
+///
+/// The caller owes that each key may have its entries, as `fits_key` tests, and each word its breaks, as
+/// `Dictionary::fits` tests. The only error is memory.
+pub fn make<C: Carried, B: Listed>(
+    alloc: Global,
+    language: Language,
+    left: u8,
+    right: u8,
+    patterns: Vec<(String, Vec<Entry<C>>)>,
+    exceptions: Vec<(String, Vec<B>)>,
+) -> Result<Dictionary<C, B>, AllocError>
+    requires keys { All (λ p. IsTrue (fits_key C.change (string_bytes p.0) p.1.items)) patterns.items }
+    requires words { All (λ e. IsTrue (are_listed B.meaning (string_bytes e.0) 0 e.1.items)) exceptions.items }
+    ensures { IfOk result (λ d. d ≡ record { language = language; left = left; right = right; patterns = last_said (map said_of patterns.items); exceptions = last_said (map said_of exceptions.items) }) }
+{
+    // The call tells the proof what is true of each language.
+    let _code = language.code();
+    let trie = trie_of(alloc, patterns)?.freeze(alloc)?;
+    let words = map_of(alloc, exceptions)?;
+    Ok(Dictionary::new(language, left, right, trie, words))
+}

@@ -1,0 +1,19 @@
+use Rattle.std.proofs.Common.{◌∙◌, sym, ap, None}
+use Rattle.std.specs.Str.{is_utf8}
+use Rattle.hyphenation_commons.specs.Kept.{has_letter}
+use Rattle.pattern_files.proofs.Words.{either, bad_entries, good_entries}
+use Rattle.pattern_files.proofs.spelling.read_letters.Goals as goal
+
+pub returns-then-not-fits_key-clause-refused : goal.returns-then-not-fits_key-clause-refused
+returns-then-not-fits_key-clause-refused g c =
+    bad_entries g.C.Carried.change g.C.Carried.carries c.args.text.now c.deref-in-Some.result.now c.deref-in-Some-2.result.now c.fits_key.result (either (g.met.C.Carried.kept None))
+    (c.deref-in-Some.ensures ∙ c.in-Some.ensures.some ∙ c.in_ok-key.ensures.letters) (c.deref-in-Some-2.ensures.value ∙ c.in_ok-key.ensures.entries)
+    (sym (ap has_letter (c.deref.ensures.value ∙ c.in_ok-key.ensures.letters)) ∙ sym c.has_letter.ensures ∙ c.if-not-has_letter.false) (sym (ap is_utf8 c.in_ok-key.ensures.letters) ∙ c.in-Some.ensures.good)
+    c.fits_key.ensures c.if-not-fits_key.true
+
+pub returns-else-not-fits_key-clause-good : goal.returns-else-not-fits_key-clause-good
+returns-else-not-fits_key-clause-good g c =
+    good_entries g.C.Carried.change g.C.Carried.carries c.args.text.now c.deref-in-Some.result.now c.deref-in-Some-2.result.now c.fits_key.result (either (g.met.C.Carried.kept None))
+    (c.deref-in-Some.ensures ∙ c.in-Some.ensures.some ∙ c.in_ok-key.ensures.letters) (c.deref-in-Some-2.ensures.value ∙ c.in_ok-key.ensures.entries)
+    (sym (ap has_letter (c.deref.ensures.value ∙ c.in_ok-key.ensures.letters)) ∙ sym c.has_letter.ensures ∙ c.if-not-has_letter.false) (sym (ap is_utf8 c.in_ok-key.ensures.letters) ∙ c.in-Some.ensures.good)
+    c.fits_key.ensures c.if-not-fits_key.false

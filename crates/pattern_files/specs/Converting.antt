@@ -1,0 +1,81 @@
+-- What files give together: a dictionary, or the first fault.
+use Rattle.std.specs.Prelude.{◌≡◌, ℕ, ◌+◌, List, [], ◌∷◌, ◌++◌, Option, Some, None, option_map}
+use Rattle.std.specs.Option.{option_or}
+use Rattle.std.specs.List.{filter_map}
+use Rattle.hyphenation_commons.specs.Break.{Break, Change}
+use Rattle.hyphenation_commons.specs.Dictionary.{Contents}
+use Rattle.hyphenation_commons.specs.Made.{last_said}
+use Rattle.hyphenation_commons.specs.declared.dictionary.Entry.{Entry}
+use Rattle.pattern_files.specs.Groups.{GroupWord, groups, plain_words, pieces_of}
+use Rattle.pattern_files.specs.Spelling.{cause_of, pattern_of, exception_of}
+use Rattle.pattern_files.specs.declared.fault.Cause.{Cause}
+use Rattle.pattern_files.specs.declared.fault.LineFault.{LineFault}
+use Rattle.pattern_files.specs.declared.fault.LineFault.TheVariants.{NoMemory, OnLine}
+use Rattle.pattern_files.specs.declared.fault.Refusal.{Refusal}
+use Rattle.pattern_files.specs.declared.fault.Refusal.TheVariants.{Memory, Fault}
+use Rattle.pattern_files.specs.declared.group.Form.{Form}
+use Rattle.pattern_files.specs.declared.group.Form.TheVariants.{Tex, Plain}
+use Rattle.pattern_files.specs.declared.group.File.{File}
+
+-- Keys with entries and words with breaks, in the order in which files have them.
+pub record Spelled (C B : Type 0) : Type 0 where
+  pub patterns : List (List ℕ × List (Entry C))
+  pub exceptions : List (List ℕ × List B)
+
+-- The words of a file's groups, up to what is wrong with the groups themselves, if anything is.
+abbrev pub words_of : Form → List ℕ → List GroupWord
+words_of Tex bytes = (groups (pieces_of bytes)).words
+words_of (Plain group) bytes = plain_words group (pieces_of bytes)
+
+abbrev pub group_fault : Form → List ℕ → Option (ℕ × Cause)
+group_fault Tex bytes = (groups (pieces_of bytes)).fault
+group_fault (Plain group) bytes = None
+
+-- What words spell.
+abbrev pub spelled : {C B : Type 0} → (Option Change → C) → (Break → B) → List GroupWord → Spelled C B
+spelled carries lists words = record {
+  patterns = filter_map (λ w. pattern_of carries w.group w.text) words;
+  exceptions = filter_map (λ w. exception_of lists w.group w.text) words;
+}
+
+-- One after the other.
+abbrev pub followed : {C B : Type 0} → Spelled C B → Spelled C B → Spelled C B
+followed first more = record { patterns = first.patterns ++ more.patterns; exceptions = first.exceptions ++ more.exceptions }
+
+-- The first word that fails a test: its line, and that test.
+abbrev pub first_fault : List GroupWord → Option (ℕ × Cause)
+first_fault [] = None
+first_fault (word ∷ words) = option_or (option_map (λ cause. (word.line, cause)) (cause_of word.group word.text)) (first_fault words)
+
+-- A file's first fault: that of a word of its groups, or else of the groups.
+abbrev pub file_fault : Form → List ℕ → Option (ℕ × Cause)
+file_fault form bytes = option_or (first_fault (words_of form bytes)) (group_fault form bytes)
+
+-- The first fault of files: the number of the file, the line and the cause.
+abbrev pub fault_from : ℕ → List File → Option (ℕ × (ℕ × Cause))
+fault_from number [] = None
+fault_from number (file ∷ files) = option_or (option_map (λ fault. (number, fault)) (file_fault file.form file.bytes.now)) (fault_from (number + 1) files)
+
+-- What files spell, one file after the other.
+abbrev pub spelled_in : {C B : Type 0} → (Option Change → C) → (Break → B) → List File → Spelled C B
+spelled_in carries lists [] = record { patterns = []; exceptions = [] }
+spelled_in carries lists (file ∷ files) = followed (spelled carries lists (words_of file.form file.bytes.now)) (spelled_in carries lists files)
+
+-- The dictionary of files: of a key and of a word that stands several times, the last one counts.
+abbrev pub contents_of : {C B : Type 0} → (Option Change → C) → (Break → B) → List ℕ → ℕ → ℕ → List File → Contents C B
+contents_of carries lists language left right files = record {
+  language = language;
+  left = left;
+  right = right;
+  patterns = last_said (spelled_in carries lists files).patterns;
+  exceptions = last_said (spelled_in carries lists files).exceptions;
+}
+
+-- Want of memory, or that very fault.
+abbrev pub IsLineFault : LineFault → Option (ℕ × Cause) → Type 0
+IsLineFault NoMemory fault = Unit {0}
+IsLineFault (OnLine line cause) fault = fault ≡ Some (line, cause)
+
+abbrev pub IsRefusal : Refusal → Option (ℕ × (ℕ × Cause)) → Type 0
+IsRefusal Memory fault = Unit {0}
+IsRefusal (Fault file line cause) fault = fault ≡ Some (file, (line, cause))

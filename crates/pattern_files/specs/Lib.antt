@@ -1,0 +1,4 @@
+pub mod Spelling
+pub mod Groups
+pub mod Converting
+pub mod Read

@@ -1,0 +1,124 @@
+-- What a pattern, and a word with hyphens, spell in a file of patterns, and which of them spell nothing.
+-- Source: F. M. Liang, Word Hy-phen-a-tion by Com-put-er (1983); D. E. Knuth, The TeXbook, appendix H.
+use Rattle.std.specs.Prelude.{◌≡◌, ℕ, ◌+◌, ◌-◌, ◌==◌, ◌&&◌, ◌||◌, nat_le, nat_lt, Bool, true, false, not, if◌then◌else◌, List, [], ◌∷◌, ◌++◌, map, Option, Some, None}
+use Rattle.std.specs.Option.{option_or}
+use Rattle.std.specs.List.{list_any}
+use Rattle.std.specs.Str.{is_utf8}
+use Rattle.hyphenation_commons.specs.Break.{Break, Change, plain}
+use Rattle.hyphenation_commons.specs.Kept.{has_letter, are_entries, are_listed}
+use Rattle.hyphenation_commons.specs.declared.dictionary.Entry.{Entry}
+use Rattle.pattern_files.specs.declared.fault.Cause.{Cause}
+use Rattle.pattern_files.specs.declared.fault.Cause.TheVariants.{Command, EightBit, Sign, TwoInOnePlace, NoLetters, NotUtf8}
+use Rattle.pattern_files.specs.declared.fault.WordFault.{WordFault}
+use Rattle.pattern_files.specs.declared.fault.WordFault.TheVariants.{Memory, Fails}
+use Rattle.pattern_files.specs.declared.group.Group.{Group}
+use Rattle.pattern_files.specs.declared.group.Group.TheVariants.{Patterns, Exceptions}
+
+abbrev pub is_digit : ℕ → Bool
+is_digit b = nat_le 48 b && nat_le b 57
+
+-- The letters of a pattern: all but its digits.
+abbrev pub letters : List ℕ → List ℕ
+letters [] = []
+letters (b ∷ bs) = if is_digit b then letters bs else b ∷ letters bs
+
+-- The digits of a pattern other than 0, each with the number of letters before it, and at, counted in bytes.
+abbrev pub value_at : ℕ → ℕ → List (ℕ × ℕ)
+value_at at digit = if digit == 48 then [] else (at, digit - 48) ∷ []
+
+abbrev pub values_from : ℕ → List ℕ → List (ℕ × ℕ)
+values_from at [] = []
+values_from at (b ∷ bs) = if is_digit b then value_at at b ++ values_from at bs else values_from (at + 1) bs
+
+-- The letters of a word: all but its hyphens.
+abbrev pub unhyphenated : List ℕ → List ℕ
+unhyphenated [] = []
+unhyphenated (b ∷ bs) = if b == 45 then unhyphenated bs else b ∷ unhyphenated bs
+
+-- The hyphens of a word, each by the number of letters before it, and at, counted in bytes.
+abbrev pub hyphens_from : ℕ → List ℕ → List ℕ
+hyphens_from at [] = []
+hyphens_from at (b ∷ bs) = if b == 45 then at ∷ hyphens_from at bs else hyphens_from (at + 1) bs
+
+-- The entries of a pattern, in a kind of dictionary that holds a change or none by carries.
+abbrev pub entry_of : {C : Type 0} → (Option Change → C) → ℕ × ℕ → Entry C
+entry_of carries v = record { place = v.0; value = v.1; change = carries None }
+
+abbrev pub entries : {C : Type 0} → (Option Change → C) → List ℕ → List (Entry C)
+entries carries text = map (entry_of carries) (values_from 0 text)
+
+-- The breaks of a word with hyphens, in a kind of dictionary that lists a break by lists.
+abbrev pub breaks : {B : Type 0} → (Break → B) → List ℕ → List B
+breaks lists text = map (λ place. lists (plain place)) (hyphens_from 0 text)
+
+-- What a word of each group spells: a key with its entries, or a word with its breaks.
+abbrev pub pattern_of : {C : Type 0} → (Option Change → C) → Group → List ℕ → Option (List ℕ × List (Entry C))
+pattern_of carries Patterns text = Some (letters text, entries carries text)
+pattern_of carries Exceptions text = None
+
+abbrev pub exception_of : {B : Type 0} → (Break → B) → Group → List ℕ → Option (List ℕ × List B)
+exception_of lists Patterns text = None
+exception_of lists Exceptions text = Some (unhyphenated text, breaks lists text)
+
+-- ---- What spells nothing.
+
+-- A backslash or a brace; a circumflex.
+abbrev pub is_command : ℕ → Bool
+is_command b = b == 92 || b == 123 || b == 125
+
+abbrev pub is_caret : ℕ → Bool
+is_caret b = b == 94
+
+abbrev pub is_ascii_letter : ℕ → Bool
+is_ascii_letter b = (nat_le 65 b && nat_le b 90) || (nat_le 97 b && nat_le b 122)
+
+-- An apostrophe or a hyphen.
+abbrev pub is_mark : ℕ → Bool
+is_mark b = b == 39 || b == 45
+
+-- A sign of ASCII that stands in no pattern, or in no word with hyphens: all but letters, apostrophes and hyphens, and in
+-- a pattern dots and digits.
+abbrev pub is_sign : Group → ℕ → Bool
+is_sign Patterns b = nat_lt b 128 && not (is_ascii_letter b || is_mark b || is_digit b || b == 46)
+is_sign Exceptions b = nat_lt b 128 && not (is_ascii_letter b || is_mark b)
+
+-- What says a value or a break.
+abbrev pub says_place : Group → ℕ → Bool
+says_place Patterns b = is_digit b
+says_place Exceptions b = b == 45
+
+-- Two of them stand in succession, behind one or not.
+abbrev pub two_in_one_place : Group → Bool → List ℕ → Bool
+two_in_one_place group behind [] = false
+two_in_one_place group behind (b ∷ bs) = (behind && says_place group b) || two_in_one_place group (says_place group b) bs
+
+abbrev pub spells_letters : Group → List ℕ → Bool
+spells_letters Patterns text = has_letter (letters text)
+spells_letters Exceptions text = true
+
+-- The letters are UTF-8, and no digit or hyphen cuts a character.
+abbrev pub carries_nothing : Option Change → Option Change
+carries_nothing change = None
+
+abbrev pub keeps_characters : Group → List ℕ → Bool
+keeps_characters Patterns text = is_utf8 (letters text) && are_entries (λ change. change) (letters text) 0 (entries carries_nothing text)
+keeps_characters Exceptions text = is_utf8 (unhyphenated text) && are_listed plain (unhyphenated text) 0 (hyphens_from 0 text)
+
+-- The first test that a word of a group fails: first those of its signs.
+abbrev pub sign_cause : Group → List ℕ → Option Cause
+sign_cause group text =
+    if list_any is_command text then Some Command
+    else (if list_any is_caret text then Some EightBit
+    else (if list_any (is_sign group) text then Some Sign
+    else (if two_in_one_place group false text then Some TwoInOnePlace else None)))
+
+abbrev pub letter_cause : Group → List ℕ → Option Cause
+letter_cause group text = if not (spells_letters group text) then Some NoLetters else (if not (keeps_characters group text) then Some NotUtf8 else None)
+
+abbrev pub cause_of : Group → List ℕ → Option Cause
+cause_of group text = option_or (sign_cause group text) (letter_cause group text)
+
+-- Want of memory, or that very test.
+abbrev pub IsWordFault : WordFault → Option Cause → Type 0
+IsWordFault Memory cause = Unit {0}
+IsWordFault (Fails c) cause = cause ≡ Some c

@@ -1,0 +1,80 @@
+//! TeX's files and plain ones, made into a dictionary.
+
+ghost use Rattle.std.specs.Prelude.{◌≡◌, IfOk, OnOk, IfErr, None};
+ghost use Rattle.pattern_files.specs.Converting.{spelled, followed, spelled_in, file_fault, fault_from, contents_of, words_of, IsLineFault, IsRefusal};
+
+use crate::fault::{LineFault, Refusal};
+use crate::group::{File, Form};
+use crate::parts::Parts;
+use crate::tex::words_of;
+use hyphenation_commons::dictionary::{Carried, Dictionary, Listed};
+use hyphenation_commons::language::Language;
+use std::alloc::Global;
+
+/// Takes in what a file spells.
+fn take_file<C: Carried, B: Listed>(
+    alloc: Global,
+    parts: &mut Parts<C, B>,
+    form: Form,
+    bytes: &[u8],
+) -> Result<(), LineFault>
+    ensures good { OnOk result (file_fault form bytes.now ≡ None) }
+    ensures taken { OnOk result (parts.new ≡ followed parts.old (spelled C.carries B.lists (words_of form bytes.now))) }
+    ensures refused { IfErr result (λ fault. IsLineFault fault (file_fault form bytes.now)) }
+{
+    let (words, fault) = words_of(alloc, form, bytes)?;
+    parts.take_words(alloc, &words)?;
+    match fault {
+        Some((line, cause)) => Err(LineFault::OnLine(line, cause)),
+        None => Ok(()),
+    }
+}
+
+/// Takes in what files spell, one after the other.
+#[tactic(auto, using(crate::proofs::Gathering::file_taken))]
+fn take_files<C: Carried, B: Listed>(
+    alloc: Global,
+    parts: &mut Parts<C, B>,
+    files: &[File<'_>],
+) -> Result<(), Refusal>
+    ensures good { OnOk result (fault_from 0 files.now ≡ None) }
+    ensures taken { OnOk result (parts.new ≡ followed parts.old (spelled_in C.carries B.lists files.now)) }
+    ensures refused { IfErr result (λ refusal. IsRefusal refusal (fault_from 0 files.now)) }
+{
+    let mut number: usize = 0;
+    for file in files {
+        match take_file(alloc, parts, file.form, file.bytes) {
+            Ok(()) => {}
+            Err(LineFault::NoMemory) => return Err(Refusal::Memory),
+            Err(LineFault::OnLine(line, cause)) => return Err(Refusal::Fault {
+                file: number,
+                line,
+                cause,
+            }),
+        }
+        number += 1;
+    }
+    Ok(())
+}
+
+/// Makes a dictionary of files, one after the other: TeX's, and plain ones.
+///
+/// It has the key and the values that each pattern of their groups spells, and each word of the groups of exceptions
+/// with its breaks; of a key and of a word that stands several times, the last one counts. Else the refusal names the
+/// first fault: the file, the line, and the first test that the word there fails. A refusal for want of memory says
+/// nothing of the files.
+pub fn convert<C: Carried, B: Listed>(
+    alloc: Global,
+    language: Language,
+    left: u8,
+    right: u8,
+    files: &[File<'_>],
+) -> Result<Dictionary<C, B>, Refusal>
+    ensures good { OnOk result (fault_from 0 files.now ≡ None) }
+    ensures contents { IfOk result (λ d. d ≡ contents_of C.carries B.lists language left right files.now) }
+    ensures refused { IfErr result (λ refusal. IsRefusal refusal (fault_from 0 files.now)) }
+{
+    let mut parts = Parts::new(alloc);
+    take_files(alloc, &mut parts, files)?;
+    Ok(parts.make(alloc, language, left, right)?)
+}

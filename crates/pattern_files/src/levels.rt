@@ -1,0 +1,269 @@
+//! The patterns of a `.dic`, all of its levels together.
+
+use crate::change::{Change, change_of};
+use crate::fault::LineFault;
+use crate::notes::{Note, Spot, What, add_note};
+use crate::parts::Parts;
+use hyphenation_commons::dictionary::{Carried, Entry, Listed};
+use hyphenation_commons::extended::Subregion;
+use hyphenation_commons::maker::fits_key;
+use std::alloc::{AllocError, Global};
+use std::collections::BTreeMap;
+
+/// A value above 0 at a place, counted in bytes of the key.
+#[derive(Clone, Copy, Debug, PartialEq, Eq)]
+pub(crate) struct Value {
+    pub place: usize,
+    pub value: u8,
+}
+
+/// What is held of a key.
+#[derive(Debug, PartialEq, Eq, Drop)]
+struct Pattern {
+    values: Vec<Value>,
+    change: Option<Change>,
+}
+
+/// What letters and digits spell.
+#[derive(Debug, Drop)]
+struct Spelling {
+    key: Vec<u8>,
+    values: Vec<Value>,
+    /// Whether two digits stood in one place.
+    twice: bool,
+}
+
+/// Takes in a digit. Of two digits in one place the last counts, as LibreOffice has it. Whether there was one.
+fn add_digit(values: &mut Vec<Value>, place: usize, value: u8) -> Result<bool, AllocError> {
+    if let Some(last) = values.last_mut() {
+        if last.place == place {
+            last.value = value;
+            return Ok(true);
+        }
+    }
+    values.push(Value { place, value })?;
+    Ok(false)
+}
+
+/// The letters of a pattern, and its digits.
+fn spelling_of(alloc: Global, body: &[u8]) -> Result<Spelling, AllocError> {
+    let mut key = Vec::new(alloc);
+    let mut values = Vec::new(alloc);
+    let mut twice = false;
+    for byte in body {
+        if byte.is_ascii_digit() {
+            let again = add_digit(&mut values, key.len(), *byte - b'0')?;
+            twice = twice || again;
+        } else {
+            key.push(*byte)?;
+        }
+    }
+    values.retain(|value: &Value| value.value != 0);
+    Ok(Spelling { key, values, twice })
+}
+
+/// Whether a key has a character other than a dot.
+fn has_letters(key: &[u8]) -> bool {
+    key.iter().any(|byte| *byte != b'.')
+}
+
+/// A pattern and its change, if a slash parts them: one that has a `=` behind it.
+fn at_slash(line: &str) -> (&str, Option<&str>) {
+    match line.split_once('/') {
+        Some((body, text)) if text.contains('=') => (body, Some(text)),
+        _ => (line, None),
+    }
+}
+
+/// The value 8 at both ends of a key of that length, and within what there was.
+fn forbidding(alloc: Global, len: usize, old: Option<Pattern>) -> Result<Pattern, AllocError> {
+    let mut values = Vec::new(alloc);
+    values.push(Value { place: 0, value: 8 })?;
+    let mut change = None;
+    if let Some(old) = old {
+        for value in old.values.iter() {
+            if 0 < value.place && value.place < len {
+                values.push(*value)?;
+            }
+        }
+        change = old.change;
+    }
+    values.push(Value {
+        place: len,
+        value: 8,
+    })?;
+    Ok(Pattern { values, change })
+}
+
+/// The patterns so far.
+#[derive(Drop)]
+pub(crate) struct Levels {
+    /// Whether patterns with changes are taken.
+    changes: bool,
+    patterns: BTreeMap<Vec<u8>, Pattern>,
+    pub left: Option<u8>,
+    pub right: Option<u8>,
+    pub notes: Vec<Note>,
+}
+
+impl Levels {
+    pub fn new(alloc: Global, changes: bool) -> Levels {
+        Levels {
+            changes,
+            patterns: BTreeMap::new(alloc),
+            left: None,
+            right: None,
+            notes: Vec::new(alloc),
+        }
+    }
+
+    pub fn is_empty(&self) -> bool {
+        self.patterns.is_empty()
+    }
+
+    pub fn note(&mut self, what: What, line: usize) -> Result<(), AllocError> {
+        add_note(&mut self.notes, what, Spot { file: 0, line })
+    }
+
+    /// Takes in a pattern.
+    pub fn take_pattern(
+        &mut self,
+        alloc: Global,
+        text: &str,
+        line: usize,
+    ) -> Result<(), AllocError> {
+        let (body, change) = at_slash(text);
+        if change.is_some() && !self.changes {
+            return self.note(What::ChangeLeftOut, line);
+        }
+        let spelling = spelling_of(alloc, body.as_bytes())?;
+        if spelling.twice {
+            self.note(What::TwoValues, line)?;
+        }
+        if !has_letters(&spelling.key) {
+            return self.note(What::NoLetters, line);
+        }
+        match change {
+            None => self.keep(spelling, None, line),
+            Some(text) => self.take_change(alloc, text, spelling, line),
+        }
+    }
+
+    fn take_change(
+        &mut self,
+        alloc: Global,
+        text: &str,
+        spelling: Spelling,
+        line: usize,
+    ) -> Result<(), AllocError> {
+        match change_of(alloc, text, &spelling.key, &spelling.values)? {
+            Err(what) => self.note(what, line),
+            Ok((change, several)) => {
+                if several {
+                    self.note(What::ChangeOfSeveral, line)?;
+                }
+                self.keep(spelling, Some(change), line)
+            }
+        }
+    }
+
+    /// Keeps a pattern, in place of the one that its key had.
+    fn keep(
+        &mut self,
+        spelling: Spelling,
+        change: Option<Change>,
+        line: usize,
+    ) -> Result<(), AllocError> {
+        let Spelling { key, values, .. } = spelling;
+        if values.is_empty() {
+            self.note(What::NoValue, line)?;
+        }
+        if self
+            .patterns
+            .insert(key, Pattern { values, change })?
+            .is_some()
+        {
+            self.note(What::Repeated, line)?;
+        }
+        Ok(())
+    }
+
+    /// Lets no break stand directly before or behind a text: its values there are at least 8, and even.
+    pub fn forbid(&mut self, alloc: Global, text: &str) -> Result<(), AllocError> {
+        if !has_letters(text.as_bytes()) {
+            return Ok(());
+        }
+        let key = Vec::from_slice(alloc, text.as_bytes())?;
+        let pattern = forbidding(alloc, text.len(), self.patterns.remove(text.as_bytes()))?;
+        self.patterns.insert(key, pattern)?;
+        Ok(())
+    }
+
+    /// All patterns, as parts of a dictionary.
+    pub fn parts<C: Carried, B: Listed>(
+        &mut self,
+        alloc: Global,
+    ) -> Result<Parts<C, B>, LineFault> {
+        let mut parts = Parts::new(alloc);
+        let mut unfit = false;
+        for (key, pattern) in self.patterns.iter() {
+            let took = take_part(alloc, &mut parts, key, pattern)?;
+            unfit = unfit || !took;
+        }
+        if unfit {
+            self.note(What::Unfit, 1)?;
+        }
+        Ok(parts)
+    }
+}
+
+/// The change of a value, where it is at that place.
+fn change_at(
+    alloc: Global,
+    change: &Option<Change>,
+    place: usize,
+) -> Result<Option<Subregion>, AllocError> {
+    let Some(change) = change else {
+        return Ok(None);
+    };
+    if change.place != place || !change.substitution.is_char_boundary(change.breakpoint) {
+        return Ok(None);
+    }
+    let substitution = change.substitution.clone()?;
+    if !substitution.is_char_boundary(change.breakpoint) {
+        return Ok(None);
+    }
+    Ok(Some(Subregion::new(change.left, change.right, substitution, change.breakpoint)))
+}
+
+/// The entries of a key.
+fn entries_of<C: Carried>(alloc: Global, pattern: &Pattern) -> Result<Vec<Entry<C>>, AllocError> {
+    let mut entries = Vec::new(alloc);
+    for value in pattern.values.iter() {
+        entries.push(Entry {
+            place: value.place,
+            value: value.value,
+            change: C::carry(change_at(alloc, &pattern.change, value.place)?),
+        })?;
+    }
+    Ok(entries)
+}
+
+/// Takes in a pattern, if it fits a dictionary. Whether it does.
+fn take_part<C: Carried, B: Listed>(
+    alloc: Global,
+    parts: &mut Parts<C, B>,
+    key: &[u8],
+    pattern: &Pattern,
+) -> Result<bool, AllocError> {
+    let entries = entries_of::<C>(alloc, pattern)?;
+    let Ok(key) = std::str::from_utf8(key) else {
+        return Ok(false);
+    };
+    let key = String::from_str(alloc, key)?;
+    if !fits_key(&key, &entries) {
+        return Ok(false);
+    }
+    parts.push_pattern(key, entries)?;
+    Ok(true)
+}

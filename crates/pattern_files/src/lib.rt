@@ -1,0 +1,35 @@
+//! Files of hyphenation patterns, as TeX and LibreOffice have them, made into dictionaries.
+//!
+//! A TeX file of hyph-utf8 has its patterns in a group behind `\patterns`, and its exceptions in one behind
+//! `\hyphenation`; the plain files beside it have what stands in one such group:
+//!
+//! ```text
+//! \patterns{                   .fi2      2 behind fi, where a word begins with it
+//! .fi2 r5kin 4k1i              r5kin     5 between r and k, wherever rkin stands in a word
+//! }
+//! \hyphenation{as-so-ciate}    associate, with breaks at 2 and 4
+//! ```
+//!
+//! A `.dic` of LibreOffice names its charset in line 1, and then has settings and patterns, some with changes of letters.
+//!
+//! [`convert::convert`] takes TeX's files and plain ones, and its contract says which dictionary they give;
+//! [`libreoffice::convert_dic`] takes a `.dic`. The modules, from the bottom up: [`fault`] says why files give nothing,
+//! [`notes`] what there is to tell where they give a dictionary; [`group`] has files, their groups and their words;
+//! [`spelling`] reads one word; [`parts`] gathers what words spell; [`tex`] reads files into words; [`told`] has what TeX's
+//! files say of themselves, and what there is to note of them.
+#![tactic(auto)]
+
+mod change;
+mod charset;
+pub mod convert;
+pub mod fault;
+pub mod group;
+mod levels;
+pub mod libreoffice;
+pub mod notes;
+pub mod parts;
+pub mod spelling;
+#[cfg(test)]
+mod tests;
+pub mod tex;
+pub mod told;

@@ -1,0 +1,166 @@
+//! LibreOffice's `hyph_*.dic`: a charset, settings, and patterns in one or two levels.
+//!
+//! What is said of a key twice is said by the last line, and of two digits in one place the last counts, as in
+//! LibreOffice. The two levels are joined, and all patterns that match a word count, as TeX has it: LibreOffice itself
+//! takes only the longest beginning of a pattern that ends at a letter.
+
+use crate::charset::{Charset, text_of};
+use crate::fault::{Cause, LineFault, Refusal};
+use crate::levels::Levels;
+use crate::notes::{Note, What};
+use hyphenation_commons::dictionary::{Carried, Dictionary, Listed};
+use hyphenation_commons::language::Language;
+use std::alloc::Global;
+
+/// What a line of such a file is.
+#[derive(Clone, Copy, Debug, PartialEq, Eq)]
+enum Line<'a> {
+    Nothing,
+    Left(&'a str),
+    Right(&'a str),
+    Level,
+    NoHyphen(&'a str),
+    Other,
+    Pattern(&'a str),
+}
+
+fn line_of(line: &str) -> Line<'_> {
+    let line = line.trim_end();
+    if line.is_empty() || line.starts_with('%') || line.starts_with('#') {
+        return Line::Nothing;
+    }
+    let (word, rest) = line.split_once(' ').unwrap_or((line, ""));
+    match word {
+        "LEFTHYPHENMIN" => Line::Left(rest),
+        "RIGHTHYPHENMIN" => Line::Right(rest),
+        "NOHYPHEN" => Line::NoHyphen(rest),
+        "NEXTLEVEL" => Line::Level,
+        "COMPOUNDLEFTHYPHENMIN" | "COMPOUNDRIGHTHYPHENMIN" => Line::Other,
+        _ => Line::Pattern(line),
+    }
+}
+
+/// A minimum; 0 means none, as LibreOffice has it.
+fn minimum_of(text: &str, line: usize) -> Result<Option<u8>, LineFault> {
+    match text.trim().parse::<u8>() {
+        Ok(0) => Ok(None),
+        Ok(minimum) => Ok(Some(minimum)),
+        Err(_) => Err(LineFault::OnLine(line, Cause::Minimum)),
+    }
+}
+
+/// What the lines said of all levels.
+#[derive(Clone, Copy, Debug)]
+struct Settings<'a> {
+    /// The texts, with a comma between them, at which no break is to stand.
+    no_hyphen: &'a str,
+    /// The line that begins the second level.
+    level: Option<usize>,
+}
+
+/// Takes in a line.
+fn take_line<'a>(
+    alloc: Global,
+    levels: &mut Levels,
+    settings: &mut Settings<'a>,
+    line: &'a str,
+    number: usize,
+) -> Result<(), LineFault> {
+    match line_of(line) {
+        Line::Nothing => {}
+        Line::Left(text) => levels.left = minimum_of(text, number)?,
+        Line::Right(text) => levels.right = minimum_of(text, number)?,
+        Line::Level => settings.level = Some(number),
+        Line::NoHyphen(texts) => {
+            settings.no_hyphen = texts;
+            levels.note(What::NoHyphen, number)?;
+        }
+        Line::Other => levels.note(What::Setting, number)?,
+        Line::Pattern(line) => levels.take_pattern(alloc, line, number)?,
+    }
+    Ok(())
+}
+
+/// Takes in what stands behind line 1.
+fn take_lines(alloc: Global, levels: &mut Levels, text: &str) -> Result<(), LineFault> {
+    let mut settings = Settings {
+        no_hyphen: "",
+        level: None,
+    };
+    for (index, line) in text.split('\n').enumerate() {
+        take_line(alloc, levels, &mut settings, line, index.saturating_add(2))?;
+    }
+    for text in settings.no_hyphen.split(',') {
+        levels.forbid(alloc, text.trim())?;
+    }
+    match settings.level {
+        Some(line) => levels.note(What::TwoLevels, line)?,
+        None => levels.note(What::NoLevels, 1)?,
+    }
+    Ok(())
+}
+
+/// Line 1, and what stands behind it.
+fn first_line(bytes: &[u8]) -> (&[u8], &[u8]) {
+    match bytes.iter().position(|byte| *byte == b'\n') {
+        Some(at) => (&bytes[..at], &bytes[at + 1..]),
+        None => (bytes, &bytes[bytes.len()..]),
+    }
+}
+
+/// Takes in a file.
+fn take(alloc: Global, levels: &mut Levels, bytes: &[u8]) -> Result<(), LineFault> {
+    let (first, rest) = first_line(bytes);
+    let Some(charset) = Charset::from_name(first.trim_ascii()) else {
+        return Err(LineFault::OnLine(1, Cause::Charset));
+    };
+    let text = text_of(alloc, charset, rest, 2)?;
+    take_lines(alloc, levels, &text)?;
+    if levels.is_empty() {
+        return Err(LineFault::OnLine(1, Cause::Nothing));
+    }
+    Ok(())
+}
+
+fn refusal_of(fault: LineFault) -> Refusal {
+    match fault {
+        LineFault::NoMemory => Refusal::Memory,
+        LineFault::OnLine(line, cause) => Refusal::Fault {
+            file: 0,
+            line,
+            cause,
+        },
+    }
+}
+
+/// A dictionary of a `.dic`, and what there is to tell of it.
+#[derive(Drop)]
+pub struct Converted<C: Carried, B: Listed> {
+    pub dictionary: Dictionary<C, B>,
+    pub notes: Vec<Note>,
+}
+
+/// Makes a dictionary of a `.dic`. Minima that are not given are those of the file, or 2, as LibreOffice has it.
+///
+/// Patterns with changes are taken where `changes` says so, else left out, which is noted. The refusal names the first
+/// fault: the line and the cause.
+pub fn convert_dic<C: Carried, B: Listed>(
+    alloc: Global,
+    language: Language,
+    changes: bool,
+    left: Option<u8>,
+    right: Option<u8>,
+    bytes: &[u8],
+) -> Result<Converted<C, B>, Refusal> {
+    let mut levels = Levels::new(alloc, changes);
+    take(alloc, &mut levels, bytes).map_err(refusal_of)?;
+    let left = left.or(levels.left);
+    let right = right.or(levels.right);
+    if left.is_none() || right.is_none() {
+        levels.note(What::NoMinima, 1)?;
+    }
+    let parts = levels.parts::<C, B>(alloc).map_err(refusal_of)?;
+    let dictionary = parts.make(alloc, language, left.unwrap_or(2), right.unwrap_or(2))?;
+    let Levels { notes, .. } = levels;
+    Ok(Converted { dictionary, notes })
+}

@@ -1,0 +1,99 @@
+//! What was left out or decided: each sort of thing with its first line and how often it was met.
+
+use std::alloc::AllocError;
+use std::fmt;
+
+/// A line of a file: files are counted from 0, lines from 1.
+#[derive(Clone, Copy, Debug, PartialEq, Eq)]
+pub struct Spot {
+    pub file: usize,
+    pub line: usize,
+}
+
+/// What is noted.
+#[derive(Clone, Copy, Debug, PartialEq, Eq)]
+pub enum What {
+    Setting,
+    NoLevels,
+    TwoLevels,
+    NoMinima,
+    NoHyphen,
+    ChangeLeftOut,
+    ChangeNumber,
+    ChangeParts,
+    ChangeWithoutEquals,
+    ChangePastKey,
+    ChangeWithoutValue,
+    ChangeOfSeveral,
+    TwoValues,
+    NoLetters,
+    NoValue,
+    Repeated,
+    Unfit,
+    Capital,
+    ExceptionRepeated,
+}
+
+impl fmt::Display for What {
+    fn fmt<W: fmt::Write>(&self, f: &mut fmt::Formatter<W>) -> fmt::Result {
+        f.write_str(match self {
+            What::Setting => "a setting that a dictionary text can't say, left out",
+            What::NoLevels =>
+                "no NEXTLEVEL: the breaks that LibreOffice itself adds at - and ' are not there",
+            What::TwoLevels =>
+                "two levels (LibreOffice hyphenates parts of compounds apart): joined",
+            What::NoMinima => "no minima in the file: 2 and 2, as LibreOffice takes them",
+            What::NoHyphen => "NOHYPHEN: said by patterns with the value 8 at both sides",
+            What::ChangeLeftOut => "a pattern with a change, left out: a standard text has none",
+            What::ChangeNumber => "a change with a bad number, left out with its pattern",
+            What::ChangeParts => "a change with a wrong number of parts, left out with its pattern",
+            What::ChangeWithoutEquals =>
+                "a change without exactly one =, left out with its pattern",
+            What::ChangePastKey => "a change past the pattern's letters, left out with its pattern",
+            What::ChangeWithoutValue =>
+                "a change with no odd value in its range, left out with its pattern",
+            What::ChangeOfSeveral =>
+                "a change with several odd values in its range: it goes to one of them",
+            What::TwoValues => "two values in one place: the last is taken",
+            What::NoLetters => "a pattern without letters, left out",
+            What::NoValue => "a pattern without values, kept; it bears on nothing",
+            What::Repeated => "a repeated pattern: the last is taken",
+            What::Unfit => "patterns that fit no dictionary, left out",
+            What::Capital =>
+                "an exception with capitals, kept as it is; a word is looked up in small letters",
+            What::ExceptionRepeated => "a repeated exception: the last is taken",
+        })
+    }
+}
+
+/// Something noted, where it was met first, and how often.
+#[derive(Clone, Copy, Debug, PartialEq, Eq)]
+pub struct Note {
+    pub what: What,
+    pub first: Spot,
+    pub times: u64,
+}
+
+/// Counts one more, where it was noted before.
+fn is_counted(notes: &mut [Note], what: What) -> bool {
+    for note in notes {
+        if note.what == what {
+            note.times = note.times.saturating_add(1);
+            return true;
+        }
+    }
+    false
+}
+
+/// Notes something.
+pub fn add_note(notes: &mut Vec<Note>, what: What, at: Spot) -> Result<(), AllocError> {
+    if is_counted(notes, what) {
+        return Ok(());
+    }
+    notes.push(Note {
+        what,
+        first: at,
+        times: 1,
+    })?;
+    Ok(())
+}

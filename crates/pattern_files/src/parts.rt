@@ -1,0 +1,118 @@
+//! What words spell, gathered: keys with their entries, words with their breaks.
+
+ghost use Rattle.std.specs.Prelude.{◌≡◌, [], ◌∷◌, ◌++◌, IfOk, OnOk, IfErr, IsTrue, None, map};
+ghost use Rattle.std.specs.String.{string_bytes};
+ghost use Rattle.hyphenation_commons.specs.Kept.{are_listed};
+ghost use Rattle.hyphenation_commons.specs.Made.{last_said, said_of, fits_key};
+ghost use Rattle.pattern_files.specs.Converting.{Spelled, spelled, followed, first_fault, IsLineFault};
+ghost use Rattle.pattern_files.specs.Groups.{shown_word};
+ghost use Rattle.pattern_files.specs.Spelling.{cause_of, IsWordFault};
+
+use crate::fault::{LineFault, WordFault};
+use crate::group::{Group, Word};
+use crate::spelling::{read_exception, read_pattern};
+use hyphenation_commons::dictionary::{Carried, Dictionary, Entry, Listed};
+use hyphenation_commons::language::Language;
+use hyphenation_commons::maker::make;
+use std::alloc::{AllocError, Global};
+use std::marker::Model;
+
+/// Keys and words that fit a dictionary, in the order in which files have them.
+#[derive(Drop)]
+pub struct Parts<C: Carried, B: Listed> {
+    patterns: Vec<(String, Vec<Entry<C>>)>,
+    exceptions: Vec<(String, Vec<B>)>,
+}
+
+impl<C: Carried, B: Listed> Model for Parts<C, B> {
+    ghost use Rattle.std.specs.Prelude.{map, All, IsTrue};
+    ghost use Rattle.std.specs.String.{string_bytes};
+    ghost use Rattle.hyphenation_commons.specs.Kept.{are_listed};
+    ghost use Rattle.hyphenation_commons.specs.Made.{said_of, fits_key};
+    ghost use Rattle.pattern_files.specs.Converting.{Spelled};
+
+    ghost Value = { Spelled C B };
+
+    ghost view = { λ p. record { patterns = map said_of p.patterns.items; exceptions = map said_of p.exceptions.items } };
+
+    ghost invariant = { λ p. All (λ k. IsTrue (fits_key C.change (string_bytes k.0) k.1.items)) p.patterns.items × All (λ e. IsTrue (are_listed B.meaning (string_bytes e.0) 0 e.1.items)) p.exceptions.items };
+}
+
+impl<C: Carried, B: Listed> Parts<C, B> {
+    /// None yet.
+    pub fn new(alloc: Global) -> Parts<C, B>
+        ensures { result ≡ record { patterns = []; exceptions = [] } }
+    {
+        Parts {
+            patterns: Vec::new(alloc),
+            exceptions: Vec::new(alloc),
+        }
+    }
+
+    /// Takes in a key with its entries. The caller owes that the key may have them.
+    pub fn push_pattern(&mut self, key: String, entries: Vec<Entry<C>>) -> Result<(), AllocError>
+        requires { IsTrue (fits_key C.change (string_bytes key) entries.items) }
+        ensures { OnOk result (self.new ≡ record { patterns = self.old.patterns ++ (string_bytes key, entries.items) ∷ []; exceptions = self.old.exceptions }) }
+    {
+        self.patterns.push((key, entries))?;
+        Ok(())
+    }
+
+    /// Takes in a word with its breaks. The caller owes that they fit the word.
+    pub fn push_exception(&mut self, word: String, listed: Vec<B>) -> Result<(), AllocError>
+        requires { IsTrue (are_listed B.meaning (string_bytes word) 0 listed.items) }
+        ensures { OnOk result (self.new ≡ record { patterns = self.old.patterns; exceptions = self.old.exceptions ++ (string_bytes word, listed.items) ∷ [] }) }
+    {
+        self.exceptions.push((word, listed))?;
+        Ok(())
+    }
+
+    /// The dictionary of all that was taken in: of a key and of a word that stands several times, the last one counts.
+    /// The only error is memory.
+    pub fn make(
+        self,
+        alloc: Global,
+        language: Language,
+        left: u8,
+        right: u8,
+    ) -> Result<Dictionary<C, B>, AllocError>
+        ensures { IfOk result (λ d. d ≡ record { language = language; left = left; right = right; patterns = last_said self.patterns; exceptions = last_said self.exceptions }) }
+    {
+        make(alloc, language, left, right, self.patterns, self.exceptions)
+    }
+
+    /// Takes in what a word spells.
+    fn take_word(&mut self, alloc: Global, word: &Word) -> Result<(), WordFault>
+        ensures good { OnOk result (cause_of word.now.group word.now.text.items ≡ None) }
+        ensures taken { OnOk result (self.new ≡ followed self.old (spelled C.carries B.lists (shown_word word.now ∷ []))) }
+        ensures refused { IfErr result (λ fault. IsWordFault fault (cause_of word.now.group word.now.text.items)) }
+    {
+        match word.group {
+            Group::Patterns => {
+                let (key, entries) = read_pattern(alloc, &word.text)?;
+                self.push_pattern(key, entries)?;
+            }
+            Group::Exceptions => {
+                let (text, listed) = read_exception::<C, B>(alloc, &word.text)?;
+                self.push_exception(text, listed)?;
+            }
+        }
+        Ok(())
+    }
+
+    /// Takes in what words spell, up to the first that spells nothing.
+    pub fn take_words(&mut self, alloc: Global, words: &[Word]) -> Result<(), LineFault>
+        ensures good { OnOk result (first_fault (map shown_word words.now) ≡ None) }
+        ensures taken { OnOk result (self.new ≡ followed self.old (spelled C.carries B.lists (map shown_word words.now))) }
+        ensures refused { IfErr result (λ fault. IsLineFault fault (first_fault (map shown_word words.now))) }
+    {
+        for word in words {
+            match self.take_word(alloc, word) {
+                Ok(()) => {}
+                Err(WordFault::Memory) => return Err(LineFault::NoMemory),
+                Err(WordFault::Fails(cause)) => return Err(LineFault::OnLine(word.line, cause)),
+            }
+        }
+        Ok(())
+    }
+}

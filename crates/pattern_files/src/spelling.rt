@@ -1,0 +1,275 @@
+//! What one word of a group spells: a key with its values, or a word with its breaks.
+
+ghost use Rattle.std.specs.Prelude.{◌≡◌, ◌++◌, false, true, map, IfOk, IfSome, IfNone, OnOk, IfErr, IsTrue, None};
+ghost use Rattle.std.specs.List.{list_any};
+ghost use Rattle.std.specs.Str.{is_utf8};
+ghost use Rattle.std.specs.String.{string_bytes};
+ghost use Rattle.hyphenation_commons.specs.Kept.{has_letter, are_listed};
+ghost use Rattle.hyphenation_commons.specs.Made.{said_of, fits_key};
+ghost use Rattle.pattern_files.specs.Spelling.{is_digit, value_at, entry_of, letter_cause, letters, entries, unhyphenated, breaks, is_command, is_caret, is_sign, says_place, two_in_one_place, sign_cause, cause_of, IsWordFault};
+ghost use Rattle.pattern_files.specs.declared.group.Group.TheVariants.{Patterns, Exceptions};
+
+use crate::fault::{Cause, WordFault};
+use crate::group::Group;
+use hyphenation_commons::dictionary::{Carried, Dictionary, Entry, Listed};
+use hyphenation_commons::maker::fits_key;
+use std::alloc::{AllocError, Global};
+
+/// Whether a backslash or a brace stands in a text.
+fn has_command(text: &[u8]) -> bool
+    ensures { result ≡ list_any is_command text.now }
+{
+    for b in text {
+        if matches!(*b, b'\\' | b'{' | b'}') {
+            return true;
+        }
+    }
+    false
+}
+
+/// Whether a circumflex stands in a text.
+fn has_caret(text: &[u8]) -> bool
+    ensures { result ≡ list_any is_caret text.now }
+{
+    for b in text {
+        if *b == b'^' {
+            return true;
+        }
+    }
+    false
+}
+
+/// Whether a byte is a sign of ASCII that stands in no word of such a group.
+fn is_sign(group: Group, b: u8) -> bool
+    ensures { result ≡ is_sign group b }
+{
+    match group {
+        Group::Patterns =>
+            !matches!(b, b'a'..=b'z' | b'A'..=b'Z' | b'\'' | b'-' | b'0'..=b'9' | b'.' | 128..),
+        Group::Exceptions => !matches!(b, b'a'..=b'z' | b'A'..=b'Z' | b'\'' | b'-' | 128..),
+    }
+}
+
+/// Whether such a sign stands in a text.
+fn has_sign(group: Group, text: &[u8]) -> bool
+    ensures { result ≡ list_any (is_sign group) text.now }
+{
+    for b in text {
+        if is_sign(group, *b) {
+            return true;
+        }
+    }
+    false
+}
+
+/// Whether a byte is a value, in a pattern, or a break, in an exception.
+fn says_place(group: Group, b: u8) -> bool
+    ensures { result ≡ says_place group b }
+{
+    match group {
+        Group::Patterns => matches!(b, b'0'..=b'9'),
+        Group::Exceptions => b == b'-',
+    }
+}
+
+/// Whether two of them stand in succession.
+fn has_two_in_one_place(group: Group, text: &[u8]) -> bool
+    ensures { result ≡ two_in_one_place group false text.now }
+{
+    let mut behind = false;
+    for b in text {
+        let says = says_place(group, *b);
+        if behind && says {
+            return true;
+        }
+        behind = says;
+    }
+    false
+}
+
+/// The first test of its signs that a word fails.
+fn sign_cause(group: Group, text: &[u8]) -> Option<Cause>
+    ensures { result ≡ sign_cause group text.now }
+{
+    if has_command(text) {
+        Some(Cause::Command)
+    } else if has_caret(text) {
+        Some(Cause::EightBit)
+    } else if has_sign(group, text) {
+        Some(Cause::Sign)
+    } else if has_two_in_one_place(group, text) {
+        Some(Cause::TwoInOnePlace)
+    } else {
+        None
+    }
+}
+
+/// Appends the value that a digit is, unless that is 0.
+fn push_value<C: Carried>(
+    entries: &mut Vec<Entry<C>>,
+    place: usize,
+    digit: u8,
+) -> Result<(), AllocError>
+    requires { IsTrue (is_digit digit) }
+    ensures { OnOk result (entries.new.items ≡ entries.old.items ++ map (entry_of C.carries) (value_at place digit)) }
+{
+    if digit == b'0' {
+        return Ok(());
+    }
+    entries.push(Entry {
+        place,
+        value: digit - b'0',
+        change: C::carry(None),
+    })?;
+    Ok(())
+}
+
+/// The letters of a pattern, and its values other than 0, each with the number of bytes of letters before it.
+fn letters_and_entries<C: Carried>(
+    alloc: Global,
+    text: &[u8],
+) -> Result<(Vec<u8>, Vec<Entry<C>>), AllocError>
+    ensures letters { IfOk result (λ found. found.0.items ≡ letters text.now) }
+    ensures entries { IfOk result (λ found. found.1.items ≡ entries C.carries text.now) }
+{
+    let mut key = Vec::new(alloc);
+    let mut entries = Vec::new(alloc);
+    for b in text {
+        if says_place(Group::Patterns, *b) {
+            push_value(&mut entries, key.len(), *b)?;
+        } else {
+            key.push(*b)?;
+        }
+    }
+    Ok((key, entries))
+}
+
+/// The letters of a word, and its breaks.
+fn letters_and_breaks<B: Listed>(
+    alloc: Global,
+    text: &[u8],
+) -> Result<(Vec<u8>, Vec<B>), AllocError>
+    ensures letters { IfOk result (λ found. found.0.items ≡ unhyphenated text.now) }
+    ensures breaks { IfOk result (λ found. found.1.items ≡ breaks B.lists text.now) }
+{
+    let mut word = Vec::new(alloc);
+    let mut listed = Vec::new(alloc);
+    for b in text {
+        if *b == b'-' {
+            listed.push(B::list(word.len(), None))?;
+        } else {
+            word.push(*b)?;
+        }
+    }
+    Ok((word, listed))
+}
+
+/// Whether a key has a character other than a dot.
+fn has_letter(key: &[u8]) -> bool
+    ensures { result ≡ has_letter key.now }
+{
+    for b in key {
+        if *b != b'.' {
+            return true;
+        }
+    }
+    false
+}
+
+/// Whether bytes are UTF-8.
+fn is_utf8(bytes: &[u8]) -> bool
+    ensures { result ≡ is_utf8 bytes.now }
+{
+    std::str::from_utf8(bytes).is_ok()
+}
+
+/// The text of bytes, where they are UTF-8.
+fn text_of(bytes: Vec<u8>) -> Option<String>
+    ensures some { IfSome result (λ text. string_bytes text ≡ bytes.items) }
+    ensures good { IfSome result (λ _. is_utf8 bytes.items ≡ true) }
+    ensures none { IfNone result (is_utf8 bytes.items ≡ false) }
+{
+    if !is_utf8(&bytes) {
+        return None;
+    }
+    Some(String::from_utf8(bytes).unwrap())
+}
+
+/// The key that a pattern of good signs spells, with its entries.
+fn read_letters<C: Carried>(
+    alloc: Global,
+    text: &[u8],
+) -> Result<(String, Vec<Entry<C>>), WordFault>
+    ensures good { OnOk result (letter_cause Patterns text.now ≡ None) }
+    ensures spelled { IfOk result (λ p. said_of p ≡ (letters text.now, entries C.carries text.now)) }
+    ensures fits { IfOk result (λ p. IsTrue (fits_key C.change (string_bytes p.0) p.1.items)) }
+    ensures refused { IfErr result (λ fault. IsWordFault fault (letter_cause Patterns text.now)) }
+{
+    let (key, entries) = letters_and_entries(alloc, text)?;
+    if !has_letter(&key) {
+        return Err(WordFault::Fails(Cause::NoLetters));
+    }
+    match text_of(key) {
+        None => Err(WordFault::Fails(Cause::NotUtf8)),
+        Some(key) => {
+            if !fits_key(&key, &entries) {
+                return Err(WordFault::Fails(Cause::NotUtf8));
+            }
+            Ok((key, entries))
+        }
+    }
+}
+
+/// The key that a pattern spells, with its entries.
+pub fn read_pattern<C: Carried>(
+    alloc: Global,
+    text: &[u8],
+) -> Result<(String, Vec<Entry<C>>), WordFault>
+    ensures good { OnOk result (cause_of Patterns text.now ≡ None) }
+    ensures spelled { IfOk result (λ p. said_of p ≡ (letters text.now, entries C.carries text.now)) }
+    ensures fits { IfOk result (λ p. IsTrue (fits_key C.change (string_bytes p.0) p.1.items)) }
+    ensures refused { IfErr result (λ fault. IsWordFault fault (cause_of Patterns text.now)) }
+{
+    match sign_cause(Group::Patterns, text) {
+        Some(cause) => Err(WordFault::Fails(cause)),
+        None => read_letters(alloc, text),
+    }
+}
+
+/// The word that an exception of good signs spells, with its breaks.
+fn read_breaks<C: Carried, B: Listed>(
+    alloc: Global,
+    text: &[u8],
+) -> Result<(String, Vec<B>), WordFault>
+    ensures good { OnOk result (letter_cause Exceptions text.now ≡ None) }
+    ensures spelled { IfOk result (λ e. said_of e ≡ (unhyphenated text.now, breaks B.lists text.now)) }
+    ensures fits { IfOk result (λ e. IsTrue (are_listed B.meaning (string_bytes e.0) 0 e.1.items)) }
+    ensures refused { IfErr result (λ fault. IsWordFault fault (letter_cause Exceptions text.now)) }
+{
+    let (word, listed) = letters_and_breaks(alloc, text)?;
+    match text_of(word) {
+        None => Err(WordFault::Fails(Cause::NotUtf8)),
+        Some(word) => {
+            if !Dictionary::<C, B>::fits(&word, &listed) {
+                return Err(WordFault::Fails(Cause::NotUtf8));
+            }
+            Ok((word, listed))
+        }
+    }
+}
+
+/// The word that an exception spells, with its breaks.
+pub fn read_exception<C: Carried, B: Listed>(
+    alloc: Global,
+    text: &[u8],
+) -> Result<(String, Vec<B>), WordFault>
+    ensures good { OnOk result (cause_of Exceptions text.now ≡ None) }
+    ensures spelled { IfOk result (λ e. said_of e ≡ (unhyphenated text.now, breaks B.lists text.now)) }
+    ensures fits { IfOk result (λ e. IsTrue (are_listed B.meaning (string_bytes e.0) 0 e.1.items)) }
+    ensures refused { IfErr result (λ fault. IsWordFault fault (cause_of Exceptions text.now)) }
+{
+    match sign_cause(Group::Exceptions, text) {
+        Some(cause) => Err(WordFault::Fails(cause)),
+        None => read_breaks::<C, B>(alloc, text),
+    }
+}

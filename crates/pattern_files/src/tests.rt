@@ -1,0 +1,227 @@
+//! Small files, and the dictionary texts that they give.
+
+use crate::convert::convert;
+use crate::fault::{Cause, Refusal};
+use crate::group::{File, Form, Group};
+use crate::libreoffice::convert_dic;
+use crate::notes::What;
+use crate::told::{minima_of, notes_of};
+use hyphenation_commons::dictionary::{Extended, Standard};
+use hyphenation_commons::extended::Subregion;
+use hyphenation_commons::grammar::writer::{write_extended, write_standard};
+use hyphenation_commons::language::Language;
+use std::alloc::Global;
+use std::test::Fail;
+
+/// The text of the standard dictionary that files give; nothing where they are refused.
+fn standard_text(alloc: Global, files: &[File<'_>]) -> Result<Vec<u8>, Fail> {
+    let converted: Result<Standard, Refusal> = convert(alloc, Language::english_us(), 2, 3, files);
+    match converted {
+        Ok(dictionary) => Ok(write_standard(alloc, &dictionary)?),
+        Err(_) => Ok(Vec::new(alloc)),
+    }
+}
+
+/// Why files are refused.
+fn refusal(alloc: Global, files: &[File<'_>]) -> Option<Refusal> {
+    let converted: Result<Standard, Refusal> = convert(alloc, Language::english_us(), 2, 3, files);
+    match converted {
+        Ok(_) => None,
+        Err(refusal) => Some(refusal),
+    }
+}
+
+const HEAD: &str = "hyphenation 1 standard\nlanguage en-us\nminima 2 3\n";
+
+#[test]
+fn groups_of_a_tex_file_give_their_patterns_and_exceptions(rt: HostRuntime) -> Result<(), Fail> {
+    let bytes =
+        "\\message{z1z}\n\\lccode`'=`'\\patterns{% c1c\n.b2 a1b % c1d\n\t2ü3x\n}\n\\hyphenation{as-so-ciate\nna-ïve-té}\n\\patterns{d0e4}\\endinput\n\\patterns{z1z}\n".as_bytes();
+    let text = standard_text(
+        rt.alloc(),
+        &[File {
+            form: Form::Tex,
+            bytes,
+        }],
+    )?;
+    let wanted = format!(in rt.alloc();
+        "{HEAD}p .b2\np a1b\np de4\np 2ü3x\ne associate 2 4\ne naïveté 2 6\n"
+    )?;
+    assert_eq!(rt; text.as_slice(), wanted.as_bytes());
+    Ok(())
+}
+
+#[test]
+fn of_a_repeated_key_the_last_counts(rt: HostRuntime) -> Result<(), Fail> {
+    let patterns = File {
+        form: Form::Plain(Group::Patterns),
+        bytes: b"a1b\r\nc1\na3b\n",
+    };
+    let exceptions = File {
+        form: Form::Plain(Group::Exceptions),
+        bytes: b"ta-ble\nT-able\ntab-le\n",
+    };
+    let text = standard_text(rt.alloc(), &[patterns, exceptions])?;
+    let wanted = format!(in rt.alloc(); "{HEAD}p a3b\np c1\ne Table 1\ne table 3\n")?;
+    assert_eq!(rt; text.as_slice(), wanted.as_bytes());
+    match notes_of(rt.alloc(), &[patterns, exceptions]) {
+        Ok(notes) => {
+            let whats: Vec<(What, usize, u64)> = notes
+                .iter()
+                .map(|n| (n.what, n.first.line, n.times))
+                .collect(rt.alloc())?;
+            let wanted = [
+                (What::Repeated, 3, 1),
+                (What::Capital, 2, 1),
+                (What::ExceptionRepeated, 3, 1),
+            ];
+            assert_eq!(rt; whats.as_slice(), wanted.as_slice());
+        }
+        Err(_) => assert!(rt; false),
+    }
+    Ok(())
+}
+
+#[test]
+fn the_first_fault_is_told(rt: HostRuntime) {
+    let cases: [(Form, &[u8], usize, Cause); 12] = [
+        (Form::Tex, b"\\patterns{\na1b\n", 1, Cause::Unclosed),
+        (Form::Tex, b"\n\\input other.tex\n", 2, Cause::Input),
+        (Form::Tex, b"\\patterns{ \\nom{1a} }", 1, Cause::Command),
+        (Form::Tex, b"\\patterns{\n^^e41b }", 2, Cause::EightBit),
+        (Form::Tex, b"\\patterns{a1b\n\n\xe41b }", 3, Cause::NotUtf8),
+        (
+            Form::Plain(Group::Patterns),
+            b"a1b\na12b\n",
+            2,
+            Cause::TwoInOnePlace,
+        ),
+        (
+            Form::Plain(Group::Patterns),
+            b"a1b\n.1.\n",
+            2,
+            Cause::NoLetters,
+        ),
+        (
+            Form::Plain(Group::Patterns),
+            b"Permission is (c)\n",
+            1,
+            Cause::Sign,
+        ),
+        (
+            Form::Plain(Group::Patterns),
+            b"\xc31\xa9\n",
+            1,
+            Cause::NotUtf8,
+        ),
+        (
+            Form::Plain(Group::Exceptions),
+            b"as--so\n",
+            1,
+            Cause::TwoInOnePlace,
+        ),
+        (
+            Form::Plain(Group::Exceptions),
+            b"as-so\na1b\n",
+            2,
+            Cause::Sign,
+        ),
+        (Form::Plain(Group::Exceptions), b"as=so\n", 1, Cause::Sign),
+    ];
+    for (form, bytes, line, cause) in cases {
+        let wanted = Some(Refusal::Fault {
+            file: 0,
+            line,
+            cause,
+        });
+        assert_eq!(rt; refusal(rt.alloc(), &[File { form, bytes }]), wanted);
+    }
+}
+
+#[test]
+fn a_tex_file_tells_its_minima(rt: HostRuntime) {
+    let head =
+        b"% hyphenmins:\n%     generation:\n%         left: 1\n%         right: 1\n%     typesetting:\n%         left: 2\n%         right: 3\n% texlive:\n% left: 7\n";
+    let minima = minima_of(head);
+    assert_eq!(rt; minima.left, Some(2));
+    assert_eq!(rt; minima.right, Some(3));
+    assert_eq!(rt; minima_of(b"\\patterns{a1b}").left, None);
+}
+
+#[test]
+fn a_dic_gives_its_changes_to_an_extended_dictionary(rt: HostRuntime) -> Result<(), Fail> {
+    let bytes =
+        "UTF-8\nLEFTHYPHENMIN 1\nRIGHTHYPHENMIN 3\n% x\nl·1l/l=l\na1atje./a=t,1,3\n.schif1fahrt/ff=f,5,2\nn1nyal./ny=,1,1\nl·9m/=,2,1\nab/c=d,7,1\n".as_bytes();
+    let converted = convert_dic::<Option<Subregion>, (usize, Option<Subregion>)>(
+        rt.alloc(),
+        Language::hungarian(),
+        true,
+        None,
+        None,
+        bytes,
+    );
+    match converted {
+        Ok(converted) => {
+            let dictionary: Extended = converted.dictionary;
+            let text = write_extended(rt.alloc(), &dictionary)?;
+            let wanted =
+                "hyphenation 1 extended\nlanguage hu\nminima 1 3\np .schif1fahrt 6,1,1,2,fff\np a1atje. 1,1,2,1,at\np l·1l 3,3,1,1,ll\np l·9m 3,2,0,0,\\e\np n1nyal. 1,1,0,2,ny\n";
+            assert_eq!(rt; text.as_slice(), wanted.as_bytes());
+        }
+        Err(_) => assert!(rt; false),
+    }
+    Ok(())
+}
+
+#[test]
+fn a_dic_of_a_legacy_charset_takes_the_last_of_repeated_lines(rt: HostRuntime) -> Result<(), Fail> {
+    let bytes = b"ISO8859-2\n% \xb9\nNOHYPHEN ',-\n1'1\nNEXTLEVEL\na\xb91b\na2\xb9b\n";
+    let converted = convert_dic::<(), usize>(
+        rt.alloc(),
+        Language::english_us(),
+        false,
+        Some(2),
+        Some(3),
+        bytes,
+    );
+    match converted {
+        Ok(converted) => {
+            let text = write_standard(rt.alloc(), &converted.dictionary)?;
+            let wanted = format!(in rt.alloc(); "{HEAD}p 8'8\np 8-8\np a2šb\n")?;
+            assert_eq!(rt; text.as_slice(), wanted.as_bytes());
+        }
+        Err(_) => assert!(rt; false),
+    }
+    Ok(())
+}
+
+#[test]
+fn a_faulty_dic_is_refused(rt: HostRuntime) {
+    let cases: [(&[u8], usize, Cause); 5] = [
+        (b"EBCDIC\na1b\n", 1, Cause::Charset),
+        (b"ISO8859-7\na1b\nx\xffy\n", 3, Cause::NotInCharset),
+        (b"UTF-8\nLEFTHYPHENMIN x\n", 2, Cause::Minimum),
+        (b"UTF-8\na1b\nc1\xff\n", 3, Cause::NotUtf8),
+        (b"UTF-8\n% nothing\n", 1, Cause::Nothing),
+    ];
+    for (bytes, line, cause) in cases {
+        let converted = convert_dic::<(), usize>(
+            rt.alloc(),
+            Language::english_us(),
+            false,
+            None,
+            None,
+            bytes,
+        );
+        let refused = match converted {
+            Ok(_) => false,
+            Err(refusal) => refusal
+                == Refusal::Fault {
+                    file: 0,
+                    line,
+                    cause,
+                },
+        };
+        assert!(rt; refused);
+    }
+}

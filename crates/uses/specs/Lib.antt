@@ -1,0 +1,4 @@
+pub mod Discretionaries
+pub mod Paragraphs
+pub mod Room
+pub mod SoftHyphens

@@ -1,0 +1,20 @@
+-- Where a word may be broken so that its beginning keeps within a line.
+use Rattle.std.specs.Prelude.{ℕ, Bool, List, length, map, filter, take, drop, chars, nat_lt, Option, None}
+use Rattle.std.specs.List.{last_or}
+use Rattle.hyphenation_commons.specs.Break.{Break}
+
+-- Up to a place the word has fewer characters than the columns, so that a hyphen has room too.
+abbrev pub leaves_room : List ℕ → ℕ → ℕ → Bool
+leaves_room word columns place = nat_lt (length (chars (take place word))) columns
+
+-- The last of the places that leave room.
+abbrev pub last_room : List ℕ → ℕ → List ℕ → Option ℕ
+last_room word columns places = last_or None (filter (leaves_room word columns) places)
+
+-- The places of breaks.
+abbrev pub places_of : List Break → List ℕ
+places_of breaks = map (λ b. b.place) breaks
+
+-- The two parts of a word at a place.
+abbrev pub parts_of : List ℕ → ℕ → List ℕ × List ℕ
+parts_of word place = (take place word, drop place word)

@@ -1,0 +1,18 @@
+-- A text with soft hyphens put in.
+use Rattle.std.specs.Prelude.{ℕ, List, [], ◌∷◌}
+use Rattle.hyphenation_commons.specs.Break.{Break}
+use Rattle.hyphenation.specs.Hyphenated.{joined}
+use Rattle.hyphenation.specs.SoftHyphens.{soft_hyphens}
+
+-- U+00AD in UTF-8.
+abbrev pub soft_hyphen : List ℕ
+soft_hyphen = 0xC2 ∷ 0xAD ∷ []
+
+-- The piece as it is where it has soft hyphens, and else what it becomes.
+abbrev pub unless_marked : List ℕ → List ℕ → List ℕ → List ℕ
+unless_marked [] piece becomes = becomes
+unless_marked (place ∷ places) piece becomes = piece
+
+-- A piece with a soft hyphen at each break; one that has soft hyphens of its own stays as it is.
+abbrev pub softened : (List ℕ → List Break) → List ℕ → List ℕ
+softened breaks piece = unless_marked (soft_hyphens piece) piece (joined soft_hyphen piece (breaks piece))

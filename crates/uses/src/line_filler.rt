@@ -1,0 +1,70 @@
+//! The heart of a line filler of one's own: how much of a word still goes on a line.
+
+ghost use Rattle.std.specs.Prelude.{◌≡◌, ◌<◌, ℕ, IfOk, IfSome, length, slice_index};
+ghost use Rattle.std.specs.Option.{option_map};
+ghost use Rattle.std.specs.Str.{IsCharBoundary};
+ghost use Rattle.uses.specs.Room.{leaves_room, last_room, places_of, parts_of};
+
+use hyphenation::Hyphenator;
+use std::alloc::{AllocError, Global};
+
+/// Whether a word up to a place, and a hyphen, have at most so many characters.
+fn leaves_room(word: &str, columns: usize, place: usize) -> bool
+    requires { IsCharBoundary word.now place }
+    ensures { result ≡ leaves_room word.now columns place }
+{
+    word[..place].chars().count() < columns
+}
+
+/// The last of the places that leave room for a hyphen.
+fn last_room(word: &str, columns: usize, places: &[usize]) -> Option<usize>
+    requires { (i : ℕ) → i < length places.now → IsCharBoundary word.now (slice_index places.now i) }
+    ensures last { result ≡ last_room word.now columns places.now }
+    ensures boundary { IfSome result (λ place. IsCharBoundary word.now place) }
+{
+    let mut last = None;
+    for place in places {
+        if leaves_room(word, columns, *place) {
+            last = Some(*place);
+        }
+    }
+    last
+}
+
+/// The part of a word that goes on a line with so many columns left, where a hyphen follows it, and the part that goes
+/// on the next line; `None` where no break leaves room.
+///
+/// It knows the dictionary by its trait alone, and the only error is that memory was refused.
+pub fn break_to_fit<'h, 't, H: Hyphenator<'h, Opportunity = usize>>(
+    alloc: Global,
+    dictionary: &'h H,
+    word: &'t str,
+    columns: usize,
+) -> Result<Option<(&'t str, &'t str)>, AllocError>
+    ensures { IfOk result (λ found. option_map (λ parts. (parts.0.now, parts.1.now)) found ≡ option_map (parts_of word.now) (last_room word.now columns (places_of (H.breaks_of dictionary.now word.now)))) }
+{
+    let word = dictionary.hyphenate(alloc, word)?;
+    match last_room(word.text, columns, &word.breaks) {
+        Some(place) => Ok(Some(word.text.split_at(place))),
+        None => Ok(None),
+    }
+}
+
+#[cfg(test)]
+mod tests {
+    use super::break_to_fit;
+    use hyphenation::{Load, Standard};
+    use std::test::Fail;
+
+    #[test]
+    fn the_last_break_with_room_is_taken(rt: HostRuntime) -> Result<(), Fail> {
+        let mut text =
+            &b"hyphenation 1 standard\nlanguage en-us\nminima 2 3\ne hyphenation 2 6 7\n"[..];
+        let dictionary = Standard::any_from_reader(rt.alloc(), &mut text)?;
+        let found = break_to_fit(rt.alloc(), &dictionary, "Hyphenation", 7)?;
+        assert!(rt; found == Some(("Hyphen", "ation")));
+        let none = break_to_fit(rt.alloc(), &dictionary, "Hyphenation", 2)?;
+        assert!(rt; none.is_none());
+        Ok(())
+    }
+}

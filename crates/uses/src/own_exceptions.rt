@@ -1,0 +1,64 @@
+//! A dictionary with a word that its user adds, kept as a text.
+
+ghost use Rattle.std.specs.Prelude.{◌≡◌, IfOk, IsTrue, not};
+ghost use Rattle.std.specs.FinMap as finite;
+ghost use Rattle.std.specs.Io.KnownBytes.{Appends, Keeps};
+ghost use Rattle.hyphenation_commons.specs.Break.{plain};
+ghost use Rattle.hyphenation_commons.specs.Canonical.{standard_text};
+ghost use Rattle.hyphenation_commons.specs.Kept.{are_listed};
+
+use hyphenation::load::{Error, Result};
+use hyphenation::{Load, Standard};
+use std::alloc::Global;
+use std::io::Write;
+
+/// Lists the places at which a word is to be broken, and writes the dictionary that has them. Whether they may be
+/// listed: where not, nothing is written and nothing has changed.
+///
+/// The errors are those of [`Load::to_writer`], and that memory for the word was refused.
+pub fn list_and_write<W: Write>(
+    alloc: Global,
+    dictionary: &mut Standard,
+    word: &str,
+    places: Vec<usize>,
+    writer: &mut W,
+) -> Result<bool>
+    ensures good { IfOk result (λ good. good ≡ are_listed plain word.now 0 places.items) }
+    ensures listed { IfOk result (λ good. IsTrue good → dictionary.new ≡ record dictionary.old { exceptions = finite.insert dictionary.old.exceptions word.now places.items }) }
+    ensures written { IfOk result (λ good. IsTrue good → Appends (W.contents writer.old) (W.contents writer.new) (standard_text dictionary.new)) }
+    ensures refused { IfOk result (λ good. IsTrue (not good) → dictionary.new ≡ dictionary.old) }
+    ensures unwritten { IfOk result (λ good. IsTrue (not good) → Keeps (W.contents writer.old) (W.contents writer.new)) }
+{
+    if !Standard::fits(word, &places) {
+        return Ok(false);
+    }
+    let word = String::from_str(alloc, word).map_err(Error::Memory)?;
+    dictionary
+        .insert_exception(word, places)
+        .map_err(Error::Memory)?;
+    dictionary.to_writer(alloc, writer)?;
+    Ok(true)
+}
+
+#[cfg(test)]
+mod tests {
+    use super::list_and_write;
+    use hyphenation::{Load, Standard};
+    use std::test::Fail;
+
+    #[test]
+    fn a_word_is_listed_and_kept(rt: HostRuntime) -> std::result::Result<(), Fail> {
+        let alloc = rt.alloc();
+        let mut text = &b"hyphenation 1 standard\nlanguage en-us\nminima 2 3\np a1b\n"[..];
+        let mut dictionary = Standard::any_from_reader(alloc, &mut text)?;
+        let mut written = Vec::new(alloc);
+        let inside = Vec::from_slice(alloc, &[1])?;
+        assert!(rt; !list_and_write(alloc, &mut dictionary, "é", inside, &mut written)?);
+        assert!(rt; written.is_empty());
+        let places = Vec::from_slice(alloc, &[2])?;
+        assert!(rt; list_and_write(alloc, &mut dictionary, "table", places, &mut written)?);
+        let wanted = b"hyphenation 1 standard\nlanguage en-us\nminima 2 3\np a1b\ne table 2\n";
+        assert_eq!(rt; written.as_slice(), wanted.as_slice());
+        Ok(())
+    }
+}

@@ -1,0 +1,64 @@
+//! A text for a page whose reader breaks the lines: with a soft hyphen at each place where a word may be broken.
+
+ghost use Rattle.std.specs.Prelude.{◌≡◌, ◌++◌, IfOk, OnOk};
+ghost use Rattle.std.specs.List.{flat_map};
+ghost use Rattle.std.specs.String.{string_bytes};
+ghost use Rattle.unicode_segmentation.specs.Word.{word_bounds};
+ghost use Rattle.uses.specs.SoftHyphens.{softened};
+
+use hyphenation::Hyphenator;
+use hyphenation::hyphenator::soft_hyphen_indices;
+use hyphenation::iter::joined::push_marked;
+use std::alloc::{AllocError, Global};
+use unicode_segmentation::UnicodeSegmentation;
+
+/// Appends a piece of a text, as [`with_soft_hyphens`] has it.
+fn push_piece<'h, H: Hyphenator<'h>>(
+    page: &mut String,
+    dictionary: &'h H,
+    piece: &str,
+) -> Result<(), AllocError>
+    ensures { OnOk result (string_bytes page.new ≡ string_bytes page.old ++ softened (H.breaks_of dictionary.now) piece.now) }
+{
+    let alloc = *page.allocator();
+    match soft_hyphen_indices(alloc, piece)? {
+        Some(_) => page.push_str(piece),
+        None => push_marked(page, &dictionary.hyphenate(alloc, piece)?, "\u{ad}"),
+    }
+}
+
+/// A text with U+00AD at each break of its words. A word that has soft hyphens already stays as its writer left it.
+///
+/// The only error is that memory was refused.
+pub fn with_soft_hyphens<'h, H: Hyphenator<'h>>(
+    alloc: Global,
+    dictionary: &'h H,
+    text: &str,
+) -> Result<String, AllocError>
+    ensures { IfOk result (λ page. string_bytes page ≡ flat_map (softened (H.breaks_of dictionary.now)) (word_bounds text.now)) }
+{
+    let mut page = String::new(alloc);
+    for piece in text.split_word_bounds() {
+        push_piece(&mut page, dictionary, piece)?;
+    }
+    Ok(page)
+}
+
+#[cfg(test)]
+mod tests {
+    use super::with_soft_hyphens;
+    use hyphenation::{Load, Standard};
+    use std::test::Fail;
+
+    #[test]
+    fn words_get_soft_hyphens_once(rt: HostRuntime) -> Result<(), Fail> {
+        let mut text =
+            &b"hyphenation 1 standard\nlanguage en-us\nminima 2 3\ne hyphenation 2 6 7\n"[..];
+        let dictionary = Standard::any_from_reader(rt.alloc(), &mut text)?;
+        let page = with_soft_hyphens(rt.alloc(), &dictionary, "On hyphenation.")?;
+        assert_eq!(rt; page.as_str(), "On hy\u{ad}phen\u{ad}a\u{ad}tion.");
+        let again = with_soft_hyphens(rt.alloc(), &dictionary, &page)?;
+        assert_eq!(rt; again.as_str(), page.as_str());
+        Ok(())
+    }
+}
