@@ -34,24 +34,3 @@ pub fn soft_hyphen_indices(alloc: Global, word: &str) -> Result<Option<Vec<usize
     }
     Ok(Some(places))
 }
-
-#[cfg(test)]
-mod tests {
-    use super::*;
-    use std::test::Fail;
-
-    #[test]
-    fn soft_hyphens_are_found(rt: HostRuntime) -> Result<(), Fail> {
-        let alloc = rt.alloc();
-        let first = soft_hyphen_indices(alloc, "\u{ad}ab")?.ok_or("none")?;
-        assert_eq!(rt; first.as_slice(), [0].as_slice());
-        let each = soft_hyphen_indices(alloc, "ri\u{ad}bo\u{ad}nu\u{ad}cle\u{ad}ase")?.ok_or(
-            "none",
-        )?;
-        assert_eq!(rt; each.as_slice(), [2, 6, 10, 15].as_slice());
-        for word in ["", "ribonuclease", "\u{a0}\u{ac}", "ri-bo"] {
-            assert!(rt; soft_hyphen_indices(alloc, word)?.is_none());
-        }
-        Ok(())
-    }
-}

@@ -3,7 +3,7 @@ use Rattle.std.specs.List.{concat}
 use Rattle.std.specs.String.{string_bytes}
 use Rattle.hyphenation_commons.specs.Break.{plain}
 use Rattle.hyphenation.specs.Segments.{segments}
-use Rattle.hyphenation.proofs.iter.tests.joined_segments.Given as goal
+use Rattle.single_calls.proofs.segments.joined_segments.Given as goal
 
 abbrev pub invariant-loop-segment : goal.invariant-loop-segment
 invariant-loop-segment l = string_bytes l.joined ++ concat l.segment-iterator ≡ concat (segments l.text (map plain l.breaks))

@@ -2,7 +2,7 @@ use Rattle.std.proofs.Common.{◌≡◌, ◌++◌}
 use Rattle.std.specs.List.{concat}
 use Rattle.std.specs.String.{string_bytes}
 use Rattle.hyphenation.specs.Segments.{marked}
-use Rattle.hyphenation.proofs.iter.tests.marked_text.Given as goal
+use Rattle.single_calls.proofs.segments.marked_text.Given as goal
 
 abbrev pub invariant-loop-item : goal.invariant-loop-item
 invariant-loop-item g l =

@@ -1,3 +1,5 @@
+//! Segments of words, with marks or without, and what their callers can promise.
+
 ghost use Rattle.std.specs.Prelude.{◌≡◌, ◌+◌, map, vec_len, IfOk, codes};
 ghost use Rattle.std.specs.List.{concat};
 ghost use Rattle.std.specs.String.{string_bytes};
@@ -5,10 +7,14 @@ ghost use Rattle.hyphenation_commons.specs.Break.{plain};
 ghost use Rattle.hyphenation.specs.Fits.{Fits};
 ghost use Rattle.hyphenation.specs.Segments.{segments, marked, with_marks};
 
-use super::*;
-use crate::hyphenator::Word;
+use hyphenation::Iter;
+use hyphenation::hyphenator::Word;
+use hyphenation::iter::{Breaks, Hyphenating, SegmentText, Segments, SegmentsExt, Texts, laws};
+use hyphenation_commons::breaks::Break;
 use hyphenation_commons::extended::Subregion;
-use std::alloc::Global;
+use std::alloc::{AllocError, Global};
+use std::iter::Copied;
+use std::slice;
 use std::test::Fail;
 
 // Callers of the iterators, which are proved with the tests.
@@ -184,86 +190,107 @@ fn word_of<'t>(alloc: Global, text: &'t str, breaks: &[usize]) -> Result<Word<'t
     }
 }
 
+/// The segments of a word, with a bar between each two.
+fn barred(alloc: Global, text: &str, breaks: &[usize]) -> Result<String, Fail> {
+    let segments = left_unmarked(alloc, word_of(alloc, text, breaks)?)?;
+    let mut joined = String::new(alloc);
+    for (number, segment) in segments.iter().enumerate() {
+        if number > 0 {
+            joined.push('|')?;
+        }
+        joined.push_str(segment)?;
+    }
+    Ok(joined)
+}
+
 #[test]
 fn a_word_is_cut_at_its_breaks(rt: HostRuntime) -> Result<(), Fail> {
-    let alloc = rt.alloc();
-    let segments = left_unmarked(alloc, word_of(alloc, "hyphenation", &[2, 6, 7])?)?;
-    assert_eq!(rt; segments.as_slice(), ["hy", "phen", "a", "tion"].as_slice());
-    let ends = left_unmarked(alloc, word_of(alloc, "ab", &[0, 2])?)?;
-    assert_eq!(rt; ends.as_slice(), ["", "ab", ""].as_slice());
-    let empty = left_unmarked(alloc, word_of(alloc, "", &[])?)?;
-    assert_eq!(rt; empty.as_slice(), [""].as_slice());
+    assert_eq!(rt;
+        barred(rt.alloc(), "hyphenation", &[2, 6, 7])?.as_str(),
+        "hy|phen|a|tion"
+    );
+    assert_eq!(rt; barred(rt.alloc(), "ab", &[0, 2])?.as_str(), "|ab|");
+    assert_eq!(rt; barred(rt.alloc(), "", &[])?.as_str(), "");
     Ok(())
+}
+
+/// The segments of a word with their marks, and a space between each two.
+fn spaced(alloc: Global, text: &str, breaks: &[usize]) -> Result<String, Fail> {
+    let list = all_marked(alloc, word_of(alloc, text, breaks)?)?;
+    let mut joined = String::new(alloc);
+    for (number, item) in list.iter().enumerate() {
+        if number > 0 {
+            joined.push(' ')?;
+        }
+        joined.push_str(item.as_str())?;
+    }
+    Ok(joined)
 }
 
 #[test]
 fn a_mark_stands_behind_each_segment_but_the_last(rt: HostRuntime) -> Result<(), Fail> {
-    let alloc = rt.alloc();
-    let cases: [(&str, &[usize], &str); 4] = [
-        ("hyphenation", &[2, 6, 7], "hy- phen- a- tion"),
-        ("anfractuous", &[2, 6, 8], "an- frac- tu- ous"),
-        ("firkin", &[3], "fir- kin"),
-        ("bevies", &[], "bevies"),
-    ];
-    for (text, breaks, expected) in cases {
-        let list = all_marked(alloc, word_of(alloc, text, breaks)?)?;
-        let mut joined = String::new(alloc);
-        for (number, item) in list.iter().enumerate() {
-            if number > 0 {
-                joined.push(' ')?;
-            }
-            joined.push_str(item.as_str())?;
-        }
-        assert_eq!(rt; joined.as_str(), expected);
-    }
+    let long = spaced(rt.alloc(), "hyphenation", &[2, 6, 7])?;
+    assert_eq!(rt; long.as_str(), "hy- phen- a- tion");
+    assert_eq!(rt; spaced(rt.alloc(), "firkin", &[3])?.as_str(), "fir- kin");
+    assert_eq!(rt; spaced(rt.alloc(), "bevies", &[])?.as_str(), "bevies");
     Ok(())
+}
+
+/// The next segment with its mark.
+fn next<I: Texts>(items: &mut Hyphenating<'_, I>) -> Result<String, Fail> {
+    Ok(items.next().ok_or("none")??)
 }
 
 #[test]
 fn a_new_mark_holds_for_the_segments_to_come(rt: HostRuntime) -> Result<(), Fail> {
-    let alloc = rt.alloc();
-    let word = word_of(alloc, "hyphenation", &[2, 6, 7])?;
+    let word = word_of(rt.alloc(), "hyphenation", &[2, 6, 7])?;
     let mut items = word.iter();
-    let first = items.next().ok_or("none")??;
-    assert_eq!(rt; first.as_str(), "hy-");
+    assert_eq!(rt; next(&mut items)?.as_str(), "hy-");
     items.mark_with("=");
+    assert_eq!(rt; next(&mut items)?.as_str(), "phen=");
+    assert_eq!(rt; items.segments().next(), Some("a"));
+    Ok(())
+}
+
+#[test]
+fn a_copy_has_the_segments_to_come(rt: HostRuntime) -> Result<(), Fail> {
+    let word = word_of(rt.alloc(), "hyphenation", &[2, 6, 7])?;
+    let mut items = word.iter();
+    assert_eq!(rt; next(&mut items)?.as_str(), "hy-");
     let copy = items.clone()?;
     assert_eq!(rt; copy.len(), 3);
-    let rest = marked_text(alloc, copy)?;
-    assert_eq!(rt; rest.as_str(), "phen=a=tion");
-    let second = items.next().ok_or("none")??;
-    assert_eq!(rt; second.as_str(), "phen=");
-    let mut unmarked = items.segments();
-    assert_eq!(rt; unmarked.next(), Some("a"));
+    assert_eq!(rt; marked_text(rt.alloc(), copy)?.as_str(), "phen-a-tion");
     Ok(())
 }
 
 #[test]
 fn a_refusal_stands_in_its_place(rt: HostRuntime) -> Result<(), Fail> {
-    let alloc = rt.alloc();
-    let word = word_of(alloc, "hyphenation", &[2, 6, 7])?;
-    let mut items = Hyphenating::new(alloc, Refusing(word.iter().segments()));
-    assert_eq!(rt; items.next().ok_or("none")??.as_str(), "hy-");
-    assert_eq!(rt; items.next().ok_or("none")??.as_str(), "phen-");
+    let word = word_of(rt.alloc(), "hyphenation", &[2, 6, 7])?;
+    let mut items = Hyphenating::new(rt.alloc(), Refusing(word.iter().segments()));
+    assert_eq!(rt; next(&mut items)?.as_str(), "hy-");
+    assert_eq!(rt; next(&mut items)?.as_str(), "phen-");
     assert!(rt; items.next().ok_or("none")?.is_err());
     assert_eq!(rt; items.len(), 1);
-    assert_eq!(rt; items.next().ok_or("none")??.as_str(), "tion");
-    assert!(rt; items.next().is_none());
+    assert_eq!(rt; next(&mut items)?.as_str(), "tion");
     assert!(rt; items.next().is_none());
     Ok(())
 }
 
 #[test]
-fn hints_count_the_segments_to_come(rt: HostRuntime) -> Result<(), Fail> {
-    let alloc = rt.alloc();
-    let whole = word_of(alloc, "bevies", &[])?;
+fn a_word_without_breaks_is_one_segment(rt: HostRuntime) -> Result<(), Fail> {
+    let whole = word_of(rt.alloc(), "bevies", &[])?;
     let mut segments = whole.iter().segments();
     assert_eq!(rt; segments.size_hint(), (1, Some(1)));
     assert_eq!(rt; segments.next(), Some("bevies"));
     assert_eq!(rt; segments.size_hint(), (0, Some(0)));
     assert_eq!(rt; segments.next(), None);
     assert_eq!(rt; segments.next(), None);
-    let broken = word_of(alloc, "hypha", &[2])?;
+    Ok(())
+}
+
+#[test]
+fn hints_count_the_segments_to_come(rt: HostRuntime) -> Result<(), Fail> {
+    let broken = word_of(rt.alloc(), "hypha", &[2])?;
     let mut segments = broken.iter().segments();
     assert_eq!(rt; segments.size_hint(), (2, Some(2)));
     assert_eq!(rt; segments.next(), Some("hy"));
@@ -275,7 +302,6 @@ fn hints_count_the_segments_to_come(rt: HostRuntime) -> Result<(), Fail> {
 
 #[test]
 fn breaks_are_asked_nothing_after_their_end(rt: HostRuntime) -> Result<(), Fail> {
-    let alloc = rt.alloc();
     if Word::fits("ab", &[1]) {
         let mut segments = Segments::new("ab", coming_again(1));
         assert_eq!(rt; segments.next(), Some("a"));
@@ -285,9 +311,14 @@ fn breaks_are_asked_nothing_after_their_end(rt: HostRuntime) -> Result<(), Fail>
             assert_eq!(rt; segments.len(), 0);
         }
     }
+    Ok(())
+}
+
+#[test]
+fn changed_breaks_are_asked_nothing_after_their_end(rt: HostRuntime) -> Result<(), Fail> {
     let pair: (usize, Option<&Subregion>) = (1, None);
     if Word::fits("ab", &[pair]) {
-        let mut segments = SegmentsExt::new(alloc, "ab", coming_again(pair));
+        let mut segments = SegmentsExt::new(rt.alloc(), "ab", coming_again(pair));
         assert_eq!(rt; segments.next().ok_or("none")??.as_str(), "a");
         assert_eq!(rt; segments.next().ok_or("none")??.as_str(), "b");
         for _ in 0..5 {
@@ -300,11 +331,10 @@ fn breaks_are_asked_nothing_after_their_end(rt: HostRuntime) -> Result<(), Fail>
 
 #[test]
 fn marked_segments_ask_nothing_after_their_end(rt: HostRuntime) -> Result<(), Fail> {
-    let alloc = rt.alloc();
     if Word::fits("ab", &[1]) {
-        let mut items = Hyphenating::new(alloc, Segments::new("ab", coming_again(1)));
-        assert_eq!(rt; items.next().ok_or("none")??.as_str(), "a-");
-        assert_eq!(rt; items.next().ok_or("none")??.as_str(), "b");
+        let mut items = Hyphenating::new(rt.alloc(), Segments::new("ab", coming_again(1)));
+        assert_eq!(rt; next(&mut items)?.as_str(), "a-");
+        assert_eq!(rt; next(&mut items)?.as_str(), "b");
         for _ in 0..5 {
             assert!(rt; items.next().is_none());
             assert_eq!(rt; items.len(), 0);
@@ -315,22 +345,22 @@ fn marked_segments_ask_nothing_after_their_end(rt: HostRuntime) -> Result<(), Fa
 
 #[test]
 fn callers_count_and_join(rt: HostRuntime) -> Result<(), Fail> {
-    let alloc = rt.alloc();
-    let breaks = vec![in alloc; 2, 6, 7]?;
+    let breaks = vec![in rt.alloc(); 2, 6, 7]?;
     if Word::fits("hyphenation", &breaks) {
-        assert_eq!(rt; all_segments(alloc, "hyphenation", &breaks)?.len(), 4);
-        assert_eq!(rt;
-            joined_segments(alloc, "hyphenation", &breaks)?.as_str(),
-            "hyphenation"
-        );
+        let joined = joined_segments(rt.alloc(), "hyphenation", &breaks)?;
+        assert_eq!(rt; joined.as_str(), "hyphenation");
+        assert_eq!(rt; all_segments(rt.alloc(), "hyphenation", &breaks)?.len(), 4);
         assert_eq!(rt; number_of_segments("hyphenation", breaks), 4);
     }
-    let word = word_of(alloc, "firkin", &[3])?;
+    Ok(())
+}
+
+#[test]
+fn callers_count_and_join_with_marks(rt: HostRuntime) -> Result<(), Fail> {
+    let word = word_of(rt.alloc(), "firkin", &[3])?;
     assert_eq!(rt; number_of_marked_segments(&word), 2);
-    assert_eq!(rt;
-        marked_word(alloc, word.try_clone(alloc)?, "=")?.as_str(),
-        "fir=kin"
-    );
-    assert_eq!(rt; all_items(alloc, word)?.len(), 2);
+    let joined = marked_word(rt.alloc(), word.try_clone(rt.alloc())?, "=")?;
+    assert_eq!(rt; joined.as_str(), "fir=kin");
+    assert_eq!(rt; all_items(rt.alloc(), word)?.len(), 2);
     Ok(())
 }

@@ -1,28 +1,36 @@
-use super::*;
+//! Words with breaks that fit them, and the bounds of a word.
+
+use hyphenation::hyphenator::{Word, boundaries_of};
 use std::test::Fail;
 
 #[test]
-fn boundaries_are_the_places_of_characters(rt: HostRuntime) -> Result<(), Fail> {
+fn boundaries_count_characters(rt: HostRuntime) {
     assert_eq!(rt; boundaries_of((2, 3), "firkin"), Some((2, 3)));
-    assert_eq!(rt; boundaries_of((3, 0), "abc"), None);
-    assert_eq!(rt; boundaries_of((3, 0), "abcd"), Some((3, 3)));
-    assert_eq!(rt; boundaries_of((0, 0), ""), None);
     assert_eq!(rt; boundaries_of((2, 2), "éééé"), Some((4, 4)));
     assert_eq!(rt; boundaries_of((2, 3), "éééé"), None);
-    Ok(())
 }
 
 #[test]
-fn breaks_fit_a_text_where_they_ascend_on_its_characters(rt: HostRuntime) -> Result<(), Fail> {
+fn a_word_of_as_many_characters_as_its_minima_has_no_boundaries(rt: HostRuntime) {
+    assert_eq!(rt; boundaries_of((3, 0), "abc"), None);
+    assert_eq!(rt; boundaries_of((3, 0), "abcd"), Some((3, 3)));
+    assert_eq!(rt; boundaries_of((0, 0), ""), None);
+}
+
+#[test]
+fn breaks_fit_a_text_where_they_ascend_on_its_characters(rt: HostRuntime) {
     assert!(rt; Word::fits("hyphenation", &[2, 6, 7]));
     assert!(rt; Word::fits("ab", &[0, 1, 2]));
+    let none: [usize; 0] = [];
+    assert!(rt; Word::fits("", &none));
+}
+
+#[test]
+fn breaks_that_repeat_or_cut_a_character_fit_no_text(rt: HostRuntime) {
     assert!(rt; !Word::fits("é", &[1]));
     assert!(rt; !Word::fits("ab", &[1, 1]));
     assert!(rt; !Word::fits("ab", &[2, 1]));
     assert!(rt; !Word::fits("ab", &[3]));
-    let none: [usize; 0] = [];
-    assert!(rt; Word::fits("", &none));
-    Ok(())
 }
 
 #[test]

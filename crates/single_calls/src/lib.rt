@@ -1,0 +1,20 @@
+//! Tests of single public calls of the libraries. They stand apart from the crates that have the calls, since a crate
+//! with tests is proved twice.
+#![tactic(auto)]
+
+#[cfg(test)]
+mod dictionary_texts;
+#[cfg(test)]
+mod edits;
+#[cfg(test)]
+mod folding;
+#[cfg(test)]
+mod lines;
+#[cfg(test)]
+mod long_patterns;
+#[cfg(test)]
+mod segments;
+#[cfg(test)]
+mod soft_hyphens;
+#[cfg(test)]
+mod words;
