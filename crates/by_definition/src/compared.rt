@@ -85,22 +85,37 @@ fn is_extended_as(
     Ok(is_same && are_those(&broken.breaks, &book.breaks(alloc, word)?))
 }
 
-/// What was compared: words, books of version 2, and exceptions set and taken out that changed the dictionary.
+/// What was compared: words, and among the books those of version 2; exceptions set, exceptions set with a change, and
+/// exceptions taken out that stood in the dictionary.
 #[derive(Clone, Copy)]
 struct Compared {
     words: u32,
     second: u32,
     set: u32,
+    changed: u32,
     taken_out: u32,
 }
 
 impl Compared {
-    fn note(&mut self, text: &str, words: u32, set: bool, taken_out: bool) {
+    fn note_word(&mut self) {
+        self.words = self.words.saturating_add(1);
+    }
+
+    fn note_text(&mut self, text: &str) {
         let second = text.starts_with("hyphenation 2 ");
-        self.words = self.words.saturating_add(words);
         self.second = self.second.saturating_add(u32::from(second));
-        self.set = self.set.saturating_add(u32::from(set));
+    }
+
+    fn note_edit(&mut self, edit: &Edit) {
+        let changed = edit.has_change && !edit.takes_out;
+        let taken_out = edit.takes_out && edit.is_listed;
+        self.set = self.set.saturating_add(u32::from(!edit.takes_out));
+        self.changed = self.changed.saturating_add(u32::from(changed));
         self.taken_out = self.taken_out.saturating_add(u32::from(taken_out));
+    }
+
+    fn is_enough(&self) -> bool {
+        self.words == 10_000 && self.second > 200 && self.set > 1_000 && self.taken_out > 50
     }
 }
 
@@ -108,49 +123,105 @@ const NOTHING: Compared = Compared {
     words: 0,
     second: 0,
     set: 0,
+    changed: 0,
     taken_out: 0,
 };
 
+/// An exception set or taken out: its word, and whether it stood in the dictionary.
+#[derive(Drop)]
+struct Edit {
+    word: String,
+    takes_out: bool,
+    has_change: bool,
+    is_listed: bool,
+}
+
+/// The first of four words near the book that the dictionary does not score and break as the book says.
+fn standard_mismatch(
+    alloc: Global,
+    dice: &mut Dice,
+    dictionary: &Standard,
+    book: &Book,
+    compared: &mut Compared,
+) -> Result<Option<String>, AllocError> {
+    for _ in 0..4 {
+        let word = dice.word_near(alloc, book)?;
+        if !is_standard_as(alloc, dictionary, book, &word)? {
+            return Ok(Some(word));
+        }
+        compared.note_word();
+    }
+    Ok(None)
+}
+
+/// Sets an exception, or takes one out.
+fn edit_standard(
+    alloc: Global,
+    dice: &mut Dice,
+    dictionary: &mut Standard,
+    book: &mut Book,
+) -> Result<Edit, Fail> {
+    let word = dice.word_near(alloc, book)?;
+    let cuts = dice.cuts(alloc, &word, false)?;
+    let has_change = cuts.iter().any(|cut| cut.change.is_some());
+    let list = listed_places(alloc, &cuts)?;
+    let is_listed = book.take_out(&word);
+    let takes_out = dice.below(3) == 0;
+    let had = if takes_out {
+        dictionary.remove_exception(&word).is_some()
+    } else if Standard::fits(&word, &list) {
+        book.list(alloc, &word, cuts)?;
+        dictionary
+            .add_exception(String::from_str(alloc, &word)?, list)?
+            .is_some()
+    } else {
+        return Err(Fail::from("the list does not fit"));
+    };
+    if had != is_listed {
+        return Err(Fail::from("an exception stood in one and not in the other"));
+    }
+    Ok(Edit {
+        word,
+        takes_out,
+        has_change,
+        is_listed,
+    })
+}
+
+/// The first of five words that a dictionary by chance does not score and break as its book says, the fifth behind an
+/// edit of its exceptions; with the dictionary's text.
+fn standard_round(
+    alloc: Global,
+    dice: &mut Dice,
+    compared: &mut Compared,
+) -> Result<Option<(String, String)>, Fail> {
+    let mut book = dice.book(alloc, false)?;
+    let text = book.text(alloc, "standard")?;
+    let mut reader = text.as_bytes();
+    let mut dictionary = Standard::any_from_reader(alloc, &mut reader)?;
+    compared.note_text(&text);
+    if let Some(word) = standard_mismatch(alloc, dice, &dictionary, &book, compared)? {
+        return Ok(Some((text, word)));
+    }
+    let edit = edit_standard(alloc, dice, &mut dictionary, &mut book)?;
+    compared.note_edit(&edit);
+    compared.note_word();
+    if is_standard_as(alloc, &dictionary, &book, &edit.word)? {
+        Ok(None)
+    } else {
+        Ok(Some((text, edit.word)))
+    }
+}
+
 #[test]
 fn standard_dictionaries_answer_as_the_second_hand(rt: HostRuntime) -> Result<(), Fail> {
-    let alloc = rt.alloc();
     let mut dice = Dice(1);
     let mut compared = NOTHING;
     for _ in 0..2_000 {
-        let mut book = dice.book(alloc, false)?;
-        let text = book.text(alloc, "standard")?;
-        let mut reader = text.as_bytes();
-        let mut dictionary = Standard::any_from_reader(alloc, &mut reader)?;
-        for _ in 0..4 {
-            let word = dice.word_near(alloc, &book)?;
-            assert!(rt;
-                is_standard_as(alloc, &dictionary, &book, &word)?,
-                "{text}{word}"
-            );
-        }
-        // an exception more, or one taken out
-        let word = dice.word_near(alloc, &book)?;
-        let cuts = dice.cuts(alloc, &word, false)?;
-        let places = listed_places(alloc, &cuts)?;
-        let is_listed = book.take_out(&word);
-        let takes_out = dice.below(3) == 0;
-        let old = if takes_out {
-            dictionary.remove_exception(&word)
-        } else if Standard::fits(&word, &places) {
-            book.list(alloc, &word, cuts)?;
-            dictionary.add_exception(String::from_str(alloc, &word)?, places)?
-        } else {
-            return Err(Fail::from("the places do not fit"));
-        };
-        assert_eq!(rt; old.is_some(), is_listed, "{text}{word}");
-        assert!(rt;
-            is_standard_as(alloc, &dictionary, &book, &word)?,
-            "{text}{word}"
-        );
-        compared.note(&text, 5, !takes_out, takes_out && is_listed);
+        let mismatch = standard_round(rt.alloc(), &mut dice, &mut compared)?;
+        assert!(rt; mismatch.is_none(), "{mismatch:?}");
     }
-    assert_eq!(rt; compared.words, 10_000);
-    assert!(rt; compared.second > 200 && compared.set > 1_000 && compared.taken_out > 50);
+    assert!(rt; compared.is_enough());
     Ok(())
 }
 
@@ -177,49 +248,91 @@ fn listed_changes(
     Ok(Some(list))
 }
 
+/// The first of four words near the book that the dictionary does not score and break as the book says.
+fn extended_mismatch(
+    alloc: Global,
+    dice: &mut Dice,
+    dictionary: &Extended,
+    book: &Book,
+    compared: &mut Compared,
+) -> Result<Option<String>, AllocError> {
+    for _ in 0..4 {
+        let word = dice.word_near(alloc, book)?;
+        if !is_extended_as(alloc, dictionary, book, &word)? {
+            return Ok(Some(word));
+        }
+        compared.note_word();
+    }
+    Ok(None)
+}
+
+/// Sets an exception, of which some places have changes, or takes one out.
+fn edit_extended(
+    alloc: Global,
+    dice: &mut Dice,
+    dictionary: &mut Extended,
+    book: &mut Book,
+) -> Result<Edit, Fail> {
+    let word = dice.word_near(alloc, book)?;
+    let cuts = dice.cuts(alloc, &word, true)?;
+    let has_change = cuts.iter().any(|cut| cut.change.is_some());
+    let list = listed_changes(alloc, &cuts)?.ok_or("no change")?;
+    let is_listed = book.take_out(&word);
+    let takes_out = dice.below(3) == 0;
+    let had = if takes_out {
+        dictionary.remove_exception(&word).is_some()
+    } else if Extended::fits(&word, &list) {
+        book.list(alloc, &word, cuts)?;
+        dictionary
+            .add_exception(String::from_str(alloc, &word)?, list)?
+            .is_some()
+    } else {
+        return Err(Fail::from("the list does not fit"));
+    };
+    if had != is_listed {
+        return Err(Fail::from("an exception stood in one and not in the other"));
+    }
+    Ok(Edit {
+        word,
+        takes_out,
+        has_change,
+        is_listed,
+    })
+}
+
+/// The first of five words that a dictionary by chance does not score and break as its book says, the fifth behind an
+/// edit of its exceptions; with the dictionary's text.
+fn extended_round(
+    alloc: Global,
+    dice: &mut Dice,
+    compared: &mut Compared,
+) -> Result<Option<(String, String)>, Fail> {
+    let mut book = dice.book(alloc, true)?;
+    let text = book.text(alloc, "extended")?;
+    let mut reader = text.as_bytes();
+    let mut dictionary = Extended::any_from_reader(alloc, &mut reader)?;
+    compared.note_text(&text);
+    if let Some(word) = extended_mismatch(alloc, dice, &dictionary, &book, compared)? {
+        return Ok(Some((text, word)));
+    }
+    let edit = edit_extended(alloc, dice, &mut dictionary, &mut book)?;
+    compared.note_edit(&edit);
+    compared.note_word();
+    if is_extended_as(alloc, &dictionary, &book, &edit.word)? {
+        Ok(None)
+    } else {
+        Ok(Some((text, edit.word)))
+    }
+}
+
 #[test]
 fn extended_dictionaries_answer_as_the_second_hand(rt: HostRuntime) -> Result<(), Fail> {
-    let alloc = rt.alloc();
     let mut dice = Dice(2);
     let mut compared = NOTHING;
-    let mut changed: u32 = 0;
     for _ in 0..2_000 {
-        let mut book = dice.book(alloc, true)?;
-        let text = book.text(alloc, "extended")?;
-        let mut reader = text.as_bytes();
-        let mut dictionary = Extended::any_from_reader(alloc, &mut reader)?;
-        for _ in 0..4 {
-            let word = dice.word_near(alloc, &book)?;
-            assert!(rt;
-                is_extended_as(alloc, &dictionary, &book, &word)?,
-                "{text}{word}"
-            );
-        }
-        // an exception more, of which some places have changes, or one taken out
-        let word = dice.word_near(alloc, &book)?;
-        let cuts = dice.cuts(alloc, &word, true)?;
-        let has_change = cuts.iter().any(|cut| cut.change.is_some());
-        let list = listed_changes(alloc, &cuts)?.ok_or("no change")?;
-        let is_listed = book.take_out(&word);
-        let takes_out = dice.below(3) == 0;
-        let old = if takes_out {
-            dictionary.remove_exception(&word)
-        } else if Extended::fits(&word, &list) {
-            book.list(alloc, &word, cuts)?;
-            dictionary.add_exception(String::from_str(alloc, &word)?, list)?
-        } else {
-            return Err(Fail::from("the list does not fit"));
-        };
-        assert_eq!(rt; old.is_some(), is_listed, "{text}{word}");
-        assert!(rt;
-            is_extended_as(alloc, &dictionary, &book, &word)?,
-            "{text}{word}"
-        );
-        compared.note(&text, 5, !takes_out, takes_out && is_listed);
-        changed = changed.saturating_add(u32::from(has_change && !takes_out));
+        let mismatch = extended_round(rt.alloc(), &mut dice, &mut compared)?;
+        assert!(rt; mismatch.is_none(), "{mismatch:?}");
     }
-    assert_eq!(rt; compared.words, 10_000);
-    assert!(rt; compared.second > 200 && compared.set > 1_000 && compared.taken_out > 50);
-    assert!(rt; changed > 500);
+    assert!(rt; compared.is_enough() && compared.changed > 500);
     Ok(())
 }
