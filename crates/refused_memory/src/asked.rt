@@ -3,7 +3,7 @@
 use crate::step;
 use crate::texts::{CHANGES, FIRKIN, WORDS, dictionary};
 use hyphenation::Standard;
-use hyphenation::extended::Extended;
+use hyphenation::extended::{Extended, Subregion};
 use hyphenation::hyphenator::{Break, Hyphenator};
 use hyphenation::iter::joined::push_marked;
 use hyphenation::score::{LookUps, Score};
@@ -16,6 +16,61 @@ fn is_kept(count: &LookUps, bytes: u128, occurrences: u128) -> bool {
     count.made() <= bytes.saturating_add(2).saturating_mul(2) && count.reported() <= occurrences
 }
 
+/// Says what was scored, and whether its counts keep their bounds.
+fn write_scored<O: Write>(
+    answer: &Result<Vec<u8>, AllocError>,
+    kept: bool,
+    output: &mut O,
+) -> io::Result<()> {
+    match answer {
+        Ok(values) => {
+            for value in values {
+                write!(output, "{value} ")?;
+            }
+        }
+        Err(_) => output.write_all(b"no memory, ")?,
+    }
+    writeln!(output, "counts kept: {kept}")
+}
+
+fn score_standard<G: Read, O: Write>(
+    alloc: Global,
+    gate: &mut G,
+    output: &mut O,
+) -> io::Result<()> {
+    let mut count = LookUps::new();
+    let dictionary: Standard = dictionary(alloc, FIRKIN)?;
+    step(gate);
+    let answer = dictionary.score_counted(alloc, "firkins", &mut count);
+    step(gate);
+    write_scored(&answer, is_kept(&count, 7, 5), output)
+}
+
+/// The values alone, without their changes; refused where the scores were.
+fn values_of(
+    alloc: Global,
+    answer: Result<Vec<(u8, Option<&Subregion>)>, AllocError>,
+) -> Result<Vec<u8>, AllocError> {
+    let mut values = Vec::new(alloc);
+    for (value, _) in answer? {
+        values.push(value)?;
+    }
+    Ok(values)
+}
+
+fn score_extended<G: Read, O: Write>(
+    alloc: Global,
+    gate: &mut G,
+    output: &mut O,
+) -> io::Result<()> {
+    let mut count = LookUps::new();
+    let dictionary: Extended = dictionary(alloc, CHANGES)?;
+    step(gate);
+    let answer = dictionary.score_counted(alloc, "cabd", &mut count);
+    step(gate);
+    write_scored(&values_of(alloc, answer), is_kept(&count, 4, 2), output)
+}
+
 /// `score_counted`, and whether its counts keep their bounds.
 pub fn score<G: Read, O: Write>(
     alloc: Global,
@@ -23,40 +78,10 @@ pub fn score<G: Read, O: Write>(
     gate: &mut G,
     output: &mut O,
 ) -> io::Result<()> {
-    let mut count = LookUps::new();
-    let kept = match which {
-        "standard" => {
-            let dictionary: Standard = dictionary(alloc, FIRKIN)?;
-            step(gate);
-            let answer = dictionary.score_counted(alloc, "firkins", &mut count);
-            step(gate);
-            match answer {
-                Ok(values) => {
-                    for value in &values {
-                        write!(output, "{value} ")?;
-                    }
-                }
-                Err(_) => output.write_all(b"no memory, ")?,
-            }
-            is_kept(&count, 7, 5)
-        }
-        _ => {
-            let dictionary: Extended = dictionary(alloc, CHANGES)?;
-            step(gate);
-            let answer = dictionary.score_counted(alloc, "cabd", &mut count);
-            step(gate);
-            match answer {
-                Ok(values) => {
-                    for (value, _) in &values {
-                        write!(output, "{value} ")?;
-                    }
-                }
-                Err(_) => output.write_all(b"no memory, ")?,
-            }
-            is_kept(&count, 4, 2)
-        }
-    };
-    writeln!(output, "counts kept: {kept}")
+    match which {
+        "standard" => score_standard(alloc, gate, output),
+        _ => score_extended(alloc, gate, output),
+    }
 }
 
 fn hyphenate_by<'h, H: Hyphenator<'h>, G: Read, O: Write>(

@@ -71,6 +71,33 @@ fn add_plain<G: Read, O: Write>(
     write_added(answer, output)
 }
 
+fn add_first<G: Read, O: Write>(alloc: Global, gate: &mut G, output: &mut O) -> io::Result<()> {
+    let mut firkin: Standard = dictionary(alloc, FIRKIN)?;
+    add_place(alloc, &mut firkin, 3, gate, output)?;
+    write_marked(alloc, &firkin, "firkins", output)
+}
+
+fn add_second<G: Read, O: Write>(alloc: Global, gate: &mut G, output: &mut O) -> io::Result<()> {
+    let mut firkin: Standard = dictionary(alloc, FIRKIN)?;
+    let places = vec![in alloc; 3]?;
+    if Standard::fits("firkins", &places) {
+        let _ = firkin.add_exception(String::from_str(alloc, "firkins")?, places)?;
+    }
+    add_place(alloc, &mut firkin, 4, gate, output)?;
+    write_marked(alloc, &firkin, "firkins", output)
+}
+
+fn add_extended<G: Read, O: Write>(
+    alloc: Global,
+    word: &str,
+    gate: &mut G,
+    output: &mut O,
+) -> io::Result<()> {
+    let mut changes: Extended = dictionary(alloc, CHANGES)?;
+    add_plain(alloc, &mut changes, word, gate, output)?;
+    write_marked(alloc, &changes, word, output)
+}
+
 /// `add_exception` of a word that was none, and of one that was, and what the word's breaks are then.
 pub fn add<G: Read, O: Write>(
     alloc: Global,
@@ -79,30 +106,10 @@ pub fn add<G: Read, O: Write>(
     output: &mut O,
 ) -> io::Result<()> {
     match which {
-        "first" => {
-            let mut firkin: Standard = dictionary(alloc, FIRKIN)?;
-            add_place(alloc, &mut firkin, 3, gate, output)?;
-            write_marked(alloc, &firkin, "firkins", output)
-        }
-        "second" => {
-            let mut firkin: Standard = dictionary(alloc, FIRKIN)?;
-            let places = vec![in alloc; 3]?;
-            if Standard::fits("firkins", &places) {
-                let _ = firkin.add_exception(String::from_str(alloc, "firkins")?, places)?;
-            }
-            add_place(alloc, &mut firkin, 4, gate, output)?;
-            write_marked(alloc, &firkin, "firkins", output)
-        }
-        "extended first" => {
-            let mut changes: Extended = dictionary(alloc, CHANGES)?;
-            add_plain(alloc, &mut changes, "kabab", gate, output)?;
-            write_marked(alloc, &changes, "kabab", output)
-        }
-        _ => {
-            let mut changes: Extended = dictionary(alloc, CHANGES)?;
-            add_plain(alloc, &mut changes, "asszonnyal", gate, output)?;
-            write_marked(alloc, &changes, "asszonnyal", output)
-        }
+        "first" => add_first(alloc, gate, output),
+        "second" => add_second(alloc, gate, output),
+        "extended first" => add_extended(alloc, "kabab", gate, output),
+        _ => add_extended(alloc, "asszonnyal", gate, output),
     }
 }
 
@@ -206,6 +213,33 @@ fn items<'m, I: Texts, G: Read, O: Write>(
     writeln!(output, "then none: {}", items.next().is_none())
 }
 
+fn items_of_lent<G: Read, O: Write>(alloc: Global, gate: &mut G, output: &mut O) -> io::Result<()> {
+    let words: Standard = dictionary(alloc, WORDS)?;
+    let word = words.hyphenate(alloc, "hyphenation")?;
+    items(alloc, word.iter(), "-", gate, output)
+}
+
+fn items_of_standard<G: Read, O: Write>(
+    alloc: Global,
+    mark: &str,
+    gate: &mut G,
+    output: &mut O,
+) -> io::Result<()> {
+    let words: Standard = dictionary(alloc, WORDS)?;
+    let word = words.hyphenate(alloc, "hyphenation")?;
+    items(alloc, word.into_iter(), mark, gate, output)
+}
+
+fn items_of_extended<G: Read, O: Write>(
+    alloc: Global,
+    gate: &mut G,
+    output: &mut O,
+) -> io::Result<()> {
+    let changes: Extended = dictionary(alloc, CHANGES)?;
+    let word = changes.hyphenate(alloc, "asszonnyal")?;
+    items(alloc, word.into_iter(), "-", gate, output)
+}
+
 /// Going through the segments of a word.
 pub fn iterate<G: Read, O: Write>(
     alloc: Global,
@@ -214,25 +248,9 @@ pub fn iterate<G: Read, O: Write>(
     output: &mut O,
 ) -> io::Result<()> {
     match which {
-        "lent" => {
-            let words: Standard = dictionary(alloc, WORDS)?;
-            let word = words.hyphenate(alloc, "hyphenation")?;
-            items(alloc, word.iter(), "-", gate, output)
-        }
-        "standard" => {
-            let words: Standard = dictionary(alloc, WORDS)?;
-            let word = words.hyphenate(alloc, "hyphenation")?;
-            items(alloc, word.into_iter(), "-", gate, output)
-        }
-        "marked" => {
-            let words: Standard = dictionary(alloc, WORDS)?;
-            let word = words.hyphenate(alloc, "hyphenation")?;
-            items(alloc, word.into_iter(), "=", gate, output)
-        }
-        _ => {
-            let changes: Extended = dictionary(alloc, CHANGES)?;
-            let word = changes.hyphenate(alloc, "asszonnyal")?;
-            items(alloc, word.into_iter(), "-", gate, output)
-        }
+        "lent" => items_of_lent(alloc, gate, output),
+        "standard" => items_of_standard(alloc, "-", gate, output),
+        "marked" => items_of_standard(alloc, "=", gate, output),
+        _ => items_of_extended(alloc, gate, output),
     }
 }

@@ -103,7 +103,7 @@ fn is_lent(item: Result<CowStr<'_>, AllocError>, text: &str) -> bool {
     }
 }
 
-fn of_segments<G: Read>(tally: &mut Tally, alloc: Global, gate: &mut G) -> io::Result<()> {
+fn of_marked_segments<G: Read>(tally: &mut Tally, alloc: Global, gate: &mut G) -> io::Result<()> {
     let dictionary: Standard = dictionary(alloc, WORDS)?;
     let word = dictionary.hyphenate(alloc, "hyphenation")?;
     step(gate);
@@ -112,7 +112,15 @@ fn of_segments<G: Read>(tally: &mut Tally, alloc: Global, gate: &mut G) -> io::R
     tally.note(items.len() == 4 && items.size_hint() == (4, Some(4)));
     let copy = items.clone()?;
     tally.note(copy.len() == 4);
-    let mut segments = items.segments();
+    step(gate);
+    Ok(())
+}
+
+fn of_segments<G: Read>(tally: &mut Tally, alloc: Global, gate: &mut G) -> io::Result<()> {
+    let dictionary: Standard = dictionary(alloc, WORDS)?;
+    let word = dictionary.hyphenate(alloc, "hyphenation")?;
+    step(gate);
+    let mut segments = word.iter().segments();
     tally.note(segments.next() == Some("hy"));
     tally.note(segments.pull() == Some("phen"));
     tally.note(segments.len() == 2 && segments.left() == 2);
@@ -168,24 +176,32 @@ fn of_texts(tally: &mut Tally) {
     tally.note(matches!(lent.text(), Ok("ab")));
 }
 
+fn of_dictionaries<G: Read>(tally: &mut Tally, alloc: Global, gate: &mut G) -> io::Result<()> {
+    let mut words: Standard = dictionary(alloc, WORDS)?;
+    let mut changes: Extended = dictionary(alloc, CHANGES)?;
+    let substitution = String::from_str(alloc, "szsz")?;
+    step(gate);
+    of_standard(tally, &mut words);
+    of_extended(tally, &mut changes);
+    of_breaks(tally, substitution);
+    step(gate);
+    Ok(())
+}
+
 /// Each call that takes no memory, and whether all answered as they have to.
 pub fn without_memory<G: Read, O: Write>(
     alloc: Global,
     gate: &mut G,
     output: &mut O,
 ) -> io::Result<()> {
-    let mut words: Standard = dictionary(alloc, WORDS)?;
-    let mut changes: Extended = dictionary(alloc, CHANGES)?;
-    let substitution = String::from_str(alloc, "szsz")?;
     let mut tally = Tally { asked: 0, right: 0 };
     step(gate);
     of_names(&mut tally);
     of_words(&mut tally, alloc);
-    of_standard(&mut tally, &mut words);
-    of_extended(&mut tally, &mut changes);
-    of_breaks(&mut tally, substitution);
     of_texts(&mut tally);
     step(gate);
+    of_dictionaries(&mut tally, alloc, gate)?;
+    of_marked_segments(&mut tally, alloc, gate)?;
     of_segments(&mut tally, alloc, gate)?;
     of_changed_segments(&mut tally, alloc, gate)?;
     of_owned_breaks(&mut tally, alloc, gate)?;
