@@ -13,18 +13,47 @@ struct Answer {
     faults: Vec<u8>,
 }
 
+impl Answer {
+    fn is(&self, status: u8, output: &[u8], faults: &[u8]) -> bool {
+        self.status == status
+            && self.output.as_slice() == output
+            && self.faults.as_slice() == faults
+    }
+
+    /// The dictionary is at fault, and nothing is written.
+    fn names_the_dictionary(&self) -> bool {
+        self.status == 3 && self.output.is_empty() && self.faults.starts_with(b"hyphenate: ")
+    }
+}
+
 fn answer_to(rt: &HostRuntime, words: &[&str]) -> Answer {
     answer_over(rt, words, b"")
 }
 
 fn answer_over(rt: &HostRuntime, words: &[&str], text: &[u8]) -> Answer {
+    let mut input = text;
+    answer_by(rt, words, &mut input)
+}
+
+fn answer_by<R: Read>(rt: &HostRuntime, words: &[&str], input: &mut R) -> Answer {
     let mut output: Vec<u8> = Vec::new(rt.alloc());
     let mut faults: Vec<u8> = Vec::new(rt.alloc());
-    let mut input = text;
-    let status = answer(rt, rt.alloc(), words, &mut input, &mut output, &mut faults);
+    let status = answer(rt, rt.alloc(), words, input, &mut output, &mut faults);
     Answer {
         status,
         output,
+        faults,
+    }
+}
+
+/// The same with a standard output that takes nothing.
+fn answer_in_vain(rt: &HostRuntime, words: &[&str], text: &[u8]) -> Answer {
+    let mut input = text;
+    let mut faults: Vec<u8> = Vec::new(rt.alloc());
+    let status = answer(rt, rt.alloc(), words, &mut input, &mut Full, &mut faults);
+    Answer {
+        status,
+        output: Vec::new(rt.alloc()),
         faults,
     }
 }
@@ -46,6 +75,22 @@ fn changed_score_by(rt: &HostRuntime, path: &str, word: &str) -> Answer {
     answer_to(rt, &["score", "extended", "hu", path, word])
 }
 
+/// Whether a dictionary of these bytes is refused with that message behind its path.
+fn is_refused(
+    rt: &HostRuntime,
+    kind: &str,
+    code: &str,
+    name: &str,
+    bytes: &[u8],
+    message: &str,
+) -> Result<bool, Fail> {
+    let path = file(rt, name, bytes)?;
+    let given = answer_to(rt, &["score", kind, code, path.as_str(), "firkin"]);
+    let expected = format!(in rt.alloc(); "hyphenate: {path}: {message}")?;
+    fs::remove_file(rt, path.as_str())?;
+    Ok(given.is(3, b"", expected.as_bytes()))
+}
+
 #[test]
 fn a_score_is_written(rt: HostRuntime) -> Result<(), Fail> {
     let path = file(&rt, "firkin", FIRKIN.as_bytes())?;
@@ -57,9 +102,7 @@ fn a_score_is_written(rt: HostRuntime) -> Result<(), Fail> {
     ];
     for (word, line) in cases {
         let given = score_by(&rt, &path, word);
-        assert_eq!(rt; given.status, 0, "{word}");
-        assert_eq!(rt; given.output.as_slice(), line.as_bytes(), "{word}");
-        assert_eq!(rt; given.faults.len(), 0);
+        assert!(rt; given.is(0, line.as_bytes(), b""), "{word}");
     }
     fs::remove_file(&rt, path.as_str())?;
     Ok(())
@@ -73,9 +116,7 @@ fn a_score_by_an_extended_dictionary_is_written(rt: HostRuntime) -> Result<(), F
     let cases: [(&str, &str); 3] = [("cabd", "0 1 0\n"), ("abd", "1 0\n"), ("", "\n")];
     for (word, line) in cases {
         let given = changed_score_by(&rt, &path, word);
-        assert_eq!(rt; given.status, 0, "{word}");
-        assert_eq!(rt; given.output.as_slice(), line.as_bytes(), "{word}");
-        assert_eq!(rt; given.faults.len(), 0);
+        assert!(rt; given.is(0, line.as_bytes(), b""), "{word}");
     }
     fs::remove_file(&rt, path.as_str())?;
     Ok(())
@@ -103,13 +144,10 @@ fn an_extended_dictionary_that_is_refused_is_named_with_its_fault(
         ),
     ];
     for (name, bytes, message) in cases {
-        let path = file(&rt, name, bytes)?;
-        let given = changed_score_by(&rt, &path, "cabd");
-        let expected = format!(in rt.alloc(); "hyphenate: {path}: {message}")?;
-        assert_eq!(rt; given.status, 3, "{name}");
-        assert_eq!(rt; given.output.len(), 0, "{name}");
-        assert_eq!(rt; given.faults.as_slice(), expected.as_bytes(), "{name}");
-        fs::remove_file(&rt, path.as_str())?;
+        assert!(rt;
+            is_refused(&rt, "extended", "hu", name, bytes, message)?,
+            "{name}"
+        );
     }
     Ok(())
 }
@@ -143,11 +181,12 @@ fn other_words_are_answered_by_the_usage(rt: HostRuntime) {
     ];
     for words in cases {
         let given = answer_to(&rt, words);
-        assert_eq!(rt; given.status, 2, "{words:?}");
-        assert_eq!(rt; given.output.len(), 0);
-        assert_eq!(rt;
-            given.faults.as_slice(),
-            b"usage: hyphenate KIND CODE PATH MARK [EDIT..]\n       hyphenate score KIND CODE PATH WORD\n       hyphenate fill CODE PATH COLUMNS\n".as_slice(),
+        assert!(rt;
+            given.is(
+                2,
+                b"",
+                b"usage: hyphenate KIND CODE PATH MARK [EDIT..]\n       hyphenate score KIND CODE PATH WORD\n       hyphenate fill CODE PATH COLUMNS\n"
+            ),
             "{words:?}"
         );
     }
@@ -184,13 +223,10 @@ fn a_dictionary_that_is_refused_is_named_with_its_fault(rt: HostRuntime) -> Resu
         ),
     ];
     for (name, bytes, message) in cases {
-        let path = file(&rt, name, bytes)?;
-        let given = score_by(&rt, &path, "firkin");
-        let expected = format!(in rt.alloc(); "hyphenate: {path}: {message}")?;
-        assert_eq!(rt; given.status, 3, "{name}");
-        assert_eq!(rt; given.output.len(), 0, "{name}");
-        assert_eq!(rt; given.faults.as_slice(), expected.as_bytes(), "{name}");
-        fs::remove_file(&rt, path.as_str())?;
+        assert!(rt;
+            is_refused(&rt, "standard", "en-gb", name, bytes, message)?,
+            "{name}"
+        );
     }
     Ok(())
 }
@@ -199,17 +235,11 @@ fn a_dictionary_that_is_refused_is_named_with_its_fault(rt: HostRuntime) -> Resu
 fn a_path_that_is_missing_or_a_folder_is_a_fault_of_the_dictionary(rt: HostRuntime) {
     for path in ["no/such/dictionary.txt", ".", "", "/"] {
         let given = score_by(&rt, path, "firkin");
-        assert_eq!(rt; given.status, 3, "{path}");
-        assert_eq!(rt; given.output.len(), 0);
-        assert!(rt; given.faults.starts_with(b"hyphenate: "), "{path}");
+        assert!(rt; given.names_the_dictionary(), "{path}");
         let given = answer_over(&rt, &["standard", "en-gb", path, "-", "*"], b"\xff");
-        assert_eq!(rt; given.status, 3, "{path}");
-        assert_eq!(rt; given.output.len(), 0);
-        assert!(rt; given.faults.starts_with(b"hyphenate: "), "{path}");
+        assert!(rt; given.names_the_dictionary(), "{path}");
         let given = answer_over(&rt, &["fill", "en-gb", path, "72"], b"\xff");
-        assert_eq!(rt; given.status, 3, "{path}");
-        assert_eq!(rt; given.output.len(), 0);
-        assert!(rt; given.faults.starts_with(b"hyphenate: "), "{path}");
+        assert!(rt; given.names_the_dictionary(), "{path}");
     }
 }
 
@@ -245,9 +275,7 @@ fn a_text_is_hyphenated_behind_edits(rt: HostRuntime) -> Result<(), Fail> {
     ];
     for (rest, wanted) in cases {
         let given = hyphenated_by(&rt, "standard", "en-gb", &path, rest, b"Firkin, firkins.\n")?;
-        assert_eq!(rt; given.status, 0, "{rest:?}");
-        assert_eq!(rt; given.output.as_slice(), wanted.as_bytes(), "{rest:?}");
-        assert_eq!(rt; given.faults.len(), 0);
+        assert!(rt; given.is(0, wanted.as_bytes(), b""), "{rest:?}");
     }
     fs::remove_file(&rt, path.as_str())?;
     Ok(())
@@ -278,13 +306,17 @@ fn a_text_that_is_refused_is_told_with_its_status(rt: HostRuntime) -> Result<(),
     ];
     for (rest, text, status, message) in cases {
         let given = hyphenated_by(&rt, "standard", "en-gb", &path, rest, text)?;
-        assert_eq!(rt; given.status, status, "{rest:?}");
-        assert_eq!(rt; given.output.len(), 0, "{rest:?}");
-        assert_eq!(rt; given.faults.as_slice(), message.as_bytes(), "{rest:?}");
+        assert!(rt; given.is(status, b"", message.as_bytes()), "{rest:?}");
     }
+    fs::remove_file(&rt, path.as_str())?;
+    Ok(())
+}
+
+#[test]
+fn another_language_is_told_before_the_edits(rt: HostRuntime) -> Result<(), Fail> {
+    let path = file(&rt, "mismatch", FIRKIN.as_bytes())?;
     let given = answer_over(&rt, &["standard", "hu", path.as_str(), "-", "*"], b"\xff");
-    assert_eq!(rt; given.status, 3);
-    assert_eq!(rt; given.output.len(), 0);
+    assert!(rt; given.names_the_dictionary());
     fs::remove_file(&rt, path.as_str())?;
     Ok(())
 }
@@ -312,28 +344,18 @@ fn an_input_that_cannot_be_read_is_told(rt: HostRuntime) -> Result<(), Fail> {
         (ErrorKind::OutOfMemory, 6, "hyphenate: no memory\n"),
     ];
     for (kind, status, message) in cases {
-        let mut output: Vec<u8> = Vec::new(rt.alloc());
-        let mut faults: Vec<u8> = Vec::new(rt.alloc());
-        let given = answer(
-            &rt,
-            rt.alloc(),
-            &words,
-            &mut Torn(kind),
-            &mut output,
-            &mut faults,
-        );
-        assert_eq!(rt; given, status);
-        assert_eq!(rt; output.len(), 0);
-        assert_eq!(rt; faults.as_slice(), message.as_bytes());
+        let given = answer_by(&rt, &words, &mut Torn(kind));
+        assert!(rt; given.is(status, b"", message.as_bytes()), "{message}");
     }
-    let mut input: &[u8] = b"firkin";
-    let mut faults: Vec<u8> = Vec::new(rt.alloc());
-    let given = answer(&rt, rt.alloc(), &words, &mut input, &mut Full, &mut faults);
-    assert_eq!(rt; given, 5);
-    assert_eq!(rt;
-        faults.as_slice(),
-        b"hyphenate: the result can't be written\n".as_slice()
-    );
+    fs::remove_file(&rt, path.as_str())?;
+    Ok(())
+}
+
+#[test]
+fn a_text_that_cannot_be_written_is_told(rt: HostRuntime) -> Result<(), Fail> {
+    let path = file(&rt, "unwritten", FIRKIN.as_bytes())?;
+    let given = answer_in_vain(&rt, &["standard", "en-gb", path.as_str(), "-"], b"firkin");
+    assert!(rt; given.is(5, b"", b"hyphenate: the result can't be written\n"));
     fs::remove_file(&rt, path.as_str())?;
     Ok(())
 }
@@ -351,9 +373,7 @@ fn a_text_is_hyphenated_by_an_extended_dictionary(rt: HostRuntime) -> Result<(),
     ];
     for (rest, wanted) in cases {
         let given = hyphenated_by(&rt, "extended", "hu", &path, rest, b"Az asszonnyal.\r\n")?;
-        assert_eq!(rt; given.status, 0, "{rest:?}");
-        assert_eq!(rt; given.output.as_slice(), wanted.as_bytes(), "{rest:?}");
-        assert_eq!(rt; given.faults.len(), 0);
+        assert!(rt; given.is(0, wanted.as_bytes(), b""), "{rest:?}");
     }
     fs::remove_file(&rt, path.as_str())?;
     Ok(())
@@ -374,31 +394,27 @@ impl Write for Full {
 }
 
 #[test]
-fn a_result_that_cannot_be_written_is_told_and_a_message_that_cannot_is_not(
-    rt: HostRuntime,
-) -> Result<(), Fail> {
+fn a_score_that_cannot_be_written_is_told(rt: HostRuntime) -> Result<(), Fail> {
     let path = file(&rt, "output", FIRKIN.as_bytes())?;
     let words = ["score", "standard", "en-gb", path.as_str(), "firkin"];
+    let given = answer_in_vain(&rt, &words, b"");
+    assert!(rt; given.is(5, b"", b"hyphenate: the result can't be written\n"));
+    fs::remove_file(&rt, path.as_str())?;
+    Ok(())
+}
+
+/// The status where neither a result nor a message can be written.
+fn status_in_silence(rt: &HostRuntime, words: &[&str]) -> u8 {
     let mut input: &[u8] = b"";
-    let mut faults: Vec<u8> = Vec::new(rt.alloc());
-    let status = answer(&rt, rt.alloc(), &words, &mut input, &mut Full, &mut faults);
-    assert_eq!(rt; status, 5);
-    assert_eq!(rt;
-        faults.as_slice(),
-        b"hyphenate: the result can't be written\n".as_slice()
-    );
-    let status = answer(&rt, rt.alloc(), &words, &mut input, &mut Full, &mut Full);
-    assert_eq!(rt; status, 5);
-    let mut output: Vec<u8> = Vec::new(rt.alloc());
-    let status = answer(
-        &rt,
-        rt.alloc(),
-        &["score"],
-        &mut input,
-        &mut output,
-        &mut Full,
-    );
-    assert_eq!(rt; status, 2);
+    answer(rt, rt.alloc(), words, &mut input, &mut Full, &mut Full)
+}
+
+#[test]
+fn a_message_that_cannot_be_written_leaves_the_status(rt: HostRuntime) -> Result<(), Fail> {
+    let path = file(&rt, "message", FIRKIN.as_bytes())?;
+    let words = ["score", "standard", "en-gb", path.as_str(), "firkin"];
+    assert_eq!(rt; status_in_silence(&rt, &words), 5);
+    assert_eq!(rt; status_in_silence(&rt, &["score"]), 2);
     fs::remove_file(&rt, path.as_str())?;
     Ok(())
 }
@@ -424,9 +440,7 @@ fn a_text_is_filled(rt: HostRuntime) -> Result<(), Fail> {
     ];
     for (columns, text, wanted) in cases {
         let given = filled_by(&rt, &path, columns, text.as_bytes());
-        assert_eq!(rt; given.status, 0, "{columns}");
-        assert_eq!(rt; given.output.as_slice(), wanted.as_bytes(), "{columns}");
-        assert_eq!(rt; given.faults.len(), 0);
+        assert!(rt; given.is(0, wanted.as_bytes(), b""), "{columns}");
     }
     fs::remove_file(&rt, path.as_str())?;
     Ok(())
@@ -435,42 +449,29 @@ fn a_text_is_filled(rt: HostRuntime) -> Result<(), Fail> {
 #[test]
 fn a_text_that_cannot_be_filled_is_told_with_its_status(rt: HostRuntime) -> Result<(), Fail> {
     let path = file(&rt, "unfilled", VERSE.as_bytes())?;
-    let given = answer_over(&rt, &["fill", "en-us", path.as_str(), "72"], b"\xff");
-    assert_eq!(rt; given.status, 3);
-    assert_eq!(rt; given.output.len(), 0);
     let words = ["fill", "en-gb", path.as_str(), "72"];
     let given = answer_over(&rt, &words, b"noble \xff");
-    assert_eq!(rt; given.status, 4);
-    assert_eq!(rt; given.output.len(), 0);
-    assert_eq!(rt;
-        given.faults.as_slice(),
-        b"hyphenate: the text is not UTF-8\n".as_slice()
-    );
-    let mut output: Vec<u8> = Vec::new(rt.alloc());
-    let mut faults: Vec<u8> = Vec::new(rt.alloc());
-    let mut input = Torn(ErrorKind::ConnectionReset);
-    let given = answer(
-        &rt,
-        rt.alloc(),
-        &words,
-        &mut input,
-        &mut output,
-        &mut faults,
-    );
-    assert_eq!(rt; given, 5);
-    assert_eq!(rt; output.len(), 0);
-    assert_eq!(rt;
-        faults.as_slice(),
-        b"hyphenate: the text can't be read\n".as_slice()
-    );
-    let mut text: &[u8] = b"noble";
-    let mut faults: Vec<u8> = Vec::new(rt.alloc());
-    let given = answer(&rt, rt.alloc(), &words, &mut text, &mut Full, &mut faults);
-    assert_eq!(rt; given, 5);
-    assert_eq!(rt;
-        faults.as_slice(),
-        b"hyphenate: the result can't be written\n".as_slice()
-    );
+    assert!(rt; given.is(4, b"", b"hyphenate: the text is not UTF-8\n"));
+    let given = answer_by(&rt, &words, &mut Torn(ErrorKind::ConnectionReset));
+    assert!(rt; given.is(5, b"", b"hyphenate: the text can't be read\n"));
+    fs::remove_file(&rt, path.as_str())?;
+    Ok(())
+}
+
+#[test]
+fn lines_that_cannot_be_written_are_told(rt: HostRuntime) -> Result<(), Fail> {
+    let path = file(&rt, "full", VERSE.as_bytes())?;
+    let given = answer_in_vain(&rt, &["fill", "en-gb", path.as_str(), "72"], b"noble");
+    assert!(rt; given.is(5, b"", b"hyphenate: the result can't be written\n"));
+    fs::remove_file(&rt, path.as_str())?;
+    Ok(())
+}
+
+#[test]
+fn a_text_is_not_filled_by_another_language(rt: HostRuntime) -> Result<(), Fail> {
+    let path = file(&rt, "other-language", VERSE.as_bytes())?;
+    let given = answer_over(&rt, &["fill", "en-us", path.as_str(), "72"], b"\xff");
+    assert!(rt; given.names_the_dictionary());
     fs::remove_file(&rt, path.as_str())?;
     Ok(())
 }
