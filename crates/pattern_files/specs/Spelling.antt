@@ -4,6 +4,7 @@ use Rattle.std.specs.Prelude.{◌≡◌, ℕ, ◌+◌, ◌-◌, ◌==◌, ◌&&�
 use Rattle.std.specs.Option.{option_or}
 use Rattle.std.specs.List.{list_any}
 use Rattle.std.specs.Str.{is_utf8}
+use Rattle.hyphenation.specs.Folding.{fold}
 use Rattle.hyphenation_commons.specs.Break.{Break, Change, plain}
 use Rattle.hyphenation_commons.specs.Kept.{has_letter, are_entries, are_listed}
 use Rattle.hyphenation_commons.specs.declared.dictionary.Entry.{Entry}
@@ -51,14 +52,19 @@ entries carries text = map (entry_of carries) (values_from 0 text)
 abbrev pub breaks : {B : Type 0} → (Break → B) → List ℕ → List B
 breaks lists text = map (λ place. lists (plain place)) (hyphens_from 0 text)
 
--- What a word of each group spells: a key with its entries, or a word with its breaks.
+-- A word with its capitals made small, as TeX makes them, and as `hyphenate` does with a word that it looks up. What is
+-- not UTF-8 has no capitals.
+abbrev pub folded : List ℕ → List ℕ
+folded text = if is_utf8 text then fold text else text
+
+-- What a word of each group spells, in small letters: a key with its entries, or a word with its breaks.
 abbrev pub pattern_of : {C : Type 0} → (Option Change → C) → Group → List ℕ → Option (List ℕ × List (Entry C))
-pattern_of carries Patterns text = Some (letters text, entries carries text)
+pattern_of carries Patterns text = Some (letters (folded text), entries carries (folded text))
 pattern_of carries Exceptions text = None
 
 abbrev pub exception_of : {B : Type 0} → (Break → B) → Group → List ℕ → Option (List ℕ × List B)
 exception_of lists Patterns text = None
-exception_of lists Exceptions text = Some (unhyphenated text, breaks lists text)
+exception_of lists Exceptions text = Some (unhyphenated (folded text), breaks lists (folded text))
 
 -- ---- What spells nothing.
 
@@ -116,7 +122,7 @@ abbrev pub letter_cause : Group → List ℕ → Option Cause
 letter_cause group text = if not (spells_letters group text) then Some NoLetters else (if not (keeps_characters group text) then Some NotUtf8 else None)
 
 abbrev pub cause_of : Group → List ℕ → Option Cause
-cause_of group text = option_or (sign_cause group text) (letter_cause group text)
+cause_of group text = option_or (sign_cause group text) (letter_cause group (folded text))
 
 -- Want of memory, or that very test.
 abbrev pub IsWordFault : WordFault → Option Cause → Type 0

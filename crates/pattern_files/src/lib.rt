@@ -24,6 +24,7 @@ mod charset;
 pub mod convert;
 pub mod fault;
 pub mod group;
+pub mod laws;
 mod levels;
 pub mod libreoffice;
 pub mod notes;
