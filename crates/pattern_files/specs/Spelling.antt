@@ -82,8 +82,8 @@ is_ascii_letter b = (nat_le 65 b && nat_le b 90) || (nat_le 97 b && nat_le b 122
 abbrev pub is_mark : ℕ → Bool
 is_mark b = b == 39 || b == 45
 
--- A sign of ASCII that stands in no pattern, or in no word with hyphens: all but letters, apostrophes and hyphens, and in
--- a pattern dots and digits.
+-- A sign of ASCII that stands in no pattern, or in no word with hyphens: all but letters, apostrophes and hyphens, and
+-- in a pattern dots and digits.
 abbrev pub is_sign : Group → ℕ → Bool
 is_sign Patterns b = nat_lt b 128 && not (is_ascii_letter b || is_mark b || is_digit b || b == 46)
 is_sign Exceptions b = nat_lt b 128 && not (is_ascii_letter b || is_mark b)
@@ -96,7 +96,8 @@ says_place Exceptions b = b == 45
 -- Two of them stand in succession, behind one or not.
 abbrev pub two_in_one_place : Group → Bool → List ℕ → Bool
 two_in_one_place group behind [] = false
-two_in_one_place group behind (b ∷ bs) = (behind && says_place group b) || two_in_one_place group (says_place group b) bs
+two_in_one_place group behind (b ∷ bs) =
+    (behind && says_place group b) || two_in_one_place group (says_place group b) bs
 
 abbrev pub spells_letters : Group → List ℕ → Bool
 spells_letters Patterns text = has_letter (letters text)
@@ -107,8 +108,10 @@ abbrev pub carries_nothing : Option Change → Option Change
 carries_nothing change = None
 
 abbrev pub keeps_characters : Group → List ℕ → Bool
-keeps_characters Patterns text = is_utf8 (letters text) && are_entries (λ change. change) (letters text) 0 (entries carries_nothing text)
-keeps_characters Exceptions text = is_utf8 (unhyphenated text) && are_listed plain (unhyphenated text) 0 (hyphens_from 0 text)
+keeps_characters Patterns text =
+    is_utf8 (letters text) && are_entries (λ change. change) (letters text) 0 (entries carries_nothing text)
+keeps_characters Exceptions text =
+    is_utf8 (unhyphenated text) && are_listed plain (unhyphenated text) 0 (hyphens_from 0 text)
 
 -- The first test that a word of a group fails: first those of its signs.
 abbrev pub sign_cause : Group → List ℕ → Option Cause
@@ -119,7 +122,9 @@ sign_cause group text =
     else (if two_in_one_place group false text then Some TwoInOnePlace else None)))
 
 abbrev pub letter_cause : Group → List ℕ → Option Cause
-letter_cause group text = if not (spells_letters group text) then Some NoLetters else (if not (keeps_characters group text) then Some NotUtf8 else None)
+letter_cause group text =
+    if not (spells_letters group text) then Some NoLetters
+    else (if not (keeps_characters group text) then Some NotUtf8 else None)
 
 abbrev pub cause_of : Group → List ℕ → Option Cause
 cause_of group text = option_or (sign_cause group text) (letter_cause group (folded text))

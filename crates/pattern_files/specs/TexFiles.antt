@@ -5,7 +5,7 @@ use Rattle.pattern_files.specs.Converting.{words_of, group_fault}
 use Rattle.pattern_files.specs.Groups.{GroupWord, is_space}
 use Rattle.pattern_files.specs.declared.fault.Cause.{Cause}
 use Rattle.pattern_files.specs.declared.fault.Cause.TheVariants.{Input, Unclosed}
-use Rattle.pattern_files.specs.declared.group.Form.TheVariants.{Tex}
+use Rattle.pattern_files.specs.declared.group.Form.TheVariants.{Tex, Plain}
 use Rattle.pattern_files.specs.declared.group.Group.{Group}
 use Rattle.pattern_files.specs.declared.group.Group.TheVariants.{Patterns, Exceptions}
 
@@ -106,3 +106,8 @@ abbrev pub HasFaultOfInput : Type 0
 HasFaultOfInput = (before after : List ℕ) → IsOutside before
     → (words_of Tex (before ++ codes "\\input " ++ after) ≡ [])
     × (group_fault Tex (before ++ codes "\\input " ++ after) ≡ Some (1 + line_feeds before, Input))
+
+-- A plain file has the words between its white space.
+abbrev pub HasWordsBetween : Type 0
+HasWordsBetween = (group : Group) (text : List ℕ) → IsInside text
+    → words_of (Plain group) text ≡ words_between group 1 text

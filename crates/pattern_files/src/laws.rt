@@ -6,9 +6,8 @@
 ghost use Rattle.std.specs.Prelude.{◌≡◌, List, ℕ, [], None};
 ghost use Rattle.pattern_files.specs.Converting.{words_of, group_fault};
 ghost use Rattle.pattern_files.specs.declared.group.Form.{Form};
-ghost use Rattle.pattern_files.specs.declared.group.Form.TheVariants.{Tex, Plain};
-ghost use Rattle.pattern_files.specs.declared.group.Group.{Group};
-ghost use Rattle.pattern_files.specs.TexFiles.{IsOutside, IsInside, words_between, IgnoresComments, IgnoresLastComment, HasWordsOfFirstGroupAndRest, HasFaultOfRest, HasWordsOfOpenGroup, HasFaultOfOpenGroup, HasNothingBehindItsEnd, HasFaultOfInput};
+ghost use Rattle.pattern_files.specs.declared.group.Form.TheVariants.{Tex};
+ghost use Rattle.pattern_files.specs.TexFiles.{IsOutside, IgnoresComments, IgnoresLastComment, HasWordsOfFirstGroupAndRest, HasFaultOfRest, HasWordsOfOpenGroup, HasFaultOfOpenGroup, HasNothingBehindItsEnd, HasFaultOfInput, HasWordsBetween};
 
 /// Comments say nothing: a file has the same words, on the same lines, and the same fault with them and without them.
 pub fn comments_say_nothing()
@@ -45,5 +44,5 @@ pub fn the_end_is_the_end()
 
 /// A plain file has the words between its white space.
 pub fn plain_files_are_words()
-    ensures words { (group : Group) (text : List ℕ) → IsInside text → words_of (Plain group) text ≡ words_between group 1 text }
+    ensures words { HasWordsBetween }
 {}
