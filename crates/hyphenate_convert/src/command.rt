@@ -3,7 +3,7 @@
 #[cfg(test)]
 mod tests;
 
-use crate::request::{Request, Sort, form_of};
+use crate::request::{Misfit, Request, Sort, form_of};
 use hyphenation::engine::Kind;
 use hyphenation::load::{Error, Load};
 use hyphenation_commons::dictionary::{Carried, Dictionary, Listed};
@@ -13,7 +13,7 @@ use pattern_files::fault::Refusal;
 use pattern_files::group::{File, Form};
 use pattern_files::libreoffice::{Converted, convert_dic};
 use pattern_files::notes::Note;
-use pattern_files::told::{minima_of, notes_of};
+use pattern_files::told::{minima_for, notes_of};
 use std::alloc::{AllocError, Global};
 use std::fs::Files;
 use std::io::{ErrorKind, Read, Write};
@@ -89,18 +89,6 @@ fn formed<'a>(
     Ok(formed)
 }
 
-/// The minima that are asked for, or those that a file says.
-fn minima_for(request: &Request<'_>, files: &[File<'_>]) -> Option<(u8, u8)> {
-    let mut left = request.left;
-    let mut right = request.right;
-    for file in files {
-        let told = minima_of(file.bytes);
-        left = left.or(told.left);
-        right = right.or(told.right);
-    }
-    Some((left?, right?))
-}
-
 /// The dictionary of TeX's files.
 fn convert_tex<C: Carried, B: Listed>(
     alloc: Global,
@@ -108,12 +96,14 @@ fn convert_tex<C: Carried, B: Listed>(
     bytes: &[Vec<u8>],
 ) -> Result<Converted<C, B>, Failure> {
     let files = formed(alloc, request.paths, bytes)?;
-    let (left, right) = minima_for(request, &files).unwrap_or((0, 0));
+    let minima = minima_for(request.left, request.right, &files);
+    // a file that can't be understood is told of before the minima are missed
+    let (left, right) = minima.unwrap_or((0, 0));
     let dictionary: Dictionary<C, B> = convert(alloc, request.language, left, right, &files)?;
-    let notes = notes_of(alloc, &files)?;
-    if minima_for(request, &files).is_none() {
+    if minima.is_none() {
         return Err(Failure::Minima);
     }
+    let notes = notes_of(alloc, &files)?;
     Ok(Converted { dictionary, notes })
 }
 
@@ -240,6 +230,29 @@ pub fn report_words<E: Write>(fault: &io::Error, faults: &mut E) -> u8 {
     }
 }
 
+/// Writes why the words ask for nothing, and gives the status.
+fn report_misfit<E: Write>(words: &[&str], misfit: Misfit, faults: &mut E) -> u8 {
+    let (index, why) = match misfit {
+        Misfit::Form => {
+            let _ = faults.write_all(USAGE.as_bytes());
+            return 2;
+        }
+        Misfit::Ending(index) => (
+            index,
+            "a file is .dic, .tex, .pat.txt or .hyp.txt, and this is none of them",
+        ),
+        Misfit::Beside(index) => (index, "a .dic is converted alone"),
+        Misfit::Language(index) => (
+            index,
+            "another language than the file before it, by its name",
+        ),
+    };
+    // the files stand behind four words
+    let path = words.get(index.saturating_add(4)).copied().unwrap_or("");
+    let _ = writeln!(faults, "hyphenate-convert: {path}: {why}");
+    2
+}
+
 /// Does what the words ask for, and gives the status to end with: 0 where it is done; 2 where the words are of no
 /// form, or the minima are missing; 3 where a file can't be opened, read or understood; 5 where the result can't be
 /// written; 6 where memory is wanting.
@@ -250,9 +263,9 @@ pub fn answer<F: Files, O: Write, E: Write>(
     output: &mut O,
     faults: &mut E,
 ) -> u8 {
-    let Some(request) = Request::from_words(words) else {
-        let _ = faults.write_all(USAGE.as_bytes());
-        return 2;
+    let request = match Request::from_words(words) {
+        Ok(request) => request,
+        Err(misfit) => return report_misfit(words, misfit, faults),
     };
     match run(rt, alloc, &request, output) {
         Ok(notes) => {

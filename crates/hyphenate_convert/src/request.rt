@@ -37,13 +37,71 @@ pub fn form_of(path: &str) -> Option<Form> {
     }
 }
 
-/// What the files are, by their paths; none where they are nothing that goes together.
-fn sort_of(paths: &[&str]) -> Option<Sort> {
+/// Why words ask for nothing.
+#[derive(Clone, Copy, Debug, PartialEq, Eq)]
+pub enum Misfit {
+    /// They are of no form.
+    Form,
+    /// The file of that number, counted from 0, is of no known form, by its ending.
+    Ending(usize),
+    /// A `.dic` that stands beside other files.
+    Beside(usize),
+    /// The name of that file has the tag of another language than an earlier one's.
+    Language(usize),
+}
+
+/// The tag of a language that a file's name has, as hyph-utf8 names its files: `hyph-TAG.tex`, `hyph-quote-TAG.tex`,
+/// `hyph-TAG.pat.txt`.
+fn tag_of(path: &str) -> Option<&str> {
+    let name = match path.rsplit_once('/') {
+        Some((_, name)) => name,
+        None => path,
+    };
+    let tag = name.strip_prefix("hyph-")?;
+    let tag = tag.strip_prefix("quote-").unwrap_or(tag);
+    let (tag, _) = tag.split_once('.')?;
+    Some(tag)
+}
+
+/// The first file of another language than those before it, as far as the names say.
+fn stranger(paths: &[&str]) -> Option<usize> {
+    let mut known = None;
+    for (index, path) in paths.iter().enumerate() {
+        match (known, tag_of(path)) {
+            (Some(first), Some(tag)) if first != tag => return Some(index),
+            (None, tag) => known = tag,
+            _ => {}
+        }
+    }
+    None
+}
+
+/// The first file of an ending that is not TeX's or a plain file's.
+fn unformed(paths: &[&str]) -> Option<Misfit> {
+    for (index, path) in paths.iter().enumerate() {
+        if path.ends_with(".dic") {
+            return Some(Misfit::Beside(index));
+        }
+        if form_of(path).is_none() {
+            return Some(Misfit::Ending(index));
+        }
+    }
+    None
+}
+
+/// What the files are, by their paths.
+fn sort_of(paths: &[&str]) -> Result<Sort, Misfit> {
     match paths {
-        [] => None,
-        [path] if path.ends_with(".dic") => Some(Sort::Dic),
-        _ if paths.iter().all(|path| form_of(path).is_some()) => Some(Sort::Tex),
-        _ => None,
+        [] => return Err(Misfit::Form),
+        [path] if path.ends_with(".dic") => return Ok(Sort::Dic),
+        _ => {}
+    }
+    if let Some(misfit) = unformed(paths) {
+        return Err(misfit);
+    }
+    match stranger(paths) {
+        Some(index) => Err(Misfit::Language(index)),
+        None => Ok(Sort::Tex),
     }
 }
 
@@ -59,15 +117,15 @@ fn minimum_of(text: &str) -> Option<Option<u8>> {
 }
 
 impl<'w> Request<'w> {
-    pub fn from_words(words: &'w [&'w str]) -> Option<Request<'w>> {
+    pub fn from_words(words: &'w [&'w str]) -> Result<Request<'w>, Misfit> {
         let [kind, code, left, right, paths @ ..] = words else {
-            return None;
+            return Err(Misfit::Form);
         };
-        Some(Request {
-            kind: Kind::from_name(kind)?,
-            language: Language::from_code(code)?,
-            left: minimum_of(left)?,
-            right: minimum_of(right)?,
+        Ok(Request {
+            kind: Kind::from_name(kind).ok_or(Misfit::Form)?,
+            language: Language::from_code(code).ok_or(Misfit::Form)?,
+            left: minimum_of(left).ok_or(Misfit::Form)?,
+            right: minimum_of(right).ok_or(Misfit::Form)?,
             sort: sort_of(paths)?,
             paths,
         })

@@ -9,6 +9,7 @@ use Rattle.hyphenation_commons.specs.declared.dictionary.Entry.{Entry}
 use Rattle.pattern_files.specs.Groups.{GroupWord, groups, plain_words, pieces_of}
 use Rattle.pattern_files.specs.Spelling.{cause_of, pattern_of, exception_of}
 use Rattle.pattern_files.specs.declared.fault.Cause.{Cause}
+use Rattle.pattern_files.specs.declared.fault.Cause.TheVariants.{Nothing}
 use Rattle.pattern_files.specs.declared.fault.LineFault.{LineFault}
 use Rattle.pattern_files.specs.declared.fault.LineFault.TheVariants.{NoMemory, OnLine}
 use Rattle.pattern_files.specs.declared.fault.Refusal.{Refusal}
@@ -40,36 +41,62 @@ spelled carries lists words = record {
 
 -- One after the other.
 abbrev pub followed : {C B : Type 0} → Spelled C B → Spelled C B → Spelled C B
-followed first more = record { patterns = first.patterns ++ more.patterns; exceptions = first.exceptions ++ more.exceptions }
+followed first more = record {
+  patterns = first.patterns ++ more.patterns;
+  exceptions = first.exceptions ++ more.exceptions;
+}
 
 -- The first word that fails a test: its line, and that test.
 abbrev pub first_fault : List GroupWord → Option (ℕ × Cause)
 first_fault [] = None
-first_fault (word ∷ words) = option_or (option_map (λ cause. (word.line, cause)) (cause_of word.group word.text)) (first_fault words)
+first_fault (word ∷ words) =
+    option_or (option_map (λ cause. (word.line, cause)) (cause_of word.group word.text)) (first_fault words)
 
--- A file's first fault: that of a word of its groups, or else of the groups.
+-- A file without a pattern and without an exception is faulty.
+abbrev pub empty_fault : List GroupWord → Option (ℕ × Cause)
+empty_fault [] = Some (1, Nothing)
+empty_fault (word ∷ words) = None
+
+-- A file's first fault: that of a word of its groups, or else of the groups, or else that it has no words.
 abbrev pub file_fault : Form → List ℕ → Option (ℕ × Cause)
-file_fault form bytes = option_or (first_fault (words_of form bytes)) (group_fault form bytes)
+file_fault form bytes =
+    option_or (option_or (first_fault (words_of form bytes)) (group_fault form bytes))
+    (empty_fault (words_of form bytes))
 
 -- The first fault of files: the number of the file, the line and the cause.
 abbrev pub fault_from : ℕ → List File → Option (ℕ × (ℕ × Cause))
 fault_from number [] = None
-fault_from number (file ∷ files) = option_or (option_map (λ fault. (number, fault)) (file_fault file.form file.bytes.now)) (fault_from (number + 1) files)
+fault_from number (file ∷ files) =
+    option_or (option_map (λ fault. (number, fault)) (file_fault file.form file.bytes.now))
+    (fault_from (number + 1) files)
 
 -- What files spell, one file after the other.
 abbrev pub spelled_in : {C B : Type 0} → (Option Change → C) → (Break → B) → List File → Spelled C B
 spelled_in carries lists [] = record { patterns = []; exceptions = [] }
-spelled_in carries lists (file ∷ files) = followed (spelled carries lists (words_of file.form file.bytes.now)) (spelled_in carries lists files)
+spelled_in carries lists (file ∷ files) =
+    followed (spelled carries lists (words_of file.form file.bytes.now)) (spelled_in carries lists files)
 
--- The dictionary of files: of a key and of a word that stands several times, the last one counts.
-abbrev pub contents_of : {C B : Type 0} → (Option Change → C) → (Break → B) → List ℕ → ℕ → ℕ → List File → Contents C B
-contents_of carries lists language left right files = record {
+-- A key with its entries more, and a word with its breaks more.
+abbrev pub with_key : {C B : Type 0} → Spelled C B → List ℕ × List (Entry C) → Spelled C B
+with_key now key = record { patterns = now.patterns ++ key ∷ []; exceptions = now.exceptions }
+
+abbrev pub with_word : {C B : Type 0} → Spelled C B → List ℕ × List B → Spelled C B
+with_word now word = record { patterns = now.patterns; exceptions = now.exceptions ++ word ∷ [] }
+
+-- The dictionary of what is spelled: of a key and of a word that stands several times, the last one counts.
+abbrev pub made : {C B : Type 0} → List ℕ → ℕ → ℕ → Spelled C B → Contents C B
+made language left right all = record {
   language = language;
   left = left;
   right = right;
-  patterns = last_said (spelled_in carries lists files).patterns;
-  exceptions = last_said (spelled_in carries lists files).exceptions;
+  patterns = last_said all.patterns;
+  exceptions = last_said all.exceptions;
 }
+
+-- The dictionary of files.
+abbrev pub contents_of : {C B : Type 0} → (Option Change → C) → (Break → B) → List ℕ → ℕ → ℕ → List File
+    → Contents C B
+contents_of carries lists language left right files = made language left right (spelled_in carries lists files)
 
 -- Want of memory, or that very fault.
 abbrev pub IsLineFault : LineFault → Option (ℕ × Cause) → Type 0
@@ -79,3 +106,8 @@ IsLineFault (OnLine line cause) fault = fault ≡ Some (line, cause)
 abbrev pub IsRefusal : Refusal → Option (ℕ × (ℕ × Cause)) → Type 0
 IsRefusal Memory fault = Unit {0}
 IsRefusal (Fault file line cause) fault = fault ≡ Some (file, (line, cause))
+
+-- Want of memory, or a fault of the file of that number.
+abbrev pub IsOfFile : ℕ → Refusal → Type 0
+IsOfFile number Memory = Unit {0}
+IsOfFile number (Fault file line cause) = file ≡ number

@@ -43,7 +43,8 @@ ended r next = record r { pieces = r.pieces ++ (record { line = r.line; text = r
 abbrev pub with_sign : Lexed → ℕ → Lexed
 with_sign r b =
     if is_space b then ended r []
-    else (if is_brace b then ended (ended r (b ∷ [])) [] else (if b == 92 then ended r (b ∷ []) else record r { last = r.last ++ b ∷ [] }))
+    else (if is_brace b then ended (ended r (b ∷ [])) []
+    else (if b == 92 then ended r (b ∷ []) else record r { last = r.last ++ b ∷ [] }))
 
 -- A line feed ends a line and its comment, which a percent sign begins.
 abbrev pub with_byte : Lexed → ℕ → Lexed
@@ -66,7 +67,8 @@ pub record GroupWord : Type 0 where
 abbrev pub shown_word : Word → GroupWord
 shown_word word = record { line = word.line; group = word.group; text = word.text.items }
 
--- The words of groups, where the next piece stands, whether the file has come to its end, and what is wrong with the groups.
+-- The words of groups, where the next piece stands, whether the file has come to its end, and what is wrong with the
+-- groups.
 pub record Found : Type 0 where
   pub words : List GroupWord
   pub place : Place
@@ -78,14 +80,19 @@ nothing_found = record { words = []; place = Outside; at_end = false; fault = No
 
 -- Where the next piece stands, behind one that stands outside of groups.
 abbrev pub behind : List ℕ → Place
-behind piece = if same piece (codes "\\patterns") then Before Patterns else (if same piece (codes "\\hyphenation") then Before Exceptions else Outside)
+behind piece =
+    if same piece (codes "\\patterns") then Before Patterns
+    else (if same piece (codes "\\hyphenation") then Before Exceptions else Outside)
 
--- A piece that stands there. A group is what stands in braces behind its command. A file ends at `\endinput` outside of groups.
+-- A piece that stands there. A group is what stands in braces behind its command. A file ends at `\endinput` outside of
+-- groups.
 abbrev pub with_piece_at : Place → Found → Piece → Found
 with_piece_at Outside found piece =
     if same piece.text (codes "\\input") then record found { at_end = true; fault = Some (piece.line, Input) }
-    else (if same piece.text (codes "\\endinput") then record found { at_end = true } else record found { place = behind piece.text })
-with_piece_at (Before group) found piece = record found { place = if same piece.text (codes "{") then Within group piece.line else behind piece.text }
+    else (if same piece.text (codes "\\endinput") then record found { at_end = true }
+    else record found { place = behind piece.text })
+with_piece_at (Before group) found piece =
+    record found { place = if same piece.text (codes "{") then Within group piece.line else behind piece.text }
 with_piece_at (Within group opened) found piece =
     if same piece.text (codes "}") then record found { place = Outside }
     else record found { words = found.words ++ (record { line = piece.line; group = group; text = piece.text }) ∷ [] }
@@ -105,7 +112,9 @@ groups pieces = let found = fold with_piece nothing_found pieces in closed_at fo
 
 -- A plain file is the inside of one group.
 abbrev pub with_plain : Group → List GroupWord → Piece → List GroupWord
-with_plain group words piece = if length piece.text == 0 then words else words ++ (record { line = piece.line; group = group; text = piece.text }) ∷ []
+with_plain group words piece =
+    if length piece.text == 0 then words
+    else words ++ (record { line = piece.line; group = group; text = piece.text }) ∷ []
 
 abbrev pub plain_words : Group → List Piece → List GroupWord
 plain_words group pieces = fold (with_plain group) [] pieces

@@ -11,7 +11,17 @@ abbrev pub shown_piece : Piece → groups.Piece
 shown_piece piece = record { line = piece.line; text = piece.text.items }
 
 abbrev pub shown_lexer : Lexer → Lexed
-shown_lexer lexer = record { line = lexer.line; in_comment = lexer.in_comment; pieces = map shown_piece lexer.pieces.items; last = lexer.last.items }
+shown_lexer lexer = record {
+  line = lexer.line;
+  in_comment = lexer.in_comment;
+  pieces = map shown_piece lexer.pieces.items;
+  last = lexer.last.items;
+}
 
 abbrev pub shown_scan : Scan → Found
-shown_scan scan = record { words = map shown_word scan.words.items; place = scan.place; at_end = scan.at_end; fault = scan.fault }
+shown_scan scan = record {
+  words = map shown_word scan.words.items;
+  place = scan.place;
+  at_end = scan.at_end;
+  fault = scan.fault;
+}

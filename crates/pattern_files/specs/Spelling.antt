@@ -4,6 +4,7 @@ use Rattle.std.specs.Prelude.{◌≡◌, ℕ, ◌+◌, ◌-◌, ◌==◌, ◌&&�
 use Rattle.std.specs.Option.{option_or}
 use Rattle.std.specs.List.{list_any}
 use Rattle.std.specs.Str.{is_utf8}
+use Rattle.hyphenation.specs.Folding.{fold}
 use Rattle.hyphenation_commons.specs.Break.{Break, Change, plain}
 use Rattle.hyphenation_commons.specs.Kept.{has_letter, are_entries, are_listed}
 use Rattle.hyphenation_commons.specs.declared.dictionary.Entry.{Entry}
@@ -51,14 +52,19 @@ entries carries text = map (entry_of carries) (values_from 0 text)
 abbrev pub breaks : {B : Type 0} → (Break → B) → List ℕ → List B
 breaks lists text = map (λ place. lists (plain place)) (hyphens_from 0 text)
 
--- What a word of each group spells: a key with its entries, or a word with its breaks.
+-- A word with its capitals made small, as TeX makes them, and as `hyphenate` does with a word that it looks up. What is
+-- not UTF-8 has no capitals.
+abbrev pub folded : List ℕ → List ℕ
+folded text = if is_utf8 text then fold text else text
+
+-- What a word of each group spells, in small letters: a key with its entries, or a word with its breaks.
 abbrev pub pattern_of : {C : Type 0} → (Option Change → C) → Group → List ℕ → Option (List ℕ × List (Entry C))
-pattern_of carries Patterns text = Some (letters text, entries carries text)
+pattern_of carries Patterns text = Some (letters (folded text), entries carries (folded text))
 pattern_of carries Exceptions text = None
 
 abbrev pub exception_of : {B : Type 0} → (Break → B) → Group → List ℕ → Option (List ℕ × List B)
 exception_of lists Patterns text = None
-exception_of lists Exceptions text = Some (unhyphenated text, breaks lists text)
+exception_of lists Exceptions text = Some (unhyphenated (folded text), breaks lists (folded text))
 
 -- ---- What spells nothing.
 
@@ -76,8 +82,8 @@ is_ascii_letter b = (nat_le 65 b && nat_le b 90) || (nat_le 97 b && nat_le b 122
 abbrev pub is_mark : ℕ → Bool
 is_mark b = b == 39 || b == 45
 
--- A sign of ASCII that stands in no pattern, or in no word with hyphens: all but letters, apostrophes and hyphens, and in
--- a pattern dots and digits.
+-- A sign of ASCII that stands in no pattern, or in no word with hyphens: all but letters, apostrophes and hyphens, and
+-- in a pattern dots and digits.
 abbrev pub is_sign : Group → ℕ → Bool
 is_sign Patterns b = nat_lt b 128 && not (is_ascii_letter b || is_mark b || is_digit b || b == 46)
 is_sign Exceptions b = nat_lt b 128 && not (is_ascii_letter b || is_mark b)
@@ -90,7 +96,8 @@ says_place Exceptions b = b == 45
 -- Two of them stand in succession, behind one or not.
 abbrev pub two_in_one_place : Group → Bool → List ℕ → Bool
 two_in_one_place group behind [] = false
-two_in_one_place group behind (b ∷ bs) = (behind && says_place group b) || two_in_one_place group (says_place group b) bs
+two_in_one_place group behind (b ∷ bs) =
+    (behind && says_place group b) || two_in_one_place group (says_place group b) bs
 
 abbrev pub spells_letters : Group → List ℕ → Bool
 spells_letters Patterns text = has_letter (letters text)
@@ -101,8 +108,10 @@ abbrev pub carries_nothing : Option Change → Option Change
 carries_nothing change = None
 
 abbrev pub keeps_characters : Group → List ℕ → Bool
-keeps_characters Patterns text = is_utf8 (letters text) && are_entries (λ change. change) (letters text) 0 (entries carries_nothing text)
-keeps_characters Exceptions text = is_utf8 (unhyphenated text) && are_listed plain (unhyphenated text) 0 (hyphens_from 0 text)
+keeps_characters Patterns text =
+    is_utf8 (letters text) && are_entries (λ change. change) (letters text) 0 (entries carries_nothing text)
+keeps_characters Exceptions text =
+    is_utf8 (unhyphenated text) && are_listed plain (unhyphenated text) 0 (hyphens_from 0 text)
 
 -- The first test that a word of a group fails: first those of its signs.
 abbrev pub sign_cause : Group → List ℕ → Option Cause
@@ -113,10 +122,12 @@ sign_cause group text =
     else (if two_in_one_place group false text then Some TwoInOnePlace else None)))
 
 abbrev pub letter_cause : Group → List ℕ → Option Cause
-letter_cause group text = if not (spells_letters group text) then Some NoLetters else (if not (keeps_characters group text) then Some NotUtf8 else None)
+letter_cause group text =
+    if not (spells_letters group text) then Some NoLetters
+    else (if not (keeps_characters group text) then Some NotUtf8 else None)
 
 abbrev pub cause_of : Group → List ℕ → Option Cause
-cause_of group text = option_or (sign_cause group text) (letter_cause group text)
+cause_of group text = option_or (sign_cause group text) (letter_cause group (folded text))
 
 -- Want of memory, or that very test.
 abbrev pub IsWordFault : WordFault → Option Cause → Type 0

@@ -11,7 +11,7 @@ use tables::{
 
 /// A charset: UTF-8, Latin-1, or one of a byte for each character, by a table for the bytes from 128 on.
 #[derive(Clone, Copy, Debug)]
-pub enum Charset {
+pub(crate) enum Charset {
     Utf8,
     Latin1,
     Table(&'static [u16; 128]),
@@ -19,7 +19,7 @@ pub enum Charset {
 
 impl Charset {
     /// The charset of that name, as line 1 of a `.dic` has it.
-    pub fn from_name(name: &[u8]) -> Option<Charset> {
+    pub(crate) fn from_name(name: &[u8]) -> Option<Charset> {
         match name {
             b"UTF-8" => Some(Charset::Utf8),
             b"ISO8859-1" => Some(Charset::Latin1),
@@ -69,7 +69,7 @@ fn utf8_text(alloc: Global, bytes: &[u8], first: usize) -> Result<String, LineFa
 }
 
 /// The text that bytes mean, whose first line has that number.
-pub fn text_of(
+pub(crate) fn text_of(
     alloc: Global,
     charset: Charset,
     bytes: &[u8],

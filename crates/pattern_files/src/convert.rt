@@ -3,7 +3,7 @@
 ghost use Rattle.std.specs.Prelude.{◌≡◌, IfOk, OnOk, IfErr, None};
 ghost use Rattle.pattern_files.specs.Converting.{spelled, followed, spelled_in, file_fault, fault_from, contents_of, words_of, IsLineFault, IsRefusal};
 
-use crate::fault::{LineFault, Refusal};
+use crate::fault::{Cause, LineFault, Refusal};
 use crate::group::{File, Form};
 use crate::parts::Parts;
 use crate::tex::words_of;
@@ -26,6 +26,7 @@ fn take_file<C: Carried, B: Listed>(
     parts.take_words(alloc, &words)?;
     match fault {
         Some((line, cause)) => Err(LineFault::OnLine(line, cause)),
+        None if words.is_empty() => Err(LineFault::OnLine(1, Cause::Nothing)),
         None => Ok(()),
     }
 }
@@ -60,9 +61,9 @@ fn take_files<C: Carried, B: Listed>(
 /// Makes a dictionary of files, one after the other: TeX's, and plain ones.
 ///
 /// It has the key and the values that each pattern of their groups spells, and each word of the groups of exceptions
-/// with its breaks; of a key and of a word that stands several times, the last one counts. Else the refusal names the
-/// first fault: the file, the line, and the first test that the word there fails. A refusal for want of memory says
-/// nothing of the files.
+/// with its breaks, in small letters; of a key and of a word that stands several times, the last one counts. Else the
+/// refusal names the first fault: the file, the line, and the first test that the word there fails. A refusal for want
+/// of memory says nothing of the files.
 pub fn convert<C: Carried, B: Listed>(
     alloc: Global,
     language: Language,

@@ -107,7 +107,7 @@ pub(crate) struct Levels {
 }
 
 impl Levels {
-    pub fn new(alloc: Global, changes: bool) -> Levels {
+    pub(crate) fn new(alloc: Global, changes: bool) -> Levels {
         Levels {
             changes,
             patterns: BTreeMap::new(alloc),
@@ -117,16 +117,16 @@ impl Levels {
         }
     }
 
-    pub fn is_empty(&self) -> bool {
+    pub(crate) fn is_empty(&self) -> bool {
         self.patterns.is_empty()
     }
 
-    pub fn note(&mut self, what: What, line: usize) -> Result<(), AllocError> {
+    pub(crate) fn note(&mut self, what: What, line: usize) -> Result<(), AllocError> {
         add_note(&mut self.notes, what, Spot { file: 0, line })
     }
 
     /// Takes in a pattern.
-    pub fn take_pattern(
+    pub(crate) fn take_pattern(
         &mut self,
         alloc: Global,
         text: &str,
@@ -189,7 +189,7 @@ impl Levels {
     }
 
     /// Lets no break stand directly before or behind a text: its values there are at least 8, and even.
-    pub fn forbid(&mut self, alloc: Global, text: &str) -> Result<(), AllocError> {
+    pub(crate) fn forbid(&mut self, alloc: Global, text: &str) -> Result<(), AllocError> {
         if !has_letters(text.as_bytes()) {
             return Ok(());
         }
@@ -200,7 +200,7 @@ impl Levels {
     }
 
     /// All patterns, as parts of a dictionary.
-    pub fn parts<C: Carried, B: Listed>(
+    pub(crate) fn parts<C: Carried, B: Listed>(
         &mut self,
         alloc: Global,
     ) -> Result<Parts<C, B>, LineFault> {

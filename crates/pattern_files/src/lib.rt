@@ -10,13 +10,14 @@
 //! \hyphenation{as-so-ciate}    associate, with breaks at 2 and 4
 //! ```
 //!
-//! A `.dic` of LibreOffice names its charset in line 1, and then has settings and patterns, some with changes of letters.
+//! A `.dic` of LibreOffice names its charset in line 1, and then has settings and patterns, some with changes of
+//! letters.
 //!
 //! [`convert::convert`] takes TeX's files and plain ones, and its contract says which dictionary they give;
 //! [`libreoffice::convert_dic`] takes a `.dic`. The modules, from the bottom up: [`fault`] says why files give nothing,
 //! [`notes`] what there is to tell where they give a dictionary; [`group`] has files, their groups and their words;
-//! [`spelling`] reads one word; [`parts`] gathers what words spell; [`tex`] reads files into words; [`told`] has what TeX's
-//! files say of themselves, and what there is to note of them.
+//! [`spelling`] reads one word; [`parts`] gathers what words spell; [`tex`] reads files into words, and [`laws`] say in
+//! the format's own words which; [`told`] has what TeX's files say of themselves, and what there is to note of them.
 #![tactic(auto)]
 
 mod change;
@@ -24,6 +25,7 @@ mod charset;
 pub mod convert;
 pub mod fault;
 pub mod group;
+pub mod laws;
 mod levels;
 pub mod libreoffice;
 pub mod notes;

@@ -4,6 +4,9 @@
 //! LibreOffice. The two levels are joined, and all patterns that match a word count, as TeX has it: LibreOffice itself
 //! takes only the longest beginning of a pattern that ends at a letter.
 
+ghost use Rattle.std.specs.Prelude.{◌≡◌, IfOk, IfErr, IfSome};
+ghost use Rattle.pattern_files.specs.Converting.{IsOfFile};
+
 use crate::charset::{Charset, text_of};
 use crate::fault::{Cause, LineFault, Refusal};
 use crate::levels::Levels;
@@ -122,7 +125,9 @@ fn take(alloc: Global, levels: &mut Levels, bytes: &[u8]) -> Result<(), LineFaul
     Ok(())
 }
 
-fn refusal_of(fault: LineFault) -> Refusal {
+fn refusal_of(fault: LineFault) -> Refusal
+    ensures { IsOfFile 0 result }
+{
     match fault {
         LineFault::NoMemory => Refusal::Memory,
         LineFault::OnLine(line, cause) => Refusal::Fault {
@@ -130,6 +135,16 @@ fn refusal_of(fault: LineFault) -> Refusal {
             line,
             cause,
         },
+    }
+}
+
+/// The minimum that is given, or that the file tells, or 2.
+fn minimum(given: Option<u8>, told: Option<u8>) -> u8
+    ensures { IfSome given (λ given. result ≡ given) }
+{
+    match given {
+        Some(given) => given,
+        None => told.unwrap_or(2),
     }
 }
 
@@ -151,16 +166,20 @@ pub fn convert_dic<C: Carried, B: Listed>(
     left: Option<u8>,
     right: Option<u8>,
     bytes: &[u8],
-) -> Result<Converted<C, B>, Refusal> {
+) -> Result<Converted<C, B>, Refusal>
+    ensures language { IfOk result (λ found. found.dictionary.language ≡ language) }
+    ensures first { IfOk result (λ found. IfSome left (λ given. found.dictionary.left ≡ given)) }
+    ensures second { IfOk result (λ found. IfSome right (λ given. found.dictionary.right ≡ given)) }
+    ensures refused { IfErr result (λ refusal. IsOfFile 0 refusal) }
+{
     let mut levels = Levels::new(alloc, changes);
     take(alloc, &mut levels, bytes).map_err(refusal_of)?;
-    let left = left.or(levels.left);
-    let right = right.or(levels.right);
-    if left.is_none() || right.is_none() {
+    if left.or(levels.left).is_none() || right.or(levels.right).is_none() {
         levels.note(What::NoMinima, 1)?;
     }
+    let (left, right) = (minimum(left, levels.left), minimum(right, levels.right));
     let parts = levels.parts::<C, B>(alloc).map_err(refusal_of)?;
-    let dictionary = parts.make(alloc, language, left.unwrap_or(2), right.unwrap_or(2))?;
+    let dictionary = parts.make(alloc, language, left, right)?;
     let Levels { notes, .. } = levels;
     Ok(Converted { dictionary, notes })
 }

@@ -59,8 +59,7 @@ impl fmt::Display for What {
             What::NoValue => "a pattern without values, kept; it bears on nothing",
             What::Repeated => "a repeated pattern: the last is taken",
             What::Unfit => "patterns that fit no dictionary, left out",
-            What::Capital =>
-                "an exception with capitals, kept as it is; a word is looked up in small letters",
+            What::Capital => "a pattern or an exception with capitals: read in small letters",
             What::ExceptionRepeated => "a repeated exception: the last is taken",
         })
     }
@@ -86,7 +85,7 @@ fn is_counted(notes: &mut [Note], what: What) -> bool {
 }
 
 /// Notes something.
-pub fn add_note(notes: &mut Vec<Note>, what: What, at: Spot) -> Result<(), AllocError> {
+pub(crate) fn add_note(notes: &mut Vec<Note>, what: What, at: Spot) -> Result<(), AllocError> {
     if is_counted(notes, what) {
         return Ok(());
     }

@@ -3,8 +3,8 @@
 ghost use Rattle.std.specs.Prelude.{◌≡◌, [], ◌∷◌, ◌++◌, IfOk, OnOk, IfErr, IsTrue, None, map};
 ghost use Rattle.std.specs.String.{string_bytes};
 ghost use Rattle.hyphenation_commons.specs.Kept.{are_listed};
-ghost use Rattle.hyphenation_commons.specs.Made.{last_said, said_of, fits_key};
-ghost use Rattle.pattern_files.specs.Converting.{Spelled, spelled, followed, first_fault, IsLineFault};
+ghost use Rattle.hyphenation_commons.specs.Made.{fits_key};
+ghost use Rattle.pattern_files.specs.Converting.{spelled, followed, with_key, with_word, made, first_fault, IsLineFault};
 ghost use Rattle.pattern_files.specs.Groups.{shown_word};
 ghost use Rattle.pattern_files.specs.Spelling.{cause_of, IsWordFault};
 
@@ -52,7 +52,7 @@ impl<C: Carried, B: Listed> Parts<C, B> {
     /// Takes in a key with its entries. The caller owes that the key may have them.
     pub fn push_pattern(&mut self, key: String, entries: Vec<Entry<C>>) -> Result<(), AllocError>
         requires { IsTrue (fits_key C.change (string_bytes key) entries.items) }
-        ensures { OnOk result (self.new ≡ record { patterns = self.old.patterns ++ (string_bytes key, entries.items) ∷ []; exceptions = self.old.exceptions }) }
+        ensures { OnOk result (self.new ≡ with_key self.old (string_bytes key, entries.items)) }
     {
         self.patterns.push((key, entries))?;
         Ok(())
@@ -61,7 +61,7 @@ impl<C: Carried, B: Listed> Parts<C, B> {
     /// Takes in a word with its breaks. The caller owes that they fit the word.
     pub fn push_exception(&mut self, word: String, listed: Vec<B>) -> Result<(), AllocError>
         requires { IsTrue (are_listed B.meaning (string_bytes word) 0 listed.items) }
-        ensures { OnOk result (self.new ≡ record { patterns = self.old.patterns; exceptions = self.old.exceptions ++ (string_bytes word, listed.items) ∷ [] }) }
+        ensures { OnOk result (self.new ≡ with_word self.old (string_bytes word, listed.items)) }
     {
         self.exceptions.push((word, listed))?;
         Ok(())
@@ -76,7 +76,7 @@ impl<C: Carried, B: Listed> Parts<C, B> {
         left: u8,
         right: u8,
     ) -> Result<Dictionary<C, B>, AllocError>
-        ensures { IfOk result (λ d. d ≡ record { language = language; left = left; right = right; patterns = last_said self.patterns; exceptions = last_said self.exceptions }) }
+        ensures { IfOk result (λ d. d ≡ made language left right self) }
     {
         make(alloc, language, left, right, self.patterns, self.exceptions)
     }

@@ -1,16 +1,18 @@
 //! What one word of a group spells: a key with its values, or a word with its breaks.
 
-ghost use Rattle.std.specs.Prelude.{◌≡◌, ◌++◌, false, true, map, IfOk, IfSome, IfNone, OnOk, IfErr, IsTrue, None};
+ghost use Rattle.std.specs.Prelude.{◌≡◌, ◌++◌, false, true, map, IfOk, IfSome, IfNone, OnOk, IfErr, IsTrue, None, Some};
 ghost use Rattle.std.specs.List.{list_any};
 ghost use Rattle.std.specs.Str.{is_utf8};
 ghost use Rattle.std.specs.String.{string_bytes};
+ghost use Rattle.hyphenation.specs.Folding.{fold};
 ghost use Rattle.hyphenation_commons.specs.Kept.{has_letter, are_listed};
 ghost use Rattle.hyphenation_commons.specs.Made.{said_of, fits_key};
-ghost use Rattle.pattern_files.specs.Spelling.{is_digit, value_at, entry_of, letter_cause, letters, entries, unhyphenated, breaks, is_command, is_caret, is_sign, says_place, two_in_one_place, sign_cause, cause_of, IsWordFault};
+ghost use Rattle.pattern_files.specs.Spelling.{is_digit, value_at, entry_of, folded, letter_cause, letters, entries, unhyphenated, breaks, pattern_of, exception_of, is_command, is_caret, is_sign, says_place, two_in_one_place, sign_cause, cause_of, IsWordFault};
 ghost use Rattle.pattern_files.specs.declared.group.Group.TheVariants.{Patterns, Exceptions};
 
 use crate::fault::{Cause, WordFault};
 use crate::group::Group;
+use hyphenation::case_folding::refold;
 use hyphenation_commons::dictionary::{Carried, Dictionary, Entry, Listed};
 use hyphenation_commons::maker::fits_key;
 use std::alloc::{AllocError, Global};
@@ -220,19 +222,37 @@ fn read_letters<C: Carried>(
     }
 }
 
+/// A text with its capitals made small.
+fn fold_text(alloc: Global, text: &str) -> Result<Vec<u8>, AllocError>
+    ensures { IfOk result (λ found. found.items ≡ fold text.now) }
+{
+    let (folded, _) = refold(alloc, text)?;
+    Ok(folded.into_owned(alloc)?.into_bytes())
+}
+
+/// A word with its capitals made small. What is not UTF-8 stays.
+pub fn folded(alloc: Global, text: &[u8]) -> Result<Vec<u8>, AllocError>
+    ensures { IfOk result (λ found. found.items ≡ folded text.now) }
+{
+    match std::str::from_utf8(text) {
+        Ok(text) => fold_text(alloc, text),
+        Err(_) => Vec::from_slice(alloc, text),
+    }
+}
+
 /// The key that a pattern spells, with its entries.
 pub fn read_pattern<C: Carried>(
     alloc: Global,
     text: &[u8],
 ) -> Result<(String, Vec<Entry<C>>), WordFault>
     ensures good { OnOk result (cause_of Patterns text.now ≡ None) }
-    ensures spelled { IfOk result (λ p. said_of p ≡ (letters text.now, entries C.carries text.now)) }
+    ensures spelled { IfOk result (λ p. Some (said_of p) ≡ pattern_of C.carries Patterns text.now) }
     ensures fits { IfOk result (λ p. IsTrue (fits_key C.change (string_bytes p.0) p.1.items)) }
     ensures refused { IfErr result (λ fault. IsWordFault fault (cause_of Patterns text.now)) }
 {
     match sign_cause(Group::Patterns, text) {
         Some(cause) => Err(WordFault::Fails(cause)),
-        None => read_letters(alloc, text),
+        None => read_letters(alloc, &folded(alloc, text)?),
     }
 }
 
@@ -264,12 +284,12 @@ pub fn read_exception<C: Carried, B: Listed>(
     text: &[u8],
 ) -> Result<(String, Vec<B>), WordFault>
     ensures good { OnOk result (cause_of Exceptions text.now ≡ None) }
-    ensures spelled { IfOk result (λ e. said_of e ≡ (unhyphenated text.now, breaks B.lists text.now)) }
+    ensures spelled { IfOk result (λ e. Some (said_of e) ≡ exception_of B.lists Exceptions text.now) }
     ensures fits { IfOk result (λ e. IsTrue (are_listed B.meaning (string_bytes e.0) 0 e.1.items)) }
     ensures refused { IfErr result (λ fault. IsWordFault fault (cause_of Exceptions text.now)) }
 {
     match sign_cause(Group::Exceptions, text) {
         Some(cause) => Err(WordFault::Fails(cause)),
-        None => read_breaks::<C, B>(alloc, text),
+        None => read_breaks::<C, B>(alloc, &folded(alloc, text)?),
     }
 }

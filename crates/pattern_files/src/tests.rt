@@ -59,10 +59,10 @@ fn of_a_repeated_key_the_last_counts(rt: HostRuntime) -> Result<(), Fail> {
     };
     let exceptions = File {
         form: Form::Plain(Group::Exceptions),
-        bytes: b"ta-ble\nT-able\ntab-le\n",
+        bytes: "ta-ble\nÜ-ber\ntab-le\n".as_bytes(),
     };
     let text = standard_text(rt.alloc(), &[patterns, exceptions])?;
-    let wanted = format!(in rt.alloc(); "{HEAD}p a3b\np c1\ne Table 1\ne table 3\n")?;
+    let wanted = format!(in rt.alloc(); "{HEAD}p a3b\np c1\ne table 3\ne über 2\n")?;
     assert_eq!(rt; text.as_slice(), wanted.as_bytes());
     match notes_of(rt.alloc(), &[patterns, exceptions]) {
         Ok(notes) => {

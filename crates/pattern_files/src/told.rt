@@ -1,8 +1,10 @@
 //! What TeX's files and plain ones say of themselves, and what there is to note of them.
 
-use crate::fault::{Cause, Refusal};
+ghost use Rattle.std.specs.Prelude.{◌≡◌, IfSome, IsSome};
+
 use crate::group::{File, Form, Group, Word};
 use crate::notes::{Note, Spot, What, add_note};
+use crate::spelling::folded;
 use crate::tex::words_of;
 use std::alloc::{AllocError, Global};
 use std::collections::HashMap;
@@ -19,9 +21,9 @@ enum Head {
 
 /// The least numbers of characters, as far as they are told.
 #[derive(Clone, Copy, Debug, PartialEq, Eq)]
-pub struct Minima {
-    pub left: Option<u8>,
-    pub right: Option<u8>,
+pub(crate) struct Minima {
+    pub(crate) left: Option<u8>,
+    pub(crate) right: Option<u8>,
 }
 
 /// The number behind a name, in a comment.
@@ -54,7 +56,7 @@ fn take_comment(minima: &mut Minima, head: Head, comment: &str) -> Head {
 }
 
 /// The minima that a TeX file of hyph-utf8 tells in its head.
-pub fn minima_of(bytes: &[u8]) -> Minima {
+pub(crate) fn minima_of(bytes: &[u8]) -> Minima {
     let mut head = Head::Other;
     let mut minima = Minima {
         left: None,
@@ -70,11 +72,26 @@ pub fn minima_of(bytes: &[u8]) -> Minima {
     minima
 }
 
+/// The minima that are given, or else those that the first file tells that tells any; none where one is wanting.
+pub fn minima_for(left: Option<u8>, right: Option<u8>, files: &[File<'_>]) -> Option<(u8, u8)>
+    ensures given { IsSome left → IsSome right → IsSome result }
+    ensures first { IfSome result (λ minima. IfSome left (λ given. minima.0 ≡ given)) }
+    ensures second { IfSome result (λ minima. IfSome right (λ given. minima.1 ≡ given)) }
+{
+    let mut minima = Minima { left, right };
+    for file in files {
+        let told = minima_of(file.bytes);
+        minima.left = minima.left.or(told.left);
+        minima.right = minima.right.or(told.right);
+    }
+    Some((minima.left?, minima.right?))
+}
+
 /// A word without what says its places.
-fn letters_of(alloc: Global, word: &Word) -> Result<Vec<u8>, AllocError> {
+fn letters_of(alloc: Global, group: Group, word: &[u8]) -> Result<Vec<u8>, AllocError> {
     let mut letters = Vec::new(alloc);
-    for byte in word.text.iter() {
-        let says = match word.group {
+    for byte in word {
+        let says = match group {
             Group::Patterns => byte.is_ascii_digit(),
             Group::Exceptions => *byte == b'-',
         };
@@ -83,14 +100,6 @@ fn letters_of(alloc: Global, word: &Word) -> Result<Vec<u8>, AllocError> {
         }
     }
     Ok(letters)
-}
-
-/// Whether a text has a capital.
-fn has_capital(text: &[u8]) -> bool {
-    match std::str::from_utf8(text) {
-        Ok(text) => text.chars().any(|c| c.is_uppercase()),
-        Err(_) => false,
-    }
 }
 
 /// What was met before.
@@ -113,9 +122,6 @@ impl Met {
     }
 
     fn note_exception(&mut self, letters: Vec<u8>, at: Spot) -> Result<(), AllocError> {
-        if has_capital(&letters) {
-            add_note(&mut self.notes, What::Capital, at)?;
-        }
         if self.words.insert(letters, ())?.is_some() {
             add_note(&mut self.notes, What::ExceptionRepeated, at)?;
         }
@@ -123,9 +129,13 @@ impl Met {
     }
 
     fn note_word(&mut self, alloc: Global, word: &Word, at: Spot) -> Result<(), AllocError> {
-        let letters = letters_of(alloc, word)?;
+        let folded = folded(alloc, &word.text)?;
+        if folded.as_slice() != word.text.as_slice() {
+            add_note(&mut self.notes, What::Capital, at)?;
+        }
+        let letters = letters_of(alloc, word.group, &folded)?;
         match word.group {
-            Group::Patterns => self.note_pattern(letters, word.text.len(), at),
+            Group::Patterns => self.note_pattern(letters, folded.len(), at),
             Group::Exceptions => self.note_exception(letters, at),
         }
     }
@@ -136,15 +146,8 @@ impl Met {
         form: Form,
         bytes: &[u8],
         file: usize,
-    ) -> Result<(), Refusal> {
+    ) -> Result<(), AllocError> {
         let (words, _) = words_of(alloc, form, bytes)?;
-        if words.is_empty() {
-            return Err(Refusal::Fault {
-                file,
-                line: 1,
-                cause: Cause::Nothing,
-            });
-        }
         for word in &words {
             let line = word.line;
             self.note_word(alloc, word, Spot { file, line })?;
@@ -153,9 +156,8 @@ impl Met {
     }
 }
 
-/// What there is to note of files: what was decided, each sort with its first line. A file without a pattern and
-/// without an exception is refused.
-pub fn notes_of(alloc: Global, files: &[File<'_>]) -> Result<Vec<Note>, Refusal> {
+/// What there is to note of files: what was decided, each sort with its first line.
+pub fn notes_of(alloc: Global, files: &[File<'_>]) -> Result<Vec<Note>, AllocError> {
     let mut met = Met {
         keys: HashMap::new(alloc),
         words: HashMap::new(alloc),

@@ -175,13 +175,11 @@ fn what_is_wrong_is_told_and_nothing_is_written(rt: HostRuntime) -> Result<(), F
 
 #[test]
 fn words_of_no_form_are_answered_by_the_usage(rt: HostRuntime) {
-    let cases: [&[&str]; 7] = [
+    let cases: [&[&str]; 5] = [
         &[],
         &["standard", "xx", "2", "3"],
-        &["standard", "xx", "2", "3", "licence.txt"],
         &["standard", "XX", "2", "3", "a.dic"],
         &["standard", "xx", "2", "256", "a.dic"],
-        &["standard", "xx", "2", "3", "a.dic", "b.dic"],
         &["latin", "xx", "2", "3", "a.dic"],
     ];
     for words in cases {
@@ -189,4 +187,34 @@ fn words_of_no_form_are_answered_by_the_usage(rt: HostRuntime) {
         assert_eq!(rt; answer.status, 2);
         assert_eq!(rt; answer.faults.as_slice(), USAGE.as_bytes());
     }
+}
+
+/// Whether files of these paths are refused before they are read, with a message that ends so.
+fn is_misfit(rt: &HostRuntime, first: &str, second: &str, message: &str) -> bool {
+    let answer = answer_to(rt, &["standard", "xx", "2", "3", first, second]);
+    answer.status == 2
+        && answer.output.is_empty()
+        && answer.faults.starts_with(b"hyphenate-convert: ")
+        && answer.faults.ends_with(message.as_bytes())
+}
+
+#[test]
+fn files_that_do_not_go_together_are_named(rt: HostRuntime) {
+    assert!(rt; is_misfit(&rt, "a.tex", "b.dic", "b.dic: a .dic is converted alone\n"));
+    assert!(rt;
+        is_misfit(
+            &rt,
+            "a/hyph-de.tex",
+            "b/hyph-fr.tex",
+            "b/hyph-fr.tex: another language than the file before it, by its name\n"
+        )
+    );
+    assert!(rt;
+        is_misfit(
+            &rt,
+            "hyph-hu.ext.txt",
+            "",
+            "hyph-hu.ext.txt: a file is .dic, .tex, .pat.txt or .hyp.txt, and this is none of them\n"
+        )
+    );
 }
