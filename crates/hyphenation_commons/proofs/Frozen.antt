@@ -104,23 +104,23 @@ found_is tree bases cells i b None frozen li e = λ j lj is. let bad : None ≡ 
 found_is tree bases cells i b (Some j) frozen li e = frozen.sound i b j li (sym e)
 
 -- one depth more
-pub depths_more : (parents depths : List ℕ) (node depth : ℕ) → 0 < node → node < length depths → ((j : ℕ) → 0 < j → j < length depths → slice_index parents j < j)
+pub depths_more : (parents depths : List ℕ) (node depth : ℕ) → length depths ≡ node → ((j : ℕ) → 0 < j → j < node + 1 → slice_index parents j < j)
     → depth ≡ slice_index depths (slice_index parents node) + 1
     → ((j : ℕ) → 0 < j → j < node → slice_index depths j ≡ slice_index depths (slice_index parents j) + 1)
-    → (j : ℕ) → 0 < j → j < node + 1 → slice_index (set depths node depth) j ≡ slice_index (set depths node depth) (slice_index parents j) + 1
-depths_more parents depths node depth pos lt before is each j jpos lj =
-    let up : slice_index parents j < j = before j jpos (omega arith) in
-    let above : slice_index (set depths node depth) (slice_index parents j) ≡ slice_index depths (slice_index parents j) = get_or-set_other depths node (slice_index parents j) depth 0 (λ e. absurd (omega arith)) in
+    → (j : ℕ) → 0 < j → j < node + 1 → slice_index (depths ++ depth ∷ []) j ≡ slice_index (depths ++ depth ∷ []) (slice_index parents j) + 1
+depths_more parents depths node depth len before is each j jpos lj =
+    let up : slice_index parents j < j = before j jpos lj in
+    let above : slice_index (depths ++ depth ∷ []) (slice_index parents j) ≡ slice_index depths (slice_index parents j) = get_or_append_left depths (depth ∷ []) 0 (slice_index parents j) (omega arith) in
     elim (cases_eq j node) [
       | inl same ↦
-          ap (λ (x : ℕ). slice_index (set depths node depth) x) same ∙ get_or-set_same depths node depth 0 lt ∙ is ∙ ap (λ (x : ℕ). slice_index depths (slice_index parents x) + 1) (sym same) ∙ ap (λ (x : ℕ). x + 1) (sym above)
-      | inr apart ↦ get_or-set_other depths node j depth 0 apart ∙ each j jpos (omega arith) ∙ ap (λ (x : ℕ). x + 1) (sym above)
+          get_or_push depths depth 0 j (len ∙ sym same) ∙ is ∙ ap (λ (x : ℕ). slice_index depths (slice_index parents x) + 1) (sym same) ∙ ap (λ (x : ℕ). x + 1) (sym above)
+      | inr apart ↦ get_or_append_left depths (depth ∷ []) 0 j (omega arith) ∙ each j jpos (omega arith) ∙ ap (λ (x : ℕ). x + 1) (sym above)
     ]
 
-pub low_more : (depths : List ℕ) (node depth : ℕ) → depth ≤ node → node < length depths → ((j : ℕ) → j < length depths → slice_index depths j ≤ j) → (j : ℕ) → j < length depths → slice_index (set depths node depth) j ≤ j
-low_more depths node depth le lt low j lj = elim (cases_eq j node) [
-  | inl same ↦ omega (arith, ap (λ (x : ℕ). slice_index (set depths node depth) x) same ∙ get_or-set_same depths node depth 0 lt)
-  | inr apart ↦ omega (arith, get_or-set_other depths node j depth 0 apart, low j lj)
+pub low_more : (depths : List ℕ) (node depth : ℕ) → depth ≤ node → length depths ≡ node → ((j : ℕ) → j < node → slice_index depths j ≤ j) → (j : ℕ) → j < node + 1 → slice_index (depths ++ depth ∷ []) j ≤ j
+low_more depths node depth le len low j lj = elim (cases_eq j node) [
+  | inl same ↦ omega (arith, get_or_push depths depth 0 j (len ∙ sym same))
+  | inr apart ↦ omega (arith, get_or_append_left depths (depth ∷ []) 0 j (omega arith), low j (omega arith))
 ]
 
 pub has_depths : {E : Type 0} (tree : Tree E) (parents bytes depths : List ℕ) → IsTrie tree → HasParents tree.texts parents bytes → IsDepths parents depths → HasDepths tree.texts depths

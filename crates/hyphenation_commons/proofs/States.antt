@@ -1,17 +1,20 @@
 -- What is read of the states of nodes, and what stays when links are set.
-use Rattle.std.proofs.Common.{◌≡◌, ◌≢◌, ℕ, zero, suc, ◌+◌, ◌<◌, List, [], ◌∷◌, ◌++◌, length, map, fold, take, drop, drop-cons, get_or, set, slice_index, Option, Some, None, refl, sym, ap, subst, ◌∙◌, arith, replicate}
+use Rattle.std.proofs.Common.{◌≡◌, ◌≢◌, ℕ, zero, suc, ◌+◌, ◌<◌, ◌≤◌, Bool, true, false, cond, List, [], ◌∷◌, ◌++◌, length, map, fold, take, drop, drop-cons, get_or, set, slice_index, Option, Some, None, refl, sym, ap, subst, ◌∙◌, arith, replicate}
+use Rattle.std.specs.Prelude.{IsSome}
 use Rattle.std.specs.List.{zip}
 use Rattle.std.proofs.Math.Seq.{map-set_same, take-length}
+use Rattle.std.proofs.lemmas.Bool.{cond-true, cond-false}
 use Rattle.std.proofs.lemmas.List.{length-map, get_or-map, map-set, get_or-set_same, get_or-set_other, get_or-take, take_more, drop_all}
 use Rattle.std.proofs.lemmas.Simd.{map-map}
 use Rattle.hyphenation_commons.specs.Links.{HasParents, HasDepths, IsFrozen}
-use Rattle.hyphenation_commons.specs.States.{no_links, texts_by, entries_there, linked_tree, HasStates}
-use Rattle.hyphenation_commons.specs.Trie.{Tree, texts_of, with_text, seen, entries_in, IsWithin, AreWithin}
+use Rattle.hyphenation_commons.specs.States.{no_links, texts_by, span_in, entries_there, linked_tree, HasStates}
+use Rattle.hyphenation_commons.specs.Trie.{Tree, text_of, key_at, texts_of, with_text, seen, entries_in, IsWithin, AreWithin}
 use Rattle.hyphenation_commons.specs.declared.trie.Node.{Node}
 use Rattle.hyphenation_commons.specs.declared.trie.Span.{Span}
 use Rattle.hyphenation_commons.specs.declared.trie.frozen.Links.{Links}
 use Rattle.hyphenation_commons.specs.declared.trie.frozen.State.{State}
 use Rattle.hyphenation_commons.specs.declared.trie.rows.Cell.{Cell}
+use Rattle.hyphenation_commons.proofs.Tied.{entries_at-here}
 
 -- ---- texts
 
@@ -65,11 +68,42 @@ depth_of_state states node s lt read = get_or-map (λ s. s.depth) states node s 
 pub links_of_state : (states : List State) (node : ℕ) (s : State) → node < length states → s ≡ get_or states node s → get_or (map (λ s. s.links) states) node no_links ≡ s.links
 links_of_state states node s lt read = get_or-map (λ s. s.links) states node s no_links lt ∙ ap (λ s. s.links) (sym read)
 
-pub span_of_state : (states : List State) (node : ℕ) (s : State) → node < length states → s ≡ get_or states node s → get_or (map (λ s. s.span) states) node None ≡ s.span
-span_of_state states node s lt read = get_or-map (λ s. s.span) states node s None lt ∙ ap (λ s. s.span) (sym read)
+pub span_of_state : (states : List State) (node : ℕ) (s : State) → node < length states → s ≡ get_or states node s → get_or (map span_in states) node None ≡ span_in s
+span_of_state states node s lt read = get_or-map span_in states node s None lt ∙ ap span_in (sym read)
 
-pub entries_of_state : {E : Type 0} (es : List E) (states : List State) (node : ℕ) (s : State) → node < length states → s ≡ get_or states node s → get_or (map (λ s. entries_there es s.span) states) node None ≡ entries_there es s.span
-entries_of_state es states node s lt read = get_or-map (λ s. entries_there es s.span) states node s None lt ∙ ap (λ s. entries_there es s.span) (sym read)
+pub entries_of_state : {E : Type 0} (es : List E) (states : List State) (node : ℕ) (s : State) → node < length states → s ≡ get_or states node s → get_or (map (λ s. entries_there es (span_in s)) states) node None ≡ entries_there es (span_in s)
+entries_of_state es states node s lt read = get_or-map (λ s. entries_there es (span_in s)) states node s None lt ∙ ap (λ s. entries_there es (span_in s)) (sym read)
+
+pub span_of_key : (s : State) → s.is_key ≡ true → span_in s ≡ Some s.span
+span_of_key s e = cond-true s.is_key (Some s.span) None e
+
+pub span_of_none : (s : State) → s.is_key ≡ false → span_in s ≡ None
+span_of_none s e = cond-false s.is_key (Some s.span) None e
+
+-- a state that has entries is a key's
+pub span_of_entries : {E : Type 0} (es : List E) (s : State) → IsSome (entries_there es (span_in s)) → span_in s ≡ Some s.span
+span_of_entries es s some =
+    elim s.is_key as (λ t. IsSome (entries_there es (cond t (Some s.span) None)) → cond t (Some s.span) None ≡ Some s.span) [
+      | true ↦ λ h. refl
+      | false ↦ λ h. absurd cc
+    ] some
+
+-- where the entries of a key stand is within those of all
+pub key_within : {E : Type 0} (tree : Tree E) (parents bytes : List ℕ) (states : List State) (cells : List Cell) (bound node : ℕ) (s : State) → HasStates tree parents bytes states cells bound → node < length tree.texts
+    → s ≡ get_or states node s → span_in s ≡ Some s.span → (s.span.start ≤ s.span.end) × (s.span.end ≤ bound)
+key_within tree parents bytes states cells bound node s has lt read is =
+    let within = states_within tree parents bytes states cells bound node has lt in
+    subst (λ (x : Option Span). IsWithin bound x) (span_of_state states node s within read ∙ is) (has.within node)
+
+-- the entries of a state are those of the key that its node's text is
+pub entries_of_node : {E : Type 0} (es : List E) (parents bytes : List ℕ) (states : List State) (cells : List Cell) (bound node : ℕ) (s : State)
+    → HasStates (linked_tree parents bytes states es).tree parents bytes states cells bound → node < length (linked_tree parents bytes states es).tree.texts → s ≡ get_or states node s
+    → entries_there es (span_in s) ≡ key_at (linked_tree parents bytes states es).tree (text_of (linked_tree parents bytes states es).tree node)
+entries_of_node es parents bytes states cells bound node s has lt read =
+    let tree = (linked_tree parents bytes states es).tree in
+    let trie = has.frozen.trie in
+    sym (entries_of_state es states node s (states_within tree parents bytes states cells bound node has lt) read)
+    ∙ sym (entries_at-here tree.texts tree.entries node trie.distinct trie.lengths lt)
 
 -- ---- as made
 
@@ -78,10 +112,10 @@ spans_within bound [] h i = tt
 spans_within bound (n ∷ ns) h zero = h.0
 spans_within bound (n ∷ ns) h (suc i) = spans_within bound ns h.1 i
 
-pub entries_same : {E : Type 0} (es : List E) (states : List State) (ns : List Node) → map (λ s. s.span) states ≡ map (λ n. n.span) ns → map (λ s. entries_there es s.span) states ≡ map (entries_in es) ns
-entries_same es states ns e = sym (map-map (entries_there es) (λ (s : State). s.span) states) ∙ ap (map (entries_there es)) e ∙ map-map (entries_there es) (λ (n : Node). n.span) ns
+pub entries_same : {E : Type 0} (es : List E) (states : List State) (ns : List Node) → map span_in states ≡ map (λ n. n.span) ns → map (λ s. entries_there es (span_in s)) states ≡ map (entries_in es) ns
+entries_same es states ns e = sym (map-map (entries_there es) span_in states) ∙ ap (map (entries_there es)) e ∙ map-map (entries_there es) (λ (n : Node). n.span) ns
 
-pub tree_same : {E : Type 0} (es : List E) (states : List State) (ns : List Node) (parents bytes : List ℕ) → texts_by parents bytes ≡ texts_of (map (λ n. n.from) ns) → map (λ s. s.span) states ≡ map (λ n. n.span) ns
+pub tree_same : {E : Type 0} (es : List E) (states : List State) (ns : List Node) (parents bytes : List ℕ) → texts_by parents bytes ≡ texts_of (map (λ n. n.from) ns) → map span_in states ≡ map (λ n. n.span) ns
     → (linked_tree parents bytes states es).tree ≡ seen ns es
 tree_same es states ns parents bytes texts spans =
     let entries = entries_same es states ns spans in
@@ -97,20 +131,20 @@ none_linked n states e j = ap (λ (xs : List Links). get_or xs j no_links) e ∙
 
 -- ---- links are set
 
-pub tree_kept : {E : Type 0} (es : List E) (states : List State) (parents bytes : List ℕ) (node : ℕ) (s x : State) → s ≡ get_or states node s → x.span ≡ s.span
+pub tree_kept : {E : Type 0} (es : List E) (states : List State) (parents bytes : List ℕ) (node : ℕ) (s x : State) → s ≡ get_or states node s → span_in x ≡ span_in s
     → (linked_tree parents bytes (set states node x) es).tree ≡ (linked_tree parents bytes states es).tree
 tree_kept es states parents bytes node s x read same =
-    let entries = map-set_same (λ s. entries_there es s.span) states node x s (ap (entries_there es) (same ∙ ap (λ s. s.span) read)) in
+    let entries = map-set_same (λ s. entries_there es (span_in s)) states node x s (ap (entries_there es) (same ∙ ap span_in read)) in
     λ k. record { texts = texts_by parents bytes; entries = entries k }
 
-pub states_kept : {E : Type 0} (es : List E) (states : List State) (parents bytes : List ℕ) (cells : List Cell) (bound node : ℕ) (s x : State) → s ≡ get_or states node s → x.span ≡ s.span → x.base ≡ s.base → x.depth ≡ s.depth
+pub states_kept : {E : Type 0} (es : List E) (states : List State) (parents bytes : List ℕ) (cells : List Cell) (bound node : ℕ) (s x : State) → s ≡ get_or states node s → span_in x ≡ span_in s → x.base ≡ s.base → x.depth ≡ s.depth
     → HasStates (linked_tree parents bytes states es).tree parents bytes states cells bound
     → HasStates (linked_tree parents bytes (set states node x) es).tree parents bytes (set states node x) cells bound
 states_kept es states parents bytes cells bound node s x read span base depth has =
     let tree = tree_kept es states parents bytes node s x read span in
     let bases : map (λ s. s.base) (set states node x) ≡ map (λ s. s.base) states = map-set_same (λ s. s.base) states node x s (base ∙ ap (λ s. s.base) read) in
     let depths : map (λ s. s.depth) (set states node x) ≡ map (λ s. s.depth) states = map-set_same (λ s. s.depth) states node x s (depth ∙ ap (λ s. s.depth) read) in
-    let spans : map (λ s. s.span) (set states node x) ≡ map (λ s. s.span) states = map-set_same (λ s. s.span) states node x s (span ∙ ap (λ s. s.span) read) in
+    let spans : map span_in (set states node x) ≡ map span_in states = map-set_same span_in states node x s (span ∙ ap span_in read) in
     subst (λ (t : Tree _). HasStates t parents bytes (set states node x) cells bound) (sym tree) (record {
       frozen = subst (λ (xs : List ℕ). IsFrozen (linked_tree parents bytes states es).tree xs cells) (sym bases) has.frozen;
       depths_of = subst (λ (xs : List ℕ). HasDepths (linked_tree parents bytes states es).tree.texts xs) (sym depths) has.depths_of;

@@ -181,14 +181,15 @@ impl<E: Drop> Trie<E> {
         ensures { IfOk result (λ trie. trie ≡ record { texts = [] ∷ []; entries = None ∷ [] }) }
     {
         let children = Chains::with_room(alloc, nodes)?;
-        let mut nodes = Vec::with_capacity(alloc, nodes)?;
+        let room = nodes;
+        let mut nodes = Vec::with_capacity(alloc, room)?;
         nodes.push(Node {
             from: None,
             span: None,
         })?;
         Ok(Trie {
             nodes,
-            entries: Vec::new(alloc),
+            entries: Vec::with_capacity(alloc, room)?,
             children,
         })
     }
