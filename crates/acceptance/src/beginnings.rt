@@ -1,11 +1,12 @@
 //! Beginnings of a text, read whole or a byte at a time; and extended dictionaries of readers that fail.
 
+use crate::answers::values;
 use crate::changes::extended;
 use crate::run_faults::{LEAST, is_torn, torn};
 use hyphenation::extended::Extended;
 use hyphenation::load::{Cause, Error, Load};
-use hyphenation::score::Score;
 use hyphenation::{Standard, hyphenate_text};
+use std::alloc::{AllocError, Global};
 use std::test::Fail;
 
 /// The line and the cause for which a text is refused, if it is.
@@ -16,53 +17,70 @@ fn fault_in(answer: &Result<Standard, Error>) -> Option<(usize, Cause)> {
     }
 }
 
+/// Whether the first so many bytes are judged alike where they are read whole and a byte at a time.
+fn are_judged_alike(alloc: Global, length: usize) -> bool {
+    let (beginning, _) = LEAST.split_at(length.min(LEAST.len()));
+    let mut reader = beginning;
+    let whole = Standard::any_from_reader(alloc, &mut reader);
+    let dripped = Standard::any_from_reader(alloc, &mut torn(beginning, usize::MAX));
+    fault_in(&dripped) == fault_in(&whole) && dripped.is_ok() == whole.is_ok()
+}
+
 #[test]
 fn beginnings_read_a_byte_at_a_time_are_judged_alike(rt: HostRuntime) {
-    for length in 0..LEAST.len() + 1 {
-        let mut reader = &LEAST[..length];
-        let whole = Standard::any_from_reader(rt.alloc(), &mut reader);
-        let mut reader = torn(&LEAST[..length], usize::MAX);
-        let dripped = Standard::any_from_reader(rt.alloc(), &mut reader);
-        assert_eq!(rt; fault_in(&dripped), fault_in(&whole), "{length}");
-        assert_eq!(rt; dripped.is_ok(), whole.is_ok(), "{length}");
+    for length in 0..=LEAST.len() {
+        assert!(rt; are_judged_alike(rt.alloc(), length), "{length}");
     }
+}
+
+/// The values of `ab` and `ac` by the dictionary of the first so many bytes.
+fn values_of(alloc: Global, length: usize) -> Result<String, Fail> {
+    let (mut reader, _) = LEAST.split_at(length.min(LEAST.len()));
+    let dictionary = Standard::any_from_reader(alloc, &mut reader)?;
+    let found = values(alloc, &dictionary, "ab ac")?;
+    Ok(found)
 }
 
 #[test]
 fn accepted_beginnings_give_what_they_spell(rt: HostRuntime) -> Result<(), Fail> {
-    let cases: [(usize, u8, u8); 5] = [(48, 0, 0), (49, 0, 0), (52, 0, 0), (53, 1, 1), (54, 1, 0)];
-    for (length, of_ab, of_ac) in cases {
-        let mut reader = &LEAST[..length];
-        let dictionary = Standard::any_from_reader(rt.alloc(), &mut reader)?;
-        assert_eq!(rt;
-            dictionary.score(rt.alloc(), "ab")?.as_slice(),
-            [of_ab].as_slice()
-        );
-        assert_eq!(rt;
-            dictionary.score(rt.alloc(), "ac")?.as_slice(),
-            [of_ac].as_slice()
-        );
-    }
+    assert_eq!(rt; values_of(rt.alloc(), 48)?.as_str(), "0 ,0 ,");
+    assert_eq!(rt; values_of(rt.alloc(), 49)?.as_str(), "0 ,0 ,");
+    assert_eq!(rt; values_of(rt.alloc(), 52)?.as_str(), "0 ,0 ,");
+    assert_eq!(rt; values_of(rt.alloc(), 53)?.as_str(), "1 ,1 ,");
+    assert_eq!(rt; values_of(rt.alloc(), 54)?.as_str(), "1 ,0 ,");
     Ok(())
+}
+
+/// Whether an extended dictionary of a reader that fails at this read is refused for that fault.
+fn is_refused(alloc: Global, text: &[u8], number: usize) -> bool {
+    let answer = Extended::any_from_reader(alloc, &mut torn(text, number));
+    matches!(&answer, Err(e) if is_torn(e))
 }
 
 #[test]
 fn a_torn_extended_dictionary_is_a_fault_of_reading_at_each_read(rt: HostRuntime) {
     let text = b"hyphenation 1 extended\nlanguage hu\nminima 2 2\np a1b 1,1,0,1,x".as_slice();
     for number in 1..text.len() + 2 {
-        let any = Extended::any_from_reader(rt.alloc(), &mut torn(text, number));
-        assert!(rt; matches!(&any, Err(e) if is_torn(e)), "{number}");
+        assert!(rt; is_refused(rt.alloc(), text, number), "{number}");
     }
     let whole = Extended::any_from_reader(rt.alloc(), &mut torn(text, usize::MAX));
     assert!(rt; whole.is_ok());
 }
 
+/// A text behind another, hyphenated by an extended dictionary.
+fn appended(alloc: Global, dictionary: &Extended) -> Result<String, AllocError> {
+    let mut page = String::from_str(alloc, "(")?;
+    hyphenate_text(&mut page, alloc, dictionary, "Az asszonnyal.", "-")?;
+    Ok(page)
+}
+
 #[test]
 fn a_text_is_appended_by_an_extended_dictionary(rt: HostRuntime) -> Result<(), Fail> {
-    let alloc = rt.alloc();
-    let dictionary = extended(alloc, "2 2", "e asszonnyal 2,1,2,2,szsz 6,1,2,2,nyny")?;
-    let mut page = String::new(alloc);
-    hyphenate_text(&mut page, alloc, &dictionary, "Az asszonnyal.", "-")?;
-    assert_eq!(rt; page.as_str(), "Az asz-szony-nyal.");
+    let line = "e asszonnyal 2,1,2,2,szsz 6,1,2,2,nyny";
+    let dictionary = extended(rt.alloc(), "2 2", line)?;
+    assert_eq!(rt;
+        appended(rt.alloc(), &dictionary)?.as_str(),
+        "(Az asz-szony-nyal."
+    );
     Ok(())
 }

@@ -1,55 +1,59 @@
 //! The scores of words by extended dictionaries, and the values alone that a run writes.
 
-use crate::changes::{extended, substitutes, text_of};
+use crate::answers::winners;
+use crate::changes::{extended, text_of};
 use hyphenation::Language;
 use hyphenation::engine::{Kind, RunError, run_score};
 use hyphenation::load::{Cause, Error};
 use hyphenation::score::{LookUps, Score};
+use std::alloc::Global;
 use std::test::Fail;
 
+/// The values and changes of words by an extended dictionary of these lines.
+pub fn winners_by(alloc: Global, lines: &str, words: &str) -> Result<String, Fail> {
+    let dictionary = extended(alloc, "1 1", lines)?;
+    let found = winners(alloc, &dictionary, words)?;
+    Ok(found)
+}
+
 #[test]
-fn the_winner_of_a_place_gives_its_value_and_its_change(rt: HostRuntime) -> Result<(), Fail> {
-    let cases: [(&str, &str, &[(u8, &str)]); 6] = [
-        (
-            "p a1b\np ca1bd 2,1,0,1,x",
-            "cabd",
-            &[(0, ""), (1, "x"), (0, "")],
-        ),
-        ("p a1b 1,1,0,1,x\np a1bd", "abd", &[(1, "x"), (0, "")]),
-        (
-            "p a1b 1,1,0,1,x\np ca1bd",
-            "cabd",
-            &[(0, ""), (1, ""), (0, "")],
-        ),
-        (
-            "p a2b\np ca1bd 2,1,0,1,x",
-            "cabd",
-            &[(0, ""), (2, ""), (0, "")],
-        ),
-        (
-            "p b1c 1,1,0,1,x\np ab1cd\np zab1cde 3,1,0,1,y",
-            "zabcde",
-            &[(0, ""), (0, ""), (1, "y"), (0, ""), (0, "")],
-        ),
-        (
-            "p b1c 1,1,0,1,x\np ab1cd\np zab1cde 3,1,0,1,y",
-            "xbc",
-            &[(0, ""), (1, "x")],
-        ),
-    ];
-    for (lines, word, expected) in cases {
-        let dictionary = extended(rt.alloc(), "1 1", lines)?;
-        let scores = dictionary.score(rt.alloc(), word)?;
-        assert_eq!(rt; scores.len(), expected.len(), "{lines}");
-        for ((value, change), (number, substitution)) in scores.iter().zip(expected) {
-            assert_eq!(rt; value, number, "{lines}");
-            let is_told = match change {
-                Some(_) => substitutes(change, substitution),
-                None => substitution.is_empty(),
-            };
-            assert!(rt; is_told, "{lines}");
-        }
-    }
+fn of_equal_values_the_winner_is_the_key_that_starts_first(rt: HostRuntime) -> Result<(), Fail> {
+    assert_eq!(rt;
+        winners_by(rt.alloc(), "p a1b\np ca1bd 2,1,0,1,x", "cabd")?.as_str(),
+        "0 1x 0 ,"
+    );
+    assert_eq!(rt;
+        winners_by(rt.alloc(), "p a1b 1,1,0,1,x\np ca1bd", "cabd")?.as_str(),
+        "0 1 0 ,"
+    );
+    Ok(())
+}
+
+#[test]
+fn of_keys_that_start_alike_the_winner_is_the_shortest(rt: HostRuntime) -> Result<(), Fail> {
+    assert_eq!(rt;
+        winners_by(rt.alloc(), "p a1b 1,1,0,1,x\np a1bd", "abd")?.as_str(),
+        "1x 0 ,"
+    );
+    Ok(())
+}
+
+#[test]
+fn the_greatest_value_wins_wherever_its_key_starts(rt: HostRuntime) -> Result<(), Fail> {
+    assert_eq!(rt;
+        winners_by(rt.alloc(), "p a2b\np ca1bd 2,1,0,1,x", "cabd")?.as_str(),
+        "0 2 0 ,"
+    );
+    Ok(())
+}
+
+#[test]
+fn a_key_that_ends_last_wins_where_it_starts_first(rt: HostRuntime) -> Result<(), Fail> {
+    let lines = "p b1c 1,1,0,1,x\np ab1cd\np zab1cde 3,1,0,1,y";
+    assert_eq!(rt;
+        winners_by(rt.alloc(), lines, "zabcde abcd xbc")?.as_str(),
+        "0 0 1y 0 0 ,0 1 0 ,0 1x ,"
+    );
     Ok(())
 }
 
@@ -64,56 +68,53 @@ fn a_changed_score_takes_few_look_ups(rt: HostRuntime) -> Result<(), Fail> {
     Ok(())
 }
 
+/// Whether a run over an extended text of these lines writes this line of the values of a word.
+fn writes(alloc: Global, lines: &str, word: &str, line: &str) -> Option<bool> {
+    let text = text_of(alloc, "1 1", lines).ok()?;
+    let mut reader = text.as_bytes();
+    let mut written: Vec<u8> = Vec::new(alloc);
+    run_score(
+        alloc,
+        Kind::Extended,
+        Language::hungarian(),
+        word,
+        &mut reader,
+        &mut written,
+    )
+    .ok()?;
+    Some(written.as_slice() == line.as_bytes())
+}
+
 #[test]
-fn a_run_writes_the_values_without_their_changes(rt: HostRuntime) -> Result<(), Fail> {
-    let alloc = rt.alloc();
-    let cases: [(&str, &str, &str); 4] = [
-        ("p a1b\np ca1bd 2,1,0,1,x", "cabd", "0 1 0\n"),
-        ("p a1b 1,1,0,1,x\np a1bd", "abd", "1 0\n"),
-        ("p a1b\np ca1bd 2,1,0,1,x", "CABD", "0 0 0\n"),
-        ("p a1b 1,1,0,1,x", "", "\n"),
-    ];
-    for (lines, word, line) in cases {
-        let text = text_of(alloc, "1 1", lines)?;
-        let mut reader = text.as_bytes();
-        let mut written: Vec<u8> = Vec::new(alloc);
-        let language = Language::hungarian();
-        let answer = run_score(
-            alloc,
-            Kind::Extended,
-            language,
-            word,
-            &mut reader,
-            &mut written,
-        );
-        assert!(rt; answer.is_ok(), "{lines}");
-        assert_eq!(rt; written.as_slice(), line.as_bytes(), "{lines}");
-    }
-    Ok(())
+fn a_run_writes_the_values_without_their_changes(rt: HostRuntime) {
+    let lines = "p a1b\np ca1bd 2,1,0,1,x";
+    assert_eq!(rt; writes(rt.alloc(), lines, "cabd", "0 1 0\n"), Some(true));
+    assert_eq!(rt; writes(rt.alloc(), lines, "CABD", "0 0 0\n"), Some(true));
+    assert_eq!(rt; writes(rt.alloc(), lines, "", "\n"), Some(true));
+    let lines = "p a1b 1,1,0,1,x\np a1bd";
+    assert_eq!(rt; writes(rt.alloc(), lines, "abd", "1 0\n"), Some(true));
+}
+
+/// Whether a run of a kind over a dictionary text ends with a refusal of its head, and writes nothing.
+fn is_refused(alloc: Global, kind: Kind, text: &str) -> bool {
+    let mut reader = text.as_bytes();
+    let mut written: Vec<u8> = Vec::new(alloc);
+    let language = Language::hungarian();
+    let answer = run_score(alloc, kind, language, "ab", &mut reader, &mut written);
+    let is_told = matches!(
+        answer,
+        Err(RunError::Dictionary(Error::Deserialization {
+            line: 1,
+            cause: Cause::Header,
+        }))
+    );
+    is_told && written.is_empty()
 }
 
 #[test]
 fn a_run_takes_a_text_of_its_kind_alone(rt: HostRuntime) -> Result<(), Fail> {
-    let alloc = rt.alloc();
-    let text = text_of(alloc, "1 1", "p a1b")?;
-    let cases = [
-        (Kind::Standard, text.as_str()),
-        (Kind::Extended, crate::texts::FIRKIN),
-    ];
-    for (kind, text) in cases {
-        let mut reader = text.as_bytes();
-        let mut written: Vec<u8> = Vec::new(alloc);
-        let language = Language::hungarian();
-        let answer = run_score(alloc, kind, language, "ab", &mut reader, &mut written);
-        let is_refused = matches!(
-            answer,
-            Err(RunError::Dictionary(Error::Deserialization {
-                line: 1,
-                cause: Cause::Header,
-            }))
-        );
-        assert!(rt; is_refused, "{kind:?}");
-        assert_eq!(rt; written.len(), 0);
-    }
+    let text = text_of(rt.alloc(), "1 1", "p a1b")?;
+    assert!(rt; is_refused(rt.alloc(), Kind::Standard, &text));
+    assert!(rt; is_refused(rt.alloc(), Kind::Extended, crate::texts::FIRKIN));
     Ok(())
 }

@@ -1,5 +1,6 @@
 //! How words are broken by extended dictionaries, whose breaks may change the letters around them.
 
+use crate::answers::{changed, places, push_next, told, told_if};
 use hyphenation::Load;
 use hyphenation::extended::{Extended, Subregion};
 use hyphenation::hyphenator::{Hyphenator, Word};
@@ -20,84 +21,77 @@ pub fn text_of(alloc: Global, minima: &str, lines: &str) -> Result<String, Alloc
     format!(in alloc; "hyphenation 1 extended\nlanguage hu\nminima {minima}\n{lines}\n")
 }
 
-/// The segments of a word, with a bar behind each but the last.
-fn barred(alloc: Global, dictionary: &Extended, word: &str) -> Result<String, AllocError> {
-    let mut items = dictionary.hyphenate(alloc, word)?.into_iter();
-    items.mark_with("|");
-    let mut joined = String::new(alloc);
-    for item in items {
-        joined.push_str(item?.as_str())?;
-    }
-    Ok(joined)
+/// Words that a space parts, as an extended dictionary of these minima and these lines breaks and changes them.
+pub fn changed_by(alloc: Global, minima: &str, lines: &str, words: &str) -> Result<String, Fail> {
+    let dictionary = extended(alloc, minima, lines)?;
+    let found = changed(alloc, &dictionary, words)?;
+    Ok(found)
 }
 
 #[test]
 fn a_change_stands_in_place_of_its_range(rt: HostRuntime) -> Result<(), Fail> {
-    let cases: [(&str, &str, &str); 9] = [
-        ("e abcd 2,1,1,1,x", "abcd", "ax|d"),
-        ("e abcd 2,1,1,0,x", "abcd", "a|xd"),
-        (
-            "e abcdef 2,1,2,1,x 3,0,1,0,y 5,0,0,0,z",
-            "abcdef",
-            "ax|e|zf",
-        ),
-        ("e abcdef 2,1,2,1,x 4", "abcdef", "ax||ef"),
-        ("e ßab 3,1,1,1,xy", "ẞAB", "ẞx|y"),
-        ("e ab 1,1,1,2,a,b", "ab", "a,|b"),
-        ("p a1b 1,1,1,2,a,b", "ab", "a,|b"),
-        ("e ab 1,1,1,0,\\e", "ab", "|"),
-        ("e abcd 2", "abcd", "ab|cd"),
-    ];
-    for (lines, word, segments) in cases {
-        let dictionary = extended(rt.alloc(), "1 1", lines)?;
-        let found = barred(rt.alloc(), &dictionary, word)?;
-        assert_eq!(rt; found.as_str(), segments, "{lines}");
-    }
+    let lines =
+        "e abcd 2,1,1,1,x\ne bbcd 2,1,1,0,x\ne abcdef 2,1,2,1,x 3,0,1,0,y 5,0,0,0,z\ne bbcdef 2,1,2,1,x 4\ne ßab 3,1,1,1,xy\ne ab 1,1,1,2,a,b\np c1d 1,1,1,2,c,d\ne bb 1,1,1,0,\\e\ne accd 2";
+    let words = "abcd bbcd abcdef bbcdef ẞAB ab cd bb accd";
+    let found = changed_by(rt.alloc(), "1 1", lines, words)?;
+    assert_eq!(rt;
+        found.as_str(),
+        "ax=d b=xd ax=e=zf bx==ef ẞx=y a,=b c,=d = ac=cd "
+    );
+    Ok(())
+}
+
+const DOUBLED: &str = "e asszonnyal 2,1,2,2,szsz 6,1,2,2,nyny\ne esszé 2,1,2,2,szsz";
+
+#[test]
+fn doubled_letters_come_back_where_a_word_is_broken(rt: HostRuntime) -> Result<(), Fail> {
+    let found = changed_by(rt.alloc(), "2 2", DOUBLED, "asszonnyal esszé Esszé")?;
+    assert_eq!(rt; found.as_str(), "asz=szony=nyal esz=szé Esz=szé ");
     Ok(())
 }
 
 #[test]
-fn doubled_letters_come_back_where_a_word_is_broken(rt: HostRuntime) -> Result<(), Fail> {
-    let cases: [(&str, &str, &str); 5] = [
-        (
-            "e asszonnyal 2,1,2,2,szsz 6,1,2,2,nyny",
-            "asszonnyal",
-            "asz|szony|nyal",
-        ),
-        (
-            "e asszonnyal 2,1,0,2,sz 6,1,0,2,ny",
-            "asszonnyal",
-            "asz|szony|nyal",
-        ),
-        (
-            "e asszonnyal 2,1,2,2,szsz 3 6,1,2,2,nyny",
-            "asszonnyal",
-            "asz|szony|nyal",
-        ),
-        ("e esszé 2,1,2,2,szsz", "esszé", "esz|szé"),
-        ("e esszé 2,1,2,2,szsz", "Esszé", "Esz|szé"),
-    ];
-    for (lines, word, segments) in cases {
-        let dictionary = extended(rt.alloc(), "2 2", lines)?;
-        let found = barred(rt.alloc(), &dictionary, word)?;
-        assert_eq!(rt; found.as_str(), segments, "{lines}");
-    }
+fn a_letter_comes_in_where_a_word_is_broken(rt: HostRuntime) -> Result<(), Fail> {
+    let line = "e asszonnyal 2,1,0,2,sz 6,1,0,2,ny";
+    let found = changed_by(rt.alloc(), "2 2", line, "asszonnyal")?;
+    assert_eq!(rt; found.as_str(), "asz=szony=nyal ");
     Ok(())
+}
+
+/// A list with a place within the range of the break before it.
+const OVERLAPPING: &str = "e asszonnyal 2,1,2,2,szsz 3 6,1,2,2,nyny";
+
+/// The breaks of words by an extended dictionary of these minima and these lines.
+pub fn places_by(alloc: Global, minima: &str, lines: &str, words: &str) -> Result<String, Fail> {
+    let dictionary = extended(alloc, minima, lines)?;
+    let found = places(alloc, &dictionary, words)?;
+    Ok(found)
 }
 
 #[test]
 fn a_place_within_a_kept_range_is_left_out(rt: HostRuntime) -> Result<(), Fail> {
-    let alloc = rt.alloc();
-    let dictionary = extended(alloc, "2 2", "e asszonnyal 2,1,2,2,szsz 3 6,1,2,2,nyny")?;
-    let listed = dictionary.exception(alloc, "asszonnyal")?.ok_or("a list")?;
-    assert_eq!(rt; listed.len(), 3);
-    let word = dictionary.hyphenate(alloc, "asszonnyal")?;
-    assert_eq!(rt; word.breaks.len(), 2);
-    assert!(rt;
-        word.breaks
-            .iter()
-            .all(|(place, change)| *place != 3 && change.is_some())
-    );
+    let found = places_by(rt.alloc(), "2 2", OVERLAPPING, "asszonnyal")?;
+    assert_eq!(rt; found.as_str(), "2szsz 6nyny ,");
+    Ok(())
+}
+
+#[test]
+fn the_breaks_beside_a_place_left_out_are_changed(rt: HostRuntime) -> Result<(), Fail> {
+    let found = changed_by(rt.alloc(), "2 2", OVERLAPPING, "asszonnyal")?;
+    assert_eq!(rt; found.as_str(), "asz=szony=nyal ");
+    Ok(())
+}
+
+/// The list of an exception in a dictionary of these lines.
+pub fn exception(alloc: Global, lines: &str, word: &str) -> Result<String, Fail> {
+    let dictionary = extended(alloc, "2 2", lines)?;
+    Ok(told_if(alloc, dictionary.exception(alloc, word)?)?)
+}
+
+#[test]
+fn a_place_within_a_range_is_listed(rt: HostRuntime) -> Result<(), Fail> {
+    let found = exception(rt.alloc(), OVERLAPPING, "asszonnyal")?;
+    assert_eq!(rt; found.as_str(), "2szsz 3 6nyny ");
     Ok(())
 }
 
@@ -105,34 +99,38 @@ fn a_place_within_a_kept_range_is_left_out(rt: HostRuntime) -> Result<(), Fail> 
 fn a_range_over_a_letter_whose_length_folding_changed_is_left_out(
     rt: HostRuntime,
 ) -> Result<(), Fail> {
-    let alloc = rt.alloc();
-    let dictionary = extended(alloc, "1 1", "e aßb 1 3,2,0,2,ss")?;
-    assert_eq!(rt; barred(alloc, &dictionary, "aßb")?.as_str(), "a|ss|b");
-    assert_eq!(rt; barred(alloc, &dictionary, "AẞB")?.as_str(), "A|ẞB");
-    let word = dictionary.hyphenate(alloc, "AẞB")?;
-    assert_eq!(rt; word.breaks.len(), 1);
-    assert!(rt;
-        word.breaks
-            .iter()
-            .all(|(place, change)| *place == 1 && change.is_none())
-    );
+    let line = "e aßb 1 3,2,0,2,ss";
+    let found = changed_by(rt.alloc(), "1 1", line, "aßb AẞB")?;
+    assert_eq!(rt; found.as_str(), "a=ss=b A=ẞB ");
+    Ok(())
+}
+
+#[test]
+fn a_break_left_out_is_no_break_of_the_word(rt: HostRuntime) -> Result<(), Fail> {
+    let line = "e aßb 1 3,2,0,2,ss";
+    let found = places_by(rt.alloc(), "1 1", line, "aßb AẞB")?;
+    assert_eq!(rt; found.as_str(), "1 3ss ,1 ,");
     Ok(())
 }
 
 #[test]
 fn a_range_that_passes_an_edge_of_the_word_is_left_out(rt: HostRuntime) -> Result<(), Fail> {
-    let alloc = rt.alloc();
-    let dictionary = extended(alloc, "1 1", "p .a1b 2,2,0,1,x")?;
-    let found = dictionary.opportunities(alloc, "abc")?;
-    assert_eq!(rt; found.len(), 1);
-    assert!(rt;
-        found
-            .iter()
-            .all(|(place, change)| *place == 1 && substitutes(change, "x"))
-    );
-    assert_eq!(rt; dictionary.hyphenate(alloc, "abc")?.breaks.len(), 0);
-    let soft = dictionary.hyphenate(alloc, "\u{ad}ab")?;
-    assert_eq!(rt; soft.breaks.len(), 1);
+    let found = places_by(rt.alloc(), "1 1", "p .a1b 2,2,0,1,x", "abc \u{ad}ab")?;
+    assert_eq!(rt; found.as_str(), ",0 ,");
+    Ok(())
+}
+
+/// The breaks that a dictionary of these lines allows in a word in small letters.
+fn opportunities(alloc: Global, lines: &str, word: &str) -> Result<String, Fail> {
+    let dictionary = extended(alloc, "1 1", lines)?;
+    let found = dictionary.opportunities(alloc, word)?;
+    Ok(told(alloc, &found)?)
+}
+
+#[test]
+fn a_range_that_passes_an_edge_of_the_word_is_allowed(rt: HostRuntime) -> Result<(), Fail> {
+    let found = opportunities(rt.alloc(), "p .a1b 2,2,0,1,x", "abc")?;
+    assert_eq!(rt; found.as_str(), "1x ");
     Ok(())
 }
 
@@ -151,52 +149,61 @@ fn without<'d>(
     Ok(others)
 }
 
+/// Whether the breaks that are listed for `abcdef`, but those at a place, fit it.
+fn fit_without(alloc: Global, dictionary: &Extended, place: usize) -> Result<bool, Fail> {
+    let listed = dictionary.exception_within(alloc, "abcdef", (0, 6))?;
+    let others = without(alloc, &listed.ok_or("a list")?, place)?;
+    Ok(Word::fits("abcdef", &others))
+}
+
 #[test]
 fn breaks_fit_where_no_range_begins_before_the_end_of_another(rt: HostRuntime) -> Result<(), Fail> {
-    let alloc = rt.alloc();
     let lines = "e abcdef 2,1,2,1,x 3,0,1,0,y 5,0,0,0,z";
-    let dictionary = extended(alloc, "1 1", lines)?;
-    let listed = dictionary.exception_within(alloc, "abcdef", (0, 6))?;
-    let breaks = listed.ok_or("a list")?;
-    assert_eq!(rt; breaks.len(), 3);
-    assert!(rt; !Word::fits("abcdef", &breaks));
-    let apart = without(alloc, &breaks, 3)?;
-    assert_eq!(rt; apart.len(), 2);
-    assert!(rt; Word::fits("abcdef", &apart));
+    let dictionary = extended(rt.alloc(), "1 1", lines)?;
+    assert!(rt; !fit_without(rt.alloc(), &dictionary, 0)?);
+    assert!(rt; fit_without(rt.alloc(), &dictionary, 3)?);
     Ok(())
+}
+
+/// How a word has each of its segments: lent or made.
+fn lent_or_made(alloc: Global, dictionary: &Extended, word: &str) -> Result<String, AllocError> {
+    let mut output = String::new(alloc);
+    for segment in dictionary.hyphenate(alloc, word)?.into_iter().segments() {
+        output.push_str(match segment? {
+            CowStr::Borrowed(_) => "lent ",
+            CowStr::Owned(_) => "made ",
+        })?;
+    }
+    Ok(output)
 }
 
 #[test]
 fn segments_beside_no_change_are_lent(rt: HostRuntime) -> Result<(), Fail> {
-    let alloc = rt.alloc();
-    let dictionary = extended(alloc, "1 1", "e abcdefg 2,1,2,1,x 5 6")?;
-    let word = dictionary.hyphenate(alloc, "abcdefg")?;
-    let mut lent = 0u8;
-    let mut made = 0u8;
-    for segment in word.into_iter().segments() {
-        match segment? {
-            CowStr::Borrowed(_) => lent = lent.saturating_add(1),
-            CowStr::Owned(_) => made = made.saturating_add(1),
-        }
-    }
-    assert_eq!(rt; (made, lent), (2, 2));
+    let dictionary = extended(rt.alloc(), "1 1", "e abcdefg 2,1,2,1,x 5 6")?;
+    let found = lent_or_made(rt.alloc(), &dictionary, "abcdefg")?;
+    assert_eq!(rt; found.as_str(), "made made lent lent ");
     Ok(())
+}
+
+/// The items of a word, the second and later ones with the mark `=`, each behind the number of those that are left; two
+/// more are asked for than there are.
+fn marked_anew(alloc: Global, dictionary: &Extended, word: &str) -> Result<String, AllocError> {
+    let found = dictionary.hyphenate(alloc, word)?;
+    let number = found.breaks.len().saturating_add(3);
+    let mut items = found.into_iter();
+    let mut output = String::new(alloc);
+    for _ in 0..number {
+        push_next(&mut output, alloc, &mut items)?;
+        items.mark_with("=");
+    }
+    Ok(output)
 }
 
 #[test]
 fn a_new_mark_holds_for_the_changed_segments_to_come(rt: HostRuntime) -> Result<(), Fail> {
-    let alloc = rt.alloc();
-    let lines = "e asszonnyal 2,1,2,2,szsz 6,1,2,2,nyny";
-    let dictionary = extended(alloc, "2 2", lines)?;
-    let mut items = dictionary.hyphenate(alloc, "asszonnyal")?.into_iter();
-    assert_eq!(rt; items.size_hint(), (3, Some(3)));
-    assert_eq!(rt; items.next().ok_or("none")??.as_str(), "asz-");
-    items.mark_with("=");
-    assert_eq!(rt; items.next().ok_or("none")??.as_str(), "szony=");
-    assert_eq!(rt; items.next().ok_or("none")??.as_str(), "nyal");
-    assert_eq!(rt; items.size_hint(), (0, Some(0)));
-    assert!(rt; items.next().is_none());
-    assert!(rt; items.next().is_none());
+    let dictionary = extended(rt.alloc(), "2 2", DOUBLED)?;
+    let found = marked_anew(rt.alloc(), &dictionary, "asszonnyal")?;
+    assert_eq!(rt; found.as_str(), "3 asz-,2 szony=,1 nyal,0 none,0 none,");
     Ok(())
 }
 
@@ -209,38 +216,47 @@ pub fn substitutes(change: &Option<&Subregion>, substitution: &str) -> bool {
 }
 
 #[test]
-fn a_listed_change_is_told_and_replaced(rt: HostRuntime) -> Result<(), Fail> {
-    let alloc = rt.alloc();
-    let mut dictionary = extended(alloc, "2 2", "e esszé 2,1,2,2,szsz")?;
-    for found in [
-        dictionary.exception(alloc, "esszé")?,
-        dictionary.exception_within(alloc, "esszé", (0, 6))?,
-    ] {
-        let found = found.ok_or("a list")?;
-        assert_eq!(rt; found.len(), 1);
-        assert!(rt; found.iter().all(|(place, change)| *place == 2 && substitutes(change, "szsz")));
-    }
-    assert_eq!(rt;
-        dictionary
-            .opportunities_within(alloc, "esszé", (0, 6))?
-            .len(),
-        0
-    );
+fn a_listed_change_is_told(rt: HostRuntime) -> Result<(), Fail> {
+    assert_eq!(rt; exception(rt.alloc(), DOUBLED, "esszé")?.as_str(), "2szsz ");
+    Ok(())
+}
+
+/// What is listed for `esszé` within it, and then what patterns allow there.
+fn within(alloc: Global) -> Result<String, Fail> {
+    let dictionary = extended(alloc, "2 2", DOUBLED)?;
+    let mut found = told_if(alloc, dictionary.exception_within(alloc, "esszé", (0, 6))?)?;
+    let allowed = dictionary.opportunities_within(alloc, "esszé", (0, 6))?;
+    found.push_str(&told(alloc, &allowed)?)?;
+    Ok(found)
+}
+
+#[test]
+fn a_listed_change_is_no_change_of_a_pattern(rt: HostRuntime) -> Result<(), Fail> {
+    assert_eq!(rt; within(rt.alloc())?.as_str(), "2szsz ");
+    Ok(())
+}
+
+/// Lists a plain place for `esszé`, where it fits; the old list.
+fn list(alloc: Global, dictionary: &mut Extended, place: usize) -> Result<String, AllocError> {
     let word = String::from_str(alloc, "esszé")?;
-    let plain = vec![in alloc; (3, None)]?;
-    assert!(rt; Extended::fits(&word, &plain));
-    let old = dictionary.add_exception(word, plain)?.ok_or("a list")?;
-    assert_eq!(rt; old.len(), 1);
-    for (place, change) in old {
-        assert_eq!(rt; place, 2);
-        assert!(rt; substitutes(&change.as_ref(), "szsz"));
+    let plain = vec![in alloc; (place, None)]?;
+    if Extended::fits(&word, &plain) {
+        told_if(alloc, dictionary.add_exception(word, plain)?)
+    } else {
+        String::from_str(alloc, "unfit")
     }
-    let found = dictionary.exception(alloc, "esszé")?.ok_or("a list")?;
-    assert_eq!(rt; found.len(), 1);
-    assert!(rt;
-        found
-            .iter()
-            .all(|(place, change)| *place == 3 && change.is_none())
-    );
+}
+
+/// The old list of `esszé` where it is replaced by the place 3, and then the new one.
+fn replaced(alloc: Global) -> Result<String, Fail> {
+    let mut dictionary = extended(alloc, "2 2", DOUBLED)?;
+    let mut found = list(alloc, &mut dictionary, 3)?;
+    found.push_str(&told_if(alloc, dictionary.exception(alloc, "esszé")?)?)?;
+    Ok(found)
+}
+
+#[test]
+fn a_listed_change_is_replaced(rt: HostRuntime) -> Result<(), Fail> {
+    assert_eq!(rt; replaced(rt.alloc())?.as_str(), "2szsz 3 ");
     Ok(())
 }

@@ -4,6 +4,7 @@ use crate::texts::FIRKIN;
 use hyphenation::engine::{Kind, RunError, run_score};
 use hyphenation::load::{Error, Load};
 use hyphenation::{Language, Standard};
+use std::alloc::Global;
 use std::io;
 use std::io::{ErrorKind, Read, Write};
 use std::test::Fail;
@@ -96,32 +97,28 @@ fn a_fault_of_reading_is_answered_before_any_line_is_judged(rt: HostRuntime) {
     }
 }
 
+/// What loading answers of bytes that a reading gave.
+fn loaded(alloc: Global, bytes: &[u8]) -> Result<Standard, Error> {
+    let bytes = Vec::from_slice(alloc, bytes).map_err(Error::Memory)?;
+    Standard::from_read(alloc, Ok(bytes))
+}
+
 #[test]
-fn what_a_reading_gave_is_judged_or_passed_on(rt: HostRuntime) -> Result<(), Fail> {
-    let bytes = Vec::from_slice(rt.alloc(), FIRKIN.as_bytes())?;
-    assert!(rt; Standard::from_read(rt.alloc(), Ok(bytes)).is_ok());
-    let refused = Vec::from_slice(rt.alloc(), b"binary \0")?;
-    assert!(rt;
-        matches!(
-            Standard::from_read(rt.alloc(), Ok(refused)),
-            Err(Error::Deserialization { line: 1, .. })
-        )
-    );
+fn what_a_reading_gave_is_judged(rt: HostRuntime) {
+    let answer = loaded(rt.alloc(), FIRKIN.as_bytes());
+    assert!(rt; answer.is_ok());
+    let answer = loaded(rt.alloc(), b"binary \0");
+    assert!(rt; matches!(answer, Err(Error::Deserialization { line: 1, .. })));
+}
+
+#[test]
+fn a_fault_that_a_reading_gave_is_passed_on(rt: HostRuntime) {
     let fault = io::Error::from(ErrorKind::PermissionDenied);
-    assert!(rt;
-        matches!(
-            Standard::from_read(rt.alloc(), Err(fault)),
-            Err(Error::IO(_))
-        )
-    );
+    let answer = Standard::from_read(rt.alloc(), Err(fault));
+    assert!(rt; matches!(answer, Err(Error::IO(e)) if e.kind() == ErrorKind::PermissionDenied));
     let memory = io::Error::from(ErrorKind::OutOfMemory);
-    assert!(rt;
-        matches!(
-            Standard::from_read(rt.alloc(), Err(memory)),
-            Err(Error::Memory(_))
-        )
-    );
-    Ok(())
+    let answer = Standard::from_read(rt.alloc(), Err(memory));
+    assert!(rt; matches!(answer, Err(Error::Memory(_))));
 }
 
 #[test]

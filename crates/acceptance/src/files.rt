@@ -1,8 +1,10 @@
 //! Dictionaries in files, and files of one byte.
 
+use crate::answers::{changed, places};
+use crate::changes::text_of;
 use hyphenation::extended::Extended;
 use hyphenation::load::{Cause, Error, Load};
-use hyphenation::{Hyphenator, Language, Standard};
+use hyphenation::{Language, Standard};
 use std::test::Fail;
 use std::{env, fs, process};
 
@@ -18,39 +20,62 @@ fn file(rt: &HostRuntime, name: &str, bytes: &[u8]) -> Result<String, Fail> {
     Ok(path)
 }
 
+/// The standard dictionary of a new file, which is taken away again.
+fn standard_of(rt: &HostRuntime, name: &str, asked: Language) -> Result<Standard, Fail> {
+    let path = file(rt, name, crate::runs::FIRKIN.as_bytes())?;
+    let answer = Standard::from_path(rt, rt.alloc(), asked, &path);
+    fs::remove_file(rt, path.as_str())?;
+    Ok(answer?)
+}
+
 #[test]
 fn a_standard_dictionary_is_loaded_from_a_file(rt: HostRuntime) -> Result<(), Fail> {
-    let path = file(&rt, "standard", crate::runs::FIRKIN.as_bytes())?;
-    let asked = Language::english_us();
-    let dictionary = Standard::from_path(&rt, rt.alloc(), asked, &path)?;
-    let word = dictionary.hyphenate(rt.alloc(), "firkin")?;
-    assert_eq!(rt; word.breaks.as_slice(), [3].as_slice());
-    let other = Standard::from_path(&rt, rt.alloc(), Language::turkish(), &path);
-    assert!(rt; matches!(other, Err(Error::LanguageMismatch { .. })));
-    fs::remove_file(&rt, path.as_str())?;
-    let missing = Standard::from_path(&rt, rt.alloc(), asked, &path);
-    assert!(rt; matches!(missing, Err(Error::IO(_))));
-    let folder = Standard::from_path(&rt, rt.alloc(), asked, ".");
-    assert!(rt; matches!(folder, Err(Error::IO(_))));
+    let dictionary = standard_of(&rt, "standard", Language::english_us())?;
+    let found = places(rt.alloc(), &dictionary, "firkin")?;
+    assert_eq!(rt; found.as_str(), "3 ,");
     Ok(())
 }
 
 #[test]
-fn an_extended_dictionary_is_loaded_from_a_file(rt: HostRuntime) -> Result<(), Fail> {
-    let text =
-        b"hyphenation 1 extended\nlanguage hu\nminima 2 2\ne asszonnyal 2,1,2,2,szsz 6,1,2,2,nyny\n";
-    let path = file(&rt, "extended", text)?;
-    let dictionary = Extended::from_path(&rt, rt.alloc(), Language::hungarian(), &path)?;
-    let word = dictionary.hyphenate(rt.alloc(), "asszonnyal")?;
-    let mut segments = String::new(rt.alloc());
-    for segment in word.into_iter().segments() {
-        segments.push_str(segment?.as_str())?;
-        segments.push('|')?;
-    }
-    assert_eq!(rt; segments.as_str(), "asz|szony|nyal|");
+fn a_file_of_another_language_is_a_mismatch(rt: HostRuntime) -> Result<(), Fail> {
+    let path = file(&rt, "other", crate::runs::FIRKIN.as_bytes())?;
+    let answer = Standard::from_path(&rt, rt.alloc(), Language::turkish(), &path);
     fs::remove_file(&rt, path.as_str())?;
-    let missing = Extended::from_path(&rt, rt.alloc(), Language::hungarian(), &path);
-    assert!(rt; matches!(missing, Err(Error::IO(_))));
+    assert!(rt; matches!(answer, Err(Error::LanguageMismatch { .. })));
+    Ok(())
+}
+
+#[test]
+fn a_missing_file_is_a_fault_of_opening(rt: HostRuntime) -> Result<(), Fail> {
+    let path = file(&rt, "missing", b"")?;
+    fs::remove_file(&rt, path.as_str())?;
+    let answer = Standard::from_path(&rt, rt.alloc(), Language::english_us(), &path);
+    assert!(rt; matches!(answer, Err(Error::IO(_))));
+    let answer = Extended::from_path(&rt, rt.alloc(), Language::hungarian(), &path);
+    assert!(rt; matches!(answer, Err(Error::IO(_))));
+    Ok(())
+}
+
+#[test]
+fn a_folder_is_no_dictionary(rt: HostRuntime) {
+    let answer = Standard::from_path(&rt, rt.alloc(), Language::english_us(), ".");
+    assert!(rt; matches!(answer, Err(Error::IO(_))));
+}
+
+/// The extended dictionary of a new file, which is taken away again.
+fn extended_of(rt: &HostRuntime, name: &str, text: &str) -> Result<Extended, Fail> {
+    let path = file(rt, name, text.as_bytes())?;
+    let answer = Extended::from_path(rt, rt.alloc(), Language::hungarian(), &path);
+    fs::remove_file(rt, path.as_str())?;
+    Ok(answer?)
+}
+
+#[test]
+fn an_extended_dictionary_is_loaded_from_a_file(rt: HostRuntime) -> Result<(), Fail> {
+    let text = text_of(rt.alloc(), "2 2", "e asszonnyal 2,1,2,2,szsz 6,1,2,2,nyny")?;
+    let dictionary = extended_of(&rt, "extended", &text)?;
+    let found = changed(rt.alloc(), &dictionary, "asszonnyal")?;
+    assert_eq!(rt; found.as_str(), "asz=szony=nyal ");
     Ok(())
 }
 

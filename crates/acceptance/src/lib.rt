@@ -2,6 +2,10 @@
 #![tactic(auto)]
 
 #[cfg(test)]
+mod answers;
+#[cfg(test)]
+mod awkward;
+#[cfg(test)]
 mod beginnings;
 #[cfg(test)]
 mod changed_scores;
@@ -17,6 +21,8 @@ mod faults;
 mod files;
 #[cfg(test)]
 mod lines;
+#[cfg(test)]
+mod long_texts;
 #[cfg(test)]
 mod long_words;
 #[cfg(test)]

@@ -92,102 +92,157 @@ fn filled<D: Read, I: Read, O: Write>(
     run_fill(alloc, Language::english_us(), 5, dictionary, input, output)
 }
 
+/// Whether a run over readers of at most so many bytes a read writes the marked text.
+fn is_marked(alloc: Global, most: usize) -> bool {
+    let mut output: Vec<u8> = Vec::new(alloc);
+    let end = marked(
+        alloc,
+        &mut in_pieces(FIRKIN.as_bytes(), most),
+        &mut in_pieces(TEXT, most),
+        &mut output,
+    );
+    end.is_ok() && output.as_slice() == MARKED
+}
+
+/// Whether a run over such readers writes the lines.
+fn is_filled(alloc: Global, most: usize) -> bool {
+    let mut output: Vec<u8> = Vec::new(alloc);
+    let end = filled(
+        alloc,
+        &mut in_pieces(FIRKIN.as_bytes(), most),
+        &mut in_pieces(TEXT, most),
+        &mut output,
+    );
+    end.is_ok() && output.as_slice() == LINES
+}
+
 #[test]
-fn the_sizes_of_the_reads_change_nothing(rt: HostRuntime) -> Result<(), Fail> {
-    let alloc = rt.alloc();
+fn the_sizes_of_the_reads_change_nothing(rt: HostRuntime) {
     let whole = FIRKIN.len();
-    for most in [1, 2, 3, whole - 1, whole] {
-        let mut output: Vec<u8> = Vec::new(alloc);
-        let end = marked(
-            alloc,
-            &mut in_pieces(FIRKIN.as_bytes(), most),
-            &mut in_pieces(TEXT, most),
-            &mut output,
-        );
-        assert!(rt; end.is_ok(), "{most}");
-        assert_eq!(rt; output.as_slice(), MARKED, "{most}");
+    for most in [1, 2, 3, whole - 1, whole, TEXT.len() - 1, TEXT.len()] {
+        assert!(rt; is_marked(rt.alloc(), most), "{most}");
+        assert!(rt; is_filled(rt.alloc(), most), "{most}");
     }
-    for most in [1, 2, TEXT.len() - 1, TEXT.len()] {
-        let mut output: Vec<u8> = Vec::new(alloc);
-        let end = filled(
-            alloc,
-            &mut in_pieces(FIRKIN.as_bytes(), most),
-            &mut in_pieces(TEXT, most),
-            &mut output,
-        );
-        assert!(rt; end.is_ok(), "{most}");
-        assert_eq!(rt; output.as_slice(), LINES, "{most}");
-    }
-    Ok(())
+}
+
+/// Loads from a reader of the least text whose read of this number fails so.
+fn load_once(alloc: Global, number: usize, kind: ErrorKind) -> Result<Standard, Error> {
+    Standard::any_from_reader(alloc, &mut once(LEAST, number, kind))
+}
+
+/// Whether the fault of a read is told as it was.
+fn is_told(alloc: Global, number: usize) -> bool {
+    let answer = load_once(alloc, number, ErrorKind::ConnectionReset);
+    matches!(&answer, Err(e) if is_torn(e))
+}
+
+/// The same where an extended dictionary of a language is asked for.
+fn is_told_extended(alloc: Global, number: usize) -> bool {
+    let mut reader = once(LEAST, number, ErrorKind::ConnectionReset);
+    let answer = Extended::from_reader(alloc, Language::hungarian(), &mut reader);
+    matches!(&answer, Err(e) if is_torn(e))
+}
+
+/// Whether want of memory of a read is want of memory.
+fn wants_memory(alloc: Global, number: usize) -> bool {
+    let answer = load_once(alloc, number, ErrorKind::OutOfMemory);
+    matches!(&answer, Err(Error::Memory(_)))
 }
 
 #[test]
 fn a_read_that_fails_once_ends_the_loading(rt: HostRuntime) {
-    let alloc = rt.alloc();
-    let kind = ErrorKind::ConnectionReset;
     // 54 bytes in pairs are 27 reads, and one more finds the end
     for number in 1..=28 {
-        let any = Standard::any_from_reader(alloc, &mut once(LEAST, number, kind));
-        assert!(rt; matches!(&any, Err(e) if is_torn(e)), "{number}");
-        let asked = Extended::from_reader(
-            alloc,
-            Language::hungarian(),
-            &mut once(LEAST, number, kind),
-        );
-        assert!(rt; matches!(&asked, Err(e) if is_torn(e)), "{number}");
-        let mut reader = once(LEAST, number, ErrorKind::OutOfMemory);
-        let wanting = Standard::any_from_reader(alloc, &mut reader);
-        assert!(rt; matches!(wanting, Err(Error::Memory(_))), "{number}");
-        let mut reader = once(LEAST, number, ErrorKind::Interrupted);
-        let again = Standard::any_from_reader(alloc, &mut reader);
+        assert!(rt; is_told(rt.alloc(), number), "{number}");
+        assert!(rt; is_told_extended(rt.alloc(), number), "{number}");
+        assert!(rt; wants_memory(rt.alloc(), number), "{number}");
+        let again = load_once(rt.alloc(), number, ErrorKind::Interrupted);
         assert!(rt; again.is_ok(), "{number}");
     }
-    let whole = Standard::any_from_reader(alloc, &mut once(LEAST, 29, kind));
+    let whole = load_once(rt.alloc(), 29, ErrorKind::ConnectionReset);
     assert!(rt; whole.is_ok());
+}
+
+/// Whether a run's end tells that a read of its dictionary failed so.
+fn tells_dictionary(end: &Result<(), RunError>, kind: ErrorKind) -> bool {
+    if kind == ErrorKind::OutOfMemory {
+        matches!(end, Err(RunError::Memory))
+    } else {
+        matches!(end, Err(RunError::Dictionary(e)) if is_torn(e))
+    }
+}
+
+/// Whether a run's end tells that a read of its text failed so.
+fn tells_input(end: &Result<(), RunError>, kind: ErrorKind) -> bool {
+    if kind == ErrorKind::OutOfMemory {
+        matches!(end, Err(RunError::Memory))
+    } else {
+        matches!(end, Err(RunError::Input(e)) if e.kind() == kind)
+    }
+}
+
+/// Whether a run whose dictionary's read of this number fails so tells it, and writes nothing.
+fn is_dictionary_told(alloc: Global, number: usize, kind: ErrorKind) -> bool {
+    let mut output: Vec<u8> = Vec::new(alloc);
+    let mut dictionary = once(FIRKIN.as_bytes(), number, kind);
+    let end = marked(alloc, &mut dictionary, &mut &TEXT[..], &mut output);
+    output.is_empty() && tells_dictionary(&end, kind)
+}
+
+/// The same of the text that is marked.
+fn is_input_told(alloc: Global, number: usize, kind: ErrorKind) -> bool {
+    let mut output: Vec<u8> = Vec::new(alloc);
+    let mut input = once(TEXT, number, kind);
+    let end = marked(alloc, &mut FIRKIN.as_bytes(), &mut input, &mut output);
+    output.is_empty() && tells_input(&end, kind)
+}
+
+/// The same of the text that is filled.
+fn is_lines_input_told(alloc: Global, number: usize, kind: ErrorKind) -> bool {
+    let mut output: Vec<u8> = Vec::new(alloc);
+    let mut input = once(TEXT, number, kind);
+    let end = filled(alloc, &mut FIRKIN.as_bytes(), &mut input, &mut output);
+    output.is_empty() && tells_input(&end, kind)
+}
+
+/// Whether each of these runs tells a fault of its read.
+fn is_fault_told(alloc: Global, number: usize, kind: ErrorKind) -> bool {
+    is_dictionary_told(alloc, number, kind)
+        && is_input_told(alloc, number, kind)
+        && is_lines_input_told(alloc, number, kind)
 }
 
 #[test]
 fn a_read_that_fails_once_ends_a_run(rt: HostRuntime) {
-    let alloc = rt.alloc();
-    let kind = ErrorKind::ConnectionReset;
-    let mut output: Vec<u8> = Vec::new(alloc);
     for number in 1..=9 {
-        let mut dictionary = once(FIRKIN.as_bytes(), number, kind);
-        let end = marked(alloc, &mut dictionary, &mut &TEXT[..], &mut output);
         assert!(rt;
-            matches!(&end, Err(RunError::Dictionary(e)) if is_torn(e)),
+            is_fault_told(rt.alloc(), number, ErrorKind::ConnectionReset),
             "{number}"
         );
-        let mut input = once(TEXT, number, kind);
-        let end = marked(alloc, &mut FIRKIN.as_bytes(), &mut input, &mut output);
-        assert!(rt; matches!(end, Err(RunError::Input(_))), "{number}");
-        let mut input = once(TEXT, number, kind);
-        let end = filled(alloc, &mut FIRKIN.as_bytes(), &mut input, &mut output);
-        assert!(rt; matches!(end, Err(RunError::Input(_))), "{number}");
-        let mut dictionary = once(FIRKIN.as_bytes(), number, ErrorKind::OutOfMemory);
-        let end = marked(alloc, &mut dictionary, &mut &TEXT[..], &mut output);
-        assert!(rt; matches!(end, Err(RunError::Memory)), "{number}");
-        let mut input = once(TEXT, number, ErrorKind::OutOfMemory);
-        let end = filled(alloc, &mut FIRKIN.as_bytes(), &mut input, &mut output);
-        assert!(rt; matches!(end, Err(RunError::Memory)), "{number}");
-        assert_eq!(rt; output.len(), 0, "{number}");
+        assert!(rt;
+            is_fault_told(rt.alloc(), number, ErrorKind::OutOfMemory),
+            "{number}"
+        );
     }
+}
+
+/// Whether a run whose reads of this number are interrupted writes the marked text.
+fn is_made_again(alloc: Global, number: usize) -> bool {
+    let mut output: Vec<u8> = Vec::new(alloc);
+    let kind = ErrorKind::Interrupted;
+    let end = marked(
+        alloc,
+        &mut once(FIRKIN.as_bytes(), number, kind),
+        &mut once(TEXT, number, kind),
+        &mut output,
+    );
+    end.is_ok() && output.as_slice() == MARKED
 }
 
 #[test]
 fn a_read_that_is_interrupted_is_tried_again(rt: HostRuntime) {
-    let alloc = rt.alloc();
-    let kind = ErrorKind::Interrupted;
     for number in 1..=9 {
-        let mut output: Vec<u8> = Vec::new(alloc);
-        let end = marked(
-            alloc,
-            &mut once(FIRKIN.as_bytes(), number, kind),
-            &mut once(TEXT, number, kind),
-            &mut output,
-        );
-        assert!(rt; end.is_ok(), "{number}");
-        assert_eq!(rt; output.as_slice(), MARKED, "{number}");
+        assert!(rt; is_made_again(rt.alloc(), number), "{number}");
     }
 }
 
@@ -219,24 +274,33 @@ impl Write for Interrupted {
     }
 }
 
+/// A writer whose write of this number is interrupted.
+fn interrupting(alloc: Global, until: usize) -> Interrupted {
+    Interrupted {
+        until,
+        taken: Vec::new(alloc),
+    }
+}
+
+/// Whether a writer whose write of this number is interrupted gets the marked text.
+fn marks_again(alloc: Global, until: usize) -> bool {
+    let mut output = interrupting(alloc, until);
+    let end = marked(alloc, &mut FIRKIN.as_bytes(), &mut &TEXT[..], &mut output);
+    end.is_ok() && output.taken.as_slice() == MARKED
+}
+
+/// Whether such a writer gets the lines.
+fn fills_again(alloc: Global, until: usize) -> bool {
+    let mut output = interrupting(alloc, until);
+    let end = filled(alloc, &mut FIRKIN.as_bytes(), &mut &TEXT[..], &mut output);
+    end.is_ok() && output.taken.as_slice() == LINES
+}
+
 #[test]
 fn a_write_that_is_interrupted_is_tried_again(rt: HostRuntime) {
-    let alloc = rt.alloc();
     for until in 1..=MARKED.len() {
-        let mut output = Interrupted {
-            until,
-            taken: Vec::new(alloc),
-        };
-        let end = marked(alloc, &mut FIRKIN.as_bytes(), &mut &TEXT[..], &mut output);
-        assert!(rt; end.is_ok(), "{until}");
-        assert_eq!(rt; output.taken.as_slice(), MARKED, "{until}");
-        let mut output = Interrupted {
-            until,
-            taken: Vec::new(alloc),
-        };
-        let end = filled(alloc, &mut FIRKIN.as_bytes(), &mut &TEXT[..], &mut output);
-        assert!(rt; end.is_ok(), "{until}");
-        assert_eq!(rt; output.taken.as_slice(), LINES, "{until}");
+        assert!(rt; marks_again(rt.alloc(), until), "{until}");
+        assert!(rt; fills_again(rt.alloc(), until), "{until}");
     }
 }
 
@@ -258,19 +322,22 @@ fn a_write_that_fails_once_ends_a_line_of_values(rt: HostRuntime) {
     }
 }
 
+/// Whether a dictionary's writing ends with the fault of the write of this number, behind the bytes before it.
+fn is_cut(alloc: Global, dictionary: &Extended, text: &[u8], number: usize) -> bool {
+    let mut output = failing_once(alloc, number);
+    let end = dictionary.to_writer(alloc, &mut output);
+    matches!(end, Err(Error::IO(e)) if e.kind() == ErrorKind::BrokenPipe)
+        && output.taken.len() + 1 == number
+        && text.starts_with(&output.taken)
+}
+
 #[test]
 fn a_write_that_fails_once_ends_a_dictionary(rt: HostRuntime) -> Result<(), Fail> {
     let text = b"hyphenation 1 extended\nlanguage hu\nminima 2 2\np a1b 1,1,0,1,x\n".as_slice();
     let mut reader = text;
     let dictionary = Extended::any_from_reader(rt.alloc(), &mut reader)?;
     for number in 1..=text.len() {
-        let mut output = failing_once(rt.alloc(), number);
-        let end = dictionary.to_writer(rt.alloc(), &mut output);
-        assert!(rt;
-            matches!(end, Err(Error::IO(e)) if e.kind() == ErrorKind::BrokenPipe),
-            "{number}"
-        );
-        assert_eq!(rt; output.taken.as_slice(), &text[..number - 1], "{number}");
+        assert!(rt; is_cut(rt.alloc(), &dictionary, text, number), "{number}");
     }
     Ok(())
 }

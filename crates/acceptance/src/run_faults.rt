@@ -112,38 +112,53 @@ pub fn is_torn(error: &Error) -> bool {
     matches!(error, Error::IO(e) if e.kind() == ErrorKind::ConnectionReset)
 }
 
+/// Whether loading from a reader that fails at this read ends with its fault.
+fn is_load_torn(alloc: Global, number: usize) -> bool {
+    let answer = Standard::any_from_reader(alloc, &mut torn(LEAST, number));
+    matches!(&answer, Err(e) if is_torn(e))
+}
+
+/// The same where a language is asked for.
+fn is_asked_torn(alloc: Global, number: usize) -> bool {
+    let language = Language::english_us();
+    let answer = Standard::from_reader(alloc, language, &mut torn(LEAST, number));
+    matches!(&answer, Err(e) if is_torn(e))
+}
+
+/// Whether a run over a dictionary that fails at this read ends with its fault, before the text is read or anything is
+/// written.
+fn is_run_torn(alloc: Global, number: usize) -> bool {
+    let mut output = failing_once(alloc, usize::MAX);
+    let end = run_with(
+        alloc,
+        &mut torn(LEAST, number),
+        &mut torn(TEXT, 1),
+        &mut output,
+    );
+    matches!(end, Err(RunError::Dictionary(e)) if is_torn(&e)) && output.taken.is_empty()
+}
+
+/// The same of a run that writes values.
+fn is_score_torn(alloc: Global, number: usize) -> bool {
+    let mut output = failing_once(alloc, usize::MAX);
+    let end = run_score(
+        alloc,
+        Kind::Standard,
+        Language::english_us(),
+        "ab",
+        &mut torn(LEAST, number),
+        &mut output,
+    );
+    matches!(end, Err(RunError::Dictionary(e)) if is_torn(&e)) && output.taken.is_empty()
+}
+
 #[test]
 fn a_torn_dictionary_is_a_fault_of_reading_at_each_read(rt: HostRuntime) {
-    let language = Language::english_us();
     for number in 1..=55 {
-        let any = Standard::any_from_reader(rt.alloc(), &mut torn(LEAST, number));
-        assert!(rt; matches!(&any, Err(e) if is_torn(e)), "{number}");
-        let asked = Standard::from_reader(rt.alloc(), language, &mut torn(LEAST, number));
-        assert!(rt; matches!(&asked, Err(e) if is_torn(e)), "{number}");
-        let mut output = failing_once(rt.alloc(), usize::MAX);
-        let end = run_with(
-            rt.alloc(),
-            &mut torn(LEAST, number),
-            &mut torn(TEXT, 1),
-            &mut output,
-        );
-        assert!(rt;
-            matches!(&end, Err(RunError::Dictionary(e)) if is_torn(e)),
-            "{number}"
-        );
-        let end = run_score(
-            rt.alloc(),
-            Kind::Standard,
-            language,
-            "ab",
-            &mut torn(LEAST, number),
-            &mut output,
-        );
-        assert!(rt;
-            matches!(&end, Err(RunError::Dictionary(e)) if is_torn(e)),
-            "{number}"
-        );
-        assert_eq!(rt; output.taken.len(), 0, "{number}");
+        assert!(rt; is_load_torn(rt.alloc(), number), "{number}");
+        assert!(rt; is_asked_torn(rt.alloc(), number), "{number}");
+        assert!(rt; is_run_torn(rt.alloc(), number), "{number}");
+        assert!(rt; is_score_torn(rt.alloc(), number), "{number}");
     }
     let whole = Standard::any_from_reader(rt.alloc(), &mut torn(LEAST, 56));
     assert!(rt; whole.is_ok());

@@ -3,7 +3,7 @@
 use hyphenation::engine::{Kind, RunError, run};
 use hyphenation::load::{Cause, Error, Load};
 use hyphenation::{Language, Standard, hyphenate_text};
-use std::alloc::Global;
+use std::alloc::{AllocError, Global};
 use std::test::Fail;
 
 /// The patterns that occur in `firkin`, in American English.
@@ -199,7 +199,8 @@ fn the_first_refusal_in_order_is_answered(rt: HostRuntime) -> Result<(), Fail> {
     Ok(())
 }
 
-const DOUBLED: &str =
+/// Doubled letters that come back where a word is broken, in Hungarian.
+pub const DOUBLED: &str =
     "hyphenation 1 extended\nlanguage hu\nminima 2 2\ne asszonnyal 2,1,2,2,szsz 6,1,2,2,nyny\n";
 
 #[test]
@@ -257,15 +258,20 @@ fn edits_of_an_extended_dictionary_are_judged_by_its_kind(rt: HostRuntime) -> Re
     Ok(())
 }
 
+/// Three texts behind another, hyphenated by a dictionary.
+fn appended(alloc: Global, dictionary: &Standard) -> Result<String, AllocError> {
+    let mut page = String::from_str(alloc, "Ale: ")?;
+    hyphenate_text(&mut page, alloc, dictionary, "Firkin, firkins.", "-")?;
+    hyphenate_text(&mut page, alloc, dictionary, " Firkin", "")?;
+    hyphenate_text(&mut page, alloc, dictionary, "", "-")?;
+    Ok(page)
+}
+
 #[test]
 fn a_text_is_appended_by_a_loaded_dictionary(rt: HostRuntime) -> Result<(), Fail> {
-    let alloc = rt.alloc();
     let mut reader = FIRKIN.as_bytes();
-    let dictionary = Standard::any_from_reader(alloc, &mut reader)?;
-    let mut page = String::from_str(alloc, "Ale: ")?;
-    hyphenate_text(&mut page, alloc, &dictionary, "Firkin, firkins.", "-")?;
-    hyphenate_text(&mut page, alloc, &dictionary, " Firkin", "")?;
-    hyphenate_text(&mut page, alloc, &dictionary, "", "-")?;
+    let dictionary = Standard::any_from_reader(rt.alloc(), &mut reader)?;
+    let page = appended(rt.alloc(), &dictionary)?;
     assert_eq!(rt; page.as_str(), "Ale: Fir-kin, fir-k-ins. Firkin");
     Ok(())
 }

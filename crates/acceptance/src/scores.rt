@@ -1,5 +1,6 @@
 //! The scores of words, and how many look-ups they take.
 
+use crate::answers::{standard, values};
 use crate::texts::FIRKIN;
 use hyphenation::engine::{Kind, run_score};
 use hyphenation::load::{Error, Load};
@@ -14,120 +15,108 @@ pub fn dictionary(alloc: Global, text: &str) -> Result<Standard, Error> {
     Standard::any_from_reader(alloc, &mut reader)
 }
 
+/// The values of words by a standard dictionary of these lines.
+pub fn values_by(alloc: Global, lines: &str, words: &str) -> Result<String, Fail> {
+    let dictionary = standard(alloc, "0 0", lines)?;
+    let found = values(alloc, &dictionary, words)?;
+    Ok(found)
+}
+
 #[test]
 fn the_greatest_value_decides_each_place(rt: HostRuntime) -> Result<(), Fail> {
-    let cases: [(&str, &str, &[u8]); 9] = [
-        (FIRKIN, "firkin", &[0, 2, 5, 2, 0]),
-        (FIRKIN, "firkins", &[0, 2, 5, 1, 0, 0]),
-        (FIRKIN, "FIRKIN", &[0, 0, 0, 0, 0]),
-        (FIRKIN, "", &[]),
-        (FIRKIN, "f", &[]),
-        (
-            "hyphenation 1 standard\nlanguage x\nminima 0 0\np .b1c",
-            "a.bcd",
-            &[0, 0, 1, 0],
-        ),
-        (
-            "hyphenation 1 standard\nlanguage x\nminima 0 0\np x\\11y",
-            "x1y",
-            &[0, 1],
-        ),
-        (
-            "hyphenation 1 standard\nlanguage x\nminima 0 0\np a1\np aa",
-            "aaa",
-            &[1, 1],
-        ),
-        (
-            "hyphenation 1 standard\nlanguage x\nminima 2 3",
-            "abc",
-            &[0, 0],
-        ),
-    ];
-    for (text, word, values) in cases {
-        let dictionary = dictionary(rt.alloc(), text)?;
-        let score = dictionary.score(rt.alloc(), word)?;
-        assert_eq!(rt; score.as_slice(), values, "{word}");
-    }
+    let firkin = dictionary(rt.alloc(), FIRKIN)?;
+    let found = values(rt.alloc(), &firkin, "firkin firkins FIRKIN  f")?;
+    assert_eq!(rt; found.as_str(), "0 2 5 2 0 ,0 2 5 1 0 0 ,0 0 0 0 0 ,,,");
     Ok(())
 }
 
 #[test]
+fn a_dot_stands_for_an_edge_and_for_a_dot(rt: HostRuntime) -> Result<(), Fail> {
+    assert_eq!(rt;
+        values_by(rt.alloc(), "p .b1c", "a.bcd bc abc")?.as_str(),
+        "0 0 1 0 ,1 ,0 0 ,"
+    );
+    Ok(())
+}
+
+#[test]
+fn digits_and_longer_keys_have_their_values(rt: HostRuntime) -> Result<(), Fail> {
+    assert_eq!(rt; values_by(rt.alloc(), "p x\\11y", "x1y")?.as_str(), "0 1 ,");
+    assert_eq!(rt;
+        values_by(rt.alloc(), "p a1\np aa", "aaa")?.as_str(),
+        "1 1 ,"
+    );
+    Ok(())
+}
+
+/// What scoring a word by a dictionary of these lines counted.
+pub fn counted(alloc: Global, lines: &str, word: &str) -> Result<LookUps, Fail> {
+    let dictionary = standard(alloc, "0 0", lines)?;
+    let mut count = LookUps::new();
+    let _values = dictionary.score_counted(alloc, word, &mut count)?;
+    Ok(count)
+}
+
+/// The patterns that occur in `firkin`.
+const PATTERNS: &str = "p .fi2\np i2r\np r2k\np r5kin\np k1in\np k2in.";
+
+#[test]
 fn a_score_takes_few_look_ups(rt: HostRuntime) -> Result<(), Fail> {
-    let cases: [(&str, u128, u128, u128); 2] = [("firkin", 8, 16, 6), ("firkins", 9, 18, 5)];
-    let firkin = dictionary(rt.alloc(), FIRKIN)?;
-    for (word, least, most, reported) in cases {
-        let mut count = LookUps::new();
-        let values = firkin.score_counted(rt.alloc(), word, &mut count)?;
-        assert_eq!(rt; values.len() + 1, word.len());
-        assert!(rt; least <= count.made() && count.made() <= most);
-        assert_eq!(rt; count.reported(), reported);
-    }
+    let count = counted(rt.alloc(), PATTERNS, "firkin")?;
+    assert!(rt; 8 <= count.made() && count.made() <= 16);
+    assert_eq!(rt; count.reported(), 6);
+    let count = counted(rt.alloc(), PATTERNS, "firkins")?;
+    assert!(rt; 9 <= count.made() && count.made() <= 18);
+    assert_eq!(rt; count.reported(), 5);
     Ok(())
 }
 
 #[test]
 fn without_keys_each_byte_of_the_frame_is_looked_up_once(rt: HostRuntime) -> Result<(), Fail> {
-    let no_keys = dictionary(
-        rt.alloc(),
-        "hyphenation 1 standard\nlanguage x\nminima 2 3\n",
-    )?;
-    let mut count = LookUps::new();
-    let values = no_keys.score_counted(rt.alloc(), "abc", &mut count)?;
-    assert_eq!(rt; values.as_slice(), [0, 0].as_slice());
+    let count = counted(rt.alloc(), "", "abc")?;
     assert_eq!(rt; count.made(), 5);
     assert_eq!(rt; count.reported(), 0);
+    assert_eq!(rt; values_by(rt.alloc(), "", "abc")?.as_str(), "0 0 ,");
+    Ok(())
+}
+
+const TWENTY: &str = "aaaaaaaaaaaaaaaaaaaa";
+
+#[test]
+fn no_byte_is_read_again(rt: HostRuntime) -> Result<(), Fail> {
+    let count = counted(rt.alloc(), "p aaaaaaa1b", TWENTY)?;
+    assert!(rt; 22 <= count.made() && count.made() <= 44);
+    assert_eq!(rt; count.reported(), 0);
+    let found = values_by(rt.alloc(), "p aaaaaaa1b", TWENTY)?;
+    assert_eq!(rt; found.as_str(), "0 0 0 0 0 0 0 0 0 0 0 0 0 0 0 0 0 0 0 ,");
     Ok(())
 }
 
 #[test]
-fn no_byte_is_read_again(rt: HostRuntime) -> Result<(), Fail> {
-    let word = "aaaaaaaaaaaaaaaaaaaa";
-    let cases: [(&str, usize, u8, u128); 2] = [
-        (
-            "hyphenation 1 standard\nlanguage x\nminima 0 0\np aaaaaaa1b",
-            19,
-            0,
-            0,
-        ),
-        (
-            "hyphenation 1 standard\nlanguage x\nminima 0 0\np aaaaaaa1",
-            6,
-            1,
-            14,
-        ),
-    ];
-    for (text, zeros, rest, reported) in cases {
-        let dictionary = dictionary(rt.alloc(), text)?;
-        let mut count = LookUps::new();
-        let values = dictionary.score_counted(rt.alloc(), word, &mut count)?;
-        assert_eq!(rt; values.len(), 19);
-        for (index, value) in values.iter().enumerate() {
-            assert_eq!(rt; *value, if index < zeros { 0 } else { rest });
-        }
-        assert!(rt; 22 <= count.made() && count.made() <= 44);
-        assert_eq!(rt; count.reported(), reported);
-    }
+fn no_byte_is_read_again_where_keys_end(rt: HostRuntime) -> Result<(), Fail> {
+    let count = counted(rt.alloc(), "p aaaaaaa1", TWENTY)?;
+    assert!(rt; 22 <= count.made() && count.made() <= 44);
+    assert_eq!(rt; count.reported(), 14);
+    let found = values_by(rt.alloc(), "p aaaaaaa1", TWENTY)?;
+    assert_eq!(rt; found.as_str(), "0 0 0 0 0 0 1 1 1 1 1 1 1 1 1 1 1 1 1 ,");
     Ok(())
+}
+
+/// The number of keys that a dictionary of these lines reports in a word.
+fn reported(alloc: Global, lines: &str, word: &str) -> Result<u128, Fail> {
+    Ok(counted(alloc, lines, word)?.reported())
 }
 
 #[test]
 fn each_key_is_reported_where_it_stands(rt: HostRuntime) -> Result<(), Fail> {
-    let cases: [(&str, &str, u128); 4] = [
-        ("p a1\np aa", "aaa", 5),
-        ("p a1\np aa\np .aa\np aa.", "aaa", 7),
-        ("p abc1d", "abc", 0),
-        ("p he2\np she1\np his3\np hers1", "ushers", 3),
-    ];
-    for (lines, word, reported) in cases {
-        let text = format!(in rt.alloc();
-            "hyphenation 1 standard\nlanguage x\nminima 0 0\n{lines}\n"
-        )?;
-        let dictionary = dictionary(rt.alloc(), &text)?;
-        let mut count = LookUps::new();
-        let values = dictionary.score_counted(rt.alloc(), word, &mut count)?;
-        assert_eq!(rt; values.len() + 1, word.len());
-        assert_eq!(rt; count.reported(), reported, "{lines}");
-    }
+    let alloc = rt.alloc();
+    assert_eq!(rt; reported(alloc, "p a1\np aa", "aaa")?, 5);
+    assert_eq!(rt; reported(alloc, "p a1\np aa\np .aa\np aa.", "aaa")?, 7);
+    assert_eq!(rt; reported(alloc, "p abc1d", "abc")?, 0);
+    assert_eq!(rt;
+        reported(alloc, "p he2\np she1\np his3\np hers1", "ushers")?,
+        3
+    );
     Ok(())
 }
 
@@ -138,43 +127,44 @@ fn odd_values_denote_opportunities(rt: HostRuntime) {
     }
 }
 
+/// Whether a run writes this line of the values of a word.
+fn writes(alloc: Global, word: &str, line: &str) -> Option<bool> {
+    let language = Language::from_code("en-gb")?;
+    let mut reader = FIRKIN.as_bytes();
+    let mut written: Vec<u8> = Vec::new(alloc);
+    run_score(
+        alloc,
+        Kind::Standard,
+        language,
+        word,
+        &mut reader,
+        &mut written,
+    )
+    .ok()?;
+    Some(written.as_slice() == line.as_bytes())
+}
+
 #[test]
-fn a_run_writes_the_values_of_the_word_as_it_is_handed_in(rt: HostRuntime) -> Result<(), Fail> {
-    let language = Language::from_code("en-gb").ok_or("a code")?;
-    let cases: [(&str, &str); 4] = [
-        ("firkin", "0 2 5 2 0\n"),
-        ("firkins", "0 2 5 1 0 0\n"),
-        ("FIRKIN", "0 0 0 0 0\n"),
-        ("", "\n"),
-    ];
-    for (word, line) in cases {
-        let mut reader = FIRKIN.as_bytes();
-        let mut written: Vec<u8> = Vec::new(rt.alloc());
-        let answer = run_score(
-            rt.alloc(),
-            Kind::Standard,
-            language,
-            word,
-            &mut reader,
-            &mut written,
-        );
-        assert!(rt; answer.is_ok(), "{word}");
-        assert_eq!(rt; written.as_slice(), line.as_bytes(), "{word}");
-    }
-    Ok(())
+fn a_run_writes_the_values_of_the_word_as_it_is_handed_in(rt: HostRuntime) {
+    assert_eq!(rt; writes(rt.alloc(), "firkin", "0 2 5 2 0\n"), Some(true));
+    assert_eq!(rt; writes(rt.alloc(), "firkins", "0 2 5 1 0 0\n"), Some(true));
+    assert_eq!(rt; writes(rt.alloc(), "FIRKIN", "0 0 0 0 0\n"), Some(true));
+    assert_eq!(rt; writes(rt.alloc(), "", "\n"), Some(true));
 }
 
 #[test]
 fn the_order_of_lines_changes_no_score(rt: HostRuntime) -> Result<(), Fail> {
-    let texts = [
-        "hyphenation 1 standard\nlanguage x\nminima 0 0\np k1in\np k2in.\np r5kin\n",
-        "hyphenation 1 standard\nlanguage x\nminima 0 0\np r5kin\np k2in.\np k1in\n",
-        "hyphenation 1 standard\nlanguage x\nminima 0 0\np k2in.\np k1in\np r5kin\n",
-    ];
-    for text in texts {
-        let dictionary = dictionary(rt.alloc(), text)?;
-        let values = dictionary.score(rt.alloc(), "firkin")?;
-        assert_eq!(rt; values.as_slice(), [0, 0, 5, 2, 0].as_slice());
-    }
+    assert_eq!(rt;
+        values_by(rt.alloc(), "p k1in\np k2in.\np r5kin", "firkin")?.as_str(),
+        "0 0 5 2 0 ,"
+    );
+    assert_eq!(rt;
+        values_by(rt.alloc(), "p r5kin\np k2in.\np k1in", "firkin")?.as_str(),
+        "0 0 5 2 0 ,"
+    );
+    assert_eq!(rt;
+        values_by(rt.alloc(), "p k2in.\np k1in\np r5kin", "firkin")?.as_str(),
+        "0 0 5 2 0 ,"
+    );
     Ok(())
 }

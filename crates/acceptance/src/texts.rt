@@ -199,20 +199,20 @@ fn these_lines_are_accepted(rt: HostRuntime) -> Result<(), Fail> {
     Ok(())
 }
 
+/// The language and the minima of a text.
+fn head_of(alloc: Global, text: &[u8]) -> Result<String, Fail> {
+    let dictionary = accepted(alloc, text)?;
+    let (left, right) = dictionary.minima();
+    let told = format!(in alloc; "{} {left} {right}", dictionary.language().code())?;
+    Ok(told)
+}
+
 #[test]
 fn a_last_line_feed_changes_nothing(rt: HostRuntime) -> Result<(), Fail> {
-    let with = accepted(
-        rt.alloc(),
-        b"hyphenation 1 standard\nlanguage de-1996\nminima 0 255\np a1b\n",
-    )?;
-    let without = accepted(
-        rt.alloc(),
-        b"hyphenation 1 standard\nlanguage de-1996\nminima 0 255\np a1b",
-    )?;
-    assert_eq!(rt; with.language().code(), "de-1996");
-    assert_eq!(rt; without.language().code(), "de-1996");
-    assert_eq!(rt; with.minima(), (0, 255));
-    assert_eq!(rt; without.minima(), (0, 255));
+    let with = b"hyphenation 1 standard\nlanguage de-1996\nminima 0 255\np a1b\n";
+    assert_eq!(rt; head_of(rt.alloc(), with)?.as_str(), "de-1996 0 255");
+    let without = b"hyphenation 1 standard\nlanguage de-1996\nminima 0 255\np a1b";
+    assert_eq!(rt; head_of(rt.alloc(), without)?.as_str(), "de-1996 0 255");
     Ok(())
 }
 

@@ -1,9 +1,9 @@
 //! Texts of version 2, in which values from 10 to 255 stand in braces, and what version 1 says to braces.
 
+use crate::answers::{places, standard, values, winners};
 use hyphenation::extended::Extended;
 use hyphenation::load::{Cause, Error, Load};
-use hyphenation::score::Score;
-use hyphenation::{Hyphenator, Language, Standard};
+use hyphenation::{Language, Standard};
 use std::alloc::{AllocError, Global};
 use std::test::Fail;
 
@@ -19,6 +19,13 @@ fn second(alloc: Global, lines: &str) -> Result<Standard, Error> {
     Standard::any_from_reader(alloc, &mut reader)
 }
 
+/// The extended dictionary of such a text of version 2.
+fn second_extended(alloc: Global, lines: &str) -> Result<Extended, Error> {
+    let text = text_of(alloc, "hyphenation 2 extended", lines).map_err(Error::Memory)?;
+    let mut reader = text.as_bytes();
+    Extended::any_from_reader(alloc, &mut reader)
+}
+
 /// The line and the cause for which a standard text is refused, if it is.
 fn fault_of(alloc: Global, head: &str, lines: &str) -> Option<(usize, Cause)> {
     let text = text_of(alloc, head, lines).ok()?;
@@ -29,34 +36,40 @@ fn fault_of(alloc: Global, head: &str, lines: &str) -> Option<(usize, Cause)> {
     }
 }
 
+/// The values of words, and then the places of their breaks, by a dictionary of version 2.
+fn answers(alloc: Global, lines: &str, words: &str) -> Result<String, Fail> {
+    let dictionary = second(alloc, lines)?;
+    let mut found = values(alloc, &dictionary, words)?;
+    found.push_str(&places(alloc, &dictionary, words)?)?;
+    Ok(found)
+}
+
 #[test]
 fn a_number_in_braces_is_one_value(rt: HostRuntime) -> Result<(), Fail> {
-    let alloc = rt.alloc();
-    let cases: [(&str, &str, &[u8], &[usize]); 6] = [
-        ("p a{11}b\np a5b.", "ab", &[11], &[1]),
-        ("p a{11}b\np a5b.", "abc", &[11, 0], &[1]),
-        ("p a{12}b\np .a{11}b", "ab", &[12], &[]),
-        ("p a{255}b", "ab", &[255], &[1]),
-        ("p a1b", "ab", &[1], &[1]),
-        ("p \\{1\\}", "{}", &[1], &[1]),
-    ];
-    for (lines, word, values, breaks) in cases {
-        match second(alloc, lines) {
-            Ok(dictionary) => {
-                assert_eq!(rt;
-                    dictionary.score(alloc, word)?.as_slice(),
-                    values,
-                    "{lines}"
-                );
-                assert_eq!(rt;
-                    dictionary.hyphenate(alloc, word)?.breaks.as_slice(),
-                    breaks,
-                    "{lines}"
-                );
-            }
-            Err(_) => assert!(rt; false, "{lines}"),
-        }
-    }
+    assert_eq!(rt;
+        answers(rt.alloc(), "p a{11}b\np a5b.", "ab abc")?.as_str(),
+        "11 ,11 0 ,1 ,1 ,"
+    );
+    assert_eq!(rt;
+        answers(rt.alloc(), "p a{12}b\np .a{11}b", "ab")?.as_str(),
+        "12 ,,"
+    );
+    Ok(())
+}
+
+#[test]
+fn the_greatest_and_the_least_value_are_read(rt: HostRuntime) -> Result<(), Fail> {
+    assert_eq!(rt;
+        answers(rt.alloc(), "p a{255}b", "ab")?.as_str(),
+        "255 ,1 ,"
+    );
+    assert_eq!(rt; answers(rt.alloc(), "p a1b", "ab")?.as_str(), "1 ,1 ,");
+    Ok(())
+}
+
+#[test]
+fn braces_behind_backslashes_are_letters(rt: HostRuntime) -> Result<(), Fail> {
+    assert_eq!(rt; answers(rt.alloc(), "p \\{1\\}", "{}")?.as_str(), "1 ,1 ,");
     Ok(())
 }
 
@@ -107,56 +120,32 @@ fn in_version_1_braces_are_letters(rt: HostRuntime) {
 
 #[test]
 fn a_key_of_braces_is_one_in_both_versions(rt: HostRuntime) -> Result<(), Fail> {
-    let alloc = rt.alloc();
-    let lines = [
-        ("hyphenation 1 standard", "p {1}"),
-        ("hyphenation 2 standard", "p \\{1\\}"),
-    ];
-    for (head, line) in lines {
-        let text = text_of(alloc, head, line)?;
-        let mut reader = text.as_bytes();
-        match Standard::any_from_reader(alloc, &mut reader) {
-            Ok(dictionary) => assert_eq!(rt;
-                dictionary.score(alloc, "{}")?.as_slice(),
-                [1].as_slice()
-            ),
-            Err(_) => assert!(rt; false, "{line}"),
-        }
-    }
+    let first = standard(rt.alloc(), "1 1", "p {1}")?;
+    assert_eq!(rt; values(rt.alloc(), &first, "{}")?.as_str(), "1 ,");
+    let second = second(rt.alloc(), "p \\{1\\}")?;
+    assert_eq!(rt; values(rt.alloc(), &second, "{}")?.as_str(), "1 ,");
     Ok(())
 }
 
 #[test]
 fn an_extended_text_has_changes_at_values_in_braces(rt: HostRuntime) -> Result<(), Fail> {
-    let alloc = rt.alloc();
-    let text = text_of(
-        alloc,
-        "hyphenation 2 extended",
-        "p a{11}b 1,1,0,1,x\np a5bc",
-    )?;
-    let mut reader = text.as_bytes();
-    match Extended::any_from_reader(alloc, &mut reader) {
-        Ok(dictionary) => {
-            assert!(rt; dictionary.language() == Language::english_us());
-            let scores = dictionary.score(alloc, "ab")?;
-            assert_eq!(rt; scores.len(), 1);
-            for (value, change) in &scores {
-                assert_eq!(rt; *value, 11);
-                assert!(rt; change.is_some());
-            }
-        }
-        Err(_) => assert!(rt; false),
-    }
-    let repeated = text_of(alloc, "hyphenation 2 extended", "p a{11}b\n\np a5b")?;
-    let mut reader = repeated.as_bytes();
+    let dictionary = second_extended(rt.alloc(), "p a{11}b 1,1,0,1,x\np a5bc")?;
+    assert!(rt; dictionary.language() == Language::english_us());
+    let found = winners(rt.alloc(), &dictionary, "ab")?;
+    assert_eq!(rt; found.as_str(), "11x ,");
+    Ok(())
+}
+
+#[test]
+fn an_extended_text_has_a_key_once(rt: HostRuntime) {
+    let answer = second_extended(rt.alloc(), "p a{11}b\n\np a5b");
     assert!(rt;
         matches!(
-            Extended::any_from_reader(alloc, &mut reader),
+            answer,
             Err(Error::Deserialization {
                 line: 6,
                 cause: Cause::RepeatedPattern
             })
         )
     );
-    Ok(())
 }

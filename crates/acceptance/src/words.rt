@@ -1,5 +1,6 @@
 //! How words are broken by dictionaries that are read from texts.
 
+use crate::answers::{marked, places};
 use crate::scores::dictionary;
 use crate::texts::FIRKIN;
 use hyphenation::Standard;
@@ -18,90 +19,116 @@ const SHORT: &str = "hyphenation 1 standard\nlanguage x\nminima 1 1\ne ißab 3\n
 
 const PATTERNS: &str = "hyphenation 1 standard\nlanguage x\nminima 1 1\np i1l\np ß1a\np ⱥa1b\n";
 
-/// The marked segments of a word, joined.
-fn marked(alloc: Global, dictionary: &Standard, word: &str) -> Result<String, AllocError> {
+/// The breaks of words by the dictionary of a text.
+fn places_by(alloc: Global, text: &str, words: &str) -> Result<String, Fail> {
+    let dictionary = dictionary(alloc, text)?;
+    let found = places(alloc, &dictionary, words)?;
+    Ok(found)
+}
+
+#[test]
+fn words_break_at_patterns(rt: HostRuntime) -> Result<(), Fail> {
+    assert_eq!(rt;
+        places_by(rt.alloc(), FIRKIN, "firkin firkins FIRKINS ")?.as_str(),
+        "3 ,3 4 ,3 4 ,,"
+    );
+    Ok(())
+}
+
+#[test]
+fn words_break_at_exceptions_alone(rt: HostRuntime) -> Result<(), Fail> {
+    let words = "anfractuous hyphenation anisotropic bevies hypha";
+    assert_eq!(rt;
+        places_by(rt.alloc(), WORDS, words)?.as_str(),
+        "2 6 8 ,2 6 7 ,2 5 ,,2 ,"
+    );
+    Ok(())
+}
+
+#[test]
+fn capitals_break_where_their_small_letters_do(rt: HostRuntime) -> Result<(), Fail> {
+    assert_eq!(rt;
+        places_by(rt.alloc(), WORDS, "CAPITAL MİCRO İDİOM MUCİLAGİNOUS")?.as_str(),
+        "3 4 ,3 ,3 ,2 10 ,"
+    );
+    assert_eq!(rt;
+        places_by(rt.alloc(), NAMES, "İbrahim İLGİNÇ \u{212a}ilim")?.as_str(),
+        "3 5 ,3 ,4 ,"
+    );
+    Ok(())
+}
+
+#[test]
+fn places_behind_letters_of_another_length_are_carried_back(rt: HostRuntime) -> Result<(), Fail> {
+    assert_eq!(rt;
+        places_by(rt.alloc(), SHORT, "İẞab ȺAB")?.as_str(),
+        "5 ,3 ,"
+    );
+    assert_eq!(rt;
+        places_by(rt.alloc(), PATTERNS, "\u{212a}ilim İẞab ȺAB")?.as_str(),
+        "4 ,5 ,3 ,"
+    );
+    Ok(())
+}
+
+#[test]
+fn soft_hyphens_alone_break_their_word(rt: HostRuntime) -> Result<(), Fail> {
+    let words = "\u{ad}ab fir\u{ad}kin ri\u{ad}bo\u{ad}nu\u{ad}cle\u{ad}ase";
+    assert_eq!(rt;
+        places_by(rt.alloc(), FIRKIN, words)?.as_str(),
+        "0 ,3 ,2 6 10 15 ,"
+    );
+    Ok(())
+}
+
+/// Words with marks at their breaks, by the dictionary of exceptions.
+fn marked_words(alloc: Global, words: &str) -> Result<String, Fail> {
+    let dictionary = dictionary(alloc, WORDS)?;
+    let found = marked(alloc, &dictionary, words)?;
+    Ok(found)
+}
+
+#[test]
+fn marks_stand_at_the_breaks(rt: HostRuntime) -> Result<(), Fail> {
+    let words = "hyphenation CAPITAL MUCİLAGİNOUS bevies \u{ad}ab  Hypha";
+    let broken = "hy=phen=a=tion CAP=I=TAL MU=CİLAGİ=NOUS bevies =\u{ad}ab  Hy=pha ";
+    assert_eq!(rt; marked_words(rt.alloc(), words)?.as_str(), broken);
+    Ok(())
+}
+
+/// The items of a word, joined; at first the mark is `-`.
+fn joined_items(alloc: Global, dictionary: &Standard, word: &str) -> Result<String, AllocError> {
     let mut joined = String::new(alloc);
-    let hyphenated = dictionary.hyphenate(alloc, word)?;
-    for segment in hyphenated {
-        joined.push_str(segment?.as_str())?;
+    for item in dictionary.hyphenate(alloc, word)? {
+        joined.push_str(item?.as_str())?;
     }
     Ok(joined)
 }
 
 #[test]
-fn words_break_at_patterns_and_exceptions(rt: HostRuntime) -> Result<(), Fail> {
-    let cases: [(&str, &str, &[usize]); 24] = [
-        (FIRKIN, "firkin", &[3]),
-        (FIRKIN, "firkins", &[3, 4]),
-        (FIRKIN, "FIRKINS", &[3, 4]),
-        (FIRKIN, "", &[]),
-        (WORDS, "anfractuous", &[2, 6, 8]),
-        (WORDS, "hyphenation", &[2, 6, 7]),
-        (WORDS, "anisotropic", &[2, 5]),
-        (WORDS, "bevies", &[]),
-        (WORDS, "hypha", &[2]),
-        (WORDS, "CAPITAL", &[3, 4]),
-        (WORDS, "MİCRO", &[3]),
-        (WORDS, "İDİOM", &[3]),
-        (WORDS, "MUCİLAGİNOUS", &[2, 10]),
-        (NAMES, "İbrahim", &[3, 5]),
-        (NAMES, "İLGİNÇ", &[3]),
-        (NAMES, "\u{212a}ilim", &[4]),
-        (SHORT, "İẞab", &[5]),
-        (SHORT, "ȺAB", &[3]),
-        (PATTERNS, "\u{212a}ilim", &[4]),
-        (PATTERNS, "İẞab", &[5]),
-        (PATTERNS, "ȺAB", &[3]),
-        (FIRKIN, "\u{ad}ab", &[0]),
-        (FIRKIN, "fir\u{ad}kin", &[3]),
-        (
-            WORDS,
-            "ri\u{ad}bo\u{ad}nu\u{ad}cle\u{ad}ase",
-            &[2, 6, 10, 15],
-        ),
-    ];
-    for (text, word, breaks) in cases {
-        let dictionary = dictionary(rt.alloc(), text)?;
-        let hyphenated = dictionary.hyphenate(rt.alloc(), word)?;
-        assert_eq!(rt; hyphenated.breaks.as_slice(), breaks, "{word}");
-    }
+fn the_first_mark_is_a_hyphen(rt: HostRuntime) -> Result<(), Fail> {
+    let dictionary = dictionary(rt.alloc(), WORDS)?;
+    let found = joined_items(rt.alloc(), &dictionary, "Hyphenation")?;
+    assert_eq!(rt; found.as_str(), "Hy-phen-a-tion");
     Ok(())
 }
 
-#[test]
-fn marks_stand_at_the_breaks(rt: HostRuntime) -> Result<(), Fail> {
-    let cases: [(&str, &str, &str); 8] = [
-        (WORDS, "hyphenation", "hy-phen-a-tion"),
-        (WORDS, "CAPITAL", "CAP-I-TAL"),
-        (WORDS, "MUCİLAGİNOUS", "MU-CİLAGİ-NOUS"),
-        (NAMES, "İLGİNÇ", "İL-GİNÇ"),
-        (FIRKIN, "Firkins", "Fir-k-ins"),
-        (FIRKIN, "", ""),
-        (FIRKIN, "\u{ad}ab", "-\u{ad}ab"),
-        (WORDS, "bevies", "bevies"),
-    ];
-    for (text, word, expected) in cases {
-        let dictionary = dictionary(rt.alloc(), text)?;
-        let joined = marked(rt.alloc(), &dictionary, word)?;
-        assert_eq!(rt; joined.as_str(), expected);
+/// Whether the segments of a word join to it, and are one more than its breaks.
+fn is_joined(alloc: Global, dictionary: &Standard, word: &str) -> Result<bool, AllocError> {
+    let found = dictionary.hyphenate(alloc, word)?;
+    let mut joined = String::new(alloc);
+    for segment in found.iter().segments() {
+        joined.push_str(segment)?;
     }
-    Ok(())
+    let number = found.breaks.len().saturating_add(1);
+    Ok(joined.as_str() == word && found.iter().len() == number)
 }
 
 #[test]
 fn the_parts_of_a_long_word_join_to_it(rt: HostRuntime) -> Result<(), Fail> {
     let dictionary = dictionary(rt.alloc(), WORDS)?;
-    for word in ["hyphenation", "anfractuous", "unknown", "İDİOM", "a\u{ad}b"] {
-        let hyphenated = dictionary.hyphenate(rt.alloc(), word)?;
-        let mut joined = String::new(rt.alloc());
-        for segment in hyphenated.iter().segments() {
-            joined.push_str(segment)?;
-        }
-        assert_eq!(rt; joined.as_str(), word);
-        assert_eq!(rt;
-            hyphenated.iter().len(),
-            hyphenated.breaks.len().saturating_add(1)
-        );
+    for word in "hyphenation anfractuous unknown İDİOM a\u{ad}b".split(' ') {
+        assert!(rt; is_joined(rt.alloc(), &dictionary, word)?, "{word}");
     }
     Ok(())
 }

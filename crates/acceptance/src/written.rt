@@ -1,15 +1,17 @@
 //! Dictionaries written again: the order of lines, escapes, and the choice of the version.
 
+use crate::answers::{places, standard};
+use crate::exceptions::listing;
 use hyphenation::extended::Extended;
 use hyphenation::load::{Error, Load};
-use hyphenation::{Hyphenator, Language, Standard};
+use hyphenation::{Language, Standard};
 use std::alloc::{AllocError, Global};
 use std::io;
 use std::io::{ErrorKind, Write};
 use std::test::Fail;
 
 /// What is written of the dictionary of that text.
-fn rewritten<D: Load + Drop>(alloc: Global, text: &[u8]) -> Result<Vec<u8>, Error> {
+pub fn rewritten<D: Load + Drop>(alloc: Global, text: &[u8]) -> Result<Vec<u8>, Error> {
     let mut reader = text;
     let dictionary = D::any_from_reader(alloc, &mut reader)?;
     let mut written = Vec::new(alloc);
@@ -35,128 +37,161 @@ fn lines_ascend_and_nothing_idle_is_written(rt: HostRuntime) -> Result<(), Fail>
     Ok(())
 }
 
+const FIRST: &str = "hyphenation 1 standard";
+
+const SECOND: &str = "hyphenation 2 standard";
+
+const FIRST_EXTENDED: &str = "hyphenation 1 extended";
+
+const SECOND_EXTENDED: &str = "hyphenation 2 extended";
+
+/// Whether a text of that head and these lines is written as one of that other head and those other lines.
+fn is_written<D: Load + Drop>(
+    alloc: Global,
+    head: &str,
+    lines: &str,
+    wanted_head: &str,
+    wanted_lines: &str,
+) -> Result<bool, Error> {
+    let text = text_of(alloc, head, lines).map_err(Error::Memory)?;
+    let written = rewritten::<D>(alloc, text.as_bytes())?;
+    let wanted = text_of(alloc, wanted_head, wanted_lines).map_err(Error::Memory)?;
+    Ok(written.as_slice() == wanted.as_bytes())
+}
+
 #[test]
 fn a_standard_text_is_written_as_is_canonical(rt: HostRuntime) -> Result<(), Fail> {
-    let first = "hyphenation 1 standard";
-    let second = "hyphenation 2 standard";
-    let cases: [(&str, &str, &str, &str); 16] = [
-        (first, "p a\\s1b", first, "p a\\s1b"),
-        (first, "p x\\11y", first, "p x\\11y"),
-        (first, "p a0b", first, "p ab"),
-        (first, "p b\np a\np ab", first, "p a\np ab\np b"),
-        (first, "p é1a\np z1a", first, "p z1a\np é1a"),
-        (first, "e \\e", first, "e \\e"),
-        (first, "e \\e 0", first, "e \\e 0"),
+    let cases: [(&str, &str); 11] = [
+        ("p a\\s1b", "p a\\s1b"),
+        ("p x\\11y", "p x\\11y"),
+        ("p a0b", "p ab"),
+        ("p b\np a\np ab", "p a\np ab\np b"),
+        ("p é1a\np z1a", "p z1a\np é1a"),
+        ("e \\e", "e \\e"),
+        ("e \\e 0", "e \\e 0"),
         (
-            first,
             "e b 0\np b1a\ne a\\sb 1 2\np a9b",
-            first,
             "p a9b\np b1a\ne a\\sb 1 2\ne b 0",
         ),
-        (first, "e a1\\\\\\n\\r{}", first, "e a1\\\\\\n\\r{}"),
-        (first, "p \\\\\\n\\r{1}\\0", first, "p \\\\\\n\\r{1}\\0"),
-        (first, "# nothing\n\ne zoo", first, "e zoo"),
-        (second, "p a1b", first, "p a1b"),
-        (second, "p \\{1\\}", first, "p {1}"),
-        (second, "p \\{1\\}\np a{10}b", second, "p a{10}b\np \\{1\\}"),
-        (second, "p 1a{255}b9\ne a{}", second, "p 1a{255}b9\ne a{}"),
-        (second, "p a9b\np b{10}c", second, "p a9b\np b{10}c"),
+        ("e a1\\\\\\n\\r{}", "e a1\\\\\\n\\r{}"),
+        ("p \\\\\\n\\r{1}\\0", "p \\\\\\n\\r{1}\\0"),
+        ("# nothing\n\ne zoo", "e zoo"),
     ];
-    for (head, lines, wanted_head, wanted_lines) in cases {
-        let text = text_of(rt.alloc(), head, lines)?;
-        let wanted = text_of(rt.alloc(), wanted_head, wanted_lines)?;
-        let written = rewritten::<Standard>(rt.alloc(), text.as_bytes())?;
-        assert_eq!(rt; written.as_slice(), wanted.as_bytes(), "{lines}");
+    for (lines, wanted) in cases {
+        let is_so = is_written::<Standard>(rt.alloc(), FIRST, lines, FIRST, wanted)?;
+        assert!(rt; is_so, "{lines}");
     }
     Ok(())
+}
+
+#[test]
+fn a_text_is_written_in_the_least_version_that_says_it(rt: HostRuntime) -> Result<(), Fail> {
+    let cases: [(&str, &str, &str); 5] = [
+        ("p a1b", FIRST, "p a1b"),
+        ("p \\{1\\}", FIRST, "p {1}"),
+        ("p \\{1\\}\np a{10}b", SECOND, "p a{10}b\np \\{1\\}"),
+        ("p 1a{255}b9\ne a{}", SECOND, "p 1a{255}b9\ne a{}"),
+        ("p a9b\np b{10}c", SECOND, "p a9b\np b{10}c"),
+    ];
+    for (lines, head, wanted) in cases {
+        let is_so = is_written::<Standard>(rt.alloc(), SECOND, lines, head, wanted)?;
+        assert!(rt; is_so, "{lines}");
+    }
+    Ok(())
+}
+
+/// Whether an extended text of these lines is written as it stands.
+fn is_kept(alloc: Global, head: &str, lines: &str) -> Result<bool, Error> {
+    is_written::<Extended>(alloc, head, lines, head, lines)
 }
 
 #[test]
 fn an_extended_text_is_written_as_is_canonical(rt: HostRuntime) -> Result<(), Fail> {
-    let first = "hyphenation 1 extended";
-    let second = "hyphenation 2 extended";
-    let cases: [(&str, &str, &str, &str); 6] = [
-        (
-            first,
-            "p b1c\ne asszonnyal 2,1,2,2,szsz 6,1,2,2,nyny",
-            first,
-            "p b1c\ne asszonnyal 2,1,2,2,szsz 6,1,2,2,nyny",
-        ),
-        (
-            first,
-            "e asszonnyal 2,1,2,2,szsz 3 6,1,2,2,nyny\np b1c",
-            first,
-            "p b1c\ne asszonnyal 2,1,2,2,szsz 3 6,1,2,2,nyny",
-        ),
-        (first, "e ab 1,1,1,2,a,b", first, "e ab 1,1,1,2,a,b"),
-        (first, "p a1b 1,1,1,0,\\e", first, "p a1b 1,1,1,0,\\e"),
-        (
-            first,
-            "p 1a3b 0,0,1,2,\\s\\n 1,1,0,2,é\\\\",
-            first,
-            "p 1a3b 0,0,1,2,\\s\\n 1,1,0,2,é\\\\",
-        ),
-        (
-            second,
-            "p \\{a{11}b 2,1,1,1,{1}",
-            second,
-            "p \\{a{11}b 2,1,1,1,{1}",
-        ),
+    let lines = [
+        "p b1c\ne asszonnyal 2,1,2,2,szsz 6,1,2,2,nyny",
+        "e ab 1,1,1,2,a,b",
+        "p a1b 1,1,1,0,\\e",
+        "p 1a3b 0,0,1,2,\\s\\n 1,1,0,2,é\\\\",
     ];
-    for (head, lines, wanted_head, wanted_lines) in cases {
-        let text = text_of(rt.alloc(), head, lines)?;
-        let wanted = text_of(rt.alloc(), wanted_head, wanted_lines)?;
-        let written = rewritten::<Extended>(rt.alloc(), text.as_bytes())?;
-        assert_eq!(rt; written.as_slice(), wanted.as_bytes(), "{lines}");
+    for lines in lines {
+        assert!(rt; is_kept(rt.alloc(), FIRST_EXTENDED, lines)?, "{lines}");
     }
+    let second = "p \\{a{11}b 2,1,1,1,{1}";
+    assert!(rt; is_kept(rt.alloc(), SECOND_EXTENDED, second)?);
     Ok(())
+}
+
+#[test]
+fn exceptions_of_an_extended_text_are_written_behind_its_patterns(
+    rt: HostRuntime,
+) -> Result<(), Fail> {
+    let is_so = is_written::<Extended>(
+        rt.alloc(),
+        FIRST_EXTENDED,
+        "e asszonnyal 2,1,2,2,szsz 3 6,1,2,2,nyny\np b1c",
+        FIRST_EXTENDED,
+        "p b1c\ne asszonnyal 2,1,2,2,szsz 3 6,1,2,2,nyny",
+    )?;
+    assert!(rt; is_so);
+    Ok(())
+}
+
+/// Whether these lines are written in the order of the keys, also where the last line feed is wanting.
+fn is_ordered(alloc: Global, lines: &str) -> Result<bool, Error> {
+    let wanted = text_of(alloc, FIRST, "p .fi2\np i2r\np r2k").map_err(Error::Memory)?;
+    let mut text = text_of(alloc, FIRST, lines).map_err(Error::Memory)?;
+    let ended = rewritten::<Standard>(alloc, text.as_bytes())?;
+    let _feed = text.pop();
+    let unended = rewritten::<Standard>(alloc, text.as_bytes())?;
+    Ok(ended.as_slice() == wanted.as_bytes() && unended.as_slice() == wanted.as_bytes())
 }
 
 #[test]
 fn the_order_of_the_lines_read_is_not_seen(rt: HostRuntime) -> Result<(), Fail> {
-    let wanted = text_of(rt.alloc(), "hyphenation 1 standard", "p .fi2\np i2r\np r2k")?;
-    let orders: [[&str; 3]; 6] = [
-        ["p .fi2", "p i2r", "p r2k"],
-        ["p .fi2", "p r2k", "p i2r"],
-        ["p i2r", "p .fi2", "p r2k"],
-        ["p i2r", "p r2k", "p .fi2"],
-        ["p r2k", "p .fi2", "p i2r"],
-        ["p r2k", "p i2r", "p .fi2"],
+    let orders = [
+        "p .fi2\np i2r\np r2k",
+        "p .fi2\np r2k\np i2r",
+        "p i2r\np .fi2\np r2k",
+        "p i2r\np r2k\np .fi2",
+        "p r2k\np .fi2\np i2r",
+        "p r2k\np i2r\np .fi2",
     ];
-    for [a, b, c] in orders {
-        let lines = format!(in rt.alloc(); "{a}\n{b}\n{c}")?;
-        let mut text = text_of(rt.alloc(), "hyphenation 1 standard", &lines)?;
-        let written = rewritten::<Standard>(rt.alloc(), text.as_bytes())?;
-        assert_eq!(rt; written.as_slice(), wanted.as_bytes(), "{lines}");
-        // without the last line feed the text is the same
-        let _feed = text.pop();
-        let unended = rewritten::<Standard>(rt.alloc(), text.as_bytes())?;
-        assert_eq!(rt; unended.as_slice(), wanted.as_bytes(), "{lines}");
+    for lines in orders {
+        assert!(rt; is_ordered(rt.alloc(), lines)?, "{lines}");
     }
     Ok(())
 }
 
+/// The text of the dictionary of `firkin` with the place 3 listed for `firkins`.
+fn edited(alloc: Global) -> Result<Vec<u8>, Error> {
+    let dictionary = listing(alloc)?;
+    let mut written = Vec::new(alloc);
+    dictionary.to_writer(alloc, &mut written)?;
+    Ok(written)
+}
+
+#[test]
+fn an_edited_dictionary_is_written(rt: HostRuntime) -> Result<(), Fail> {
+    let written = edited(rt.alloc())?;
+    let wanted =
+        b"hyphenation 1 standard\nlanguage en-gb\nminima 2 3\np .fi2\np i2r\np k1in\np k2in.\np r2k\np r5kin\ne firkins 3\n";
+    assert_eq!(rt; written.as_slice(), wanted.as_slice());
+    Ok(())
+}
+
+/// The breaks of words by the dictionary that is read from that text.
+fn kept(alloc: Global, words: &str) -> Result<String, Fail> {
+    let written = edited(alloc)?;
+    let language = Language::from_code("en-gb").ok_or("a code")?;
+    let mut reader = written.as_slice();
+    let dictionary = Standard::from_reader(alloc, language, &mut reader)?;
+    let found = places(alloc, &dictionary, words)?;
+    Ok(found)
+}
+
 #[test]
 fn an_edited_dictionary_is_kept_by_its_text(rt: HostRuntime) -> Result<(), Fail> {
-    let mut reader = crate::runs::FIRKIN.as_bytes();
-    let mut dictionary = Standard::any_from_reader(rt.alloc(), &mut reader)?;
-    let word = String::from_str(rt.alloc(), "firkins")?;
-    let mut listed = Vec::new(rt.alloc());
-    listed.push(3)?;
-    let old = dictionary.add_exception(word, listed)?;
-    assert!(rt; old.is_none());
-    let mut written = Vec::new(rt.alloc());
-    dictionary.to_writer(rt.alloc(), &mut written)?;
-    let wanted = text_of(
-        rt.alloc(),
-        "hyphenation 1 standard",
-        "p .fi2\np i2r\np k1in\np k2in.\np r2k\np r5kin\ne firkins 3",
-    )?;
-    assert_eq!(rt; written.as_slice(), wanted.as_bytes());
-    let mut again = written.as_slice();
-    let kept = Standard::from_reader(rt.alloc(), Language::english_us(), &mut again)?;
-    let broken = kept.hyphenate(rt.alloc(), "firkins")?;
-    assert_eq!(rt; broken.breaks.as_slice(), [3].as_slice());
+    assert_eq!(rt; kept(rt.alloc(), "firkins firkin")?.as_str(), "3 ,3 ,");
     Ok(())
 }
 
@@ -188,32 +223,58 @@ impl Write for Narrow {
     }
 }
 
+/// Whether a dictionary's writing ends with a fault of this kind at the write of this number, behind a beginning of its
+/// text.
+fn is_told(
+    alloc: Global,
+    dictionary: &Standard,
+    text: &[u8],
+    kind: ErrorKind,
+    until: usize,
+) -> bool {
+    let mut narrow = Narrow {
+        until,
+        kind,
+        taken: Vec::new(alloc),
+    };
+    let end = dictionary.to_writer(alloc, &mut narrow);
+    matches!(end, Err(Error::IO(e)) if e.kind() == kind) && text.starts_with(&narrow.taken)
+}
+
+/// Whether a fault of this kind is told at each write of a dictionary's text.
+fn is_told_at_each(alloc: Global, kind: ErrorKind) -> Result<bool, Error> {
+    let dictionary = standard(alloc, "2 3", "p a1b")?;
+    let mut text = Vec::new(alloc);
+    dictionary.to_writer(alloc, &mut text)?;
+    let mut all = true;
+    for until in 1..=text.len() {
+        all = all && is_told(alloc, &dictionary, &text, kind, until);
+    }
+    Ok(all)
+}
+
 #[test]
 fn a_fault_of_the_writer_is_told(rt: HostRuntime) -> Result<(), Fail> {
-    let text = text_of(rt.alloc(), "hyphenation 1 standard", "p a1b")?;
-    let mut reader = text.as_bytes();
-    let dictionary = Standard::any_from_reader(rt.alloc(), &mut reader)?;
-    for kind in [ErrorKind::BrokenPipe, ErrorKind::OutOfMemory] {
-        for until in 1..=text.len() {
-            let mut narrow = Narrow {
-                until,
-                kind,
-                taken: Vec::new(rt.alloc()),
-            };
-            let end = dictionary.to_writer(rt.alloc(), &mut narrow);
-            assert!(rt;
-                matches!(end, Err(Error::IO(e)) if e.kind() == kind),
-                "{until}"
-            );
-            assert!(rt; text.as_bytes().starts_with(&narrow.taken), "{until}");
-        }
-        let mut narrow = Narrow {
-            until: text.len() + 1,
-            kind,
-            taken: Vec::new(rt.alloc()),
-        };
-        dictionary.to_writer(rt.alloc(), &mut narrow)?;
-        assert_eq!(rt; narrow.taken.as_slice(), text.as_bytes());
-    }
+    assert!(rt; is_told_at_each(rt.alloc(), ErrorKind::BrokenPipe)?);
+    assert!(rt; is_told_at_each(rt.alloc(), ErrorKind::OutOfMemory)?);
+    Ok(())
+}
+
+/// Whether a writer whose fault would come behind the last byte gets the whole text.
+fn is_taken(alloc: Global) -> Result<bool, Error> {
+    let dictionary = standard(alloc, "2 3", "p a1b")?;
+    let text = b"hyphenation 1 standard\nlanguage x\nminima 2 3\np a1b\n";
+    let mut narrow = Narrow {
+        until: text.len() + 1,
+        kind: ErrorKind::BrokenPipe,
+        taken: Vec::new(alloc),
+    };
+    dictionary.to_writer(alloc, &mut narrow)?;
+    Ok(narrow.taken.as_slice() == text.as_slice())
+}
+
+#[test]
+fn a_writer_of_a_byte_a_write_gets_the_whole_text(rt: HostRuntime) -> Result<(), Fail> {
+    assert!(rt; is_taken(rt.alloc())?);
     Ok(())
 }

@@ -1,0 +1,188 @@
+//! What dictionaries answer, each answer as one text that a test compares.
+
+use hyphenation::Standard;
+use hyphenation::extended::{Extended, Subregion};
+use hyphenation::hyphenator::{Break, Hyphenator};
+use hyphenation::iter::{Hyphenating, Texts};
+use hyphenation::load::{Error, Load};
+use hyphenation::score::Score;
+use std::alloc::{AllocError, Global};
+
+/// The standard dictionary of a text of these minima and these lines.
+pub fn standard(alloc: Global, minima: &str, lines: &str) -> Result<Standard, Error> {
+    let text = standard_text(alloc, minima, lines).map_err(Error::Memory)?;
+    let mut reader = text.as_bytes();
+    Standard::any_from_reader(alloc, &mut reader)
+}
+
+/// A standard text of these minima and these lines.
+fn standard_text(alloc: Global, minima: &str, lines: &str) -> Result<String, AllocError> {
+    format!(in alloc; "hyphenation 1 standard\nlanguage x\nminima {minima}\n{lines}\n")
+}
+
+/// Each of these breaks with a space behind it: its place, and what it substitutes.
+pub fn told<B: Break>(alloc: Global, breaks: &[B]) -> Result<String, AllocError> {
+    let mut told = String::new(alloc);
+    for one in breaks {
+        let place = format!(in alloc; "{}{}{} ", one.place(), one.before(), one.after())?;
+        told.push_str(&place)?;
+    }
+    Ok(told)
+}
+
+/// The breaks of an exception, or that there is none.
+pub fn told_if<B: Break>(alloc: Global, found: Option<Vec<B>>) -> Result<String, AllocError> {
+    match found {
+        Some(breaks) => told(alloc, &breaks),
+        None => String::from_str(alloc, "none"),
+    }
+}
+
+/// Writes the breaks of a word.
+fn push_breaks<'h, H: Hyphenator<'h>>(
+    output: &mut String,
+    alloc: Global,
+    dictionary: &'h H,
+    word: &str,
+) -> Result<(), AllocError> {
+    let found = dictionary.hyphenate(alloc, word)?;
+    let breaks = told(alloc, &found.breaks)?;
+    output.push_str(&breaks)
+}
+
+/// The breaks of words that a space parts, with a comma behind those of each word.
+pub fn places<'h, H: Hyphenator<'h>>(
+    alloc: Global,
+    dictionary: &'h H,
+    words: &str,
+) -> Result<String, AllocError> {
+    let mut output = String::new(alloc);
+    for word in words.split(' ') {
+        push_breaks(&mut output, alloc, dictionary, word)?;
+        output.push(',')?;
+    }
+    Ok(output)
+}
+
+/// Writes a word's items, with the mark `=`.
+fn push_items(
+    output: &mut String,
+    alloc: Global,
+    dictionary: &Standard,
+    word: &str,
+) -> Result<(), AllocError> {
+    let mut items = dictionary.hyphenate(alloc, word)?.into_iter();
+    items.mark_with("=");
+    for item in items {
+        output.push_str(item?.as_str())?;
+    }
+    Ok(())
+}
+
+/// Words that a space parts, each as its items with the mark `=`, and a space behind it.
+pub fn marked(alloc: Global, dictionary: &Standard, words: &str) -> Result<String, AllocError> {
+    let mut output = String::new(alloc);
+    for word in words.split(' ') {
+        push_items(&mut output, alloc, dictionary, word)?;
+        output.push(' ')?;
+    }
+    Ok(output)
+}
+
+/// Writes a word's items as they are changed, with the mark `=`.
+fn push_changed(
+    output: &mut String,
+    alloc: Global,
+    dictionary: &Extended,
+    word: &str,
+) -> Result<(), AllocError> {
+    let mut items = dictionary.hyphenate(alloc, word)?.into_iter();
+    items.mark_with("=");
+    for item in items {
+        output.push_str(item?.as_str())?;
+    }
+    Ok(())
+}
+
+/// Words that a space parts, each as its items, changed, with the mark `=`, and a space behind it.
+pub fn changed(alloc: Global, dictionary: &Extended, words: &str) -> Result<String, AllocError> {
+    let mut output = String::new(alloc);
+    for word in words.split(' ') {
+        push_changed(&mut output, alloc, dictionary, word)?;
+        output.push(' ')?;
+    }
+    Ok(output)
+}
+
+/// Writes the values of a word's places, each with a space behind it.
+fn push_values(
+    output: &mut String,
+    alloc: Global,
+    dictionary: &Standard,
+    word: &str,
+) -> Result<(), AllocError> {
+    for value in dictionary.score(alloc, word)? {
+        let value = format!(in alloc; "{value} ")?;
+        output.push_str(&value)?;
+    }
+    Ok(())
+}
+
+/// The values of the places of words that a space parts, with a comma behind those of each word.
+pub fn values(alloc: Global, dictionary: &Standard, words: &str) -> Result<String, AllocError> {
+    let mut output = String::new(alloc);
+    for word in words.split(' ') {
+        push_values(&mut output, alloc, dictionary, word)?;
+        output.push(',')?;
+    }
+    Ok(output)
+}
+
+/// What a change puts in place of its range.
+fn substitution<'d>(change: Option<&'d Subregion>) -> &'d str {
+    match change {
+        Some(change) => change.substitution.as_str(),
+        None => "",
+    }
+}
+
+/// Writes the values of a word's places, each with what its change substitutes and a space behind it.
+fn push_winners(
+    output: &mut String,
+    alloc: Global,
+    dictionary: &Extended,
+    word: &str,
+) -> Result<(), AllocError> {
+    for (value, change) in dictionary.score(alloc, word)? {
+        let value = format!(in alloc; "{value}{} ", substitution(change))?;
+        output.push_str(&value)?;
+    }
+    Ok(())
+}
+
+/// The values of the places of words that a space parts, each with what its change substitutes; a comma behind those
+/// of each word.
+pub fn winners(alloc: Global, dictionary: &Extended, words: &str) -> Result<String, AllocError> {
+    let mut output = String::new(alloc);
+    for word in words.split(' ') {
+        push_winners(&mut output, alloc, dictionary, word)?;
+        output.push(',')?;
+    }
+    Ok(output)
+}
+
+/// Writes the number of items that are left, and the next one.
+pub fn push_next<I: Texts>(
+    output: &mut String,
+    alloc: Global,
+    items: &mut Hyphenating<'_, I>,
+) -> Result<(), AllocError> {
+    let (left, _) = items.size_hint();
+    let left = format!(in alloc; "{left} ")?;
+    output.push_str(&left)?;
+    match items.next() {
+        Some(item) => output.push_str(item?.as_str())?,
+        None => output.push_str("none")?,
+    }
+    output.push(',')
+}

@@ -1,0 +1,338 @@
+//! Long words, keys, lists and texts: with ample memory each call answers, and never that memory was refused.
+
+use crate::answers::{places, standard, told_if};
+use crate::awkward::{broken, placed, scored};
+use crate::changes::{changed_by, exception, extended};
+use crate::runs::{DOUBLED, FIRKIN};
+use crate::scores::counted;
+use crate::written::rewritten;
+use hyphenation::engine::{Kind, run};
+use hyphenation::extended::Extended;
+use hyphenation::hyphenator::Hyphenator;
+use hyphenation::{Language, Standard};
+use linefill::run_fill;
+use std::alloc::{AllocError, Global};
+use std::test::Fail;
+
+/// A piece so many times.
+pub fn repeated(alloc: Global, piece: &str, times: usize) -> Result<String, AllocError> {
+    let mut text = String::new(alloc);
+    for _ in 0..times {
+        text.push_str(piece)?;
+    }
+    Ok(text)
+}
+
+/// A head, a piece so many times, and a tail.
+fn between(
+    alloc: Global,
+    head: &str,
+    piece: &str,
+    times: usize,
+    tail: &str,
+) -> Result<String, AllocError> {
+    let middle = repeated(alloc, piece, times)?;
+    format!(in alloc; "{head}{middle}{tail}")
+}
+
+/// Whether `ab`, 5,000 times, has the value 1 at each of its odd places and 0 at the even ones.
+fn is_scored(alloc: Global) -> Result<bool, Fail> {
+    let word = repeated(alloc, "ab", 5_000)?;
+    let found = scored(alloc, "p a1b", &word)?;
+    // 9,999 places: 4,999 pairs and the last one
+    let wanted = between(alloc, "", "1 0 ", 4_999, "1 ,")?;
+    Ok(found.as_str() == wanted.as_str())
+}
+
+#[test]
+fn a_word_of_10_000_bytes_is_scored(rt: HostRuntime) -> Result<(), Fail> {
+    assert!(rt; is_scored(rt.alloc())?);
+    Ok(())
+}
+
+/// Whether `ab`, 5,000 times, is broken by both kinds within each pair.
+fn is_broken(alloc: Global) -> Result<bool, Fail> {
+    let word = repeated(alloc, "ab", 5_000)?;
+    let found = broken(alloc, "1 1", "p a1b", &word)?;
+    let wanted = between(alloc, "", "a=b", 5_000, " ")?;
+    Ok(found.as_str() == wanted.as_str())
+}
+
+#[test]
+fn a_word_of_10_000_bytes_is_broken(rt: HostRuntime) -> Result<(), Fail> {
+    assert!(rt; is_broken(rt.alloc())?);
+    Ok(())
+}
+
+/// Whether a piece of two letters, 5,000 times, has `x` and `y` for each two letters, with a break between them.
+fn is_changed(alloc: Global, line: &str, piece: &str) -> Result<bool, Fail> {
+    let word = repeated(alloc, piece, 5_000)?;
+    let found = changed_by(alloc, "1 1", line, &word)?;
+    let wanted = between(alloc, "", "x=y", 5_000, " ")?;
+    Ok(found.as_str() == wanted.as_str())
+}
+
+// `aa` allows a break at each place, and each range of two letters that is kept bars the next place
+#[test]
+fn a_word_of_10_000_bytes_is_fitted(rt: HostRuntime) -> Result<(), Fail> {
+    assert!(rt; is_changed(rt.alloc(), "p a1b 1,1,1,1,xy", "ab")?);
+    assert!(rt; is_changed(rt.alloc(), "p a1a 1,1,1,1,xy", "aa")?);
+    Ok(())
+}
+
+/// The line of a key of so many letters `a`, an even number, with the value 1 in its middle.
+fn line_of_key(alloc: Global, letters: usize) -> Result<String, AllocError> {
+    let half = repeated(alloc, "a", letters / 2)?;
+    format!(in alloc; "p {half}1{half}")
+}
+
+/// The places of a word of so many letters by a dictionary with one key of so many.
+fn by_one_key(alloc: Global, letters: usize, of_word: usize) -> Result<String, Fail> {
+    let line = line_of_key(alloc, letters)?;
+    let word = repeated(alloc, "a", of_word)?;
+    placed(alloc, "1 1", &line, &word)
+}
+
+// in a word with one letter more the key stands twice
+#[test]
+fn a_key_of_1_000_bytes_is_found(rt: HostRuntime) -> Result<(), Fail> {
+    assert_eq!(rt; by_one_key(rt.alloc(), 1_000, 999)?.as_str(), ",");
+    assert_eq!(rt; by_one_key(rt.alloc(), 1_000, 1_000)?.as_str(), "500 ,");
+    assert_eq!(rt; by_one_key(rt.alloc(), 1_000, 1_001)?.as_str(), "500 501 ,");
+    Ok(())
+}
+
+#[test]
+fn a_key_of_10_000_bytes_is_found(rt: HostRuntime) -> Result<(), Fail> {
+    assert_eq!(rt; by_one_key(rt.alloc(), 10_000, 9_999)?.as_str(), ",");
+    assert_eq!(rt; by_one_key(rt.alloc(), 10_000, 10_000)?.as_str(), "5000 ,");
+    assert_eq!(rt;
+        by_one_key(rt.alloc(), 10_000, 10_001)?.as_str(),
+        "5000 5001 ,"
+    );
+    Ok(())
+}
+
+/// Whether the text of a dictionary with one key of so many bytes is written as it was read.
+fn is_written(alloc: Global, letters: usize) -> Result<bool, Fail> {
+    let line = line_of_key(alloc, letters)?;
+    let text = format!(in alloc; "hyphenation 1 standard\nlanguage hu\nminima 2 2\n{line}\n")?;
+    let written = rewritten::<Standard>(alloc, text.as_bytes())?;
+    Ok(written.as_slice() == text.as_bytes())
+}
+
+#[test]
+fn a_key_of_10_000_bytes_is_written(rt: HostRuntime) -> Result<(), Fail> {
+    assert!(rt; is_written(rt.alloc(), 10_000)?);
+    Ok(())
+}
+
+/// Ten dots and a letter: each dot of a word of dots begins this key, or goes on in it.
+const DOTS: &str = "p ..........1a";
+
+/// Whether 100,000 dots have the value 0 at each place, and no break.
+fn are_dots(alloc: Global) -> Result<bool, Fail> {
+    let word = repeated(alloc, ".", 100_000)?;
+    let values = scored(alloc, DOTS, &word)?;
+    let zeros = between(alloc, "", "0 ", 99_999, ",")?;
+    let places = placed(alloc, "0 0", DOTS, &word)?;
+    Ok(values.as_str() == zeros.as_str() && places.as_str() == ",")
+}
+
+#[test]
+fn a_word_of_100_000_dots_has_no_break(rt: HostRuntime) -> Result<(), Fail> {
+    assert!(rt; are_dots(rt.alloc())?);
+    Ok(())
+}
+
+/// The look-ups for 100,000 dots.
+fn looked_up(alloc: Global) -> Result<u128, Fail> {
+    let word = repeated(alloc, ".", 100_000)?;
+    Ok(counted(alloc, DOTS, &word)?.made())
+}
+
+// twice the bytes of the frame
+#[test]
+fn a_word_of_100_000_dots_is_looked_up_in_one_pass(rt: HostRuntime) -> Result<(), Fail> {
+    let made = looked_up(rt.alloc())?;
+    assert!(rt; 100_002 <= made && made <= 200_004);
+    Ok(())
+}
+
+/// The places of 100,000 dots where one is listed for them.
+fn of_listed_dots(alloc: Global) -> Result<String, Fail> {
+    let word = repeated(alloc, ".", 100_000)?;
+    let line = format!(in alloc; "e {word} 50000")?;
+    placed(alloc, "255 255", &line, &word)
+}
+
+#[test]
+fn a_word_of_100_000_dots_is_an_exception(rt: HostRuntime) -> Result<(), Fail> {
+    assert_eq!(rt; of_listed_dots(rt.alloc())?.as_str(), "50000 ,");
+    Ok(())
+}
+
+/// A pattern that an empty list bars from its word.
+const EMPTY: &str = "p a1b\ne ab";
+
+/// The empty list of a standard dictionary.
+fn empty_list(alloc: Global) -> Result<String, Fail> {
+    let dictionary = standard(alloc, "0 0", EMPTY)?;
+    Ok(told_if(alloc, dictionary.exception(alloc, "ab")?)?)
+}
+
+#[test]
+fn a_list_may_be_empty(rt: HostRuntime) -> Result<(), Fail> {
+    assert_eq!(rt; empty_list(rt.alloc())?.as_str(), "");
+    assert_eq!(rt;
+        exception(rt.alloc(), "p b1c\ne abcd", "abcd")?.as_str(),
+        ""
+    );
+    assert_eq!(rt;
+        broken(rt.alloc(), "0 0", EMPTY, "ab aab")?.as_str(),
+        "ab aa=b "
+    );
+    Ok(())
+}
+
+/// Lists no place for `ab`; the old list.
+fn empty(alloc: Global, dictionary: &mut Standard) -> Result<String, AllocError> {
+    let word = String::from_str(alloc, "ab")?;
+    told_if(alloc, dictionary.add_exception(word, Vec::new(alloc))?)
+}
+
+/// Lists no break for `ab`; the old list.
+fn empty_extended(alloc: Global, dictionary: &mut Extended) -> Result<String, AllocError> {
+    let word = String::from_str(alloc, "ab")?;
+    told_if(alloc, dictionary.add_exception(word, Vec::new(alloc))?)
+}
+
+#[test]
+fn an_empty_list_replaces_another(rt: HostRuntime) -> Result<(), Fail> {
+    let mut dictionary = standard(rt.alloc(), "0 0", "p a1b\ne ab 1")?;
+    assert_eq!(rt; empty(rt.alloc(), &mut dictionary)?.as_str(), "1 ");
+    Ok(())
+}
+
+#[test]
+fn an_empty_list_replaces_another_with_a_change(rt: HostRuntime) -> Result<(), Fail> {
+    let mut dictionary = extended(rt.alloc(), "0 0", "p a1b\ne ab 1,1,1,1,xy")?;
+    assert_eq!(rt;
+        empty_extended(rt.alloc(), &mut dictionary)?.as_str(),
+        "1xy "
+    );
+    Ok(())
+}
+
+/// The breaks of words where no place is listed for `ab`.
+fn emptied(alloc: Global, words: &str) -> Result<String, Fail> {
+    let mut dictionary = standard(alloc, "0 0", "p a1b\ne ab 1")?;
+    let _old = empty(alloc, &mut dictionary)?;
+    let found = places(alloc, &dictionary, words)?;
+    Ok(found)
+}
+
+#[test]
+fn an_empty_list_is_added(rt: HostRuntime) -> Result<(), Fail> {
+    assert_eq!(rt; emptied(rt.alloc(), "ab aab")?.as_str(), ",2 ,");
+    Ok(())
+}
+
+/// The lines of exceptions `word0`, `word1` and so on, each broken behind its letters.
+fn numbered(alloc: Global, number: usize) -> Result<String, AllocError> {
+    let mut lines = String::new(alloc);
+    for each in 0..number {
+        let line = format!(in alloc; "e word{each} 4\n")?;
+        lines.push_str(&line)?;
+    }
+    Ok(lines)
+}
+
+/// Words as dictionaries of both kinds of more than 1,000,000 bytes break them; `None` where they have fewer.
+fn by_numbered(alloc: Global, words: &str) -> Result<Option<String>, Fail> {
+    let lines = numbered(alloc, 80_000)?;
+    if lines.len() > 1_000_000 {
+        Ok(Some(broken(alloc, "1 1", &lines, words)?))
+    } else {
+        Ok(None)
+    }
+}
+
+#[test]
+fn a_dictionary_of_a_million_bytes_is_read(rt: HostRuntime) -> Result<(), Fail> {
+    let found = by_numbered(rt.alloc(), "word0 Word79999 word80000")?.ok_or("too few bytes")?;
+    assert_eq!(rt; found.as_str(), "word=0 Word=79999 word80000 ");
+    Ok(())
+}
+
+/// Whether a run over a piece, repeated to more than 1,000,000 bytes, writes it broken so each time.
+fn is_run(
+    alloc: Global,
+    kind: Kind,
+    text: &str,
+    piece: &str,
+    wanted: &str,
+) -> Result<bool, AllocError> {
+    let times = 1_000_000 / piece.len().max(1) + 1;
+    let input = repeated(alloc, piece, times)?;
+    let wanted = repeated(alloc, wanted, times)?;
+    let language = match kind {
+        Kind::Standard => Language::english_us(),
+        Kind::Extended => Language::hungarian(),
+    };
+    let mut dictionary = text.as_bytes();
+    let mut reader = input.as_bytes();
+    let mut output: Vec<u8> = Vec::new(alloc);
+    let end = run(
+        alloc,
+        kind,
+        language,
+        &[],
+        "-",
+        &mut dictionary,
+        &mut reader,
+        &mut output,
+    );
+    let is_long = input.len() > 1_000_000;
+    Ok(end.is_ok() && is_long && output.as_slice() == wanted.as_bytes())
+}
+
+#[test]
+fn a_text_of_a_million_bytes_is_run(rt: HostRuntime) -> Result<(), Fail> {
+    let (piece, wanted) = ("Firkin, firkins. ", "Fir-kin, fir-k-ins. ");
+    assert!(rt; is_run(rt.alloc(), Kind::Standard, FIRKIN, piece, wanted)?);
+    Ok(())
+}
+
+#[test]
+fn a_text_of_a_million_bytes_is_run_and_changed(rt: HostRuntime) -> Result<(), Fail> {
+    let (piece, wanted) = ("Az asszonnyal. ", "Az asz-szony-nyal. ");
+    assert!(rt; is_run(rt.alloc(), Kind::Extended, DOUBLED, piece, wanted)?);
+    Ok(())
+}
+
+/// Whether a text of 1,050,000 bytes is filled into lines of one word each.
+fn is_filled(alloc: Global) -> Result<bool, AllocError> {
+    let input = repeated(alloc, "fir ", 262_500)?;
+    let wanted = repeated(alloc, "fir \n", 262_500)?;
+    let mut dictionary = FIRKIN.as_bytes();
+    let mut reader = input.as_bytes();
+    let mut output: Vec<u8> = Vec::new(alloc);
+    let language = Language::english_us();
+    let end = run_fill(
+        alloc,
+        language,
+        7,
+        &mut dictionary,
+        &mut reader,
+        &mut output,
+    );
+    Ok(end.is_ok() && output.as_slice() == wanted.as_bytes())
+}
+
+// two words have eight characters with the space behind the second
+#[test]
+fn a_text_of_a_million_bytes_is_filled(rt: HostRuntime) -> Result<(), Fail> {
+    assert!(rt; is_filled(rt.alloc())?);
+    Ok(())
+}
