@@ -17,7 +17,9 @@ TakesFirstOrRefuses {X = X} held list old item new = MatchOption item (list old 
 
 -- An item is the first of the texts to come, or a refusal in its place; after the end there is none again.
 abbrev pub GivesMarked : {Z E : Type 0} → List (List ℕ) → Option (Result (String Z) E) → List (List ℕ) → Type 0
-GivesMarked old item new = MatchOption item ((old ≡ []) × (new ≡ [])) (λ x. (first : List ℕ) × (old ≡ first ∷ new) × IfOk x (λ text. string_bytes text ≡ first))
+GivesMarked old item new =
+    MatchOption item ((old ≡ []) × (new ≡ []))
+    (λ x. (first : List ℕ) × (old ≡ first ∷ new) × IfOk x (λ text. string_bytes text ≡ first))
 
 -- The segments to come where the last plain break was at the start, and none behind the last segment.
 abbrev pub segments_from : List ℕ → Option ℕ → List Break → List (List ℕ)

@@ -44,11 +44,13 @@ IsAccepted refusal language asked bytes = (refusal bytes ≡ None) × (language 
 abbrev pub IsRefused : (List ℕ → Option (ℕ × Cause)) → (List ℕ → List ℕ) → List ℕ → List ℕ → Error → Type 0
 IsRefused refusal language asked bytes (Deserialization line cause) = refusal bytes ≡ Some (line, cause)
 IsRefused refusal language asked bytes (IO e) = Unit {0}
-IsRefused refusal language asked bytes (LanguageMismatch expected found) = (refusal bytes ≡ None) × (language bytes ≡ found) × (expected ≡ asked) × (found ≢ asked)
+IsRefused refusal language asked bytes (LanguageMismatch expected found) =
+    (refusal bytes ≡ None) × (language bytes ≡ found) × (expected ≡ asked) × (found ≢ asked)
 IsRefused refusal language asked bytes (NoMemory e) = ⊥
 
 -- A run over a dictionary's bytes ends well, or at the writing, exactly where the text is accepted and of the asked language.
-abbrev pub Runs : {X : Type 0} → (List ℕ → Option (ℕ × Cause)) → (List ℕ → List ℕ) → List ℕ → List ℕ → Result X RunError → Type 0
+abbrev pub Runs : {X : Type 0} → (List ℕ → Option (ℕ × Cause)) → (List ℕ → List ℕ) → List ℕ → List ℕ → Result X RunError
+    → Type 0
 Runs refusal language asked bytes (Ok done) = IsAccepted refusal language asked bytes
 Runs refusal language asked bytes (Err (Dictionary e)) = IsRefused refusal language asked bytes e
 Runs refusal language asked bytes (Err (Edit number)) = ⊥
@@ -94,11 +96,14 @@ HoldsNoWant _ = Unit {0}
 
 -- The breaks of a word as written by the dictionary of that kind that a text gives, behind edits.
 abbrev pub breaks_by : Kind → List ℕ → List (List ℕ) → List ℕ → List Break
-breaks_by Standard bytes edits word = breaks_of (rules_of no_change plain (edited_by place_alone (standard_contents bytes) edits)) word
-breaks_by Extended bytes edits word = fitted_breaks_of (rules_of own_change own_break (edited_by place_and_change (extended_contents bytes) edits)) word
+breaks_by Standard bytes edits word =
+    breaks_of (rules_of no_change plain (edited_by place_alone (standard_contents bytes) edits)) word
+breaks_by Extended bytes edits word =
+    fitted_breaks_of (rules_of own_change own_break (edited_by place_and_change (extended_contents bytes) edits)) word
 
 -- The dictionary is judged first: only where it is accepted, and of the asked language, anything else is answered.
-abbrev pub JudgesDictionary : {X : Type 0} → (List ℕ → Option (ℕ × Cause)) → List ℕ → List ℕ → Result X RunError → Type 0
+abbrev pub JudgesDictionary : {X : Type 0} → (List ℕ → Option (ℕ × Cause)) → List ℕ → List ℕ → Result X RunError
+    → Type 0
 JudgesDictionary refusal asked bytes (Err (Dictionary e)) = IsRefused refusal language_in asked bytes e
 JudgesDictionary refusal asked bytes (Err Memory) = Unit {0}
 JudgesDictionary refusal asked bytes _ = IsAccepted refusal language_in asked bytes

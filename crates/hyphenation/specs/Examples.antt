@@ -21,7 +21,9 @@ carried keys word = map (λ winner. option_map (λ entry. entry.change) winner) 
 
 -- .fi2 i2r r2k r5kin k1in k2in.
 abbrev pub english : Patterns ℕ
-english = known (pattern (codes ".fi") 3 2 0 ∷ pattern (codes "ir") 1 2 0 ∷ pattern (codes "rk") 1 2 0 ∷ pattern (codes "rkin") 1 5 0 ∷ pattern (codes "kin") 1 1 0 ∷ pattern (codes "kin.") 1 2 0 ∷ [])
+english =
+    known (pattern (codes ".fi") 3 2 0 ∷ pattern (codes "ir") 1 2 0 ∷ pattern (codes "rk") 1 2 0 ∷ pattern
+    (codes "rkin") 1 5 0 ∷ pattern (codes "kin") 1 1 0 ∷ pattern (codes "kin.") 1 2 0 ∷ [])
 
 -- a1b, which carries 7, and ca1bd, which carries 9.
 abbrev pub early_and_late : Patterns ℕ

@@ -34,6 +34,8 @@ Ascend text least (p ∷ ps) = (least ≤ p) × IsCharBoundary text p × Ascend 
 pub Stands-prop : (text : List ℕ) (last_end least : ℕ) (b : Break) → IsProp (Stands text last_end least b)
 Stands-prop text last_end least b = hlevel props
 
-pub FitsFrom-prop : (text : List ℕ) (last_end least : ℕ) (breaks : List Break) → IsProp (FitsFrom text last_end least breaks)
+pub FitsFrom-prop : (text : List ℕ) (last_end least : ℕ) (breaks : List Break)
+    → IsProp (FitsFrom text last_end least breaks)
 FitsFrom-prop text last_end least [] = Unit-prop
-FitsFrom-prop text last_end least (b ∷ bs) = ×_prop (Stands-prop text last_end least b) (FitsFrom-prop text (end_of b) (b.place + 1) bs)
+FitsFrom-prop text last_end least (b ∷ bs) =
+    ×_prop (Stands-prop text last_end least b) (FitsFrom-prop text (end_of b) (b.place + 1) bs)

@@ -32,7 +32,12 @@ changes_length text j =
 
 -- The shift of character number j: where it begins in the folded text, and by how many bytes the folded text up to its end is longer than the text as written.
 abbrev pub shift_of : List ℕ → ℕ → Shift
-shift_of text j = record { index = place_of_character (fold text) j; delta = pos (place_of_character (fold text) (j + 1)) -ℤ pos (place_of_character text (j + 1)) }
+shift_of text j =
+    record {
+      index = place_of_character (fold text) j;
+      delta = pos (place_of_character (fold text) (j + 1)) -ℤ pos
+          (place_of_character text (j + 1));
+    }
 
 -- A shift for each character whose number of bytes changes, in order.
 abbrev pub shifts_of : List ℕ → List Shift
@@ -40,4 +45,5 @@ shifts_of text = map (shift_of text) (filter (changes_length text) (range_with_l
 
 -- The delta of the last shift whose index is below the place, or 0 where none is.
 abbrev pub delta_below : List Shift → ℕ → ℤ
-delta_below shifts place = option_map_or (λ shift. shift.delta) (find (λ shift. nat_lt shift.index place) (reverse shifts)) (pos 0)
+delta_below shifts place =
+    option_map_or (λ shift. shift.delta) (find (λ shift. nat_lt shift.index place) (reverse shifts)) (pos 0)

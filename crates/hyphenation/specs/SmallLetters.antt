@@ -4,7 +4,9 @@ use Rattle.std.specs.List.{list_all}
 
 -- One of them. U+00F7, the sign of division, lies among those of Latin-1.
 abbrev pub is_small_letter : ℕ → Bool
-is_small_letter c = (((nat_le 0x61 c && nat_le c 0x7A) || (nat_le 0xDF c && nat_le c 0xFF)) || (nat_le 0x430 c && nat_le c 0x45F)) || (c == 0x151 || c == 0x171)
+is_small_letter c =
+    (((nat_le 0x61 c && nat_le c 0x7A) || (nat_le 0xDF c && nat_le c 0xFF)) || (nat_le 0x430 c && nat_le c 0x45F))
+    || (c == 0x151 || c == 0x171)
 
 -- Each character is one of them.
 abbrev pub are_small_letters : List ℕ → Bool

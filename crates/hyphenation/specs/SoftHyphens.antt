@@ -9,4 +9,5 @@ is_soft_hyphen text j = slice_index (chars text) j == 0xAD
 
 -- The places at which the soft hyphens begin, in order.
 abbrev pub soft_hyphens : List ℕ → List ℕ
-soft_hyphens text = map (place_of_character text) (filter (is_soft_hyphen text) (range_with_len 0 (length (chars text))))
+soft_hyphens text =
+    map (place_of_character text) (filter (is_soft_hyphen text) (range_with_len 0 (length (chars text))))

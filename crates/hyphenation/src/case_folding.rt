@@ -144,15 +144,19 @@ fn difference(a: usize, b: usize) -> isize
 /// the greatest `usize`.
 pub fn realign(i: usize, shifts: &[Shift]) -> usize
     ensures value { result ≡ saturate_unsigned w64 (pos i -ℤ delta_below shifts.now i) }
-    ensures carried { (original : List ℕ) → IsUtf8 original → length original ≤ usize.MAX → shifts.now ≡ shifts_of original → IsCharBoundary (fold original) i → result ≡ carried original i }
-    ensures same_character { (original : List ℕ) (j : ℕ) → IsUtf8 original → length original ≤ usize.MAX → shifts.now ≡ shifts_of original → i ≡ place_of_character (fold original) j → result ≡ place_of_character original j }
+    ensures carried { (original : List ℕ) → IsUtf8 original → length original ≤ usize.MAX
+        → shifts.now ≡ shifts_of original → IsCharBoundary (fold original) i → result ≡ carried original i }
+    ensures same_character { (original : List ℕ) (j : ℕ) → IsUtf8 original → length original ≤ usize.MAX
+        → shifts.now ≡ shifts_of original → i ≡ place_of_character (fold original) j
+        → result ≡ place_of_character original j }
 {
     carried_by(i, last_shift_below(i, shifts))
 }
 
 // The place less the delta of a shift, if there is one, held between 0 and the greatest `usize`.
 fn carried_by(i: usize, shift: Option<&Shift>) -> usize
-    ensures { result ≡ saturate_unsigned w64 (pos i -ℤ option_map_or (λ shift. shift.delta) (option_copied shift.entry) (pos 0)) }
+    ensures { result
+        ≡ saturate_unsigned w64 (pos i -ℤ option_map_or (λ shift. shift.delta) (option_copied shift.entry) (pos 0)) }
 {
     let delta = shift.map_or(0, |shift| shift.delta);
     i.saturating_sub_signed(delta)

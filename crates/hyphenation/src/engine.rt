@@ -101,8 +101,10 @@ fn standard_values<D: Read>(
     word: &str,
     reader: &mut D,
 ) -> Result<Vec<u8>, RunError>
-    ensures answers { IfSome (D.remaining reader.old) (λ bytes. Runs (refusal_of Kind.Standard) language_in lang bytes result) }
-    ensures values { IfOk result (λ found. IfSome (D.remaining reader.old) (λ bytes. found.items ≡ values_by Kind.Standard bytes word.now)) }
+    ensures answers { IfSome (D.remaining reader.old) (λ bytes.
+        Runs (refusal_of Kind.Standard) language_in lang bytes result) }
+    ensures values { IfOk result (λ found.
+        IfSome (D.remaining reader.old) (λ bytes. found.items ≡ values_by Kind.Standard bytes word.now)) }
     ensures unwritten { IfErr result IsUnwritten }
     ensures kind { IfErr result HoldsNoWant }
 {
@@ -117,8 +119,10 @@ fn extended_values<D: Read>(
     word: &str,
     reader: &mut D,
 ) -> Result<Vec<u8>, RunError>
-    ensures answers { IfSome (D.remaining reader.old) (λ bytes. Runs (refusal_of Kind.Extended) language_in lang bytes result) }
-    ensures values { IfOk result (λ found. IfSome (D.remaining reader.old) (λ bytes. found.items ≡ values_by Kind.Extended bytes word.now)) }
+    ensures answers { IfSome (D.remaining reader.old) (λ bytes.
+        Runs (refusal_of Kind.Extended) language_in lang bytes result) }
+    ensures values { IfOk result (λ found.
+        IfSome (D.remaining reader.old) (λ bytes. found.items ≡ values_by Kind.Extended bytes word.now)) }
     ensures unwritten { IfErr result IsUnwritten }
     ensures kind { IfErr result HoldsNoWant }
 {
@@ -136,7 +140,8 @@ fn score_line<D: Read>(
     reader: &mut D,
 ) -> Result<String, RunError>
     ensures answers { IfSome (D.remaining reader.old) (λ bytes. Runs (refusal_of kind) language_in lang bytes result) }
-    ensures line { IfOk result (λ line. IfSome (D.remaining reader.old) (λ bytes. string_bytes line ≡ line_of (values_by kind bytes word.now))) }
+    ensures line { IfOk result (λ line.
+        IfSome (D.remaining reader.old) (λ bytes. string_bytes line ≡ line_of (values_by kind bytes word.now))) }
     ensures unwritten { IfErr result IsUnwritten }
     ensures kind { IfErr result HoldsNoWant }
 {
@@ -157,8 +162,10 @@ pub fn run_score<D: Read, O: Write>(
     dictionary: &mut D,
     output: &mut O,
 ) -> Result<(), RunError>
-    ensures answers { IfSome (D.remaining dictionary.old) (λ bytes. Runs (refusal_of kind) language_in lang bytes result) }
-    ensures written { OnOk result (IfSome (D.remaining dictionary.old) (λ bytes. Appends (O.contents output.old) (O.contents output.new) (line_of (values_by kind bytes word.now)))) }
+    ensures answers { IfSome (D.remaining dictionary.old) (λ bytes.
+        Runs (refusal_of kind) language_in lang bytes result) }
+    ensures written { OnOk result (IfSome (D.remaining dictionary.old)
+        (λ bytes. Appends (O.contents output.old) (O.contents output.new) (line_of (values_by kind bytes word.now)))) }
     ensures untouched { BeforeWriting result (Keeps (O.contents output.old) (O.contents output.new)) }
     ensures kind { IfErr result HoldsNoWant }
 {
@@ -206,7 +213,8 @@ pub fn run<D: Read, I: Read, O: Write>(
     input: &mut I,
     output: &mut O,
 ) -> Result<(), RunError>
-    ensures dictionary { IfSome (D.remaining dictionary.old) (λ bytes. JudgesDictionary (refusal_of kind) lang bytes result) }
+    ensures dictionary { IfSome (D.remaining dictionary.old) (λ bytes.
+        JudgesDictionary (refusal_of kind) lang bytes result) }
     ensures edits { JudgesEdits kind (map (λ edit. edit.now) edits.now) result }
     ensures text { IfSome (I.remaining input.old) (λ text. JudgesText text result) }
     ensures written { OnOk result (IfSome (D.remaining dictionary.old) (λ bytes. IfSome (I.remaining input.old) (λ text.

@@ -20,7 +20,8 @@ fn push_word<'h, H: Hyphenator<'h>>(
     word: &str,
     mark: &str,
 ) -> Result<(), AllocError>
-    ensures { OnOk result (string_bytes output.new ≡ string_bytes output.old ++ joined mark.now word.now (H.breaks_of dictionary.now word.now)) }
+    ensures { OnOk result (string_bytes output.new ≡ string_bytes output.old ++ joined mark.now word.now
+        (H.breaks_of dictionary.now word.now)) }
 {
     let word = dictionary.hyphenate(alloc, word)?;
     push_marked(output, &word, mark)
@@ -60,7 +61,8 @@ pub fn hyphenate_text<'h, H: Hyphenator<'h>>(
     text: &str,
     mark: &str,
 ) -> Result<(), AllocError>
-    ensures appended { OnOk result (string_bytes output.new ≡ string_bytes output.old ++ hyphenated (H.breaks_of dictionary.now) mark.now text.now) }
+    ensures appended { OnOk result (string_bytes output.new ≡ string_bytes output.old ++ hyphenated
+        (H.breaks_of dictionary.now) mark.now text.now) }
     ensures err { OnErr result (string_bytes output.new ≡ string_bytes output.old) }
 {
     let hyphenated = hyphenated_text(alloc, dictionary, text, mark)?;
@@ -71,7 +73,8 @@ pub fn hyphenate_text<'h, H: Hyphenator<'h>>(
 ///
 /// It is a law of all texts, and says it of the dictionary that is lent.
 pub fn an_empty_mark_gives_the_text_back(dictionary: &Standard)
-    ensures { (text : List ℕ) → IsUtf8 text → hyphenated (breaks_of (rules_of no_change plain dictionary.now)) [] text ≡ text }
+    ensures { (text : List ℕ) → IsUtf8 text
+        → hyphenated (breaks_of (rules_of no_change plain dictionary.now)) [] text ≡ text }
 {
     // The call tells the proof what is true of each dictionary.
     let _minima = dictionary.minima();

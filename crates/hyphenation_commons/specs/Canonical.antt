@@ -19,7 +19,12 @@ use Rattle.hyphenation_commons.specs.declared.grammar.tokens.Mark.TheVariants.{L
 
 -- A byte of a text as it is spelt: escaped only where it must be.
 abbrev pub byte_spelling : Escapes → ℕ → List ℕ
-byte_spelling escapes b = if b == 92 then codes "\\\\" else (if b == 32 then codes "\\s" else (if b == 10 then codes "\\n" else (if b == 13 then codes "\\r" else (if escaped_also escapes b then 92 ∷ b ∷ [] else b ∷ []))))
+byte_spelling escapes b =
+    if b == 92 then codes "\\\\"
+    else (if b == 32 then codes "\\s"
+    else (if b == 10 then codes "\\n"
+    else (if b == 13 then codes "\\r"
+    else (if escaped_also escapes b then 92 ∷ b ∷ [] else b ∷ []))))
 
 -- A word or a substitution: the empty text is `\e`.
 abbrev pub text_token : List ℕ → List ℕ
@@ -31,7 +36,9 @@ abbrev pub marks_for : ℕ → List ℕ → List (Entry (Option Change)) → Lis
 marks_for at [] [] = []
 marks_for at [] (e ∷ es) = Value e.value ∷ []
 marks_for at (b ∷ key) [] = Letter b ∷ marks_for (at + 1) key []
-marks_for at (b ∷ key) (e ∷ es) = if e.place == at then Value e.value ∷ Letter b ∷ marks_for (at + 1) key es else Letter b ∷ marks_for (at + 1) key (e ∷ es)
+marks_for at (b ∷ key) (e ∷ es) =
+    if e.place == at then Value e.value ∷ Letter b ∷ marks_for (at + 1) key es
+    else Letter b ∷ marks_for (at + 1) key (e ∷ es)
 
 -- A value up to 9 is a digit; a greater one stands in braces.
 abbrev pub mark_spelling : Version → Mark → List ℕ
@@ -48,7 +55,9 @@ before_comma n rest = decimal n ++ 44 ∷ rest
 -- A later token: a place, or a change at a place.
 abbrev pub break_token : ℕ → Option Change → List ℕ
 break_token place None = decimal place
-break_token place (Some c) = before_comma place (before_comma c.left (before_comma c.right (before_comma c.breakpoint (text_token c.substitution))))
+break_token place (Some c) =
+    before_comma place (before_comma c.left
+    (before_comma c.right (before_comma c.breakpoint (text_token c.substitution))))
 
 -- Later tokens, each behind a space.
 abbrev pub later_tokens : List Break → List ℕ
@@ -66,7 +75,8 @@ changes_of (e ∷ es) = with_change e.place e.change (changes_of es)
 
 -- The line of a key with its entries, and that of a word with its listed breaks.
 abbrev pub pattern_line : Version → List ℕ → List (Entry (Option Change)) → List ℕ
-pattern_line version key entries = codes "p " ++ (pattern_token version key entries ++ later_tokens (changes_of entries))
+pattern_line version key entries =
+    codes "p " ++ (pattern_token version key entries ++ later_tokens (changes_of entries))
 
 abbrev pub exception_line : List ℕ → List Break → List ℕ
 exception_line word breaks = codes "e " ++ (text_token word ++ later_tokens breaks)
@@ -84,14 +94,17 @@ entry_of change_of entry = record { place = entry.place; value = entry.value; ch
 
 -- The lines of all keys and of all words, ascending by their bytes, as the maps hold them.
 abbrev pub pattern_lines : {C B : Type 0} → Version → (C → Option Change) → Contents C B → List (List ℕ)
-pattern_lines version change_of contents = map (λ x. pattern_line version x.0 (map (entry_of change_of) x.1)) (finite.entries contents.patterns)
+pattern_lines version change_of contents =
+    map (λ x. pattern_line version x.0 (map (entry_of change_of) x.1)) (finite.entries contents.patterns)
 
 abbrev pub exception_lines : {C B : Type 0} → (B → Break) → Contents C B → List (List ℕ)
-exception_lines break_of contents = map (λ x. exception_line x.0 (map break_of x.1)) (finite.entries contents.exceptions)
+exception_lines break_of contents =
+    map (λ x. exception_line x.0 (map break_of x.1)) (finite.entries contents.exceptions)
 
 abbrev pub canonical_lines : {C B : Type 0} → Form → (C → Option Change) → (B → Break) → Contents C B → List (List ℕ)
 canonical_lines form change_of break_of contents =
-    head form ∷ language_line contents.language ∷ minima_line contents.left contents.right ∷ (pattern_lines form.version change_of contents ++ exception_lines break_of contents)
+    head form ∷ language_line contents.language ∷ minima_line contents.left contents.right
+    ∷ (pattern_lines form.version change_of contents ++ exception_lines break_of contents)
 
 -- The first version where it can say each value, else the second.
 abbrev pub are_digits : {C : Type 0} → List (Entry C) → Bool
@@ -106,7 +119,8 @@ ended lines = flat_map (λ line. line ++ 10 ∷ []) lines
 
 -- The canonical text of a dictionary of that kind, which holds a change as change_of says, and a listed break as break_of says.
 abbrev pub canonical_text_of : {C B : Type 0} → Kind → (C → Option Change) → (B → Break) → Contents C B → List ℕ
-canonical_text_of kind change_of break_of contents = ended (canonical_lines (record { kind = kind; version = version_for contents }) change_of break_of contents)
+canonical_text_of kind change_of break_of contents =
+    ended (canonical_lines (record { kind = kind; version = version_for contents }) change_of break_of contents)
 
 -- The canonical text of a standard dictionary, which holds no change, and that of an extended one, which holds each as it is.
 abbrev pub standard_text : Contents (Unit {0}) ℕ → List ℕ

@@ -77,7 +77,8 @@ is_good kind edit = not (has_feed edit) && (is_good_addition kind edit || is_goo
 -- The number, from one on, of the first that is not.
 abbrev pub refused_from : Kind → ℕ → List (List ℕ) → Option ℕ
 refused_from kind number [] = None
-refused_from kind number (edit ∷ edits) = if is_good kind edit then refused_from kind (number + 1) edits else Some number
+refused_from kind number (edit ∷ edits) =
+    if is_good kind edit then refused_from kind (number + 1) edits else Some number
 
 abbrev pub first_refused : Kind → List (List ℕ) → Option ℕ
 first_refused kind edits = refused_from kind 1 edits
@@ -90,14 +91,16 @@ said lists edit = if is_addition edit then Some (map lists (listed (line_of edit
 
 -- The dictionary in which the breaks of a line are listed for its word, or its word is no exception.
 abbrev pub with_exception : {C B : Type 0} → (Break → B) → Contents C B → List ℕ → Contents C B
-with_exception lists contents line = record contents { exceptions = finite.insert contents.exceptions (word line) (map lists (listed line)) }
+with_exception lists contents line =
+    record contents { exceptions = finite.insert contents.exceptions (word line) (map lists (listed line)) }
 
 abbrev pub without_exception : {C B : Type 0} → Contents C B → List ℕ → Contents C B
 without_exception contents line = record contents { exceptions = finite.remove contents.exceptions (word line) }
 
 -- The dictionary behind an edit, and behind edits from first to last.
 abbrev pub edited : {C B : Type 0} → (Break → B) → Contents C B → List ℕ → Contents C B
-edited lists contents edit = if is_addition edit then with_exception lists contents (line_of edit) else without_exception contents (line_of edit)
+edited lists contents edit =
+    if is_addition edit then with_exception lists contents (line_of edit) else without_exception contents (line_of edit)
 
 abbrev pub edited_by : {C B : Type 0} → (Break → B) → Contents C B → List (List ℕ) → Contents C B
 edited_by lists contents edits = fold (edited lists) contents edits
@@ -107,25 +110,31 @@ edited_by lists contents edits = fold (edited lists) contents edits
 -- What the last edit that names a word says of it; none, where no edit names it.
 abbrev pub last_said : {B : Type 0} → (Break → B) → List ℕ → List (List ℕ) → Option (Option (List B))
 last_said lists word [] = None
-last_said lists word (edit ∷ edits) = option_or (last_said lists word edits) (if same (named edit) word then Some (said lists edit) else None)
+last_said lists word (edit ∷ edits) =
+    option_or (last_said lists word edits) (if same (named edit) word then Some (said lists edit) else None)
 
 -- Of the edits that name a word the last one decides, and where there is none, the dictionary before them.
 abbrev pub LastDecides : Type 0 → Type 0 → Type 0
 LastDecides C B = (lists : Break → B) (dictionary : Contents C B) (edits : List (List ℕ)) (word : List ℕ) →
-    finite.get (edited_by lists dictionary edits).exceptions word ≡ unwrap_or (last_said lists word edits) (finite.get dictionary.exceptions word)
+    finite.get (edited_by lists dictionary edits).exceptions word
+    ≡ unwrap_or (last_said lists word edits) (finite.get dictionary.exceptions word)
 
 -- Both versions judge the line of an edit alike.
 abbrev pub VersionsAgree : Type 0
-VersionsAgree = (kind : Kind) (version : Version) (edit : List ℕ) → cause_in kind version (line_of edit) ≡ cause_in kind First (line_of edit)
+VersionsAgree =
+    (kind : Kind) (version : Version) (edit : List ℕ)
+    → cause_in kind version (line_of edit) ≡ cause_in kind First (line_of edit)
 
 -- Of all tests the line of an exception can fail these by itself.
 abbrev pub FourTests : Type 0
 FourTests = (kind : Kind) (version : Version) (exception : List ℕ) → IsUtf8 exception →
-    cause_in kind version (as_line exception) ≡ find (fails (form_in kind version) 4 (as_line exception)) (Token ∷ Number ∷ Place ∷ Change ∷ [])
+    cause_in kind version (as_line exception)
+    ≡ find (fails (form_in kind version) 4 (as_line exception)) (Token ∷ Number ∷ Place ∷ Change ∷ [])
 
 -- ---- what reading the exception of an edit answers
 
 -- The word and its listed breaks, exactly where the line of it is sound.
 abbrev pub Reads : {B Y Z : Type 0} → Kind → (Break → B) → Option (String Y × Vec B Z) → List ℕ → Type 0
 Reads kind lists None line = is_sound kind line ≡ false
-Reads kind lists (Some x) line = (is_sound kind line ≡ true) × (told lists exception_of line ≡ Some (string_bytes x.0, x.1.items))
+Reads kind lists (Some x) line =
+    (is_sound kind line ≡ true) × (told lists exception_of line ≡ Some (string_bytes x.0, x.1.items))

@@ -13,14 +13,20 @@ use Rattle.hyphenation_commons.specs.declared.dictionary.Entry.{Entry}
 -- An entry is coded as its place, its value and what it carries.
 abbrev pub entry_code : {C : Type 0} → Coded C → Coded (Entry C)
 entry_code {C} code =
-    code_by (ℕ × (ℕ × C)) (coded× coded_ℕ (coded× coded_ℕ code)) (λ e. (e.place, (e.value, e.change))) (λ p. record { place = p.0; value = p.1.0; change = p.1.1 }) (λ _. refl)
+    code_by (ℕ × (ℕ × C)) (coded× coded_ℕ (coded× coded_ℕ code)) (λ e. (e.place, (e.value, e.change)))
+    (λ p. record { place = p.0; value = p.1.0; change = p.1.1 }) (λ _. refl)
 
 -- Contents are coded as their parts in turn.
 abbrev pub contents_code : {C B : Type 0} → Coded C → Coded B → Coded (Contents C B)
 contents_code {C} {B} code listed =
     code_by (List ℕ × (ℕ × (ℕ × (Texts (List (Entry C)) × Texts (List B)))))
-    (coded× (coded_list coded_ℕ) (coded× coded_ℕ (coded× coded_ℕ (coded× (finite.code (coded_list coded_ℕ) (coded_list (entry_code code))) (finite.code (coded_list coded_ℕ) (coded_list listed))))))
-    (λ v. (v.language, (v.left, (v.right, (v.patterns, v.exceptions))))) (λ p. record { language = p.0; left = p.1.0; right = p.1.1.0; patterns = p.1.1.1.0; exceptions = p.1.1.1.1 }) (λ _. refl)
+    (coded× (coded_list coded_ℕ)
+    (coded× coded_ℕ (coded× coded_ℕ
+    (coded× (finite.code (coded_list coded_ℕ) (coded_list (entry_code code))) (finite.code (coded_list coded_ℕ)
+    (coded_list listed))))))
+    (λ v. (v.language, (v.left, (v.right, (v.patterns, v.exceptions)))))
+    (λ p. record { language = p.0; left = p.1.0; right = p.1.1.0; patterns = p.1.1.1.0; exceptions = p.1.1.1.1 })
+    (λ _. refl)
 
 -- The nodes that are keys, each with its entries.
 abbrev pub pairs_of : {E : Type 0} → List (List ℕ) → List (Option (List E)) → List (List ℕ × List E)

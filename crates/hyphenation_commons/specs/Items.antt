@@ -56,7 +56,9 @@ change_at place (b ∷ rest) = if b.place == place then b.change else change_at 
 
 -- The entries of a key: its values, each with its change.
 abbrev pub entries : Version → List ℕ → List (Entry (Option Change))
-entries version line = map (λ v. record { place = v.0; value = v.1; change = change_at v.0 (listed line) }) (values_from 0 (pattern_marks version line))
+entries version line =
+    map (λ v. record { place = v.0; value = v.1; change = change_at v.0 (listed line) })
+    (values_from 0 (pattern_marks version line))
 
 -- What a line spells: a key with its entries, or a word with its listed breaks.
 abbrev pub pattern_of : Version → List ℕ → Option (List ℕ × List (Entry (Option Change)))

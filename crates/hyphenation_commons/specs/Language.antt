@@ -19,8 +19,11 @@ IsCode text = IsTrue (is_code text)
 pub padded-take : (n : ℕ) (bytes : List ℕ) → n ≤ length bytes → drop n bytes ≡ replicate (32 - n) 0
     → (take n bytes ++ replicate (32 - length (take n bytes)) 0 ≡ bytes) × (length (take n bytes) ≡ n)
 padded-take n bytes le zeros =
-    let len = length-take-le n bytes le in
-    (ap (λ (k : ℕ). take n bytes ++ replicate (32 - k) 0) len ∙ ap (λ (t : List ℕ). take n bytes ++ t) (sym zeros) ∙ take-append-drop n bytes, len)
+    let len = length-take-le n bytes le in (
+      ap (λ (k : ℕ). take n bytes ++ replicate (32 - k) 0) len ∙ ap (λ (t : List ℕ). take n bytes ++ t) (sym zeros) ∙
+          take-append-drop n bytes,
+      len,
+    )
 
 -- How a code is held: the code, and zeros up to 32 bytes.
 pub record IsHeld (len : ℕ) (bytes : List ℕ) : Type 0 where

@@ -36,7 +36,8 @@ left_at place (b ∷ rest) = if b.0 == place then rest else b ∷ rest
 abbrev pub matched : {C : Type 0} → (Option Changed → C) → List (ℕ × ℕ) → List (ℕ × Option Changed) → List (Entry C)
 matched carries [] listed = []
 matched carries (v ∷ values) listed =
-    record { place = v.0; value = v.1; change = carries (first_at v.0 listed) } ∷ matched carries values (left_at v.0 listed)
+    record { place = v.0; value = v.1; change = carries (first_at v.0 listed) }
+    ∷ matched carries values (left_at v.0 listed)
 
 abbrev pub unmatched : List (ℕ × ℕ) → List (ℕ × Option Changed) → List (ℕ × Option Changed)
 unmatched [] listed = listed

@@ -30,12 +30,17 @@ escaped_also Digits c = is_digit c
 escaped_also DigitsAndBraces c = is_digit c || is_brace c
 
 abbrev pub meaning : Escapes → ℕ → Option ℕ
-meaning escapes c = if c == 92 then Some 92 else (if c == 115 then Some 32 else (if c == 110 then Some 10 else (if c == 114 then Some 13 else (if escaped_also escapes c then Some c else None))))
+meaning escapes c =
+    if c == 92 then Some 92
+    else (if c == 115 then Some 32
+    else (if c == 110 then Some 10
+    else (if c == 114 then Some 13 else (if escaped_also escapes c then Some c else None))))
 
 -- What a byte adds to what was read; a backslash adds nothing, a raw carriage return cannot be read.
 abbrev pub added : Escapes → Bool → ℕ → Option (List Sign)
 added escapes true c = option_map (λ byte. record { byte = byte; escaped = true } ∷ []) (meaning escapes c)
-added escapes false b = if b == 92 then Some [] else (if b == 13 then None else Some (record { byte = b; escaped = false } ∷ []))
+added escapes false b =
+    if b == 92 then Some [] else (if b == 13 then None else Some (record { byte = b; escaped = false } ∷ []))
 
 abbrev pub joined : Option (List Sign) → Option (List Sign) → Option (List Sign)
 joined front rest = option_and_then (λ xs. option_map (λ ys. xs ++ ys) rest) front
@@ -44,7 +49,8 @@ joined front rest = option_and_then (λ xs. option_map (λ ys. xs ++ ys) rest) f
 abbrev pub signs_behind : Escapes → Bool → List ℕ → Option (List Sign)
 signs_behind escapes true [] = None
 signs_behind escapes false [] = Some []
-signs_behind escapes behind (b ∷ rest) = joined (added escapes behind b) (signs_behind escapes (not behind && b == 92) rest)
+signs_behind escapes behind (b ∷ rest) =
+    joined (added escapes behind b) (signs_behind escapes (not behind && b == 92) rest)
 
 abbrev pub signs_of : Escapes → List ℕ → Option (List Sign)
 signs_of escapes token = signs_behind escapes false token
@@ -73,7 +79,8 @@ braced digits = option_and_then (λ value. if nat_le 10 value then Some value el
 
 -- A sign outside braces: the digits in the braces that it opens, if it does, and the marks that it adds. None of a closing one.
 abbrev pub outside : Sign → Option (Option (List ℕ) × List Mark)
-outside sign = if is_raw 123 sign then Some (Some [], []) else (if is_raw 125 sign then None else Some (None, mark_of sign ∷ []))
+outside sign =
+    if is_raw 123 sign then Some (Some [], []) else (if is_raw 125 sign then None else Some (None, mark_of sign ∷ []))
 
 -- A sign in braces, behind these digits: one more of them, or the brace that ends the value. None where it can't stand there.
 abbrev pub inside : List ℕ → Sign → Option (Option (List ℕ) × List Mark)
@@ -91,7 +98,9 @@ taken Second (Some digits) sign = inside digits sign
 abbrev pub marks_from : Version → Option (List ℕ) → List Sign → Option (List Mark)
 marks_from version None [] = Some []
 marks_from version (Some digits) [] = None
-marks_from version digits (sign ∷ signs) = option_and_then (λ step. option_map (λ marks. step.1 ++ marks) (marks_from version step.0 signs)) (taken version digits sign)
+marks_from version digits (sign ∷ signs) =
+    option_and_then (λ step. option_map (λ marks. step.1 ++ marks) (marks_from version step.0 signs))
+    (taken version digits sign)
 
 -- The signs of a pattern's token, and its marks: each value with its braces is one.
 abbrev pub pattern_signs : Version → List ℕ → Option (List Sign)
@@ -128,7 +137,8 @@ put false b parts = onto_first b parts
 
 abbrev pub parts_within : ℕ → List ℕ → List (List ℕ)
 parts_within commas [] = [] ∷ []
-parts_within commas (b ∷ rest) = let cuts = b == 44 && nat_lt 0 commas in put cuts b (parts_within (if cuts then commas - 1 else commas) rest)
+parts_within commas (b ∷ rest) =
+    let cuts = b == 44 && nat_lt 0 commas in put cuts b (parts_within (if cuts then commas - 1 else commas) rest)
 
 abbrev pub parts_of : List ℕ → List (List ℕ)
 parts_of token = parts_within 4 token
@@ -145,7 +155,9 @@ numerals_of token = if has_comma token then take (length (parts_of token) - 1) (
 
 -- Each part is readable; `\e` may stand behind the fourth comma alone.
 abbrev pub is_readable : List ℕ → Bool
-is_readable token = nat_lt 0 (length token) && list_all (λ written. is_some (signs_of Plain written)) (take 4 (parts_of token)) && list_all (λ written. is_some (text_of written)) (drop 4 (parts_of token))
+is_readable token =
+    nat_lt 0 (length token) && list_all (λ written. is_some (signs_of Plain written)) (take 4 (parts_of token))
+    && list_all (λ written. is_some (text_of written)) (drop 4 (parts_of token))
 
 abbrev pub place_of : List ℕ → ℕ
 place_of token = number (part 0 token)
@@ -155,4 +167,11 @@ abbrev pub is_whole : List ℕ → Bool
 is_whole token = length (parts_of token) == 5 && nat_lt 0 (length (part 4 token))
 
 abbrev pub change_of : List ℕ → Change
-change_of token = record { left = number (part 1 token); right = number (part 2 token); substitution = unwrap_or (text_of (part 4 token)) []; breakpoint = number (part 3 token) }
+change_of token =
+    record {
+      left = number (part 1 token);
+      right = number (part 2 token);
+      substitution = unwrap_or
+          (text_of (part 4 token)) [];
+      breakpoint = number (part 3 token);
+    }

@@ -31,7 +31,8 @@ pub record IsTrie {E : Type 0} (t : Tree E) : Type 0 where
   pub some : 0 < length t.texts
   pub root : text_of t 0 ≡ []
   pub distinct : (i j : ℕ) → i < length t.texts → j < length t.texts → text_of t i ≡ text_of t j → i ≡ j
-  pub closed : (j : ℕ) → 0 < j → j < length t.texts → (i : ℕ) × (b : ℕ) × (i < length t.texts) × (text_of t j ≡ text_of t i ++ b ∷ [])
+  pub closed : (j : ℕ) → 0 < j → j < length t.texts
+      → (i : ℕ) × (b : ℕ) × (i < length t.texts) × (text_of t j ≡ text_of t i ++ b ∷ [])
 
 -- The text begins a key.
 abbrev pub BeginsKey : {E : Type 0} → Tree E → List ℕ → Type 0
@@ -53,7 +54,10 @@ Grows old new text = (new ≡ old) ⊎ (new ≡ record { texts = old.texts ++ te
 
 -- Each node is an old one, or its text begins this key.
 abbrev pub AddsFront : {E : Type 0} → Tree E → Tree E → List ℕ → Type 0
-AddsFront old new key = (j : ℕ) → j < length new.texts → ((j < length old.texts) × (text_of new j ≡ text_of old j)) ⊎ (text_of new j ≡ take (length (text_of new j)) key)
+AddsFront old new key =
+    (j : ℕ) → j < length new.texts
+    → ((j < length old.texts) × (text_of new j ≡ text_of old j))
+    ⊎ (text_of new j ≡ take (length (text_of new j)) key)
 
 -- Each node keeps its number and its text.
 abbrev pub KeepsNodes : {E : Type 0} → Tree E → Tree E → Type 0
@@ -98,8 +102,11 @@ AreWithin bound (n ∷ ns) = IsWithin bound n.span × AreWithin bound ns
 -- Each node but the root is behind a parent, which stands before it, and a byte.
 abbrev pub HasFroms : List (List ℕ) → List (Option (ℕ × ℕ)) → Type 0
 HasFroms texts froms =
-    (j : ℕ) → 0 < j → j < length texts → (from : ℕ × ℕ) × (slice_index_or froms j None ≡ Some from) × (from.0 < j) × (slice_index_or texts j [] ≡ slice_index_or texts from.0 [] ++ from.1 ∷ [])
+    (j : ℕ) → 0 < j → j < length texts
+    → (from : ℕ × ℕ) × (slice_index_or froms j None ≡ Some from) × (from.0 < j)
+    × (slice_index_or texts j [] ≡ slice_index_or texts from.0 [] ++ from.1 ∷ [])
 
 -- No two of the texts are the same.
 abbrev pub AreApart : List (List ℕ) → Type 0
-AreApart texts = (i j : ℕ) → i < length texts → j < length texts → slice_index_or texts i [] ≡ slice_index_or texts j [] → i ≡ j
+AreApart texts =
+    (i j : ℕ) → i < length texts → j < length texts → slice_index_or texts i [] ≡ slice_index_or texts j [] → i ≡ j

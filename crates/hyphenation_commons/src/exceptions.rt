@@ -72,7 +72,8 @@ fn mark(marks: &mut Vec<bool>, at: usize)
     requires { at < length marks.old.items }
     ensures len { length marks.new.items ≡ length marks.old.items }
     ensures here { slice_index_or marks.new.items at false ≡ true }
-    ensures others { (i : ℕ) → slice_index_or marks.old.items i false ≡ true → slice_index_or marks.new.items i false ≡ true }
+    ensures others { (i : ℕ) → slice_index_or marks.old.items i false ≡ true
+        → slice_index_or marks.new.items i false ≡ true }
 {
     marks[at] = true;
 }

@@ -101,7 +101,16 @@ pub fn make<C: Carried, B: Listed>(
 ) -> Result<Dictionary<C, B>, AllocError>
     requires keys { All (λ p. IsTrue (fits_key C.change (string_bytes p.0) p.1.items)) patterns.items }
     requires words { All (λ e. IsTrue (are_listed B.meaning (string_bytes e.0) 0 e.1.items)) exceptions.items }
-    ensures { IfOk result (λ d. d ≡ record { language = language; left = left; right = right; patterns = last_said (map said_of patterns.items); exceptions = last_said (map said_of exceptions.items) }) }
+    ensures { IfOk result (λ d.
+        d
+        ≡ record {
+          language = language;
+          left = left;
+          right = right;
+          patterns = last_said
+              (map said_of patterns.items);
+          exceptions = last_said (map said_of exceptions.items);
+        }) }
 {
     // The call tells the proof what is true of each language.
     let _code = language.code();

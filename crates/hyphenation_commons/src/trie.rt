@@ -199,7 +199,8 @@ impl<E: Drop> Trie<E> {
     /// No other key changes, and the list is empty then and can be filled again. The only error is memory, and then
     /// each key is as before.
     pub fn insert(&mut self, key: &[u8], entries: &mut Vec<E>) -> Result<bool, AllocError>
-        ensures ok { OnOk result ((q : List ℕ) → key_at self.new q ≡ (if pointwise nat_eq key.now q then Some entries.old.items else key_at self.old q)) }
+        ensures ok { OnOk result ((q : List ℕ) → key_at self.new q ≡
+            (if pointwise nat_eq key.now q then Some entries.old.items else key_at self.old q)) }
         ensures had { IfOk result (λ had. had ≡ is_some (key_at self.old key.now)) }
         ensures moved { OnOk result (entries.new.items ≡ []) }
         ensures begins { OnOk result (EachBeginsKey self.old → EachBeginsKey self.new) }
@@ -228,8 +229,10 @@ impl<E: Drop> Trie<E> {
     /// The child of a node at a byte.
     fn child_of(&self, node: usize, byte: u8) -> Option<usize>
         requires { node < length self.now.texts }
-        ensures found { IfSome result (λ j. (j < length self.now.texts) × (text_of self.now j ≡ text_of self.now node ++ byte ∷ [])) }
-        ensures none { IfNone result ((j : ℕ) → j < length self.now.texts → text_of self.now j ≢ text_of self.now node ++ byte ∷ []) }
+        ensures found { IfSome result (λ j.
+            (j < length self.now.texts) × (text_of self.now j ≡ text_of self.now node ++ byte ∷ [])) }
+        ensures none { IfNone result ((j : ℕ) → j < length self.now.texts → text_of self.now j ≢ text_of self.now node
+            ++ byte ∷ []) }
         ensures trie { IsTrie self.now }
     {
         let mut child = self.children.last[node];
@@ -265,7 +268,8 @@ impl<E: Drop> Trie<E> {
     /// The child of a node at a byte, made where there is none.
     fn step(&mut self, node: usize, byte: u8) -> Result<usize, AllocError>
         requires { node < length self.old.texts }
-        ensures ok { IfOk result (λ j. (j < length self.new.texts) × (text_of self.new j ≡ text_of self.old node ++ byte ∷ [])) }
+        ensures ok { IfOk result (λ j.
+            (j < length self.new.texts) × (text_of self.new j ≡ text_of self.old node ++ byte ∷ [])) }
         ensures grows { Grows self.old self.new (text_of self.old node ++ byte ∷ []) }
         ensures trie { IsTrie self.old }
     {

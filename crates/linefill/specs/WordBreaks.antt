@@ -41,7 +41,8 @@ Rise from to (p ∷ ps) = (from ≤ p) × Rise p to ps
 -- Pieces one behind the other between two places, with the breaks of each in it.
 abbrev pub Follow : (List ℕ → List Break) → ℕ → ℕ → List (ℕ × List ℕ) → Type 0
 Follow breaks_of from to [] = from ≤ to
-Follow breaks_of from to (x ∷ xs) = (from ≤ x.0) × Rise x.0 (x.0 + length x.1) (breaks_in breaks_of x) × Follow breaks_of (x.0 + length x.1) to xs
+Follow breaks_of from to (x ∷ xs) =
+    (from ≤ x.0) × Rise x.0 (x.0 + length x.1) (breaks_in breaks_of x) × Follow breaks_of (x.0 + length x.1) to xs
 
 -- A place that a `usize` holds.
 abbrev pub IsSmall : ℕ → Type 0

@@ -35,7 +35,9 @@ fn filled(
     columns: usize,
     text: &str,
 ) -> Result<String, AllocError>
-    ensures { IfOk result (λ filled. string_bytes filled ≡ with_line_feeds (lines_by (breaks_of (rules_of no_change plain dictionary.now)) text.now columns)) }
+    ensures { IfOk result (λ filled.
+        string_bytes filled
+        ≡ with_line_feeds (lines_by (breaks_of (rules_of no_change plain dictionary.now)) text.now columns)) }
 {
     let lines = fill(alloc, dictionary, text, columns)?;
     joined(alloc, &lines)
@@ -49,9 +51,13 @@ fn filled_input<D: Read, I: Read>(
     reader: &mut D,
     input: &mut I,
 ) -> Result<String, RunError>
-    ensures dictionary { IfSome (D.remaining reader.old) (λ bytes. JudgesDictionary (refusal_of Kind.Standard) lang bytes result) }
+    ensures dictionary { IfSome (D.remaining reader.old) (λ bytes.
+        JudgesDictionary (refusal_of Kind.Standard) lang bytes result) }
     ensures text { IfSome (I.remaining input.old) (λ text. JudgesText text result) }
-    ensures lines { IfOk result (λ filled. IfSome (D.remaining reader.old) (λ bytes. IfSome (I.remaining input.old) (λ text. string_bytes filled ≡ with_line_feeds (filled_by bytes columns text)))) }
+    ensures lines { IfOk result (λ filled.
+        IfSome (D.remaining reader.old) (λ bytes.
+        IfSome (I.remaining input.old) (λ text.
+        string_bytes filled ≡ with_line_feeds (filled_by bytes columns text)))) }
     ensures unwritten { IfErr result IsUnwritten }
     ensures kind { IfErr result HoldsNoWant }
 {
@@ -74,7 +80,8 @@ pub fn run_fill<D: Read, I: Read, O: Write>(
     input: &mut I,
     output: &mut O,
 ) -> Result<(), RunError>
-    ensures dictionary { IfSome (D.remaining dictionary.old) (λ bytes. JudgesDictionary (refusal_of Kind.Standard) lang bytes result) }
+    ensures dictionary { IfSome (D.remaining dictionary.old) (λ bytes.
+        JudgesDictionary (refusal_of Kind.Standard) lang bytes result) }
     ensures text { IfSome (I.remaining input.old) (λ text. JudgesText text result) }
     ensures written { OnOk result (IfSome (D.remaining dictionary.old) (λ bytes. IfSome (I.remaining input.old) (λ text.
         Appends (O.contents output.old) (O.contents output.new) (with_line_feeds (filled_by bytes columns text))))) }

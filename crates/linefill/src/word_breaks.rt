@@ -85,8 +85,13 @@ impl<'t> WordBreaks<'t> {
     ) -> Result<Option<usize>, AllocError>
         requires { InOrder (H.breaks_of dictionary.now) self.old }
         ensures order { IfOk result (λ _. InOrder (H.breaks_of dictionary.now) self.new) }
-        ensures stay { IfOk result (λ _. (p : ℕ) → from < p → is_in p (to_come (H.breaks_of dictionary.now) self.new) ≡ is_in p (to_come (H.breaks_of dictionary.now) self.old)) }
-        ensures first { IfOk result (λ first. MatchOption first (NoneWithin (to_come (H.breaks_of dictionary.now) self.new) from until) (IsFirstBehind (to_come (H.breaks_of dictionary.now) self.new) from)) }
+        ensures stay { IfOk result (λ _.
+            (p : ℕ) → from < p
+            → is_in p (to_come (H.breaks_of dictionary.now) self.new)
+            ≡ is_in p (to_come (H.breaks_of dictionary.now) self.old)) }
+        ensures first { IfOk result (λ first.
+            MatchOption first (NoneWithin (to_come (H.breaks_of dictionary.now) self.new) from until)
+            (IsFirstBehind (to_come (H.breaks_of dictionary.now) self.new) from)) }
     {
         loop {
             if let Some(place) = self.first_in_hand(from) {

@@ -84,7 +84,8 @@ impl<C: Carried, B: Listed> Parts<C, B> {
     /// Takes in what a word spells.
     fn take_word(&mut self, alloc: Global, word: &Word) -> Result<(), WordFault>
         ensures good { OnOk result (cause_of word.now.group word.now.text.items ≡ None) }
-        ensures taken { OnOk result (self.new ≡ followed self.old (spelled C.carries B.lists (shown_word word.now ∷ []))) }
+        ensures taken { OnOk result (self.new ≡ followed self.old
+            (spelled C.carries B.lists (shown_word word.now ∷ []))) }
         ensures refused { IfErr result (λ fault. IsWordFault fault (cause_of word.now.group word.now.text.items)) }
     {
         match word.group {
@@ -103,7 +104,8 @@ impl<C: Carried, B: Listed> Parts<C, B> {
     /// Takes in what words spell, up to the first that spells nothing.
     pub fn take_words(&mut self, alloc: Global, words: &[Word]) -> Result<(), LineFault>
         ensures good { OnOk result (first_fault (map shown_word words.now) ≡ None) }
-        ensures taken { OnOk result (self.new ≡ followed self.old (spelled C.carries B.lists (map shown_word words.now))) }
+        ensures taken { OnOk result (self.new ≡ followed self.old
+            (spelled C.carries B.lists (map shown_word words.now))) }
         ensures refused { IfErr result (λ fault. IsLineFault fault (first_fault (map shown_word words.now))) }
     {
         for word in words {

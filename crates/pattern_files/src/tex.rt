@@ -158,7 +158,8 @@ impl Scan {
 
     /// Takes in a piece outside of groups.
     fn take_outside(&mut self, line: usize, text: &[u8])
-        ensures { shown_scan self.new ≡ with_piece_at Outside (shown_scan self.old) (record { line = line; text = text.now }) }
+        ensures { shown_scan self.new
+            ≡ with_piece_at Outside (shown_scan self.old) (record { line = line; text = text.now }) }
     {
         if is(text, "\\input") {
             self.at_end = true;

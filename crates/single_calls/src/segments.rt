@@ -66,7 +66,8 @@ fn marked_word<'t>(
     word: Word<'t, usize>,
     mark: &'t str,
 ) -> Result<String, AllocError>
-    ensures { IfOk result (λ joined. string_bytes joined ≡ with_marks mark.now word.entry.text.now word.entry.breaks.items) }
+    ensures { IfOk result (λ joined.
+        string_bytes joined ≡ with_marks mark.now word.entry.text.now word.entry.breaks.items) }
 {
     laws::marked_segments_join();
     let mut items = word.into_iter();
@@ -89,7 +90,9 @@ fn all_items<'t>(
 }
 
 fn all_marked(alloc: Global, word: Word<'_, usize>) -> Result<Vec<String>, AllocError>
-    ensures { IfOk result (λ list. map string_bytes list.items ≡ marked (codes "-") (segments word.entry.text.now (map plain word.entry.breaks.items))) }
+    ensures { IfOk result (λ list.
+        map string_bytes list.items
+        ≡ marked (codes "-") (segments word.entry.text.now (map plain word.entry.breaks.items))) }
 {
     let mut list = Vec::new(alloc);
     for item in word {
@@ -99,7 +102,8 @@ fn all_marked(alloc: Global, word: Word<'_, usize>) -> Result<Vec<String>, Alloc
 }
 
 fn left_unmarked<'t>(alloc: Global, word: Word<'t, usize>) -> Result<Vec<&'t str>, AllocError>
-    ensures { IfOk result (λ list. map (λ segment. segment.now) list.items ≡ segments word.entry.text.now (map plain word.entry.breaks.items)) }
+    ensures { IfOk result (λ list.
+        map (λ segment. segment.now) list.items ≡ segments word.entry.text.now (map plain word.entry.breaks.items)) }
 {
     word.into_iter().segments().collect(alloc)
 }

@@ -12,4 +12,10 @@ pub record Parts : Type 0 where
 
 -- At a break: the first half of its change with the hyphen, the second half, and the letters that it changes.
 abbrev pub parts_at : List ℕ → List ℕ → Break → Parts
-parts_at hyphen word b = record { before = before_of b.change ++ hyphen; after = after_of b.change; unbroken = slice_range word (begin_of b) (end_of b) }
+parts_at hyphen word b =
+    record {
+      before = before_of b.change ++ hyphen;
+      after = after_of b.change;
+      unbroken = slice_range word (begin_of b)
+          (end_of b);
+    }

@@ -25,7 +25,9 @@ fn set_at<'t, B: Break>(
     hyphen: &str,
 ) -> Result<Discretionary<'t>, AllocError>
     requires { Stands text.now 0 0 (B.meaning b.now) }
-    ensures { IfOk result (λ set. record { before = string_bytes set.before; after = string_bytes set.after; unbroken = set.unbroken.now } ≡ parts_at hyphen.now text.now (B.meaning b.now)) }
+    ensures { IfOk result (λ set.
+        record { before = string_bytes set.before; after = string_bytes set.after; unbroken = set.unbroken.now }
+        ≡ parts_at hyphen.now text.now (B.meaning b.now)) }
 {
     let (begin, end) = b.range().unwrap();
     let mut before = String::from_str(alloc, b.before())?;
@@ -44,7 +46,14 @@ pub fn discretionaries<'t, B: Break>(
     word: &Word<'t, B>,
     hyphen: &str,
 ) -> Result<Vec<Discretionary<'t>>, AllocError>
-    ensures { IfOk result (λ v. map (λ set. record { before = string_bytes set.before; after = string_bytes set.after; unbroken = set.unbroken.now }) v.items ≡ map (parts_at hyphen.now word.now.text.now) (map B.meaning word.now.breaks.items)) }
+    ensures { IfOk result (λ v.
+        map (λ set. record {
+          before = string_bytes set.before;
+          after = string_bytes set.after;
+          unbroken =
+              set.unbroken.now;
+        }) v.items
+        ≡ map (parts_at hyphen.now word.now.text.now) (map B.meaning word.now.breaks.items)) }
 {
     let mut all = Vec::new(alloc);
     for b in &word.breaks {

@@ -41,7 +41,10 @@ pub fn break_to_fit<'h, 't, H: Hyphenator<'h, Opportunity = usize>>(
     word: &'t str,
     columns: usize,
 ) -> Result<Option<(&'t str, &'t str)>, AllocError>
-    ensures { IfOk result (λ found. option_map (λ parts. (parts.0.now, parts.1.now)) found ≡ option_map (parts_of word.now) (last_room word.now columns (places_of (H.breaks_of dictionary.now word.now)))) }
+    ensures { IfOk result (λ found.
+        option_map (λ parts. (parts.0.now, parts.1.now)) found
+        ≡ option_map (parts_of word.now)
+        (last_room word.now columns (places_of (H.breaks_of dictionary.now word.now)))) }
 {
     let word = dictionary.hyphenate(alloc, word)?;
     match last_room(word.text, columns, &word.breaks) {

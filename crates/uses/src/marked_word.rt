@@ -17,7 +17,8 @@ pub fn marked_word<'h, H: Hyphenator<'h>>(
     word: &str,
     mark: &str,
 ) -> Result<String, AllocError>
-    ensures { IfOk result (λ marked. string_bytes marked ≡ joined mark.now word.now (H.breaks_of dictionary.now word.now)) }
+    ensures { IfOk result (λ marked.
+        string_bytes marked ≡ joined mark.now word.now (H.breaks_of dictionary.now word.now)) }
 {
     let word = dictionary.hyphenate(alloc, word)?;
     let mut marked = String::new(alloc);

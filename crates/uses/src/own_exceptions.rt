@@ -24,8 +24,12 @@ pub fn list_and_write<W: Write>(
     writer: &mut W,
 ) -> Result<bool>
     ensures good { IfOk result (λ good. good ≡ are_listed plain word.now 0 places.items) }
-    ensures listed { IfOk result (λ good. IsTrue good → dictionary.new ≡ record dictionary.old { exceptions = finite.insert dictionary.old.exceptions word.now places.items }) }
-    ensures written { IfOk result (λ good. IsTrue good → Appends (W.contents writer.old) (W.contents writer.new) (standard_text dictionary.new)) }
+    ensures listed { IfOk result (λ good.
+        IsTrue good
+        → dictionary.new
+        ≡ record dictionary.old { exceptions = finite.insert dictionary.old.exceptions word.now places.items }) }
+    ensures written { IfOk result (λ good.
+        IsTrue good → Appends (W.contents writer.old) (W.contents writer.new) (standard_text dictionary.new)) }
     ensures refused { IfOk result (λ good. IsTrue (not good) → dictionary.new ≡ dictionary.old) }
     ensures unwritten { IfOk result (λ good. IsTrue (not good) → Keeps (W.contents writer.old) (W.contents writer.new)) }
 {

@@ -14,7 +14,8 @@ use std::alloc::{AllocError, Global};
 
 /// Appends lines, each with a line feed behind it.
 fn push_lines(page: &mut String, lines: &[String]) -> Result<(), AllocError>
-    ensures { OnOk result (string_bytes page.new ≡ string_bytes page.old ++ with_line_feeds (map string_bytes lines.now)) }
+    ensures { OnOk result (string_bytes page.new ≡ string_bytes page.old ++ with_line_feeds
+        (map string_bytes lines.now)) }
 {
     for line in lines {
         page.push_str(line)?;
@@ -30,7 +31,8 @@ fn push_paragraph<'h, H: Hyphenator<'h, Opportunity = usize>>(
     paragraph: &str,
     columns: usize,
 ) -> Result<(), AllocError>
-    ensures { OnOk result (string_bytes page.new ≡ string_bytes page.old ++ written paragraph.now (lines_by (H.breaks_of dictionary.now) paragraph.now columns)) }
+    ensures { OnOk result (string_bytes page.new ≡ string_bytes page.old ++ written paragraph.now
+        (lines_by (H.breaks_of dictionary.now) paragraph.now columns)) }
 {
     let lines = fill(*page.allocator(), dictionary, paragraph, columns)?;
     push_lines(page, &lines)?;
@@ -50,7 +52,10 @@ pub fn fill_paragraphs<'h, H: Hyphenator<'h, Opportunity = usize>>(
     text: &str,
     columns: usize,
 ) -> Result<String, AllocError>
-    ensures { IfOk result (λ page. string_bytes page ≡ flat_map (λ paragraph. written paragraph (lines_by (H.breaks_of dictionary.now) paragraph columns)) (lines text.now)) }
+    ensures { IfOk result (λ page.
+        string_bytes page
+        ≡ flat_map (λ paragraph. written paragraph (lines_by (H.breaks_of dictionary.now) paragraph columns))
+        (lines text.now)) }
 {
     let mut page = String::new(alloc);
     for paragraph in text.lines() {

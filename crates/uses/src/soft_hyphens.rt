@@ -18,7 +18,8 @@ fn push_piece<'h, H: Hyphenator<'h>>(
     dictionary: &'h H,
     piece: &str,
 ) -> Result<(), AllocError>
-    ensures { OnOk result (string_bytes page.new ≡ string_bytes page.old ++ softened (H.breaks_of dictionary.now) piece.now) }
+    ensures { OnOk result (string_bytes page.new ≡ string_bytes page.old ++ softened (H.breaks_of dictionary.now)
+        piece.now) }
 {
     let alloc = *page.allocator();
     match soft_hyphen_indices(alloc, piece)? {
@@ -35,7 +36,8 @@ pub fn with_soft_hyphens<'h, H: Hyphenator<'h>>(
     dictionary: &'h H,
     text: &str,
 ) -> Result<String, AllocError>
-    ensures { IfOk result (λ page. string_bytes page ≡ flat_map (softened (H.breaks_of dictionary.now)) (word_bounds text.now)) }
+    ensures { IfOk result (λ page.
+        string_bytes page ≡ flat_map (softened (H.breaks_of dictionary.now)) (word_bounds text.now)) }
 {
     let mut page = String::new(alloc);
     for piece in text.split_word_bounds() {

@@ -44,7 +44,8 @@ pub(super) trait WholeTexts: Drop {
 
     /// The dictionary of a language that a reader's bytes give.
     fn load<D: Read>(alloc: Global, lang: Language, reader: &mut D) -> load::Result<Self>
-        ensures bytes { IfSome (D.remaining reader.old) (λ bytes. ReadsIn (refusal_of kind) (λ bytes given. given ≡ contents bytes) language_in lang bytes result) }
+        ensures bytes { IfSome (D.remaining reader.old) (λ bytes.
+            ReadsIn (refusal_of kind) (λ bytes given. given ≡ contents bytes) language_in lang bytes result) }
         ensures kind { IfErr result IsNoWant };
 
     /// Does what an edit says. Whether the edit is good.
@@ -176,7 +177,8 @@ pub(super) fn whole_text<K: WholeTexts, D: Read, I: Read>(
     reader: &mut D,
     input: &mut I,
 ) -> Result<String, RunError>
-    ensures dictionary { IfSome (D.remaining reader.old) (λ bytes. JudgesDictionary (refusal_of K.kind) lang bytes result) }
+    ensures dictionary { IfSome (D.remaining reader.old) (λ bytes.
+        JudgesDictionary (refusal_of K.kind) lang bytes result) }
     ensures edits { JudgesEdits K.kind (map (λ edit. edit.now) edits.now) result }
     ensures text { IfSome (I.remaining input.old) (λ text. JudgesText text result) }
     ensures output { IfOk result (λ output. IfSome (D.remaining reader.old) (λ bytes. IfSome (I.remaining input.old) (λ text.

@@ -37,7 +37,10 @@ fn odd_places(
     values: &[u8],
     bounds: (usize, usize),
 ) -> Result<Vec<usize>, AllocError>
-    ensures { IfOk result (λ v. v.items ≡ filter (λ place. is_odd (slice_index values.now (place - 1)) && within bounds place) (range_with_len 1 (length values.now))) }
+    ensures { IfOk result (λ v.
+        v.items
+        ≡ filter (λ place. is_odd (slice_index values.now (place - 1)) && within bounds place)
+        (range_with_len 1 (length values.now))) }
 {
     // No place before the first bound or behind the second is looked at.
     let first = bounds.0.max(1);
@@ -65,7 +68,10 @@ fn odd_places_in(
     requires begins { EachBeginsKey patterns.now }
     requires places { length room.old ≡ length word.now - 1 }
     requires zeros { (i : ℕ) → i < length room.old → slice_index room.old i ≡ 0 }
-    ensures { IfOk result (λ v. v.items ≡ filter (λ place. is_odd (slice_index (values (key_at patterns.now) word.now) (place - 1)) && within bounds place) (range_with_len 1 (length (values (key_at patterns.now) word.now)))) }
+    ensures { IfOk result (λ v.
+        v.items
+        ≡ filter (λ place. is_odd (slice_index (values (key_at patterns.now) word.now) (place - 1)) && within bounds
+        place) (range_with_len 1 (length (values (key_at patterns.now) word.now)))) }
 {
     let mut count = LookUps::new();
     raise_all(patterns, word.as_bytes(), room, &mut count);
@@ -81,7 +87,8 @@ pub(super) fn allowed_places(
     bounds: (usize, usize),
 ) -> Result<Vec<usize>, AllocError>
     requires { EachBeginsKey patterns.now }
-    ensures { IfOk result (λ v. map plain v.items ≡ breaks_within (allowed_by no_change (key_at patterns.now) word.now) bounds) }
+    ensures { IfOk result (λ v.
+        map plain v.items ≡ breaks_within (allowed_by no_change (key_at patterns.now) word.now) bounds) }
 {
     let count = word.len().saturating_sub(1);
     if count <= 64 {

@@ -53,7 +53,8 @@ pub(super) fn allowed_changes<'h>(
     bounds: (usize, usize),
 ) -> Result<Vec<(usize, Option<&'h Subregion>)>, AllocError>
     requires { EachBeginsKey patterns.now }
-    ensures { IfOk result (λ v. map lent_break v.items ≡ breaks_within (allowed_by own_change (key_at patterns.now) word.now) bounds) }
+    ensures { IfOk result (λ v.
+        map lent_break v.items ≡ breaks_within (allowed_by own_change (key_at patterns.now) word.now) bounds) }
 {
     let mut count = LookUps::new();
     let winners = winners_in(alloc, patterns, word.as_bytes(), &mut count)?;

@@ -46,7 +46,11 @@ fn compete_at<'d, C>(
     entry: &'d Entry<C>,
 )
     requires { length starts.old ≡ length bests.old }
-    ensures { (i : ℕ) → i < length bests.old → best_of bests.new starts.new i ≡ (if start + entry.now.place == (i + 1) + 1 then meets (best_of bests.old starts.old i) start (Some entry.now) else best_of bests.old starts.old i) }
+    ensures { (i : ℕ) → i < length bests.old
+        → best_of bests.new starts.new i
+        ≡ (if start + entry.now.place == (i + 1) + 1
+        then meets (best_of bests.old starts.old i) start (Some entry.now)
+        else best_of bests.old starts.old i) }
 {
     if let Some(place) = start.checked_add(entry.place) {
         if 2 <= place && place - 2 < bests.len() {
@@ -67,7 +71,10 @@ fn compete<'d, C>(
 )
     requires lengths { length starts.old ≡ length bests.old }
     requires sane { (i : ℕ) → i < length bests.old → Sane (best_of bests.old starts.old i) }
-    ensures { (i : ℕ) → i < length bests.old → best_of bests.new starts.new i ≡ meets (best_of bests.old starts.old i) start (first_greatest (filter (λ entry. start + entry.place == (i + 1) + 1) entries.now)) }
+    ensures { (i : ℕ) → i < length bests.old
+        → best_of bests.new starts.new i
+        ≡ meets (best_of bests.old starts.old i) start
+        (first_greatest (filter (λ entry. start + entry.place == (i + 1) + 1) entries.now)) }
 {
     for entry in entries {
         compete_at(bests, starts, start, entry);
@@ -87,10 +94,15 @@ fn compete_reported<'d, C: Drop>(
     requires end { end ≤ length (frame word.now) }
     requires longest { IsLongest automaton.now.texts (take end (frame word.now)) from }
     requires lengths { length starts.old ≡ length bests.old }
-    requires holds { (i : ℕ) → i < length bests.old → Holds (key_at automaton.now) (frame word.now) (i + 1) (Asked (frame word.now) end 0) (best_of bests.old starts.old i) }
+    requires holds { (i : ℕ) → i < length bests.old
+        → Holds (key_at automaton.now) (frame word.now) (i + 1) (Asked (frame word.now) end 0)
+        (best_of bests.old starts.old i) }
     requires room { count.old.reported + length (text_of automaton.now from) + 1 < 2 ^ 128 }
-    ensures holds { (i : ℕ) → i < length bests.old → Holds (key_at automaton.now) (frame word.now) (i + 1) (Asked (frame word.now) (end + 1) 0) (best_of bests.new starts.new i) }
-    ensures reported { count.new.reported ≡ count.old.reported + keys_in automaton.now (text_of automaton.now from) (length (text_of automaton.now from)) }
+    ensures holds { (i : ℕ) → i < length bests.old
+        → Holds (key_at automaton.now) (frame word.now) (i + 1) (Asked (frame word.now) (end + 1) 0)
+        (best_of bests.new starts.new i) }
+    ensures reported { count.new.reported
+        ≡ count.old.reported + keys_in automaton.now (text_of automaton.now from) (length (text_of automaton.now from)) }
     ensures made { count.new.made ≡ count.old.made }
 {
     let _root = automaton.root();
@@ -115,10 +127,12 @@ pub(crate) fn winners_in<'d, C: Drop>(
     requires reported { count.old.reported ≤ 2 ^ 64 }
     ensures winners { IfOk result (λ v. map option_copied v.items ≡ winners (key_at automaton.now) word.now) }
     ensures linear { count.new.made ≤ count.old.made + 2 * (length word.now + 2) }
-    ensures alone { ((q : List ℕ) → key_at automaton.now q ≡ None) → count.new.made ≤ count.old.made + (length word.now + 2) }
+    ensures alone { ((q : List ℕ) → key_at automaton.now q ≡ None)
+        → count.new.made ≤ count.old.made + (length word.now + 2) }
     ensures least { OnOk result (count.old.made + (length word.now + 2) ≤ count.new.made) }
     ensures kept { count.old.made ≤ count.new.made }
-    ensures reported { OnOk result (count.new.reported ≡ count.old.reported + occurrences (key_at automaton.now) (frame word.now)) }
+    ensures reported { OnOk result (count.new.reported ≡ count.old.reported + occurrences (key_at automaton.now)
+        (frame word.now)) }
     ensures visited { count.new.reported ≤ count.old.reported + occurrences (key_at automaton.now) (frame word.now) }
 {
     let places = word.len().saturating_sub(1);
@@ -160,7 +174,8 @@ pub fn winners<'d, C: Carried, B: Break>(
     ensures linear { count.new.made ≤ count.old.made + 2 * (length word.now + 2) }
     ensures least { OnOk result (count.old.made + (length word.now + 2) ≤ count.new.made) }
     ensures kept { count.old.made ≤ count.new.made }
-    ensures reported { OnOk result (count.new.reported ≡ count.old.reported + occurrences (keys_of dictionary.now) (frame word.now)) }
+    ensures reported { OnOk result (count.new.reported ≡ count.old.reported + occurrences (keys_of dictionary.now)
+        (frame word.now)) }
     ensures visited { count.new.reported ≤ count.old.reported + occurrences (keys_of dictionary.now) (frame word.now) }
 {
     // The call tells the proof what is true of each dictionary.

@@ -20,7 +20,8 @@ use std::alloc::{AllocError, Global};
 fn raise_at(values: &mut [u8], start: usize, place: usize, value: u8)
     requires start { start ≤ length values.old + 2 }
     requires room { length values.old + 1 < 2 ^ 63 }
-    ensures { (i : ℕ) → i < length values.old → slice_index values.new i ≡ max (slice_index values.old i) (if start + place == (i + 1) + 1 then value else 0) }
+    ensures { (i : ℕ) → i < length values.old
+        → slice_index values.new i ≡ max (slice_index values.old i) (if start + place == (i + 1) + 1 then value else 0) }
 {
     // A place behind the word is passed over first, so that no sum is too great.
     if place <= values.len() + 1 {
@@ -36,7 +37,10 @@ fn raise_at(values: &mut [u8], start: usize, place: usize, value: u8)
 fn raise<C>(entries: &[Entry<C>], start: usize, values: &mut [u8])
     requires start { start ≤ length values.old + 2 }
     requires room { length values.old + 1 < 2 ^ 63 }
-    ensures { (i : ℕ) → i < length values.old → slice_index values.new i ≡ max (slice_index values.old i) (greatest_value (filter (λ entry. start + entry.place == (i + 1) + 1) entries.now)) }
+    ensures { (i : ℕ) → i < length values.old
+        → slice_index values.new i
+        ≡ max (slice_index values.old i)
+        (greatest_value (filter (λ entry. start + entry.place == (i + 1) + 1) entries.now)) }
 {
     for entry in entries {
         raise_at(values, start, entry.place, entry.value);
@@ -56,8 +60,12 @@ fn raise_reported<C: Drop>(
     requires within { end ≤ length values.old + 3 }
     requires short { length values.old + 1 < 2 ^ 63 }
     requires room { count.old.reported + length (text_of automaton.now from) + 1 < 2 ^ 128 }
-    ensures values { (i : ℕ) → i < length values.old → slice_index values.new i ≡ max (slice_index values.old i) (greatest_value (ending (key_at automaton.now) (text_of automaton.now from) end (i + 1))) }
-    ensures reported { count.new.reported ≡ count.old.reported + keys_in automaton.now (text_of automaton.now from) (length (text_of automaton.now from)) }
+    ensures values { (i : ℕ) → i < length values.old
+        → slice_index values.new i
+        ≡ max (slice_index values.old i)
+        (greatest_value (ending (key_at automaton.now) (text_of automaton.now from) end (i + 1))) }
+    ensures reported { count.new.reported
+        ≡ count.old.reported + keys_in automaton.now (text_of automaton.now from) (length (text_of automaton.now from)) }
     ensures made { count.new.made ≡ count.old.made }
 {
     let _root = automaton.root();
@@ -86,11 +94,17 @@ fn read<C: Drop>(
     requires made { count.old.made ≤ 2 ^ 100 }
     requires reported { count.old.reported ≤ 2 ^ 127 }
     ensures longest { IsLongest automaton.now.texts (text_of automaton.now from ++ byte ∷ []) result }
-    ensures values { (i : ℕ) → i < length values.old → slice_index values.new i ≡ max (slice_index values.old i) (greatest_value (ending (key_at automaton.now) (text_of automaton.now result) end (i + 1))) }
+    ensures values { (i : ℕ) → i < length values.old
+        → slice_index values.new i
+        ≡ max (slice_index values.old i)
+        (greatest_value (ending (key_at automaton.now) (text_of automaton.now result) end (i + 1))) }
     ensures least { count.old.made + 1 ≤ count.new.made }
-    ensures most { count.new.made + length (text_of automaton.now result) ≤ count.old.made + length (text_of automaton.now from) + 2 }
+    ensures most { count.new.made + length (text_of automaton.now result)
+        ≤ count.old.made + length (text_of automaton.now from) + 2 }
     ensures alone { count.new.made ≤ count.old.made + length (text_of automaton.now from) + 1 }
-    ensures reported { count.new.reported ≡ count.old.reported + keys_in automaton.now (text_of automaton.now result) (length (text_of automaton.now result)) }
+    ensures reported { count.new.reported
+        ≡ count.old.reported + keys_in automaton.now (text_of automaton.now result)
+        (length (text_of automaton.now result)) }
 {
     let node = automaton.step(from, byte, count);
     raise_reported(automaton, node, end, values, count);
@@ -112,7 +126,8 @@ pub(crate) fn raise_all<C: Drop>(
     requires zeros { (i : ℕ) → i < length scores.old → slice_index scores.old i ≡ 0 }
     ensures values { scores.new ≡ values (key_at automaton.now) word.now }
     ensures linear { count.new.made ≤ count.old.made + 2 * (length word.now + 2) }
-    ensures alone { ((q : List ℕ) → key_at automaton.now q ≡ None) → count.new.made ≤ count.old.made + (length word.now + 2) }
+    ensures alone { ((q : List ℕ) → key_at automaton.now q ≡ None)
+        → count.new.made ≤ count.old.made + (length word.now + 2) }
     ensures least { count.old.made + (length word.now + 2) ≤ count.new.made }
     ensures reported { count.new.reported ≡ count.old.reported + occurrences (key_at automaton.now) (frame word.now) }
 {
@@ -138,10 +153,12 @@ pub(super) fn values_in<C: Drop>(
     requires reported { count.old.reported ≤ 2 ^ 64 }
     ensures values { IfOk result (λ v. v.items ≡ values (key_at automaton.now) word.now) }
     ensures linear { count.new.made ≤ count.old.made + 2 * (length word.now + 2) }
-    ensures alone { ((q : List ℕ) → key_at automaton.now q ≡ None) → count.new.made ≤ count.old.made + (length word.now + 2) }
+    ensures alone { ((q : List ℕ) → key_at automaton.now q ≡ None)
+        → count.new.made ≤ count.old.made + (length word.now + 2) }
     ensures least { OnOk result (count.old.made + (length word.now + 2) ≤ count.new.made) }
     ensures kept { count.old.made ≤ count.new.made }
-    ensures reported { OnOk result (count.new.reported ≡ count.old.reported + occurrences (key_at automaton.now) (frame word.now)) }
+    ensures reported { OnOk result (count.new.reported ≡ count.old.reported + occurrences (key_at automaton.now)
+        (frame word.now)) }
     ensures visited { count.new.reported ≤ count.old.reported + occurrences (key_at automaton.now) (frame word.now) }
 {
     let places = word.len().saturating_sub(1);
@@ -168,7 +185,8 @@ pub(super) fn values<C: Carried, B: Break>(
     ensures linear { count.new.made ≤ count.old.made + 2 * (length word.now + 2) }
     ensures least { OnOk result (count.old.made + (length word.now + 2) ≤ count.new.made) }
     ensures kept { count.old.made ≤ count.new.made }
-    ensures reported { OnOk result (count.new.reported ≡ count.old.reported + occurrences (keys_of dictionary.now) (frame word.now)) }
+    ensures reported { OnOk result (count.new.reported ≡ count.old.reported + occurrences (keys_of dictionary.now)
+        (frame word.now)) }
     ensures visited { count.new.reported ≤ count.old.reported + occurrences (keys_of dictionary.now) (frame word.now) }
 {
     // The call tells the proof what is true of each dictionary.

@@ -61,7 +61,8 @@ fn add<C: Carried, B: Listed>(
 ) -> Result<bool, AllocError>
     requires { IsUtf8 exception.now }
     ensures good { IfOk result (λ good. good ≡ is_sound kind (as_line exception.now)) }
-    ensures done { IfOk result (λ good. IsTrue good → dictionary.new ≡ with_exception B.lists dictionary.old (as_line exception.now)) }
+    ensures done { IfOk result (λ good.
+        IsTrue good → dictionary.new ≡ with_exception B.lists dictionary.old (as_line exception.now)) }
     ensures refused { IfOk result (λ good. IsTrue (not good) → dictionary.new ≡ dictionary.old) }
     ensures err { OnErr result (dictionary.new ≡ dictionary.old) }
 {
@@ -83,7 +84,8 @@ fn remove<C: Carried, B: Listed>(
 ) -> Result<bool, AllocError>
     requires { IsUtf8 exception.now }
     ensures good { IfOk result (λ good. good ≡ is_word_alone kind (as_line exception.now)) }
-    ensures done { IfOk result (λ good. IsTrue good → dictionary.new ≡ without_exception dictionary.old (as_line exception.now)) }
+    ensures done { IfOk result (λ good.
+        IsTrue good → dictionary.new ≡ without_exception dictionary.old (as_line exception.now)) }
     ensures refused { IfOk result (λ good. IsTrue (not good) → dictionary.new ≡ dictionary.old) }
     ensures err { OnErr result (dictionary.new ≡ dictionary.old) }
 {

@@ -164,7 +164,8 @@ fn push_key<C: Carried>(
     key: &[u8],
     entries: &[Entry<C>],
 ) -> Result<(), AllocError>
-    ensures { OnOk result (text.new.items ≡ text.old.items ++ pattern_token version key.now (map (entry_of C.change) entries.now)) }
+    ensures { OnOk result (text.new.items ≡ text.old.items ++ pattern_token version key.now
+        (map (entry_of C.change) entries.now)) }
 {
     let escapes = pattern_escapes(version);
     let mut rest = entries;
@@ -180,7 +181,8 @@ fn push_key<C: Carried>(
 
 /// The changes of entries at their places, each behind a space.
 fn push_changes<C: Carried>(text: &mut Vec<u8>, entries: &[Entry<C>]) -> Result<(), AllocError>
-    ensures { OnOk result (text.new.items ≡ text.old.items ++ later_tokens (changes_of (map (entry_of C.change) entries.now))) }
+    ensures { OnOk result (text.new.items ≡ text.old.items ++ later_tokens
+        (changes_of (map (entry_of C.change) entries.now))) }
 {
     for entry in entries {
         if let Some(change) = entry.change.carried() {
@@ -198,7 +200,8 @@ fn push_pattern<C: Carried>(
     key: &[u8],
     entries: &[Entry<C>],
 ) -> Result<(), AllocError>
-    ensures { OnOk result (text.new.items ≡ text.old.items ++ pattern_line version key.now (map (entry_of C.change) entries.now)) }
+    ensures { OnOk result (text.new.items ≡ text.old.items ++ pattern_line version key.now
+        (map (entry_of C.change) entries.now)) }
 {
     text.extend_from_slice(b"p ")?;
     push_key(text, version, key, entries)?;
@@ -211,7 +214,8 @@ fn push_patterns<C: Carried>(
     version: Version,
     keys: &[(&[u8], &[Entry<C>])],
 ) -> Result<(), AllocError>
-    ensures { OnOk result (text.new.items ≡ text.old.items ++ ended (map (key_line version C.change) (shown_pairs keys.now))) }
+    ensures { OnOk result (text.new.items ≡ text.old.items ++ ended
+        (map (key_line version C.change) (shown_pairs keys.now))) }
 {
     for (key, entries) in keys {
         push_pattern(text, version, key, entries)?;
@@ -304,7 +308,11 @@ fn whole_text<C: Carried, B: Listed>(
     keys: &[(&[u8], &[Entry<C>])],
     words: &[(&[u8], &[B])],
 ) -> Result<Vec<u8>, AllocError>
-    ensures { IfOk result (λ text. text.items ≡ ended (head form ∷ language_line language ∷ minima_line minima.0 minima.1 ∷ (map (key_line form.version C.change) (shown_pairs keys.now) ++ map (word_line B.meaning) (shown_pairs words.now)))) }
+    ensures { IfOk result (λ text.
+        text.items
+        ≡ ended (head form ∷ language_line language ∷ minima_line minima.0 minima.1 ∷
+        (map (key_line form.version C.change) (shown_pairs keys.now) ++ map (word_line B.meaning) (shown_pairs
+        words.now)))) }
 {
     let mut text = Vec::new(alloc);
     push_head(&mut text, form)?;
