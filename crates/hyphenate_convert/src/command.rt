@@ -6,14 +6,14 @@ mod tests;
 use crate::request::{Misfit, Request, Sort, form_of};
 use hyphenation::engine::Kind;
 use hyphenation::load::{Error, Load};
-use hyphenation_commons::dictionary::{Carried, Dictionary, Listed};
+use hyphenation_commons::dictionary::{Carried, Listed};
 use hyphenation_commons::extended::Subregion;
-use pattern_files::convert::convert;
+use pattern_files::convert::{Converted, convert_with_notes};
 use pattern_files::fault::Refusal;
 use pattern_files::group::{File, Form};
-use pattern_files::libreoffice::{Converted, convert_dic};
+use pattern_files::libreoffice::convert_dic;
 use pattern_files::notes::Note;
-use pattern_files::told::{minima_for, notes_of};
+use pattern_files::told::minima_for;
 use std::alloc::{AllocError, Global};
 use std::fs::Files;
 use std::io::{ErrorKind, Read, Write};
@@ -99,12 +99,11 @@ fn convert_tex<C: Carried, B: Listed>(
     let minima = minima_for(request.left, request.right, &files);
     // a file that can't be understood is told of before the minima are missed
     let (left, right) = minima.unwrap_or((0, 0));
-    let dictionary: Dictionary<C, B> = convert(alloc, request.language, left, right, &files)?;
-    if minima.is_none() {
-        return Err(Failure::Minima);
+    let converted = convert_with_notes(alloc, request.language, left, right, &files)?;
+    match minima {
+        Some(_) => Ok(converted),
+        None => Err(Failure::Minima),
     }
-    let notes = notes_of(alloc, &files)?;
-    Ok(Converted { dictionary, notes })
 }
 
 /// The dictionary of the files.

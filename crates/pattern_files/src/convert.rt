@@ -5,8 +5,10 @@ ghost use Rattle.pattern_files.specs.Converting.{spelled, followed, spelled_in, 
 
 use crate::fault::{Cause, LineFault, Refusal};
 use crate::group::{File, Form};
+use crate::notes::Note;
 use crate::parts::Parts;
 use crate::tex::words_of;
+use crate::told::notes_of;
 use hyphenation_commons::dictionary::{Carried, Dictionary, Listed};
 use hyphenation_commons::language::Language;
 use std::alloc::Global;
@@ -78,4 +80,28 @@ pub fn convert<C: Carried, B: Listed>(
     let mut parts = Parts::new(alloc);
     take_files(alloc, &mut parts, files)?;
     Ok(parts.make(alloc, language, left, right)?)
+}
+
+/// A dictionary that was made of files, and what there is to note of them.
+#[derive(Drop)]
+pub struct Converted<C: Carried, B: Listed> {
+    pub dictionary: Dictionary<C, B>,
+    pub notes: Vec<Note>,
+}
+
+/// The same dictionary as by [`convert`], and with it what was decided, each sort of thing with its first line.
+pub fn convert_with_notes<C: Carried, B: Listed>(
+    alloc: Global,
+    language: Language,
+    left: u8,
+    right: u8,
+    files: &[File<'_>],
+) -> Result<Converted<C, B>, Refusal>
+    ensures good { OnOk result (fault_from 0 files.now ≡ None) }
+    ensures contents { IfOk result (λ c. c.dictionary ≡ contents_of C.carries B.lists language left right files.now) }
+    ensures refused { IfErr result (λ refusal. IsRefusal refusal (fault_from 0 files.now)) }
+{
+    let dictionary = convert(alloc, language, left, right, files)?;
+    let notes = notes_of(alloc, files)?;
+    Ok(Converted { dictionary, notes })
 }

@@ -8,10 +8,11 @@ ghost use Rattle.std.specs.Prelude.{◌≡◌, IfOk, IfErr, IfSome};
 ghost use Rattle.pattern_files.specs.Converting.{IsOfFile};
 
 use crate::charset::{Charset, text_of};
+use crate::convert::Converted;
 use crate::fault::{Cause, LineFault, Refusal};
 use crate::levels::Levels;
-use crate::notes::{Note, What};
-use hyphenation_commons::dictionary::{Carried, Dictionary, Listed};
+use crate::notes::What;
+use hyphenation_commons::dictionary::{Carried, Listed};
 use hyphenation_commons::language::Language;
 use std::alloc::Global;
 
@@ -146,13 +147,6 @@ fn minimum(given: Option<u8>, told: Option<u8>) -> u8
         Some(given) => given,
         None => told.unwrap_or(2),
     }
-}
-
-/// A dictionary of a `.dic`, and what there is to tell of it.
-#[derive(Drop)]
-pub struct Converted<C: Carried, B: Listed> {
-    pub dictionary: Dictionary<C, B>,
-    pub notes: Vec<Note>,
 }
 
 /// Makes a dictionary of a `.dic`. Minima that are not given are those of the file, or 2, as LibreOffice has it.

@@ -157,7 +157,7 @@ impl Met {
 }
 
 /// What there is to note of files: what was decided, each sort with its first line.
-pub fn notes_of(alloc: Global, files: &[File<'_>]) -> Result<Vec<Note>, AllocError> {
+pub(crate) fn notes_of(alloc: Global, files: &[File<'_>]) -> Result<Vec<Note>, AllocError> {
     let mut met = Met {
         keys: HashMap::new(alloc),
         words: HashMap::new(alloc),
