@@ -1,6 +1,6 @@
 //! The bounds within which a word may be broken.
 
-ghost use Rattle.std.specs.Prelude.{◌≡◌, ◌≤◌, IfSome};
+ghost use Rattle.std.specs.Prelude.{◌≡◌, ◌≤◌, ◌<◌, ◌-◌, IfSome, IfNone, length, chars};
 ghost use Rattle.std.specs.Str.{IsAscii, IsCharBoundary};
 ghost use Rattle.hyphenation.specs.Boundaries.{boundaries};
 ghost use Rattle.hyphenation.specs.Places.{place_of_character};
@@ -14,12 +14,14 @@ pub fn boundaries_of(minima: (usize, usize), word: &str) -> Option<(usize, usize
     ensures left { IfSome result (λ bounds. IsCharBoundary word.now bounds.0) }
     ensures right { IfSome result (λ bounds. IsCharBoundary word.now bounds.1) }
 {
+    // Only the characters outside of the bounds are read: those before the first, and those behind the last.
     let (left, right) = minima;
-    let count = word.chars().count();
-    if count <= left || count - left < right {
+    let last = place_from_end(word, right.max(1))?;
+    let first = place_of(word, left);
+    if last < first {
         return None;
     }
-    Some((place_of(word, left), place_of(word, count - right.max(1))))
+    Some((first, last))
 }
 
 /// The same for a word of ASCII, whose characters are its bytes.
@@ -44,4 +46,20 @@ fn place_of(text: &str, number: usize) -> usize
         Some((place, _)) => place,
         None => text.len(),
     }
+}
+
+// The place from which on the text has so many characters; `None` where it has fewer.
+fn place_from_end(text: &str, number: usize) -> Option<usize>
+    ensures enough { IfSome result (λ place. number ≤ length (chars text.now)) }
+    ensures value { IfSome result (λ place. place ≡ place_of_character text.now (length (chars text.now) - number)) }
+    ensures boundary { IfSome result (λ place. IsCharBoundary text.now place) }
+    ensures few { IfNone result (length (chars text.now) < number) }
+{
+    let mut rest = text;
+    for count in 0..number {
+        let mut chars = rest.chars();
+        chars.next_back()?;
+        rest = chars.as_str();
+    }
+    Some(rest.len())
 }
