@@ -1,8 +1,9 @@
-//! Awkward words: dots, edges, soft hyphens, NUL, combining characters, joined emoji, and the least and greatest minima.
-//! Each is asked of dictionaries of both kinds.
+//! Awkward words: dots, edges, soft hyphens, NUL, combining characters, joined emoji, and the least and the greatest
+//! minima. Each is asked of dictionaries of both kinds.
 
 use crate::answers::{marked, places, push_next, standard};
 use crate::changed_scores::winners_by;
+use crate::changes;
 use crate::changes::{changed_by, extended, places_by};
 use crate::long_texts::repeated;
 use crate::scores::values_by;
@@ -45,7 +46,7 @@ pub fn placed(alloc: Global, minima: &str, lines: &str, words: &str) -> Result<S
     Ok(of_both(alloc, plain, changed)?)
 }
 
-// the value stands between `b` and the dot: in the middle of the first word, and at the end of the second, which is no place
+// the value stands between `b` and the dot: within the first word, and at the end of the second, which is no place
 #[test]
 fn a_dot_at_the_end_of_a_key_is_an_edge_or_a_dot(rt: HostRuntime) -> Result<(), Fail> {
     assert_eq!(rt;
@@ -348,6 +349,14 @@ fn a_new_mark_holds_for_the_items_to_come(rt: HostRuntime) -> Result<(), Fail> {
 fn the_empty_word_is_one_item(rt: HostRuntime) -> Result<(), Fail> {
     let dictionary = standard(rt.alloc(), "0 0", "e \\e 0")?;
     let found = marked_anew(rt.alloc(), &dictionary, "")?;
+    assert_eq!(rt; found.as_str(), "1 ,0 none,0 none,");
+    Ok(())
+}
+
+#[test]
+fn the_empty_word_is_one_item_of_an_extended_dictionary(rt: HostRuntime) -> Result<(), Fail> {
+    let dictionary = extended(rt.alloc(), "0 0", "e \\e 0")?;
+    let found = changes::marked_anew(rt.alloc(), &dictionary, "")?;
     assert_eq!(rt; found.as_str(), "1 ,0 none,0 none,");
     Ok(())
 }

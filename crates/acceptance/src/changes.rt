@@ -187,7 +187,7 @@ fn segments_beside_no_change_are_lent(rt: HostRuntime) -> Result<(), Fail> {
 
 /// The items of a word, the second and later ones with the mark `=`, each behind the number of those that are left; two
 /// more are asked for than there are.
-fn marked_anew(alloc: Global, dictionary: &Extended, word: &str) -> Result<String, AllocError> {
+pub fn marked_anew(alloc: Global, dictionary: &Extended, word: &str) -> Result<String, AllocError> {
     let found = dictionary.hyphenate(alloc, word)?;
     let number = found.breaks.len().saturating_add(3);
     let mut items = found.into_iter();
@@ -221,18 +221,23 @@ fn a_listed_change_is_told(rt: HostRuntime) -> Result<(), Fail> {
     Ok(())
 }
 
-/// What is listed for `esszé` within it, and then what patterns allow there.
+/// What is listed for `esszé` within it.
 fn within(alloc: Global) -> Result<String, Fail> {
     let dictionary = extended(alloc, "2 2", DOUBLED)?;
-    let mut found = told_if(alloc, dictionary.exception_within(alloc, "esszé", (0, 6))?)?;
+    Ok(told_if(alloc, dictionary.exception_within(alloc, "esszé", (0, 6))?)?)
+}
+
+/// What patterns allow in `esszé`.
+fn allowed(alloc: Global) -> Result<String, Fail> {
+    let dictionary = extended(alloc, "2 2", DOUBLED)?;
     let allowed = dictionary.opportunities_within(alloc, "esszé", (0, 6))?;
-    found.push_str(&told(alloc, &allowed)?)?;
-    Ok(found)
+    Ok(told(alloc, &allowed)?)
 }
 
 #[test]
 fn a_listed_change_is_no_change_of_a_pattern(rt: HostRuntime) -> Result<(), Fail> {
     assert_eq!(rt; within(rt.alloc())?.as_str(), "2szsz ");
+    assert_eq!(rt; allowed(rt.alloc())?.as_str(), "");
     Ok(())
 }
 
@@ -247,16 +252,28 @@ fn list(alloc: Global, dictionary: &mut Extended, place: usize) -> Result<String
     }
 }
 
-/// The old list of `esszé` where it is replaced by the place 3, and then the new one.
-fn replaced(alloc: Global) -> Result<String, Fail> {
+/// An extended dictionary where the place 3 has replaced the list of `esszé`.
+fn replaced(alloc: Global) -> Result<Extended, Error> {
     let mut dictionary = extended(alloc, "2 2", DOUBLED)?;
-    let mut found = list(alloc, &mut dictionary, 3)?;
-    found.push_str(&told_if(alloc, dictionary.exception(alloc, "esszé")?)?)?;
-    Ok(found)
+    let _old = list(alloc, &mut dictionary, 3).map_err(Error::Memory)?;
+    Ok(dictionary)
+}
+
+#[test]
+fn the_old_list_of_a_change_is_answered(rt: HostRuntime) -> Result<(), Fail> {
+    let mut dictionary = extended(rt.alloc(), "2 2", DOUBLED)?;
+    assert_eq!(rt; list(rt.alloc(), &mut dictionary, 3)?.as_str(), "2szsz ");
+    Ok(())
+}
+
+/// The new list of `esszé`.
+fn new_list(alloc: Global) -> Result<String, Fail> {
+    let dictionary = replaced(alloc)?;
+    Ok(told_if(alloc, dictionary.exception(alloc, "esszé")?)?)
 }
 
 #[test]
 fn a_listed_change_is_replaced(rt: HostRuntime) -> Result<(), Fail> {
-    assert_eq!(rt; replaced(rt.alloc())?.as_str(), "2szsz 3 ");
+    assert_eq!(rt; new_list(rt.alloc())?.as_str(), "3 ");
     Ok(())
 }

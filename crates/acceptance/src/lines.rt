@@ -111,8 +111,8 @@ fn is_fewest(
     Ok(fewest(text, cuts, columns).map(|least| lines.len() == least))
 }
 
-/// The number of widths at which a text has as few lines as in the best of its divisions; `None` where it has more at one
-/// of them.
+/// The number of widths at which a text has as few lines as in the best of its divisions; `None` where it has more at
+/// one of them.
 fn compared(alloc: Global, text: &str, cuts: &[usize]) -> Result<Option<usize>, Fail> {
     let mut reader = VERSE.as_bytes();
     let dictionary = Standard::any_from_reader(alloc, &mut reader)?;
@@ -190,51 +190,62 @@ fn lines_are_written_each_with_a_line_feed(rt: HostRuntime) -> Result<(), Fail> 
     Ok(())
 }
 
+/// How a run ended, and how many bytes its writer took.
+#[derive(Drop)]
+struct Ended {
+    end: Result<(), RunError>,
+    taken: usize,
+}
+
+/// A run over a dictionary and a text, whose writer fails at its first write.
+fn run_to_end<D: Read, I: Read>(alloc: Global, dictionary: &mut D, input: &mut I) -> Ended {
+    let mut output = failing_once(alloc, 1);
+    let end = run_in(alloc, 10, dictionary, input, &mut output);
+    Ended {
+        end,
+        taken: output.taken.len(),
+    }
+}
+
 #[test]
-fn the_first_refusal_is_answered_and_nothing_is_written(rt: HostRuntime) {
-    let mut output = failing_once(rt.alloc(), 1);
-    let end = run_in(
-        rt.alloc(),
-        10,
-        &mut torn(VERSE.as_bytes(), 60),
-        &mut torn(b"", 1),
-        &mut output,
+fn a_torn_dictionary_is_answered_before_a_torn_text(rt: HostRuntime) {
+    let mut dictionary = torn(VERSE.as_bytes(), 60);
+    let ran = run_to_end(rt.alloc(), &mut dictionary, &mut torn(b"", 1));
+    assert!(rt; matches!(&ran.end, Err(RunError::Dictionary(e)) if is_torn(e)));
+    assert_eq!(rt; ran.taken, 0);
+}
+
+#[test]
+fn a_refused_dictionary_is_answered_before_a_torn_text(rt: HostRuntime) {
+    let mut dictionary = &b"hyphenation 1 extended\n"[..];
+    let ran = run_to_end(rt.alloc(), &mut dictionary, &mut torn(b"", 1));
+    assert!(rt; matches!(&ran.end, Err(RunError::Dictionary(_))));
+    assert_eq!(rt; ran.taken, 0);
+}
+
+#[test]
+fn a_torn_text_is_answered_before_its_bytes_are_judged(rt: HostRuntime) {
+    let mut input = torn(b"noble \xff", 4);
+    let ran = run_to_end(rt.alloc(), &mut VERSE.as_bytes(), &mut input);
+    assert!(rt;
+        matches!(&ran.end, Err(RunError::Input(e)) if e.kind() == ErrorKind::ConnectionReset)
     );
-    assert!(rt; matches!(&end, Err(RunError::Dictionary(e)) if is_torn(e)));
-    let end = run_in(
-        rt.alloc(),
-        10,
-        &mut &b"hyphenation 1 extended\n"[..],
-        &mut torn(b"", 1),
-        &mut output,
-    );
-    assert!(rt; matches!(end, Err(RunError::Dictionary(_))));
-    let end = run_in(
-        rt.alloc(),
-        10,
-        &mut VERSE.as_bytes(),
-        &mut torn(b"noble \xff", 4),
-        &mut output,
-    );
-    assert!(rt; matches!(&end, Err(RunError::Input(e)) if e.kind() == ErrorKind::ConnectionReset));
-    let end = run_in(
-        rt.alloc(),
-        10,
-        &mut VERSE.as_bytes(),
-        &mut &b"noble \xff"[..],
-        &mut output,
-    );
-    assert!(rt; matches!(end, Err(RunError::TextNotUtf8)));
-    assert_eq!(rt; output.taken.len(), 0);
-    let end = run_in(
-        rt.alloc(),
-        10,
-        &mut VERSE.as_bytes(),
-        &mut &b""[..],
-        &mut output,
-    );
-    assert!(rt; end.is_ok());
-    assert_eq!(rt; output.taken.len(), 0);
+    assert_eq!(rt; ran.taken, 0);
+}
+
+#[test]
+fn a_text_that_is_not_utf_8_is_not_filled(rt: HostRuntime) {
+    let mut input = &b"noble \xff"[..];
+    let ran = run_to_end(rt.alloc(), &mut VERSE.as_bytes(), &mut input);
+    assert!(rt; matches!(&ran.end, Err(RunError::TextNotUtf8)));
+    assert_eq!(rt; ran.taken, 0);
+}
+
+#[test]
+fn of_the_empty_text_nothing_is_written(rt: HostRuntime) {
+    let ran = run_to_end(rt.alloc(), &mut VERSE.as_bytes(), &mut &b""[..]);
+    assert!(rt; ran.end.is_ok());
+    assert_eq!(rt; ran.taken, 0);
 }
 
 #[test]

@@ -170,8 +170,7 @@ fn the_first_edit_that_is_refused_is_told(rt: HostRuntime) -> Result<(), Fail> {
 }
 
 #[test]
-fn the_first_refusal_in_order_is_answered(rt: HostRuntime) -> Result<(), Fail> {
-    let none: [&str; 0] = [];
+fn a_dictionary_is_judged_before_edits_and_text(rt: HostRuntime) -> Result<(), Fail> {
     let ran = run_by(rt.alloc(), "", &["+firkins 8"], "-", b"\xff")?;
     assert!(rt;
         matches!(
@@ -190,10 +189,20 @@ fn the_first_refusal_in_order_is_answered(rt: HostRuntime) -> Result<(), Fail> {
             Err(RunError::Dictionary(Error::LanguageMismatch { .. }))
         )
     );
+    Ok(())
+}
+
+#[test]
+fn edits_are_judged_before_the_text(rt: HostRuntime) -> Result<(), Fail> {
     let ran = run_by(rt.alloc(), FIRKIN, &["+firkins 8"], "-", b"\xff")?;
     assert!(rt; matches!(ran.end, Err(RunError::Edit(1))));
     assert_eq!(rt; ran.output.len(), 0);
-    let ran = run_by(rt.alloc(), FIRKIN, &none, "-", b"firkin \xff")?;
+    Ok(())
+}
+
+#[test]
+fn a_text_that_is_not_utf_8_is_refused(rt: HostRuntime) -> Result<(), Fail> {
+    let ran = run_by(rt.alloc(), FIRKIN, &["-other"], "-", b"firkin \xff")?;
     assert!(rt; matches!(ran.end, Err(RunError::TextNotUtf8)));
     assert_eq!(rt; ran.output.len(), 0);
     Ok(())

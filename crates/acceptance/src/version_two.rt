@@ -1,6 +1,7 @@
 //! Texts of version 2, in which values from 10 to 255 stand in braces, and what version 1 says to braces.
 
-use crate::answers::{places, standard, values, winners};
+use crate::answers::{places, values, winners};
+use crate::scores::values_by;
 use hyphenation::extended::Extended;
 use hyphenation::load::{Cause, Error, Load};
 use hyphenation::{Language, Standard};
@@ -68,12 +69,6 @@ fn the_greatest_and_the_least_value_are_read(rt: HostRuntime) -> Result<(), Fail
 }
 
 #[test]
-fn braces_behind_backslashes_are_letters(rt: HostRuntime) -> Result<(), Fail> {
-    assert_eq!(rt; answers(rt.alloc(), "p \\{1\\}", "{}")?.as_str(), "1 ,1 ,");
-    Ok(())
-}
-
-#[test]
 fn braces_that_write_no_value_are_told(rt: HostRuntime) {
     let cases: [(&str, Cause); 15] = [
         ("p a{9}b", Cause::Value),
@@ -120,10 +115,8 @@ fn in_version_1_braces_are_letters(rt: HostRuntime) {
 
 #[test]
 fn a_key_of_braces_is_one_in_both_versions(rt: HostRuntime) -> Result<(), Fail> {
-    let first = standard(rt.alloc(), "1 1", "p {1}")?;
-    assert_eq!(rt; values(rt.alloc(), &first, "{}")?.as_str(), "1 ,");
-    let second = second(rt.alloc(), "p \\{1\\}")?;
-    assert_eq!(rt; values(rt.alloc(), &second, "{}")?.as_str(), "1 ,");
+    assert_eq!(rt; values_by(rt.alloc(), "p {1}", "{}")?.as_str(), "1 ,");
+    assert_eq!(rt; answers(rt.alloc(), "p \\{1\\}", "{}")?.as_str(), "1 ,1 ,");
     Ok(())
 }
 
