@@ -184,7 +184,8 @@ fn text_by<D: Read, I: Read>(
     reader: &mut D,
     input: &mut I,
 ) -> Result<String, RunError>
-    ensures dictionary { IfSome (D.remaining reader.old) (λ bytes. JudgesDictionary (refusal_of kind) lang bytes result) }
+    ensures dictionary { IfSome (D.remaining reader.old) (λ bytes.
+        JudgesDictionary (refusal_of kind) lang bytes result) }
     ensures edits { JudgesEdits kind (map (λ edit. edit.now) edits.now) result }
     ensures text { IfSome (I.remaining input.old) (λ text. JudgesText text result) }
     ensures output { IfOk result (λ output. IfSome (D.remaining reader.old) (λ bytes. IfSome (I.remaining input.old) (λ text.
@@ -218,7 +219,8 @@ pub fn run<D: Read, I: Read, O: Write>(
     ensures edits { JudgesEdits kind (map (λ edit. edit.now) edits.now) result }
     ensures text { IfSome (I.remaining input.old) (λ text. JudgesText text result) }
     ensures written { OnOk result (IfSome (D.remaining dictionary.old) (λ bytes. IfSome (I.remaining input.old) (λ text.
-        Appends (O.contents output.old) (O.contents output.new) (hyphenated (breaks_by kind bytes (map (λ edit. edit.now) edits.now)) mark.now text)))) }
+        Appends (O.contents output.old) (O.contents output.new)
+        (hyphenated (breaks_by kind bytes (map (λ edit. edit.now) edits.now)) mark.now text)))) }
     ensures untouched { BeforeWriting result (Keeps (O.contents output.old) (O.contents output.new)) }
     ensures kind { IfErr result HoldsNoWant }
 {

@@ -163,7 +163,9 @@ impl<E> Model for Trie<E> {
 
     ghost view = { λ t. seen t.nodes.items t.entries.items };
 
-    ghost invariant = { λ t. IsHeld (map (λ n. n.from) t.nodes.items) t.children.last.items t.children.before.items × AreWithin (length t.entries.items) t.nodes.items };
+    ghost invariant = { λ t.
+        IsHeld (map (λ n. n.from) t.nodes.items) t.children.last.items t.children.before.items
+        × AreWithin (length t.entries.items) t.nodes.items };
 }
 
 impl<E: Drop> Trie<E> {
@@ -248,7 +250,8 @@ impl<E: Drop> Trie<E> {
     /// A new child of a node.
     fn grow(&mut self, node: usize, byte: u8) -> Result<usize, AllocError>
         requires node { node < length self.old.texts }
-        requires absent { (j : ℕ) → j < length self.old.texts → text_of self.old j ≢ text_of self.old node ++ byte ∷ [] }
+        requires absent { (j : ℕ) → j < length self.old.texts
+            → text_of self.old j ≢ text_of self.old node ++ byte ∷ [] }
         ensures ok { IfOk result (λ j. (j ≡ length self.old.texts) × (self.new ≡ grown self.old node byte)) }
         ensures err { OnErr result (self.new ≡ self.old) }
     {

@@ -31,7 +31,8 @@ pub fn list_and_write<W: Write>(
     ensures written { IfOk result (λ good.
         IsTrue good → Appends (W.contents writer.old) (W.contents writer.new) (standard_text dictionary.new)) }
     ensures refused { IfOk result (λ good. IsTrue (not good) → dictionary.new ≡ dictionary.old) }
-    ensures unwritten { IfOk result (λ good. IsTrue (not good) → Keeps (W.contents writer.old) (W.contents writer.new)) }
+    ensures unwritten { IfOk result (λ good.
+        IsTrue (not good) → Keeps (W.contents writer.old) (W.contents writer.new)) }
 {
     if !Standard::fits(word, &places) {
         return Ok(false);

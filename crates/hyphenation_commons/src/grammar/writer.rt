@@ -226,7 +226,8 @@ fn push_patterns<C: Carried>(
 
 /// The lines of words, in the order that they have here.
 fn push_exceptions<B: Listed>(text: &mut Vec<u8>, words: &[(&[u8], &[B])]) -> Result<(), AllocError>
-    ensures { OnOk result (text.new.items ≡ text.old.items ++ ended (map (word_line B.meaning) (shown_pairs words.now))) }
+    ensures { OnOk result (
+        text.new.items ≡ text.old.items ++ ended (map (word_line B.meaning) (shown_pairs words.now))) }
 {
     for (word, listed) in words {
         push_exception(text, word, listed)?;
