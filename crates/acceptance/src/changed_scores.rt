@@ -6,7 +6,7 @@ use hyphenation::Language;
 use hyphenation::engine::{Kind, RunError, run_score};
 use hyphenation::load::{Cause, Error};
 use hyphenation::score::{LookUps, Score};
-use std::alloc::Global;
+use std::alloc::{AllocError, Global};
 use std::test::Fail;
 
 /// The values and changes of words by an extended dictionary of these lines.
@@ -69,30 +69,30 @@ fn a_changed_score_takes_few_look_ups(rt: HostRuntime) -> Result<(), Fail> {
 }
 
 /// Whether a run over an extended text of these lines writes this line of the values of a word.
-fn writes(alloc: Global, lines: &str, word: &str, line: &str) -> Option<bool> {
-    let text = text_of(alloc, "1 1", lines).ok()?;
+fn writes(alloc: Global, lines: &str, word: &str, line: &str) -> Result<bool, AllocError> {
+    let text = text_of(alloc, "1 1", lines)?;
     let mut reader = text.as_bytes();
     let mut written: Vec<u8> = Vec::new(alloc);
-    run_score(
+    let end = run_score(
         alloc,
         Kind::Extended,
         Language::hungarian(),
         word,
         &mut reader,
         &mut written,
-    )
-    .ok()?;
-    Some(written.as_slice() == line.as_bytes())
+    );
+    Ok(end.is_ok() && written.as_slice() == line.as_bytes())
 }
 
 #[test]
-fn a_run_writes_the_values_without_their_changes(rt: HostRuntime) {
+fn a_run_writes_the_values_without_their_changes(rt: HostRuntime) -> Result<(), Fail> {
     let lines = "p a1b\np ca1bd 2,1,0,1,x";
-    assert_eq!(rt; writes(rt.alloc(), lines, "cabd", "0 1 0\n"), Some(true));
-    assert_eq!(rt; writes(rt.alloc(), lines, "CABD", "0 0 0\n"), Some(true));
-    assert_eq!(rt; writes(rt.alloc(), lines, "", "\n"), Some(true));
+    assert!(rt; writes(rt.alloc(), lines, "cabd", "0 1 0\n")?);
+    assert!(rt; writes(rt.alloc(), lines, "CABD", "0 0 0\n")?);
+    assert!(rt; writes(rt.alloc(), lines, "", "\n")?);
     let lines = "p a1b 1,1,0,1,x\np a1bd";
-    assert_eq!(rt; writes(rt.alloc(), lines, "abd", "1 0\n"), Some(true));
+    assert!(rt; writes(rt.alloc(), lines, "abd", "1 0\n")?);
+    Ok(())
 }
 
 /// Whether a run of a kind over a dictionary text ends with a refusal of its head, and writes nothing.

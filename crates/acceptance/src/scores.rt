@@ -127,29 +127,29 @@ fn odd_values_denote_opportunities(rt: HostRuntime) {
     }
 }
 
-/// Whether a run writes this line of the values of a word.
-fn writes(alloc: Global, word: &str, line: &str) -> Option<bool> {
-    let language = Language::from_code("en-gb")?;
+/// Whether a run in this language writes this line of the values of a word.
+fn writes(alloc: Global, language: Language, word: &str, line: &str) -> bool {
     let mut reader = FIRKIN.as_bytes();
     let mut written: Vec<u8> = Vec::new(alloc);
-    run_score(
+    let end = run_score(
         alloc,
         Kind::Standard,
         language,
         word,
         &mut reader,
         &mut written,
-    )
-    .ok()?;
-    Some(written.as_slice() == line.as_bytes())
+    );
+    end.is_ok() && written.as_slice() == line.as_bytes()
 }
 
 #[test]
-fn a_run_writes_the_values_of_the_word_as_it_is_handed_in(rt: HostRuntime) {
-    assert_eq!(rt; writes(rt.alloc(), "firkin", "0 2 5 2 0\n"), Some(true));
-    assert_eq!(rt; writes(rt.alloc(), "firkins", "0 2 5 1 0 0\n"), Some(true));
-    assert_eq!(rt; writes(rt.alloc(), "FIRKIN", "0 0 0 0 0\n"), Some(true));
-    assert_eq!(rt; writes(rt.alloc(), "", "\n"), Some(true));
+fn a_run_writes_the_values_of_the_word_as_it_is_handed_in(rt: HostRuntime) -> Result<(), Fail> {
+    let language = Language::from_code("en-gb").ok_or("a code")?;
+    assert!(rt; writes(rt.alloc(), language, "firkin", "0 2 5 2 0\n"));
+    assert!(rt; writes(rt.alloc(), language, "firkins", "0 2 5 1 0 0\n"));
+    assert!(rt; writes(rt.alloc(), language, "FIRKIN", "0 0 0 0 0\n"));
+    assert!(rt; writes(rt.alloc(), language, "", "\n"));
+    Ok(())
 }
 
 #[test]
