@@ -1,8 +1,7 @@
 //! Beginnings of a text, read whole or a byte at a time; and extended dictionaries of readers that fail.
 
-use crate::answers::values;
-use crate::changes::extended;
 use crate::run_faults::{LEAST, is_torn, torn};
+use answers::{extended, values};
 use hyphenation::extended::Extended;
 use hyphenation::load::{Cause, Error, Load};
 use hyphenation::{Standard, hyphenate_text};

@@ -1,6 +1,6 @@
 //! Which extended texts are refused, with which line and cause, and which are accepted.
 
-use crate::changes::{extended, text_of};
+use answers::{extended, extended_text};
 use hyphenation::extended::Extended;
 use hyphenation::load::{Cause, Error, Load};
 use hyphenation::{Language, Standard};
@@ -54,7 +54,7 @@ fn changes_that_fit_are_accepted(rt: HostRuntime) {
 
 #[test]
 fn a_text_of_the_other_kind_is_refused_at_its_head(rt: HostRuntime) -> Result<(), Fail> {
-    let text = text_of(rt.alloc(), "2 2", "e ab 1")?;
+    let text = extended_text(rt.alloc(), "2 2", "e ab 1")?;
     let mut reader = text.as_bytes();
     assert!(rt;
         matches!(
@@ -80,7 +80,7 @@ fn a_text_of_the_other_kind_is_refused_at_its_head(rt: HostRuntime) -> Result<()
 
 #[test]
 fn another_language_is_a_mismatch_for_an_extended_text(rt: HostRuntime) -> Result<(), Fail> {
-    let text = text_of(rt.alloc(), "2 2", "e ab 1")?;
+    let text = extended_text(rt.alloc(), "2 2", "e ab 1")?;
     let mut reader = text.as_bytes();
     assert!(rt;
         matches!(

@@ -1,6 +1,6 @@
 //! Readers and writers that fail, and readers that give few bytes at a time.
 
-use crate::texts::FIRKIN;
+use answers::FIRKIN;
 use hyphenation::engine::{Kind, RunError, run_score};
 use hyphenation::load::{Error, Load};
 use hyphenation::{Language, Standard};

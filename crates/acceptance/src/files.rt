@@ -1,7 +1,6 @@
 //! Dictionaries in files, and files of one byte.
 
-use crate::answers::{changed, places};
-use crate::changes::text_of;
+use answers::{AMERICAN, changed, extended_text, places};
 use hyphenation::extended::Extended;
 use hyphenation::load::{Cause, Error, Load};
 use hyphenation::{Language, Standard};
@@ -22,7 +21,7 @@ fn file(rt: &HostRuntime, name: &str, bytes: &[u8]) -> Result<String, Fail> {
 
 /// The standard dictionary of a new file, which is taken away again.
 fn standard_of(rt: &HostRuntime, name: &str, asked: Language) -> Result<Standard, Fail> {
-    let path = file(rt, name, crate::runs::FIRKIN.as_bytes())?;
+    let path = file(rt, name, AMERICAN.as_bytes())?;
     let answer = Standard::from_path(rt, rt.alloc(), asked, &path);
     fs::remove_file(rt, path.as_str())?;
     Ok(answer?)
@@ -38,7 +37,7 @@ fn a_standard_dictionary_is_loaded_from_a_file(rt: HostRuntime) -> Result<(), Fa
 
 #[test]
 fn a_file_of_another_language_is_a_mismatch(rt: HostRuntime) -> Result<(), Fail> {
-    let path = file(&rt, "other", crate::runs::FIRKIN.as_bytes())?;
+    let path = file(&rt, "other", AMERICAN.as_bytes())?;
     let answer = Standard::from_path(&rt, rt.alloc(), Language::turkish(), &path);
     fs::remove_file(&rt, path.as_str())?;
     assert!(rt; matches!(answer, Err(Error::LanguageMismatch { .. })));
@@ -72,7 +71,7 @@ fn extended_of(rt: &HostRuntime, name: &str, text: &str) -> Result<Extended, Fai
 
 #[test]
 fn an_extended_dictionary_is_loaded_from_a_file(rt: HostRuntime) -> Result<(), Fail> {
-    let text = text_of(rt.alloc(), "2 2", "e asszonnyal 2,1,2,2,szsz 6,1,2,2,nyny")?;
+    let text = extended_text(rt.alloc(), "2 2", "e asszonnyal 2,1,2,2,szsz 6,1,2,2,nyny")?;
     let dictionary = extended_of(&rt, "extended", &text)?;
     let found = changed(rt.alloc(), &dictionary, "asszonnyal")?;
     assert_eq!(rt; found.as_str(), "asz=szony=nyal ");

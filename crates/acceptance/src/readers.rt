@@ -1,7 +1,7 @@
 //! Readers that give their bytes in pieces, and readers and writers that fail once and then go on.
 
 use crate::run_faults::{LEAST, failing_once, is_torn};
-use crate::runs::FIRKIN;
+use answers::AMERICAN;
 use hyphenation::engine::{Kind, RunError, run, run_score};
 use hyphenation::extended::Extended;
 use hyphenation::load::{Error, Load};
@@ -97,7 +97,7 @@ fn is_marked(alloc: Global, most: usize) -> bool {
     let mut output: Vec<u8> = Vec::new(alloc);
     let end = marked(
         alloc,
-        &mut in_pieces(FIRKIN.as_bytes(), most),
+        &mut in_pieces(AMERICAN.as_bytes(), most),
         &mut in_pieces(TEXT, most),
         &mut output,
     );
@@ -109,7 +109,7 @@ fn is_filled(alloc: Global, most: usize) -> bool {
     let mut output: Vec<u8> = Vec::new(alloc);
     let end = filled(
         alloc,
-        &mut in_pieces(FIRKIN.as_bytes(), most),
+        &mut in_pieces(AMERICAN.as_bytes(), most),
         &mut in_pieces(TEXT, most),
         &mut output,
     );
@@ -118,7 +118,7 @@ fn is_filled(alloc: Global, most: usize) -> bool {
 
 #[test]
 fn the_sizes_of_the_reads_change_nothing(rt: HostRuntime) {
-    let whole = FIRKIN.len();
+    let whole = AMERICAN.len();
     for most in [1, 2, 3, whole - 1, whole, TEXT.len() - 1, TEXT.len()] {
         assert!(rt; is_marked(rt.alloc(), most), "{most}");
         assert!(rt; is_filled(rt.alloc(), most), "{most}");
@@ -184,7 +184,7 @@ fn tells_input(end: &Result<(), RunError>, kind: ErrorKind) -> bool {
 /// Whether a run whose dictionary's read of this number fails so tells it, and writes nothing.
 fn is_dictionary_told(alloc: Global, number: usize, kind: ErrorKind) -> bool {
     let mut output: Vec<u8> = Vec::new(alloc);
-    let mut dictionary = once(FIRKIN.as_bytes(), number, kind);
+    let mut dictionary = once(AMERICAN.as_bytes(), number, kind);
     let end = marked(alloc, &mut dictionary, &mut &TEXT[..], &mut output);
     output.is_empty() && tells_dictionary(&end, kind)
 }
@@ -193,7 +193,7 @@ fn is_dictionary_told(alloc: Global, number: usize, kind: ErrorKind) -> bool {
 fn is_input_told(alloc: Global, number: usize, kind: ErrorKind) -> bool {
     let mut output: Vec<u8> = Vec::new(alloc);
     let mut input = once(TEXT, number, kind);
-    let end = marked(alloc, &mut FIRKIN.as_bytes(), &mut input, &mut output);
+    let end = marked(alloc, &mut AMERICAN.as_bytes(), &mut input, &mut output);
     output.is_empty() && tells_input(&end, kind)
 }
 
@@ -201,7 +201,7 @@ fn is_input_told(alloc: Global, number: usize, kind: ErrorKind) -> bool {
 fn is_lines_input_told(alloc: Global, number: usize, kind: ErrorKind) -> bool {
     let mut output: Vec<u8> = Vec::new(alloc);
     let mut input = once(TEXT, number, kind);
-    let end = filled(alloc, &mut FIRKIN.as_bytes(), &mut input, &mut output);
+    let end = filled(alloc, &mut AMERICAN.as_bytes(), &mut input, &mut output);
     output.is_empty() && tells_input(&end, kind)
 }
 
@@ -232,7 +232,7 @@ fn is_made_again(alloc: Global, number: usize) -> bool {
     let kind = ErrorKind::Interrupted;
     let end = marked(
         alloc,
-        &mut once(FIRKIN.as_bytes(), number, kind),
+        &mut once(AMERICAN.as_bytes(), number, kind),
         &mut once(TEXT, number, kind),
         &mut output,
     );
@@ -285,14 +285,14 @@ fn interrupting(alloc: Global, until: usize) -> Interrupted {
 /// Whether a writer whose write of this number is interrupted gets the marked text.
 fn marks_again(alloc: Global, until: usize) -> bool {
     let mut output = interrupting(alloc, until);
-    let end = marked(alloc, &mut FIRKIN.as_bytes(), &mut &TEXT[..], &mut output);
+    let end = marked(alloc, &mut AMERICAN.as_bytes(), &mut &TEXT[..], &mut output);
     end.is_ok() && output.taken.as_slice() == MARKED
 }
 
 /// Whether such a writer gets the lines.
 fn fills_again(alloc: Global, until: usize) -> bool {
     let mut output = interrupting(alloc, until);
-    let end = filled(alloc, &mut FIRKIN.as_bytes(), &mut &TEXT[..], &mut output);
+    let end = filled(alloc, &mut AMERICAN.as_bytes(), &mut &TEXT[..], &mut output);
     end.is_ok() && output.taken.as_slice() == LINES
 }
 
@@ -314,7 +314,7 @@ fn a_write_that_fails_once_ends_a_line_of_values(rt: HostRuntime) {
             Kind::Standard,
             Language::english_us(),
             "firkin",
-            &mut FIRKIN.as_bytes(),
+            &mut AMERICAN.as_bytes(),
             &mut output,
         );
         assert!(rt; matches!(end, Err(RunError::Output(_))), "{number}");

@@ -1,6 +1,6 @@
 //! Runs over readers and writers that fail: each fault is told as it was, and nothing is written before it is known.
 
-use crate::runs::FIRKIN;
+use answers::AMERICAN;
 use hyphenation::engine::{Kind, RunError, run, run_score};
 use hyphenation::load::{Error, Load};
 use hyphenation::{Language, Standard};
@@ -177,7 +177,7 @@ fn a_torn_input_is_told_at_each_read_and_nothing_is_written(rt: HostRuntime) {
         let mut output = failing_once(rt.alloc(), usize::MAX);
         let end = run_with(
             rt.alloc(),
-            &mut FIRKIN.as_bytes(),
+            &mut AMERICAN.as_bytes(),
             &mut torn(TEXT, number),
             &mut output,
         );
@@ -194,7 +194,7 @@ fn readers_of_one_byte_a_read_change_nothing(rt: HostRuntime) {
     let mut output = failing_once(rt.alloc(), usize::MAX);
     let end = run_with(
         rt.alloc(),
-        &mut torn(FIRKIN.as_bytes(), usize::MAX),
+        &mut torn(AMERICAN.as_bytes(), usize::MAX),
         &mut torn(TEXT, usize::MAX),
         &mut output,
     );
@@ -210,7 +210,12 @@ fn an_input_that_wants_memory_is_want_of_memory(rt: HostRuntime) {
         kind: ErrorKind::OutOfMemory,
     };
     let mut output = failing_once(rt.alloc(), usize::MAX);
-    let end = run_with(rt.alloc(), &mut FIRKIN.as_bytes(), &mut input, &mut output);
+    let end = run_with(
+        rt.alloc(),
+        &mut AMERICAN.as_bytes(),
+        &mut input,
+        &mut output,
+    );
     assert!(rt; matches!(end, Err(RunError::Memory)));
     assert_eq!(rt; output.taken.len(), 0);
 }
@@ -221,7 +226,7 @@ fn a_writer_that_fails_once_has_a_beginning_of_the_result(rt: HostRuntime) {
         let mut output = failing_once(rt.alloc(), number);
         let end = run_with(
             rt.alloc(),
-            &mut FIRKIN.as_bytes(),
+            &mut AMERICAN.as_bytes(),
             &mut &TEXT[..],
             &mut output,
         );

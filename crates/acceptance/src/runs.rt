@@ -1,14 +1,11 @@
 //! Whole texts: what a run writes, and why it writes nothing.
 
+use answers::{AMERICAN, DOUBLED};
 use hyphenation::engine::{Kind, RunError, run};
 use hyphenation::load::{Cause, Error, Load};
 use hyphenation::{Language, Standard, hyphenate_text};
 use std::alloc::{AllocError, Global};
 use std::test::Fail;
-
-/// The patterns that occur in `firkin`, in American English.
-pub const FIRKIN: &str =
-    "hyphenation 1 standard\nlanguage en-us\nminima 2 3\np .fi2\np i2r\np r2k\np r5kin\np k1in\np k2in.\n";
 
 /// What a run wrote, and how it ended.
 #[derive(Drop)]
@@ -92,11 +89,11 @@ fn each_piece_between_word_bounds_is_hyphenated(rt: HostRuntime) -> Result<(), F
             "ever-burning sulphur unconsumed",
             "ever-burn-ing sul-phur un-con-sumed",
         ),
-        (FIRKIN, "-", "Firkin, firkins.", "Fir-kin, fir-k-ins."),
-        (FIRKIN, "-", "", ""),
-        (FIRKIN, "=", "fir\u{ad}kin", "fir=\u{ad}kin"),
+        (AMERICAN, "-", "Firkin, firkins.", "Fir-kin, fir-k-ins."),
+        (AMERICAN, "-", "", ""),
+        (AMERICAN, "=", "fir\u{ad}kin", "fir=\u{ad}kin"),
         (
-            FIRKIN,
+            AMERICAN,
             "-",
             "\u{feff}firkin\r\n\0FIRKIN",
             "\u{feff}fir-kin\r\n\0FIR-KIN",
@@ -125,7 +122,7 @@ fn edits_are_done_from_first_to_last(rt: HostRuntime) -> Result<(), Fail> {
         ),
     ];
     for (edits, wanted) in cases {
-        let ran = run_by(rt.alloc(), FIRKIN, edits, "-", b"Firkin, firkins.")?;
+        let ran = run_by(rt.alloc(), AMERICAN, edits, "-", b"Firkin, firkins.")?;
         assert!(rt; ran.end.is_ok(), "{edits:?}");
         assert_eq!(rt; ran.output.as_slice(), wanted.as_bytes(), "{edits:?}");
     }
@@ -157,14 +154,14 @@ fn the_first_edit_that_is_refused_is_told(rt: HostRuntime) -> Result<(), Fail> {
         (&["+a", "+b 2", "+c 2"], 2),
     ];
     for (edits, number) in cases {
-        let ran = run_by(rt.alloc(), FIRKIN, edits, "-", b"Firkin, firkins.")?;
+        let ran = run_by(rt.alloc(), AMERICAN, edits, "-", b"Firkin, firkins.")?;
         assert!(rt;
             matches!(ran.end, Err(RunError::Edit(k)) if k == number),
             "{edits:?}"
         );
         assert_eq!(rt; ran.output.len(), 0, "{edits:?}");
     }
-    let ran = run_by(rt.alloc(), FIRKIN, &["-\\e", "+a\\sb 1"], "-", b"")?;
+    let ran = run_by(rt.alloc(), AMERICAN, &["-\\e", "+a\\sb 1"], "-", b"")?;
     assert!(rt; ran.end.is_ok());
     Ok(())
 }
@@ -194,7 +191,7 @@ fn a_dictionary_is_judged_before_edits_and_text(rt: HostRuntime) -> Result<(), F
 
 #[test]
 fn edits_are_judged_before_the_text(rt: HostRuntime) -> Result<(), Fail> {
-    let ran = run_by(rt.alloc(), FIRKIN, &["+firkins 8"], "-", b"\xff")?;
+    let ran = run_by(rt.alloc(), AMERICAN, &["+firkins 8"], "-", b"\xff")?;
     assert!(rt; matches!(ran.end, Err(RunError::Edit(1))));
     assert_eq!(rt; ran.output.len(), 0);
     Ok(())
@@ -202,15 +199,11 @@ fn edits_are_judged_before_the_text(rt: HostRuntime) -> Result<(), Fail> {
 
 #[test]
 fn a_text_that_is_not_utf_8_is_refused(rt: HostRuntime) -> Result<(), Fail> {
-    let ran = run_by(rt.alloc(), FIRKIN, &["-other"], "-", b"firkin \xff")?;
+    let ran = run_by(rt.alloc(), AMERICAN, &["-other"], "-", b"firkin \xff")?;
     assert!(rt; matches!(ran.end, Err(RunError::TextNotUtf8)));
     assert_eq!(rt; ran.output.len(), 0);
     Ok(())
 }
-
-/// Doubled letters that come back where a word is broken, in Hungarian.
-pub const DOUBLED: &str =
-    "hyphenation 1 extended\nlanguage hu\nminima 2 2\ne asszonnyal 2,1,2,2,szsz 6,1,2,2,nyny\n";
 
 #[test]
 fn letters_are_changed_where_a_text_is_broken(rt: HostRuntime) -> Result<(), Fail> {
@@ -278,7 +271,7 @@ fn appended(alloc: Global, dictionary: &Standard) -> Result<String, AllocError> 
 
 #[test]
 fn a_text_is_appended_by_a_loaded_dictionary(rt: HostRuntime) -> Result<(), Fail> {
-    let mut reader = FIRKIN.as_bytes();
+    let mut reader = AMERICAN.as_bytes();
     let dictionary = Standard::any_from_reader(rt.alloc(), &mut reader)?;
     let page = appended(rt.alloc(), &dictionary)?;
     assert_eq!(rt; page.as_str(), "Ale: Fir-kin, fir-k-ins. Firkin");

@@ -8,10 +8,6 @@ use std::test::Fail;
 /// Three complete head lines.
 const HEAD: &str = "hyphenation 1 standard\nlanguage en-us\nminima 2 3\n";
 
-/// The patterns that occur in `firkin`.
-pub const FIRKIN: &str =
-    "hyphenation 1 standard\nlanguage en-gb\nminima 2 3\np .fi2\np i2r\np r2k\np r5kin\np k1in\np k2in.\n";
-
 /// The dictionary of a text, which has to be accepted.
 fn accepted(alloc: Global, text: &[u8]) -> Result<Standard, Error> {
     let mut reader = text;

@@ -1,7 +1,6 @@
 //! Texts of version 2, in which values from 10 to 255 stand in braces, and what version 1 says to braces.
 
-use crate::answers::{places, values, winners};
-use crate::scores::values_by;
+use answers::{places, values, values_by, winners};
 use hyphenation::extended::Extended;
 use hyphenation::load::{Cause, Error, Load};
 use hyphenation::{Language, Standard};

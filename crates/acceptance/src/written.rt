@@ -1,7 +1,6 @@
 //! Dictionaries written again: the order of lines, escapes, and the choice of the version.
 
-use crate::answers::{places, standard};
-use crate::exceptions::listing;
+use answers::{listing, places, rewritten, standard};
 use hyphenation::extended::Extended;
 use hyphenation::load::{Error, Load};
 use hyphenation::{Language, Standard};
@@ -9,15 +8,6 @@ use std::alloc::{AllocError, Global};
 use std::io;
 use std::io::{ErrorKind, Write};
 use std::test::Fail;
-
-/// What is written of the dictionary of that text.
-pub fn rewritten<D: Load + Drop>(alloc: Global, text: &[u8]) -> Result<Vec<u8>, Error> {
-    let mut reader = text;
-    let dictionary = D::any_from_reader(alloc, &mut reader)?;
-    let mut written = Vec::new(alloc);
-    dictionary.to_writer(alloc, &mut written)?;
-    Ok(written)
-}
 
 /// A text of that head, of American English with the minima 2 and 3, and these lines.
 fn text_of(alloc: Global, head: &str, lines: &str) -> Result<String, AllocError> {

@@ -1,11 +1,9 @@
 //! Long words, keys, lists and texts: with ample memory each call answers, and never that memory was refused.
 
-use crate::answers::{places, standard, told_if};
 use crate::awkward::{broken, placed, scored};
-use crate::changes::{changed_by, exception, extended};
-use crate::runs::{DOUBLED, FIRKIN};
+use crate::changes::{changed_by, exception};
 use crate::scores::counted;
-use crate::written::rewritten;
+use answers::{AMERICAN, DOUBLED, extended, places, rewritten, standard, told_if};
 use hyphenation::engine::{Kind, run};
 use hyphenation::extended::Extended;
 use hyphenation::hyphenator::Hyphenator;
@@ -300,7 +298,7 @@ fn is_run(
 #[test]
 fn a_text_of_a_million_bytes_is_run(rt: HostRuntime) -> Result<(), Fail> {
     let (piece, wanted) = ("Firkin, firkins. ", "Fir-kin, fir-k-ins. ");
-    assert!(rt; is_run(rt.alloc(), Kind::Standard, FIRKIN, piece, wanted)?);
+    assert!(rt; is_run(rt.alloc(), Kind::Standard, AMERICAN, piece, wanted)?);
     Ok(())
 }
 
@@ -315,7 +313,7 @@ fn a_text_of_a_million_bytes_is_run_and_changed(rt: HostRuntime) -> Result<(), F
 fn is_filled(alloc: Global) -> Result<bool, AllocError> {
     let input = repeated(alloc, "fir ", 262_500)?;
     let wanted = repeated(alloc, "fir \n", 262_500)?;
-    let mut dictionary = FIRKIN.as_bytes();
+    let mut dictionary = AMERICAN.as_bytes();
     let mut reader = input.as_bytes();
     let mut output: Vec<u8> = Vec::new(alloc);
     let language = Language::english_us();

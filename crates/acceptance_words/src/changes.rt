@@ -1,6 +1,6 @@
 //! How words are broken by extended dictionaries, whose breaks may change the letters around them.
 
-use crate::answers::{changed, places, push_next, told, told_if};
+use answers::{changed, extended, places, push_next, told, told_if};
 use hyphenation::Load;
 use hyphenation::extended::{Extended, Subregion};
 use hyphenation::hyphenator::{Hyphenator, Word};
@@ -8,18 +8,6 @@ use hyphenation::load::Error;
 use std::alloc::{AllocError, Global};
 use std::borrow::CowStr;
 use std::test::Fail;
-
-/// The dictionary of an extended text of these minima and these lines.
-pub fn extended(alloc: Global, minima: &str, lines: &str) -> Result<Extended, Error> {
-    let text = text_of(alloc, minima, lines).map_err(Error::Memory)?;
-    let mut reader = text.as_bytes();
-    Extended::any_from_reader(alloc, &mut reader)
-}
-
-/// An extended text of these minima and these lines.
-pub fn text_of(alloc: Global, minima: &str, lines: &str) -> Result<String, AllocError> {
-    format!(in alloc; "hyphenation 1 extended\nlanguage hu\nminima {minima}\n{lines}\n")
-}
 
 /// Words that a space parts, as an extended dictionary of these minima and these lines breaks and changes them.
 pub fn changed_by(alloc: Global, minima: &str, lines: &str, words: &str) -> Result<String, Fail> {

@@ -1,26 +1,12 @@
 //! The scores of words, and how many look-ups they take.
 
-use crate::answers::{standard, values};
-use crate::texts::FIRKIN;
+use answers::{FIRKIN, dictionary, standard, values, values_by};
 use hyphenation::engine::{Kind, run_score};
 use hyphenation::load::{Error, Load};
 use hyphenation::score::{LookUps, Score};
 use hyphenation::{Language, Standard};
 use std::alloc::Global;
 use std::test::Fail;
-
-/// The dictionary of a text.
-pub fn dictionary(alloc: Global, text: &str) -> Result<Standard, Error> {
-    let mut reader = text.as_bytes();
-    Standard::any_from_reader(alloc, &mut reader)
-}
-
-/// The values of words by a standard dictionary of these lines.
-pub fn values_by(alloc: Global, lines: &str, words: &str) -> Result<String, Fail> {
-    let dictionary = standard(alloc, "0 0", lines)?;
-    let found = values(alloc, &dictionary, words)?;
-    Ok(found)
-}
 
 #[test]
 fn the_greatest_value_decides_each_place(rt: HostRuntime) -> Result<(), Fail> {

@@ -1,7 +1,6 @@
 //! The scores of words by extended dictionaries, and the values alone that a run writes.
 
-use crate::answers::winners;
-use crate::changes::{extended, text_of};
+use answers::{FIRKIN, extended, extended_text, winners};
 use hyphenation::Language;
 use hyphenation::engine::{Kind, RunError, run_score};
 use hyphenation::load::{Cause, Error};
@@ -70,7 +69,7 @@ fn a_changed_score_takes_few_look_ups(rt: HostRuntime) -> Result<(), Fail> {
 
 /// Whether a run over an extended text of these lines writes this line of the values of a word.
 fn writes(alloc: Global, lines: &str, word: &str, line: &str) -> Result<bool, AllocError> {
-    let text = text_of(alloc, "1 1", lines)?;
+    let text = extended_text(alloc, "1 1", lines)?;
     let mut reader = text.as_bytes();
     let mut written: Vec<u8> = Vec::new(alloc);
     let end = run_score(
@@ -113,8 +112,8 @@ fn is_refused(alloc: Global, kind: Kind, text: &str) -> bool {
 
 #[test]
 fn a_run_takes_a_text_of_its_kind_alone(rt: HostRuntime) -> Result<(), Fail> {
-    let text = text_of(rt.alloc(), "1 1", "p a1b")?;
+    let text = extended_text(rt.alloc(), "1 1", "p a1b")?;
     assert!(rt; is_refused(rt.alloc(), Kind::Standard, &text));
-    assert!(rt; is_refused(rt.alloc(), Kind::Extended, crate::texts::FIRKIN));
+    assert!(rt; is_refused(rt.alloc(), Kind::Extended, FIRKIN));
     Ok(())
 }

@@ -1,6 +1,6 @@
 //! Long words: breaks are carried back and fitted in time that grows with the word.
 
-use crate::changes::extended;
+use answers::extended;
 use hyphenation::hyphenator::{Break, Hyphenator};
 use hyphenation::{Load, Standard};
 use std::alloc::{AllocError, Global};

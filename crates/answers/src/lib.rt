@@ -1,4 +1,5 @@
-//! What dictionaries answer, each answer as one text that a test compares.
+//! What dictionaries answer, each answer as one text that a test compares; and the dictionaries that several tests ask.
+#![tactic(auto)]
 
 use hyphenation::Standard;
 use hyphenation::extended::{Extended, Subregion};
@@ -7,6 +8,24 @@ use hyphenation::iter::{Hyphenating, Texts};
 use hyphenation::load::{Error, Load};
 use hyphenation::score::Score;
 use std::alloc::{AllocError, Global};
+
+/// The patterns that occur in `firkin`.
+pub const FIRKIN: &str =
+    "hyphenation 1 standard\nlanguage en-gb\nminima 2 3\np .fi2\np i2r\np r2k\np r5kin\np k1in\np k2in.\n";
+
+/// The patterns that occur in `firkin`, in American English.
+pub const AMERICAN: &str =
+    "hyphenation 1 standard\nlanguage en-us\nminima 2 3\np .fi2\np i2r\np r2k\np r5kin\np k1in\np k2in.\n";
+
+/// Doubled letters that come back where a word is broken, in Hungarian.
+pub const DOUBLED: &str =
+    "hyphenation 1 extended\nlanguage hu\nminima 2 2\ne asszonnyal 2,1,2,2,szsz 6,1,2,2,nyny\n";
+
+/// The dictionary of a text.
+pub fn dictionary(alloc: Global, text: &str) -> Result<Standard, Error> {
+    let mut reader = text.as_bytes();
+    Standard::any_from_reader(alloc, &mut reader)
+}
 
 /// The standard dictionary of a text of these minima and these lines.
 pub fn standard(alloc: Global, minima: &str, lines: &str) -> Result<Standard, Error> {
@@ -18,6 +37,18 @@ pub fn standard(alloc: Global, minima: &str, lines: &str) -> Result<Standard, Er
 /// A standard text of these minima and these lines.
 fn standard_text(alloc: Global, minima: &str, lines: &str) -> Result<String, AllocError> {
     format!(in alloc; "hyphenation 1 standard\nlanguage x\nminima {minima}\n{lines}\n")
+}
+
+/// The dictionary of an extended text of these minima and these lines.
+pub fn extended(alloc: Global, minima: &str, lines: &str) -> Result<Extended, Error> {
+    let text = extended_text(alloc, minima, lines).map_err(Error::Memory)?;
+    let mut reader = text.as_bytes();
+    Extended::any_from_reader(alloc, &mut reader)
+}
+
+/// An extended text of these minima and these lines.
+pub fn extended_text(alloc: Global, minima: &str, lines: &str) -> Result<String, AllocError> {
+    format!(in alloc; "hyphenation 1 extended\nlanguage hu\nminima {minima}\n{lines}\n")
 }
 
 /// Each of these breaks with a space behind it: its place, and what it substitutes.
@@ -138,6 +169,12 @@ pub fn values(alloc: Global, dictionary: &Standard, words: &str) -> Result<Strin
     Ok(output)
 }
 
+/// The values of words by a standard dictionary of these lines.
+pub fn values_by(alloc: Global, lines: &str, words: &str) -> Result<String, Error> {
+    let dictionary = standard(alloc, "0 0", lines)?;
+    values(alloc, &dictionary, words).map_err(Error::Memory)
+}
+
 /// What a change puts in place of its range.
 fn substitution<'d>(change: Option<&'d Subregion>) -> &'d str {
     match change {
@@ -185,4 +222,31 @@ pub fn push_next<I: Texts>(
         None => output.push_str("none")?,
     }
     output.push(',')
+}
+
+/// Lists one place for `firkins`, where it fits; the old list.
+pub fn list(alloc: Global, dictionary: &mut Standard, place: usize) -> Result<String, AllocError> {
+    let word = String::from_str(alloc, "firkins")?;
+    let places = vec![in alloc; place; 1]?;
+    if Standard::fits(&word, &places) {
+        told_if(alloc, dictionary.add_exception(word, places)?)
+    } else {
+        String::from_str(alloc, "unfit")
+    }
+}
+
+/// The dictionary of patterns, with the place 3 listed for `firkins`.
+pub fn listing(alloc: Global) -> Result<Standard, Error> {
+    let mut firkin = dictionary(alloc, FIRKIN)?;
+    let _none = list(alloc, &mut firkin, 3).map_err(Error::Memory)?;
+    Ok(firkin)
+}
+
+/// What is written of the dictionary of that text.
+pub fn rewritten<D: Load + Drop>(alloc: Global, text: &[u8]) -> Result<Vec<u8>, Error> {
+    let mut reader = text;
+    let dictionary = D::any_from_reader(alloc, &mut reader)?;
+    let mut written = Vec::new(alloc);
+    dictionary.to_writer(alloc, &mut written)?;
+    Ok(written)
 }

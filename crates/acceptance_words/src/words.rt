@@ -1,8 +1,6 @@
 //! How words are broken by dictionaries that are read from texts.
 
-use crate::answers::{marked, places};
-use crate::scores::dictionary;
-use crate::texts::FIRKIN;
+use answers::{FIRKIN, dictionary, marked, places};
 use hyphenation::Standard;
 use hyphenation::hyphenator::{Hyphenator, Word};
 use hyphenation::iter::Iter;

@@ -1,8 +1,6 @@
 //! Exceptions, as a text lists them and as callers add and remove them.
 
-use crate::answers::{places, standard, told, told_if};
-use crate::scores::dictionary;
-use crate::texts::FIRKIN;
+use answers::{FIRKIN, dictionary, list, listing, places, standard, told, told_if};
 use hyphenation::Standard;
 use hyphenation::hyphenator::Hyphenator;
 use hyphenation::load::Error;
@@ -11,24 +9,6 @@ use std::test::Fail;
 
 const ANISOTROPIC: &str =
     "hyphenation 1 standard\nlanguage en-us\nminima 2 3\ne anisotropic 2 5 9\ne ab 1\ne Upper 3\n";
-
-/// Lists one place for `firkins`, where it fits; the old list.
-fn list(alloc: Global, dictionary: &mut Standard, place: usize) -> Result<String, AllocError> {
-    let word = String::from_str(alloc, "firkins")?;
-    let places = vec![in alloc; place; 1]?;
-    if Standard::fits(&word, &places) {
-        told_if(alloc, dictionary.add_exception(word, places)?)
-    } else {
-        String::from_str(alloc, "unfit")
-    }
-}
-
-/// The dictionary of patterns, with the place 3 listed for `firkins`.
-pub fn listing(alloc: Global) -> Result<Standard, Error> {
-    let mut firkin = dictionary(alloc, FIRKIN)?;
-    let _none = list(alloc, &mut firkin, 3).map_err(Error::Memory)?;
-    Ok(firkin)
-}
 
 #[test]
 fn an_added_word_decides_alone(rt: HostRuntime) -> Result<(), Fail> {

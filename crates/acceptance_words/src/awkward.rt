@@ -1,12 +1,11 @@
 //! Awkward words: dots, edges, soft hyphens, NUL, combining characters, joined emoji, and the least and the greatest
 //! minima. Each is asked of dictionaries of both kinds.
 
-use crate::answers::{marked, places, push_next, standard};
 use crate::changed_scores::winners_by;
 use crate::changes;
-use crate::changes::{changed_by, extended, places_by};
+use crate::changes::{changed_by, places_by};
 use crate::long_texts::repeated;
-use crate::scores::values_by;
+use answers::{extended, marked, places, push_next, standard, values_by};
 use hyphenation::Standard;
 use hyphenation::hyphenator::Hyphenator;
 use hyphenation::load::Error;
