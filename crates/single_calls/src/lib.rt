@@ -13,6 +13,8 @@ mod lines;
 #[cfg(test)]
 mod long_patterns;
 #[cfg(test)]
+mod readme;
+#[cfg(test)]
 mod segments;
 #[cfg(test)]
 mod soft_hyphens;
