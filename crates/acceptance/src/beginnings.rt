@@ -66,7 +66,7 @@ fn a_torn_extended_dictionary_is_a_fault_of_reading_at_each_read(rt: HostRuntime
     assert!(rt; whole.is_ok());
 }
 
-/// A text behind another, hyphenated by an extended dictionary.
+/// A text after another, hyphenated by an extended dictionary.
 fn appended(alloc: Global, dictionary: &Extended) -> Result<String, AllocError> {
     let mut page = String::from_str(alloc, "(")?;
     hyphenate_text(&mut page, alloc, dictionary, "Az asszonnyal.", "-")?;

@@ -322,7 +322,7 @@ fn a_write_that_fails_once_ends_a_line_of_values(rt: HostRuntime) {
     }
 }
 
-/// Whether a dictionary's writing ends with the fault of the write of this number, behind the bytes before it.
+/// Whether a dictionary's writing ends with the fault of the write of this number, after the bytes before it.
 fn is_cut(alloc: Global, dictionary: &Extended, text: &[u8], number: usize) -> bool {
     let mut output = failing_once(alloc, number);
     let end = dictionary.to_writer(alloc, &mut output);

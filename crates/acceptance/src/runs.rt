@@ -260,7 +260,7 @@ fn edits_of_an_extended_dictionary_are_judged_by_its_kind(rt: HostRuntime) -> Re
     Ok(())
 }
 
-/// Three texts behind another, hyphenated by a dictionary.
+/// Three texts after another, hyphenated by a dictionary.
 fn appended(alloc: Global, dictionary: &Standard) -> Result<String, AllocError> {
     let mut page = String::from_str(alloc, "Ale: ")?;
     hyphenate_text(&mut page, alloc, dictionary, "Firkin, firkins.", "-")?;

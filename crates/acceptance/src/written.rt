@@ -112,7 +112,7 @@ fn an_extended_text_is_written_as_is_canonical(rt: HostRuntime) -> Result<(), Fa
 }
 
 #[test]
-fn exceptions_of_an_extended_text_are_written_behind_its_patterns(
+fn exceptions_of_an_extended_text_are_written_after_its_patterns(
     rt: HostRuntime,
 ) -> Result<(), Fail> {
     let is_so = is_written::<Extended>(
@@ -213,7 +213,7 @@ impl Write for Narrow {
     }
 }
 
-/// Whether a dictionary's writing ends with a fault of this kind at the write of this number, behind a beginning of its
+/// Whether a dictionary's writing ends with a fault of this kind at the write of this number, after a beginning of its
 /// text.
 fn is_told(
     alloc: Global,
@@ -250,7 +250,7 @@ fn a_fault_of_the_writer_is_told(rt: HostRuntime) -> Result<(), Fail> {
     Ok(())
 }
 
-/// Whether a writer whose fault would come behind the last byte gets the whole text.
+/// Whether a writer whose fault would come after the last byte gets the whole text.
 fn is_taken(alloc: Global) -> Result<bool, Error> {
     let dictionary = standard(alloc, "2 3", "p a1b")?;
     let text = b"hyphenation 1 standard\nlanguage x\nminima 2 3\np a1b\n";

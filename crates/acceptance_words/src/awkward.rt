@@ -22,7 +22,7 @@ fn of_both(alloc: Global, plain: String, changed: String) -> Result<String, Allo
 }
 
 /// Words as dictionaries of both kinds, of these minima and these lines, break them: each with `=` at its breaks and a
-/// space behind it.
+/// space after it.
 pub fn broken(alloc: Global, minima: &str, lines: &str, words: &str) -> Result<String, Fail> {
     let dictionary = standard(alloc, minima, lines)?;
     let plain = marked(alloc, &dictionary, words)?;
@@ -30,14 +30,14 @@ pub fn broken(alloc: Global, minima: &str, lines: &str, words: &str) -> Result<S
     Ok(of_both(alloc, plain, changed)?)
 }
 
-/// The values of words by dictionaries of both kinds of these lines, a comma behind those of each word.
+/// The values of words by dictionaries of both kinds of these lines, a comma after those of each word.
 pub fn scored(alloc: Global, lines: &str, words: &str) -> Result<String, Fail> {
     let plain = values_by(alloc, lines, words)?;
     let changed = winners_by(alloc, lines, words)?;
     Ok(of_both(alloc, plain, changed)?)
 }
 
-/// The places of the breaks of words by dictionaries of both kinds, a comma behind those of each word.
+/// The places of the breaks of words by dictionaries of both kinds, a comma after those of each word.
 pub fn placed(alloc: Global, minima: &str, lines: &str, words: &str) -> Result<String, Fail> {
     let dictionary = standard(alloc, minima, lines)?;
     let plain = places(alloc, &dictionary, words)?;
@@ -222,7 +222,7 @@ const FAMILY: &str = "\u{1f468}\u{200d}\u{1f469}\u{200d}\u{1f467}";
 
 // the joiner that is meant has seven bytes before its end
 #[test]
-fn joined_emoji_are_broken_behind_a_joiner(rt: HostRuntime) -> Result<(), Fail> {
+fn joined_emoji_are_broken_after_a_joiner(rt: HostRuntime) -> Result<(), Fail> {
     let line = "p \u{200d}1\u{1f469}";
     let found = broken(rt.alloc(), "1 1", line, FAMILY)?;
     assert_eq!(rt;
@@ -263,7 +263,7 @@ fn of_letters(alloc: Global, minima: &str, number: usize) -> Result<String, Fail
     placed(alloc, minima, "p a1a", &word)
 }
 
-// 255 letters before a break and 255 behind it are 510
+// 255 letters before a break and 255 after it are 510
 #[test]
 fn the_greatest_minima_leave_510_letters_one_break(rt: HostRuntime) -> Result<(), Fail> {
     assert_eq!(rt; of_letters(rt.alloc(), "255 255", 509)?.as_str(), ",");
@@ -323,7 +323,7 @@ fn capitals_are_broken_alike_by_both_kinds(rt: HostRuntime) -> Result<(), Fail> 
     Ok(())
 }
 
-/// The items of a word, the second and later ones with another mark, each behind the number of those that are left.
+/// The items of a word, the second and later ones with another mark, each after the number of those that are left.
 fn marked_anew(alloc: Global, dictionary: &Standard, word: &str) -> Result<String, AllocError> {
     let found = dictionary.hyphenate(alloc, word)?;
     let number = found.breaks.len().saturating_add(3);
@@ -360,7 +360,7 @@ fn the_empty_word_is_one_item_of_an_extended_dictionary(rt: HostRuntime) -> Resu
     Ok(())
 }
 
-/// The items of a word with nothing at its breaks, a comma behind each.
+/// The items of a word with nothing at its breaks, a comma after each.
 fn unmarked(alloc: Global, dictionary: &Standard, word: &str) -> Result<String, AllocError> {
     let mut items = dictionary.hyphenate(alloc, word)?.into_iter();
     items.mark_with("");

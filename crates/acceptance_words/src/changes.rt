@@ -173,7 +173,7 @@ fn segments_beside_no_change_are_lent(rt: HostRuntime) -> Result<(), Fail> {
     Ok(())
 }
 
-/// The items of a word, the second and later ones with the mark `=`, each behind the number of those that are left; two
+/// The items of a word, the second and later ones with the mark `=`, each after the number of those that are left; two
 /// more are asked for than there are.
 pub fn marked_anew(alloc: Global, dictionary: &Extended, word: &str) -> Result<String, AllocError> {
     let found = dictionary.hyphenate(alloc, word)?;

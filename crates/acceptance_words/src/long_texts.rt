@@ -236,7 +236,7 @@ fn an_empty_list_is_added(rt: HostRuntime) -> Result<(), Fail> {
     Ok(())
 }
 
-/// The lines of exceptions `word0`, `word1` and so on, each broken behind its letters.
+/// The lines of exceptions `word0`, `word1` and so on, each broken after its letters.
 fn numbered(alloc: Global, number: usize) -> Result<String, AllocError> {
     let mut lines = String::new(alloc);
     for each in 0..number {
@@ -328,7 +328,7 @@ fn is_filled(alloc: Global) -> Result<bool, AllocError> {
     Ok(end.is_ok() && output.as_slice() == wanted.as_bytes())
 }
 
-// two words have eight characters with the space behind the second
+// two words have eight characters with the space after the second
 #[test]
 fn a_text_of_a_million_bytes_is_filled(rt: HostRuntime) -> Result<(), Fail> {
     assert!(rt; is_filled(rt.alloc())?);

@@ -7,8 +7,8 @@ use std::alloc::{AllocError, Global};
 use std::process::Abort;
 use std::test::Fail;
 
-/// Asserts that a word of 20,000 letters `İ` is broken behind each of them but the last. Each has two bytes, and the
-/// `i` that it becomes one, so that each shifts the places behind it.
+/// Asserts that a word of 20,000 letters `İ` is broken after each of them but the last. Each has two bytes, and the
+/// `i` that it becomes one, so that each shifts the places after it.
 fn assert_long_word<'h, H: Hyphenator<'h>>(
     rt: &impl Abort,
     alloc: Global,

@@ -57,7 +57,7 @@ fn capitals_break_where_their_small_letters_do(rt: HostRuntime) -> Result<(), Fa
 }
 
 #[test]
-fn places_behind_letters_of_another_length_are_carried_back(rt: HostRuntime) -> Result<(), Fail> {
+fn places_after_letters_of_another_length_are_carried_back(rt: HostRuntime) -> Result<(), Fail> {
     assert_eq!(rt;
         places_by(rt.alloc(), SHORT, "İẞab ȺAB")?.as_str(),
         "5 ,3 ,"

@@ -51,7 +51,7 @@ pub fn extended_text(alloc: Global, minima: &str, lines: &str) -> Result<String,
     format!(in alloc; "hyphenation 1 extended\nlanguage hu\nminima {minima}\n{lines}\n")
 }
 
-/// Each of these breaks with a space behind it: its place, and what it substitutes.
+/// Each of these breaks with a space after it: its place, and what it substitutes.
 pub fn told<B: Break>(alloc: Global, breaks: &[B]) -> Result<String, AllocError> {
     let mut told = String::new(alloc);
     for one in breaks {
@@ -81,7 +81,7 @@ fn push_breaks<'h, H: Hyphenator<'h>>(
     output.push_str(&breaks)
 }
 
-/// The breaks of words that a space parts, with a comma behind those of each word.
+/// The breaks of words that a space parts, with a comma after those of each word.
 pub fn places<'h, H: Hyphenator<'h>>(
     alloc: Global,
     dictionary: &'h H,
@@ -110,7 +110,7 @@ fn push_items(
     Ok(())
 }
 
-/// Words that a space parts, each as its items with the mark `=`, and a space behind it.
+/// Words that a space parts, each as its items with the mark `=`, and a space after it.
 pub fn marked(alloc: Global, dictionary: &Standard, words: &str) -> Result<String, AllocError> {
     let mut output = String::new(alloc);
     for word in words.split(' ') {
@@ -135,7 +135,7 @@ fn push_changed(
     Ok(())
 }
 
-/// Words that a space parts, each as its items, changed, with the mark `=`, and a space behind it.
+/// Words that a space parts, each as its items, changed, with the mark `=`, and a space after it.
 pub fn changed(alloc: Global, dictionary: &Extended, words: &str) -> Result<String, AllocError> {
     let mut output = String::new(alloc);
     for word in words.split(' ') {
@@ -145,7 +145,7 @@ pub fn changed(alloc: Global, dictionary: &Extended, words: &str) -> Result<Stri
     Ok(output)
 }
 
-/// Writes the values of a word's places, each with a space behind it.
+/// Writes the values of a word's places, each with a space after it.
 fn push_values(
     output: &mut String,
     alloc: Global,
@@ -159,7 +159,7 @@ fn push_values(
     Ok(())
 }
 
-/// The values of the places of words that a space parts, with a comma behind those of each word.
+/// The values of the places of words that a space parts, with a comma after those of each word.
 pub fn values(alloc: Global, dictionary: &Standard, words: &str) -> Result<String, AllocError> {
     let mut output = String::new(alloc);
     for word in words.split(' ') {
@@ -183,7 +183,7 @@ fn substitution<'d>(change: Option<&'d Subregion>) -> &'d str {
     }
 }
 
-/// Writes the values of a word's places, each with what its change substitutes and a space behind it.
+/// Writes the values of a word's places, each with what its change substitutes and a space after it.
 fn push_winners(
     output: &mut String,
     alloc: Global,
@@ -197,7 +197,7 @@ fn push_winners(
     Ok(())
 }
 
-/// The values of the places of words that a space parts, each with what its change substitutes; a comma behind those
+/// The values of the places of words that a space parts, each with what its change substitutes; a comma after those
 /// of each word.
 pub fn winners(alloc: Global, dictionary: &Extended, words: &str) -> Result<String, AllocError> {
     let mut output = String::new(alloc);

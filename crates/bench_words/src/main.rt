@@ -131,7 +131,7 @@ fn answer(rt: &HostRuntime, words: &[&str]) -> io::Result<u8> {
     }
 }
 
-/// The words behind the program's name are taken, and answered.
+/// The words after the program's name are taken, and answered.
 fn answered(rt: &HostRuntime) -> io::Result<u8> {
     let words: Vec<String> = env::args(rt)?.skip(1).collect(rt.alloc())?;
     let words: Vec<&str> = words.iter().map(|word| word.as_str()).collect(rt.alloc())?;

@@ -204,9 +204,9 @@ impl Book {
         let frame = format!(in alloc; ".{word}.")?;
         let mut winner: Option<Bearing> = None;
         for start in 0..frame.len() {
-            let behind = frame.as_bytes().get(start..).unwrap_or(b"");
+            let after = frame.as_bytes().get(start..).unwrap_or(b"");
             for pattern in &self.patterns {
-                if !behind.starts_with(pattern.key.as_bytes()) {
+                if !after.starts_with(pattern.key.as_bytes()) {
                     continue;
                 }
                 for value in &pattern.values {

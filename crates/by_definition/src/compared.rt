@@ -188,7 +188,7 @@ fn edit_standard(
     })
 }
 
-/// The first of five words that a dictionary by chance does not score and break as its book says, the fifth behind an
+/// The first of five words that a dictionary by chance does not score and break as its book says, the fifth after an
 /// edit of its exceptions; with the dictionary's text.
 fn standard_round(
     alloc: Global,
@@ -300,7 +300,7 @@ fn edit_extended(
     })
 }
 
-/// The first of five words that a dictionary by chance does not score and break as its book says, the fifth behind an
+/// The first of five words that a dictionary by chance does not score and break as its book says, the fifth after an
 /// edit of its exceptions; with the dictionary's text.
 fn extended_round(
     alloc: Global,

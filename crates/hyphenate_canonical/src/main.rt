@@ -78,7 +78,7 @@ fn report_words<E: Write>(fault: &io::Error, faults: &mut E) -> u8 {
     }
 }
 
-/// The words behind the program's name.
+/// The words after the program's name.
 fn words_of(rt: &HostRuntime) -> io::Result<Vec<String>> {
     let words = env::args(rt)?.skip(1).collect(rt.alloc())?;
     Ok(words)

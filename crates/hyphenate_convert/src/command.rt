@@ -6,7 +6,7 @@ mod tests;
 use crate::request::{Misfit, Request, Sort, form_of};
 use hyphenation::engine::Kind;
 use hyphenation::load::{Error, Load};
-use hyphenation_commons::dictionary::{Carried, Listed};
+use hyphenation_commons::dictionary::{Payload, Listing};
 use hyphenation_commons::extended::Subregion;
 use pattern_files::convert::{Converted, convert_with_notes};
 use pattern_files::fault::Refusal;
@@ -90,7 +90,7 @@ fn formed<'a>(
 }
 
 /// The dictionary of TeX's files.
-fn convert_tex<C: Carried, B: Listed>(
+fn convert_tex<C: Payload, B: Listing>(
     alloc: Global,
     request: &Request<'_>,
     bytes: &[Vec<u8>],
@@ -107,7 +107,7 @@ fn convert_tex<C: Carried, B: Listed>(
 }
 
 /// The dictionary of the files.
-fn convert_files<C: Carried, B: Listed>(
+fn convert_files<C: Payload, B: Listing>(
     alloc: Global,
     request: &Request<'_>,
     changes: bool,
@@ -246,7 +246,7 @@ fn report_misfit<E: Write>(words: &[&str], misfit: Misfit, faults: &mut E) -> u8
             "another language than the file before it, by its name",
         ),
     };
-    // the files stand behind four words
+    // the files stand after four words
     let path = words.get(index.saturating_add(4)).copied().unwrap_or("");
     let _ = writeln!(faults, "hyphenate-convert: {path}: {why}");
     2

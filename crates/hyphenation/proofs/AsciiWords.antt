@@ -12,8 +12,8 @@ use Rattle.unicode.specs.Binary.{is_uppercase}
 use Rattle.unicode.specs.CaseFolding.{simple_fold}
 use Rattle.hyphenation_commons.specs.Break.{Break}
 use Rattle.hyphenation.specs.Boundaries.{boundaries}
-use Rattle.hyphenation.specs.Fitting.{is_steady_by, kept_by, fitted_breaks_of}
-use Rattle.hyphenation.specs.Folding.{fold_character, fold, carried, shifts_of}
+use Rattle.hyphenation.specs.Fitting.{is_steady_by, kept_breaks, fitted_breaks_of}
+use Rattle.hyphenation.specs.Folding.{fold_character, fold, carried_back, shifts_of}
 use Rattle.hyphenation.specs.Opportunities.{Rules, opportunities, Ascending}
 use Rattle.hyphenation.specs.Places.{place_of_character}
 use Rattle.hyphenation.proofs.AsciiLetters.{is_uppercase_ascii}
@@ -100,7 +100,7 @@ ascii_bounds l r word a below room =
 pub ascii_no_bounds : (l r : ℕ) (word : List ℕ) → IsAscii word → (length word ≤ l) ⊎ (length word - l < r) → boundaries l r word ≡ None
 ascii_no_bounds l r word a miss = bounds_missed l r (length word) word (sym (ap length (chars-IsAscii word a))) miss
 
-ascii_carried : (word : List ℕ) (p : ℕ) → IsAscii word → p ≤ length (fold word) → carried word p ≡ p
+ascii_carried : (word : List ℕ) (p : ℕ) → IsAscii word → p ≤ length (fold word) → carried_back word p ≡ p
 ascii_carried word p a le =
     let small = fold_is_ascii word a in
     let count : length (chars (take p (fold word))) ≡ p = ap length (chars-IsAscii (take p (fold word)) (IsAscii-take (fold word) p small)) ∙ length-take-le p (fold word) le in
@@ -109,6 +109,6 @@ ascii_carried word p a le =
 -- ---- breaks
 
 pub ascii_breaks : (rules : Rules) (word folded : List ℕ) (kept : List Break) → IsAscii word → folded ≡ fold word → Ascending (fold word) (opportunities rules (fold word))
-    → kept ≡ kept_by (is_steady_by (length folded) []) (opportunities rules folded) → kept ≡ fitted_breaks_of rules word
+    → kept ≡ kept_breaks (is_steady_by (length folded) []) (opportunities rules folded) → kept ≡ fitted_breaks_of rules word
 ascii_breaks rules word folded kept a folded_is ascend is =
     unmoved_breaks rules word folded kept (ascii_no_shifts word a) (none_in_ascii word a) (λ p at. ascii_carried word p a at.0) folded_is ascend is

@@ -13,7 +13,7 @@ use Rattle.ucd_derived.specs.UppercaseRanges.{uppercase_ranges}
 use Rattle.unicode.specs.Binary.{is_uppercase}
 use Rattle.unicode.specs.CaseFolding.{simple_folding, simple_fold}
 use Rattle.hyphenation.specs.Places.{place_of_character}
-use Rattle.hyphenation.specs.Folding.{fold_character, fold, has_uppercase, carried}
+use Rattle.hyphenation.specs.Folding.{fold_character, fold, has_uppercase, carried_back}
 use Rattle.hyphenation.proofs.Places.{place_end, place_rises, place_reflects_order, place_of_boundary, boundary_within, characters_before, place_is_boundary, same_place}
 
 -- What the table folds to are characters.
@@ -63,25 +63,25 @@ fold_stays text u h = ap encode_utf8_all (all_fold_to_themselves (chars text) h)
 
 -- Places carried back.
 
-pub carried_place : (text : List ℕ) (j : ℕ) → IsUtf8 text → carried text (place_of_character (fold text) j) ≡ place_of_character text j
+pub carried_place : (text : List ℕ) (j : ℕ) → IsUtf8 text → carried_back text (place_of_character (fold text) j) ≡ place_of_character text j
 carried_place text j u =
     let before : length (chars (take (place_of_character (fold text) j) (fold text))) ≡ min j (length (chars text)) =
     ap length (characters_before (fold text) j (fold_is_utf8 text u) ∙ ap (take j) (chars_of_fold text u) ∙ take-map fold_character j (chars text)) ∙ length-map _ _ ∙ length-take j (chars text) in
     ap (place_of_character text) before ∙ same_place text j
 
-pub carried_is_boundary : (text : List ℕ) (p : ℕ) → IsUtf8 text → IsCharBoundary text (carried text p)
+pub carried_is_boundary : (text : List ℕ) (p : ℕ) → IsUtf8 text → IsCharBoundary text (carried_back text p)
 carried_is_boundary text p u = place_is_boundary text (length (chars (take p (fold text)))) u
 
-pub carried_end : (text : List ℕ) → IsUtf8 text → carried text (length (fold text)) ≡ length text
+pub carried_end : (text : List ℕ) → IsUtf8 text → carried_back text (length (fold text)) ≡ length text
 carried_end text u =
     let n = length (chars (fold text)) in
     let at : place_of_character (fold text) n ≡ length (fold text) = place_end (fold text) n (fold_is_utf8 text u) (omega arith) in
-    ap (carried text) (sym at) ∙ carried_place text n u ∙ place_end text n u (omega (arith, as_many_characters text u))
+    ap (carried_back text) (sym at) ∙ carried_place text n u ∙ place_end text n u (omega (arith, as_many_characters text u))
 
-pub carried_start : (text : List ℕ) → IsUtf8 text → carried text 0 ≡ 0
+pub carried_start : (text : List ℕ) → IsUtf8 text → carried_back text 0 ≡ 0
 carried_start text u = carried_place text 0 u
 
-pub carried_rises : (text : List ℕ) (p q : ℕ) → IsUtf8 text → IsCharBoundary (fold text) p → IsCharBoundary (fold text) q → p < q → carried text p < carried text q
+pub carried_rises : (text : List ℕ) (p q : ℕ) → IsUtf8 text → IsCharBoundary (fold text) p → IsCharBoundary (fold text) q → p < q → carried_back text p < carried_back text q
 carried_rises text p q u a b h =
     let folded = fold text in
     let w = fold_is_utf8 text u in
@@ -94,5 +94,5 @@ carried_rises text p q u a b h =
     let j_in : j ≤ length (chars folded) = boundary_within folded q w b in
     place_rises text i j before (omega (arith, as_many_characters text u))
 
-pub carried_within : (text : List ℕ) (p : ℕ) → IsUtf8 text → carried text p ≤ length text
+pub carried_within : (text : List ℕ) (p : ℕ) → IsUtf8 text → carried_back text p ≤ length text
 carried_within text p u = let b = carried_is_boundary text p u in b.0

@@ -8,7 +8,7 @@ use Rattle.hyphenation.specs.Boundaries.{boundaries}
 use Rattle.hyphenation.specs.Places.{place_of_character}
 use Rattle.hyphenation.proofs.Bounds.{bounds_met, bounds_missed, places_ascend}
 
--- Behind the rest of the text, which is its front, so many of its characters are left.
+-- After the rest of the text, which is its front, so many of its characters are left.
 pub record AreLast (text rest : List ℕ) (count : ℕ) : Type 0 where
   pub last : List ℕ
   pub read : chars text ≡ chars rest ++ last
@@ -75,7 +75,7 @@ bounds_apart l r word enough apart =
     let few : n - max r 1 < l = elim (cases_lt (n - max r 1) l) [ inl lt ↦ lt | inr ge ↦ let up = places_ascend word l (n - max r 1) ge in absurd (omega arith) ] in
     bounds_missed l r n word refl (elim (cases_lt l n) [ inl lt ↦ inr (omega arith) | inr ge ↦ inl ge ])
 
--- it stands there or behind
+-- it stands there or after
 pub bounds_in_order : (l r : ℕ) (word : List ℕ) → max r 1 ≤ length (chars word) → place_of_character word l ≤ place_of_character word (length (chars word) - max r 1)
     → boundaries l r word ≡ Some (place_of_character word l, place_of_character word (length (chars word) - max r 1))
 bounds_in_order l r word enough order =

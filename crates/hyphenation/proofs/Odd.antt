@@ -8,7 +8,7 @@ use Rattle.std.proofs.lemmas.List.Elements.{filter-append}
 use Rattle.std.proofs.lemmas.List.FromFn.{get_or-map-range_with_len, length-map-range_with_len}
 use Rattle.hyphenation_commons.specs.Break.{Break, plain}
 use Rattle.hyphenation_commons.specs.Dictionary.{Patterns}
-use Rattle.hyphenation.specs.Opportunities.{is_odd, within, breaks_within, no_change, break_at, allowed_by}
+use Rattle.hyphenation.specs.Opportunities.{is_odd, within, breaks_within, no_change, winning_break, allowed_by}
 use Rattle.hyphenation.specs.Scoring.{value_at, values}
 use Rattle.hyphenation.proofs.Ranges.{range-append, range_more}
 use Rattle.hyphenation.proofs.Plain.{changes_nothing}
@@ -20,11 +20,11 @@ none_of test a (suc n) h = rw (h a (omega arith) (omega arith)) (none_of test (a
 parts : (test : ℕ → Bool) (a m n : ℕ) → filter test (range_with_len a (m + n)) ≡ filter test (range_with_len a m) ++ filter test (range_with_len (a + m) n)
 parts test a m n = ap (filter test) (range-append a m n) ∙ filter-append test (range_with_len a m) (range_with_len (a + m) n)
 
--- No place before the first or behind the end passes the test.
+-- No place before the first or after the end passes the test.
 pub within_alone : (test : ℕ → Bool) (first end at len : ℕ) → 1 ≤ first → end ≤ len → first ≤ at → end + 1 ≤ at → (first ≤ end + 1 → at ≤ end + 1)
     → ((p : ℕ) → 1 ≤ p → (p < first) ⊎ (end < p) → test p ≡ false)
     → filter test (range_with_len first (at - first)) ≡ filter test (range_with_len 1 len)
-within_alone test first end at len one le low behind ends none = elim (cases_lt end first) [
+within_alone test first end at len one le low after ends none = elim (cases_lt end first) [
   | inl lt ↦
       none_of test first (at - first) (λ p l h. none p (omega arith) (inr (omega arith)))
       ∙ sym (none_of test 1 len (λ p l h. elim (cases_lt p first) [ inl early ↦ none p l (inl early) | inr late ↦ none p l (inr (omega arith)) ]))
@@ -57,7 +57,7 @@ is_within low high p a b = rw (le-leb low p a, le-leb p high b) refl
 pub outside : (values : List ℕ) (bounds : ℕ × ℕ) (first end p : ℕ) → first ≡ max bounds.0 1 → end ≡ min (length values) bounds.1 → 1 ≤ p → (p < first) ⊎ (end < p) → test_of values bounds p ≡ false
 outside values bounds first end p is_first is_end one (inl early) = not_within bounds.0 bounds.1 p _ (inl (omega arith))
 outside values bounds first end p is_first is_end one (inr late) = elim (cases_lt bounds.1 p) [
-  | inl behind ↦ not_within bounds.0 bounds.1 p _ (inr behind)
+  | inl after ↦ not_within bounds.0 bounds.1 p _ (inr after)
   | inr before ↦ ap (λ v. is_odd v && within bounds p) (get_or_past values (p - 1) 0 (omega arith))
 ]
 
@@ -129,5 +129,5 @@ places_allowed keys word found bounds is =
     let test : ℕ → Bool = test_of (values keys word) bounds in
     let count : length (values keys word) ≡ n = length-map-range_with_len (λ p. value_at keys word p) 1 n in
     ap (map plain) (is ∙ ap (λ m. filter test (range_with_len 1 m)) count)
-    ∙ same_breaks test (λ place. is_odd (value_at keys word place)) (break_at no_change keys word) bounds (changes_nothing keys word) 1 n
+    ∙ same_breaks test (λ place. is_odd (value_at keys word place)) (winning_break no_change keys word) bounds (changes_nothing keys word) 1 n
     (λ p l h. ap (λ v. is_odd v && within bounds p) (get_or-map-range_with_len (λ q. value_at keys word q) 1 n (p - 1) p 0 (omega arith) (omega arith)))

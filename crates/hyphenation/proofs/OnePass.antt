@@ -8,11 +8,11 @@ use Rattle.std.proofs.lemmas.List.{length-append, take_more, length-take, length
 use Rattle.std.proofs.lemmas.Grind.{flat_map-append, common_steps}
 use Rattle.hyphenation_commons.specs.declared.dictionary.Entry.{Entry}
 use Rattle.hyphenation_commons.specs.Dictionary.{Patterns}
-use Rattle.hyphenation_commons.specs.Trie.{Tree, text_of, key_at, EachBeginsKey}
+use Rattle.hyphenation_commons.specs.Trie.{Tree, node_text, key_at, EachBeginsKey}
 use Rattle.hyphenation_commons.specs.Links.{Ends, IsLongest, IsReport, keys_in}
 use Rattle.hyphenation_commons.proofs.KeyNodes.{node_of_key}
 use Rattle.hyphenation.specs.Scoring.{frame, greatest_value, bearing, bearing_from, bearers, values}
-use Rattle.hyphenation.specs.OnePass.{piece, ending, keys_ending, occurrences}
+use Rattle.hyphenation.specs.OnePass.{entries_of_end, entries_of_ends, keys_ending, occurrences}
 use Rattle.hyphenation.proofs.Greatest.{greatest_value-append, greatest_value-within, filter-append}
 use Rattle.hyphenation.proofs.Ranges.{range-append, range_more, flat_map_none}
 
@@ -48,11 +48,11 @@ Ends-drop t k le =
     (omega arith, ap (λ (m : ℕ). drop m t) n)
 
 -- what a node of the path has
-pub piece_is : {C : Type 0} (tree : Tree (Entry C)) (t : List ℕ) (end p at depth : ℕ) (o : Option (List (Entry C))) → Ends t (text_of tree at) → length t ≤ end → depth ≡ length (text_of tree at) → o ≡ key_at tree (text_of tree at)
-    → piece (key_at tree) t end p (length t - length (text_of tree at)) ≡ filter (λ entry. (end - depth) + entry.place == p + 1) (unwrap_or o [])
+pub piece_is : {C : Type 0} (tree : Tree (Entry C)) (t : List ℕ) (end p at depth : ℕ) (o : Option (List (Entry C))) → Ends t (node_text tree at) → length t ≤ end → depth ≡ length (node_text tree at) → o ≡ key_at tree (node_text tree at)
+    → entries_of_end (key_at tree) t end p (length t - length (node_text tree at)) ≡ filter (λ entry. (end - depth) + entry.place == p + 1) (unwrap_or o [])
 piece_is tree t end p at depth o ends le deep is =
-    let n : end - (length t - (length t - length (text_of tree at))) ≡ end - depth = omega (arith, ends.0) in
-    ap (λ (k : ℕ). filter (λ entry. k + entry.place == p + 1) (unwrap_or (key_at tree (drop (length t - length (text_of tree at)) t)) [])) n
+    let n : end - (length t - (length t - length (node_text tree at))) ≡ end - depth = omega (arith, ends.0) in
+    ap (λ (k : ℕ). filter (λ entry. k + entry.place == p + 1) (unwrap_or (key_at tree (drop (length t - length (node_text tree at)) t)) [])) n
     ∙ ap (λ x. filter (λ entry. (end - depth) + entry.place == p + 1) (unwrap_or x [])) (ap (key_at tree) ends.1 ∙ sym is)
 
 -- ---- keys by their ends
@@ -75,10 +75,10 @@ slice_is framed s e le =
 
 -- the keys that end there end the text of the longest node
 pub ending_is : {C : Type 0} (tree : Tree (Entry C)) (framed : List ℕ) (end p node : ℕ) → end ≤ length framed → IsLongest tree.texts (take end framed) node
-    → ending_at (key_at tree) framed p end ≡ ending (key_at tree) (text_of tree node) end p
+    → ending_at (key_at tree) framed p end ≡ entries_of_ends (key_at tree) (node_text tree node) end p
 ending_is {C} tree framed end p node le longest =
     let T : List ℕ = take end framed in
-    let t : List ℕ = text_of tree node in
+    let t : List ℕ = node_text tree node in
     let len : length T ≡ end = omega (arith, length-take end framed) in
     let below : length t ≤ length T = longest.ends.0 in
     let e0 : ℕ = end - length t in
@@ -95,7 +95,7 @@ ending_is {C} tree framed end p node le longest =
     let parts : range_with_len 0 end ≡ range_with_len 0 e0 ++ range_with_len e0 (length t) =
     ap (range_with_len 0) (omega arith) ∙ range-append 0 e0 (length t) ∙ ap (λ (k : ℕ). range_with_len 0 e0 ++ range_with_len k (length t)) (omega arith) in
     ap (flat_map f) parts ∙ flat_map-append f (range_with_len 0 e0) (range_with_len e0 (length t)) ∙ ap (λ xs. xs ++ flat_map f (range_with_len e0 (length t))) front
-    ∙ flat_map_shift f (λ d. piece (key_at tree) t end p d) e0 0 (length t) (λ d lt.
+    ∙ flat_map_shift f (λ d. entries_of_end (key_at tree) t end p d) e0 0 (length t) (λ d lt.
     let same : slice_range framed (e0 + d) end ≡ drop (0 + d) t =
     slice_is framed (e0 + d) end (omega arith) ∙ sym (drop-drop d e0 T) ∙ ap (λ (k : ℕ). drop d (drop k T)) (omega arith) ∙ ap (drop d) longest.ends.1 ∙ ap (λ (k : ℕ). drop k t) (omega arith) in
     ap (λ x. filter (λ entry. (e0 + d) + entry.place == p + 1) (unwrap_or (key_at tree x) [])) same
@@ -143,30 +143,30 @@ alone_is {E} tree begins none j lj = elim (cases_eq j 0) [
 
 -- ---- visits
 
--- behind a key's node and before the next report no key stands
-pub none_next : {E : Type 0} (tree : Tree E) (t : List ℕ) (at next : ℕ) → Ends t (text_of tree at) → IsReport tree (drop 1 (text_of tree at)) next
-    → (k : ℕ) → length t - length (text_of tree at) < k → k < length t - length (text_of tree next) → key_at tree (drop k t) ≡ None
+-- after a key's node and before the next report no key stands
+pub none_next : {E : Type 0} (tree : Tree E) (t : List ℕ) (at next : ℕ) → Ends t (node_text tree at) → IsReport tree (drop 1 (node_text tree at)) next
+    → (k : ℕ) → length t - length (node_text tree at) < k → k < length t - length (node_text tree next) → key_at tree (drop k t) ≡ None
 none_next tree t at next ends report k low high =
-    let d0 : ℕ = length t - length (text_of tree at) in
+    let d0 : ℕ = length t - length (node_text tree at) in
     let m : ℕ = k - d0 - 1 in
     let n : d0 + (1 + m) ≡ k = omega arith in
-    let same : drop m (drop 1 (text_of tree at)) ≡ drop k t = drop-drop m 1 (text_of tree at) ∙ ap (drop (1 + m)) (sym ends.1) ∙ drop-drop (1 + m) d0 t ∙ ap (λ (x : ℕ). drop x t) n in
-    ap (key_at tree) (sym same) ∙ report.none m (omega (arith, ends.0, report.ends.0, length-drop 1 (text_of tree at)))
+    let same : drop m (drop 1 (node_text tree at)) ≡ drop k t = drop-drop m 1 (node_text tree at) ∙ ap (drop (1 + m)) (sym ends.1) ∙ drop-drop (1 + m) d0 t ∙ ap (λ (x : ℕ). drop x t) n in
+    ap (key_at tree) (sym same) ∙ report.none m (omega (arith, ends.0, report.ends.0, length-drop 1 (node_text tree at)))
 
 -- one visit more
-pub visit_more : {C : Type 0} (tree : Tree (Entry C)) (t : List ℕ) (end p at to first now next : ℕ) → Ends t (text_of tree at) → length (text_of tree to) < length (text_of tree at)
-    → ((k : ℕ) → length t - length (text_of tree at) < k → k < length t - length (text_of tree to) → key_at tree (drop k t) ≡ None)
-    → now ≡ max first (greatest_value (flat_map (λ d. piece (key_at tree) t end p d) (range_with_len 0 (length t - length (text_of tree at)))))
-    → next ≡ max now (greatest_value (piece (key_at tree) t end p (length t - length (text_of tree at))))
-    → next ≡ max first (greatest_value (flat_map (λ d. piece (key_at tree) t end p d) (range_with_len 0 (length t - length (text_of tree to)))))
+pub visit_more : {C : Type 0} (tree : Tree (Entry C)) (t : List ℕ) (end p at to first now next : ℕ) → Ends t (node_text tree at) → length (node_text tree to) < length (node_text tree at)
+    → ((k : ℕ) → length t - length (node_text tree at) < k → k < length t - length (node_text tree to) → key_at tree (drop k t) ≡ None)
+    → now ≡ max first (greatest_value (flat_map (λ d. entries_of_end (key_at tree) t end p d) (range_with_len 0 (length t - length (node_text tree at)))))
+    → next ≡ max now (greatest_value (entries_of_end (key_at tree) t end p (length t - length (node_text tree at))))
+    → next ≡ max first (greatest_value (flat_map (λ d. entries_of_end (key_at tree) t end p d) (range_with_len 0 (length t - length (node_text tree to)))))
 visit_more tree t end p at to first now next ends less none a b =
-    let f = λ (d : ℕ). piece (key_at tree) t end p d in
-    let d0 : ℕ = length t - length (text_of tree at) in
-    let gap : ℕ = length (text_of tree at) - length (text_of tree to) - 1 in
-    let n : length t - length (text_of tree to) ≡ (d0 + 1) + gap = omega (arith, ends.0) in
+    let f = λ (d : ℕ). entries_of_end (key_at tree) t end p d in
+    let d0 : ℕ = length t - length (node_text tree at) in
+    let gap : ℕ = length (node_text tree at) - length (node_text tree to) - 1 in
+    let n : length t - length (node_text tree to) ≡ (d0 + 1) + gap = omega (arith, ends.0) in
     let rest : flat_map f (range_with_len (d0 + 1) gap) ≡ [] = flat_map_none f (d0 + 1) gap (λ k low high.
     ap (λ o. filter (λ entry. (end - (length t - k)) + entry.place == p + 1) (unwrap_or o [])) (none k (omega arith) (omega (arith, ends.0)))) in
-    let all : flat_map f (range_with_len 0 (length t - length (text_of tree to))) ≡ flat_map f (range_with_len 0 (d0 + 1)) =
+    let all : flat_map f (range_with_len 0 (length t - length (node_text tree to))) ≡ flat_map f (range_with_len 0 (d0 + 1)) =
     ap (λ (k : ℕ). flat_map f (range_with_len 0 k)) n ∙ ap (flat_map f) (range-append 0 (d0 + 1) gap) ∙ flat_map-append f (range_with_len 0 (d0 + 1)) (range_with_len (0 + (d0 + 1)) gap)
     ∙ ap (λ (k : ℕ). flat_map f (range_with_len 0 (d0 + 1)) ++ flat_map f (range_with_len k gap)) (omega arith) ∙ ap (λ ys. flat_map f (range_with_len 0 (d0 + 1)) ++ ys) rest ∙ append-nil (flat_map f (range_with_len 0 (d0 + 1))) in
     let last : 0 + d0 ≡ d0 = omega arith in
@@ -174,10 +174,10 @@ visit_more tree t end p at to first now next ends less none a b =
     omega (arith, ap greatest_value all, more)
 
 -- where there is none before the first, nothing is to be raised
-pub visit_first : {C : Type 0} (tree : Tree (Entry C)) (t : List ℕ) (end p to first : ℕ) → IsReport tree t to → first ≡ max first (greatest_value (flat_map (λ d. piece (key_at tree) t end p d) (range_with_len 0 (length t - length (text_of tree to)))))
+pub visit_first : {C : Type 0} (tree : Tree (Entry C)) (t : List ℕ) (end p to first : ℕ) → IsReport tree t to → first ≡ max first (greatest_value (flat_map (λ d. entries_of_end (key_at tree) t end p d) (range_with_len 0 (length t - length (node_text tree to)))))
 visit_first tree t end p to first report =
-    let f = λ (d : ℕ). piece (key_at tree) t end p d in
-    let nil : flat_map f (range_with_len 0 (length t - length (text_of tree to))) ≡ [] = flat_map_none f 0 (length t - length (text_of tree to)) (λ k low high.
+    let f = λ (d : ℕ). entries_of_end (key_at tree) t end p d in
+    let nil : flat_map f (range_with_len 0 (length t - length (node_text tree to))) ≡ [] = flat_map_none f 0 (length t - length (node_text tree to)) (λ k low high.
     ap (λ o. filter (λ entry. (end - (length t - k)) + entry.place == p + 1) (unwrap_or o [])) (report.none k (omega arith))) in
     omega (arith, ap greatest_value nil)
 
@@ -194,18 +194,18 @@ one_counted : (p : ℕ → Bool) (k : ℕ) → p k ≡ true → count_by p (k �
 one_counted p k e = grind (arith, common_steps)
 
 -- none before the first
-pub counted_first : {E : Type 0} (tree : Tree E) (t : List ℕ) (to : ℕ) → IsReport tree t to → keys_in tree t (length t - length (text_of tree to)) ≡ 0
-counted_first tree t to report = count_none (λ d. is_some (key_at tree (drop d t))) 0 (length t - length (text_of tree to)) (λ k low high. ap is_some (report.none k (omega arith)))
+pub counted_first : {E : Type 0} (tree : Tree E) (t : List ℕ) (to : ℕ) → IsReport tree t to → keys_in tree t (length t - length (node_text tree to)) ≡ 0
+counted_first tree t to report = count_none (λ d. is_some (key_at tree (drop d t))) 0 (length t - length (node_text tree to)) (λ k low high. ap is_some (report.none k (omega arith)))
 
 -- one visit is one key
-pub counted_more : {E : Type 0} (tree : Tree E) (t : List ℕ) (at to : ℕ) → Ends t (text_of tree at) → length (text_of tree to) < length (text_of tree at) → IsSome (key_at tree (text_of tree at))
-    → ((k : ℕ) → length t - length (text_of tree at) < k → k < length t - length (text_of tree to) → key_at tree (drop k t) ≡ None)
-    → keys_in tree t (length t - length (text_of tree to)) ≡ keys_in tree t (length t - length (text_of tree at)) + 1
+pub counted_more : {E : Type 0} (tree : Tree E) (t : List ℕ) (at to : ℕ) → Ends t (node_text tree at) → length (node_text tree to) < length (node_text tree at) → IsSome (key_at tree (node_text tree at))
+    → ((k : ℕ) → length t - length (node_text tree at) < k → k < length t - length (node_text tree to) → key_at tree (drop k t) ≡ None)
+    → keys_in tree t (length t - length (node_text tree to)) ≡ keys_in tree t (length t - length (node_text tree at)) + 1
 counted_more tree t at to ends less key none =
     let p = λ (d : ℕ). is_some (key_at tree (drop d t)) in
-    let d0 : ℕ = length t - length (text_of tree at) in
-    let gap : ℕ = length (text_of tree at) - length (text_of tree to) - 1 in
-    let n : length t - length (text_of tree to) ≡ (d0 + 1) + gap = omega (arith, ends.0) in
+    let d0 : ℕ = length t - length (node_text tree at) in
+    let gap : ℕ = length (node_text tree at) - length (node_text tree to) - 1 in
+    let n : length t - length (node_text tree to) ≡ (d0 + 1) + gap = omega (arith, ends.0) in
     let rest : count_by p (range_with_len (d0 + 1) gap) ≡ 0 = count_none p (d0 + 1) gap (λ k low high. ap is_some (none k (omega arith) (omega (arith, ends.0)))) in
     let here : is_some (key_at tree (drop d0 t)) ≡ true = ap (λ (x : List ℕ). is_some (key_at tree x)) ends.1 ∙ key in
     let zero_more : 0 + (d0 + 1) ≡ d0 + 1 = omega arith in
@@ -245,10 +245,10 @@ keys_in_most tree t n = count_most (λ d. is_some (key_at tree (drop d t))) 0 n
 
 -- the keys that end there are those that end the text of the longest node
 pub counted_is : {C : Type 0} (tree : Tree (Entry C)) (framed : List ℕ) (end node : ℕ) → end ≤ length framed → IsLongest tree.texts (take end framed) node
-    → keys_ending (key_at tree) framed end ≡ keys_in tree (text_of tree node) (length (text_of tree node))
+    → keys_ending (key_at tree) framed end ≡ keys_in tree (node_text tree node) (length (node_text tree node))
 counted_is {C} tree framed end node le longest =
     let T : List ℕ = take end framed in
-    let t : List ℕ = text_of tree node in
+    let t : List ℕ = node_text tree node in
     let len : length T ≡ end = omega (arith, length-take end framed) in
     let below : length t ≤ length T = longest.ends.0 in
     let e0 : ℕ = end - length t in

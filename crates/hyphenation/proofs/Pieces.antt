@@ -9,9 +9,9 @@ use Rattle.unicode_segmentation.specs.Segments.{cut, segments}
 use Rattle.unicode_segmentation.specs.Word.{is_word_break, word_bounds}
 use Rattle.unicode_segmentation.proofs.SegmentsLemmas.{concat-segments}
 
-behind_piece : (cs rest : List ℕ) → IsUtf8 (encode_utf8_all cs ++ rest) → IsUtf8 rest
-behind_piece [] rest u = u
-behind_piece (c ∷ cs) rest u = behind_piece cs rest (IsUtf8-past_char _ _ c u (append_assoc (encode_utf8 c) (encode_utf8_all cs) rest))
+after_piece : (cs rest : List ℕ) → IsUtf8 (encode_utf8_all cs ++ rest) → IsUtf8 rest
+after_piece [] rest u = u
+after_piece (c ∷ cs) rest u = after_piece cs rest (IsUtf8-past_char _ _ c u (append_assoc (encode_utf8 c) (encode_utf8_all cs) rest))
 
 each_back : (f : List ℕ → List ℕ) → ((piece : List ℕ) → IsUtf8 piece → f piece ≡ piece) → (pieces : List (List ℕ)) → IsUtf8 (concat (map encode_utf8_all pieces))
     → flat_map f (map encode_utf8_all pieces) ≡ concat (map encode_utf8_all pieces)
@@ -19,7 +19,7 @@ each_back f back [] u = refl
 each_back f back (cs ∷ pieces) u =
     let piece : List ℕ = encode_utf8_all cs in
     let rest : List ℕ = concat (map encode_utf8_all pieces) in
-    let later : IsUtf8 rest = behind_piece cs rest u in
+    let later : IsUtf8 rest = after_piece cs rest u in
     let own : IsUtf8 piece = subst IsUtf8 (take-append_seam piece rest) (IsUtf8-take (piece ++ rest) (length piece) u (IsCharBoundary-at_seam (piece ++ rest) piece rest refl later)) in
     ap (λ x. x ++ flat_map f (map encode_utf8_all pieces)) (back piece own) ∙ ap (λ xs. piece ++ xs) (each_back f back pieces later)
 

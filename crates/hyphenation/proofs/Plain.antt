@@ -6,11 +6,11 @@ use Rattle.std.specs.FinMap as finite
 use Rattle.std.proofs.lemmas.Bool.{cond-true}
 use Rattle.hyphenation_commons.specs.Break.{Break, plain, changed_by, begin_of, end_of}
 use Rattle.hyphenation_commons.specs.Dictionary.{Contents, Patterns, keys_of}
-use Rattle.hyphenation_commons.specs.Kept.{IsKept}
+use Rattle.hyphenation_commons.specs.Kept.{IsDictionary}
 use Rattle.hyphenation.specs.declared.case_folding.Shift.{Shift}
-use Rattle.hyphenation.specs.Fitting.{kept_by, fitted_breaks_of, holds_shift, is_steady_by}
-use Rattle.hyphenation.specs.Folding.{fold, carried, shifts_of}
-use Rattle.hyphenation.specs.Opportunities.{Rules, no_change, rules_of, within, breaks_within, break_at, by_patterns, opportunities_in, opportunities, boundaries_by, breaks_of, written, carried_break, Ascending}
+use Rattle.hyphenation.specs.Fitting.{kept_breaks, fitted_breaks_of, holds_shift, is_steady_by}
+use Rattle.hyphenation.specs.Folding.{fold, carried_back, shifts_of}
+use Rattle.hyphenation.specs.Opportunities.{Rules, no_change, rules_of, within, breaks_within, winning_break, by_patterns, opportunities_in, opportunities, boundaries_by, all_breaks_of, breaks_as_written, break_carried_back, Ascending}
 use Rattle.hyphenation.specs.SoftHyphens.{soft_hyphens}
 use Rattle.hyphenation.specs.Scoring.{winner_at}
 use Rattle.hyphenation.proofs.Fitting.{kept_from, kept_is, fitted_by_shifts}
@@ -47,12 +47,12 @@ all_kept text test last_end least (b ∷ bs) steady h a p =
     ap (λ x. test x && nat_le last_end (begin_of x)) p.0 ∙ ap (λ t. t && nat_le last_end (place - 0)) (steady place (a.1).0) ∙ le-leb last_end (place - 0) (omega (arith, a.0)) in
     cond-true _ (b ∷ kept_from test (end_of b) bs) (kept_from test last_end bs) passes ∙ ap (λ rest. b ∷ rest) (all_kept text test (end_of b) (place + 1) bs steady (omega arith) a.2 p.1)
 
-pub plain_kept : (text : List ℕ) (shifts : List Shift) (breaks : List Break) → Ascending text breaks → ArePlain breaks → kept_by (is_steady_by (length text) shifts) breaks ≡ breaks
+pub plain_kept : (text : List ℕ) (shifts : List Shift) (breaks : List Break) → Ascending text breaks → ArePlain breaks → kept_breaks (is_steady_by (length text) shifts) breaks ≡ breaks
 plain_kept text shifts breaks a p = kept_is _ breaks ∙ all_kept text (is_steady_by (length text) shifts) 0 0 breaks (plain_is_steady (length text) shifts) (omega arith) a p
 
-carried_plain : (word : List ℕ) (breaks : List Break) → ArePlain breaks → ArePlain (map (carried_break word) breaks)
+carried_plain : (word : List ℕ) (breaks : List Break) → ArePlain breaks → ArePlain (map (break_carried_back word) breaks)
 carried_plain word [] p = tt
-carried_plain word (b ∷ bs) p = (ap (λ x. changed_by (carried word b.place) x.change) p.0, carried_plain word bs p.1)
+carried_plain word (b ∷ bs) p = (ap (λ x. changed_by (carried_back word b.place) x.change) p.0, carried_plain word bs p.1)
 
 -- ---- of a standard dictionary
 
@@ -69,7 +69,7 @@ plain_within (b ∷ bs) bounds p =
       | false ↦ rest
     ]
 
-pub changes_nothing : {C : Type 0} (keys : Patterns C) (text : List ℕ) (place : ℕ) → break_at no_change keys text place ≡ plain place
+pub changes_nothing : {C : Type 0} (keys : Patterns C) (text : List ℕ) (place : ℕ) → winning_break no_change keys text place ≡ plain place
 changes_nothing keys text place =
     elim (winner_at keys text place) as (λ winner. record { place = place; change = option_and_then (λ entry. no_change entry.change) winner } ≡ plain place) [
       | None ↦ refl
@@ -86,23 +86,23 @@ module _ (contents : Contents (Unit {0}) ℕ) (word : List ℕ) where
         | None ↦ tt
         | Some bounds ↦
             elim (finite.get contents.exceptions text) as (λ found. ArePlain (unwrap_or (option_map (λ listed. breaks_within listed bounds) (option_map (map plain) found)) (by_patterns rules text bounds))) [
-              | None ↦ plain_within (rules.allowed text) bounds (plain_made (break_at no_change (keys_of contents) text) (changes_nothing (keys_of contents) text) _)
+              | None ↦ plain_within (rules.allowed text) bounds (plain_made (winning_break no_change (keys_of contents) text) (changes_nothing (keys_of contents) text) _)
               | Some listed ↦ plain_within (map plain listed) bounds (plain_made plain (λ _. refl) listed)
             ]
       ]
 
   -- Its breaks change nothing.
-  pub breaks_plain : ArePlain (breaks_of rules word)
+  pub breaks_plain : ArePlain (all_breaks_of rules word)
   breaks_plain =
       let found : List Break = opportunities rules (fold word) in
-      elim (length (soft_hyphens word) == 0) as (λ t. ArePlain (cond t (map (carried_break word) found) (map plain (soft_hyphens word)))) [
+      elim (length (soft_hyphens word) == 0) as (λ t. ArePlain (cond t (map (break_carried_back word) found) (map plain (soft_hyphens word)))) [
         | true ↦ carried_plain word found (opportunities_plain (fold word))
         | false ↦ plain_made plain (λ _. refl) (soft_hyphens word)
       ]
 
   -- Its breaks are the same where they are fitted first.
-  pub fitted_alike : IsKept no_change plain contents → IsUtf8 word → fitted_breaks_of rules word ≡ breaks_of rules word
+  pub fitted_alike : IsDictionary no_change plain contents → IsUtf8 word → fitted_breaks_of rules word ≡ all_breaks_of rules word
   fitted_alike kept u =
       let all = opportunities rules (fold word) in
       let ascend : Ascending (fold word) all = opportunities_ascend rules (fold word) (rules_are_sound no_change plain contents (fold word) kept (fold_is_utf8 word u)) in
-      ap (written word) (sym (fitted_by_shifts word all) ∙ plain_kept (fold word) (shifts_of word) all ascend (opportunities_plain (fold word)))
+      ap (breaks_as_written word) (sym (fitted_by_shifts word all) ∙ plain_kept (fold word) (shifts_of word) all ascend (opportunities_plain (fold word)))

@@ -8,8 +8,8 @@ use Rattle.ucd_derived.specs.Binary.{is_uppercase}
 use Rattle.ucd_derived.proofs.BinaryLemmas.{is_uppercase_stepped}
 use Rattle.ucd_derived.proofs.Computing.{ucd_derived}
 use Rattle.hyphenation_commons.specs.Break.{Break}
-use Rattle.hyphenation.specs.Fitting.{is_steady_by, kept_by, fitted_breaks_of}
-use Rattle.hyphenation.specs.Folding.{fold, carried}
+use Rattle.hyphenation.specs.Fitting.{is_steady_by, kept_breaks, fitted_breaks_of}
+use Rattle.hyphenation.specs.Folding.{fold, carried_back}
 use Rattle.hyphenation.specs.Opportunities.{Rules, opportunities, Ascending}
 use Rattle.hyphenation.specs.Places.{place_of_character}
 use Rattle.hyphenation.specs.SmallLetters.{is_small_letter, are_small_letters}
@@ -71,12 +71,12 @@ none_soft (c ∷ cs) (suc j) e = none_soft cs j (and_parts (is_small_letter c) (
 pub small_fold : (word : List ℕ) → IsUtf8 word → are_small_letters word ≡ true → fold word ≡ word
 small_fold word u e = fold_stays word u (none_upper (chars word) e)
 
-stays : (word : List ℕ) (p : ℕ) → IsUtf8 word → fold word ≡ word → IsCharBoundary (fold word) p → carried word p ≡ p
+stays : (word : List ℕ) (p : ℕ) → IsUtf8 word → fold word ≡ word → IsCharBoundary (fold word) p → carried_back word p ≡ p
 stays word p u same at =
     ap (λ t. place_of_character word (length (chars (take p t)))) same ∙ sym (place_of_boundary word p u (subst (λ t. IsCharBoundary t p) same at))
 
 pub small_breaks : (rules : Rules) (word : List ℕ) (kept : List Break) → IsUtf8 word → are_small_letters word ≡ true → Ascending (fold word) (opportunities rules (fold word))
-    → kept ≡ kept_by (is_steady_by (length word) []) (opportunities rules word) → kept ≡ fitted_breaks_of rules word
+    → kept ≡ kept_breaks (is_steady_by (length word) []) (opportunities rules word) → kept ≡ fitted_breaks_of rules word
 small_breaks rules word kept u e ascend is =
     let same = small_fold word u e in
     unmoved_breaks rules word word kept (stays_without_shifts word (none_upper (chars word) e)) (none_at_all word (λ j. none_soft (chars word) j e)) (λ p at. stays word p u same at) (sym same) ascend is

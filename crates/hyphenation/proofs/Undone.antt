@@ -4,10 +4,10 @@ use Rattle.std.specs.Ordering.{nat_cmp, eq_by_cmp}
 use Rattle.std.specs.Cmp.Lexicographic.{slice_cmp, nat_list_cmp_total}
 use Rattle.std.specs.FinMap as finite
 use Rattle.std.specs.FinMap.{get-insert, get-remove, same_map, nat_cmp-IsAntisymmetric, slice_cmp-IsAntisymmetric}
-use Rattle.hyphenation_commons.specs.Dictionary.{Texts}
+use Rattle.hyphenation_commons.specs.Dictionary.{TextMap}
 use Rattle.hyphenation_commons.proofs.Order.{tie}
 
-pub undone : {X : Type 0} (m : Texts X) (word : List ℕ) (x : X) → finite.get m word ≡ None → finite.remove (finite.insert m word x) word ≡ m
+pub undone : {X : Type 0} (m : TextMap X) (word : List ℕ) (x : X) → finite.get m word ≡ None → finite.remove (finite.insert m word x) word ≡ m
 undone {X} m word x none =
     same_map nat_list_cmp_total (slice_cmp-IsAntisymmetric nat_cmp-IsAntisymmetric) (finite.remove (finite.insert m word x) word) m
     (λ q. get-remove nat_list_cmp_total (finite.insert m word x) word q

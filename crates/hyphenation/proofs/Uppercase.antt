@@ -15,9 +15,9 @@ none_passes (c ∷ cs) h = grind (arith, none_passes cs h.1, h.0)
 pub without_uppercase : (text : List ℕ) → IsUtf8 text → NoCharPasses is_uppercase text → has_uppercase text ≡ false
 without_uppercase text u h = ap (list_any is_uppercase) (sym (chars_from_encodes h.0 text u h.1)) ∙ none_passes h.0 h.2
 
-any_behind : (front back : List ℕ) (c : ℕ) → is_uppercase c ≡ true → list_any is_uppercase (front ++ c ∷ back) ≡ true
-any_behind [] back c h = grind (arith)
-any_behind (d ∷ front) back c h = grind (arith, any_behind front back c h)
+any_after : (front back : List ℕ) (c : ℕ) → is_uppercase c ≡ true → list_any is_uppercase (front ++ c ∷ back) ≡ true
+any_after [] back c h = grind (arith)
+any_after (d ∷ front) back c h = grind (arith, any_after front back c h)
 
 pub with_uppercase : (text : List ℕ) (i j : ℕ) → IsUtf8 text → IsCharBoundary text i → HasPassingCharAt is_uppercase text i j → has_uppercase text ≡ true
 with_uppercase text i j u b h =
@@ -25,7 +25,7 @@ with_uppercase text i j u b h =
     let back = drop i text in
     let parts : chars text ≡ chars front ++ chars back = ap chars (sym (take-append-drop i text)) ∙ chars-append front back (IsUtf8-take text i u b) in
     let first : chars back ≡ h.0 ∷ chars (drop j text) = chars_past_char back (drop j text) h.0 (IsUtf8-drop text i u b) h.2.split in
-    ap (list_any is_uppercase) (parts ∙ ap (λ cs. chars front ++ cs) first) ∙ any_behind (chars front) (chars (drop j text)) h.0 h.1
+    ap (list_any is_uppercase) (parts ∙ ap (λ cs. chars front ++ cs) first) ∙ any_after (chars front) (chars (drop j text)) h.0 h.1
 
 -- What `find` answers, at the test that its closure computes.
 pub found_by : (G : (ℕ → Bool) → Type 0) (text : List ℕ) (r : Option ℕ) → MatchOption r ((k : ℕ → Bool) → G k → NoCharPasses k text) (λ i. (j : ℕ) × ((k : ℕ → Bool) → G k → FindsBy k text (Some (i, j))) × (i ≤ j) × IsCharBoundary text i × IsCharBoundary text j) → G is_uppercase → MatchOption r (NoCharPasses is_uppercase text) (λ i. IsCharBoundary text i × NoCharPasses is_uppercase (take i text) × ((j : ℕ) × HasPassingCharAt is_uppercase text i j))

@@ -5,7 +5,7 @@ use Rattle.std.specs.String.{string_bytes}
 use Rattle.std.specs.declared.string.String.{String}
 use Rattle.hyphenation_commons.specs.Break.{Break, plain}
 use Rattle.hyphenation.specs.Fits.{FitsFrom}
-use Rattle.hyphenation.specs.Segments.{segments_behind}
+use Rattle.hyphenation.specs.Segments.{segments_after}
 
 -- The first of what is to come is taken; what comes after the end is open.
 abbrev pub TakesFirst : {S A X : Type 0} → (A → X) → (S → List X) → S → Option A → S → Type 0
@@ -21,15 +21,15 @@ GivesMarked old item new =
     MatchOption item ((old ≡ []) × (new ≡ []))
     (λ x. (first : List ℕ) × (old ≡ first ∷ new) × IfOk x (λ text. string_bytes text ≡ first))
 
--- The segments to come where the last plain break was at the start, and none behind the last segment.
+-- The segments to come where the last plain break was at the start, and none after the last segment.
 abbrev pub segments_from : List ℕ → Option ℕ → List Break → List (List ℕ)
 segments_from text None breaks = []
-segments_from text (Some start) breaks = segments_behind text (plain start) breaks
+segments_from text (Some start) breaks = segments_after text (plain start) breaks
 
--- The breaks to come fit the text behind the start.
-abbrev pub FitsBehind : List ℕ → Option ℕ → List Break → Type 0
-FitsBehind text None breaks = ⊤
-FitsBehind text (Some start) breaks = IsCharBoundary text start × FitsFrom text start start breaks
+-- The breaks to come fit the text after the start.
+abbrev pub FitsAfter : List ℕ → Option ℕ → List Break → Type 0
+FitsAfter text None breaks = ⊤
+FitsAfter text (Some start) breaks = IsCharBoundary text start × FitsFrom text start start breaks
 
 -- Breaks may be asked until they have answered that they are empty, and then there is no start.
 abbrev pub MayAsk : Option ℕ → Bool → Type 0

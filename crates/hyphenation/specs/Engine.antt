@@ -3,9 +3,9 @@ use Rattle.std.specs.Prelude.{◌≡◌, ◌≢◌, ◌==◌, if◌then◌else�
 use Rattle.std.specs.List.{join_with_byte}
 use Rattle.hyphenation_commons.specs.Break.{Break, plain}
 use Rattle.hyphenation_commons.specs.Dictionary.{keys_of}
-use Rattle.hyphenation_commons.specs.Edits.{edited_by, first_refused}
+use Rattle.hyphenation_commons.specs.Edits.{after_edits, first_refused}
 use Rattle.hyphenation_commons.specs.Lines.{lines_of, language_of}
-use Rattle.hyphenation_commons.specs.Reading.{place_alone, place_and_change, standard_contents, extended_contents}
+use Rattle.hyphenation_commons.specs.Reading.{place_as_listing, break_as_listing, standard_contents, extended_contents}
 use Rattle.hyphenation_commons.specs.declared.grammar.form.Kind.{Kind}
 use Rattle.hyphenation_commons.specs.declared.grammar.form.Kind.TheVariants.{Standard, Extended}
 use Rattle.hyphenation_commons.specs.declared.grammar.Cause.{Cause}
@@ -16,12 +16,12 @@ use Rattle.hyphenation.specs.declared.engine.RunError.TheVariants.{Dictionary, E
 use Rattle.std.specs.IoError.{error_kind}
 use Rattle.std.specs.declared.io.ErrorKind.TheVariants.{OutOfMemory}
 use Rattle.hyphenation.specs.Fitting.{fitted_breaks_of}
-use Rattle.hyphenation.specs.Opportunities.{no_change, own_change, own_break, rules_of, breaks_of}
+use Rattle.hyphenation.specs.Opportunities.{no_change, own_change, own_break, rules_of, all_breaks_of}
 use Rattle.hyphenation.specs.Scoring.{values}
 
 -- Values in decimal, one space between, and a line feed.
-abbrev pub line_of : List ℕ → List ℕ
-line_of values = join_with_byte 32 (map decimal values) ++ 10 ∷ []
+abbrev pub score_line : List ℕ → List ℕ
+score_line values = join_with_byte 32 (map decimal values) ++ 10 ∷ []
 
 -- The space before each value but the first.
 abbrev pub space_before : ℕ → List ℕ
@@ -94,12 +94,12 @@ HoldsNoWant _ = Unit {0}
 
 -- ---- a run over a whole text
 
--- The breaks of a word as written by the dictionary of that kind that a text gives, behind edits.
+-- The breaks of a word as written by the dictionary of that kind that a text gives, after edits.
 abbrev pub breaks_by : Kind → List ℕ → List (List ℕ) → List ℕ → List Break
 breaks_by Standard bytes edits word =
-    breaks_of (rules_of no_change plain (edited_by place_alone (standard_contents bytes) edits)) word
+    all_breaks_of (rules_of no_change plain (after_edits place_as_listing (standard_contents bytes) edits)) word
 breaks_by Extended bytes edits word =
-    fitted_breaks_of (rules_of own_change own_break (edited_by place_and_change (extended_contents bytes) edits)) word
+    fitted_breaks_of (rules_of own_change own_break (after_edits break_as_listing (extended_contents bytes) edits)) word
 
 -- The dictionary is judged first: only where it is accepted, and of the asked language, anything else is answered.
 abbrev pub JudgesDictionary : {X : Type 0} → (List ℕ → Option (ℕ × Cause)) → List ℕ → List ℕ → Result X RunError

@@ -16,8 +16,8 @@ abbrev pub known : List (List ℕ × List (Entry ℕ)) → Patterns ℕ
 known keys text = lookup (pointwise nat_eq text) keys
 
 -- What the winners of a word's places carry.
-abbrev pub carried : Patterns ℕ → List ℕ → List (Option ℕ)
-carried keys word = map (λ winner. option_map (λ entry. entry.change) winner) (winners keys word)
+abbrev pub changes_won : Patterns ℕ → List ℕ → List (Option ℕ)
+changes_won keys word = map (λ winner. option_map (λ entry. entry.change) winner) (winners keys word)
 
 -- .fi2 i2r r2k r5kin k1in k2in.
 abbrev pub english : Patterns ℕ

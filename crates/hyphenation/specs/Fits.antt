@@ -15,7 +15,7 @@ pub record Stands (text : List ℕ) (last_end least : ℕ) (b : Break) : Type 0 
   pub begin : IsCharBoundary text (begin_of b)
   pub end : IsCharBoundary text (end_of b)
 
--- Each break stands in the text, behind the place and the range of the one before it.
+-- Each break stands in the text, after the place and the range of the one before it.
 abbrev pub FitsFrom : List ℕ → ℕ → ℕ → List Break → Type 0
 FitsFrom text last_end least [] = ⊤
 FitsFrom text last_end least (b ∷ bs) = Stands text last_end least b × FitsFrom text (end_of b) (b.place + 1) bs

@@ -22,8 +22,8 @@ abbrev pub has_uppercase : List ℕ → Bool
 has_uppercase text = list_any is_uppercase (chars text)
 
 -- A place of the folded text is carried back to the place in the text as written with as many characters before it.
-abbrev pub carried : List ℕ → ℕ → ℕ
-carried text place = place_of_character text (length (chars (take place (fold text))))
+abbrev pub carried_back : List ℕ → ℕ → ℕ
+carried_back text place = place_of_character text (length (chars (take place (fold text))))
 
 -- The folding changes the number of bytes of character number j.
 abbrev pub changes_length : List ℕ → ℕ → Bool

@@ -23,7 +23,7 @@ ghost use Rattle.std.specs.Str.Pattern.{HasPassingCharAt};
 ghost use Rattle.unicode.specs.Binary.{is_uppercase};
 ghost use Rattle.hyphenation.specs.Places.{place_of_character};
 ghost use Rattle.hyphenation.specs.SmallLetters.{is_small_letter, are_small_letters};
-ghost use Rattle.hyphenation.specs.Folding.{fold_character, fold, has_uppercase, shifts_of, delta_below, carried};
+ghost use Rattle.hyphenation.specs.Folding.{fold_character, fold, has_uppercase, shifts_of, delta_below, carried_back};
 
 use std::alloc::{AllocError, Global};
 use std::borrow::CowStr;
@@ -145,7 +145,7 @@ fn difference(a: usize, b: usize) -> isize
 pub fn realign(i: usize, shifts: &[Shift]) -> usize
     ensures value { result ≡ saturate_unsigned w64 (pos i -ℤ delta_below shifts.now i) }
     ensures carried { (original : List ℕ) → IsUtf8 original → length original ≤ usize.MAX
-        → shifts.now ≡ shifts_of original → IsCharBoundary (fold original) i → result ≡ carried original i }
+        → shifts.now ≡ shifts_of original → IsCharBoundary (fold original) i → result ≡ carried_back original i }
     ensures same_character { (original : List ℕ) (j : ℕ) → IsUtf8 original → length original ≤ usize.MAX
         → shifts.now ≡ shifts_of original → i ≡ place_of_character (fold original) j
         → result ≡ place_of_character original j }

@@ -4,8 +4,8 @@ ghost use Rattle.std.specs.Prelude.{◌≡◌, ◌++◌, OnOk, IfOk, IfErr, IfSo
 ghost use Rattle.std.specs.String.{string_bytes};
 ghost use Rattle.std.specs.Io.KnownBytes.{Appends, Keeps};
 ghost use Rattle.hyphenation_commons.specs.Judging.{refusal_of};
-ghost use Rattle.hyphenation.specs.Engine.{line_of, space_before, language_in, values_by, breaks_by, Runs, JudgesDictionary, JudgesEdits, JudgesText, BeforeWriting, IsUnwritten, HoldsNoWant};
-ghost use Rattle.hyphenation.specs.Hyphenated.{hyphenated};
+ghost use Rattle.hyphenation.specs.Engine.{score_line, space_before, language_in, values_by, breaks_by, Runs, JudgesDictionary, JudgesEdits, JudgesText, BeforeWriting, IsUnwritten, HoldsNoWant};
+ghost use Rattle.hyphenation.specs.Hyphenated.{hyphenated_text};
 
 mod whole;
 
@@ -64,7 +64,7 @@ impl From<AllocError> for RunError {
     }
 }
 
-/// Appends a value in decimal, behind a space unless it is the first.
+/// Appends a value in decimal, after a space unless it is the first.
 fn append_value(line: &mut String, index: usize, value: u8) -> Result<(), AllocError>
     ensures { OnOk result (string_bytes line.new ≡ string_bytes line.old ++ space_before index ++ decimal value) }
 {
@@ -77,7 +77,7 @@ fn append_value(line: &mut String, index: usize, value: u8) -> Result<(), AllocE
 
 /// The line of values: in decimal, one space between, and a line feed.
 fn line_of(alloc: Global, values: &[u8]) -> Result<String, AllocError>
-    ensures { IfOk result (λ line. string_bytes line ≡ line_of values.now) }
+    ensures { IfOk result (λ line. string_bytes line ≡ score_line values.now) }
 {
     let mut line = String::new(alloc);
     for (index, value) in values.iter().enumerate() {
@@ -141,7 +141,7 @@ fn score_line<D: Read>(
 ) -> Result<String, RunError>
     ensures answers { IfSome (D.remaining reader.old) (λ bytes. Runs (refusal_of kind) language_in lang bytes result) }
     ensures line { IfOk result (λ line.
-        IfSome (D.remaining reader.old) (λ bytes. string_bytes line ≡ line_of (values_by kind bytes word.now))) }
+        IfSome (D.remaining reader.old) (λ bytes. string_bytes line ≡ score_line (values_by kind bytes word.now))) }
     ensures unwritten { IfErr result IsUnwritten }
     ensures kind { IfErr result HoldsNoWant }
 {
@@ -165,7 +165,7 @@ pub fn run_score<D: Read, O: Write>(
     ensures answers { IfSome (D.remaining dictionary.old) (λ bytes.
         Runs (refusal_of kind) language_in lang bytes result) }
     ensures written { OnOk result (IfSome (D.remaining dictionary.old)
-        (λ bytes. Appends (O.contents output.old) (O.contents output.new) (line_of (values_by kind bytes word.now)))) }
+        (λ bytes. Appends (O.contents output.old) (O.contents output.new) (score_line (values_by kind bytes word.now)))) }
     ensures untouched { BeforeWriting result (Keeps (O.contents output.old) (O.contents output.new)) }
     ensures kind { IfErr result HoldsNoWant }
 {
@@ -174,7 +174,7 @@ pub fn run_score<D: Read, O: Write>(
 }
 
 /// The text of an input with its words hyphenated by the dictionary of that kind and language that a reader's bytes
-/// give, behind edits.
+/// give, after edits.
 fn text_by<D: Read, I: Read>(
     alloc: Global,
     kind: Kind,
@@ -189,7 +189,7 @@ fn text_by<D: Read, I: Read>(
     ensures edits { JudgesEdits kind (map (λ edit. edit.now) edits.now) result }
     ensures text { IfSome (I.remaining input.old) (λ text. JudgesText text result) }
     ensures output { IfOk result (λ output. IfSome (D.remaining reader.old) (λ bytes. IfSome (I.remaining input.old) (λ text.
-        string_bytes output ≡ hyphenated (breaks_by kind bytes (map (λ edit. edit.now) edits.now)) mark.now text))) }
+        string_bytes output ≡ hyphenated_text (breaks_by kind bytes (map (λ edit. edit.now) edits.now)) mark.now text))) }
     ensures unwritten { IfErr result IsUnwritten }
     ensures kind { IfErr result HoldsNoWant }
 {
@@ -220,7 +220,7 @@ pub fn run<D: Read, I: Read, O: Write>(
     ensures text { IfSome (I.remaining input.old) (λ text. JudgesText text result) }
     ensures written { OnOk result (IfSome (D.remaining dictionary.old) (λ bytes. IfSome (I.remaining input.old) (λ text.
         Appends (O.contents output.old) (O.contents output.new)
-        (hyphenated (breaks_by kind bytes (map (λ edit. edit.now) edits.now)) mark.now text)))) }
+        (hyphenated_text (breaks_by kind bytes (map (λ edit. edit.now) edits.now)) mark.now text)))) }
     ensures untouched { BeforeWriting result (Keeps (O.contents output.old) (O.contents output.new)) }
     ensures kind { IfErr result HoldsNoWant }
 {

@@ -3,8 +3,8 @@
 ghost use Rattle.std.specs.Prelude.{◌≡◌, ◌++◌, List, [], ℕ, IfOk, OnOk, OnErr, IsUtf8};
 ghost use Rattle.std.specs.String.{string_bytes};
 ghost use Rattle.hyphenation_commons.specs.Break.{plain};
-ghost use Rattle.hyphenation.specs.Hyphenated.{hyphenated, joined};
-ghost use Rattle.hyphenation.specs.Opportunities.{no_change, rules_of, breaks_of};
+ghost use Rattle.hyphenation.specs.Hyphenated.{hyphenated_text, marked_word};
+ghost use Rattle.hyphenation.specs.Opportunities.{no_change, rules_of, all_breaks_of};
 
 use crate::hyphenator::Hyphenator;
 use crate::iter::joined::push_marked;
@@ -20,7 +20,7 @@ fn push_word<'h, H: Hyphenator<'h>>(
     word: &str,
     mark: &str,
 ) -> Result<(), AllocError>
-    ensures { OnOk result (string_bytes output.new ≡ string_bytes output.old ++ joined mark.now word.now
+    ensures { OnOk result (string_bytes output.new ≡ string_bytes output.old ++ marked_word mark.now word.now
         (H.breaks_of dictionary.now word.now)) }
 {
     let word = dictionary.hyphenate(alloc, word)?;
@@ -34,7 +34,7 @@ pub(crate) fn hyphenated_text<'h, H: Hyphenator<'h>>(
     text: &str,
     mark: &str,
 ) -> Result<String, AllocError>
-    ensures { IfOk result (λ output. string_bytes output ≡ hyphenated (H.breaks_of dictionary.now) mark.now text.now) }
+    ensures { IfOk result (λ output. string_bytes output ≡ hyphenated_text (H.breaks_of dictionary.now) mark.now text.now) }
 {
     let mut output = String::with_capacity(alloc, text.len())?;
     for piece in text.split_word_bounds() {
@@ -47,7 +47,7 @@ pub(crate) fn hyphenated_text<'h, H: Hyphenator<'h>>(
 ///
 /// The text is cut at the word bounds of Unicode, as `unicode_segmentation` lists the pieces; each piece, whether it is
 /// a word or not, is hyphenated by the dictionary, and in its place stand its segments, each but the last with the mark
-/// behind it. What is in the `String` before stays in front.
+/// after it. What is in the `String` before stays in front.
 ///
 /// The only error is that memory was refused, and then the `String` is as it was.
 ///
@@ -61,7 +61,7 @@ pub fn hyphenate_text<'h, H: Hyphenator<'h>>(
     text: &str,
     mark: &str,
 ) -> Result<(), AllocError>
-    ensures appended { OnOk result (string_bytes output.new ≡ string_bytes output.old ++ hyphenated
+    ensures appended { OnOk result (string_bytes output.new ≡ string_bytes output.old ++ hyphenated_text
         (H.breaks_of dictionary.now) mark.now text.now) }
     ensures err { OnErr result (string_bytes output.new ≡ string_bytes output.old) }
 {
@@ -74,7 +74,7 @@ pub fn hyphenate_text<'h, H: Hyphenator<'h>>(
 /// It is a law of all texts, and says it of the dictionary that is lent.
 pub fn an_empty_mark_gives_the_text_back(dictionary: &Standard)
     ensures { (text : List ℕ) → IsUtf8 text
-        → hyphenated (breaks_of (rules_of no_change plain dictionary.now)) [] text ≡ text }
+        → hyphenated_text (all_breaks_of (rules_of no_change plain dictionary.now)) [] text ≡ text }
 {
     // The call tells the proof what is true of each dictionary.
     let _minima = dictionary.minima();

@@ -12,10 +12,10 @@ use Rattle.std.proofs.lemmas.List.{append-nil}
 use Rattle.std.proofs.lemmas.List.Folds.{list_any-append}
 use Rattle.std.proofs.lemmas.List.Elements.{filter_map-append}
 use Rattle.std.proofs.lemmas.Bool.Decides.{nat_tests}
-use Rattle.hyphenation_commons.specs.Dictionary.{Texts}
-use Rattle.hyphenation_commons.specs.Judging.{own_cause, repetition, stands, fault_behind, missing}
+use Rattle.hyphenation_commons.specs.Dictionary.{TextMap}
+use Rattle.hyphenation_commons.specs.Judging.{own_cause, repetition, stands_in, fault_after, missing_head}
 use Rattle.hyphenation_commons.specs.Lines.{same}
-use Rattle.hyphenation_commons.specs.Reading.{gathered}
+use Rattle.hyphenation_commons.specs.Reading.{map_of_lines}
 use Rattle.hyphenation_commons.specs.declared.grammar.Cause.{Cause}
 use Rattle.hyphenation_commons.specs.declared.grammar.form.Form.{Form}
 use Rattle.hyphenation_commons.proofs.Passed.{both_left, both_right}
@@ -68,7 +68,7 @@ all-found {X} P (e ∷ es) s f =
         by false is = h
 
 -- what holds of each text that a map has holds of each of its entries
-pub all-entries : {X : Type 0} (P : List ℕ → X → Type 0) (m : Texts X) → ((q : List ℕ) (v : X) → finite.get m q ≡ Some v → P q v) → AllPairs P (finite.entries m)
+pub all-entries : {X : Type 0} (P : List ℕ → X → Type 0) (m : TextMap X) → ((q : List ℕ) (v : X) → finite.get m q ≡ Some v → P q v) → AllPairs P (finite.entries m)
 all-entries P m f = all-found P (finite.entries m) (entries_sorted m) (λ q v h. f q v (get-entries m q ∙ h))
 
 -- what a test finds of each of them, and two such findings together
@@ -84,12 +84,12 @@ all-both P Q R (x ∷ xs) f h k = (f x.0 x.1 h.0 k.0, all-both P Q R xs f h.1 k.
 
 module _ (form : Form) where
   pub passes_line : (earlier : List (List ℕ)) (l : List ℕ) (rest : List (List ℕ)) → own_cause form (length earlier + 1) l ≡ None → repetition form.version earlier l ≡ None
-      → fault_behind form (earlier ++ l ∷ []) rest ≡ None → fault_behind form earlier (l ∷ rest) ≡ None
+      → fault_after form (earlier ++ l ∷ []) rest ≡ None → fault_after form earlier (l ∷ rest) ≡ None
   passes_line earlier l rest o r f =
-      ap (λ (c : Option Cause). option_or (option_map {U = ℕ × Cause} (λ cause. (length earlier + 1, cause)) (option_or c (repetition form.version earlier l))) (fault_behind form (earlier ++ l ∷ []) rest)) o
-      ∙ ap (λ (c : Option Cause). option_or (option_map {U = ℕ × Cause} (λ cause. (length earlier + 1, cause)) c) (fault_behind form (earlier ++ l ∷ []) rest)) r ∙ f
+      ap (λ (c : Option Cause). option_or (option_map {U = ℕ × Cause} (λ cause. (length earlier + 1, cause)) (option_or c (repetition form.version earlier l))) (fault_after form (earlier ++ l ∷ []) rest)) o
+      ∙ ap (λ (c : Option Cause). option_or (option_map {U = ℕ × Cause} (λ cause. (length earlier + 1, cause)) c) (fault_after form (earlier ++ l ∷ []) rest)) r ∙ f
 
-  pub enough : (n : ℕ) → 2 < n → option_map {U = ℕ × Cause} (λ cause. (n + 1, cause)) (missing n) ≡ None
+  pub enough : (n : ℕ) → 2 < n → option_map {U = ℕ × Cause} (λ cause. (n + 1, cause)) (missing_head n) ≡ None
   enough n h = rw (other 0 n (omega arith), other 1 n (omega arith), other 2 n (omega arith)) refl
     where
       other : (k n : ℕ) → k < n → eqb n k ≡ false
@@ -99,11 +99,11 @@ module _ (form : Form) where
     pub record Fine (q : List ℕ) (v : X) : Type 0 where
       pub own : (n : ℕ) → 3 < n → own_cause form n (line (q, v)) ≡ None
       pub says : spells (line (q, v)) ≡ Some q
-      pub alone : (earlier : List (List ℕ)) → stands spells earlier q ≡ false → repetition form.version earlier (line (q, v)) ≡ None
+      pub alone : (earlier : List (List ℕ)) → stands_in spells earlier q ≡ false → repetition form.version earlier (line (q, v)) ≡ None
 
     abbrev pub AllNew : List (List ℕ) → List (List ℕ × X) → Type 0
     AllNew earlier [] = Unit {0}
-    AllNew earlier (x ∷ xs) = (stands spells earlier x.0 ≡ false) × AllNew earlier xs
+    AllNew earlier (x ∷ xs) = (stands_in spells earlier x.0 ≡ false) × AllNew earlier xs
 
     new-more : (earlier : List (List ℕ)) (l q : List ℕ) (v : X) (xs : List (List ℕ × X)) → spells l ≡ Some q → T (is_sorted (slice_cmp nat_cmp) ((q, v) ∷ xs)) → AllNew earlier xs → AllNew (earlier ++ l ∷ []) xs
     new-more earlier l q v [] says s new = tt
@@ -111,28 +111,28 @@ module _ (form : Form) where
         let p = pick (is_lt (slice_cmp nat_cmp q x.0)) _ _ _ s in
         let apart : same q x.0 ≡ false = texts_ties q x.0 ∙ less_off (slice_cmp nat_cmp q x.0) p.0 in (
           list_any-append (λ other. option_map_or (λ t. same t x.0) (spells other) false) earlier (l ∷ [])
-              ∙ ap (λ (o : Option (List ℕ)). stands spells earlier x.0 || (option_map_or (λ t. same t x.0) o false || false)) says
-              ∙ ap (λ (t : Bool). stands spells earlier x.0 || (t || false)) apart ∙ ap (λ (t : Bool). t || false) new.0,
+              ∙ ap (λ (o : Option (List ℕ)). stands_in spells earlier x.0 || (option_map_or (λ t. same t x.0) o false || false)) says
+              ∙ ap (λ (t : Bool). stands_in spells earlier x.0 || (t || false)) apart ∙ ap (λ (t : Bool). t || false) new.0,
           new-more earlier l q v xs says p.1 new.1,
         )
 
     pub chain : (xs : List (List ℕ × X)) → AllPairs Fine xs → T (is_sorted (slice_cmp nat_cmp) xs) → (earlier : List (List ℕ)) → 2 < length earlier → AllNew earlier xs
-        → (rest : List (List ℕ)) → fault_behind form (earlier ++ map line xs) rest ≡ None → fault_behind form earlier (map line xs ++ rest) ≡ None
-    chain [] fine s earlier long new rest h = subst (λ (ls : List (List ℕ)). fault_behind form ls rest ≡ None) (append-nil earlier) h
+        → (rest : List (List ℕ)) → fault_after form (earlier ++ map line xs) rest ≡ None → fault_after form earlier (map line xs ++ rest) ≡ None
+    chain [] fine s earlier long new rest h = subst (λ (ls : List (List ℕ)). fault_after form ls rest ≡ None) (append-nil earlier) h
     chain (x ∷ xs) fine s earlier long new rest h =
         let f = fine.0 in
         passes_line earlier (line x) (map line xs ++ rest) (f.own (length earlier + 1) (omega arith)) (f.alone earlier new.0)
         (chain xs fine.1 (second _ _ s) (earlier ++ line x ∷ []) (omega (arith, length-append earlier (line x ∷ []))) (new-more earlier (line x) x.0 x.1 xs f.says s new.1) rest
-        (subst (λ (ls : List (List ℕ)). fault_behind form ls rest ≡ None) (sym (append_assoc earlier (line x ∷ []) (map line xs))) h))
+        (subst (λ (ls : List (List ℕ)). fault_after form ls rest ≡ None) (sym (append_assoc earlier (line x ∷ []) (map line xs))) h))
 
     -- lines that spell no such text
     abbrev pub AllSilent : List (List ℕ) → Type 0
     AllSilent [] = Unit {0}
     AllSilent (l ∷ ls) = (spells l ≡ None) × AllSilent ls
 
-    none-stand : (ls : List (List ℕ)) (q : List ℕ) → AllSilent ls → stands spells ls q ≡ false
+    none-stand : (ls : List (List ℕ)) (q : List ℕ) → AllSilent ls → stands_in spells ls q ≡ false
     none-stand [] q h = refl
-    none-stand (l ∷ ls) q h = ap (λ (o : Option (List ℕ)). option_map_or (λ t. same t q) o false || stands spells ls q) h.0 ∙ none-stand ls q h.1
+    none-stand (l ∷ ls) q h = ap (λ (o : Option (List ℕ)). option_map_or (λ t. same t q) o false || stands_in spells ls q) h.0 ∙ none-stand ls q h.1
 
     pub all-new : (ls : List (List ℕ)) (xs : List (List ℕ × X)) → AllSilent ls → AllNew ls xs
     all-new ls [] h = tt
@@ -140,7 +140,7 @@ module _ (form : Form) where
 
 -- ---- What lines of a map spell.
 
-entries_again : {X : Type 0} (m : Texts X) → finite.from_entries (finite.entries m) ≡ m
+entries_again : {X : Type 0} (m : TextMap X) → finite.from_entries (finite.entries m) ≡ m
 entries_again m = same_map nat_list_cmp_total (slice_cmp-IsAntisymmetric nat_cmp-IsAntisymmetric) _ _ (λ q. get-from_entries nat_list_cmp_total (finite.entries m) q ∙ sym (get-entries m q))
 
 module _ {X : Type 0} (spells : List ℕ → Option (List ℕ × X)) (line : List ℕ × X → List ℕ) where
@@ -159,8 +159,8 @@ module _ {X : Type 0} (spells : List ℕ → Option (List ℕ × X)) (line : Lis
   quiet [] h = refl
   quiet (l ∷ ls) h = ap (λ (o : Option (List ℕ × X)). cons_option o (filter_map spells ls)) h.0 ∙ quiet ls h.1
 
-  -- lines that say nothing of the map before and behind its own
-  pub gathered_again : (m : Texts X) (before after : List (List ℕ)) → AllPairs Again (finite.entries m) → AllQuiet before → AllQuiet after → gathered spells (before ++ (map line (finite.entries m) ++ after)) ≡ m
+  -- lines that say nothing of the map before and after its own
+  pub gathered_again : (m : TextMap X) (before after : List (List ℕ)) → AllPairs Again (finite.entries m) → AllQuiet before → AllQuiet after → map_of_lines spells (before ++ (map line (finite.entries m) ++ after)) ≡ m
   gathered_again m before after h b a =
       ap (λ (es : List (List ℕ × X)). finite.from_entries {R = slice_cmp nat_cmp} es)
       (filter_map-append spells before (map line (finite.entries m) ++ after)

@@ -4,7 +4,7 @@ use Rattle.std.specs.Prelude.{slice_get}
 use Rattle.std.proofs.lemmas.Bool.{cases_eq, cases_lt}
 use Rattle.std.proofs.lemmas.List.{length-append, length-map, length-set, map_push, get_or-map, get_or_append_left, get_or_push}
 use Rattle.hyphenation_commons.specs.Chains.{IsLastBelow, IsChained}
-use Rattle.hyphenation_commons.specs.Growing.{IsHeld, IsSought}
+use Rattle.hyphenation_commons.specs.Growing.{IsGrowing, IsSought}
 use Rattle.hyphenation_commons.specs.Links.{parent_of, byte_of}
 use Rattle.hyphenation_commons.specs.Trie.{texts_of, AreApart, HasFroms}
 use Rattle.hyphenation_commons.proofs.Chained.{chained-new, chained-push}
@@ -31,7 +31,7 @@ apart-grow texts t absent apart i j li lj e =
       ]
     ]
 
-pub held-new : IsHeld (None ∷ []) (0 ∷ []) (0 ∷ [])
+pub held-new : IsGrowing (None ∷ []) (0 ∷ []) (0 ∷ [])
 held-new = record {
   root = refl;
   apart = λ i j li lj e. omega arith;
@@ -47,9 +47,9 @@ earlier fs has j pos lj =
     let h = has j pos (omega (arith, length-texts_of fs)) in
     omega (arith, h.2, get_or-map parent_of fs j None 0 (omega arith) ∙ ap parent_of h.1)
 
-pub held-grow : (fs : List (Option (ℕ × ℕ))) (lasts befores : List ℕ) (n i b : ℕ) → n ≡ length fs → IsHeld fs lasts befores → i < length (texts_of fs)
+pub held-grow : (fs : List (Option (ℕ × ℕ))) (lasts befores : List ℕ) (n i b : ℕ) → n ≡ length fs → IsGrowing fs lasts befores → i < length (texts_of fs)
     → ((j : ℕ) → j < length (texts_of fs) → get_or (texts_of fs) j [] ≢ get_or (texts_of fs) i [] ++ b ∷ [])
-    → IsHeld (fs ++ Some (i, b) ∷ []) (set (lasts ++ 0 ∷ []) i n) (befores ++ slice_index lasts i ∷ [])
+    → IsGrowing (fs ++ Some (i, b) ∷ []) (set (lasts ++ 0 ∷ []) i n) (befores ++ slice_index lasts i ∷ [])
 held-grow fs lasts befores n i b is held li absent =
     let texts : List (List ℕ) = texts_of fs in
     let t : List ℕ = get_or texts i [] ++ b ∷ [] in
@@ -70,7 +70,7 @@ held-grow fs lasts befores n i b is held li absent =
 elsewhere : (froms : List (Option (ℕ × ℕ))) (node byte k : ℕ) → k < length froms → slice_index (map parent_of froms) k ≢ node → get_or froms k None ≢ Some (node, byte)
 elsewhere froms node byte k lt apart e = apart (get_or-map parent_of froms k None 0 lt ∙ ap parent_of e)
 
-pub sought-start : (froms : List (Option (ℕ × ℕ))) (lasts befores : List ℕ) (node byte child : ℕ) → IsHeld froms lasts befores → node < length froms → child ≡ slice_index lasts node → IsSought froms node byte child
+pub sought-start : (froms : List (Option (ℕ × ℕ))) (lasts befores : List ℕ) (node byte child : ℕ) → IsGrowing froms lasts befores → node < length froms → child ≡ slice_index lasts node → IsSought froms node byte child
 sought-start froms lasts befores node byte child held li is =
     let count : length (map parent_of froms) ≡ length froms = length-map froms parent_of in
     let h = held.chained.lasts node (omega (arith, held.nodes)) in
@@ -79,7 +79,7 @@ sought-start froms lasts befores node byte child held li is =
       above = λ k low high. elsewhere froms node byte k high (h.none k (omega arith) (omega arith));
     }
 
-pub sought-next : (froms : List (Option (ℕ × ℕ))) (lasts befores : List ℕ) (node byte child next : ℕ) → IsHeld froms lasts befores → IsSought froms node byte child → 0 < child
+pub sought-next : (froms : List (Option (ℕ × ℕ))) (lasts befores : List ℕ) (node byte child next : ℕ) → IsGrowing froms lasts befores → IsSought froms node byte child → 0 < child
     → get_or froms child None ≢ Some (node, byte) → next ≡ slice_index befores child → (next < child) × IsSought froms node byte next
 sought-next froms lasts befores node byte child next held at pos apart is =
     let count : length (map parent_of froms) ≡ length froms = length-map froms parent_of in
@@ -103,7 +103,7 @@ same_from : (x y : ℕ × ℕ) → Some x ≡ Some y → x ≡ y
 same_from x y e = cc
 
 -- the node at hand is the child at its own byte
-pub sought-byte : (froms : List (Option (ℕ × ℕ))) (lasts befores : List ℕ) (node byte child : ℕ) (from : Option (ℕ × ℕ)) → IsHeld froms lasts befores → IsSought froms node byte child → 0 < child
+pub sought-byte : (froms : List (Option (ℕ × ℕ))) (lasts befores : List ℕ) (node byte child : ℕ) (from : Option (ℕ × ℕ)) → IsGrowing froms lasts befores → IsSought froms node byte child → 0 < child
     → get_or froms child None ≡ from → get_or froms child None ≡ Some (node, byte_of from)
 sought-byte froms lasts befores node byte child from held at pos read =
     let w = at.here pos in
@@ -115,7 +115,7 @@ sought-byte froms lasts befores node byte child from held at pos read =
 pub other_byte : (node a b : ℕ) → ◌≡◌ {A = Option (ℕ × ℕ)} (Some (node, a)) (Some (node, b)) → a ≡ b
 other_byte node a b e = ap (λ (x : ℕ × ℕ). x.1) (same_from (node, a) (node, b) e)
 
-pub sought-found : (froms : List (Option (ℕ × ℕ))) (lasts befores : List ℕ) (node byte child : ℕ) → IsHeld froms lasts befores → IsSought froms node byte child → 0 < child
+pub sought-found : (froms : List (Option (ℕ × ℕ))) (lasts befores : List ℕ) (node byte child : ℕ) → IsGrowing froms lasts befores → IsSought froms node byte child → 0 < child
     → get_or froms child None ≡ Some (node, byte) → (child < length (texts_of froms)) × (get_or (texts_of froms) child [] ≡ get_or (texts_of froms) node [] ++ byte ∷ [])
 sought-found froms lasts befores node byte child held at pos is =
     let lt : child < length (texts_of froms) = omega (arith, length-texts_of froms, (at.here pos).0) in
@@ -123,7 +123,7 @@ sought-found froms lasts befores node byte child held at pos is =
     let from : h.0 ≡ (node, byte) = same_from h.0 (node, byte) (sym h.1 ∙ is) in
     (lt, h.3 ∙ ap (λ (x : ℕ × ℕ). get_or (texts_of froms) x.0 [] ++ x.1 ∷ []) from)
 
-pub sought-none : (froms : List (Option (ℕ × ℕ))) (lasts befores : List ℕ) (node byte child : ℕ) → IsHeld froms lasts befores → IsSought froms node byte child → child ≡ 0 → node < length (texts_of froms)
+pub sought-none : (froms : List (Option (ℕ × ℕ))) (lasts befores : List ℕ) (node byte child : ℕ) → IsGrowing froms lasts befores → IsSought froms node byte child → child ≡ 0 → node < length (texts_of froms)
     → (j : ℕ) → j < length (texts_of froms) → get_or (texts_of froms) j [] ≢ get_or (texts_of froms) node [] ++ byte ∷ []
 sought-none froms lasts befores node byte child held at none li j lj e = elim (cases_eq j 0) [
   | inl zero ↦ not_empty (get_or (texts_of froms) node []) byte (sym (root_text (texts_of froms) held.root).0 ∙ ap (λ (x : ℕ). get_or (texts_of froms) x []) (sym zero) ∙ e)

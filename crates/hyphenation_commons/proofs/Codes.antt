@@ -7,7 +7,7 @@ use Rattle.std.proofs.lemmas.Str.{IsUtf8-from_ascii}
 use Rattle.std.proofs.lemmas.Str.Ascii.{IsAscii-from_all}
 use Rattle.std.proofs.lemmas.List.Elements.{All-from_recursion}
 use Rattle.std.proofs.lemmas.List.{drop-replicate, drop_at, take_at, length-append, length-drop, length-replicate}
-use Rattle.hyphenation_commons.specs.Language.{is_code_byte, IsCode, IsHeld}
+use Rattle.hyphenation_commons.specs.Language.{is_code_byte, IsCode, IsPadded}
 
 first_of : (a b : Bool) → IsTrue (a && b) → IsTrue a
 first_of true b h = refl
@@ -30,10 +30,10 @@ all_small (b ∷ bs) h = (small b (first_of (is_code_byte b) (list_all is_code_b
 pub is_code-utf8 : (text : List ℕ) → IsCode text → IsUtf8 text
 is_code-utf8 text h = IsUtf8-from_ascii text (IsAscii-from_all text (All-from_recursion (λ b. b < 128) text (all_small text (second_of (nat_le 1 (length text) && nat_le (length text) 32) (list_all is_code_byte text) h))))
 
-pub zeros-behind : (text : List ℕ) → length text ≤ 32 → drop (length text) (text ++ drop (length text) (replicate 32 0)) ≡ replicate (32 - length text) 0
-zeros-behind text le = drop_at text (drop (length text) (replicate 32 0)) (length text) refl ∙ drop-replicate (length text) 32 0
+pub zeros-after : (text : List ℕ) → length text ≤ 32 → drop (length text) (text ++ drop (length text) (replicate 32 0)) ≡ replicate (32 - length text) 0
+zeros-after text le = drop_at text (drop (length text) (replicate 32 0)) (length text) refl ∙ drop-replicate (length text) 32 0
 
-pub IsHeld-made : (text : List ℕ) → IsCode text → IsHeld (length text) (text ++ drop (length text) (replicate 32 0))
+pub IsHeld-made : (text : List ℕ) → IsCode text → IsPadded (length text) (text ++ drop (length text) (replicate 32 0))
 IsHeld-made text code =
     let short = is_code-short text code in
     let rest : List ℕ = drop (length text) (replicate 32 0) in
@@ -42,7 +42,7 @@ IsHeld-made text code =
       within = omega arith;
       whole = long;
       code = rw (take_at text rest (length text) refl) code;
-      zeros = zeros-behind text short;
+      zeros = zeros-after text short;
     }
 
 pub is_ok_unless : {T E : Type 0} (r : Result T E) (P : T → Type 0) (Q : E → Type 0) → MatchResult r P Q → ((e : E) → Q e → ⊥) → IsOk r

@@ -6,8 +6,8 @@ use Rattle.std.proofs.lemmas.Fmt.{decimal_by_steps, IsAscii-decimal}
 use Rattle.std.proofs.lemmas.Bool.{and_from, le-leb}
 use Rattle.std.proofs.lemmas.Bool.Decides.{nat_tests}
 use Rattle.std.proofs.lemmas.Str.{IsUtf8-from_ascii}
-use Rattle.hyphenation_commons.specs.Lines.{is_digit, with_digit, number, has_no_idle_zero, is_number, small_of}
-use Rattle.hyphenation_commons.specs.Tokens.{braced}
+use Rattle.hyphenation_commons.specs.Lines.{is_digit, with_digit, number, has_no_leading_zero, is_number, small_of}
+use Rattle.hyphenation_commons.specs.Tokens.{braced_value}
 use Rattle.hyphenation_commons.proofs.Passed.{both_left, both_right}
 
 digit_is : (n : ℕ) → n < 10 → is_digit (48 + n) ≡ true
@@ -25,7 +25,7 @@ fold_more (b ∷ ds) at d = fold_more ds (with_digit at b) d
 pub record IsWritten (n : ℕ) (ds : List ℕ) : Type 0 where
   pub digits : list_all is_digit ds ≡ true
   pub value : number ds ≡ n
-  pub first : has_no_idle_zero ds ≡ true
+  pub first : has_no_leading_zero ds ≡ true
 
 one : (n : ℕ) → n < 10 → IsWritten n ((48 + n) ∷ [])
 one n h = record { digits = and_from (is_digit (48 + n)) true (digit_is n h) refl; value = sums n; first = either (48 + n) }
@@ -39,7 +39,7 @@ one n h = record { digits = and_from (is_digit (48 + n)) true (digit_is n h) ref
 clash : (k : ℕ) → eqb (suc k) 0 ≡ true → ⊥
 clash k e = grind (arith, nat_tests)
 
-no_zero : (n : ℕ) (ds : List ℕ) (d : ℕ) → 10 ≤ n → IsWritten (n / 10) ds → has_no_idle_zero (ds ++ d ∷ []) ≡ true
+no_zero : (n : ℕ) (ds : List ℕ) (d : ℕ) → 10 ≤ n → IsWritten (n / 10) ds → has_no_leading_zero (ds ++ d ∷ []) ≡ true
 no_zero n [] d h w = let v : 0 ≡ n / 10 = w.value in absurd (omega arith)
 no_zero n (b ∷ []) d h w = rw (apart) refl
   where
@@ -67,7 +67,7 @@ decimal-written n h = decimal_by_steps IsWritten one more n h
 pub decimal-number : (n : ℕ) → n < 2 ^ 64 → (is_number (decimal n) ≡ true) × (number (decimal n) ≡ n)
 decimal-number n h =
     let w = decimal-written n h in
-    (and_from (list_all is_digit (decimal n) && has_no_idle_zero (decimal n)) (nat_lt (number (decimal n)) (2 ^ 64)) (and_from (list_all is_digit (decimal n)) (has_no_idle_zero (decimal n)) w.digits w.first) (rw w.value (below n h)), w.value)
+    (and_from (list_all is_digit (decimal n) && has_no_leading_zero (decimal n)) (nat_lt (number (decimal n)) (2 ^ 64)) (and_from (list_all is_digit (decimal n)) (has_no_leading_zero (decimal n)) w.digits w.first) (rw w.value (below n h)), w.value)
   where
     below : (n : ℕ) → n < 2 ^ 64 → nat_lt n (2 ^ 64) ≡ true
     below n h = grind (arith, nat_tests)
@@ -89,7 +89,7 @@ small-again n h =
     let d = decimal-number n (wide n h) in
     ap (λ (t : Bool). cond {A = Option ℕ} t (Some (number (decimal n))) None) (and_from (is_number (decimal n)) (nat_le (number (decimal n)) 255) d.0 (ap (λ (k : ℕ). nat_le k 255) d.1 ∙ le-leb n 255 h)) ∙ ap (λ (k : ℕ). Some k) d.1
 
-pub braced-again : (n : ℕ) → nat_le n 9 ≡ false → n ≤ 255 → braced (decimal n) ≡ Some n
+pub braced-again : (n : ℕ) → nat_le n 9 ≡ false → n ≤ 255 → braced_value (decimal n) ≡ Some n
 braced-again n big h = rw (small-again n h, from_ten n big) refl
   where
     from_ten : (n : ℕ) → nat_le n 9 ≡ false → nat_le 10 n ≡ true

@@ -12,12 +12,12 @@ use Rattle.std.specs.declared.vec.Vec.{Vec}
 use Rattle.std.proofs.lemmas.Str.{IsUtf8-append, is_utf8-from_IsUtf8}
 use Rattle.hyphenation_commons.specs.Break.{Break, Change, plain}
 use Rattle.hyphenation_commons.specs.Dictionary.{Contents}
-use Rattle.hyphenation_commons.specs.Edits.{Reads, as_line, form_in, is_addition, is_sound, line_of, said, named, edited, edited_by, last_said}
-use Rattle.hyphenation_commons.specs.Items.{listed}
+use Rattle.hyphenation_commons.specs.Edits.{ReadsException, as_line, form_in, is_addition, is_sound_line, edit_line, said_of_word, word_named, after_edit, after_edits, last_said_of}
+use Rattle.hyphenation_commons.specs.Items.{breaks_of_line}
 use Rattle.hyphenation_commons.specs.Judging.{own_cause, is_known}
 use Rattle.hyphenation_commons.specs.Kept.{are_listed}
-use Rattle.hyphenation_commons.specs.Lines.{same, behind}
-use Rattle.hyphenation_commons.specs.Said.{Lists, item_cause}
+use Rattle.hyphenation_commons.specs.Lines.{same, strip_prefix}
+use Rattle.hyphenation_commons.specs.Said.{AnswersException, item_cause}
 use Rattle.hyphenation_commons.specs.declared.grammar.form.Form.{Form}
 use Rattle.hyphenation_commons.specs.declared.grammar.form.Kind.{Kind}
 use Rattle.hyphenation_commons.specs.declared.grammar.form.Version.TheVariants.{First}
@@ -60,30 +60,30 @@ none_there : {X : Type 0} (o : Option X) → is_none o ≡ true → o ≡ None
 none_there None e = refl
 none_there (Some x) e = absurd cc
 
-pub read : {B Y Z : Type 0} (kind : Kind) (lists : Break → B) (text : List ℕ) (r : Result (String Y × Vec B Z) Fault) → IsUtf8 text
-    → ((line : List ℕ) → Some text ≡ behind (codes "e ") line → Lists (form_in kind First) lists line r) → (x : String Y × Vec B Z) → r ≡ Ok x → Reads kind lists (Some x) (as_line text)
-read {B} {Y} {Z} kind lists text r u answers x e =
+pub read : {B Y Z : Type 0} (kind : Kind) (listing_of : Break → B) (text : List ℕ) (r : Result (String Y × Vec B Z) Fault) → IsUtf8 text
+    → ((line : List ℕ) → Some text ≡ strip_prefix (codes "e ") line → AnswersException (form_in kind First) listing_of line r) → (x : String Y × Vec B Z) → r ≡ Ok x → ReadsException kind listing_of (Some x) (as_line text)
+read {B} {Y} {Z} kind listing_of text r u answers x e =
     let form = form_in kind First in
-    let h : Lists form lists (as_line text) (Ok x) = subst (λ (s : Result (String Y × Vec B Z) Fault). Lists form lists (as_line text) s) e (answers (as_line text) refl) in
+    let h : AnswersException form listing_of (as_line text) (Ok x) = subst (λ (s : Result (String Y × Vec B Z) Fault). AnswersException form listing_of (as_line text) s) e (answers (as_line text) refl) in
     (no_cause (own_cause form 4 (as_line text)) (only_item form text u ∙ h.0), h.1.1)
 
-pub unread : {B Y Z : Type 0} (kind : Kind) (lists : Break → B) (text : List ℕ) (r : Result (String Y × Vec B Z) Fault) → IsUtf8 text
-    → ((line : List ℕ) → Some text ≡ behind (codes "e ") line → Lists (form_in kind First) lists line r) → (fault : Fault) (cause : Cause) → r ≡ Err fault → fault ≡ Fails cause → is_sound kind (as_line text) ≡ false
-unread {B} {Y} {Z} kind lists text r u answers fault cause e fails =
+pub unread : {B Y Z : Type 0} (kind : Kind) (listing_of : Break → B) (text : List ℕ) (r : Result (String Y × Vec B Z) Fault) → IsUtf8 text
+    → ((line : List ℕ) → Some text ≡ strip_prefix (codes "e ") line → AnswersException (form_in kind First) listing_of line r) → (fault : Fault) (cause : Cause) → r ≡ Err fault → fault ≡ Fails cause → is_sound_line kind (as_line text) ≡ false
+unread {B} {Y} {Z} kind listing_of text r u answers fault cause e fails =
     let form = form_in kind First in
-    let h : item_cause form (as_line text) ≡ Some cause = subst (λ (s : Result (String Y × Vec B Z) Fault). Lists form lists (as_line text) s) (e ∙ ap Err fails) (answers (as_line text) refl) in
+    let h : item_cause form (as_line text) ≡ Some cause = subst (λ (s : Result (String Y × Vec B Z) Fault). AnswersException form listing_of (as_line text) s) (e ∙ ap Err fails) (answers (as_line text) refl) in
     some_cause (own_cause form 4 (as_line text)) cause (only_item form text u ∙ h)
 
-pub may_be_listed : {B Y Z : Type 0} (kind : Kind) (lists : Break → B) (break_of : B → Break) → ((b : Break) → (break_of (lists b) ≡ b) ⊎ (break_of (lists b) ≡ plain b.place))
-    → (line : List ℕ) (found : Option (String Y × Vec B Z)) (x : String Y × Vec B Z) → found ≡ Some x → Reads kind lists found line → IsTrue (are_listed break_of (string_bytes x.0) 0 x.1.items)
-may_be_listed {B} {Y} {Z} kind lists break_of kept line found x e reads =
+pub may_be_listed : {B Y Z : Type 0} (kind : Kind) (listing_of : Break → B) (break_of : B → Break) → ((b : Break) → (break_of (listing_of b) ≡ b) ⊎ (break_of (listing_of b) ≡ plain b.place))
+    → (line : List ℕ) (found : Option (String Y × Vec B Z)) (x : String Y × Vec B Z) → found ≡ Some x → ReadsException kind listing_of found line → IsTrue (are_listed break_of (string_bytes x.0) 0 x.1.items)
+may_be_listed {B} {Y} {Z} kind listing_of break_of kept line found x e reads =
     let form = form_in kind First in
-    let h : Reads kind lists (Some x) line = subst (λ (o : Option (String Y × Vec B Z)). Reads kind lists o line) e reads in
-    (exception_held (λ (c : Option Change). tt) lists (λ (u : Unit {0}). None) break_of (λ c. inr refl) kept form 4 line (string_bytes x.0) x.1.items (none_there (own_cause form 4 line) h.0) h.1).ascend
+    let h : ReadsException kind listing_of (Some x) line = subst (λ (o : Option (String Y × Vec B Z)). ReadsException kind listing_of o line) e reads in
+    (exception_held (λ (c : Option Change). tt) listing_of (λ (u : Unit {0}). None) break_of (λ c. inr refl) kept form 4 line (string_bytes x.0) x.1.items (none_there (own_cause form 4 line) h.0) h.1).ascend
 
--- what stands behind a sign
-pub behind_sign : (sign b : ℕ) (edit rest : List ℕ) → sign < 128 → b ≡ sign → edit ≡ b ∷ rest → IsUtf8 edit → IsUtf8 rest
-behind_sign sign b edit rest small is e u = (split_ascii [] b rest (subst (λ (x : ℕ). x < 128) (sym is) small) (subst IsUtf8 e u)).1
+-- what stands after a sign
+pub after_sign : (sign b : ℕ) (edit rest : List ℕ) → sign < 128 → b ≡ sign → edit ≡ b ∷ rest → IsUtf8 edit → IsUtf8 rest
+after_sign sign b edit rest small is e u = (split_ascii [] b rest (subst (λ (x : ℕ). x < 128) (sym is) small) (subst IsUtf8 e u)).1
 
 -- ---- the last edit that names a word decides
 
@@ -106,10 +106,10 @@ either_or : {X : Type 0} (o p : Option X) (x y : X) → y ≡ unwrap_or p x → 
 either_or None p x y e = e
 either_or (Some z) p x y e = refl
 
-pub last_decides : {C B : Type 0} (lists : Break → B) (dictionary : Contents C B) (edits : List (List ℕ)) (word : List ℕ)
-    → finite.get (edited_by lists dictionary edits).exceptions word ≡ unwrap_or (last_said lists word edits) (finite.get dictionary.exceptions word)
-last_decides lists dictionary [] word = refl
-last_decides {C} {B} lists dictionary (e ∷ es) word =
-    last_decides lists (edited lists dictionary e) es word
-    ∙ either_or (last_said lists word es) (cond (same (named e) word) (Some (said lists e)) None) (finite.get dictionary.exceptions word) (finite.get (edited lists dictionary e).exceptions word)
-    (one_edit dictionary (named e) word (map lists (listed (line_of e))) (is_addition e))
+pub last_decides : {C B : Type 0} (listing_of : Break → B) (dictionary : Contents C B) (edits : List (List ℕ)) (word : List ℕ)
+    → finite.get (after_edits listing_of dictionary edits).exceptions word ≡ unwrap_or (last_said_of listing_of word edits) (finite.get dictionary.exceptions word)
+last_decides listing_of dictionary [] word = refl
+last_decides {C} {B} listing_of dictionary (e ∷ es) word =
+    last_decides listing_of (after_edit listing_of dictionary e) es word
+    ∙ either_or (last_said_of listing_of word es) (cond (same (word_named e) word) (Some (said_of_word listing_of e)) None) (finite.get dictionary.exceptions word) (finite.get (after_edit listing_of dictionary e).exceptions word)
+    (one_edit dictionary (word_named e) word (map listing_of (breaks_of_line (edit_line e))) (is_addition e))

@@ -5,11 +5,11 @@ use Rattle.std.specs.List.{AllByRecursion}
 use Rattle.std.proofs.lemmas.Bool.Decides.{nat_tests}
 use Rattle.hyphenation_commons.specs.Lines.{is_digit}
 use Rattle.hyphenation_commons.specs.Tokens.{escaped_also, pattern_escapes}
-use Rattle.hyphenation_commons.specs.Canonical.{byte_spelling, mark_spelling, text_token, before_comma}
+use Rattle.hyphenation_commons.specs.Canonical.{byte_spelling, element_spelling, text_token, before_comma}
 use Rattle.hyphenation_commons.specs.declared.grammar.tokens.Escapes.{Escapes}
 use Rattle.hyphenation_commons.specs.declared.grammar.tokens.Escapes.TheVariants.{Plain, Digits, DigitsAndBraces}
-use Rattle.hyphenation_commons.specs.declared.grammar.tokens.Mark.{Mark}
-use Rattle.hyphenation_commons.specs.declared.grammar.tokens.Mark.TheVariants.{Letter, Value}
+use Rattle.hyphenation_commons.specs.declared.grammar.tokens.PatternElement.{PatternElement}
+use Rattle.hyphenation_commons.specs.declared.grammar.tokens.PatternElement.TheVariants.{Letter, Value}
 use Rattle.hyphenation_commons.specs.declared.grammar.form.Version.{Version}
 use Rattle.hyphenation_commons.proofs.Decimals.{decimal-written, all-digits, wide}
 use Rattle.hyphenation_commons.proofs.Written.{AllValues, greatest, greatest-byte}
@@ -22,7 +22,7 @@ pub free-append : (c : ℕ) (xs ys : List ℕ) → Free c xs → Free c ys → F
 free-append c [] ys h k = k
 free-append c (x ∷ xs) ys h k = (h.0, free-append c xs ys h.1 k)
 
--- a line feed or a space: what is escaped in each token, and is no letter behind a backslash
+-- a line feed or a space: what is escaped in each token, and is no letter after a backslash
 pub record IsGap (c : ℕ) : Type 0 where
   pub below : c < 48
   pub not_comma : eqb 44 c ≡ false
@@ -85,17 +85,17 @@ module _ (c : ℕ) (gap : IsGap c) where
   pub number-free : (n : ℕ) → n < 2 ^ 64 → Free c (decimal n)
   number-free n h = digits-free c n gap.below h
 
-  value-free : (version : Version) (v : ℕ) → v ≤ greatest version → Free c (mark_spelling version (Value v))
+  value-free : (version : Version) (v : ℕ) → v ≤ greatest version → Free c (element_spelling version (Value v))
   value-free version v h = by (nat_le v 9)
     where
       by : (t : Bool) → Free c (cond t ((48 + v) ∷ []) (123 ∷ (decimal v ++ 125 ∷ [])))
       by true = let l = gap.below in (small (48 + v) c (omega arith), tt)
       by false = let l = gap.below in (small 123 c (omega arith), free-append c (decimal v) (125 ∷ []) (number-free v (wide v (greatest-byte version v h))) (small 125 c (omega arith), tt))
 
-  pub marks-free : (version : Version) (ms : List Mark) → AllValues version ms → Free c (flat_map (mark_spelling version) ms)
+  pub marks-free : (version : Version) (ms : List PatternElement) → AllValues version ms → Free c (flat_map (element_spelling version) ms)
   marks-free version [] h = tt
-  marks-free version (Letter b ∷ ms) h = free-append c (byte_spelling (pattern_escapes version) b) (flat_map (mark_spelling version) ms) (byte-free (pattern_escapes version) b) (marks-free version ms h)
-  marks-free version (Value v ∷ ms) h = free-append c (mark_spelling version (Value v)) (flat_map (mark_spelling version) ms) (value-free version v h.0) (marks-free version ms h.1)
+  marks-free version (Letter b ∷ ms) h = free-append c (byte_spelling (pattern_escapes version) b) (flat_map (element_spelling version) ms) (byte-free (pattern_escapes version) b) (marks-free version ms h)
+  marks-free version (Value v ∷ ms) h = free-append c (element_spelling version (Value v)) (flat_map (element_spelling version) ms) (value-free version v h.0) (marks-free version ms h.1)
 
   pub comma-free : (n : ℕ) (rest : List ℕ) → n < 2 ^ 64 → Free c rest → Free c (before_comma n rest)
   comma-free n rest h k = free-append c (decimal n) (44 ∷ rest) (number-free n h) (gap.not_comma, k)

@@ -2,7 +2,7 @@
 use Rattle.std.proofs.Common.{◌≡◌, ◌≢◌, ℕ, zero, suc, ◌+◌, ◌<◌, ◌≤◌, List, [], ◌∷◌, ◌++◌, length, map, get_or, set, slice_index, Option, Some, None, sym, ap, subst, ◌∙◌, arith, inl, inr}
 use Rattle.std.proofs.lemmas.Bool.{cases_eq, cases_lt}
 use Rattle.std.proofs.lemmas.List.{length-append, length-map, get_or-map, get_or_append_left, get_or_push, get_or-set_same, get_or-set_other}
-use Rattle.hyphenation_commons.specs.Trie.{Tree, text_of, IsTrie, texts_of, HasFroms}
+use Rattle.hyphenation_commons.specs.Trie.{Tree, node_text, IsTrie, texts_of, HasFroms}
 use Rattle.hyphenation_commons.specs.Rows.{child_in, edge_in, HasRow}
 use Rattle.hyphenation_commons.specs.Links.{HasParents, parent_of, byte_of, IsDepths, IsFrozen, HasDepths}
 use Rattle.hyphenation_commons.specs.declared.trie.rows.Cell.{Cell}
@@ -95,8 +95,8 @@ frozen_is tree parents bytes bases cells trie has len rows = record {
 
 -- What a look-up finds: the child, or that there is none.
 abbrev pub Found : {E : Type 0} → Tree E → ℕ → ℕ → Option ℕ → Type 0
-Found tree i b None = (j : ℕ) → j < length tree.texts → text_of tree j ≢ text_of tree i ++ b ∷ []
-Found tree i b (Some j) = (j < length tree.texts) × (text_of tree j ≡ text_of tree i ++ b ∷ [])
+Found tree i b None = (j : ℕ) → j < length tree.texts → node_text tree j ≢ node_text tree i ++ b ∷ []
+Found tree i b (Some j) = (j < length tree.texts) × (node_text tree j ≡ node_text tree i ++ b ∷ [])
 
 pub found_is : {E : Type 0} (tree : Tree E) (bases : List ℕ) (cells : List Cell) (i b : ℕ) (o : Option ℕ) → IsFrozen tree bases cells → i < length tree.texts → o ≡ edge_in bases cells i b
     → Found tree i b o

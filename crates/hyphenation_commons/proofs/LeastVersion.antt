@@ -11,7 +11,7 @@ use Rattle.std.proofs.lemmas.Bool.Decides.{nat_tests}
 use Rattle.std.proofs.lemmas.List.Elements.{All-from_recursion, recursion_from_All}
 use Rattle.std.proofs.lemmas.List.Splits.{slice_split_at}
 use Rattle.hyphenation_commons.specs.Break.{Break, Change}
-use Rattle.hyphenation_commons.specs.Canonical.{are_digits, canonical_lines, canonical_text_of, ended, version_for}
+use Rattle.hyphenation_commons.specs.Canonical.{are_digits, canonical_lines, canonical_text_of, with_line_feeds, version_for}
 use Rattle.hyphenation_commons.specs.Dictionary.{Contents}
 use Rattle.hyphenation_commons.specs.Form.{head_of, version_by}
 use Rattle.hyphenation_commons.specs.Lines.{lines_of, without_empty_last}
@@ -34,13 +34,13 @@ kept_first l b [] = ap (λ (t : Bool). get_or (cond t [] ((b ∷ l) ∷ [])) 0 [
     some n = grind (arith, nat_tests)
 kept_first l b (part ∷ parts) = refl
 
-first_again : (l : List ℕ) (b : ℕ) (ls : List (List ℕ)) → Free 10 (b ∷ l) → get_or (lines_of (ended ((b ∷ l) ∷ ls))) 0 [] ≡ b ∷ l
+first_again : (l : List ℕ) (b : ℕ) (ls : List (List ℕ)) → Free 10 (b ∷ l) → get_or (lines_of (with_line_feeds ((b ∷ l) ∷ ls))) 0 [] ≡ b ∷ l
 first_again l b ls free =
     ap (λ (parts : List (List ℕ)). get_or (without_empty_last parts) 0 [])
-    (ap (slice_split (λ c. eqb c 10)) (append_assoc (b ∷ l) (10 ∷ []) (ended ls)) ∙ slice_split_at (λ c. eqb c 10) (b ∷ l) 10 (ended ls) (All-from_recursion (λ c. eqb c 10 ≡ false) (b ∷ l) free) refl)
-    ∙ kept_first l b (slice_split (λ c. eqb c 10) (ended ls))
+    (ap (slice_split (λ c. eqb c 10)) (append_assoc (b ∷ l) (10 ∷ []) (with_line_feeds ls)) ∙ slice_split_at (λ c. eqb c 10) (b ∷ l) 10 (with_line_feeds ls) (All-from_recursion (λ c. eqb c 10 ≡ false) (b ∷ l) free) refl)
+    ∙ kept_first l b (slice_split (λ c. eqb c 10) (with_line_feeds ls))
 
-head_again : (kind : Kind) (version : Version) (ls : List (List ℕ)) → get_or (lines_of (ended (head_of kind version ∷ ls))) 0 [] ≡ head_of kind version
+head_again : (kind : Kind) (version : Version) (ls : List (List ℕ)) → get_or (lines_of (with_line_feeds (head_of kind version ∷ ls))) 0 [] ≡ head_of kind version
 head_again Standard First ls = first_again _ _ ls (head_feed Standard First)
 head_again Standard Second ls = first_again _ _ ls (head_feed Standard Second)
 head_again Extended First ls = first_again _ _ ls (head_feed Extended First)

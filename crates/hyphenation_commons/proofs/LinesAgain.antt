@@ -13,17 +13,17 @@ use Rattle.hyphenation_commons.specs.Break.{Break, Change, is_boundary, keeps_wi
 use Rattle.hyphenation_commons.specs.declared.grammar.form.Form.{Form}
 use Rattle.hyphenation_commons.specs.declared.grammar.form.Kind.{Kind}
 use Rattle.hyphenation_commons.specs.declared.grammar.form.Version.{Version}
-use Rattle.hyphenation_commons.specs.Items.{listed_of, change_at, pattern_of, exception_of}
-use Rattle.hyphenation_commons.specs.Judging.{is_good, good_places, has_value_at, fails, own_cause, is_known}
-use Rattle.hyphenation_commons.specs.Kept.{is_short, can_be_said, is_said, stays_within, lists_within, is_value, are_entries, are_listed, has_letter}
+use Rattle.hyphenation_commons.specs.Items.{break_of_token, change_at, pattern_of_line, exception_of_line}
+use Rattle.hyphenation_commons.specs.Judging.{is_good_later_token, good_places, has_value_at, fails, own_cause, is_known}
+use Rattle.hyphenation_commons.specs.Kept.{fits_usize, can_be_said, can_be_said_if_any, stays_within, lists_within, is_value, are_entries, are_listed, has_letter}
 use Rattle.hyphenation_commons.specs.Lines.{is_number}
-use Rattle.hyphenation_commons.specs.Tokens.{marks_of, pattern_signs, text_of, key_of, values_from, two_values, numerals_of, is_readable, place_of}
-use Rattle.hyphenation_commons.specs.Canonical.{marks_for, pattern_token, text_token, break_token, later_tokens, with_change, changes_of, pattern_line, exception_line}
+use Rattle.hyphenation_commons.specs.Tokens.{elements_of, pattern_bytes, text_spelt, key_of, values_from, two_values, numerals_of, is_readable, place_of}
+use Rattle.hyphenation_commons.specs.Canonical.{elements_for, pattern_token, text_token, break_token, later_tokens, onto_changes, changes_of, pattern_line, exception_line}
 use Rattle.hyphenation_commons.specs.declared.dictionary.Entry.{Entry}
 use Rattle.hyphenation_commons.specs.declared.grammar.Cause.{Cause}
 use Rattle.hyphenation_commons.specs.declared.grammar.Cause.TheVariants.{NotUtf8, Header, Language, Minima, UnknownLine, Token, Value as BadValue, Pattern, NoLetters, Number, Place, Change as BadChange}
-use Rattle.hyphenation_commons.specs.declared.grammar.tokens.Mark.{Mark}
-use Rattle.hyphenation_commons.specs.declared.grammar.tokens.Mark.TheVariants.{Letter, Value}
+use Rattle.hyphenation_commons.specs.declared.grammar.tokens.PatternElement.{PatternElement}
+use Rattle.hyphenation_commons.specs.declared.grammar.tokens.PatternElement.TheVariants.{Letter, Value}
 use Rattle.hyphenation_commons.proofs.AsciiSplits.{one_ascii}
 use Rattle.hyphenation_commons.proofs.Free.{Free, space, feed, free-append, marks-free, text-free}
 use Rattle.hyphenation_commons.proofs.Passed.{both_left, both_right}
@@ -41,15 +41,15 @@ tokens_for bs = map token_of bs
 
 -- What a text of that kind can say as a break.
 abbrev pub is_sayable : Kind → Break → Bool
-is_sayable kind b = is_short b.place && is_said b.change && is_allowed kind b.change
+is_sayable kind b = fits_usize b.place && can_be_said_if_any b.change && is_allowed kind b.change
 
 abbrev pub are_allowed : Kind → List Break → Bool
 are_allowed kind bs = list_all (λ b. is_allowed kind b.change) bs
 
 -- What is listed for a text can be said.
-said_of : (text : List ℕ) (place : ℕ) (o : Option Change) → stays_within text place o ≡ true → is_said o ≡ true
+said_of : (text : List ℕ) (place : ℕ) (o : Option Change) → stays_within text place o ≡ true → can_be_said_if_any o ≡ true
 said_of text place None s = refl
-said_of text place (Some c) s = both_right (is_short place) (can_be_said c) (both_left (is_short place && can_be_said c) (keeps_within text place c) s)
+said_of text place (Some c) s = both_right (fits_usize place) (can_be_said c) (both_left (fits_usize place && can_be_said c) (keeps_within text place c) s)
 
 listed-sayable : (kind : Kind) (text : List ℕ) (least : ℕ) (bs : List Break) → are_listed (λ b. b) text least bs ≡ true → are_allowed kind bs ≡ true → list_all (is_sayable kind) bs ≡ true
 listed-sayable kind text least [] l w = refl
@@ -57,16 +57,16 @@ listed-sayable kind text least (b ∷ bs) l w =
     let front = both_left (nat_le least b.place && is_boundary text b.place && lists_within text b.place b.change) (are_listed (λ b. b) text (b.place + 1) bs) l in
     let here = both_right (nat_le least b.place && is_boundary text b.place) (lists_within text b.place b.change) front in
     and_from (is_sayable kind b) (list_all (is_sayable kind) bs)
-    (and_from (is_short b.place && is_said b.change) (is_allowed kind b.change)
-    (and_from (is_short b.place) (is_said b.change) (both_left (is_short b.place) (stays_within text b.place b.change) here) (said_of text b.place b.change (both_right (is_short b.place) (stays_within text b.place b.change) here)))
+    (and_from (fits_usize b.place && can_be_said_if_any b.change) (is_allowed kind b.change)
+    (and_from (fits_usize b.place) (can_be_said_if_any b.change) (both_left (fits_usize b.place) (stays_within text b.place b.change) here) (said_of text b.place b.change (both_right (fits_usize b.place) (stays_within text b.place b.change) here)))
     (both_left (is_allowed kind b.change) (are_allowed kind bs) w))
     (listed-sayable kind text (b.place + 1) bs (both_right (nat_le least b.place && is_boundary text b.place && lists_within text b.place b.change) (are_listed (λ b. b) text (b.place + 1) bs) l) (both_right (is_allowed kind b.change) (are_allowed kind bs) w))
 
 module _ (form : Form) where
   tell : (b : Break) → is_sayable form.kind b ≡ true → Tells (token_of b) b
   tell b w =
-      let front = both_left (is_short b.place && is_said b.change) (is_allowed form.kind b.change) w in
-      tells b.place b.change (both_left (is_short b.place) (is_said b.change) front) (both_right (is_short b.place) (is_said b.change) front)
+      let front = both_left (fits_usize b.place && can_be_said_if_any b.change) (is_allowed form.kind b.change) w in
+      tells b.place b.change (both_left (fits_usize b.place) (can_be_said_if_any b.change) front) (both_right (fits_usize b.place) (can_be_said_if_any b.change) front)
 
   first_of : (b : Break) (bs : List Break) → list_all (is_sayable form.kind) (b ∷ bs) ≡ true → is_sayable form.kind b ≡ true
   first_of b bs w = both_left (is_sayable form.kind b) (list_all (is_sayable form.kind) bs) w
@@ -88,7 +88,7 @@ module _ (form : Form) where
   numbers_each [] w = refl
   numbers_each (b ∷ bs) w = and_from (list_all is_number (numerals_of (token_of b))) (list_all (λ token. list_all is_number (numerals_of token)) (tokens_for bs)) (tell b (first_of b bs w)).numbers (numbers_each bs (rest_of b bs w))
 
-  pub listed_each : (bs : List Break) → list_all (is_sayable form.kind) bs ≡ true → map listed_of (tokens_for bs) ≡ bs
+  pub listed_each : (bs : List Break) → list_all (is_sayable form.kind) bs ≡ true → map break_of_token (tokens_for bs) ≡ bs
   listed_each [] w = refl
   listed_each (b ∷ bs) w = λ i. (tell b (first_of b bs w)).listed i ∷ listed_each bs (rest_of b bs w) i
 
@@ -111,18 +111,18 @@ module _ (form : Form) where
       (places_each text (b.place + 1) bs (rest_of b bs w) (both_right (nat_le least b.place && is_boundary text b.place && lists_within text b.place b.change) (are_listed (λ b. b) text (b.place + 1) bs) l))
 
   -- each is a change at the place of a value
-  abbrev pub AllBelong : List Mark → List Break → Type 0
+  abbrev pub AllBelong : List PatternElement → List Break → Type 0
   AllBelong marks [] = Unit {0}
   AllBelong marks (b ∷ bs) = ((is_some b.change ≡ true) × (has_value_at marks b.place ≡ true)) × AllBelong marks bs
 
-  pub good_each : (in_pattern : Bool) (marks : List Mark) (text : List ℕ) (least : ℕ) (bs : List Break) → list_all (is_sayable form.kind) bs ≡ true → are_listed (λ b. b) text least bs ≡ true
-      → (in_pattern ≡ true → AllBelong marks bs) → list_all (is_good form in_pattern marks text) (tokens_for bs) ≡ true
+  pub good_each : (in_pattern : Bool) (marks : List PatternElement) (text : List ℕ) (least : ℕ) (bs : List Break) → list_all (is_sayable form.kind) bs ≡ true → are_listed (λ b. b) text least bs ≡ true
+      → (in_pattern ≡ true → AllBelong marks bs) → list_all (is_good_later_token form in_pattern marks text) (tokens_for bs) ≡ true
   good_each in_pattern marks text least [] w l belong = refl
   good_each in_pattern marks text least (b ∷ bs) w l belong =
       let front = both_left (nat_le least b.place && is_boundary text b.place && lists_within text b.place b.change) (are_listed (λ b. b) text (b.place + 1) bs) l in
-      and_from (is_good form in_pattern marks text (token_of b)) (list_all (is_good form in_pattern marks text) (tokens_for bs))
-      (good form in_pattern marks text (token_of b) b.place b.change (tell b (first_of b bs w)) (both_right (is_short b.place && is_said b.change) (is_allowed form.kind b.change) (first_of b bs w))
-      (both_right (is_short b.place) (stays_within text b.place b.change) (both_right (nat_le least b.place && is_boundary text b.place) (lists_within text b.place b.change) front)) (λ e. (belong e).0))
+      and_from (is_good_later_token form in_pattern marks text (token_of b)) (list_all (is_good_later_token form in_pattern marks text) (tokens_for bs))
+      (good form in_pattern marks text (token_of b) b.place b.change (tell b (first_of b bs w)) (both_right (fits_usize b.place && can_be_said_if_any b.change) (is_allowed form.kind b.change) (first_of b bs w))
+      (both_right (fits_usize b.place) (stays_within text b.place b.change) (both_right (nat_le least b.place && is_boundary text b.place) (lists_within text b.place b.change) front)) (λ e. (belong e).0))
       (good_each in_pattern marks text (b.place + 1) bs (rest_of b bs w) (both_right (nat_le least b.place && is_boundary text b.place && lists_within text b.place b.change) (are_listed (λ b. b) text (b.place + 1) bs) l) (λ e. (belong e).1))
 
 -- ---- A line that passes each test of its own.
@@ -184,22 +184,22 @@ module _ (form : Form) (word : List ℕ) (bs : List Break) (u : IsUtf8 word) (al
       record {
         utf8 = is_utf8-from_IsUtf8 (exception_line word bs) (IsUtf8-append (101 ∷ 32 ∷ []) (text_token word ++ later_tokens bs) (IsUtf8-append (101 ∷ []) (32 ∷ []) (one_ascii 101 (omega arith)) (one_ascii 32 (omega arith))) (IsUtf8-append (text_token word) (later_tokens bs) (token-utf8 word u) (utf8_each form bs w)));
         known = known_by (eqb (length (exception_line word bs)) 0);
-        token = ap (λ (ts : List (List ℕ)). not ((nat_lt 0 (length (get_or ts 0 [])) && is_some (text_of (get_or ts 0 []))) && list_all is_readable (drop 1 ts))) e_toks
-            ∙ ap not (and_from (nat_lt 0 (length (text_token word)) && is_some (text_of (text_token word))) (list_all is_readable (tokens_for bs)) (and_from (nat_lt 0 (length (text_token word))) (is_some (text_of (text_token word))) (token-some word) (ap is_some t)) (readable_each form bs w));
+        token = ap (λ (ts : List (List ℕ)). not ((nat_lt 0 (length (get_or ts 0 [])) && is_some (text_spelt (get_or ts 0 []))) && list_all is_readable (drop 1 ts))) e_toks
+            ∙ ap not (and_from (nat_lt 0 (length (text_token word)) && is_some (text_spelt (text_token word))) (list_all is_readable (tokens_for bs)) (and_from (nat_lt 0 (length (text_token word))) (is_some (text_spelt (text_token word))) (token-some word) (ap is_some t)) (readable_each form bs w));
         value = refl;
         pattern = refl;
         letters = refl;
         number = ap (λ (ts : List (List ℕ)). not (list_all (λ token. list_all is_number (numerals_of token)) (drop 1 ts))) e_toks ∙ ap not (numbers_each form bs w);
-        place = ap (λ (ts : List (List ℕ)). not (good_places (unwrap_or (text_of (get_or ts 0 [])) []) 0 (drop 1 ts))) e_toks
+        place = ap (λ (ts : List (List ℕ)). not (good_places (unwrap_or (text_spelt (get_or ts 0 [])) []) 0 (drop 1 ts))) e_toks
             ∙ ap (λ (o : Option (List ℕ)). not (good_places (unwrap_or o []) 0 (tokens_for bs))) t ∙ ap not (places_each form word 0 bs w l);
-        change = ap (λ (ts : List (List ℕ)). not (list_all (is_good form false (unwrap_or (marks_of form.version (get_or ts 0 [])) []) (unwrap_or (text_of (get_or ts 0 [])) [])) (drop 1 ts))) e_toks
-            ∙ ap (λ (o : Option (List ℕ)). not (list_all (is_good form false (unwrap_or (marks_of form.version (text_token word)) []) (unwrap_or o [])) (tokens_for bs))) t
-            ∙ ap not (good_each form false (unwrap_or (marks_of form.version (text_token word)) []) word 0 bs w l (λ e. absurd cc));
+        change = ap (λ (ts : List (List ℕ)). not (list_all (is_good_later_token form false (unwrap_or (elements_of form.version (get_or ts 0 [])) []) (unwrap_or (text_spelt (get_or ts 0 [])) [])) (drop 1 ts))) e_toks
+            ∙ ap (λ (o : Option (List ℕ)). not (list_all (is_good_later_token form false (unwrap_or (elements_of form.version (text_token word)) []) (unwrap_or o [])) (tokens_for bs))) t
+            ∙ ap not (good_each form false (unwrap_or (elements_of form.version (text_token word)) []) word 0 bs w l (λ e. absurd cc));
       }
 
-  pub exception-spelt : exception_of (exception_line word bs) ≡ Some (word, bs)
+  pub exception-spelt : exception_of_line (exception_line word bs) ≡ Some (word, bs)
   exception-spelt =
-      ap (λ (ts : List (List ℕ)). Some (unwrap_or (text_of (get_or ts 0 [])) [], map listed_of (drop 1 ts))) e_toks
+      ap (λ (ts : List (List ℕ)). Some (unwrap_or (text_spelt (get_or ts 0 [])) [], map break_of_token (drop 1 ts))) e_toks
       ∙ (λ i. Some (unwrap_or (text-again word i) [], listed_each form bs w i))
 
   pub exception-feed : Free 10 (exception_line word bs)
@@ -241,28 +241,28 @@ changes-allowed : (kind : Kind) (es : List (Entry (Option Change))) → have_all
 changes-allowed kind [] w = refl
 changes-allowed kind (e ∷ es) w = by e.change (both_left (is_allowed kind e.change) (have_allowed kind es) w) (changes-allowed kind es (both_right (is_allowed kind e.change) (have_allowed kind es) w))
   where
-    by : (o : Option Change) → is_allowed kind o ≡ true → are_allowed kind (changes_of es) ≡ true → are_allowed kind (with_change e.place o (changes_of es)) ≡ true
+    by : (o : Option Change) → is_allowed kind o ≡ true → are_allowed kind (changes_of es) ≡ true → are_allowed kind (onto_changes e.place o (changes_of es)) ≡ true
     by None h more = more
     by (Some c) h more = and_from (is_allowed kind (Some c)) (are_allowed kind (changes_of es)) h more
 
-pub all-values : (version : Version) (whole : List ℕ) (at : ℕ) (key : List ℕ) (es : List (Entry (Option Change))) → AllSeams version whole es → AllValues version (marks_for at key es)
+pub all-values : (version : Version) (whole : List ℕ) (at : ℕ) (key : List ℕ) (es : List (Entry (Option Change))) → AllSeams version whole es → AllValues version (elements_for at key es)
 all-values version whole at [] [] s = tt
 all-values version whole at [] (e ∷ es) s = (s.1, tt)
 all-values version whole at (b ∷ key) [] s = all-values version whole (at + 1) key [] tt
 all-values version whole at (b ∷ key) (e ∷ es) s = by (eqb e.place at) (all-values version whole (at + 1) key es s.2) (all-values version whole (at + 1) key (e ∷ es) s)
   where
-    by : (t : Bool) → AllValues version (marks_for (at + 1) key es) → AllValues version (marks_for (at + 1) key (e ∷ es)) → AllValues version (cond t (Value e.value ∷ Letter b ∷ marks_for (at + 1) key es) (Letter b ∷ marks_for (at + 1) key (e ∷ es)))
+    by : (t : Bool) → AllValues version (elements_for (at + 1) key es) → AllValues version (elements_for (at + 1) key (e ∷ es)) → AllValues version (cond t (Value e.value ∷ Letter b ∷ elements_for (at + 1) key es) (Letter b ∷ elements_for (at + 1) key (e ∷ es)))
     by true h k = (s.1, h)
     by false h k = k
 
-pub no_two : (at : ℕ) (key : List ℕ) (es : List (Entry (Option Change))) → two_values false (marks_for at key es) ≡ false
+pub no_two : (at : ℕ) (key : List ℕ) (es : List (Entry (Option Change))) → two_values false (elements_for at key es) ≡ false
 no_two at [] [] = refl
 no_two at [] (e ∷ es) = refl
 no_two at (b ∷ key) [] = no_two (at + 1) key []
 no_two at (b ∷ key) (e ∷ es) = by (eqb e.place at) (no_two (at + 1) key es) (no_two (at + 1) key (e ∷ es))
   where
-    by : (t : Bool) → two_values false (marks_for (at + 1) key es) ≡ false → two_values false (marks_for (at + 1) key (e ∷ es)) ≡ false
-        → two_values false (cond t (Value e.value ∷ Letter b ∷ marks_for (at + 1) key es) (Letter b ∷ marks_for (at + 1) key (e ∷ es))) ≡ false
+    by : (t : Bool) → two_values false (elements_for (at + 1) key es) ≡ false → two_values false (elements_for (at + 1) key (e ∷ es)) ≡ false
+        → two_values false (cond t (Value e.value ∷ Letter b ∷ elements_for (at + 1) key es) (Letter b ∷ elements_for (at + 1) key (e ∷ es))) ≡ false
     by true h k = h
     by false h k = k
 
@@ -275,22 +275,22 @@ changes-listed key least at (e ∷ es) le a =
     by e.place e.change (le-leb at e.place (omega arith)) t.1 t.3 (changes-listed key (e.place + 1) at es (omega arith) t.4) (changes-listed key (e.place + 1) (e.place + 1) es (omega arith) t.4)
   where
     by : (p : ℕ) (o : Option Change) → nat_le at p ≡ true → is_boundary key p ≡ true → stays_within key p o ≡ true → are_listed (λ b. b) key at (changes_of es) ≡ true → are_listed (λ b. b) key (p + 1) (changes_of es) ≡ true
-        → are_listed (λ b. b) key at (with_change p o (changes_of es)) ≡ true
+        → are_listed (λ b. b) key at (onto_changes p o (changes_of es)) ≡ true
     by p None h k s more next = more
     by p (Some c) h k s more next =
-        let short = both_left (is_short p) (can_be_said c) (both_left (is_short p && can_be_said c) (keeps_within key p c) s) in
+        let short = both_left (fits_usize p) (can_be_said c) (both_left (fits_usize p && can_be_said c) (keeps_within key p c) s) in
         and_from (nat_le at p && is_boundary key p && lists_within key p (Some c)) (are_listed (λ b. b) key (p + 1) (changes_of es))
-        (and_from (nat_le at p && is_boundary key p) (lists_within key p (Some c)) (and_from (nat_le at p) (is_boundary key p) h k) (and_from (is_short p) (stays_within key p (Some c)) short s)) next
+        (and_from (nat_le at p && is_boundary key p) (lists_within key p (Some c)) (and_from (nat_le at p) (is_boundary key p) h k) (and_from (fits_usize p) (stays_within key p (Some c)) short s)) next
 
 -- each of them belongs to a value
 one_is : (p : ℕ) → eqb p p ≡ true
 one_is p = grind (arith, nat_tests)
 
-changes-belong : (form : Form) (marks : List Mark) (es : List (Entry (Option Change))) → ((p : ℕ) → list_any (λ v. eqb v.0 p) (pairs es) ≡ true → has_value_at marks p ≡ true) → AllBelong form marks (changes_of es)
+changes-belong : (form : Form) (marks : List PatternElement) (es : List (Entry (Option Change))) → ((p : ℕ) → list_any (λ v. eqb v.0 p) (pairs es) ≡ true → has_value_at marks p ≡ true) → AllBelong form marks (changes_of es)
 changes-belong form marks [] f = tt
 changes-belong form marks (e ∷ es) f = by e.change (changes-belong form marks es (λ p h. f p (or_right (eqb e.place p) (list_any (λ v. eqb v.0 p) (pairs es)) h)))
   where
-    by : (o : Option Change) → AllBelong form marks (changes_of es) → AllBelong form marks (with_change e.place o (changes_of es))
+    by : (o : Option Change) → AllBelong form marks (changes_of es) → AllBelong form marks (onto_changes e.place o (changes_of es))
     by None h = h
     by (Some c) h = ((refl, f e.place (or_left (eqb e.place e.place) (list_any (λ v. eqb v.0 e.place) (pairs es)) (one_is e.place))), h)
 
@@ -305,7 +305,7 @@ none_at key least p (e ∷ es) lt a =
     apart_from : (a b : ℕ) → b < a → eqb a b ≡ false
     apart_from a b h = grind (arith, nat_tests)
 
-    by : (q : ℕ) (o : Option Change) → eqb q p ≡ false → change_at p (changes_of es) ≡ None → change_at p (with_change q o (changes_of es)) ≡ None
+    by : (q : ℕ) (o : Option Change) → eqb q p ≡ false → change_at p (changes_of es) ≡ None → change_at p (onto_changes q o (changes_of es)) ≡ None
     by q None d h = h
     by q (Some c) d h = ap (λ (t : Bool). cond t (Some c) (change_at p (changes_of es))) d ∙ h
 
@@ -319,22 +319,22 @@ restored key least said (e ∷ es) a f =
     let t = entry_tests key least e es a in
     let near : least ≤ e.place = leb-true least e.place t.0 in
     let here : change_at e.place said ≡ e.change = f e.place near ∙ own e.place e.change (none_at key (e.place + 1) e.place es (omega arith) t.4) in
-    let rest = restored key (e.place + 1) said es t.4 (λ p h. f p (omega arith) ∙ past e.place e.change p (behind e.place p h)) in
+    let rest = restored key (e.place + 1) said es t.4 (λ p h. f p (omega arith) ∙ past e.place e.change p (after e.place p h)) in
     λ i. record { place = e.place; value = e.value; change = here i } ∷ rest i
   where
-    own : (q : ℕ) (o : Option Change) → change_at q (changes_of es) ≡ None → change_at q (with_change q o (changes_of es)) ≡ o
+    own : (q : ℕ) (o : Option Change) → change_at q (changes_of es) ≡ None → change_at q (onto_changes q o (changes_of es)) ≡ o
     own q None h = h
     own q (Some c) h = ap (λ (t : Bool). cond t (Some c) (change_at q (changes_of es))) (one_is q)
 
-    behind : (q p : ℕ) → q + 1 ≤ p → eqb q p ≡ false
-    behind q p h = grind (arith, nat_tests)
+    after : (q p : ℕ) → q + 1 ≤ p → eqb q p ≡ false
+    after q p h = grind (arith, nat_tests)
 
-    past : (q : ℕ) (o : Option Change) (p : ℕ) → eqb q p ≡ false → change_at p (with_change q o (changes_of es)) ≡ change_at p (changes_of es)
+    past : (q : ℕ) (o : Option Change) (p : ℕ) → eqb q p ≡ false → change_at p (onto_changes q o (changes_of es)) ≡ change_at p (changes_of es)
     past q None p d = refl
     past q (Some c) p d = ap (λ (t : Bool). cond t (Some c) (change_at p (changes_of es))) d
 
 -- a key with a letter is written as some byte
-some_byte : (version : Version) (token : List ℕ) (ms : List Mark) (key : List ℕ) → marks_of version token ≡ Some ms → key_of ms ≡ key → has_letter key ≡ true → nat_lt 0 (length token) ≡ true
+some_byte : (version : Version) (token : List ℕ) (ms : List PatternElement) (key : List ℕ) → elements_of version token ≡ Some ms → key_of ms ≡ key → has_letter key ≡ true → nat_lt 0 (length token) ≡ true
 some_byte version [] ms key m k letter =
     let none : [] ≡ ms = cc in
     let empty : [] ≡ key = ap key_of none ∙ k in
@@ -345,8 +345,8 @@ some_byte version (b ∷ token) ms key m k letter = above (length token)
     above n = grind (arith, nat_tests)
 
 module _ (form : Form) (whole : List ℕ) (es : List (Entry (Option Change))) (u : IsUtf8 whole) (letter : has_letter whole ≡ true) (v : are_small form.version es ≡ true) (w : have_allowed form.kind es ≡ true) (a : are_entries (λ c. c) whole 0 es ≡ true) where
-  abbrev the_marks : List Mark
-  the_marks = marks_for 0 whole es
+  abbrev the_marks : List PatternElement
+  the_marks = elements_for 0 whole es
 
   abbrev the_breaks : List Break
   the_breaks = changes_of es
@@ -357,7 +357,7 @@ module _ (form : Form) (whole : List ℕ) (es : List (Entry (Option Change))) (u
   p_spelt : AllValues form.version the_marks
   p_spelt = all-values form.version whole 0 whole es p_seams
 
-  p_marks : marks_of form.version (pattern_token form.version whole es) ≡ Some the_marks
+  p_marks : elements_of form.version (pattern_token form.version whole es) ≡ Some the_marks
   p_marks = marks-again form.version the_marks p_spelt
 
   p_key : key_of the_marks ≡ whole
@@ -378,8 +378,8 @@ module _ (form : Form) (whole : List ℕ) (es : List (Entry (Option Change))) (u
   p_toks : slice_split (λ b. eqb b 32) (pattern_token form.version whole es ++ later_tokens the_breaks) ≡ pattern_token form.version whole es ∷ tokens_for the_breaks
   p_toks = tokens_again form (pattern_token form.version whole es) the_breaks (marks-free 32 space form.version the_marks p_spelt) p_writable
 
-  abbrev read_marks : List ℕ → List Mark
-  read_marks token = unwrap_or (marks_of form.version token) []
+  abbrev read_marks : List ℕ → List PatternElement
+  read_marks token = unwrap_or (elements_of form.version token) []
 
   pub pattern-faultless : Faultless form (pattern_line form.version whole es)
   pattern-faultless =
@@ -387,25 +387,25 @@ module _ (form : Form) (whole : List ℕ) (es : List (Entry (Option Change))) (u
       record {
         utf8 = is_utf8-from_IsUtf8 (pattern_line form.version whole es) (IsUtf8-append (112 ∷ 32 ∷ []) (first ++ later_tokens the_breaks) (IsUtf8-append (112 ∷ []) (32 ∷ []) (one_ascii 112 (omega arith)) (one_ascii 32 (omega arith))) (IsUtf8-append first (later_tokens the_breaks) (marks-utf8 form.version whole [] [] whole 0 es refl refl p_seams u) (utf8_each form the_breaks p_writable)));
         known = known_by (eqb (length (pattern_line form.version whole es)) 0);
-        token = ap (λ (ts : List (List ℕ)). not ((nat_lt 0 (length (get_or ts 0 [])) && is_some (pattern_signs form.version (get_or ts 0 []))) && list_all is_readable (drop 1 ts))) p_toks
-            ∙ ap not (and_from (nat_lt 0 (length first) && is_some (pattern_signs form.version first)) (list_all is_readable (tokens_for the_breaks)) (and_from (nat_lt 0 (length first)) (is_some (pattern_signs form.version first)) (some_byte form.version first the_marks whole p_marks p_key letter) (signs-again form.version the_marks p_spelt)) (readable_each form the_breaks p_writable));
-        value = ap (λ (ts : List (List ℕ)). is_none (marks_of form.version (get_or ts 0 []))) p_toks ∙ ap is_none p_marks;
-        pattern = ap (λ (ts : List (List ℕ)). two_values false (read_marks (get_or ts 0 []))) p_toks ∙ ap (λ (o : Option (List Mark)). two_values false (unwrap_or o [])) p_marks ∙ no_two 0 whole es;
-        letters = ap (λ (ts : List (List ℕ)). list_all (λ b. b == 46) (key_of (read_marks (get_or ts 0 [])))) p_toks ∙ ap (λ (o : Option (List Mark)). list_all (λ b. b == 46) (key_of (unwrap_or o []))) p_marks ∙ ap (list_all (λ b. b == 46)) p_key ∙ not-true (list_all (λ b. b == 46) whole) letter;
+        token = ap (λ (ts : List (List ℕ)). not ((nat_lt 0 (length (get_or ts 0 [])) && is_some (pattern_bytes form.version (get_or ts 0 []))) && list_all is_readable (drop 1 ts))) p_toks
+            ∙ ap not (and_from (nat_lt 0 (length first) && is_some (pattern_bytes form.version first)) (list_all is_readable (tokens_for the_breaks)) (and_from (nat_lt 0 (length first)) (is_some (pattern_bytes form.version first)) (some_byte form.version first the_marks whole p_marks p_key letter) (signs-again form.version the_marks p_spelt)) (readable_each form the_breaks p_writable));
+        value = ap (λ (ts : List (List ℕ)). is_none (elements_of form.version (get_or ts 0 []))) p_toks ∙ ap is_none p_marks;
+        pattern = ap (λ (ts : List (List ℕ)). two_values false (read_marks (get_or ts 0 []))) p_toks ∙ ap (λ (o : Option (List PatternElement)). two_values false (unwrap_or o [])) p_marks ∙ no_two 0 whole es;
+        letters = ap (λ (ts : List (List ℕ)). list_all (λ b. b == 46) (key_of (read_marks (get_or ts 0 [])))) p_toks ∙ ap (λ (o : Option (List PatternElement)). list_all (λ b. b == 46) (key_of (unwrap_or o []))) p_marks ∙ ap (list_all (λ b. b == 46)) p_key ∙ not-true (list_all (λ b. b == 46) whole) letter;
         number = ap (λ (ts : List (List ℕ)). not (list_all (λ token. list_all is_number (numerals_of token)) (drop 1 ts))) p_toks ∙ ap not (numbers_each form the_breaks p_writable);
         place = ap (λ (ts : List (List ℕ)). not (good_places (key_of (read_marks (get_or ts 0 []))) 0 (drop 1 ts))) p_toks
-            ∙ ap (λ (o : Option (List Mark)). not (good_places (key_of (unwrap_or o [])) 0 (tokens_for the_breaks))) p_marks
+            ∙ ap (λ (o : Option (List PatternElement)). not (good_places (key_of (unwrap_or o [])) 0 (tokens_for the_breaks))) p_marks
             ∙ ap (λ (k : List ℕ). not (good_places k 0 (tokens_for the_breaks))) p_key ∙ ap not (places_each form whole 0 the_breaks p_writable p_listed);
-        change = ap (λ (ts : List (List ℕ)). not (list_all (is_good form true (read_marks (get_or ts 0 [])) (key_of (read_marks (get_or ts 0 [])))) (drop 1 ts))) p_toks
-            ∙ ap (λ (o : Option (List Mark)). not (list_all (is_good form true (unwrap_or o []) (key_of (unwrap_or o []))) (tokens_for the_breaks))) p_marks
-            ∙ ap (λ (k : List ℕ). not (list_all (is_good form true the_marks k) (tokens_for the_breaks))) p_key
+        change = ap (λ (ts : List (List ℕ)). not (list_all (is_good_later_token form true (read_marks (get_or ts 0 [])) (key_of (read_marks (get_or ts 0 [])))) (drop 1 ts))) p_toks
+            ∙ ap (λ (o : Option (List PatternElement)). not (list_all (is_good_later_token form true (unwrap_or o []) (key_of (unwrap_or o []))) (tokens_for the_breaks))) p_marks
+            ∙ ap (λ (k : List ℕ). not (list_all (is_good_later_token form true the_marks k) (tokens_for the_breaks))) p_key
             ∙ ap not (good_each form true the_marks whole 0 the_breaks p_writable p_listed (λ e. p_belong));
       }
 
-  pub pattern-spelt : pattern_of form.version (pattern_line form.version whole es) ≡ Some (whole, es)
+  pub pattern-spelt : pattern_of_line form.version (pattern_line form.version whole es) ≡ Some (whole, es)
   pattern-spelt =
-      ap (λ (ts : List (List ℕ)). Some (key_of (read_marks (get_or ts 0 [])), map (again (map listed_of (drop 1 ts))) (values_from 0 (read_marks (get_or ts 0 []))))) p_toks
-      ∙ ap (λ (o : Option (List Mark)). Some (key_of (unwrap_or o []), map (again (map listed_of (tokens_for the_breaks))) (values_from 0 (unwrap_or o [])))) p_marks
+      ap (λ (ts : List (List ℕ)). Some (key_of (read_marks (get_or ts 0 [])), map (again (map break_of_token (drop 1 ts))) (values_from 0 (read_marks (get_or ts 0 []))))) p_toks
+      ∙ ap (λ (o : Option (List PatternElement)). Some (key_of (unwrap_or o []), map (again (map break_of_token (tokens_for the_breaks))) (values_from 0 (unwrap_or o [])))) p_marks
       ∙ (λ i. Some (p_key i, map (again (listed_each form the_breaks p_writable i)) (p_values i)))
       ∙ ap (λ (xs : List (Entry (Option Change))). Some (whole, xs)) (restored whole 0 the_breaks es a (λ p h. refl))
 

@@ -4,12 +4,12 @@ use Rattle.std.proofs.lemmas.Bool.Decides.{nat_tests}
 use Rattle.std.proofs.lemmas.List.{take_rest}
 use Rattle.std.specs.Prelude.{position, IsSome}
 use Rattle.std.specs.List.{position_or_len, prefix_len, onto_first}
-use Rattle.hyphenation_commons.specs.Tokens.{parts_within, put}
+use Rattle.hyphenation_commons.specs.Tokens.{parts_within, put_byte}
 
 pub none_left : (text : List ℕ) → parts_within 0 text ≡ text ∷ []
 none_left [] = refl
 none_left (b ∷ rest) =
-    elim (eqb b 44) as (λ t. put (t && false) b (parts_within (cond (t && false) (0 - 1) 0) rest) ≡ (b ∷ rest) ∷ []) [
+    elim (eqb b 44) as (λ t. put_byte (t && false) b (parts_within (cond (t && false) (0 - 1) 0) rest) ≡ (b ∷ rest) ∷ []) [
       | true ↦ ap (onto_first b) (none_left rest)
       | false ↦ ap (onto_first b) (none_left rest)
     ]
@@ -19,7 +19,7 @@ no_comma n [] h = refl
 no_comma n (b ∷ rest) h = by (eqb b 44) h (λ k. no_comma n rest k)
   where
     by : (t : Bool) → suc (length rest) ≤ cond (not t) (1 + prefix_len (λ x. not (eqb x 44)) rest) 0 → (length rest ≤ position_or_len (λ b. eqb b 44) rest → parts_within n rest ≡ rest ∷ [])
-        → put (t && nat_lt 0 n) b (parts_within (cond (t && nat_lt 0 n) (n - 1) n) rest) ≡ (b ∷ rest) ∷ []
+        → put_byte (t && nat_lt 0 n) b (parts_within (cond (t && nat_lt 0 n) (n - 1) n) rest) ≡ (b ∷ rest) ∷ []
     by true h more = absurd (omega arith)
     by false h more = ap (onto_first b) (more (omega arith))
 
@@ -33,7 +33,7 @@ at_comma n (b ∷ rest) e h = by (eqb b 44) h (λ k. at_comma n rest e k)
 
     by : (t : Bool) → cond (not t) (1 + prefix_len (λ x. not (eqb x 44)) rest) 0 < suc (length rest)
         → (prefix_len (λ x. not (eqb x 44)) rest < length rest → parts_within n rest ≡ take (prefix_len (λ x. not (eqb x 44)) rest) rest ∷ parts_within (n - 1) (drop (suc (prefix_len (λ x. not (eqb x 44)) rest)) rest))
-        → put (t && nat_lt 0 n) b (parts_within (cond (t && nat_lt 0 n) (n - 1) n) rest)
+        → put_byte (t && nat_lt 0 n) b (parts_within (cond (t && nat_lt 0 n) (n - 1) n) rest)
         ≡ take (cond (not t) (1 + prefix_len (λ x. not (eqb x 44)) rest) 0) (b ∷ rest) ∷ parts_within (n - 1) (drop (suc (cond (not t) (1 + prefix_len (λ x. not (eqb x 44)) rest) 0)) (b ∷ rest))
     by true h more = rw e refl
     by false h more = rw (one (prefix_len (λ x. not (eqb x 44)) rest)) (ap (onto_first b) (more (omega arith)))
@@ -78,7 +78,7 @@ some_part : (n : ℕ) (text : List ℕ) → 0 < length (parts_within n text)
 some_part n [] = omega arith
 some_part n (b ∷ rest) = by (eqb b 44 && nat_lt 0 n)
   where
-    by : (t : Bool) → 0 < length (put t b (parts_within (cond t (n - 1) n) rest))
+    by : (t : Bool) → 0 < length (put_byte t b (parts_within (cond t (n - 1) n) rest))
     by true = omega arith
     by false = some_first b (parts_within n rest)
 

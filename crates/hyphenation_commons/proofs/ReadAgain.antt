@@ -14,14 +14,14 @@ use Rattle.std.proofs.lemmas.Bool.{and_from, not-true}
 use Rattle.std.proofs.lemmas.Bool.Decides.{nat_tests}
 use Rattle.hyphenation_commons.specs.Break.{Break, Change, is_boundary}
 use Rattle.hyphenation_commons.specs.Dictionary.{Contents}
-use Rattle.hyphenation_commons.specs.Form.{head, head_of, version_by}
-use Rattle.hyphenation_commons.specs.Items.{key, word, key_spelt, word_spelt, pattern_of, exception_of}
-use Rattle.hyphenation_commons.specs.Judging.{own_cause, repetition, stands, fault_of, fault_behind, refusal_of, fails}
-use Rattle.hyphenation_commons.specs.Kept.{IsKept, IsPattern, IsException, is_value, are_entries, are_listed, stays_within, lists_within}
+use Rattle.hyphenation_commons.specs.Form.{head_line, head_of, version_by}
+use Rattle.hyphenation_commons.specs.Items.{key_of_line, word_of_line, key_spelt, word_spelt, pattern_of_line, exception_of_line}
+use Rattle.hyphenation_commons.specs.Judging.{own_cause, repetition, stands_in, fault_of, fault_after, refusal_of, fails}
+use Rattle.hyphenation_commons.specs.Kept.{IsDictionary, IsPattern, IsException, is_value, are_entries, are_listed, stays_within, lists_within}
 use Rattle.hyphenation_commons.specs.Language.{is_code_byte, IsCode}
 use Rattle.hyphenation_commons.specs.Lines.{language_of, minima_of, small_of, two_small, lines_of}
-use Rattle.hyphenation_commons.specs.Reading.{gathered, told, entry_as, contents_in, contents_of}
-use Rattle.hyphenation_commons.specs.Canonical.{entry_of, pattern_line, exception_line, minima_line, language_line, canonical_lines, canonical_text_of, are_digits, version_for, HoldsExactly}
+use Rattle.hyphenation_commons.specs.Reading.{map_of_lines, spelt_as, entry_as, contents_in, contents_of}
+use Rattle.hyphenation_commons.specs.Canonical.{entry_as_said, pattern_line, exception_line, minima_line, language_line, canonical_lines, canonical_text_of, are_digits, version_for, HoldsExactly}
 use Rattle.hyphenation_commons.specs.declared.dictionary.Entry.{Entry}
 use Rattle.hyphenation_commons.specs.declared.grammar.Cause.{Cause}
 use Rattle.hyphenation_commons.specs.declared.grammar.Cause.TheVariants.{RepeatedPattern, RepeatedException}
@@ -149,23 +149,23 @@ one_allowed Standard o f = ap (is_allowed Standard) (f refl)
 one_allowed Extended None f = refl
 one_allowed Extended (Some c) f = refl
 
-values-small : {C : Type 0} (change_of : C → Option Change) (q : List ℕ) (least : ℕ) (es : List (Entry C)) → are_entries change_of q least es ≡ true → are_small Second (map (entry_of change_of) es) ≡ true
+values-small : {C : Type 0} (change_of : C → Option Change) (q : List ℕ) (least : ℕ) (es : List (Entry C)) → are_entries change_of q least es ≡ true → are_small Second (map (entry_as_said change_of) es) ≡ true
 values-small change_of q least [] a = refl
 values-small change_of q least (e ∷ es) a =
     let rest = are_entries change_of q (e.place + 1) es in
     let front = both_left (nat_le least e.place && is_boundary q e.place && is_value e.value && stays_within q e.place (change_of e.change)) rest a in
     let value = both_right (nat_le least e.place && is_boundary q e.place) (is_value e.value) (both_left (nat_le least e.place && is_boundary q e.place && is_value e.value) (stays_within q e.place (change_of e.change)) front) in
-    and_from (nat_le e.value 255) (are_small Second (map (entry_of change_of) es)) (both_right (nat_lt 0 e.value) (nat_le e.value 255) value)
+    and_from (nat_le e.value 255) (are_small Second (map (entry_as_said change_of) es)) (both_right (nat_lt 0 e.value) (nat_le e.value 255) value)
     (values-small change_of q (e.place + 1) es (both_right (nat_le least e.place && is_boundary q e.place && is_value e.value && stays_within q e.place (change_of e.change)) rest a))
 
-digits-small : {C : Type 0} (change_of : C → Option Change) (es : List (Entry C)) → are_digits es ≡ true → are_small First (map (entry_of change_of) es) ≡ true
+digits-small : {C : Type 0} (change_of : C → Option Change) (es : List (Entry C)) → are_digits es ≡ true → are_small First (map (entry_as_said change_of) es) ≡ true
 digits-small change_of [] e = refl
-digits-small change_of (x ∷ es) e = and_from (nat_le x.value 9) (are_small First (map (entry_of change_of) es)) (both_left (nat_le x.value 9) (are_digits es) e) (digits-small change_of es (both_right (nat_le x.value 9) (are_digits es) e))
+digits-small change_of (x ∷ es) e = and_from (nat_le x.value 9) (are_small First (map (entry_as_said change_of) es)) (both_left (nat_le x.value 9) (are_digits es) e) (digits-small change_of es (both_right (nat_le x.value 9) (are_digits es) e))
 
 -- ---- The dictionary.
 
-module _ {C B : Type 0} (kind : Kind) (carries : Option Change → C) (lists : Break → B) (change_of : C → Option Change) (break_of : B → Break)
-    (exact : HoldsExactly kind carries lists change_of break_of) (contents : Contents C B) (kept : IsKept change_of break_of contents) where
+module _ {C B : Type 0} (kind : Kind) (payload_of : Option Change → C) (listing_of : Break → B) (change_of : C → Option Change) (break_of : B → Break)
+    (exact : HoldsExactly kind payload_of listing_of change_of break_of) (contents : Contents C B) (kept : IsDictionary change_of break_of contents) where
   abbrev version : Version
   version = version_for contents
 
@@ -173,7 +173,7 @@ module _ {C B : Type 0} (kind : Kind) (carries : Option Change → C) (lists : B
   form = record { kind = kind; version = version_for contents }
 
   abbrev p_line : List ℕ × List (Entry C) → List ℕ
-  p_line x = pattern_line version x.0 (map (entry_of change_of) x.1)
+  p_line x = pattern_line version x.0 (map (entry_as_said change_of) x.1)
 
   abbrev e_line : List ℕ × List B → List ℕ
   e_line x = exception_line x.0 (map break_of x.1)
@@ -185,7 +185,7 @@ module _ {C B : Type 0} (kind : Kind) (carries : Option Change → C) (lists : B
   e_lines = map e_line (finite.entries contents.exceptions)
 
   -- what a dictionary holds says what it carries
-  as_entries : (q : List ℕ) (least : ℕ) (es : List (Entry C)) → are_entries (λ c. c) q least (map (entry_of change_of) es) ≡ are_entries change_of q least es
+  as_entries : (q : List ℕ) (least : ℕ) (es : List (Entry C)) → are_entries (λ c. c) q least (map (entry_as_said change_of) es) ≡ are_entries change_of q least es
   as_entries q least [] = refl
   as_entries q least (e ∷ es) = ap (λ (t : Bool). nat_le least e.place && is_boundary q e.place && is_value e.value && stays_within q e.place (change_of e.change) && t) (as_entries q (e.place + 1) es)
 
@@ -193,18 +193,18 @@ module _ {C B : Type 0} (kind : Kind) (carries : Option Change → C) (lists : B
   as_listed q least [] = refl
   as_listed q least (b ∷ bs) = ap (λ (t : Bool). nat_le least (break_of b).place && is_boundary q (break_of b).place && lists_within q (break_of b).place (break_of b).change && t) (as_listed q ((break_of b).place + 1) bs)
 
-  entries-back : (es : List (Entry C)) → map (entry_as carries) (map (entry_of change_of) es) ≡ es
+  entries-back : (es : List (Entry C)) → map (entry_as payload_of) (map (entry_as_said change_of) es) ≡ es
   entries-back [] = refl
   entries-back (e ∷ es) = λ i. record { place = e.place; value = e.value; change = exact.changes e.change i } ∷ entries-back es i
 
-  listed-back : (bs : List B) → map lists (map break_of bs) ≡ bs
+  listed-back : (bs : List B) → map listing_of (map break_of bs) ≡ bs
   listed-back [] = refl
   listed-back (b ∷ bs) = λ i. exact.breaks b i ∷ listed-back bs i
 
   -- a standard dictionary holds no change
-  entries-allowed : (es : List (Entry C)) → have_allowed kind (map (entry_of change_of) es) ≡ true
+  entries-allowed : (es : List (Entry C)) → have_allowed kind (map (entry_as_said change_of) es) ≡ true
   entries-allowed [] = refl
-  entries-allowed (e ∷ es) = and_from (is_allowed kind (change_of e.change)) (have_allowed kind (map (entry_of change_of) es)) (one_allowed kind (change_of e.change) (λ is. exact.no_change is e.change)) (entries-allowed es)
+  entries-allowed (e ∷ es) = and_from (is_allowed kind (change_of e.change)) (have_allowed kind (map (entry_as_said change_of) es)) (one_allowed kind (change_of e.change) (λ is. exact.no_change is e.change)) (entries-allowed es)
 
   listed-allowed : (bs : List B) → are_allowed kind (map break_of bs) ≡ true
   listed-allowed [] = refl
@@ -215,7 +215,7 @@ module _ {C B : Type 0} (kind : Kind) (carries : Option Change → C) (lists : B
   keys_kept = all-entries (IsPattern change_of) contents.patterns kept.patterns
 
   abbrev IsSmall : Version → List ℕ → List (Entry C) → Type 0
-  IsSmall v q es = are_small v (map (entry_of change_of) es) ≡ true
+  IsSmall v q es = are_small v (map (entry_as_said change_of) es) ≡ true
 
   keys_small : AllPairs (IsSmall version) (finite.entries contents.patterns)
   keys_small = by (list_all (λ x. are_digits x.1) (finite.entries contents.patterns)) refl
@@ -226,20 +226,20 @@ module _ {C B : Type 0} (kind : Kind) (carries : Option Change → C) (lists : B
           all-both (IsPattern change_of) (λ q es. are_digits es ≡ true) (IsSmall First) (finite.entries contents.patterns) (λ q es k h. digits-small change_of es h) keys_kept each
       by false e = all-both (IsPattern change_of) (IsPattern change_of) (IsSmall Second) (finite.entries contents.patterns) (λ q es k h. values-small change_of q 0 es k.ascend) keys_kept keys_kept
 
-  -- each key, and each word
+  -- each key_of_line, and each word_of_line
   record KeyLine (q : List ℕ) (es : List (Entry C)) : Type 0 where
     faultless : Faultless form (p_line (q, es))
-    spelt : pattern_of version (p_line (q, es)) ≡ Some (q, map (entry_of change_of) es)
+    spelt : pattern_of_line version (p_line (q, es)) ≡ Some (q, map (entry_as_said change_of) es)
     feed : Free 10 (p_line (q, es))
 
   key_line : (q : List ℕ) (es : List (Entry C)) → IsPattern change_of q es → IsSmall version q es → KeyLine q es
   key_line q es is small =
       let w = entries-allowed es in
-      let a : are_entries (λ c. c) q 0 (map (entry_of change_of) es) ≡ true = as_entries q 0 es ∙ is.ascend in
+      let a : are_entries (λ c. c) q 0 (map (entry_as_said change_of) es) ≡ true = as_entries q 0 es ∙ is.ascend in
       record {
-        faultless = pattern-faultless form q (map (entry_of change_of) es) is.utf8 is.letter small w a;
-        spelt = pattern-spelt form q (map (entry_of change_of) es) is.utf8 is.letter small w a;
-        feed = pattern-feed form q (map (entry_of change_of) es) is.utf8 is.letter small w a;
+        faultless = pattern-faultless form q (map (entry_as_said change_of) es) is.utf8 is.letter small w a;
+        spelt = pattern-spelt form q (map (entry_as_said change_of) es) is.utf8 is.letter small w a;
+        feed = pattern-feed form q (map (entry_as_said change_of) es) is.utf8 is.letter small w a;
       }
 
   key_lines : AllPairs KeyLine (finite.entries contents.patterns)
@@ -247,7 +247,7 @@ module _ {C B : Type 0} (kind : Kind) (carries : Option Change → C) (lists : B
 
   record WordLine (q : List ℕ) (bs : List B) : Type 0 where
     faultless : Faultless form (e_line (q, bs))
-    spelt : exception_of (e_line (q, bs)) ≡ Some (q, map break_of bs)
+    spelt : exception_of_line (e_line (q, bs)) ≡ Some (q, map break_of bs)
     feed : Free 10 (e_line (q, bs))
 
   word_line : (q : List ℕ) (bs : List B) → IsException break_of q bs → WordLine q bs
@@ -266,27 +266,27 @@ module _ {C B : Type 0} (kind : Kind) (carries : Option Change → C) (lists : B
   key_fine : (q : List ℕ) (es : List (Entry C)) → KeyLine q es → Fine form (key_spelt version) p_line q es
   key_fine q es k =
       let says : key_spelt version (p_line (q, es)) ≡ Some q = ap (option_map (λ x. x.0)) k.spelt in
-      let is : key version (p_line (q, es)) ≡ q = cc in
+      let is : key_of_line version (p_line (q, es)) ≡ q = cc in
       record {
         own = λ n big. own-none form n (p_line (q, es)) big k.faultless;
         says = says;
-        alone = λ earlier none. ap (λ (t : List ℕ). cond {A = Option Cause} (stands (key_spelt version) earlier t) (Some RepeatedPattern) None) is ∙ ap (λ (b : Bool). cond {A = Option Cause} b (Some RepeatedPattern) None) none;
+        alone = λ earlier none. ap (λ (t : List ℕ). cond {A = Option Cause} (stands_in (key_spelt version) earlier t) (Some RepeatedPattern) None) is ∙ ap (λ (b : Bool). cond {A = Option Cause} b (Some RepeatedPattern) None) none;
       }
 
   word_fine : (q : List ℕ) (bs : List B) → WordLine q bs → Fine form word_spelt e_line q bs
   word_fine q bs k =
       let says : word_spelt (e_line (q, bs)) ≡ Some q = ap (option_map (λ x. x.0)) k.spelt in
-      let is : word (e_line (q, bs)) ≡ q = cc in
+      let is : word_of_line (e_line (q, bs)) ≡ q = cc in
       record {
         own = λ n big. own-none form n (e_line (q, bs)) big k.faultless;
         says = says;
-        alone = λ earlier none. ap (λ (t : List ℕ). cond {A = Option Cause} (stands word_spelt earlier t) (Some RepeatedException) None) is ∙ ap (λ (b : Bool). cond {A = Option Cause} b (Some RepeatedException) None) none;
+        alone = λ earlier none. ap (λ (t : List ℕ). cond {A = Option Cause} (stands_in word_spelt earlier t) (Some RepeatedException) None) is ∙ ap (λ (b : Bool). cond {A = Option Cause} b (Some RepeatedException) None) none;
       }
 
   abbrev the_heads : List (List ℕ)
-  the_heads = head form ∷ (language_line contents.language ∷ (minima_line contents.left contents.right ∷ []))
+  the_heads = head_line form ∷ (language_line contents.language ∷ (minima_line contents.left contents.right ∷ []))
 
-  -- no word is spelt before the words, and no key but by keys
+  -- no word_of_line is spelt before the words, and no key_of_line but by keys
   p_silent : (xs : List (List ℕ × List (Entry C))) → AllSilent form {X = List B} word_spelt e_line (map p_line xs)
   p_silent [] = tt
   p_silent (x ∷ xs) = (refl, p_silent xs)
@@ -297,28 +297,28 @@ module _ {C B : Type 0} (kind : Kind) (carries : Option Change → C) (lists : B
   keys_new : AllNew form (key_spelt version) p_line the_heads (finite.entries contents.patterns)
   keys_new = all-new form (key_spelt version) p_line the_heads (finite.entries contents.patterns) (head_key kind version, (refl, (refl, tt)))
 
-  at_end : fault_behind form ((the_heads ++ p_lines) ++ e_lines) [] ≡ None
+  at_end : fault_after form ((the_heads ++ p_lines) ++ e_lines) [] ≡ None
   at_end = enough form (length ((the_heads ++ p_lines) ++ e_lines)) (long (length (p_lines ++ e_lines)))
     where
       long : (n : ℕ) → 2 < suc (suc (suc n))
       long n = omega arith
 
-  words_pass : fault_behind form (the_heads ++ p_lines) e_lines ≡ None
+  words_pass : fault_after form (the_heads ++ p_lines) e_lines ≡ None
   words_pass =
-      subst (λ (ls : List (List ℕ)). fault_behind form (the_heads ++ p_lines) ls ≡ None) (append-nil e_lines)
+      subst (λ (ls : List (List ℕ)). fault_after form (the_heads ++ p_lines) ls ≡ None) (append-nil e_lines)
       (chain form word_spelt e_line (finite.entries contents.exceptions) (all-both WordLine WordLine (Fine form word_spelt e_line) (finite.entries contents.exceptions) (λ q bs k l. word_fine q bs k) word_lines word_lines) (entries_sorted contents.exceptions) (the_heads ++ p_lines) (long (length p_lines)) words_new [] at_end)
     where
       long : (n : ℕ) → 2 < suc (suc (suc n))
       long n = omega arith
 
-  keys_pass : fault_behind form the_heads (p_lines ++ e_lines) ≡ None
+  keys_pass : fault_after form the_heads (p_lines ++ e_lines) ≡ None
   keys_pass = chain form (key_spelt version) p_line (finite.entries contents.patterns) (all-both KeyLine KeyLine (Fine form (key_spelt version) p_line) (finite.entries contents.patterns) (λ q es k l. key_fine q es k) key_lines key_lines) (entries_sorted contents.patterns) the_heads (omega arith) keys_new e_lines words_pass
 
-  pub lines-accepted : fault_behind form [] (canonical_lines form change_of break_of contents) ≡ None
+  pub lines-accepted : fault_after form [] (canonical_lines form change_of break_of contents) ≡ None
   lines-accepted =
-      passes_line form [] (head form) (language_line contents.language ∷ (minima_line contents.left contents.right ∷ (p_lines ++ e_lines))) (heads kind version) (head_alone kind version)
-      (passes_line form (head form ∷ []) (language_line contents.language) (minima_line contents.left contents.right ∷ (p_lines ++ e_lines)) (language_passes form contents.language kept.code) refl
-      (passes_line form (head form ∷ (language_line contents.language ∷ [])) (minima_line contents.left contents.right) (p_lines ++ e_lines) (minima_passes form contents.left contents.right kept.left kept.right) refl keys_pass))
+      passes_line form [] (head_line form) (language_line contents.language ∷ (minima_line contents.left contents.right ∷ (p_lines ++ e_lines))) (heads kind version) (head_alone kind version)
+      (passes_line form (head_line form ∷ []) (language_line contents.language) (minima_line contents.left contents.right ∷ (p_lines ++ e_lines)) (language_passes form contents.language kept.code) refl
+      (passes_line form (head_line form ∷ (language_line contents.language ∷ [])) (minima_line contents.left contents.right) (p_lines ++ e_lines) (minima_passes form contents.left contents.right kept.left kept.right) refl keys_pass))
 
   -- the lines are those of the text
   feed-free : (l : List ℕ) → Free 10 l → All (λ b. eqb b 10 ≡ false) l
@@ -338,7 +338,7 @@ module _ {C B : Type 0} (kind : Kind) (carries : Option Change → C) (lists : B
   pub canonical-lines : lines_of (canonical_text_of kind change_of break_of contents) ≡ canonical_lines form change_of break_of contents
   canonical-lines =
       lines-ended (canonical_lines form change_of break_of contents) (
-        feed-free (head form) (head_feed kind version),
+        feed-free (head_line form) (head_feed kind version),
         (
           feed-free (language_line contents.language) (free-append 10 (codes "language ") contents.language (free-test 10 (codes "language ") refl) (code_feed contents.language (both_right (nat_le 1 (length contents.language) && nat_le (length contents.language) 32) (list_all is_code_byte contents.language) kept.code))),
           (
@@ -351,22 +351,22 @@ module _ {C B : Type 0} (kind : Kind) (carries : Option Change → C) (lists : B
   -- The text is accepted.
   pub canonical-accepted : refusal_of kind (canonical_text_of kind change_of break_of contents) ≡ None
   canonical-accepted =
-      ap (fault_of kind) canonical-lines ∙ ap (λ (v : Version). fault_behind (record { kind = kind; version = v }) [] (canonical_lines form change_of break_of contents)) (version-again kind version) ∙ lines-accepted
+      ap (fault_of kind) canonical-lines ∙ ap (λ (v : Version). fault_after (record { kind = kind; version = v }) [] (canonical_lines form change_of break_of contents)) (version-again kind version) ∙ lines-accepted
 
   -- and its lines spell the dictionary
   abbrev say_p : List ℕ → Option (List ℕ × List (Entry C))
-  say_p = told (entry_as carries) (pattern_of version)
+  say_p = spelt_as (entry_as payload_of) (pattern_of_line version)
 
   abbrev say_e : List ℕ → Option (List ℕ × List B)
-  say_e = told lists exception_of
+  say_e = spelt_as lists exception_of_line
 
   key_again : (q : List ℕ) (es : List (Entry C)) → KeyLine q es → Again say_p p_line q es
   key_again q es k =
-      ap (option_map {U = List ℕ × List (Entry C)} (λ x. (x.0, map (entry_as carries) x.1))) k.spelt ∙ ap (λ (xs : List (Entry C)). Some (q, xs)) (entries-back es)
+      ap (option_map {U = List ℕ × List (Entry C)} (λ x. (x.0, map (entry_as payload_of) x.1))) k.spelt ∙ ap (λ (xs : List (Entry C)). Some (q, xs)) (entries-back es)
 
   word_again : (q : List ℕ) (bs : List B) → WordLine q bs → Again say_e e_line q bs
   word_again q bs k =
-      ap (option_map {U = List ℕ × List B} (λ x. (x.0, map lists x.1))) k.spelt ∙ ap (λ (xs : List B). Some (q, xs)) (listed-back bs)
+      ap (option_map {U = List ℕ × List B} (λ x. (x.0, map listing_of x.1))) k.spelt ∙ ap (λ (xs : List B). Some (q, xs)) (listed-back bs)
 
   head_p : (k : Kind) (v : Version) → say_p (head_of k v) ≡ None
   head_p Standard First = refl
@@ -388,19 +388,19 @@ module _ {C B : Type 0} (kind : Kind) (carries : Option Change → C) (lists : B
   p_quiet [] = tt
   p_quiet (x ∷ xs) = (refl, p_quiet xs)
 
-  patterns-again : gathered say_p (canonical_lines form change_of break_of contents) ≡ contents.patterns
+  patterns-again : map_of_lines say_p (canonical_lines form change_of break_of contents) ≡ contents.patterns
   patterns-again = gathered_again say_p p_line contents.patterns the_heads e_lines (all-both KeyLine KeyLine (Again say_p p_line) (finite.entries contents.patterns) (λ q es k l. key_again q es k) key_lines key_lines) (head_p kind version, (refl, (refl, tt))) (e_quiet (finite.entries contents.exceptions))
 
-  exceptions-again : gathered say_e (canonical_lines form change_of break_of contents) ≡ contents.exceptions
+  exceptions-again : map_of_lines say_e (canonical_lines form change_of break_of contents) ≡ contents.exceptions
   exceptions-again =
-      ap (λ (ls : List (List ℕ)). gathered say_e (the_heads ++ (p_lines ++ ls))) (sym (append-nil e_lines))
+      ap (λ (ls : List (List ℕ)). map_of_lines say_e (the_heads ++ (p_lines ++ ls))) (sym (append-nil e_lines))
       ∙ gathered_again say_e e_line contents.exceptions (the_heads ++ p_lines) [] (all-both WordLine WordLine (Again say_e e_line) (finite.entries contents.exceptions) (λ q bs k l. word_again q bs k) word_lines word_lines) (head_e kind version, (refl, (refl, p_quiet (finite.entries contents.patterns)))) tt
 
   -- The text gives the dictionary.
-  pub canonical-contents : contents_of kind carries lists (lines_of (canonical_text_of kind change_of break_of contents)) ≡ contents
+  pub canonical-contents : contents_of kind payload_of listing_of (lines_of (canonical_text_of kind change_of break_of contents)) ≡ contents
   canonical-contents =
-      ap (contents_of kind carries lists) canonical-lines
-      ∙ ap (λ (v : Version). contents_in v carries lists (canonical_lines form change_of break_of contents)) (version-again kind version)
+      ap (contents_of kind payload_of listing_of) canonical-lines
+      ∙ ap (λ (v : Version). contents_in v payload_of listing_of (canonical_lines form change_of break_of contents)) (version-again kind version)
       ∙ (λ i. record {
         language = unwrap_or (language_again contents.language kept.code i) [];
         left = (unwrap_or (minima_again contents.left contents.right kept.left kept.right i) (0, 0)).0;

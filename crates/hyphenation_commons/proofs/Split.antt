@@ -112,20 +112,20 @@ last_stays (b ∷ rest) some = ap (λ (t : Bool). cond {A = List (List ℕ)} t [
 pub filled : (n : ℕ) (b : Bool) → b ≡ eqb n 0 → b ≡ false → 0 < n
 filled n b e off = grind (arith, nat_tests)
 
-none_behind : (text : List ℕ) → take (length text - length text) (drop (length text) text) ≡ []
-none_behind text = ap (λ (k : ℕ). take k (drop (length text) text)) (nothing (length text))
+none_after : (text : List ℕ) → take (length text - length text) (drop (length text) text) ≡ []
+none_after text = ap (λ (k : ℕ). take k (drop (length text) text)) (nothing (length text))
   where
     nothing : (k : ℕ) → k - k ≡ 0
     nothing k = omega arith
 
 pub nothing-utf8 : (text : List ℕ) → IsUtf8 (take (length text - length text) (drop (length text) text))
-nothing-utf8 text = subst IsUtf8 (sym (none_behind text)) IsUtf8-nil
+nothing-utf8 text = subst IsUtf8 (sym (none_after text)) IsUtf8-nil
 
 -- a text without a line feed is its last line
 pub last_line : (text : List ℕ) → 0 < length text → None ≡ position (λ b. eqb b 10) text
     → (lines_of text ≡ text ∷ lines_of (take (length text - length text) (drop (length text) text))) × (length (take (length text - length text) (drop (length text) text)) < length text)
 last_line text some e =
-    (ap without_empty_last (alone 10 text e) ∙ last_stays text some ∙ ap (λ (r : List ℕ). text ∷ lines_of r) (sym (none_behind text)), omega (arith, some, ap length (none_behind text)))
+    (ap without_empty_last (alone 10 text e) ∙ last_stays text some ∙ ap (λ (r : List ℕ). text ∷ lines_of r) (sym (none_after text)), omega (arith, some, ap length (none_after text)))
 
 more_lines : (text : List ℕ) (at : ℕ) → Some at ≡ position (λ b. eqb b 10) text → lines_of text ≡ take at text ∷ lines_of (take (length text - (at + 1)) (drop (at + 1) text))
 more_lines text at e = ap without_empty_last (ended 10 text at e) ∙ not_last (take at text) _ (some_part (λ b. eqb b 10) (take (length text - (at + 1)) (drop (at + 1) text)))

@@ -8,7 +8,7 @@ use Rattle.std.proofs.lemmas.List.{length-map, get_or-map, map-set, get_or-set_s
 use Rattle.std.proofs.lemmas.Simd.{map-map}
 use Rattle.hyphenation_commons.specs.Links.{HasParents, HasDepths, IsFrozen}
 use Rattle.hyphenation_commons.specs.States.{no_links, texts_by, span_in, entries_there, linked_tree, HasStates}
-use Rattle.hyphenation_commons.specs.Trie.{Tree, text_of, key_at, texts_of, with_text, seen, entries_in, IsWithin, AreWithin}
+use Rattle.hyphenation_commons.specs.Trie.{Tree, node_text, key_at, texts_of, with_node_text, tree_of, entries_in, IsWithin, AreWithin}
 use Rattle.hyphenation_commons.specs.declared.trie.Node.{Node}
 use Rattle.hyphenation_commons.specs.declared.trie.Span.{Span}
 use Rattle.hyphenation_commons.specs.declared.trie.frozen.Links.{Links}
@@ -23,7 +23,7 @@ next n = omega arith
 
 -- the text of one node more
 text_more : (texts : List (List ℕ)) (parents bytes : List ℕ) (k : ℕ) → HasParents texts parents bytes → 0 < k → k < length texts
-    → with_text (take k texts) (Some (get_or parents k 0, get_or bytes k 0)) ≡ take (suc k) texts
+    → with_node_text (take k texts) (Some (get_or parents k 0, get_or bytes k 0)) ≡ take (suc k) texts
 text_more texts parents bytes k has pos lt =
     let h = has.each k pos lt in
     let up : get_or (take k texts) (get_or parents k 0) [] ≡ get_or texts (get_or parents k 0) [] = get_or-take k texts (get_or parents k 0) [] h.0 in
@@ -33,25 +33,25 @@ text_more texts parents bytes k has pos lt =
     ∙ ap (λ (n : ℕ). take n texts) (sym (next k))
 
 texts_on : (texts : List (List ℕ)) (parents bytes : List ℕ) (n k : ℕ) → HasParents texts parents bytes → 0 < k → k + n ≡ length texts
-    → fold with_text (take k texts) (map (λ from. Some from) (zip (drop k parents) (drop k bytes))) ≡ texts
+    → fold with_node_text (take k texts) (map (λ from. Some from) (zip (drop k parents) (drop k bytes))) ≡ texts
 texts_on texts parents bytes zero k has pos e =
     let none : drop k parents ≡ [] = drop_all k parents (omega (arith, has.nodes)) in
     let all : k ≡ length texts = omega arith in
-    ap (λ (xs : List ℕ). fold with_text (take k texts) (map (λ from. Some from) (zip xs (drop k bytes)))) none ∙ ap (λ (n : ℕ). take n texts) all ∙ take-length texts
+    ap (λ (xs : List ℕ). fold with_node_text (take k texts) (map (λ from. Some from) (zip xs (drop k bytes)))) none ∙ ap (λ (n : ℕ). take n texts) all ∙ take-length texts
 texts_on texts parents bytes (suc n) k has pos e =
     let lt : k < length texts = omega arith in
     let ps = drop-cons parents k 0 (omega (arith, has.nodes)) in
     let bs = drop-cons bytes k 0 (omega (arith, has.bytes_of)) in
-    ap (λ (xs : List ℕ). fold with_text (take k texts) (map (λ from. Some from) (zip xs (drop k bytes)))) ps
-    ∙ ap (λ (xs : List ℕ). fold with_text (take k texts) (map (λ from. Some from) (zip (get_or parents k 0 ∷ drop (suc k) parents) xs))) bs
-    ∙ ap (λ (ts : List (List ℕ)). fold with_text ts (map (λ from. Some from) (zip (drop (suc k) parents) (drop (suc k) bytes)))) (text_more texts parents bytes k has pos lt)
+    ap (λ (xs : List ℕ). fold with_node_text (take k texts) (map (λ from. Some from) (zip xs (drop k bytes)))) ps
+    ∙ ap (λ (xs : List ℕ). fold with_node_text (take k texts) (map (λ from. Some from) (zip (get_or parents k 0 ∷ drop (suc k) parents) xs))) bs
+    ∙ ap (λ (ts : List (List ℕ)). fold with_node_text ts (map (λ from. Some from) (zip (drop (suc k) parents) (drop (suc k) bytes)))) (text_more texts parents bytes k has pos lt)
     ∙ texts_on texts parents bytes n (suc k) has (omega arith) (omega arith)
 
 -- texts are known by parents and bytes
 pub texts_are : (texts : List (List ℕ)) (parents bytes : List ℕ) → 0 < length texts → get_or texts 0 [] ≡ [] → HasParents texts parents bytes → texts_by parents bytes ≡ texts
 texts_are [] parents bytes some root has = absurd (omega arith)
 texts_are (t ∷ ts) parents bytes some root has =
-    ap (λ (x : List ℕ). fold with_text (x ∷ []) (map (λ from. Some from) (zip (drop 1 parents) (drop 1 bytes)))) (sym root)
+    ap (λ (x : List ℕ). fold with_node_text (x ∷ []) (map (λ from. Some from) (zip (drop 1 parents) (drop 1 bytes)))) (sym root)
     ∙ texts_on (t ∷ ts) parents bytes (length ts) 1 has (omega arith) (omega arith)
 
 -- ---- what is read of a state
@@ -98,7 +98,7 @@ key_within tree parents bytes states cells bound node s has lt read is =
 -- the entries of a state are those of the key that its node's text is
 pub entries_of_node : {E : Type 0} (es : List E) (parents bytes : List ℕ) (states : List State) (cells : List Cell) (bound node : ℕ) (s : State)
     → HasStates (linked_tree parents bytes states es).tree parents bytes states cells bound → node < length (linked_tree parents bytes states es).tree.texts → s ≡ get_or states node s
-    → entries_there es (span_in s) ≡ key_at (linked_tree parents bytes states es).tree (text_of (linked_tree parents bytes states es).tree node)
+    → entries_there es (span_in s) ≡ key_at (linked_tree parents bytes states es).tree (node_text (linked_tree parents bytes states es).tree node)
 entries_of_node es parents bytes states cells bound node s has lt read =
     let tree = (linked_tree parents bytes states es).tree in
     let trie = has.frozen.trie in
@@ -116,7 +116,7 @@ pub entries_same : {E : Type 0} (es : List E) (states : List State) (ns : List N
 entries_same es states ns e = sym (map-map (entries_there es) span_in states) ∙ ap (map (entries_there es)) e ∙ map-map (entries_there es) (λ (n : Node). n.span) ns
 
 pub tree_same : {E : Type 0} (es : List E) (states : List State) (ns : List Node) (parents bytes : List ℕ) → texts_by parents bytes ≡ texts_of (map (λ n. n.from) ns) → map span_in states ≡ map (λ n. n.span) ns
-    → (linked_tree parents bytes states es).tree ≡ seen ns es
+    → (linked_tree parents bytes states es).tree ≡ tree_of ns es
 tree_same es states ns parents bytes texts spans =
     let entries = entries_same es states ns spans in
     λ k. record { texts = texts k; entries = entries k }

@@ -4,8 +4,8 @@ use Rattle.std.specs.Prelude.{slice_get, IsSome, is_some}
 use Rattle.std.proofs.lemmas.Bool.{cases_lt, eqb-true, eq-eqb}
 use Rattle.std.proofs.lemmas.List.{length-append, map_push, length-map, map-set, take_more, length-take-le, get_or-map, drop-append-le, take-append-le, length-drop, get_or_append_left, get_or_push}
 use Rattle.std.proofs.lemmas.Grind.{fold-append}
-use Rattle.hyphenation_commons.specs.Growing.{IsHeld}
-use Rattle.hyphenation_commons.specs.Trie.{with_text, text_after, texts_of, IsWithin, AreWithin, entries_in, seen, grown, IsTrie, Tree, entries_at, key_at, text_of, Grows, AddsFront, KeepsNodes, with_entries, EachBeginsKey}
+use Rattle.hyphenation_commons.specs.Growing.{IsGrowing}
+use Rattle.hyphenation_commons.specs.Trie.{with_node_text, text_after, texts_of, IsWithin, AreWithin, entries_in, tree_of, with_child, IsTrie, Tree, entries_at, key_at, node_text, Grows, AddsFront, KeepsNodes, with_entries, EachBeginsKey}
 use Rattle.std.specs.Option.{option_map}
 use Rattle.std.specs.List.{slice_range}
 use Rattle.std.proofs.Math.Seq.{map-set_same, drop-append_seam, take-length}
@@ -13,15 +13,15 @@ use Rattle.std.specs.Cmp.Lexicographic.{pointwise}
 use Rattle.hyphenation_commons.specs.declared.trie.Node.{Node}
 use Rattle.hyphenation_commons.specs.declared.trie.Span.{Span}
 
-length-fold : (acc : List (List ℕ)) (fs : List (Option (ℕ × ℕ))) → length (fold with_text acc fs) ≡ length acc + length fs
+length-fold : (acc : List (List ℕ)) (fs : List (Option (ℕ × ℕ))) → length (fold with_node_text acc fs) ≡ length acc + length fs
 length-fold acc [] = omega arith
-length-fold acc (f ∷ fs) = omega (arith, length-fold (with_text acc f) fs, length-append acc (text_after acc f ∷ []))
+length-fold acc (f ∷ fs) = omega (arith, length-fold (with_node_text acc f) fs, length-append acc (text_after acc f ∷ []))
 
 pub length-texts_of : (fs : List (Option (ℕ × ℕ))) → length (texts_of fs) ≡ length fs
 length-texts_of fs = length-fold [] fs ∙ omega arith
 
-pub texts_of-push : (fs : List (Option (ℕ × ℕ))) (f : Option (ℕ × ℕ)) → texts_of (fs ++ f ∷ []) ≡ with_text (texts_of fs) f
-texts_of-push fs f = fold-append with_text [] fs (f ∷ [])
+pub texts_of-push : (fs : List (Option (ℕ × ℕ))) (f : Option (ℕ × ℕ)) → texts_of (fs ++ f ∷ []) ≡ with_node_text (texts_of fs) f
+texts_of-push fs f = fold-append with_node_text [] fs (f ∷ [])
 
 -- texts that end in one byte are equal only with equal parts
 pub last_same : (xs ys : List ℕ) (b c : ℕ) → xs ++ b ∷ [] ≡ ys ++ c ∷ [] → (xs ≡ ys) × (b ≡ c)
@@ -56,12 +56,12 @@ pub chosen : {X : Type 0} (b : Bool) (x y z : X) → cond b x y ≡ z → ((b �
 chosen true x y z e = inl (refl, e)
 chosen false x y z e = inr (refl, e)
 
-pub seen-grown : {E : Type 0} (ns : List Node) (es : List E) (i b : ℕ) → seen (ns ++ record { from = Some (i, b); span = None } ∷ []) es ≡ grown (seen ns es) i b
+pub seen-grown : {E : Type 0} (ns : List Node) (es : List E) (i b : ℕ) → tree_of (ns ++ record { from = Some (i, b); span = None } ∷ []) es ≡ with_child (tree_of ns es) i b
 seen-grown ns es i b = rw (map_push, map_push, texts_of-push) refl
 
-pub IsTrie-seen : {E : Type 0} (ns : List Node) (es : List E) (lasts befores : List ℕ) → IsHeld (map (λ n. n.from) ns) lasts befores → IsTrie (seen ns es)
+pub IsTrie-seen : {E : Type 0} (ns : List Node) (es : List E) (lasts befores : List ℕ) → IsGrowing (map (λ n. n.from) ns) lasts befores → IsTrie (tree_of ns es)
 IsTrie-seen ns es lasts befores held =
-    let r = root_text (seen ns es).texts held.root in
+    let r = root_text (tree_of ns es).texts held.root in
     record {
       lengths = simp length-map (sym (length-texts_of (map (λ n. n.from) ns) ∙ simp length-map));
       some = r.1;
@@ -108,7 +108,7 @@ kept : {E : Type 0} (es xs : List E) (span : Option Span) → IsWithin (length e
 kept es xs None h = refl
 kept es xs (Some span) h = ap (λ (ys : List _). Some ys) (range_kept es xs span.start span.end h.0 h.1)
 
--- entries put behind the others change no node's
+-- entries put after the others change no node's
 all_kept : {E : Type 0} (es xs : List E) (ns : List Node) → AreWithin (length es) ns → map (entries_in (es ++ xs)) ns ≡ map (entries_in es) ns
 all_kept es xs [] h = refl
 all_kept es xs (n ∷ ns) h = λ k. kept es xs n.span h.0 k ∷ all_kept es xs ns h.1 k
@@ -226,11 +226,11 @@ entries_at-here (t ∷ ts) (e ∷ es) (suc i) apart len lt =
     ap (λ b. cond b e (entries_at ts es (get_or ts i []))) (other_text t (get_or ts i []) (λ same. apart_first t ts i apart (omega arith) same))
     ∙ entries_at-here ts es i (apart_rest t ts apart) (omega arith) (omega arith)
 
-pub seen_entries : {E : Type 0} (ns : List Node) (es : List E) (i : ℕ) (n : Node) → i < length ns → n ≡ get_or ns i n → get_or (seen ns es).entries i None ≡ entries_in es n
+pub seen_entries : {E : Type 0} (ns : List Node) (es : List E) (i : ℕ) (n : Node) → i < length ns → n ≡ get_or ns i n → get_or (tree_of ns es).entries i None ≡ entries_in es n
 seen_entries ns es i n lt read = get_or-map (entries_in es) ns i n None lt ∙ ap (entries_in es) (sym read)
 
 pub seen-with : {E : Type 0} (ns : List Node) (es xs : List E) (i start end : ℕ) (n : Node) (now : Option Span) → n ≡ get_or ns i n → now ≡ Some (record { start = start; end = end })
-    → AreWithin (length es) ns → start ≡ length es → end ≡ length (es ++ xs) → seen (set ns i (record { from = n.from; span = now })) (es ++ xs) ≡ with_entries (seen ns es) i xs
+    → AreWithin (length es) ns → start ≡ length es → end ≡ length (es ++ xs) → tree_of (set ns i (record { from = n.from; span = now })) (es ++ xs) ≡ with_entries (tree_of ns es) i xs
 seen-with {E} ns es xs i start end n now read is within begin stop =
     let x : Node = record { from = n.from; span = now } in
     let froms : map (λ n. n.from) (set ns i x) ≡ map (λ n. n.from) ns = map-set_same (λ n. n.from) ns i x n (ap (λ n. n.from) read) in
@@ -240,7 +240,7 @@ seen-with {E} ns es xs i start end n now read is within begin stop =
     λ k. record { texts = texts_of (froms k); entries = news k }
 
 -- the entries of one key are set
-pub key_at-with : {E : Type 0} (t : Tree E) (node : ℕ) (es : List E) (key q : List ℕ) → IsTrie t → node < length t.texts → text_of t node ≡ key
+pub key_at-with : {E : Type 0} (t : Tree E) (node : ℕ) (es : List E) (key q : List ℕ) → IsTrie t → node < length t.texts → node_text t node ≡ key
     → key_at (with_entries t node es) q ≡ cond (pointwise nat_eq key q) (Some es) (key_at t q)
 key_at-with t node es key q trie lt e = entries_at-set t.texts t.entries node (Some es) q trie.distinct trie.lengths lt ∙ ap (λ (x : List ℕ). cond (pointwise nat_eq x q) (Some es) (key_at t q)) e
 
@@ -249,7 +249,7 @@ some_either true x o h = refl
 some_either false x o h = h
 
 pub begins-insert : {E : Type 0} (old mid : Tree E) (key : List ℕ) (node : ℕ) (es : List E) → ((q : List ℕ) → key_at mid q ≡ key_at old q) → AddsFront old mid key → IsTrie mid
-    → node < length mid.texts → text_of mid node ≡ key → EachBeginsKey old → EachBeginsKey (with_entries mid node es)
+    → node < length mid.texts → node_text mid node ≡ key → EachBeginsKey old → EachBeginsKey (with_entries mid node es)
 begins-insert {E} old mid key node es keys adds trie lt e begins j pos lj =
     let at : (q : List ℕ) → key_at (with_entries mid node es) q ≡ cond (pointwise nat_eq key q) (Some es) (key_at mid q) = λ q. key_at-with mid node es key q trie lt e in
     elim (adds j lj) [

@@ -12,14 +12,14 @@ use Rattle.std.proofs.lemmas.Bool.Decides.{nat_tests}
 use Rattle.hyphenation_commons.specs.Break.{Break, Change, keeps_within}
 use Rattle.hyphenation_commons.specs.declared.grammar.form.Form.{Form}
 use Rattle.hyphenation_commons.specs.declared.grammar.form.Kind.{Kind}
-use Rattle.hyphenation_commons.specs.Items.{listed_of}
-use Rattle.hyphenation_commons.specs.Judging.{is_good, is_extended, has_value_at}
-use Rattle.hyphenation_commons.specs.Kept.{is_short, can_be_said, is_said, stays_within}
+use Rattle.hyphenation_commons.specs.Items.{break_of_token}
+use Rattle.hyphenation_commons.specs.Judging.{is_good_later_token, is_extended, has_value_at}
+use Rattle.hyphenation_commons.specs.Kept.{fits_usize, can_be_said, can_be_said_if_any, stays_within}
 use Rattle.hyphenation_commons.specs.Lines.{is_number, number, same}
-use Rattle.hyphenation_commons.specs.Tokens.{signs_of, text_of, parts_within, parts_of, put, has_comma, numerals_of, is_readable, place_of, change_of, is_whole, bytes_of}
+use Rattle.hyphenation_commons.specs.Tokens.{escaped_bytes_of, text_spelt, parts_within, parts_of, put_byte, has_comma, numerals_of, is_readable, place_of, change_of, is_whole, bytes_of}
 use Rattle.hyphenation_commons.specs.Canonical.{byte_spelling, text_token, before_comma, break_token}
 use Rattle.hyphenation_commons.specs.declared.grammar.tokens.Escapes.TheVariants.{Plain}
-use Rattle.hyphenation_commons.specs.declared.grammar.tokens.Mark.{Mark}
+use Rattle.hyphenation_commons.specs.declared.grammar.tokens.PatternElement.{PatternElement}
 use Rattle.hyphenation_commons.proofs.Decimals.{decimal-written, decimal-number, decimal-utf8}
 use Rattle.hyphenation_commons.proofs.Free.{Free, IsGap, digits-free, comma-free, text-free, number-free}
 use Rattle.hyphenation_commons.proofs.Parts.{none_left}
@@ -41,11 +41,11 @@ not_empty b rest = by (eqb b 92) (eqb b 32) (eqb b 10) (eqb b 13) refl
     by false false false true e = refl
     by false false false false e = rw e refl
 
-pub text-again : (text : List ℕ) → text_of (text_token text) ≡ Some text
+pub text-again : (text : List ℕ) → text_spelt (text_token text) ≡ Some text
 text-again [] = refl
 text-again (b ∷ text) =
     let r = reads_text Plain (b ∷ text) in
-    ap (λ (t : Bool). cond {A = Option (List ℕ)} t (Some []) (option_map bytes_of (signs_of Plain (text_token (b ∷ text))))) (not_empty b (flat_map (byte_spelling Plain) text))
+    ap (λ (t : Bool). cond {A = Option (List ℕ)} t (Some []) (option_map bytes_of (escaped_bytes_of Plain (text_token (b ∷ text))))) (not_empty b (flat_map (byte_spelling Plain) text))
     ∙ ap (option_map bytes_of) r.1 ∙ ap (λ (xs : List ℕ). Some xs) r.2
 
 positive : (k : ℕ) → nat_lt 0 (suc k) ≡ true
@@ -62,21 +62,21 @@ token-some (b ∷ text) = by (eqb b 92) (eqb b 32) (eqb b 10) (eqb b 13)
     by false false false true = positive (suc (length (flat_map (byte_spelling Plain) text)))
     by false false false false = positive (length (flat_map (byte_spelling Plain) text))
 
-number-signs : (n : ℕ) → n < 2 ^ 64 → is_some (signs_of Plain (decimal n)) ≡ true
+number-signs : (n : ℕ) → n < 2 ^ 64 → is_some (escaped_bytes_of Plain (decimal n)) ≡ true
 number-signs n h =
-    ap (λ (ds : List ℕ). is_some (signs_of Plain ds)) (sym (append-nil (decimal n))) ∙ ap is_some (digits-signs Plain (decimal n) [] [] (decimal-written n h).digits refl)
+    ap (λ (ds : List ℕ). is_some (escaped_bytes_of Plain ds)) (sym (append-nil (decimal n))) ∙ ap is_some (digits-signs Plain (decimal n) [] [] (decimal-written n h).digits refl)
 
 -- ---- Commas.
 
 part_again : (n : ℕ) (text rest : List ℕ) → nat_lt 0 n ≡ true → Free 44 text → parts_within n (text ++ 44 ∷ rest) ≡ text ∷ parts_within (n - 1) rest
 part_again n [] rest e h = rw e refl
 part_again n (b ∷ text) rest e h =
-    ap (λ (t : Bool). put (t && nat_lt 0 n) b (parts_within (cond (t && nat_lt 0 n) (n - 1) n) (text ++ 44 ∷ rest))) h.0 ∙ ap (onto_first b) (part_again n text rest e h.1)
+    ap (λ (t : Bool). put_byte (t && nat_lt 0 n) b (parts_within (cond (t && nat_lt 0 n) (n - 1) n) (text ++ 44 ∷ rest))) h.0 ∙ ap (onto_first b) (part_again n text rest e h.1)
 
 whole_again : (n : ℕ) (text : List ℕ) → Free 44 text → parts_within n text ≡ text ∷ []
 whole_again n [] h = refl
 whole_again n (b ∷ text) h =
-    ap (λ (t : Bool). put (t && nat_lt 0 n) b (parts_within (cond (t && nat_lt 0 n) (n - 1) n) text)) h.0 ∙ ap (onto_first b) (whole_again n text h.1)
+    ap (λ (t : Bool). put_byte (t && nat_lt 0 n) b (parts_within (cond (t && nat_lt 0 n) (n - 1) n) text)) h.0 ∙ ap (onto_first b) (whole_again n text h.1)
 
 part_of : (n place : ℕ) (rest : List ℕ) → nat_lt 0 n ≡ true → place < 2 ^ 64 → parts_within n (before_comma place rest) ≡ decimal place ∷ parts_within (n - 1) rest
 part_of n place rest e h = part_again n (decimal place) rest e (digits-free 44 place (omega arith) h)
@@ -96,7 +96,7 @@ parts_again p l r k s hp hl hr hk =
 pub record Tells (token : List ℕ) (b : Break) : Type 0 where
   pub readable : is_readable token ≡ true
   pub numbers : list_all is_number (numerals_of token) ≡ true
-  pub listed : listed_of token ≡ b
+  pub listed : break_of_token token ≡ b
   pub comma : has_comma token ≡ is_some b.change
   pub whole : is_some b.change ≡ true → is_whole token ≡ true
   pub utf8 : IsUtf8 token
@@ -116,10 +116,10 @@ tells_place place h =
     let e = whole_again 4 (decimal place) (digits-free 44 place (omega arith) h) in
     let n = decimal-number place h in
     record {
-      readable = and_from (nat_lt 0 (length (decimal place)) && list_all (λ w. is_some (signs_of Plain w)) (take 4 (parts_of (decimal place)))) (list_all (λ w. is_some (text_of w)) (drop 4 (parts_of (decimal place))))
-          (and_from (nat_lt 0 (length (decimal place))) (list_all (λ w. is_some (signs_of Plain w)) (take 4 (parts_of (decimal place)))) (short place h)
-          (ap (λ (ps : List (List ℕ)). list_all (λ w. is_some (signs_of Plain w)) (take 4 ps)) e ∙ and_from (is_some (signs_of Plain (decimal place))) true (number-signs place h) refl))
-          (ap (λ (ps : List (List ℕ)). list_all (λ w. is_some (text_of w)) (drop 4 ps)) e);
+      readable = and_from (nat_lt 0 (length (decimal place)) && list_all (λ w. is_some (escaped_bytes_of Plain w)) (take 4 (parts_of (decimal place)))) (list_all (λ w. is_some (text_spelt w)) (drop 4 (parts_of (decimal place))))
+          (and_from (nat_lt 0 (length (decimal place))) (list_all (λ w. is_some (escaped_bytes_of Plain w)) (take 4 (parts_of (decimal place)))) (short place h)
+          (ap (λ (ps : List (List ℕ)). list_all (λ w. is_some (escaped_bytes_of Plain w)) (take 4 ps)) e ∙ and_from (is_some (escaped_bytes_of Plain (decimal place))) true (number-signs place h) refl))
+          (ap (λ (ps : List (List ℕ)). list_all (λ w. is_some (text_spelt w)) (drop 4 ps)) e);
       numbers = ap (λ (ps : List (List ℕ)). list_all is_number (cond (nat_lt 1 (length ps)) (take (length ps - 1) ps) ps)) e ∙ and_from (is_number (decimal place)) true n.0 refl;
       listed = ap (λ (ps : List (List ℕ)). record { place = number (get_or ps 0 []); change = cond {A = Option Change} (nat_lt 1 (length ps)) (Some (change_of (decimal place))) None }) e ∙ (λ i. record { place = n.1 i; change = None });
       comma = ap (λ (ps : List (List ℕ)). nat_lt 1 (length ps)) e;
@@ -147,14 +147,14 @@ tells_change place c hp hl hr hk u =
     let nk = decimal-number c.breakpoint hk in
     let t = text-again c.substitution in
     record {
-      readable = and_from (nat_lt 0 (length token) && list_all (λ w. is_some (signs_of Plain w)) (take 4 (parts_of token))) (list_all (λ w. is_some (text_of w)) (drop 4 (parts_of token)))
-          (and_from (nat_lt 0 (length token)) (list_all (λ w. is_some (signs_of Plain w)) (take 4 (parts_of token))) (long place (before_comma c.left (before_comma c.right (before_comma c.breakpoint s))) hp)
-          (ap (λ (ps : List (List ℕ)). list_all (λ w. is_some (signs_of Plain w)) (take 4 ps)) e
-          ∙ four (is_some (signs_of Plain d)) (is_some (signs_of Plain l)) (is_some (signs_of Plain r)) (is_some (signs_of Plain k)) (number-signs place hp) (number-signs c.left hl) (number-signs c.right hr) (number-signs c.breakpoint hk)))
-          (ap (λ (ps : List (List ℕ)). list_all (λ w. is_some (text_of w)) (drop 4 ps)) e ∙ and_from (is_some (text_of s)) true (ap is_some t) refl);
+      readable = and_from (nat_lt 0 (length token) && list_all (λ w. is_some (escaped_bytes_of Plain w)) (take 4 (parts_of token))) (list_all (λ w. is_some (text_spelt w)) (drop 4 (parts_of token)))
+          (and_from (nat_lt 0 (length token)) (list_all (λ w. is_some (escaped_bytes_of Plain w)) (take 4 (parts_of token))) (long place (before_comma c.left (before_comma c.right (before_comma c.breakpoint s))) hp)
+          (ap (λ (ps : List (List ℕ)). list_all (λ w. is_some (escaped_bytes_of Plain w)) (take 4 ps)) e
+          ∙ four (is_some (escaped_bytes_of Plain d)) (is_some (escaped_bytes_of Plain l)) (is_some (escaped_bytes_of Plain r)) (is_some (escaped_bytes_of Plain k)) (number-signs place hp) (number-signs c.left hl) (number-signs c.right hr) (number-signs c.breakpoint hk)))
+          (ap (λ (ps : List (List ℕ)). list_all (λ w. is_some (text_spelt w)) (drop 4 ps)) e ∙ and_from (is_some (text_spelt s)) true (ap is_some t) refl);
       numbers = ap (λ (ps : List (List ℕ)). list_all is_number (cond (nat_lt 1 (length ps)) (take (length ps - 1) ps) ps)) e
           ∙ four (is_number d) (is_number l) (is_number r) (is_number k) np.0 nl.0 nr.0 nk.0;
-      listed = ap (λ (ps : List (List ℕ)). record { place = number (get_or ps 0 []); change = cond {A = Option Change} (nat_lt 1 (length ps)) (Some (record { left = number (get_or ps 1 []); right = number (get_or ps 2 []); substitution = unwrap_or (text_of (get_or ps 4 [])) []; breakpoint = number (get_or ps 3 []) })) None }) e
+      listed = ap (λ (ps : List (List ℕ)). record { place = number (get_or ps 0 []); change = cond {A = Option Change} (nat_lt 1 (length ps)) (Some (record { left = number (get_or ps 1 []); right = number (get_or ps 2 []); substitution = unwrap_or (text_spelt (get_or ps 4 [])) []; breakpoint = number (get_or ps 3 []) })) None }) e
           ∙ (λ i. record { place = np.1 i; change = Some (record { left = nl.1 i; right = nr.1 i; substitution = unwrap_or (t i) []; breakpoint = nk.1 i }) });
       comma = ap (λ (ps : List (List ℕ)). nat_lt 1 (length ps)) e;
       whole = λ some. ap (λ (ps : List (List ℕ)). eqb (length ps) 5 && nat_lt 0 (length (get_or ps 4 []))) e ∙ token-some c.substitution;
@@ -166,16 +166,16 @@ below : (n : ℕ) → nat_lt n (2 ^ 64) ≡ true → n < 2 ^ 64
 below n e = grind (arith, nat_tests)
 
 -- each break that can be said
-pub tells : (place : ℕ) (change : Option Change) → is_short place ≡ true → is_said change ≡ true → Tells (break_token place change) (record { place = place; change = change })
+pub tells : (place : ℕ) (change : Option Change) → fits_usize place ≡ true → can_be_said_if_any change ≡ true → Tells (break_token place change) (record { place = place; change = change })
 tells place None h w = tells_place place (below place h)
 tells place (Some c) h w =
-    let w3 = both_left (is_short c.left && is_short c.right && is_short c.breakpoint) (is_utf8 c.substitution) w in
-    let w2 = both_left (is_short c.left && is_short c.right) (is_short c.breakpoint) w3 in
+    let w3 = both_left (fits_usize c.left && fits_usize c.right && fits_usize c.breakpoint) (is_utf8 c.substitution) w in
+    let w2 = both_left (fits_usize c.left && fits_usize c.right) (fits_usize c.breakpoint) w3 in
     tells_change place c (below place h)
-    (below c.left (both_left (is_short c.left) (is_short c.right) w2))
-    (below c.right (both_right (is_short c.left) (is_short c.right) w2))
-    (below c.breakpoint (both_right (is_short c.left && is_short c.right) (is_short c.breakpoint) w3))
-    (IsUtf8-from_is_utf8 c.substitution (both_right (is_short c.left && is_short c.right && is_short c.breakpoint) (is_utf8 c.substitution) w))
+    (below c.left (both_left (fits_usize c.left) (fits_usize c.right) w2))
+    (below c.right (both_right (fits_usize c.left) (fits_usize c.right) w2))
+    (below c.breakpoint (both_right (fits_usize c.left && fits_usize c.right) (fits_usize c.breakpoint) w3))
+    (IsUtf8-from_is_utf8 c.substitution (both_right (fits_usize c.left && fits_usize c.right && fits_usize c.breakpoint) (is_utf8 c.substitution) w))
 
 -- A change stands in an extended text alone.
 abbrev pub is_allowed : Kind → Option Change → Bool
@@ -183,9 +183,9 @@ is_allowed kind None = true
 is_allowed kind (Some c) = is_extended kind
 
 -- The test Change: a break of an `e` line, or a change of a `p` line that belongs to a value.
-module _ (form : Form) (in_pattern : Bool) (marks : List Mark) (text : List ℕ) where
+module _ (form : Form) (in_pattern : Bool) (marks : List PatternElement) (text : List ℕ) where
   pub good : (token : List ℕ) (place : ℕ) (change : Option Change) → Tells token (record { place = place; change = change }) → is_allowed form.kind change ≡ true → stays_within text place change ≡ true
-      → (in_pattern ≡ true → (is_some change ≡ true) × (has_value_at marks place ≡ true)) → is_good form in_pattern marks text token ≡ true
+      → (in_pattern ≡ true → (is_some change ≡ true) × (has_value_at marks place ≡ true)) → is_good_later_token form in_pattern marks text token ≡ true
   good token place None tells w stays belongs =
       ap (λ (t : Bool). cond t (is_extended form.kind && is_whole token && keeps_within text (place_of token) (change_of token) && (not in_pattern || has_value_at marks (place_of token))) (not in_pattern)) tells.comma
       ∙ off in_pattern (λ e. (belongs e).0)
@@ -201,7 +201,7 @@ module _ (form : Form) (in_pattern : Bool) (marks : List Mark) (text : List ℕ)
       ∙ ap (λ (p : ℕ). is_extended form.kind && is_whole token && keeps_within text p (change_of token) && (not in_pattern || has_value_at marks p)) at
       ∙ ap (λ (ch : Change). is_extended form.kind && is_whole token && keeps_within text place ch && (not in_pattern || has_value_at marks place)) is
       ∙ all (is_extended form.kind) (is_whole token) (keeps_within text place c) (has_value_at marks place) in_pattern
-      w (tells.whole refl) (both_right (is_short place && can_be_said c) (keeps_within text place c) stays) (λ e. (belongs e).1)
+      w (tells.whole refl) (both_right (fits_usize place && can_be_said c) (keeps_within text place c) stays) (λ e. (belongs e).1)
     where
       all : (a b d h t : Bool) → a ≡ true → b ≡ true → d ≡ true → (t ≡ true → h ≡ true) → (a && b && d && (not t || h)) ≡ true
       all a b d h true x y z v = rw (x, y, z, v refl) refl

@@ -8,11 +8,11 @@ use Rattle.std.proofs.Math.Seq.{get_or-append_seam}
 use Rattle.std.proofs.lemmas.Str.{IsUtf8-append, IsUtf8-take, IsUtf8-drop, IsUtf8-nil}
 use Rattle.hyphenation_commons.specs.Break.{Change, is_boundary}
 use Rattle.hyphenation_commons.specs.Tokens.{escaped_also, pattern_escapes}
-use Rattle.hyphenation_commons.specs.Canonical.{byte_spelling, mark_spelling, marks_for, text_token, before_comma}
+use Rattle.hyphenation_commons.specs.Canonical.{byte_spelling, element_spelling, elements_for, text_token, before_comma}
 use Rattle.hyphenation_commons.specs.declared.dictionary.Entry.{Entry}
 use Rattle.hyphenation_commons.specs.declared.grammar.tokens.Escapes.{Escapes}
 use Rattle.hyphenation_commons.specs.declared.grammar.tokens.Escapes.TheVariants.{Plain}
-use Rattle.hyphenation_commons.specs.declared.grammar.tokens.Mark.TheVariants.{Letter, Value}
+use Rattle.hyphenation_commons.specs.declared.grammar.tokens.PatternElement.TheVariants.{Letter, Value}
 use Rattle.hyphenation_commons.proofs.AsciiSplits.{split_ascii, one_ascii, same_byte, small_digit}
 use Rattle.hyphenation_commons.specs.declared.grammar.form.Version.{Version}
 use Rattle.hyphenation_commons.proofs.Decimals.{decimal-utf8, wide}
@@ -21,7 +21,7 @@ use Rattle.hyphenation_commons.proofs.Written.{greatest, greatest-byte}
 pub two_ascii : (a b : ℕ) → a < 128 → b < 128 → IsUtf8 (a ∷ b ∷ [])
 two_ascii a b sa sb = IsUtf8-append (a ∷ []) (b ∷ []) (one_ascii a sa) (one_ascii b sb)
 
--- A byte behind some bytes p of its character, then what is written of the bytes behind it.
+-- A byte after some bytes p of its character, then what is written of the bytes after it.
 step-utf8 : (es : Escapes) (p : List ℕ) (b : ℕ) (text tail : List ℕ) → IsUtf8 (p ++ b ∷ text) → ((q : List ℕ) → IsUtf8 (q ++ text) → IsUtf8 (q ++ tail)) → IsUtf8 (p ++ (byte_spelling es b ++ tail))
 step-utf8 es p b text tail u more =
     by (eqb b 92) (eqb b 32) (eqb b 10) (eqb b 13) (escaped_also es b) refl refl refl refl refl (more (p ++ b ∷ []) (subst IsUtf8 (sym (append_assoc p (b ∷ []) text)) u))
@@ -69,7 +69,7 @@ abbrev pub AllSeams : Version → List ℕ → List (Entry (Option Change)) → 
 AllSeams version whole [] = Unit {0}
 AllSeams version whole (e ∷ es) = (is_boundary whole e.place ≡ true) × (e.value ≤ greatest version) × AllSeams version whole es
 
-value-utf8 : (version : Version) (v : ℕ) → v ≤ greatest version → IsUtf8 (mark_spelling version (Value v))
+value-utf8 : (version : Version) (v : ℕ) → v ≤ greatest version → IsUtf8 (element_spelling version (Value v))
 value-utf8 version v h = by (nat_le v 9) refl
   where
     by : (t : Bool) → nat_le v 9 ≡ t → IsUtf8 (cond t ((48 + v) ∷ []) (123 ∷ (decimal v ++ 125 ∷ [])))
@@ -79,11 +79,11 @@ value-utf8 version v h = by (nat_le v 9) refl
         (IsUtf8-append (decimal v) (125 ∷ []) (decimal-utf8 v (wide v (greatest-byte version v h))) (one_ascii 125 (omega arith)))
 
 pub marks-utf8 : (version : Version) (whole front p key : List ℕ) (at : ℕ) (es : List (Entry (Option Change))) → whole ≡ front ++ key → length front ≡ at → AllSeams version whole es → IsUtf8 (p ++ key)
-    → IsUtf8 (p ++ flat_map (mark_spelling version) (marks_for at key es))
+    → IsUtf8 (p ++ flat_map (element_spelling version) (elements_for at key es))
 marks-utf8 version whole front p [] at [] is len seams u = u
-marks-utf8 version whole front p [] at (e ∷ es) is len seams u = IsUtf8-append p (mark_spelling version (Value e.value) ++ []) (subst IsUtf8 (append-nil p) u) (IsUtf8-append (mark_spelling version (Value e.value)) [] (value-utf8 version e.value seams.1) IsUtf8-nil)
+marks-utf8 version whole front p [] at (e ∷ es) is len seams u = IsUtf8-append p (element_spelling version (Value e.value) ++ []) (subst IsUtf8 (append-nil p) u) (IsUtf8-append (element_spelling version (Value e.value)) [] (value-utf8 version e.value seams.1) IsUtf8-nil)
 marks-utf8 version whole front p (b ∷ key) at [] is len seams u =
-    step-utf8 (pattern_escapes version) p b key (flat_map (mark_spelling version) (marks_for (at + 1) key [])) u
+    step-utf8 (pattern_escapes version) p b key (flat_map (element_spelling version) (elements_for (at + 1) key [])) u
     (λ q v. marks-utf8 version whole (front ++ b ∷ []) q key (at + 1) [] (is ∙ sym (append_assoc front (b ∷ []) key)) (omega (arith, length-append front (b ∷ []))) tt v)
 marks-utf8 version whole front p (b ∷ key) at (e ∷ es) is len seams u =
     by (eqb e.place at) refl
@@ -91,16 +91,16 @@ marks-utf8 version whole front p (b ∷ key) at (e ∷ es) is len seams u =
     (λ q v. marks-utf8 version whole (front ++ b ∷ []) q key (at + 1) (e ∷ es) (is ∙ sym (append_assoc front (b ∷ []) key)) (omega (arith, length-append front (b ∷ []))) seams v)
   where
     by : (t : Bool) → eqb e.place at ≡ t
-        → ((q : List ℕ) → IsUtf8 (q ++ key) → IsUtf8 (q ++ flat_map (mark_spelling version) (marks_for (at + 1) key es)))
-        → ((q : List ℕ) → IsUtf8 (q ++ key) → IsUtf8 (q ++ flat_map (mark_spelling version) (marks_for (at + 1) key (e ∷ es))))
-        → IsUtf8 (p ++ flat_map (mark_spelling version) (cond t (Value e.value ∷ Letter b ∷ marks_for (at + 1) key es) (Letter b ∷ marks_for (at + 1) key (e ∷ es))))
+        → ((q : List ℕ) → IsUtf8 (q ++ key) → IsUtf8 (q ++ flat_map (element_spelling version) (elements_for (at + 1) key es)))
+        → ((q : List ℕ) → IsUtf8 (q ++ key) → IsUtf8 (q ++ flat_map (element_spelling version) (elements_for (at + 1) key (e ∷ es))))
+        → IsUtf8 (p ++ flat_map (element_spelling version) (cond t (Value e.value ∷ Letter b ∷ elements_for (at + 1) key es) (Letter b ∷ elements_for (at + 1) key (e ∷ es))))
     by true t taken left =
         let on : is_boundary (front ++ b ∷ key) at ≡ true = subst (λ (k : ℕ). is_boundary (front ++ b ∷ key) k ≡ true) (eqb-true e.place at t) (subst (λ (w : List ℕ). is_boundary w e.place ≡ true) is seams.0) in
         let parts = seam-utf8 front p (b ∷ key) at len on u in
-        IsUtf8-append p (mark_spelling version (Value e.value) ++ (byte_spelling (pattern_escapes version) b ++ flat_map (mark_spelling version) (marks_for (at + 1) key es))) parts.0
-        (IsUtf8-append (mark_spelling version (Value e.value)) (byte_spelling (pattern_escapes version) b ++ flat_map (mark_spelling version) (marks_for (at + 1) key es)) (value-utf8 version e.value seams.1)
-        (step-utf8 (pattern_escapes version) [] b key (flat_map (mark_spelling version) (marks_for (at + 1) key es)) parts.1 taken))
-    by false t taken left = step-utf8 (pattern_escapes version) p b key (flat_map (mark_spelling version) (marks_for (at + 1) key (e ∷ es))) u left
+        IsUtf8-append p (element_spelling version (Value e.value) ++ (byte_spelling (pattern_escapes version) b ++ flat_map (element_spelling version) (elements_for (at + 1) key es))) parts.0
+        (IsUtf8-append (element_spelling version (Value e.value)) (byte_spelling (pattern_escapes version) b ++ flat_map (element_spelling version) (elements_for (at + 1) key es)) (value-utf8 version e.value seams.1)
+        (step-utf8 (pattern_escapes version) [] b key (flat_map (element_spelling version) (elements_for (at + 1) key es)) parts.1 taken))
+    by false t taken left = step-utf8 (pattern_escapes version) p b key (flat_map (element_spelling version) (elements_for (at + 1) key (e ∷ es))) u left
 
 pub comma-utf8 : (n : ℕ) (rest : List ℕ) → n < 2 ^ 64 → IsUtf8 rest → IsUtf8 (before_comma n rest)
 comma-utf8 n rest h u = IsUtf8-append (decimal n) (44 ∷ rest) (decimal-utf8 n h) (IsUtf8-append (44 ∷ []) rest (one_ascii 44 (omega arith)) u)

@@ -4,7 +4,7 @@ use Rattle.std.specs.List.{list_all}
 use Rattle.std.specs.FinMap as finite
 use Rattle.hyphenation_commons.specs.Break.{Break, Change, changed_by, plain}
 use Rattle.hyphenation_commons.specs.Dictionary.{Contents}
-use Rattle.hyphenation_commons.specs.Form.{head}
+use Rattle.hyphenation_commons.specs.Form.{head_line}
 use Rattle.hyphenation_commons.specs.Tokens.{escaped_also, pattern_escapes}
 use Rattle.hyphenation_commons.specs.declared.dictionary.Entry.{Entry}
 use Rattle.hyphenation_commons.specs.declared.grammar.form.Form.{Form}
@@ -14,8 +14,8 @@ use Rattle.hyphenation_commons.specs.declared.grammar.form.Version.{Version}
 use Rattle.hyphenation_commons.specs.declared.grammar.form.Version.TheVariants.{First, Second}
 use Rattle.hyphenation_commons.specs.declared.grammar.tokens.Escapes.{Escapes}
 use Rattle.hyphenation_commons.specs.declared.grammar.tokens.Escapes.TheVariants.{Plain}
-use Rattle.hyphenation_commons.specs.declared.grammar.tokens.Mark.{Mark}
-use Rattle.hyphenation_commons.specs.declared.grammar.tokens.Mark.TheVariants.{Letter, Value}
+use Rattle.hyphenation_commons.specs.declared.grammar.tokens.PatternElement.{PatternElement}
+use Rattle.hyphenation_commons.specs.declared.grammar.tokens.PatternElement.TheVariants.{Letter, Value}
 
 -- A byte of a text as it is spelt: escaped only where it must be.
 abbrev pub byte_spelling : Escapes → ℕ → List ℕ
@@ -32,21 +32,21 @@ text_token [] = codes "\\e"
 text_token (b ∷ text) = flat_map (byte_spelling Plain) (b ∷ text)
 
 -- A key from a place on, with the values of its entries at their places.
-abbrev pub marks_for : ℕ → List ℕ → List (Entry (Option Change)) → List Mark
-marks_for at [] [] = []
-marks_for at [] (e ∷ es) = Value e.value ∷ []
-marks_for at (b ∷ key) [] = Letter b ∷ marks_for (at + 1) key []
-marks_for at (b ∷ key) (e ∷ es) =
-    if e.place == at then Value e.value ∷ Letter b ∷ marks_for (at + 1) key es
-    else Letter b ∷ marks_for (at + 1) key (e ∷ es)
+abbrev pub elements_for : ℕ → List ℕ → List (Entry (Option Change)) → List PatternElement
+elements_for at [] [] = []
+elements_for at [] (e ∷ es) = Value e.value ∷ []
+elements_for at (b ∷ key) [] = Letter b ∷ elements_for (at + 1) key []
+elements_for at (b ∷ key) (e ∷ es) =
+    if e.place == at then Value e.value ∷ Letter b ∷ elements_for (at + 1) key es
+    else Letter b ∷ elements_for (at + 1) key (e ∷ es)
 
 -- A value up to 9 is a digit; a greater one stands in braces.
-abbrev pub mark_spelling : Version → Mark → List ℕ
-mark_spelling version (Letter b) = byte_spelling (pattern_escapes version) b
-mark_spelling version (Value v) = if nat_le v 9 then (48 + v) ∷ [] else 123 ∷ (decimal v ++ 125 ∷ [])
+abbrev pub element_spelling : Version → PatternElement → List ℕ
+element_spelling version (Letter b) = byte_spelling (pattern_escapes version) b
+element_spelling version (Value v) = if nat_le v 9 then (48 + v) ∷ [] else 123 ∷ (decimal v ++ 125 ∷ [])
 
 abbrev pub pattern_token : Version → List ℕ → List (Entry (Option Change)) → List ℕ
-pattern_token version key entries = flat_map (mark_spelling version) (marks_for 0 key entries)
+pattern_token version key entries = flat_map (element_spelling version) (elements_for 0 key entries)
 
 -- A number and a comma before the rest of a token.
 abbrev pub before_comma : ℕ → List ℕ → List ℕ
@@ -59,19 +59,19 @@ break_token place (Some c) =
     before_comma place (before_comma c.left
     (before_comma c.right (before_comma c.breakpoint (text_token c.substitution))))
 
--- Later tokens, each behind a space.
+-- Later tokens, each after a space.
 abbrev pub later_tokens : List Break → List ℕ
 later_tokens breaks = flat_map (λ b. 32 ∷ break_token b.place b.change) breaks
 
 -- A break with a change before others; nothing is added of a place without one.
-abbrev pub with_change : ℕ → Option Change → List Break → List Break
-with_change place None breaks = breaks
-with_change place (Some c) breaks = changed_by place (Some c) ∷ breaks
+abbrev pub onto_changes : ℕ → Option Change → List Break → List Break
+onto_changes place None breaks = breaks
+onto_changes place (Some c) breaks = changed_by place (Some c) ∷ breaks
 
 -- The changes of entries, at their places.
 abbrev pub changes_of : List (Entry (Option Change)) → List Break
 changes_of [] = []
-changes_of (e ∷ es) = with_change e.place e.change (changes_of es)
+changes_of (e ∷ es) = onto_changes e.place e.change (changes_of es)
 
 -- The line of a key with its entries, and that of a word with its listed breaks.
 abbrev pub pattern_line : Version → List ℕ → List (Entry (Option Change)) → List ℕ
@@ -89,13 +89,13 @@ abbrev pub minima_line : ℕ → ℕ → List ℕ
 minima_line left right = codes "minima " ++ (decimal left ++ 32 ∷ decimal right)
 
 -- An entry that a dictionary of one kind holds, as a text says it.
-abbrev pub entry_of : {C : Type 0} → (C → Option Change) → Entry C → Entry (Option Change)
-entry_of change_of entry = record { place = entry.place; value = entry.value; change = change_of entry.change }
+abbrev pub entry_as_said : {C : Type 0} → (C → Option Change) → Entry C → Entry (Option Change)
+entry_as_said change_of entry = record { place = entry.place; value = entry.value; change = change_of entry.change }
 
 -- The lines of all keys and of all words, ascending by their bytes, as the maps hold them.
 abbrev pub pattern_lines : {C B : Type 0} → Version → (C → Option Change) → Contents C B → List (List ℕ)
 pattern_lines version change_of contents =
-    map (λ x. pattern_line version x.0 (map (entry_of change_of) x.1)) (finite.entries contents.patterns)
+    map (λ x. pattern_line version x.0 (map (entry_as_said change_of) x.1)) (finite.entries contents.patterns)
 
 abbrev pub exception_lines : {C B : Type 0} → (B → Break) → Contents C B → List (List ℕ)
 exception_lines break_of contents =
@@ -103,7 +103,7 @@ exception_lines break_of contents =
 
 abbrev pub canonical_lines : {C B : Type 0} → Form → (C → Option Change) → (B → Break) → Contents C B → List (List ℕ)
 canonical_lines form change_of break_of contents =
-    head form ∷ language_line contents.language ∷ minima_line contents.left contents.right
+    head_line form ∷ language_line contents.language ∷ minima_line contents.left contents.right
     ∷ (pattern_lines form.version change_of contents ++ exception_lines break_of contents)
 
 -- The first version where it can say each value, else the second.
@@ -114,13 +114,13 @@ abbrev pub version_for : {C B : Type 0} → Contents C B → Version
 version_for contents = if list_all (λ x. are_digits x.1) (finite.entries contents.patterns) then First else Second
 
 -- Each line is ended by a line feed.
-abbrev pub ended : List (List ℕ) → List ℕ
-ended lines = flat_map (λ line. line ++ 10 ∷ []) lines
+abbrev pub with_line_feeds : List (List ℕ) → List ℕ
+with_line_feeds lines = flat_map (λ line. line ++ 10 ∷ []) lines
 
 -- The canonical text of a dictionary of that kind, which holds a change as change_of says, and a listed break as break_of says.
 abbrev pub canonical_text_of : {C B : Type 0} → Kind → (C → Option Change) → (B → Break) → Contents C B → List ℕ
 canonical_text_of kind change_of break_of contents =
-    ended (canonical_lines (record { kind = kind; version = version_for contents }) change_of break_of contents)
+    with_line_feeds (canonical_lines (record { kind = kind; version = version_for contents }) change_of break_of contents)
 
 -- The canonical text of a standard dictionary, which holds no change, and that of an extended one, which holds each as it is.
 abbrev pub standard_text : Contents (Unit {0}) ℕ → List ℕ
@@ -131,8 +131,8 @@ extended_text contents = canonical_text_of Extended (λ change. change) (λ b. c
 
 -- A kind of dictionary holds exactly what its texts say: what it holds of a change or a listed break says
 -- that again, and a standard one holds no change.
-pub record HoldsExactly {C B : Type 0} (kind : Kind) (carries : Option Change → C) (lists : Break → B) (change_of : C → Option Change) (break_of : B → Break) : Type 0 where
-  pub changes : (c : C) → carries (change_of c) ≡ c
-  pub breaks : (b : B) → lists (break_of b) ≡ b
+pub record HoldsExactly {C B : Type 0} (kind : Kind) (payload_of : Option Change → C) (listing_of : Break → B) (change_of : C → Option Change) (break_of : B → Break) : Type 0 where
+  pub changes : (c : C) → payload_of (change_of c) ≡ c
+  pub breaks : (b : B) → listing_of (break_of b) ≡ b
   pub no_change : kind ≡ Standard → (c : C) → change_of c ≡ None
   pub no_listed_change : kind ≡ Standard → (b : B) → (break_of b).change ≡ None

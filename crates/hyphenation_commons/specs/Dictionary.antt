@@ -8,18 +8,18 @@ use Rattle.std.specs.FinMap.{FinMap}
 use Rattle.hyphenation_commons.specs.declared.dictionary.Entry.{Entry}
 
 -- A finite map from texts, in the order of their bytes.
-abbrev pub Texts : Type 0 → Type 0
-Texts X = FinMap (slice_cmp nat_cmp) X
+abbrev pub TextMap : Type 0 → Type 0
+TextMap X = FinMap (slice_cmp nat_cmp) X
 
--- A language, the least numbers of characters before the first break and behind the last one, the keys with
+-- A language, the least numbers of characters before the first break and after the last one, the keys with
 -- their entries, and the exceptions: words with their listed breaks. A value of an entry carries a C, which
 -- is nothing in a standard dictionary and a change or none in an extended one; a listed break is a B.
 pub record Contents (C B : Type 0) : Type 0 where
   pub language : List ℕ
   pub left : ℕ
   pub right : ℕ
-  pub patterns : Texts (List (Entry C))
-  pub exceptions : Texts (List B)
+  pub patterns : TextMap (List (Entry C))
+  pub exceptions : TextMap (List B)
 
 -- What is known of a text: its entries, if it is a key.
 abbrev pub Patterns : Type 0 → Type 0

@@ -4,8 +4,8 @@ use Rattle.hyphenation_commons.specs.Chains.{IsChained}
 use Rattle.hyphenation_commons.specs.Links.{parent_of}
 use Rattle.hyphenation_commons.specs.Trie.{texts_of, AreApart, HasFroms}
 
--- The first node is the root, each other is behind an earlier one, no two have one text, and the children of each are chained.
-pub record IsHeld (froms : List (Option (ℕ × ℕ))) (lasts befores : List ℕ) : Type 0 where
+-- The first node is the root, each other is after an earlier one, no two have one text, and the children of each are chained.
+pub record IsGrowing (froms : List (Option (ℕ × ℕ))) (lasts befores : List ℕ) : Type 0 where
   pub root : slice_get (texts_of froms) 0 ≡ Some []
   pub apart : AreApart (texts_of froms)
   pub from : HasFroms (texts_of froms) froms

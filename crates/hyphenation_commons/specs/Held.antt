@@ -6,7 +6,7 @@ use Rattle.std.specs.String.{string_bytes}
 use Rattle.std.specs.HashMap.{HashMap}
 use Rattle.std.specs.declared.string.String.{String}
 use Rattle.std.specs.declared.vec.Vec.{Vec}
-use Rattle.hyphenation_commons.specs.Dictionary.{Contents, Texts}
+use Rattle.hyphenation_commons.specs.Dictionary.{Contents, TextMap}
 use Rattle.hyphenation_commons.specs.Trie.{Tree}
 use Rattle.hyphenation_commons.specs.declared.dictionary.Entry.{Entry}
 
@@ -19,7 +19,7 @@ entry_code {C} code =
 -- Contents are coded as their parts in turn.
 abbrev pub contents_code : {C B : Type 0} → Coded C → Coded B → Coded (Contents C B)
 contents_code {C} {B} code listed =
-    code_by (List ℕ × (ℕ × (ℕ × (Texts (List (Entry C)) × Texts (List B)))))
+    code_by (List ℕ × (ℕ × (ℕ × (TextMap (List (Entry C)) × TextMap (List B)))))
     (coded× (coded_list coded_ℕ)
     (coded× coded_ℕ (coded× coded_ℕ
     (coded× (finite.code (coded_list coded_ℕ) (coded_list (entry_code code))) (finite.code (coded_list coded_ℕ)
@@ -36,9 +36,9 @@ pairs_of (t ∷ ts) (None ∷ es) = pairs_of ts es
 pairs_of (t ∷ ts) (Some x ∷ es) = (t, x) ∷ pairs_of ts es
 
 -- The keys of a trie, each with its entries.
-abbrev pub patterns_of : {E : Type 0} → Tree E → Texts (List E)
+abbrev pub patterns_of : {E : Type 0} → Tree E → TextMap (List E)
 patterns_of t = finite.from_entries (pairs_of t.texts t.entries)
 
 -- The words of a map, each with its list.
-abbrev pub exceptions_of : {B Y Z S : Type 0} → HashMap (String Y) (Vec B Z) S → Texts (List B)
+abbrev pub exceptions_of : {B Y Z S : Type 0} → HashMap (String Y) (Vec B Z) S → TextMap (List B)
 exceptions_of m = finite.from_entries (map (λ x. (string_bytes x.0, x.1.items)) m.entries)

@@ -15,7 +15,7 @@ is_code text = nat_le 1 (length text) && nat_le (length text) 32 && list_all is_
 abbrev pub IsCode : List ℕ → Type 0
 IsCode text = IsTrue (is_code text)
 
--- A code and the zeros behind it are the bytes that hold it.
+-- A code and the zeros after it are the bytes that hold it.
 pub padded-take : (n : ℕ) (bytes : List ℕ) → n ≤ length bytes → drop n bytes ≡ replicate (32 - n) 0
     → (take n bytes ++ replicate (32 - length (take n bytes)) 0 ≡ bytes) × (length (take n bytes) ≡ n)
 padded-take n bytes le zeros =
@@ -26,7 +26,7 @@ padded-take n bytes le zeros =
     )
 
 -- How a code is held: the code, and zeros up to 32 bytes.
-pub record IsHeld (len : ℕ) (bytes : List ℕ) : Type 0 where
+pub record IsPadded (len : ℕ) (bytes : List ℕ) : Type 0 where
   pub within : len ≤ length bytes
   pub whole : length bytes ≡ 32
   pub code : IsCode (take len bytes)

@@ -24,7 +24,7 @@ pub mod Reading
 pub mod Parsed
 pub mod Said
 pub mod Matched
-pub mod Draft
+pub mod Builder
 pub mod Refusals
 pub mod Edits
 pub mod Examples

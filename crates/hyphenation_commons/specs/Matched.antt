@@ -1,10 +1,10 @@
--- The values of a pattern and the changes that are listed behind it, matched in one pass over both.
+-- The values of a pattern and the changes that are listed after it, matched in one pass over both.
 -- Private functions of the reader cite this, and no public contract does: it follows their steps, and they are proved equal to Items and Judging.
 use Rattle.std.specs.Prelude.{ℕ, ◌+◌, ◌==◌, ◌&&◌, nat_le, Bool, true, false, if◌then◌else◌, List, [], ◌∷◌, Option, Some, None}
 use Rattle.std.specs.List.{list_all, list_any}
 use Rattle.hyphenation_commons.specs.Break.{Change as Changed}
 use Rattle.hyphenation_commons.specs.Parsed.{ReadPattern, ReadLater}
-use Rattle.hyphenation_commons.specs.Said.{cause_by, is_kept}
+use Rattle.hyphenation_commons.specs.Said.{cause_by, suits_form}
 use Rattle.hyphenation_commons.specs.declared.dictionary.Entry.{Entry}
 use Rattle.hyphenation_commons.specs.declared.grammar.Cause.{Cause}
 use Rattle.hyphenation_commons.specs.declared.grammar.form.Form.{Form}
@@ -19,9 +19,9 @@ abbrev pub have_values : List (ℕ × ℕ) → List (ℕ × Option Changed) → 
 have_values values listed = list_all (λ b. list_any (λ v. v.0 == b.0) values) listed
 
 -- What is listed from the next one on, where there is a next one.
-abbrev pub waiting : Option (ℕ × Option Changed) → List (ℕ × Option Changed) → List (ℕ × Option Changed)
-waiting None rest = []
-waiting (Some b) rest = b ∷ rest
+abbrev pub from_next : Option (ℕ × Option Changed) → List (ℕ × Option Changed) → List (ℕ × Option Changed)
+from_next None rest = []
+from_next (Some b) rest = b ∷ rest
 
 -- The change that is listed first, if it is at that place; and what is left of the listed ones then.
 abbrev pub first_at : ℕ → List (ℕ × Option Changed) → Option Changed
@@ -33,21 +33,21 @@ left_at place [] = []
 left_at place (b ∷ rest) = if b.0 == place then rest else b ∷ rest
 
 -- The entries that one pass over values and listed changes makes, and the listed ones that it leaves.
-abbrev pub matched : {C : Type 0} → (Option Changed → C) → List (ℕ × ℕ) → List (ℕ × Option Changed) → List (Entry C)
-matched carries [] listed = []
-matched carries (v ∷ values) listed =
-    record { place = v.0; value = v.1; change = carries (first_at v.0 listed) }
-    ∷ matched carries values (left_at v.0 listed)
+abbrev pub matched_entries : {C : Type 0} → (Option Changed → C) → List (ℕ × ℕ) → List (ℕ × Option Changed) → List (Entry C)
+matched_entries payload_of [] listed = []
+matched_entries payload_of (v ∷ values) listed =
+    record { place = v.0; value = v.1; change = payload_of (first_at v.0 listed) }
+    ∷ matched_entries payload_of values (left_at v.0 listed)
 
-abbrev pub unmatched : List (ℕ × ℕ) → List (ℕ × Option Changed) → List (ℕ × Option Changed)
-unmatched [] listed = listed
-unmatched (v ∷ values) listed = unmatched values (left_at v.0 listed)
+abbrev pub unmatched_changes : List (ℕ × ℕ) → List (ℕ × Option Changed) → List (ℕ × Option Changed)
+unmatched_changes [] listed = listed
+unmatched_changes (v ∷ values) listed = unmatched_changes values (left_at v.0 listed)
 
 -- What is asked of a change in a `p` line by itself, whether it has a value or not.
-abbrev pub is_kept_change : Form → List ℕ → ℕ × Option Changed → Bool
-is_kept_change form key (place, None) = false
-is_kept_change form key (place, Some change) = is_kept form key place change
+abbrev pub suits_form_in_pattern : Form → List ℕ → ℕ × Option Changed → Bool
+suits_form_in_pattern form key (place, None) = false
+suits_form_in_pattern form key (place, Some change) = suits_form form key place change
 
--- The first test behind Token that a `p` line fails, but for the values that its changes are to have.
+-- The first test after Token that a `p` line fails, but for the values that its changes are to have.
 abbrev pub cause_before_match : Form → ReadPattern → ReadLater → Option Cause
-cause_before_match form pattern later = cause_by (is_kept_change form pattern.key) pattern later
+cause_before_match form pattern later = cause_by (suits_form_in_pattern form pattern.key) pattern later

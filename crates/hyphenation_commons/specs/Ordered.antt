@@ -3,19 +3,19 @@ use Rattle.std.specs.Prelude.{ℕ, List, map}
 use Rattle.std.specs.Borrow.{Bor}
 use Rattle.std.specs.FinMap as finite
 use Rattle.std.specs.declared.vec.Vec.{Vec}
-use Rattle.hyphenation_commons.specs.Dictionary.{Texts}
+use Rattle.hyphenation_commons.specs.Dictionary.{TextMap}
 
 -- Texts with what is held of each, as they are seen.
-abbrev pub shown_pairs : {X : Type 0} → List (Bor (List ℕ) × Bor (List X)) → List (List ℕ × List X)
-shown_pairs pairs = map (λ x. (x.0.now, x.1.now)) pairs
+abbrev pub pair_views : {X : Type 0} → List (Bor (List ℕ) × Bor (List X)) → List (List ℕ × List X)
+pair_views pairs = map (λ x. (x.0.now, x.1.now)) pairs
 
 -- In the order of their bytes; of a text that stands twice the first counts.
-abbrev pub as_texts : {X : Type 0} → List (List ℕ × List X) → Texts (List X)
+abbrev pub as_texts : {X : Type 0} → List (List ℕ × List X) → TextMap (List X)
 as_texts pairs = finite.from_entries pairs
 
-abbrev pub ordered : {X : Type 0} → List (List ℕ × List X) → List (List ℕ × List X)
-ordered pairs = finite.entries (as_texts pairs)
+abbrev pub in_byte_order : {X : Type 0} → List (List ℕ × List X) → List (List ℕ × List X)
+in_byte_order pairs = finite.entries (as_texts pairs)
 
 -- Keys with their entries, as they are seen.
-abbrev pub shown_keys : {E Y : Type 0} → List (Vec ℕ Y × Bor (List E)) → List (List ℕ × List E)
-shown_keys keys = map (λ key. (key.0.items, key.1.now)) keys
+abbrev pub key_views : {E Y : Type 0} → List (Vec ℕ Y × Bor (List E)) → List (List ℕ × List E)
+key_views keys = map (λ key. (key.0.items, key.1.now)) keys

@@ -1,7 +1,7 @@
 -- The spots on which words fall, and the marks of those on which listed words do.
 use Rattle.std.specs.Prelude.{◌≡◌, ℕ, ◌+◌, ◌-◌, ◌*◌, ◌/◌, ◌%◌, Bool, true, false, List, length, slice_index, slice_index_or, Some}
 use Rattle.std.specs.FinMap as finite
-use Rattle.hyphenation_commons.specs.Dictionary.{Texts}
+use Rattle.hyphenation_commons.specs.Dictionary.{TextMap}
 
 -- How many spots there are.
 abbrev pub spots : ℕ
@@ -14,7 +14,7 @@ spot word =
     (length word / 4) * 29791 + slice_index word (length word - 1) * 7) % spots
 
 -- There is a mark for each spot, and those of listed words are set.
-pub record AreMarked {X : Type 0} (marks : List Bool) (words : Texts X) : Type 0 where
+pub record AreMarked {X : Type 0} (marks : List Bool) (words : TextMap X) : Type 0 where
   pub marks_len : length marks ≡ spots
   pub marked : (word : List ℕ) (listed : X) → finite.get words word ≡ Some listed
       → slice_index_or marks (spot word) false ≡ true

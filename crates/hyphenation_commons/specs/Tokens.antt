@@ -1,4 +1,4 @@
--- Tokens: escapes, the marks of a pattern, and the parts of a later token.
+-- Tokens: escapes, the elements of a pattern, and the parts of a later token.
 use Rattle.std.specs.Prelude.{ℕ, ◌+◌, ◌-◌, ◌==◌, ◌&&◌, ◌||◌, nat_lt, nat_le, Bool, true, false, not, if◌then◌else◌, List, [], ◌∷◌, ◌++◌, length, map, take, drop, codes, Option, Some, None, is_some, unwrap_or, option_map, option_and_then, slice_index_or}
 use Rattle.std.specs.List.{list_all, onto_first}
 use Rattle.hyphenation_commons.specs.Break.{Change}
@@ -7,11 +7,11 @@ use Rattle.hyphenation_commons.specs.declared.grammar.tokens.Escapes.{Escapes}
 use Rattle.hyphenation_commons.specs.declared.grammar.tokens.Escapes.TheVariants.{Plain, Digits, DigitsAndBraces}
 use Rattle.hyphenation_commons.specs.declared.grammar.form.Version.{Version}
 use Rattle.hyphenation_commons.specs.declared.grammar.form.Version.TheVariants.{First, Second}
-use Rattle.hyphenation_commons.specs.declared.grammar.tokens.Sign.{Sign}
-use Rattle.hyphenation_commons.specs.declared.grammar.tokens.Mark.{Mark}
-use Rattle.hyphenation_commons.specs.declared.grammar.tokens.Mark.TheVariants.{Letter, Value}
+use Rattle.hyphenation_commons.specs.declared.grammar.tokens.EscapedByte.{EscapedByte}
+use Rattle.hyphenation_commons.specs.declared.grammar.tokens.PatternElement.{PatternElement}
+use Rattle.hyphenation_commons.specs.declared.grammar.tokens.PatternElement.TheVariants.{Letter, Value}
 
--- Which letters may stand behind a backslash in a pattern.
+-- Which letters may stand after a backslash in a pattern.
 abbrev pub pattern_escapes : Version → Escapes
 pattern_escapes First = Digits
 pattern_escapes Second = DigitsAndBraces
@@ -23,7 +23,7 @@ is_brace b = b == 123 || b == 125
 abbrev pub is_itself : ℕ → Bool
 is_itself b = not (b == 92 || b == 13)
 
--- The byte that a letter behind a backslash means.
+-- The byte that a letter after a backslash means.
 abbrev pub escaped_also : Escapes → ℕ → Bool
 escaped_also Plain c = false
 escaped_also Digits c = is_digit c
@@ -37,108 +37,108 @@ meaning escapes c =
     else (if c == 114 then Some 13 else (if escaped_also escapes c then Some c else None))))
 
 -- What a byte adds to what was read; a backslash adds nothing, a raw carriage return cannot be read.
-abbrev pub added : Escapes → Bool → ℕ → Option (List Sign)
-added escapes true c = option_map (λ byte. record { byte = byte; escaped = true } ∷ []) (meaning escapes c)
-added escapes false b =
+abbrev pub bytes_added : Escapes → Bool → ℕ → Option (List EscapedByte)
+bytes_added escapes true c = option_map (λ byte. record { byte = byte; escaped = true } ∷ []) (meaning escapes c)
+bytes_added escapes false b =
     if b == 92 then Some [] else (if b == 13 then None else Some (record { byte = b; escaped = false } ∷ []))
 
-abbrev pub joined : Option (List Sign) → Option (List Sign) → Option (List Sign)
-joined front rest = option_and_then (λ xs. option_map (λ ys. xs ++ ys) rest) front
+abbrev pub both_joined : Option (List EscapedByte) → Option (List EscapedByte) → Option (List EscapedByte)
+both_joined front rest = option_and_then (λ xs. option_map (λ ys. xs ++ ys) rest) front
 
--- The signs of a token, from left to right, behind a backslash or not; none where an escape is bad or unfinished.
-abbrev pub signs_behind : Escapes → Bool → List ℕ → Option (List Sign)
-signs_behind escapes true [] = None
-signs_behind escapes false [] = Some []
-signs_behind escapes behind (b ∷ rest) =
-    joined (added escapes behind b) (signs_behind escapes (not behind && b == 92) rest)
+-- The bytes of a token, from left to right, after a backslash or not; none where an escape is bad or unfinished.
+abbrev pub escaped_bytes_after : Escapes → Bool → List ℕ → Option (List EscapedByte)
+escaped_bytes_after escapes true [] = None
+escaped_bytes_after escapes false [] = Some []
+escaped_bytes_after escapes after (b ∷ rest) =
+    both_joined (bytes_added escapes after b) (escaped_bytes_after escapes (not after && b == 92) rest)
 
-abbrev pub signs_of : Escapes → List ℕ → Option (List Sign)
-signs_of escapes token = signs_behind escapes false token
+abbrev pub escaped_bytes_of : Escapes → List ℕ → Option (List EscapedByte)
+escaped_bytes_of escapes token = escaped_bytes_after escapes false token
 
-abbrev pub bytes_of : List Sign → List ℕ
-bytes_of signs = map (λ sign. sign.byte) signs
+abbrev pub bytes_of : List EscapedByte → List ℕ
+bytes_of bytes = map (λ spelt. spelt.byte) bytes
 
 -- A word or a substitution as it is written: `\e` is the empty text.
-abbrev pub text_of : List ℕ → Option (List ℕ)
-text_of written = if same written (codes "\\e") then Some [] else option_map bytes_of (signs_of Plain written)
+abbrev pub text_spelt : List ℕ → Option (List ℕ)
+text_spelt written = if same written (codes "\\e") then Some [] else option_map bytes_of (escaped_bytes_of Plain written)
 
 -- In a pattern an unescaped digit is a value.
-abbrev pub mark_of : Sign → Mark
-mark_of sign = if not sign.escaped && is_digit sign.byte then Value (sign.byte - 48) else Letter sign.byte
+abbrev pub element_of : EscapedByte → PatternElement
+element_of spelt = if not spelt.escaped && is_digit spelt.byte then Value (spelt.byte - 48) else Letter spelt.byte
 
 -- An unescaped byte.
-abbrev pub is_raw : ℕ → Sign → Bool
-is_raw b sign = not sign.escaped && sign.byte == b
+abbrev pub is_raw : ℕ → EscapedByte → Bool
+is_raw b spelt = not spelt.escaped && spelt.byte == b
 
-abbrev pub is_raw_digit : Sign → Bool
-is_raw_digit sign = not sign.escaped && is_digit sign.byte
+abbrev pub is_raw_digit : EscapedByte → Bool
+is_raw_digit spelt = not spelt.escaped && is_digit spelt.byte
 
 -- The value that digits in braces write: a number from 10 to 255.
-abbrev pub braced : List ℕ → Option ℕ
-braced digits = option_and_then (λ value. if nat_le 10 value then Some value else None) (small_of digits)
+abbrev pub braced_value : List ℕ → Option ℕ
+braced_value digits = option_and_then (λ value. if nat_le 10 value then Some value else None) (small_of digits)
 
--- A sign outside braces: the digits in the braces that it opens, if it does, and the marks that it adds. None of a closing one.
-abbrev pub outside : Sign → Option (Option (List ℕ) × List Mark)
-outside sign =
-    if is_raw 123 sign then Some (Some [], []) else (if is_raw 125 sign then None else Some (None, mark_of sign ∷ []))
+-- A byte outside braces: the digits in the braces that it opens, if it does, and the elements that it adds. None of a closing one.
+abbrev pub step_outside : EscapedByte → Option (Option (List ℕ) × List PatternElement)
+step_outside spelt =
+    if is_raw 123 spelt then Some (Some [], []) else (if is_raw 125 spelt then None else Some (None, element_of spelt ∷ []))
 
--- A sign in braces, behind these digits: one more of them, or the brace that ends the value. None where it can't stand there.
-abbrev pub inside : List ℕ → Sign → Option (Option (List ℕ) × List Mark)
-inside digits sign =
-    if is_raw 125 sign then option_map (λ value. (None, Value value ∷ [])) (braced digits)
-    else (if is_raw_digit sign then Some (Some (digits ++ sign.byte ∷ []), []) else None)
+-- A byte in braces, after these digits: one more of them, or the brace that ends the value. None where it can't stand there.
+abbrev pub step_inside : List ℕ → EscapedByte → Option (Option (List ℕ) × List PatternElement)
+step_inside digits spelt =
+    if is_raw 125 spelt then option_map (λ value. (None, Value value ∷ [])) (braced_value digits)
+    else (if is_raw_digit spelt then Some (Some (digits ++ spelt.byte ∷ []), []) else None)
 
 -- In the first version braces are letters.
-abbrev pub taken : Version → Option (List ℕ) → Sign → Option (Option (List ℕ) × List Mark)
-taken First digits sign = Some (digits, mark_of sign ∷ [])
-taken Second None sign = outside sign
-taken Second (Some digits) sign = inside digits sign
+abbrev pub step_at : Version → Option (List ℕ) → EscapedByte → Option (Option (List ℕ) × List PatternElement)
+step_at First digits spelt = Some (digits, element_of spelt ∷ [])
+step_at Second None spelt = step_outside spelt
+step_at Second (Some digits) spelt = step_inside digits spelt
 
--- The marks of signs, from left to right, outside braces or behind these digits in them. None where a brace opens or closes no value.
-abbrev pub marks_from : Version → Option (List ℕ) → List Sign → Option (List Mark)
-marks_from version None [] = Some []
-marks_from version (Some digits) [] = None
-marks_from version digits (sign ∷ signs) =
-    option_and_then (λ step. option_map (λ marks. step.1 ++ marks) (marks_from version step.0 signs))
-    (taken version digits sign)
+-- The elements of bytes, from left to right, outside braces or after these digits in them. None where a brace opens or closes no value.
+abbrev pub elements_from : Version → Option (List ℕ) → List EscapedByte → Option (List PatternElement)
+elements_from version None [] = Some []
+elements_from version (Some digits) [] = None
+elements_from version digits (spelt ∷ bytes) =
+    option_and_then (λ step. option_map (λ elements. step.1 ++ elements) (elements_from version step.0 bytes))
+    (step_at version digits spelt)
 
--- The signs of a pattern's token, and its marks: each value with its braces is one.
-abbrev pub pattern_signs : Version → List ℕ → Option (List Sign)
-pattern_signs version token = signs_of (pattern_escapes version) token
+-- The bytes of a pattern's token, and its elements: each value with its braces is one.
+abbrev pub pattern_bytes : Version → List ℕ → Option (List EscapedByte)
+pattern_bytes version token = escaped_bytes_of (pattern_escapes version) token
 
-abbrev pub marks_of : Version → List ℕ → Option (List Mark)
-marks_of version token = option_and_then (marks_from version None) (pattern_signs version token)
+abbrev pub elements_of : Version → List ℕ → Option (List PatternElement)
+elements_of version token = option_and_then (elements_from version None) (pattern_bytes version token)
 
--- The key that marks spell.
-abbrev pub key_of : List Mark → List ℕ
+-- The key that elements spell.
+abbrev pub key_of : List PatternElement → List ℕ
 key_of [] = []
-key_of (Letter b ∷ marks) = b ∷ key_of marks
-key_of (Value v ∷ marks) = key_of marks
+key_of (Letter b ∷ elements) = b ∷ key_of elements
+key_of (Value v ∷ elements) = key_of elements
 
 -- The values other than 0, each at its place: the number of bytes of the key before it, and at.
-abbrev pub values_from : ℕ → List Mark → List (ℕ × ℕ)
+abbrev pub values_from : ℕ → List PatternElement → List (ℕ × ℕ)
 values_from at [] = []
-values_from at (Letter b ∷ marks) = values_from (at + 1) marks
-values_from at (Value v ∷ marks) = if v == 0 then values_from at marks else (at, v) ∷ values_from at marks
+values_from at (Letter b ∷ elements) = values_from (at + 1) elements
+values_from at (Value v ∷ elements) = if v == 0 then values_from at elements else (at, v) ∷ values_from at elements
 
-abbrev pub is_value : Mark → Bool
-is_value (Letter b) = false
-is_value (Value v) = true
+abbrev pub is_value_element : PatternElement → Bool
+is_value_element (Letter b) = false
+is_value_element (Value v) = true
 
--- Whether two values stand in succession, behind a value or not.
-abbrev pub two_values : Bool → List Mark → Bool
-two_values behind [] = false
-two_values behind (mark ∷ marks) = (behind && is_value mark) || two_values (is_value mark) marks
+-- Whether two values stand in succession, after a value or not.
+abbrev pub two_values : Bool → List PatternElement → Bool
+two_values after [] = false
+two_values after (element ∷ elements) = (after && is_value_element element) || two_values (is_value_element element) elements
 
 -- A later token is parted by its first four commas.
-abbrev pub put : Bool → ℕ → List (List ℕ) → List (List ℕ)
-put true b parts = [] ∷ parts
-put false b parts = onto_first b parts
+abbrev pub put_byte : Bool → ℕ → List (List ℕ) → List (List ℕ)
+put_byte true b parts = [] ∷ parts
+put_byte false b parts = onto_first b parts
 
 abbrev pub parts_within : ℕ → List ℕ → List (List ℕ)
 parts_within commas [] = [] ∷ []
 parts_within commas (b ∷ rest) =
-    let cuts = b == 44 && nat_lt 0 commas in put cuts b (parts_within (if cuts then commas - 1 else commas) rest)
+    let cuts = b == 44 && nat_lt 0 commas in put_byte cuts b (parts_within (if cuts then commas - 1 else commas) rest)
 
 abbrev pub parts_of : List ℕ → List (List ℕ)
 parts_of token = parts_within 4 token
@@ -153,16 +153,16 @@ has_comma token = nat_lt 1 (length (parts_of token))
 abbrev pub numerals_of : List ℕ → List (List ℕ)
 numerals_of token = if has_comma token then take (length (parts_of token) - 1) (parts_of token) else parts_of token
 
--- Each part is readable; `\e` may stand behind the fourth comma alone.
+-- Each part is readable; `\e` may stand after the fourth comma alone.
 abbrev pub is_readable : List ℕ → Bool
 is_readable token =
-    nat_lt 0 (length token) && list_all (λ written. is_some (signs_of Plain written)) (take 4 (parts_of token))
-    && list_all (λ written. is_some (text_of written)) (drop 4 (parts_of token))
+    nat_lt 0 (length token) && list_all (λ written. is_some (escaped_bytes_of Plain written)) (take 4 (parts_of token))
+    && list_all (λ written. is_some (text_spelt written)) (drop 4 (parts_of token))
 
 abbrev pub place_of : List ℕ → ℕ
 place_of token = number (part 0 token)
 
--- All of place, left, right and breakpoint, and something behind the fourth comma.
+-- All of place, left, right and breakpoint, and something after the fourth comma.
 abbrev pub is_whole : List ℕ → Bool
 is_whole token = length (parts_of token) == 5 && nat_lt 0 (length (part 4 token))
 
@@ -172,6 +172,6 @@ change_of token =
       left = number (part 1 token);
       right = number (part 2 token);
       substitution = unwrap_or
-          (text_of (part 4 token)) [];
+          (text_spelt (part 4 token)) [];
       breakpoint = number (part 3 token);
     }

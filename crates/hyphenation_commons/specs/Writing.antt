@@ -3,24 +3,24 @@
 use Rattle.std.specs.Prelude.{ℕ, ◌==◌, if◌then◌else◌, List, [], ◌∷◌, map, Option}
 use Rattle.std.specs.List.{list_all}
 use Rattle.hyphenation_commons.specs.Break.{Break, Change}
-use Rattle.hyphenation_commons.specs.Canonical.{are_digits, entry_of, exception_line, mark_spelling, pattern_line}
+use Rattle.hyphenation_commons.specs.Canonical.{are_digits, entry_as_said, exception_line, element_spelling, pattern_line}
 use Rattle.hyphenation_commons.specs.declared.dictionary.Entry.{Entry}
 use Rattle.hyphenation_commons.specs.declared.grammar.form.Version.{Version}
 use Rattle.hyphenation_commons.specs.declared.grammar.form.Version.TheVariants.{First, Second}
-use Rattle.hyphenation_commons.specs.declared.grammar.tokens.Mark.TheVariants.{Value}
+use Rattle.hyphenation_commons.specs.declared.grammar.tokens.PatternElement.TheVariants.{Value}
 
--- The value of the first entry, if that stands at the place, and the entries behind it.
-abbrev pub value_at : {C : Type 0} → Version → ℕ → List (Entry C) → List ℕ
-value_at version at [] = []
-value_at version at (e ∷ es) = if e.place == at then mark_spelling version (Value e.value) else []
+-- The value of the first entry, if that stands at the place, and the entries after it.
+abbrev pub first_value_at : {C : Type 0} → Version → ℕ → List (Entry C) → List ℕ
+first_value_at version at [] = []
+first_value_at version at (e ∷ es) = if e.place == at then element_spelling version (Value e.value) else []
 
-abbrev pub behind_place : {C : Type 0} → ℕ → List (Entry C) → List (Entry C)
-behind_place at [] = []
-behind_place at (e ∷ es) = if e.place == at then es else e ∷ es
+abbrev pub entries_after : {C : Type 0} → ℕ → List (Entry C) → List (Entry C)
+entries_after at [] = []
+entries_after at (e ∷ es) = if e.place == at then es else e ∷ es
 
 -- The line of a key with its entries, and that of a word with its listed breaks.
 abbrev pub key_line : {C : Type 0} → Version → (C → Option Change) → List ℕ × List (Entry C) → List ℕ
-key_line version change_of x = pattern_line version x.0 (map (entry_of change_of) x.1)
+key_line version change_of x = pattern_line version x.0 (map (entry_as_said change_of) x.1)
 
 abbrev pub word_line : {B : Type 0} → (B → Break) → List ℕ × List B → List ℕ
 word_line break_of x = exception_line x.0 (map break_of x.1)

@@ -7,9 +7,9 @@ ghost use Rattle.std.specs.Prelude.{◌≡◌, ◌<◌, true, false, ℕ, List, 
 ghost use Rattle.std.specs.FinMap as finite;
 ghost use Rattle.std.specs.Option.{option_map};
 ghost use Rattle.std.specs.String.{string_bytes};
-ghost use Rattle.hyphenation_commons.specs.Dictionary.{Texts};
+ghost use Rattle.hyphenation_commons.specs.Dictionary.{TextMap};
 ghost use Rattle.hyphenation_commons.specs.Held.{exceptions_of};
-ghost use Rattle.hyphenation_commons.specs.Ordered.{shown_pairs};
+ghost use Rattle.hyphenation_commons.specs.Ordered.{pair_views};
 ghost use Rattle.hyphenation_commons.specs.Spots.{spots, spot, AreMarked};
 
 use std::alloc::{AllocError, Global};
@@ -28,11 +28,11 @@ impl<B> Model for Exceptions<B> {
     ghost use Rattle.std.specs.Prelude.{List};
     ghost use Rattle.std.specs.Coded.{coded_ℕ, coded_list};
     ghost use Rattle.std.specs.FinMap as finite;
-    ghost use Rattle.hyphenation_commons.specs.Dictionary.{Texts};
+    ghost use Rattle.hyphenation_commons.specs.Dictionary.{TextMap};
     ghost use Rattle.hyphenation_commons.specs.Held.{exceptions_of};
     ghost use Rattle.hyphenation_commons.specs.Spots.{AreMarked};
 
-    ghost Value = { Texts (List B) };
+    ghost Value = { TextMap (List B) };
 
     ghost coded = { finite.code (coded_list coded_ℕ) (coded_list B.code) };
 
@@ -134,7 +134,7 @@ impl<B: Drop> Exceptions<B> {
 
     /// The words with their lists, in no order that means anything.
     pub(crate) fn pairs(&self, alloc: Global) -> Result<Vec<(&[u8], &[B])>, AllocError>
-        ensures { IfOk result (λ words. finite.from_entries (shown_pairs words.items) ≡ self.now) }
+        ensures { IfOk result (λ words. finite.from_entries (pair_views words.items) ≡ self.now) }
     {
         let mut words = Vec::new(alloc);
         for (word, listed) in &self.words {

@@ -14,20 +14,20 @@ use std::marker::Model;
 /// Displayed it is its code.
 #[derive(Clone, Copy, Debug)]
 pub struct Language {
-    /// The code, and zeros behind it.
+    /// The code, and zeros after it.
     bytes: [u8; 32],
     len: usize,
 }
 
 impl Model for Language {
     ghost use Rattle.std.specs.Prelude.{◌≡◌, ◌-◌, ◌≤◌, ◌++◌, List, ℕ, length, take, replicate};
-    ghost use Rattle.hyphenation_commons.specs.Language.{IsHeld, padded-take};
+    ghost use Rattle.hyphenation_commons.specs.Language.{IsPadded, padded-take};
 
     ghost Value = { List ℕ };
 
     ghost view = { λ s. take s.len s.bytes };
 
-    ghost invariant = { λ s. IsHeld s.len s.bytes };
+    ghost invariant = { λ s. IsPadded s.len s.bytes };
 
     ghost inverse = { λ code. record { bytes = code ++ replicate (32 - length code) 0; len = length code } };
 

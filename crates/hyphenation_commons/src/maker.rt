@@ -7,11 +7,11 @@ ghost use Rattle.std.specs.Prelude.{◌≡◌, ◌↔◌, IsTrue, IfOk, map, All
 ghost use Rattle.std.specs.String.{string_bytes};
 ghost use Rattle.hyphenation_commons.specs.Held.{patterns_of};
 ghost use Rattle.hyphenation_commons.specs.Kept.{has_letter, are_entries, are_listed};
-ghost use Rattle.hyphenation_commons.specs.Made.{last_said, said_of, fits_key};
+ghost use Rattle.hyphenation_commons.specs.Made.{map_of_pairs, pair_of, fits_key};
 ghost use Rattle.hyphenation_commons.specs.Trie.{EachBeginsKey};
 
 use crate::breaks::stands_in;
-use crate::dictionary::{Carried, Dictionary, Entry, Listed};
+use crate::dictionary::{Payload, Dictionary, Entry, Listing};
 use crate::exceptions::Exceptions;
 use crate::language::Language;
 use crate::trie::Trie;
@@ -30,15 +30,15 @@ fn has_letter(key: &str) -> bool
 }
 
 /// Whether entries ascend on the boundaries of a key, with values above 0 and changes that keep within it.
-fn are_entries<C: Carried>(key: &str, entries: &[Entry<C>]) -> bool
-    ensures { IsTrue result ↔ IsTrue (are_entries C.change key.now 0 entries.now) }
+fn are_entries<C: Payload>(key: &str, entries: &[Entry<C>]) -> bool
+    ensures { IsTrue result ↔ IsTrue (are_entries C.change_of key.now 0 entries.now) }
 {
     let mut least = 0;
     for entry in entries {
         if entry.place < least || entry.value == 0 {
             return false;
         }
-        if !stands_in(key, &(entry.place, entry.change.carried())) {
+        if !stands_in(key, &(entry.place, entry.change.as_change())) {
             return false;
         }
         least = entry.place + 1;
@@ -51,18 +51,18 @@ fn are_entries<C: Carried>(key: &str, entries: &[Entry<C>]) -> bool
 /// It may if it has a character other than a dot, if their places ascend strictly, and each place and each end of a
 /// changed range is in the key, or at its end, on a boundary of characters, and if no value is 0. A key may have no
 /// entries; it then bears on nothing.
-pub fn fits_key<C: Carried>(key: &str, entries: &[Entry<C>]) -> bool
-    ensures { IsTrue result ↔ IsTrue (fits_key C.change key.now entries.now) }
+pub fn fits_key<C: Payload>(key: &str, entries: &[Entry<C>]) -> bool
+    ensures { IsTrue result ↔ IsTrue (fits_key C.change_of key.now entries.now) }
 {
     has_letter(key) && are_entries(key, entries)
 }
 
 /// The trie of these keys.
-fn trie_of<C: Carried>(
+fn trie_of<C: Payload>(
     alloc: Global,
     patterns: Vec<(String, Vec<Entry<C>>)>,
 ) -> Result<Trie<Entry<C>>, AllocError>
-    ensures keys { IfOk result (λ trie. patterns_of trie ≡ last_said (map said_of patterns.items)) }
+    ensures keys { IfOk result (λ trie. patterns_of trie ≡ map_of_pairs (map pair_of patterns.items)) }
     ensures begins { IfOk result (λ trie. EachBeginsKey trie) }
 {
     let mut trie = Trie::new(alloc)?;
@@ -73,11 +73,11 @@ fn trie_of<C: Carried>(
 }
 
 /// The map of these words.
-fn map_of<B: Listed>(
+fn map_of<B: Listing>(
     alloc: Global,
     exceptions: Vec<(String, Vec<B>)>,
 ) -> Result<Exceptions<B>, AllocError>
-    ensures { IfOk result (λ words. words ≡ last_said (map said_of exceptions.items)) }
+    ensures { IfOk result (λ words. words ≡ map_of_pairs (map pair_of exceptions.items)) }
 {
     let mut words = Exceptions::new(alloc)?;
     for (word, listed) in exceptions {
@@ -91,7 +91,7 @@ fn map_of<B: Listed>(
 ///
 /// The caller owes that each key may have its entries, as `fits_key` tests, and each word its breaks, as
 /// `Dictionary::fits` tests. The only error is memory.
-pub fn make<C: Carried, B: Listed>(
+pub fn make<C: Payload, B: Listing>(
     alloc: Global,
     language: Language,
     left: u8,
@@ -99,7 +99,7 @@ pub fn make<C: Carried, B: Listed>(
     patterns: Vec<(String, Vec<Entry<C>>)>,
     exceptions: Vec<(String, Vec<B>)>,
 ) -> Result<Dictionary<C, B>, AllocError>
-    requires keys { All (λ p. IsTrue (fits_key C.change (string_bytes p.0) p.1.items)) patterns.items }
+    requires keys { All (λ p. IsTrue (fits_key C.change_of (string_bytes p.0) p.1.items)) patterns.items }
     requires words { All (λ e. IsTrue (are_listed B.meaning (string_bytes e.0) 0 e.1.items)) exceptions.items }
     ensures { IfOk result (λ d.
         d
@@ -107,9 +107,9 @@ pub fn make<C: Carried, B: Listed>(
           language = language;
           left = left;
           right = right;
-          patterns = last_said
-              (map said_of patterns.items);
-          exceptions = last_said (map said_of exceptions.items);
+          patterns = map_of_pairs
+              (map pair_of patterns.items);
+          exceptions = map_of_pairs (map pair_of exceptions.items);
         }) }
 {
     // The call tells the proof what is true of each language.

@@ -1,7 +1,7 @@
 //! A trie: a tree that holds keys by the bytes that they share.
 //!
 //! Each node stands for a text, the root for the empty one. A step along a byte leads to the node
-//! of the text with that byte behind it, its child. A node whose text is a key holds the key's
+//! of the text with that byte after it, its child. A node whose text is a key holds the key's
 //! entries. Here are the keys `ir`, `rk` and `rkin`, whose nodes are marked:
 //!
 //! ```text
@@ -26,7 +26,7 @@ ghost use Rattle.std.specs.Prelude.{◌≡◌, ◌≢◌, ◌+◌, ◌<◌, ◌�
 ghost use Rattle.std.specs.Cmp.Lexicographic.{pointwise};
 ghost use Rattle.std.specs.List.{slice_range};
 ghost use Rattle.hyphenation_commons.specs.Links.{parent_of, byte_of};
-ghost use Rattle.hyphenation_commons.specs.Trie.{Tree, text_of, key_at, grown, IsTrie, Grows, AddsFront, KeepsNodes, EachBeginsKey, with_entries};
+ghost use Rattle.hyphenation_commons.specs.Trie.{Tree, node_text, key_at, with_child, IsTrie, Grows, AddsFront, KeepsNodes, EachBeginsKey, with_entries};
 
 pub mod automaton;
 mod chains;
@@ -144,7 +144,7 @@ fn byte_of(from: Option<(usize, u8)>) -> u8
 /// Keys, each with its entries.
 #[derive(Drop)]
 pub struct Trie<E> {
-    /// The root, and behind it each node later than its parent.
+    /// The root, and after it each node later than its parent.
     nodes: Vec<Node>,
     /// The entries of all keys, in one list, so that a key costs no allocation of its own. Those that a key had
     /// before it was given others stay here, unused.
@@ -156,15 +156,15 @@ pub struct Trie<E> {
 
 impl<E> Model for Trie<E> {
     ghost use Rattle.std.specs.Prelude.{map, length};
-    ghost use Rattle.hyphenation_commons.specs.Growing.{IsHeld};
-    ghost use Rattle.hyphenation_commons.specs.Trie.{Tree, seen, AreWithin};
+    ghost use Rattle.hyphenation_commons.specs.Growing.{IsGrowing};
+    ghost use Rattle.hyphenation_commons.specs.Trie.{Tree, tree_of, AreWithin};
 
     ghost Value = { Tree E };
 
-    ghost view = { λ t. seen t.nodes.items t.entries.items };
+    ghost view = { λ t. tree_of t.nodes.items t.entries.items };
 
     ghost invariant = { λ t.
-        IsHeld (map (λ n. n.from) t.nodes.items) t.children.last.items t.children.before.items
+        IsGrowing (map (λ n. n.from) t.nodes.items) t.children.last.items t.children.before.items
         × AreWithin (length t.entries.items) t.nodes.items };
 }
 
@@ -220,7 +220,7 @@ impl<E: Drop> Trie<E> {
     fn root(&self) -> usize
         ensures root { result ≡ 0 }
         ensures node { result < length self.now.texts }
-        ensures text { text_of self.now result ≡ [] }
+        ensures text { node_text self.now result ≡ [] }
         ensures trie { IsTrie self.now }
     {
         // The look at a field tells the proof what is true of each trie.
@@ -232,8 +232,8 @@ impl<E: Drop> Trie<E> {
     fn child_of(&self, node: usize, byte: u8) -> Option<usize>
         requires { node < length self.now.texts }
         ensures found { IfSome result (λ j.
-            (j < length self.now.texts) × (text_of self.now j ≡ text_of self.now node ++ byte ∷ [])) }
-        ensures none { IfNone result ((j : ℕ) → j < length self.now.texts → text_of self.now j ≢ text_of self.now node
+            (j < length self.now.texts) × (node_text self.now j ≡ node_text self.now node ++ byte ∷ [])) }
+        ensures none { IfNone result ((j : ℕ) → j < length self.now.texts → node_text self.now j ≢ node_text self.now node
             ++ byte ∷ []) }
         ensures trie { IsTrie self.now }
     {
@@ -251,8 +251,8 @@ impl<E: Drop> Trie<E> {
     fn grow(&mut self, node: usize, byte: u8) -> Result<usize, AllocError>
         requires node { node < length self.old.texts }
         requires absent { (j : ℕ) → j < length self.old.texts
-            → text_of self.old j ≢ text_of self.old node ++ byte ∷ [] }
-        ensures ok { IfOk result (λ j. (j ≡ length self.old.texts) × (self.new ≡ grown self.old node byte)) }
+            → node_text self.old j ≢ node_text self.old node ++ byte ∷ [] }
+        ensures ok { IfOk result (λ j. (j ≡ length self.old.texts) × (self.new ≡ with_child self.old node byte)) }
         ensures err { OnErr result (self.new ≡ self.old) }
     {
         let child = self.nodes.len();
@@ -272,8 +272,8 @@ impl<E: Drop> Trie<E> {
     fn step(&mut self, node: usize, byte: u8) -> Result<usize, AllocError>
         requires { node < length self.old.texts }
         ensures ok { IfOk result (λ j.
-            (j < length self.new.texts) × (text_of self.new j ≡ text_of self.old node ++ byte ∷ [])) }
-        ensures grows { Grows self.old self.new (text_of self.old node ++ byte ∷ []) }
+            (j < length self.new.texts) × (node_text self.new j ≡ node_text self.old node ++ byte ∷ [])) }
+        ensures grows { Grows self.old self.new (node_text self.old node ++ byte ∷ []) }
         ensures trie { IsTrie self.old }
     {
         match self.child_of(node, byte) {
@@ -284,7 +284,7 @@ impl<E: Drop> Trie<E> {
 
     /// The node of a text, made where there is none.
     fn path(&mut self, text: &[u8]) -> Result<usize, AllocError>
-        ensures ok { IfOk result (λ j. (j < length self.new.texts) × (text_of self.new j ≡ text.now)) }
+        ensures ok { IfOk result (λ j. (j < length self.new.texts) × (node_text self.new j ≡ text.now)) }
         ensures keys { (q : List ℕ) → key_at self.new q ≡ key_at self.old q }
         ensures adds { AddsFront self.old self.new text.now }
         ensures nodes { KeepsNodes self.old self.new }
@@ -301,7 +301,7 @@ impl<E: Drop> Trie<E> {
     fn set_entries(&mut self, node: usize, entries: &mut Vec<E>) -> Result<bool, AllocError>
         requires { node < length self.old.texts }
         ensures set { OnOk result (self.new ≡ with_entries self.old node entries.old.items) }
-        ensures had { IfOk result (λ had. had ≡ is_some (key_at self.old (text_of self.old node))) }
+        ensures had { IfOk result (λ had. had ≡ is_some (key_at self.old (node_text self.old node))) }
         ensures moved { OnOk result (entries.new.items ≡ []) }
         ensures err { OnErr result (self.new ≡ self.old) }
         ensures trie { IsTrie self.old × IsTrie self.new }

@@ -7,7 +7,7 @@ use Rattle.std.proofs.lemmas.List.Folds.{list_any-append}
 use Rattle.std.proofs.lemmas.Option.{none-some}
 use Rattle.hyphenation_commons.specs.Break.{Break}
 use Rattle.linefill.specs.Cuts.{is_in, breaks_in}
-use Rattle.linefill.specs.WordBreaks.{in_hand, pieces_left, to_come, left_behind, head, Rise, Follow, IsSmall, InOrder, NoneWithin, IsFirstBehind}
+use Rattle.linefill.specs.WordBreaks.{in_hand, remaining_pieces, remaining_breaks, places_after, first_place, Rise, Follow, IsSmall, InOrder, NoneWithin, IsFirstAfter}
 use Rattle.linefill.specs.declared.word_breaks.WordBreaks.{WordBreaks}
 
 some_same : (a b : ℕ) → Some a ≡ Some b → a ≡ b
@@ -31,19 +31,19 @@ pub rise_from : (a b to : ℕ) (ps : List ℕ) → a ≤ b → Rise b to ps → 
 rise_from a b to [] le h = omega (arith, h)
 rise_from a b to (p ∷ ps) le h = (omega (arith, h.0), h.1)
 
-pub rise_left : (from a to : ℕ) (ps : List ℕ) → Rise a to ps → Rise a to (left_behind from ps)
+pub rise_left : (from a to : ℕ) (ps : List ℕ) → Rise a to ps → Rise a to (places_after from ps)
 rise_left from a to [] h = h
 rise_left from a to (p ∷ ps) h =
-    elim (nat_lt from p) as (λ b. Rise a to (cond b (p ∷ ps) (left_behind from ps))) [ true ↦ h | false ↦ rise_left from a to ps (rise_from a p to ps h.0 h.1) ]
+    elim (nat_lt from p) as (λ b. Rise a to (cond b (p ∷ ps) (places_after from ps))) [ true ↦ h | false ↦ rise_left from a to ps (rise_from a p to ps h.0 h.1) ]
 
 pub all_small : (from to : ℕ) (ps : List ℕ) → IsSmall to → Rise from to ps → All IsSmall ps
 all_small from to [] small h = All-nil IsSmall
 all_small from to (p ∷ ps) small h = All-cons IsSmall p ps (omega (arith, small, rise_order p to ps h.1)) (all_small p to ps small h.1)
 
--- ---- those behind a place
+-- ---- those after a place
 
--- What is not behind it is passed, and nothing else.
-pub left_same : (from p : ℕ) (ps : List ℕ) → from < p → is_in p (left_behind from ps) ≡ is_in p ps
+-- What is not after it is passed, and nothing else.
+pub left_same : (from p : ℕ) (ps : List ℕ) → from < p → is_in p (places_after from ps) ≡ is_in p ps
 left_same from p [] lt = refl
 left_same from p (q ∷ qs) lt =
     elim (cases_lt from q) [
@@ -52,18 +52,18 @@ left_same from p (q ∷ qs) lt =
           ∙ sym (ap (λ b. b || is_in p qs) (ne_eqb p q (λ e. omega arith)))
     ]
 
--- The first that is left is behind it.
-pub head_behind : (from place : ℕ) (ps : List ℕ) → head (left_behind from ps) ≡ Some place → from < place
-head_behind from place [] e = absurd (none-some place e)
-head_behind from place (q ∷ qs) e =
+-- The first that is left is after it.
+pub head_after : (from place : ℕ) (ps : List ℕ) → first_place (places_after from ps) ≡ Some place → from < place
+head_after from place [] e = absurd (none-some place e)
+head_after from place (q ∷ qs) e =
     elim (cases_lt from q) [
       | inl ahead ↦
-          let same : Some q ≡ Some place = sym (ap head (cond-true (nat_lt from q) _ _ (lt-ltb from q ahead))) ∙ e in
+          let same : Some q ≡ Some place = sym (ap first_place (cond-true (nat_lt from q) _ _ (lt-ltb from q ahead))) ∙ e in
           omega (arith, some_same q place same)
-      | inr past ↦ head_behind from place qs (sym (ap head (cond-false (nat_lt from q) _ _ (le-ltb from q past))) ∙ e)
+      | inr past ↦ head_after from place qs (sym (ap first_place (cond-false (nat_lt from q) _ _ (le-ltb from q past))) ∙ e)
     ]
 
--- ---- pieces one behind the other
+-- ---- pieces one after the other
 
 pub follow_order : (breaks_of : List ℕ → List Break) (from to : ℕ) (xs : List (ℕ × List ℕ)) → Follow breaks_of from to xs → from ≤ to
 follow_order breaks_of from to [] h = h
@@ -79,7 +79,7 @@ in_follow breaks_of from to p (x ∷ xs) h i =
       | inr later ↦ omega (arith, h.0, in_follow breaks_of (x.0 + length x.1) to p xs h.2 later)
     ]
 
--- A piece that ends before a place has no break behind it.
+-- A piece that ends before a place has no break after it.
 pub piece_passed : (breaks_of : List ℕ → List Break) (x : ℕ × List ℕ) (xs : List (ℕ × List ℕ)) (from p : ℕ) → Rise x.0 (x.0 + length x.1) (breaks_in breaks_of x) → x.0 + length x.1 ≤ from → from < p
     → is_in p (flat_map (breaks_in breaks_of) xs) ≡ is_in p (flat_map (breaks_in breaks_of) (x ∷ xs))
 piece_passed breaks_of x xs from p h ends lt =
@@ -90,83 +90,83 @@ piece_passed breaks_of x xs from p h ends lt =
 
 -- ---- what is to come
 
-pub first_found : (breaks_of : List ℕ → List Break) (hand : List ℕ) (xs : List (ℕ × List ℕ)) (low behind to from place : ℕ) → Rise low behind hand → Follow breaks_of behind to xs → head hand ≡ Some place → from < place
-    → IsFirstBehind (hand ++ flat_map (breaks_in breaks_of) xs) from place
-first_found breaks_of [] xs low behind to from place rise follow found lt = absurd (none-some place found)
-first_found breaks_of (q ∷ qs) xs low behind to from place rise follow found lt =
+pub first_found : (breaks_of : List ℕ → List Break) (hand : List ℕ) (xs : List (ℕ × List ℕ)) (low after to from place : ℕ) → Rise low after hand → Follow breaks_of after to xs → first_place hand ≡ Some place → from < place
+    → IsFirstAfter (hand ++ flat_map (breaks_in breaks_of) xs) from place
+first_found breaks_of [] xs low after to from place rise follow found lt = absurd (none-some place found)
+first_found breaks_of (q ∷ qs) xs low after to from place rise follow found lt =
     let rest = flat_map (breaks_in breaks_of) xs in
     let same : q ≡ place = some_same q place found in
     record {
-      behind = lt;
+      after = lt;
       among = or_left (place == q) (is_in place (qs ++ rest)) (eq-eqb place q (sym same));
       first = λ p l u. false_from_ne_true (is_in p (q ∷ (qs ++ rest))) (λ i. elim (or_cases (is_in p (q ∷ qs)) (is_in p rest) (sym (list_any-append (λ b. p == b) (q ∷ qs) rest) ∙ i)) [
-        | inl hand ↦ omega (arith, (in_rise q behind p (q ∷ qs) (omega arith, rise.1) hand).0, same)
-        | inr later ↦ omega (arith, in_follow breaks_of behind to p xs follow later, rise_order q behind qs rise.1, same)
+        | inl hand ↦ omega (arith, (in_rise q after p (q ∷ qs) (omega arith, rise.1) hand).0, same)
+        | inr later ↦ omega (arith, in_follow breaks_of after to p xs follow later, rise_order q after qs rise.1, same)
       ]);
     }
 
 -- ---- one step on
 
-pub no_head : (ps : List ℕ) → head ps ≡ None → ps ≡ []
+pub no_head : (ps : List ℕ) → first_place ps ≡ None → ps ≡ []
 no_head [] e = refl
 no_head (p ∷ ps) e = absurd (none-some p (sym e))
 
 module _ (breaks_of : List ℕ → List Break) (b later : WordBreaks) (order : InOrder breaks_of b) where
-  -- Those in hand that are not behind a place are passed.
-  module _ (from : ℕ) (hand : in_hand later ≡ left_behind from (in_hand b)) (pieces : pieces_left later ≡ pieces_left b) (reached : later.reached ≡ b.reached) where
+  -- Those in hand that are not after a place are passed.
+  module _ (from : ℕ) (hand : in_hand later ≡ places_after from (in_hand b)) (pieces : remaining_pieces later ≡ remaining_pieces b) (reached : later.reached ≡ b.reached) where
     pub order_left : InOrder breaks_of later
     order_left = record {
       end = order.end;
       small = order.small;
       hand = subst (λ to. Rise 0 to (in_hand later)) (sym reached) (subst (Rise 0 b.reached) (sym hand) (rise_left from 0 b.reached (in_hand b) order.hand));
-      pieces = subst (λ at. Follow breaks_of at order.end (pieces_left later)) (sym reached) (subst (Follow breaks_of b.reached order.end) (sym pieces) order.pieces);
+      pieces = subst (λ at. Follow breaks_of at order.end (remaining_pieces later)) (sym reached) (subst (Follow breaks_of b.reached order.end) (sym pieces) order.pieces);
     }
 
-    pub stay_left : (p : ℕ) → from < p → is_in p (to_come breaks_of later) ≡ is_in p (to_come breaks_of b)
+    pub stay_left : (p : ℕ) → from < p → is_in p (remaining_breaks breaks_of later) ≡ is_in p (remaining_breaks breaks_of b)
     stay_left p lt =
         let ps = in_hand b in
-        let rest = flat_map (breaks_in breaks_of) (pieces_left b) in
-        ap (λ qs. is_in p (qs ++ flat_map (breaks_in breaks_of) (pieces_left later))) hand
-        ∙ ap (λ xs. is_in p (left_behind from ps ++ flat_map (breaks_in breaks_of) xs)) pieces
-        ∙ list_any-append (λ q. p == q) (left_behind from ps) rest ∙ ap (λ v. v || is_in p rest) (left_same from p ps lt)
+        let rest = flat_map (breaks_in breaks_of) (remaining_pieces b) in
+        ap (λ qs. is_in p (qs ++ flat_map (breaks_in breaks_of) (remaining_pieces later))) hand
+        ∙ ap (λ xs. is_in p (places_after from ps ++ flat_map (breaks_in breaks_of) xs)) pieces
+        ∙ list_any-append (λ q. p == q) (places_after from ps) rest ∙ ap (λ v. v || is_in p rest) (left_same from p ps lt)
         ∙ sym (list_any-append (λ q. p == q) ps rest)
 
-    pub first_left : (place : ℕ) → head (in_hand later) ≡ Some place → IsFirstBehind (to_come breaks_of later) from place
+    pub first_left : (place : ℕ) → first_place (in_hand later) ≡ Some place → IsFirstAfter (remaining_breaks breaks_of later) from place
     first_left place found =
         let o = order_left in
-        first_found breaks_of (in_hand later) (pieces_left later) 0 later.reached o.end from place o.hand o.pieces found
-        (head_behind from place (in_hand b) (ap head (sym hand) ∙ found))
+        first_found breaks_of (in_hand later) (remaining_pieces later) 0 later.reached o.end from place o.hand o.pieces found
+        (head_after from place (in_hand b) (ap first_place (sym hand) ∙ found))
 
   -- With none in hand nothing is to come before the pieces that are left.
-  pub none_before : (from until : ℕ) → head (in_hand b) ≡ None → until ≤ b.reached → NoneWithin (to_come breaks_of b) from until
+  pub none_before : (from until : ℕ) → first_place (in_hand b) ≡ None → until ≤ b.reached → NoneWithin (remaining_breaks breaks_of b) from until
   none_before from until none at =
-      λ p l u. ap (λ ps. is_in p (ps ++ flat_map (breaks_in breaks_of) (pieces_left b))) (no_head (in_hand b) none)
-      ∙ false_from_ne_true (is_in p (flat_map (breaks_in breaks_of) (pieces_left b))) (λ i. omega (arith, in_follow breaks_of b.reached order.end p (pieces_left b) order.pieces i))
+      λ p l u. ap (λ ps. is_in p (ps ++ flat_map (breaks_in breaks_of) (remaining_pieces b))) (no_head (in_hand b) none)
+      ∙ false_from_ne_true (is_in p (flat_map (breaks_in breaks_of) (remaining_pieces b))) (λ i. omega (arith, in_follow breaks_of b.reached order.end p (remaining_pieces b) order.pieces i))
 
   -- The next piece is taken, with none in hand.
-  module _ (x : ℕ × List ℕ) (xs : List (ℕ × List ℕ)) (none : head (in_hand b) ≡ None) (next : pieces_left b ≡ x ∷ xs) where
+  module _ (x : ℕ × List ℕ) (xs : List (ℕ × List ℕ)) (none : first_place (in_hand b) ≡ None) (next : remaining_pieces b ≡ x ∷ xs) where
     taken : Follow breaks_of b.reached order.end (x ∷ xs)
     taken = subst (Follow breaks_of b.reached order.end) next order.pieces
 
-    before : (p : ℕ) → is_in p (to_come breaks_of b) ≡ is_in p (flat_map (breaks_in breaks_of) (x ∷ xs))
+    before : (p : ℕ) → is_in p (remaining_breaks breaks_of b) ≡ is_in p (flat_map (breaks_in breaks_of) (x ∷ xs))
     before p =
-        ap (λ ps. is_in p (ps ++ flat_map (breaks_in breaks_of) (pieces_left b))) (no_head (in_hand b) none)
+        ap (λ ps. is_in p (ps ++ flat_map (breaks_in breaks_of) (remaining_pieces b))) (no_head (in_hand b) none)
         ∙ ap (λ ys. is_in p (flat_map (breaks_in breaks_of) ys)) next
 
     pub piece_small : IsSmall (x.0 + length x.1)
     piece_small = omega (arith, order.small, follow_order breaks_of (x.0 + length x.1) order.end xs taken.2)
 
-    module _ (pieces : pieces_left later ≡ xs) (reached : later.reached ≡ x.0 + length x.1) where
-      follows : Follow breaks_of later.reached order.end (pieces_left later)
-      follows = subst (λ at. Follow breaks_of at order.end (pieces_left later)) (sym reached) (subst (Follow breaks_of (x.0 + length x.1) order.end) (sym pieces) taken.2)
+    module _ (pieces : remaining_pieces later ≡ xs) (reached : later.reached ≡ x.0 + length x.1) where
+      follows : Follow breaks_of later.reached order.end (remaining_pieces later)
+      follows = subst (λ at. Follow breaks_of at order.end (remaining_pieces later)) (sym reached) (subst (Follow breaks_of (x.0 + length x.1) order.end) (sym pieces) taken.2)
 
       -- It ends before a place, and is left out.
       pub order_without : in_hand later ≡ in_hand b → InOrder breaks_of later
       order_without hand = record { end = order.end; small = order.small; hand = subst (Rise 0 later.reached) (sym (hand ∙ no_head (in_hand b) none)) (omega arith); pieces = follows }
 
-      pub stay_without : (from p : ℕ) → in_hand later ≡ in_hand b → x.0 + length x.1 ≤ from → from < p → is_in p (to_come breaks_of later) ≡ is_in p (to_come breaks_of b)
+      pub stay_without : (from p : ℕ) → in_hand later ≡ in_hand b → x.0 + length x.1 ≤ from → from < p → is_in p (remaining_breaks breaks_of later) ≡ is_in p (remaining_breaks breaks_of b)
       stay_without from p hand ends lt =
-          ap (λ ps. is_in p (ps ++ flat_map (breaks_in breaks_of) (pieces_left later))) (hand ∙ no_head (in_hand b) none)
+          ap (λ ps. is_in p (ps ++ flat_map (breaks_in breaks_of) (remaining_pieces later))) (hand ∙ no_head (in_hand b) none)
           ∙ ap (λ ys. is_in p (flat_map (breaks_in breaks_of) ys)) pieces ∙ piece_passed breaks_of x xs from p taken.1 ends lt ∙ sym (before p)
 
       -- Its breaks are in hand.
@@ -178,7 +178,7 @@ module _ (breaks_of : List ℕ → List Break) (b later : WordBreaks) (order : I
         pieces = follows;
       }
 
-      pub stay_broken : (p : ℕ) → in_hand later ≡ breaks_in breaks_of x → is_in p (to_come breaks_of later) ≡ is_in p (to_come breaks_of b)
+      pub stay_broken : (p : ℕ) → in_hand later ≡ breaks_in breaks_of x → is_in p (remaining_breaks breaks_of later) ≡ is_in p (remaining_breaks breaks_of b)
       stay_broken p hand =
-          ap (λ ps. is_in p (ps ++ flat_map (breaks_in breaks_of) (pieces_left later))) hand
+          ap (λ ps. is_in p (ps ++ flat_map (breaks_in breaks_of) (remaining_pieces later))) hand
           ∙ ap (λ ys. is_in p (breaks_in breaks_of x ++ flat_map (breaks_in breaks_of) ys)) pieces ∙ sym (before p)

@@ -8,10 +8,10 @@ use Rattle.linefill.specs.Cuts.{is_in, breaks_in, word_breaks}
 use Rattle.linefill.specs.declared.word_breaks.WordBreaks.{WordBreaks}
 
 -- The pieces that were not taken.
-abbrev pub pieces_left : WordBreaks → List (ℕ × List ℕ)
-pieces_left b = word_bound_indices_left b.pieces
+abbrev pub remaining_pieces : WordBreaks → List (ℕ × List ℕ)
+remaining_pieces b = word_bound_indices_left b.pieces
 
--- The next piece, if there is one, and those behind it.
+-- The next piece, if there is one, and those after it.
 abbrev pub next_then : Option (ℕ × Bor (List ℕ)) → List (ℕ × List ℕ) → List (ℕ × List ℕ)
 next_then None others = others
 next_then (Some x) others = (x.0, x.1.now) ∷ others
@@ -21,24 +21,24 @@ abbrev pub in_hand : WordBreaks → List ℕ
 in_hand b = map (λ p. b.offset + p) (drop b.passed b.breaks.items)
 
 -- All breaks that were not passed.
-abbrev pub to_come : (List ℕ → List Break) → WordBreaks → List ℕ
-to_come breaks_of b = in_hand b ++ flat_map (breaks_in breaks_of) (pieces_left b)
+abbrev pub remaining_breaks : (List ℕ → List Break) → WordBreaks → List ℕ
+remaining_breaks breaks_of b = in_hand b ++ flat_map (breaks_in breaks_of) (remaining_pieces b)
 
--- Places from the first one on that is behind another.
-abbrev pub left_behind : ℕ → List ℕ → List ℕ
-left_behind from [] = []
-left_behind from (p ∷ ps) = if nat_lt from p then p ∷ ps else left_behind from ps
+-- Places from the first one on that is after another.
+abbrev pub places_after : ℕ → List ℕ → List ℕ
+places_after from [] = []
+places_after from (p ∷ ps) = if nat_lt from p then p ∷ ps else places_after from ps
 
-abbrev pub head : List ℕ → Option ℕ
-head [] = None
-head (p ∷ ps) = Some p
+abbrev pub first_place : List ℕ → Option ℕ
+first_place [] = None
+first_place (p ∷ ps) = Some p
 
 -- Places that never fall, between two others.
 abbrev pub Rise : ℕ → ℕ → List ℕ → Type 0
 Rise from to [] = from ≤ to
 Rise from to (p ∷ ps) = (from ≤ p) × Rise p to ps
 
--- Pieces one behind the other between two places, with the breaks of each in it.
+-- Pieces one after the other between two places, with the breaks of each in it.
 abbrev pub Follow : (List ℕ → List Break) → ℕ → ℕ → List (ℕ × List ℕ) → Type 0
 Follow breaks_of from to [] = from ≤ to
 Follow breaks_of from to (x ∷ xs) =
@@ -48,24 +48,24 @@ Follow breaks_of from to (x ∷ xs) =
 abbrev pub IsSmall : ℕ → Type 0
 IsSmall place = place < 2 ^ 64
 
--- The breaks to come never fall, and the pieces lie behind those in hand.
+-- The breaks to come never fall, and the pieces lie after those in hand.
 pub record InOrder (breaks_of : List ℕ → List Break) (b : WordBreaks) : Type 0 where
   pub end : ℕ
   pub small : IsSmall end
   pub hand : Rise 0 b.reached (in_hand b)
-  pub pieces : Follow breaks_of b.reached end (pieces_left b)
+  pub pieces : Follow breaks_of b.reached end (remaining_pieces b)
 
--- None of some places is behind one and before another.
+-- None of some places is after one and before another.
 abbrev pub NoneWithin : List ℕ → ℕ → ℕ → Type 0
 NoneWithin places from until = (p : ℕ) → from < p → p < until → is_in p places ≡ false
 
--- The first of some places that is behind another.
-pub record IsFirstBehind (places : List ℕ) (from place : ℕ) : Type 0 where
-  pub behind : from < place
+-- The first of some places that is after another.
+pub record IsFirstAfter (places : List ℕ) (from place : ℕ) : Type 0 where
+  pub after : from < place
   pub among : IsTrue (is_in place places)
   pub first : NoneWithin places from place
 
--- The breaks to come are in order, and behind a place they are those of a text.
-pub record HasBreaksBehind (breaks_of : List ℕ → List Break) (text : List ℕ) (from : ℕ) (b : WordBreaks) : Type 0 where
+-- The breaks to come are in order, and after a place they are those of a text.
+pub record HasBreaksAfter (breaks_of : List ℕ → List Break) (text : List ℕ) (from : ℕ) (b : WordBreaks) : Type 0 where
   pub order : InOrder breaks_of b
-  pub stay : (p : ℕ) → from < p → is_in p (to_come breaks_of b) ≡ is_in p (word_breaks breaks_of text)
+  pub stay : (p : ℕ) → from < p → is_in p (remaining_breaks breaks_of b) ≡ is_in p (word_breaks breaks_of text)

@@ -6,7 +6,7 @@ ghost use Rattle.std.specs.Io.KnownBytes.{Appends, Keeps};
 ghost use Rattle.hyphenation_commons.specs.Break.{plain};
 ghost use Rattle.hyphenation_commons.specs.Judging.{refusal_of};
 ghost use Rattle.hyphenation.specs.Engine.{JudgesDictionary, JudgesText, BeforeWriting, IsUnwritten, HoldsNoWant};
-ghost use Rattle.hyphenation.specs.Opportunities.{no_change, rules_of, breaks_of};
+ghost use Rattle.hyphenation.specs.Opportunities.{no_change, rules_of, all_breaks_of};
 ghost use Rattle.linefill.specs.Lines.{lines_by};
 ghost use Rattle.linefill.specs.Run.{with_line_feeds, filled_by};
 
@@ -16,7 +16,7 @@ use hyphenation::{Language, Load, Standard};
 use std::alloc::{AllocError, Global};
 use std::io::{Read, Write};
 
-/// The lines as one text, each with a line feed behind it.
+/// The lines as one text, each with a line feed after it.
 fn joined(alloc: Global, lines: &[String]) -> Result<String, AllocError>
     ensures { IfOk result (λ text. string_bytes text ≡ with_line_feeds (map string_bytes lines.now)) }
 {
@@ -28,7 +28,7 @@ fn joined(alloc: Global, lines: &[String]) -> Result<String, AllocError>
     Ok(text)
 }
 
-/// The lines of a text, each with a line feed behind it.
+/// The lines of a text, each with a line feed after it.
 fn filled(
     alloc: Global,
     dictionary: &Standard,
@@ -37,13 +37,13 @@ fn filled(
 ) -> Result<String, AllocError>
     ensures { IfOk result (λ filled.
         string_bytes filled
-        ≡ with_line_feeds (lines_by (breaks_of (rules_of no_change plain dictionary.now)) text.now columns)) }
+        ≡ with_line_feeds (lines_by (all_breaks_of (rules_of no_change plain dictionary.now)) text.now columns)) }
 {
     let lines = fill(alloc, dictionary, text, columns)?;
     joined(alloc, &lines)
 }
 
-/// The lines of the input, each with a line feed behind it, by the dictionary of a language that a reader's bytes give.
+/// The lines of the input, each with a line feed after it, by the dictionary of a language that a reader's bytes give.
 fn filled_input<D: Read, I: Read>(
     alloc: Global,
     lang: Language,
@@ -67,7 +67,7 @@ fn filled_input<D: Read, I: Read>(
 }
 
 /// Loads a standard dictionary of a language, and writes the lines of the input, as [`fill`] has them, each with a line
-/// feed behind it. The empty text has no lines, and nothing is written of it.
+/// feed after it. The empty text has no lines, and nothing is written of it.
 ///
 /// In this order: the dictionary is loaded; the whole input is read, and has to be UTF-8; it is filled; the result is
 /// written. Before it is whole nothing is written: only an answer [`RunError::Output`] may have written a beginning.

@@ -5,7 +5,7 @@ ghost use Rattle.std.specs.Option.{MatchOption};
 ghost use Rattle.unicode_segmentation.specs.Segments.{with_offsets};
 ghost use Rattle.unicode_segmentation.specs.Word.{word_bounds};
 ghost use Rattle.linefill.specs.Cuts.{is_in};
-ghost use Rattle.linefill.specs.WordBreaks.{in_hand, pieces_left, next_then, to_come, left_behind, head, InOrder, NoneWithin, IsFirstBehind, IsSmall};
+ghost use Rattle.linefill.specs.WordBreaks.{in_hand, remaining_pieces, next_then, remaining_breaks, places_after, first_place, InOrder, NoneWithin, IsFirstAfter, IsSmall};
 
 use hyphenation::Hyphenator;
 use std::alloc::{AllocError, Global};
@@ -33,7 +33,7 @@ impl<'t> WordBreaks<'t> {
     /// The breaks of all pieces of a text.
     pub(crate) fn new(alloc: Global, text: &'t str) -> WordBreaks<'t>
         ensures hand { in_hand result ≡ [] }
-        ensures pieces { pieces_left result ≡ with_offsets 0 (word_bounds text.now) }
+        ensures pieces { remaining_pieces result ≡ with_offsets 0 (word_bounds text.now) }
         ensures reached { result.reached ≡ 0 }
     {
         WordBreaks {
@@ -45,13 +45,13 @@ impl<'t> WordBreaks<'t> {
         }
     }
 
-    /// The first break behind a place, of the piece that was broken last. Those before it are passed.
+    /// The first break after a place, of the piece that was broken last. Those before it are passed.
     fn first_in_hand(&mut self, from: usize) -> Option<usize>
         requires { All IsSmall (in_hand self.old) }
-        ensures hand { in_hand self.new ≡ left_behind from (in_hand self.old) }
-        ensures pieces { pieces_left self.new ≡ pieces_left self.old }
+        ensures hand { in_hand self.new ≡ places_after from (in_hand self.old) }
+        ensures pieces { remaining_pieces self.new ≡ remaining_pieces self.old }
         ensures reached { self.new.reached ≡ self.old.reached }
-        ensures first { result ≡ head (in_hand self.new) }
+        ensures first { result ≡ first_place (in_hand self.new) }
     {
         while self.passed < self.breaks.len() {
             let place = self.offset + self.breaks[self.passed];
@@ -66,17 +66,17 @@ impl<'t> WordBreaks<'t> {
     /// Takes the next piece, and where it begins.
     fn next_piece(&mut self) -> Option<(usize, &'t str)>
         ensures hand { in_hand self.new ≡ in_hand self.old }
-        ensures pieces { pieces_left self.old ≡ next_then result (pieces_left self.new) }
-        ensures end { result ≡ None → pieces_left self.new ≡ [] }
+        ensures pieces { remaining_pieces self.old ≡ next_then result (remaining_pieces self.new) }
+        ensures end { result ≡ None → remaining_pieces self.new ≡ [] }
         ensures reached { self.new.reached ≡ self.old.reached }
     {
         self.pieces.next()
     }
 
-    /// The first break behind a place; none, where no piece that begins before a bound has one.
+    /// The first break after a place; none, where no piece that begins before a bound has one.
     ///
-    /// Those behind the place stay. After an `Err`, which says that memory was refused, nothing is known of them.
-    pub(crate) fn first_behind<'h, H: Hyphenator<'h, Opportunity = usize>>(
+    /// Those after the place stay. After an `Err`, which says that memory was refused, nothing is known of them.
+    pub(crate) fn first_after<'h, H: Hyphenator<'h, Opportunity = usize>>(
         &mut self,
         alloc: Global,
         dictionary: &'h H,
@@ -87,11 +87,11 @@ impl<'t> WordBreaks<'t> {
         ensures order { IfOk result (λ _. InOrder (H.breaks_of dictionary.now) self.new) }
         ensures stay { IfOk result (λ _.
             (p : ℕ) → from < p
-            → is_in p (to_come (H.breaks_of dictionary.now) self.new)
-            ≡ is_in p (to_come (H.breaks_of dictionary.now) self.old)) }
+            → is_in p (remaining_breaks (H.breaks_of dictionary.now) self.new)
+            ≡ is_in p (remaining_breaks (H.breaks_of dictionary.now) self.old)) }
         ensures first { IfOk result (λ first.
-            MatchOption first (NoneWithin (to_come (H.breaks_of dictionary.now) self.new) from until)
-            (IsFirstBehind (to_come (H.breaks_of dictionary.now) self.new) from)) }
+            MatchOption first (NoneWithin (remaining_breaks (H.breaks_of dictionary.now) self.new) from until)
+            (IsFirstAfter (remaining_breaks (H.breaks_of dictionary.now) self.new) from)) }
     {
         loop {
             if let Some(place) = self.first_in_hand(from) {

@@ -177,7 +177,7 @@ two_lines before inside = lines (line_after 1 before) inside ∙ ap (λ (l : ℕ
     moved : (a b : ℕ) → (1 + a) + b ≡ (a + b) + 1
     moved a b = omega arith
 
--- and behind it
+-- and after it
 pub found-group : (group : Group) (before inside after : List ℕ) → IsOutside before → IsInside inside
     → groups (pieces_of (before ++ opening group ++ inside ++ codes "}" ++ after))
     ≡ found_later (line_feeds before + line_feeds inside) (words_between group (1 + line_feeds before) inside) (groups (pieces_of after))

@@ -4,7 +4,7 @@ use Rattle.std.proofs.lemmas.List.{append-nil, map-append}
 use Rattle.std.specs.Prelude.{codes, option_map}
 use Rattle.hyphenation_commons.specs.Lines.{same}
 use Rattle.hyphenation_commons.proofs.Tied.{same_text}
-use Rattle.pattern_files.specs.Groups.{Piece, GroupWord, Found, behind, with_piece, with_piece_at, closed_at, groups, nothing_found, with_plain, plain_words}
+use Rattle.pattern_files.specs.Groups.{Piece, GroupWord, Found, place_after, with_piece, with_piece_at, closed_at, groups, nothing_found, with_plain, plain_words}
 use Rattle.pattern_files.specs.declared.fault.Cause.{Cause}
 use Rattle.pattern_files.specs.declared.fault.Cause.TheVariants.{Input, Unclosed}
 use Rattle.pattern_files.specs.declared.group.Group.{Group}
@@ -74,7 +74,7 @@ plain_from group words (p ∷ ps) = taken_plain (length p.text == 0) group words
 pub plain-picked : (group : Group) (ps : List Piece) → plain_words group ps ≡ picked group ps
 plain-picked group ps = plain_from group [] ps
 
--- ---- The same behind other words, and lines later.
+-- ---- The same after other words, and lines later.
 
 abbrev pub place_later : ℕ → Place → Place
 place_later n Outside = Outside
@@ -84,8 +84,8 @@ place_later n (Within group opened) = Within group (n + opened)
 abbrev pub found_later : ℕ → List GroupWord → Found → Found
 found_later n front f = record { words = front ++ words_later n f.words; place = place_later n f.place; at_end = f.at_end; fault = fault_later n f.fault }
 
-behind_later : (n : ℕ) (text : List ℕ) → place_later n (behind text) ≡ behind text
-behind_later n text = by (same text (codes "\\patterns")) (same text (codes "\\hyphenation"))
+after_later : (n : ℕ) (text : List ℕ) → place_later n (place_after text) ≡ place_after text
+after_later n text = by (same text (codes "\\patterns")) (same text (codes "\\hyphenation"))
   where
     by : (a b : Bool) → place_later n (if a then Before Patterns else (if b then Before Exceptions else Outside)) ≡ (if a then Before Patterns else (if b then Before Exceptions else Outside))
     by true b = refl
@@ -98,16 +98,16 @@ chosen_later n front false f g h k e d = d
 
 at_later : (n : ℕ) (front : List GroupWord) (place : Place) (f : Found) (p : Piece) → with_piece_at (place_later n place) (found_later n front f) (piece_later n p) ≡ found_later n front (with_piece_at place f p)
 at_later n front Outside f p =
-    chosen_later n front (same p.text (codes "\\input")) (record f { at_end = true; fault = Some (p.line, Input) }) (if same p.text (codes "\\endinput") then record f { at_end = true } else record f { place = behind p.text })
-    (record (found_later n front f) { at_end = true; fault = Some (n + p.line, Input) }) (if same p.text (codes "\\endinput") then record (found_later n front f) { at_end = true } else record (found_later n front f) { place = behind p.text })
+    chosen_later n front (same p.text (codes "\\input")) (record f { at_end = true; fault = Some (p.line, Input) }) (if same p.text (codes "\\endinput") then record f { at_end = true } else record f { place = place_after p.text })
+    (record (found_later n front f) { at_end = true; fault = Some (n + p.line, Input) }) (if same p.text (codes "\\endinput") then record (found_later n front f) { at_end = true } else record (found_later n front f) { place = place_after p.text })
     refl
-    (chosen_later n front (same p.text (codes "\\endinput")) (record f { at_end = true }) (record f { place = behind p.text }) (record (found_later n front f) { at_end = true }) (record (found_later n front f) { place = behind p.text })
-    refl (ap (λ (q : Place). record (found_later n front f) { place = q }) (sym (behind_later n p.text))))
+    (chosen_later n front (same p.text (codes "\\endinput")) (record f { at_end = true }) (record f { place = place_after p.text }) (record (found_later n front f) { at_end = true }) (record (found_later n front f) { place = place_after p.text })
+    refl (ap (λ (q : Place). record (found_later n front f) { place = q }) (sym (after_later n p.text))))
 at_later n front (Before group) f p = by (same p.text (codes "{"))
   where
-    by : (t : Bool) → record (found_later n front f) { place = if t then Within group (n + p.line) else behind p.text } ≡ found_later n front (record f { place = if t then Within group p.line else behind p.text })
+    by : (t : Bool) → record (found_later n front f) { place = if t then Within group (n + p.line) else place_after p.text } ≡ found_later n front (record f { place = if t then Within group p.line else place_after p.text })
     by true = refl
-    by false = ap (λ (q : Place). record (found_later n front f) { place = q }) (sym (behind_later n p.text))
+    by false = ap (λ (q : Place). record (found_later n front f) { place = q }) (sym (after_later n p.text))
 at_later n front (Within group opened) f p =
     chosen_later n front (same p.text (codes "}")) (record f { place = Outside }) (record f { words = f.words ++ word group p ∷ [] })
     (record (found_later n front f) { place = Outside }) (record (found_later n front f) { words = (front ++ words_later n f.words) ++ word group (piece_later n p) ∷ [] })
@@ -131,7 +131,7 @@ closed_later n front (Within group opened) f = refl
 abbrev pub closed : Found → Found
 closed f = closed_at f.place f
 
--- what stands behind a group
+-- what stands after a group
 pub groups-later : (n : ℕ) (front : List GroupWord) (ps : List Piece) → closed (fold with_piece (found_at front Outside) (map (piece_later n) ps)) ≡ found_later n front (groups ps)
 groups-later n front ps =
     ap (λ (ws : List GroupWord). closed (fold with_piece (found_at ws Outside) (map (piece_later n) ps))) (sym (append-nil front))

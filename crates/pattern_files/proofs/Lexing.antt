@@ -1,11 +1,11 @@
--- The pieces of a text, told from its first byte on, and what bytes within it mean for those behind.
+-- The pieces of a text, told from its first byte on, and what bytes within it mean for those after.
 use Rattle.std.proofs.Common.{◌≡◌, ◌∙◌, ℕ, ◌+◌, ◌==◌, ◌||◌, Bool, true, false, if◌then◌else◌, List, [], ◌∷◌, ◌++◌, map, fold, refl, sym, ap, subst, append_assoc, arith}
 use Rattle.std.proofs.lemmas.List.{append-nil}
 use Rattle.std.proofs.lemmas.List.Sums.{fold-append}
 use Rattle.std.specs.Prelude.{codes}
 use Rattle.hyphenation_commons.specs.Lines.{same}
 use Rattle.pattern_files.specs.Converting.{words_of, group_fault}
-use Rattle.pattern_files.specs.Groups.{groups, plain_words, Piece, Lexed, ended, with_byte, nothing_lexed, pieces_of, is_space, is_brace}
+use Rattle.pattern_files.specs.Groups.{groups, plain_words, Piece, Lexed, with_piece_ended, with_byte, nothing_lexed, pieces_of, is_space, is_brace}
 use Rattle.pattern_files.specs.declared.group.Form.{Form}
 use Rattle.pattern_files.specs.declared.group.Form.TheVariants.{Tex, Plain}
 use Rattle.pattern_files.specs.TexFiles.{HasNo, line_feeds}
@@ -16,9 +16,9 @@ piece line text = record { line = line; text = text }
 -- a byte, by its tests: whether it ends a line, is of a comment, is white space, a brace, a backslash
 abbrev stepped : (f c s e k : Bool) → Lexed → ℕ → Lexed
 stepped f c s e k r b =
-    if f then record (ended r []) { line = r.line + 1; in_comment = false }
+    if f then record (with_piece_ended r []) { line = r.line + 1; in_comment = false }
     else (if c then record r { in_comment = true }
-    else (if s then ended r [] else (if e then ended (ended r (b ∷ [])) [] else (if k then ended r (b ∷ []) else record r { last = r.last ++ b ∷ [] }))))
+    else (if s then with_piece_ended r [] else (if e then with_piece_ended (with_piece_ended r (b ∷ [])) [] else (if k then with_piece_ended r (b ∷ []) else record r { last = r.last ++ b ∷ [] }))))
 
 abbrev pub lexed : (f c s e k : Bool) → ℕ → Bool → List ℕ → ℕ → (ℕ → Bool → List ℕ → List Piece) → List Piece
 lexed f c s e k line inside last b rest =
@@ -28,7 +28,7 @@ lexed f c s e k line inside last b rest =
     else (if e then piece line last ∷ piece line (b ∷ []) ∷ rest line inside []
     else (if k then piece line last ∷ rest line inside (b ∷ []) else rest line inside (last ++ b ∷ [])))))
 
--- the pieces of bytes on that line, in a comment or not, behind what the last piece has
+-- the pieces of bytes on that line, in a comment or not, after what the last piece has
 abbrev pub lex : ℕ → Bool → List ℕ → List ℕ → List Piece
 lex line inside last [] = piece line last ∷ []
 lex line inside last (b ∷ bs) = lexed (b == 10) (inside || b == 37) (is_space b) (is_brace b) (b == 92) line inside last b (λ l i t. lex l i t bs)
@@ -45,7 +45,7 @@ one false false false true k r b bs =
 one false false false false true r b bs = append_assoc r.pieces (piece r.line r.last ∷ []) (lex r.line r.in_comment (b ∷ []) bs)
 one false false false false false r b bs = refl
 
-lex-fold : (r : Lexed) (bs : List ℕ) → (ended (fold with_byte r bs) []).pieces ≡ r.pieces ++ lex r.line r.in_comment r.last bs
+lex-fold : (r : Lexed) (bs : List ℕ) → (with_piece_ended (fold with_byte r bs) []).pieces ≡ r.pieces ++ lex r.line r.in_comment r.last bs
 lex-fold r [] = refl
 lex-fold r (b ∷ bs) = lex-fold (with_byte r b) bs ∙ one (b == 10) (r.in_comment || b == 37) (is_space b) (is_brace b) (b == 92) r b bs
 
@@ -88,7 +88,7 @@ other_byte c b bs free = by (b == c) refl
     by true e = let is : b ≡ c = grind (arith, e) in absurd (free [] bs (ap (λ (x : ℕ). x ∷ bs) is))
     by false e = e
 
--- ---- A byte that ends a piece, behind a text without comments.
+-- ---- A byte that ends a piece, after a text without comments.
 
 abbrev pub line_after : ℕ → List ℕ → ℕ
 line_after line [] = line
@@ -170,7 +170,7 @@ flat5 a b c d e = flat4 (a ++ b) c d e ∙ flat3 a b (c ++ (d ++ e))
 pub pieces-comment : (before comment after : List ℕ) → HasNo (codes "\n") comment → pieces_of (before ++ codes "%" ++ comment ++ codes "\n" ++ after) ≡ pieces_of (before ++ codes "\n" ++ after)
 pieces-comment before comment after free =
     ap pieces_of (flat5 before (codes "%") comment (codes "\n") after)
-    ∙ ap (λ (r : Lexed). (ended r []).pieces)
+    ∙ ap (λ (r : Lexed). (with_piece_ended r []).pieces)
     (fold-append with_byte nothing_lexed before (37 ∷ (comment ++ 10 ∷ after))
     ∙ ap (λ (r : Lexed). fold with_byte r (comment ++ 10 ∷ after)) (begun (fold with_byte nothing_lexed before))
     ∙ fold-append with_byte (commented (fold with_byte nothing_lexed before)) comment (10 ∷ after)
@@ -181,7 +181,7 @@ pieces-comment before comment after free =
 pub pieces-last_comment : (before comment : List ℕ) → HasNo (codes "\n") comment → pieces_of (before ++ codes "%" ++ comment) ≡ pieces_of before
 pieces-last_comment before comment free =
     ap pieces_of (flat3 before (codes "%") comment)
-    ∙ ap (λ (r : Lexed). (ended r []).pieces)
+    ∙ ap (λ (r : Lexed). (with_piece_ended r []).pieces)
     (fold-append with_byte nothing_lexed before (37 ∷ comment)
     ∙ ap (λ (r : Lexed). fold with_byte r comment) (begun (fold with_byte nothing_lexed before))
     ∙ fold-comment (fold with_byte nothing_lexed before) comment free)

@@ -7,7 +7,7 @@ use Rattle.hyphenation_commons.specs.Break.{Break, Change, plain, is_boundary}
 use Rattle.hyphenation_commons.specs.Kept.{has_letter, are_entries, are_listed, is_value, stays_within, lists_within}
 use Rattle.hyphenation_commons.specs.Made.{fits_key}
 use Rattle.hyphenation_commons.specs.declared.dictionary.Entry.{Entry}
-use Rattle.pattern_files.specs.Spelling.{letters, values_from, entries, entry_of, carries_nothing, unhyphenated, hyphens_from, breaks, letter_cause, keeps_characters}
+use Rattle.pattern_files.specs.Spelling.{letters, digit_values, entries_of_digits, entry_without_change, carries_nothing, unhyphenated, hyphens_from, breaks_of_hyphens, letter_cause, keeps_characters}
 use Rattle.pattern_files.specs.declared.fault.Cause.{Cause}
 use Rattle.pattern_files.specs.declared.fault.Cause.TheVariants.{NotUtf8}
 use Rattle.pattern_files.specs.declared.group.Group.TheVariants.{Patterns, Exceptions}
@@ -17,19 +17,19 @@ either (inl a) = a
 either (inr a) = a
 
 -- entries without changes fit in each kind of dictionary alike
-pub same_entries : {C : Type 0} (change_of : C → Option Change) (carries : Option Change → C) → change_of (carries None) ≡ None → (key : List ℕ) (least : ℕ) (vs : List (ℕ × ℕ))
-    → are_entries change_of key least (map (entry_of carries) vs) ≡ are_entries (λ (change : Option Change). change) key least (map (entry_of carries_nothing) vs)
-same_entries change_of carries none key least [] = refl
-same_entries {C} change_of carries none key least (v ∷ vs) =
-    ap (λ o. nat_le least v.0 && is_boundary key v.0 && is_value v.1 && stays_within key v.0 o && are_entries change_of key (v.0 + 1) (map (entry_of carries) vs)) none
-    ∙ ap (λ r. nat_le least v.0 && is_boundary key v.0 && is_value v.1 && true && r) (same_entries change_of carries none key (v.0 + 1) vs)
+pub same_entries : {C : Type 0} (change_of : C → Option Change) (payload_of : Option Change → C) → change_of (payload_of None) ≡ None → (key : List ℕ) (least : ℕ) (vs : List (ℕ × ℕ))
+    → are_entries change_of key least (map (entry_without_change payload_of) vs) ≡ are_entries (λ (change : Option Change). change) key least (map (entry_without_change carries_nothing) vs)
+same_entries change_of payload_of none key least [] = refl
+same_entries {C} change_of payload_of none key least (v ∷ vs) =
+    ap (λ o. nat_le least v.0 && is_boundary key v.0 && is_value v.1 && stays_within key v.0 o && are_entries change_of key (v.0 + 1) (map (entry_without_change payload_of) vs)) none
+    ∙ ap (λ r. nat_le least v.0 && is_boundary key v.0 && is_value v.1 && true && r) (same_entries change_of payload_of none key (v.0 + 1) vs)
 
-pub same_breaks : {B : Type 0} (break_of : B → Break) (lists : Break → B) → ((place : ℕ) → break_of (lists (plain place)) ≡ plain place) → (word : List ℕ) (least : ℕ) (ps : List ℕ)
-    → are_listed break_of word least (map (λ place. lists (plain place)) ps) ≡ are_listed plain word least ps
-same_breaks break_of lists same word least [] = refl
-same_breaks {B} break_of lists same word least (p ∷ ps) =
-    ap (λ b. nat_le least b.place && is_boundary word b.place && lists_within word b.place b.change && are_listed break_of word (b.place + 1) (map (λ place. lists (plain place)) ps)) (same p)
-    ∙ ap (λ r. nat_le least p && is_boundary word p && lists_within word p None && r) (same_breaks break_of lists same word (p + 1) ps)
+pub same_breaks : {B : Type 0} (break_of : B → Break) (listing_of : Break → B) → ((place : ℕ) → break_of (listing_of (plain place)) ≡ plain place) → (word : List ℕ) (least : ℕ) (ps : List ℕ)
+    → are_listed break_of word least (map (λ place. listing_of (plain place)) ps) ≡ are_listed plain word least ps
+same_breaks break_of listing_of same word least [] = refl
+same_breaks {B} break_of listing_of same word least (p ∷ ps) =
+    ap (λ b. nat_le least b.place && is_boundary word b.place && lists_within word b.place b.change && are_listed break_of word (b.place + 1) (map (λ place. listing_of (plain place)) ps)) (same p)
+    ∙ ap (λ r. nat_le least p && is_boundary word p && lists_within word p None && r) (same_breaks break_of listing_of same word (p + 1) ps)
 
 pub bad_letters : (text : List ℕ) → has_letter (letters text) ≡ true → is_utf8 (letters text) ≡ false → letter_cause Patterns text ≡ Some NotUtf8
 bad_letters text l u = rw (l, u) refl
@@ -55,22 +55,22 @@ on t false u et h = absurd (no (h.0 et))
     no x = cc
 
 -- a key that can't have its entries
-pub bad_entries : {C : Type 0} (change_of : C → Option Change) (carries : Option Change → C) (text key : List ℕ) (es : List (Entry C)) (t : Bool) → change_of (carries None) ≡ None
-    → key ≡ letters text → es ≡ entries carries text → has_letter (letters text) ≡ true → is_utf8 (letters text) ≡ true → IsTrue t ↔ IsTrue (fits_key change_of key es) → t ≡ false
+pub bad_entries : {C : Type 0} (change_of : C → Option Change) (payload_of : Option Change → C) (text key : List ℕ) (es : List (Entry C)) (t : Bool) → change_of (payload_of None) ≡ None
+    → key ≡ letters text → es ≡ entries_of_digits payload_of text → has_letter (letters text) ≡ true → is_utf8 (letters text) ≡ true → IsTrue t ↔ IsTrue (fits_key change_of key es) → t ≡ false
     → letter_cause Patterns text ≡ Some NotUtf8
-bad_entries change_of carries text key es t none hk he l u fits e =
-    let is : fits_key change_of key es ≡ (has_letter (letters text) && are_entries change_of (letters text) 0 (entries carries text)) = rw (hk, he) refl in
-    let so : IsTrue t ↔ IsTrue (has_letter (letters text) && are_entries change_of (letters text) 0 (entries carries text)) = subst (λ (b : Bool). IsTrue t ↔ IsTrue b) is fits in
-    let none_fit = sym (same_entries change_of carries none (letters text) 0 (values_from 0 text)) ∙ off t (has_letter (letters text)) (are_entries change_of (letters text) 0 (entries carries text)) e l so in
+bad_entries change_of payload_of text key es t none hk he l u fits e =
+    let is : fits_key change_of key es ≡ (has_letter (letters text) && are_entries change_of (letters text) 0 (entries_of_digits payload_of text)) = rw (hk, he) refl in
+    let so : IsTrue t ↔ IsTrue (has_letter (letters text) && are_entries change_of (letters text) 0 (entries_of_digits payload_of text)) = subst (λ (b : Bool). IsTrue t ↔ IsTrue b) is fits in
+    let none_fit = sym (same_entries change_of payload_of none (letters text) 0 (digit_values 0 text)) ∙ off t (has_letter (letters text)) (are_entries change_of (letters text) 0 (entries_of_digits payload_of text)) e l so in
     rw (l, u, none_fit) refl
 
-pub good_entries : {C : Type 0} (change_of : C → Option Change) (carries : Option Change → C) (text key : List ℕ) (es : List (Entry C)) (t : Bool) → change_of (carries None) ≡ None
-    → key ≡ letters text → es ≡ entries carries text → has_letter (letters text) ≡ true → is_utf8 (letters text) ≡ true → IsTrue t ↔ IsTrue (fits_key change_of key es) → t ≡ true
+pub good_entries : {C : Type 0} (change_of : C → Option Change) (payload_of : Option Change → C) (text key : List ℕ) (es : List (Entry C)) (t : Bool) → change_of (payload_of None) ≡ None
+    → key ≡ letters text → es ≡ entries_of_digits payload_of text → has_letter (letters text) ≡ true → is_utf8 (letters text) ≡ true → IsTrue t ↔ IsTrue (fits_key change_of key es) → t ≡ true
     → letter_cause Patterns text ≡ None
-good_entries change_of carries text key es t none hk he l u fits e =
-    let is : fits_key change_of key es ≡ (has_letter (letters text) && are_entries change_of (letters text) 0 (entries carries text)) = rw (hk, he) refl in
-    let so : IsTrue t ↔ IsTrue (has_letter (letters text) && are_entries change_of (letters text) 0 (entries carries text)) = subst (λ (b : Bool). IsTrue t ↔ IsTrue b) is fits in
-    let all_fit = sym (same_entries change_of carries none (letters text) 0 (values_from 0 text)) ∙ on t (has_letter (letters text)) (are_entries change_of (letters text) 0 (entries carries text)) e so in
+good_entries change_of payload_of text key es t none hk he l u fits e =
+    let is : fits_key change_of key es ≡ (has_letter (letters text) && are_entries change_of (letters text) 0 (entries_of_digits payload_of text)) = rw (hk, he) refl in
+    let so : IsTrue t ↔ IsTrue (has_letter (letters text) && are_entries change_of (letters text) 0 (entries_of_digits payload_of text)) = subst (λ (b : Bool). IsTrue t ↔ IsTrue b) is fits in
+    let all_fit = sym (same_entries change_of payload_of none (letters text) 0 (digit_values 0 text)) ∙ on t (has_letter (letters text)) (are_entries change_of (letters text) 0 (entries_of_digits payload_of text)) e so in
     rw (l, u, all_fit) refl
 
 pub bad_word : (text : List ℕ) → is_utf8 (unhyphenated text) ≡ false → letter_cause Exceptions text ≡ Some NotUtf8
@@ -79,18 +79,18 @@ bad_word text u = rw u refl
 off_one : (t u : Bool) → t ≡ false → IsTrue t ↔ IsTrue u → u ≡ false
 off_one t u e h = off t true u e refl h
 
-pub bad_breaks : {B : Type 0} (break_of : B → Break) (lists : Break → B) (text word : List ℕ) (bs : List B) (t : Bool) → ((place : ℕ) → break_of (lists (plain place)) ≡ plain place)
-    → word ≡ unhyphenated text → bs ≡ breaks lists text → is_utf8 (unhyphenated text) ≡ true → IsTrue t ↔ IsTrue (are_listed break_of word 0 bs) → t ≡ false
+pub bad_breaks : {B : Type 0} (break_of : B → Break) (listing_of : Break → B) (text word : List ℕ) (bs : List B) (t : Bool) → ((place : ℕ) → break_of (listing_of (plain place)) ≡ plain place)
+    → word ≡ unhyphenated text → bs ≡ breaks_of_hyphens listing_of text → is_utf8 (unhyphenated text) ≡ true → IsTrue t ↔ IsTrue (are_listed break_of word 0 bs) → t ≡ false
     → letter_cause Exceptions text ≡ Some NotUtf8
-bad_breaks break_of lists text word bs t same hw hb u fits e =
-    let is : are_listed break_of word 0 bs ≡ are_listed break_of (unhyphenated text) 0 (breaks lists text) = rw (hw, hb) refl in
-    let none_fit = sym (same_breaks break_of lists same (unhyphenated text) 0 (hyphens_from 0 text)) ∙ sym is ∙ off_one t (are_listed break_of word 0 bs) e fits in
+bad_breaks break_of listing_of text word bs t same hw hb u fits e =
+    let is : are_listed break_of word 0 bs ≡ are_listed break_of (unhyphenated text) 0 (breaks_of_hyphens listing_of text) = rw (hw, hb) refl in
+    let none_fit = sym (same_breaks break_of listing_of same (unhyphenated text) 0 (hyphens_from 0 text)) ∙ sym is ∙ off_one t (are_listed break_of word 0 bs) e fits in
     rw (u, none_fit) refl
 
-pub good_breaks : {B : Type 0} (break_of : B → Break) (lists : Break → B) (text word : List ℕ) (bs : List B) (t : Bool) → ((place : ℕ) → break_of (lists (plain place)) ≡ plain place)
-    → word ≡ unhyphenated text → bs ≡ breaks lists text → is_utf8 (unhyphenated text) ≡ true → IsTrue t ↔ IsTrue (are_listed break_of word 0 bs) → t ≡ true
+pub good_breaks : {B : Type 0} (break_of : B → Break) (listing_of : Break → B) (text word : List ℕ) (bs : List B) (t : Bool) → ((place : ℕ) → break_of (listing_of (plain place)) ≡ plain place)
+    → word ≡ unhyphenated text → bs ≡ breaks_of_hyphens listing_of text → is_utf8 (unhyphenated text) ≡ true → IsTrue t ↔ IsTrue (are_listed break_of word 0 bs) → t ≡ true
     → letter_cause Exceptions text ≡ None
-good_breaks break_of lists text word bs t same hw hb u fits e =
-    let is : are_listed break_of word 0 bs ≡ are_listed break_of (unhyphenated text) 0 (breaks lists text) = rw (hw, hb) refl in
-    let all_fit = sym (same_breaks break_of lists same (unhyphenated text) 0 (hyphens_from 0 text)) ∙ sym is ∙ fits.0 e in
+good_breaks break_of listing_of text word bs t same hw hb u fits e =
+    let is : are_listed break_of word 0 bs ≡ are_listed break_of (unhyphenated text) 0 (breaks_of_hyphens listing_of text) = rw (hw, hb) refl in
+    let all_fit = sym (same_breaks break_of listing_of same (unhyphenated text) 0 (hyphens_from 0 text)) ∙ sym is ∙ fits.0 e in
     rw (u, all_fit) refl

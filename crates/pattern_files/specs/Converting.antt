@@ -4,10 +4,10 @@ use Rattle.std.specs.Option.{option_or}
 use Rattle.std.specs.List.{filter_map}
 use Rattle.hyphenation_commons.specs.Break.{Break, Change}
 use Rattle.hyphenation_commons.specs.Dictionary.{Contents}
-use Rattle.hyphenation_commons.specs.Made.{last_said}
+use Rattle.hyphenation_commons.specs.Made.{map_of_pairs}
 use Rattle.hyphenation_commons.specs.declared.dictionary.Entry.{Entry}
 use Rattle.pattern_files.specs.Groups.{GroupWord, groups, plain_words, pieces_of}
-use Rattle.pattern_files.specs.Spelling.{cause_of, pattern_of, exception_of}
+use Rattle.pattern_files.specs.Spelling.{word_cause, pattern_in, exception_in}
 use Rattle.pattern_files.specs.declared.fault.Cause.{Cause}
 use Rattle.pattern_files.specs.declared.fault.Cause.TheVariants.{Nothing}
 use Rattle.pattern_files.specs.declared.fault.LineFault.{LineFault}
@@ -33,15 +33,15 @@ group_fault Tex bytes = (groups (pieces_of bytes)).fault
 group_fault (Plain group) bytes = None
 
 -- What words spell.
-abbrev pub spelled : {C B : Type 0} → (Option Change → C) → (Break → B) → List GroupWord → Spelled C B
-spelled carries lists words = record {
-  patterns = filter_map (λ w. pattern_of carries w.group w.text) words;
-  exceptions = filter_map (λ w. exception_of lists w.group w.text) words;
+abbrev pub words_spelled : {C B : Type 0} → (Option Change → C) → (Break → B) → List GroupWord → Spelled C B
+words_spelled payload_of listing_of words = record {
+  patterns = filter_map (λ w. pattern_in payload_of w.group w.text) words;
+  exceptions = filter_map (λ w. exception_in listing_of w.group w.text) words;
 }
 
 -- One after the other.
-abbrev pub followed : {C B : Type 0} → Spelled C B → Spelled C B → Spelled C B
-followed first more = record {
+abbrev pub one_after_other : {C B : Type 0} → Spelled C B → Spelled C B → Spelled C B
+one_after_other first more = record {
   patterns = first.patterns ++ more.patterns;
   exceptions = first.exceptions ++ more.exceptions;
 }
@@ -50,7 +50,7 @@ followed first more = record {
 abbrev pub first_fault : List GroupWord → Option (ℕ × Cause)
 first_fault [] = None
 first_fault (word ∷ words) =
-    option_or (option_map (λ cause. (word.line, cause)) (cause_of word.group word.text)) (first_fault words)
+    option_or (option_map (λ cause. (word.line, cause)) (word_cause word.group word.text)) (first_fault words)
 
 -- A file without a pattern and without an exception is faulty.
 abbrev pub empty_fault : List GroupWord → Option (ℕ × Cause)
@@ -72,9 +72,9 @@ fault_from number (file ∷ files) =
 
 -- What files spell, one file after the other.
 abbrev pub spelled_in : {C B : Type 0} → (Option Change → C) → (Break → B) → List File → Spelled C B
-spelled_in carries lists [] = record { patterns = []; exceptions = [] }
-spelled_in carries lists (file ∷ files) =
-    followed (spelled carries lists (words_of file.form file.bytes.now)) (spelled_in carries lists files)
+spelled_in payload_of listing_of [] = record { patterns = []; exceptions = [] }
+spelled_in payload_of listing_of (file ∷ files) =
+    one_after_other (words_spelled payload_of listing_of (words_of file.form file.bytes.now)) (spelled_in payload_of listing_of files)
 
 -- A key with its entries more, and a word with its breaks more.
 abbrev pub with_key : {C B : Type 0} → Spelled C B → List ℕ × List (Entry C) → Spelled C B
@@ -84,28 +84,28 @@ abbrev pub with_word : {C B : Type 0} → Spelled C B → List ℕ × List B →
 with_word now word = record { patterns = now.patterns; exceptions = now.exceptions ++ word ∷ [] }
 
 -- The dictionary of what is spelled: of a key and of a word that stands several times, the last one counts.
-abbrev pub made : {C B : Type 0} → List ℕ → ℕ → ℕ → Spelled C B → Contents C B
-made language left right all = record {
+abbrev pub contents_made : {C B : Type 0} → List ℕ → ℕ → ℕ → Spelled C B → Contents C B
+contents_made language left right all = record {
   language = language;
   left = left;
   right = right;
-  patterns = last_said all.patterns;
-  exceptions = last_said all.exceptions;
+  patterns = map_of_pairs all.patterns;
+  exceptions = map_of_pairs all.exceptions;
 }
 
 -- The dictionary of files.
-abbrev pub contents_of : {C B : Type 0} → (Option Change → C) → (Break → B) → List ℕ → ℕ → ℕ → List File
+abbrev pub contents_of_files : {C B : Type 0} → (Option Change → C) → (Break → B) → List ℕ → ℕ → ℕ → List File
     → Contents C B
-contents_of carries lists language left right files = made language left right (spelled_in carries lists files)
+contents_of_files payload_of listing_of language left right files = contents_made language left right (spelled_in payload_of listing_of files)
 
 -- Want of memory, or that very fault.
 abbrev pub IsLineFault : LineFault → Option (ℕ × Cause) → Type 0
 IsLineFault NoMemory fault = Unit {0}
 IsLineFault (OnLine line cause) fault = fault ≡ Some (line, cause)
 
-abbrev pub IsRefusal : Refusal → Option (ℕ × (ℕ × Cause)) → Type 0
-IsRefusal Memory fault = Unit {0}
-IsRefusal (Fault file line cause) fault = fault ≡ Some (file, (line, cause))
+abbrev pub IsRefusalOf : Refusal → Option (ℕ × (ℕ × Cause)) → Type 0
+IsRefusalOf Memory fault = Unit {0}
+IsRefusalOf (Fault file line cause) fault = fault ≡ Some (file, (line, cause))
 
 -- Want of memory, or a fault of the file of that number.
 abbrev pub IsOfFile : ℕ → Refusal → Type 0

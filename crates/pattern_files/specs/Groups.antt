@@ -36,25 +36,25 @@ abbrev pub nothing_lexed : Lexed
 nothing_lexed = record { line = 1; in_comment = false; pieces = []; last = [] }
 
 -- The piece that goes on ends, and the next one begins so.
-abbrev pub ended : Lexed → List ℕ → Lexed
-ended r next = record r { pieces = r.pieces ++ (record { line = r.line; text = r.last }) ∷ []; last = next }
+abbrev pub with_piece_ended : Lexed → List ℕ → Lexed
+with_piece_ended r next = record r { pieces = r.pieces ++ (record { line = r.line; text = r.last }) ∷ []; last = next }
 
 -- White space ends a piece, a brace is a piece, and a backslash begins one. Pieces may be empty.
-abbrev pub with_sign : Lexed → ℕ → Lexed
-with_sign r b =
-    if is_space b then ended r []
-    else (if is_brace b then ended (ended r (b ∷ [])) []
-    else (if b == 92 then ended r (b ∷ []) else record r { last = r.last ++ b ∷ [] }))
+abbrev pub with_read_byte : Lexed → ℕ → Lexed
+with_read_byte r b =
+    if is_space b then with_piece_ended r []
+    else (if is_brace b then with_piece_ended (with_piece_ended r (b ∷ [])) []
+    else (if b == 92 then with_piece_ended r (b ∷ []) else record r { last = r.last ++ b ∷ [] }))
 
 -- A line feed ends a line and its comment, which a percent sign begins.
 abbrev pub with_byte : Lexed → ℕ → Lexed
 with_byte r b =
-    if b == 10 then record (ended r []) { line = r.line + 1; in_comment = false }
-    else (if r.in_comment || b == 37 then record r { in_comment = true } else with_sign r b)
+    if b == 10 then record (with_piece_ended r []) { line = r.line + 1; in_comment = false }
+    else (if r.in_comment || b == 37 then record r { in_comment = true } else with_read_byte r b)
 
 -- The pieces of a file.
 abbrev pub pieces_of : List ℕ → List Piece
-pieces_of bytes = (ended (fold with_byte nothing_lexed bytes) []).pieces
+pieces_of bytes = (with_piece_ended (fold with_byte nothing_lexed bytes) []).pieces
 
 -- ---- Groups.
 
@@ -64,8 +64,8 @@ pub record GroupWord : Type 0 where
   pub group : Group
   pub text : List ℕ
 
-abbrev pub shown_word : Word → GroupWord
-shown_word word = record { line = word.line; group = word.group; text = word.text.items }
+abbrev pub word_view : Word → GroupWord
+word_view word = record { line = word.line; group = word.group; text = word.text.items }
 
 -- The words of groups, where the next piece stands, whether the file has come to its end, and what is wrong with the
 -- groups.
@@ -78,21 +78,21 @@ pub record Found : Type 0 where
 abbrev pub nothing_found : Found
 nothing_found = record { words = []; place = Outside; at_end = false; fault = None }
 
--- Where the next piece stands, behind one that stands outside of groups.
-abbrev pub behind : List ℕ → Place
-behind piece =
+-- Where the next piece stands, after one that stands outside of groups.
+abbrev pub place_after : List ℕ → Place
+place_after piece =
     if same piece (codes "\\patterns") then Before Patterns
     else (if same piece (codes "\\hyphenation") then Before Exceptions else Outside)
 
--- A piece that stands there. A group is what stands in braces behind its command. A file ends at `\endinput` outside of
+-- A piece that stands there. A group is what stands in braces after its command. A file ends at `\endinput` outside of
 -- groups.
 abbrev pub with_piece_at : Place → Found → Piece → Found
 with_piece_at Outside found piece =
     if same piece.text (codes "\\input") then record found { at_end = true; fault = Some (piece.line, Input) }
     else (if same piece.text (codes "\\endinput") then record found { at_end = true }
-    else record found { place = behind piece.text })
+    else record found { place = place_after piece.text })
 with_piece_at (Before group) found piece =
-    record found { place = if same piece.text (codes "{") then Within group piece.line else behind piece.text }
+    record found { place = if same piece.text (codes "{") then Within group piece.line else place_after piece.text }
 with_piece_at (Within group opened) found piece =
     if same piece.text (codes "}") then record found { place = Outside }
     else record found { words = found.words ++ (record { line = piece.line; group = group; text = piece.text }) ∷ [] }

@@ -24,12 +24,12 @@ letters [] = []
 letters (b ∷ bs) = if is_digit b then letters bs else b ∷ letters bs
 
 -- The digits of a pattern other than 0, each with the number of letters before it, and at, counted in bytes.
-abbrev pub value_at : ℕ → ℕ → List (ℕ × ℕ)
-value_at at digit = if digit == 48 then [] else (at, digit - 48) ∷ []
+abbrev pub value_of_digit : ℕ → ℕ → List (ℕ × ℕ)
+value_of_digit at digit = if digit == 48 then [] else (at, digit - 48) ∷ []
 
-abbrev pub values_from : ℕ → List ℕ → List (ℕ × ℕ)
-values_from at [] = []
-values_from at (b ∷ bs) = if is_digit b then value_at at b ++ values_from at bs else values_from (at + 1) bs
+abbrev pub digit_values : ℕ → List ℕ → List (ℕ × ℕ)
+digit_values at [] = []
+digit_values at (b ∷ bs) = if is_digit b then value_of_digit at b ++ digit_values at bs else digit_values (at + 1) bs
 
 -- The letters of a word: all but its hyphens.
 abbrev pub unhyphenated : List ℕ → List ℕ
@@ -42,29 +42,29 @@ hyphens_from at [] = []
 hyphens_from at (b ∷ bs) = if b == 45 then at ∷ hyphens_from at bs else hyphens_from (at + 1) bs
 
 -- The entries of a pattern, in a kind of dictionary that holds a change or none by carries.
-abbrev pub entry_of : {C : Type 0} → (Option Change → C) → ℕ × ℕ → Entry C
-entry_of carries v = record { place = v.0; value = v.1; change = carries None }
+abbrev pub entry_without_change : {C : Type 0} → (Option Change → C) → ℕ × ℕ → Entry C
+entry_without_change payload_of v = record { place = v.0; value = v.1; change = payload_of None }
 
-abbrev pub entries : {C : Type 0} → (Option Change → C) → List ℕ → List (Entry C)
-entries carries text = map (entry_of carries) (values_from 0 text)
+abbrev pub entries_of_digits : {C : Type 0} → (Option Change → C) → List ℕ → List (Entry C)
+entries_of_digits payload_of text = map (entry_without_change payload_of) (digit_values 0 text)
 
 -- The breaks of a word with hyphens, in a kind of dictionary that lists a break by lists.
-abbrev pub breaks : {B : Type 0} → (Break → B) → List ℕ → List B
-breaks lists text = map (λ place. lists (plain place)) (hyphens_from 0 text)
+abbrev pub breaks_of_hyphens : {B : Type 0} → (Break → B) → List ℕ → List B
+breaks_of_hyphens listing_of text = map (λ place. listing_of (plain place)) (hyphens_from 0 text)
 
 -- A word with its capitals made small, as TeX makes them, and as `hyphenate` does with a word that it looks up. What is
 -- not UTF-8 has no capitals.
-abbrev pub folded : List ℕ → List ℕ
-folded text = if is_utf8 text then fold text else text
+abbrev pub folded_text : List ℕ → List ℕ
+folded_text text = if is_utf8 text then fold text else text
 
 -- What a word of each group spells, in small letters: a key with its entries, or a word with its breaks.
-abbrev pub pattern_of : {C : Type 0} → (Option Change → C) → Group → List ℕ → Option (List ℕ × List (Entry C))
-pattern_of carries Patterns text = Some (letters (folded text), entries carries (folded text))
-pattern_of carries Exceptions text = None
+abbrev pub pattern_in : {C : Type 0} → (Option Change → C) → Group → List ℕ → Option (List ℕ × List (Entry C))
+pattern_in payload_of Patterns text = Some (letters (folded_text text), entries_of_digits payload_of (folded_text text))
+pattern_in payload_of Exceptions text = None
 
-abbrev pub exception_of : {B : Type 0} → (Break → B) → Group → List ℕ → Option (List ℕ × List B)
-exception_of lists Patterns text = None
-exception_of lists Exceptions text = Some (unhyphenated (folded text), breaks lists (folded text))
+abbrev pub exception_in : {B : Type 0} → (Break → B) → Group → List ℕ → Option (List ℕ × List B)
+exception_in listing_of Patterns text = None
+exception_in listing_of Exceptions text = Some (unhyphenated (folded_text text), breaks_of_hyphens listing_of (folded_text text))
 
 -- ---- What spells nothing.
 
@@ -93,11 +93,11 @@ abbrev pub says_place : Group → ℕ → Bool
 says_place Patterns b = is_digit b
 says_place Exceptions b = b == 45
 
--- Two of them stand in succession, behind one or not.
+-- Two of them stand in succession, after one or not.
 abbrev pub two_in_one_place : Group → Bool → List ℕ → Bool
-two_in_one_place group behind [] = false
-two_in_one_place group behind (b ∷ bs) =
-    (behind && says_place group b) || two_in_one_place group (says_place group b) bs
+two_in_one_place group after [] = false
+two_in_one_place group after (b ∷ bs) =
+    (after && says_place group b) || two_in_one_place group (says_place group b) bs
 
 abbrev pub spells_letters : Group → List ℕ → Bool
 spells_letters Patterns text = has_letter (letters text)
@@ -109,7 +109,7 @@ carries_nothing change = None
 
 abbrev pub keeps_characters : Group → List ℕ → Bool
 keeps_characters Patterns text =
-    is_utf8 (letters text) && are_entries (λ change. change) (letters text) 0 (entries carries_nothing text)
+    is_utf8 (letters text) && are_entries (λ change. change) (letters text) 0 (entries_of_digits carries_nothing text)
 keeps_characters Exceptions text =
     is_utf8 (unhyphenated text) && are_listed plain (unhyphenated text) 0 (hyphens_from 0 text)
 
@@ -126,8 +126,8 @@ letter_cause group text =
     if not (spells_letters group text) then Some NoLetters
     else (if not (keeps_characters group text) then Some NotUtf8 else None)
 
-abbrev pub cause_of : Group → List ℕ → Option Cause
-cause_of group text = option_or (sign_cause group text) (letter_cause group (folded text))
+abbrev pub word_cause : Group → List ℕ → Option Cause
+word_cause group text = option_or (sign_cause group text) (letter_cause group (folded_text text))
 
 -- Want of memory, or that very test.
 abbrev pub IsWordFault : WordFault → Option Cause → Type 0

@@ -68,19 +68,19 @@ abbrev pub IgnoresComments : {A : Type 0} → (List ℕ → A) → Type 0
 IgnoresComments read = (before comment after : List ℕ) → HasNo (codes "\n") comment
     → read (before ++ codes "%" ++ comment ++ codes "\n" ++ after) ≡ read (before ++ codes "\n" ++ after)
 
--- The same of a comment at the file's end, behind which no line ends.
+-- The same of a comment at the file's end, after which no line ends.
 abbrev pub IgnoresLastComment : {A : Type 0} → (List ℕ → A) → Type 0
 IgnoresLastComment read = (before comment : List ℕ) → HasNo (codes "\n") comment
     → read (before ++ codes "%" ++ comment) ≡ read before
 
--- A file's words are those of its first group, and then those of what is behind that.
+-- A file's words are those of its first group, and then those of what is after that.
 abbrev pub HasWordsOfFirstGroupAndRest : Type 0
 HasWordsOfFirstGroupAndRest = (group : Group) (before inside after : List ℕ) → IsOutside before → IsInside inside
     → words_of Tex (before ++ opening group ++ inside ++ codes "}" ++ after)
     ≡ words_between group (1 + line_feeds before) inside
     ++ words_later (line_feeds before + line_feeds inside) (words_of Tex after)
 
--- What is wrong with its groups is what is wrong behind the first.
+-- What is wrong with its groups is what is wrong after the first.
 abbrev pub HasFaultOfRest : Type 0
 HasFaultOfRest = (group : Group) (before inside after : List ℕ) → IsOutside before → IsInside inside
     → group_fault Tex (before ++ opening group ++ inside ++ codes "}" ++ after)
@@ -95,13 +95,13 @@ abbrev pub HasFaultOfOpenGroup : Type 0
 HasFaultOfOpenGroup = (group : Group) (before inside : List ℕ) → IsOutside before → IsInside inside
     → group_fault Tex (before ++ opening group ++ inside) ≡ Some (1 + line_feeds before, Unclosed)
 
--- Behind `\endinput` nothing is read.
-abbrev pub HasNothingBehindItsEnd : Type 0
-HasNothingBehindItsEnd = (before after : List ℕ) → IsOutside before
+-- After `\endinput` nothing is read.
+abbrev pub HasNothingAfterItsEnd : Type 0
+HasNothingAfterItsEnd = (before after : List ℕ) → IsOutside before
     → (words_of Tex (before ++ codes "\\endinput\n" ++ after) ≡ [])
     × (group_fault Tex (before ++ codes "\\endinput\n" ++ after) ≡ None)
 
--- A file that asks for another one has no words behind that, and is faulty on that line.
+-- A file that asks for another one has no words after that, and is faulty on that line.
 abbrev pub HasFaultOfInput : Type 0
 HasFaultOfInput = (before after : List ℕ) → IsOutside before
     → (words_of Tex (before ++ codes "\\input " ++ after) ≡ [])

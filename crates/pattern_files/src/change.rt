@@ -14,11 +14,11 @@ pub(crate) struct Change {
     pub substitution: String,
 }
 
-/// A range of a key, in bytes; and the place behind its first character.
+/// A range of a key, in bytes; and the place after its first character.
 #[derive(Clone, Copy, Debug)]
 struct Range {
     begin: usize,
-    behind_first: Option<usize>,
+    after_first: Option<usize>,
     end: usize,
 }
 
@@ -60,19 +60,19 @@ fn start_and_cut(key: &str, numbers: Option<&str>) -> Result<(usize, usize), Wha
     }
 }
 
-/// The range of `cut` characters from character number `start`, counted from 1 behind a first dot.
+/// The range of `cut` characters from character number `start`, counted from 1 after a first dot.
 fn range_of(key: &str, start: usize, cut: usize) -> Option<Range> {
     let dot = if key.starts_with('.') { 1 } else { 0 };
     let begin = start.checked_sub(1)?.checked_add(dot)?;
     let end = begin.checked_add(cut)?;
     Some(Range {
         begin: byte_place(key, begin)?,
-        behind_first: byte_place(key, begin.checked_add(1)?),
+        after_first: byte_place(key, begin.checked_add(1)?),
         end: byte_place(key, end)?,
     })
 }
 
-/// The place of the odd value that a change in that range belongs to, and whether there are others: the one behind
+/// The place of the odd value that a change in that range belongs to, and whether there are others: the one after
 /// the first character where there are several, else the first.
 fn place_in(values: &[Value], range: Range) -> Option<(usize, bool)> {
     let mut first = None;
@@ -85,7 +85,7 @@ fn place_in(values: &[Value], range: Range) -> Option<(usize, bool)> {
             } else {
                 first = Some(value.place);
             }
-            if range.behind_first == Some(value.place) {
+            if range.after_first == Some(value.place) {
                 chosen = Some(value.place);
             }
         }
@@ -104,7 +104,7 @@ fn halves_of(replacement: &str) -> Option<(&str, &str)> {
     }
 }
 
-/// The change that a text behind the slash spells, and whether other values could have had it; or why it can't be
+/// The change that a text after the slash spells, and whether other values could have had it; or why it can't be
 /// carried.
 pub(crate) fn change_of(
     alloc: Global,

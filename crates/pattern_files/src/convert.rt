@@ -1,7 +1,7 @@
 //! TeX's files and plain ones, made into a dictionary.
 
 ghost use Rattle.std.specs.Prelude.{◌≡◌, IfOk, OnOk, IfErr, None};
-ghost use Rattle.pattern_files.specs.Converting.{spelled, followed, spelled_in, file_fault, fault_from, contents_of, words_of, IsLineFault, IsRefusal};
+ghost use Rattle.pattern_files.specs.Converting.{words_spelled, one_after_other, spelled_in, file_fault, fault_from, contents_of_files, words_of, IsLineFault, IsRefusalOf};
 
 use crate::fault::{Cause, LineFault, Refusal};
 use crate::group::{File, Form};
@@ -9,19 +9,19 @@ use crate::notes::Note;
 use crate::parts::Parts;
 use crate::tex::words_of;
 use crate::told::notes_of;
-use hyphenation_commons::dictionary::{Carried, Dictionary, Listed};
+use hyphenation_commons::dictionary::{Payload, Dictionary, Listing};
 use hyphenation_commons::language::Language;
 use std::alloc::Global;
 
 /// Takes in what a file spells.
-fn take_file<C: Carried, B: Listed>(
+fn take_file<C: Payload, B: Listing>(
     alloc: Global,
     parts: &mut Parts<C, B>,
     form: Form,
     bytes: &[u8],
 ) -> Result<(), LineFault>
     ensures good { OnOk result (file_fault form bytes.now ≡ None) }
-    ensures taken { OnOk result (parts.new ≡ followed parts.old (spelled C.carries B.lists (words_of form bytes.now))) }
+    ensures taken { OnOk result (parts.new ≡ one_after_other parts.old (words_spelled C.payload_of B.listing_of (words_of form bytes.now))) }
     ensures refused { IfErr result (λ fault. IsLineFault fault (file_fault form bytes.now)) }
 {
     let (words, fault) = words_of(alloc, form, bytes)?;
@@ -35,14 +35,14 @@ fn take_file<C: Carried, B: Listed>(
 
 /// Takes in what files spell, one after the other.
 #[tactic(auto, using(crate::proofs::Gathering::file_taken))]
-fn take_files<C: Carried, B: Listed>(
+fn take_files<C: Payload, B: Listing>(
     alloc: Global,
     parts: &mut Parts<C, B>,
     files: &[File<'_>],
 ) -> Result<(), Refusal>
     ensures good { OnOk result (fault_from 0 files.now ≡ None) }
-    ensures taken { OnOk result (parts.new ≡ followed parts.old (spelled_in C.carries B.lists files.now)) }
-    ensures refused { IfErr result (λ refusal. IsRefusal refusal (fault_from 0 files.now)) }
+    ensures taken { OnOk result (parts.new ≡ one_after_other parts.old (spelled_in C.payload_of B.listing_of files.now)) }
+    ensures refused { IfErr result (λ refusal. IsRefusalOf refusal (fault_from 0 files.now)) }
 {
     let mut number: usize = 0;
     for file in files {
@@ -66,7 +66,7 @@ fn take_files<C: Carried, B: Listed>(
 /// with its breaks, in small letters; of a key and of a word that stands several times, the last one counts. Else the
 /// refusal names the first fault: the file, the line, and the first test that the word there fails. A refusal for want
 /// of memory says nothing of the files.
-pub fn convert<C: Carried, B: Listed>(
+pub fn convert<C: Payload, B: Listing>(
     alloc: Global,
     language: Language,
     left: u8,
@@ -74,8 +74,8 @@ pub fn convert<C: Carried, B: Listed>(
     files: &[File<'_>],
 ) -> Result<Dictionary<C, B>, Refusal>
     ensures good { OnOk result (fault_from 0 files.now ≡ None) }
-    ensures contents { IfOk result (λ d. d ≡ contents_of C.carries B.lists language left right files.now) }
-    ensures refused { IfErr result (λ refusal. IsRefusal refusal (fault_from 0 files.now)) }
+    ensures contents { IfOk result (λ d. d ≡ contents_of_files C.payload_of B.listing_of language left right files.now) }
+    ensures refused { IfErr result (λ refusal. IsRefusalOf refusal (fault_from 0 files.now)) }
 {
     let mut parts = Parts::new(alloc);
     take_files(alloc, &mut parts, files)?;
@@ -84,13 +84,13 @@ pub fn convert<C: Carried, B: Listed>(
 
 /// A dictionary that was made of files, and what there is to note of them.
 #[derive(Drop)]
-pub struct Converted<C: Carried, B: Listed> {
+pub struct Converted<C: Payload, B: Listing> {
     pub dictionary: Dictionary<C, B>,
     pub notes: Vec<Note>,
 }
 
 /// The same dictionary as by [`convert`], and with it what was decided, each sort of thing with its first line.
-pub fn convert_with_notes<C: Carried, B: Listed>(
+pub fn convert_with_notes<C: Payload, B: Listing>(
     alloc: Global,
     language: Language,
     left: u8,
@@ -98,8 +98,8 @@ pub fn convert_with_notes<C: Carried, B: Listed>(
     files: &[File<'_>],
 ) -> Result<Converted<C, B>, Refusal>
     ensures good { OnOk result (fault_from 0 files.now ≡ None) }
-    ensures contents { IfOk result (λ c. c.dictionary ≡ contents_of C.carries B.lists language left right files.now) }
-    ensures refused { IfErr result (λ refusal. IsRefusal refusal (fault_from 0 files.now)) }
+    ensures contents { IfOk result (λ c. c.dictionary ≡ contents_of_files C.payload_of B.listing_of language left right files.now) }
+    ensures refused { IfErr result (λ refusal. IsRefusalOf refusal (fault_from 0 files.now)) }
 {
     let dictionary = convert(alloc, language, left, right, files)?;
     let notes = notes_of(alloc, files)?;

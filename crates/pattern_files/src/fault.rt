@@ -26,7 +26,7 @@ pub enum Cause {
     Charset,
     /// A byte stands for no character in the charset that line 1 of a `.dic` names.
     NotInCharset,
-    /// LEFTHYPHENMIN or RIGHTHYPHENMIN without a number from 0 to 255 behind it.
+    /// LEFTHYPHENMIN or RIGHTHYPHENMIN without a number from 0 to 255 after it.
     Minimum,
     /// There is no pattern and no exception in the file.
     Nothing,

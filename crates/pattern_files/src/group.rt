@@ -28,7 +28,7 @@ pub struct File<'a> {
 pub enum Place {
     /// Outside of groups.
     Outside,
-    /// Behind the command that opens a group.
+    /// After the command that opens a group.
     Before(Group),
     /// Within a group, and the line on which that was opened.
     Within(Group, usize),

@@ -7,7 +7,7 @@ ghost use Rattle.std.specs.Prelude.{◌≡◌, List, ℕ, [], None};
 ghost use Rattle.pattern_files.specs.Converting.{words_of, group_fault};
 ghost use Rattle.pattern_files.specs.declared.group.Form.{Form};
 ghost use Rattle.pattern_files.specs.declared.group.Form.TheVariants.{Tex};
-ghost use Rattle.pattern_files.specs.TexFiles.{IsOutside, IgnoresComments, IgnoresLastComment, HasWordsOfFirstGroupAndRest, HasFaultOfRest, HasWordsOfOpenGroup, HasFaultOfOpenGroup, HasNothingBehindItsEnd, HasFaultOfInput, HasWordsBetween};
+ghost use Rattle.pattern_files.specs.TexFiles.{IsOutside, IgnoresComments, IgnoresLastComment, HasWordsOfFirstGroupAndRest, HasFaultOfRest, HasWordsOfOpenGroup, HasFaultOfOpenGroup, HasNothingAfterItsEnd, HasFaultOfInput, HasWordsBetween};
 
 /// Comments say nothing: a file has the same words, on the same lines, and the same fault with them and without them.
 pub fn comments_say_nothing()
@@ -17,7 +17,7 @@ pub fn comments_say_nothing()
     ensures last_fault { (form : Form) → IgnoresLastComment (group_fault form) }
 {}
 
-/// A TeX file has the words of its first group, which are those between white space, and then those of what is behind
+/// A TeX file has the words of its first group, which are those between white space, and then those of what is after
 /// that group, with their lines.
 pub fn groups_are_read_in_order()
     ensures words { HasWordsOfFirstGroupAndRest }
@@ -38,7 +38,7 @@ pub fn open_groups_are_faulty()
 
 /// A TeX file ends at `\endinput` outside of groups; `\input` there is a fault.
 pub fn the_end_is_the_end()
-    ensures end { HasNothingBehindItsEnd }
+    ensures end { HasNothingAfterItsEnd }
     ensures input { HasFaultOfInput }
 {}
 

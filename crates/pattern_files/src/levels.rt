@@ -4,7 +4,7 @@ use crate::change::{Change, change_of};
 use crate::fault::LineFault;
 use crate::notes::{Note, Spot, What, add_note};
 use crate::parts::Parts;
-use hyphenation_commons::dictionary::{Carried, Entry, Listed};
+use hyphenation_commons::dictionary::{Payload, Entry, Listing};
 use hyphenation_commons::extended::Subregion;
 use hyphenation_commons::maker::fits_key;
 use std::alloc::{AllocError, Global};
@@ -67,7 +67,7 @@ fn has_letters(key: &[u8]) -> bool {
     key.iter().any(|byte| *byte != b'.')
 }
 
-/// A pattern and its change, if a slash parts them: one that has a `=` behind it.
+/// A pattern and its change, if a slash parts them: one that has a `=` after it.
 fn at_slash(line: &str) -> (&str, Option<&str>) {
     match line.split_once('/') {
         Some((body, text)) if text.contains('=') => (body, Some(text)),
@@ -188,7 +188,7 @@ impl Levels {
         Ok(())
     }
 
-    /// Lets no break stand directly before or behind a text: its values there are at least 8, and even.
+    /// Lets no break stand directly before or after a text: its values there are at least 8, and even.
     pub(crate) fn forbid(&mut self, alloc: Global, text: &str) -> Result<(), AllocError> {
         if !has_letters(text.as_bytes()) {
             return Ok(());
@@ -200,7 +200,7 @@ impl Levels {
     }
 
     /// All patterns, as parts of a dictionary.
-    pub(crate) fn parts<C: Carried, B: Listed>(
+    pub(crate) fn parts<C: Payload, B: Listing>(
         &mut self,
         alloc: Global,
     ) -> Result<Parts<C, B>, LineFault> {
@@ -237,20 +237,20 @@ fn change_at(
 }
 
 /// The entries of a key.
-fn entries_of<C: Carried>(alloc: Global, pattern: &Pattern) -> Result<Vec<Entry<C>>, AllocError> {
+fn entries_of<C: Payload>(alloc: Global, pattern: &Pattern) -> Result<Vec<Entry<C>>, AllocError> {
     let mut entries = Vec::new(alloc);
     for value in pattern.values.iter() {
         entries.push(Entry {
             place: value.place,
             value: value.value,
-            change: C::carry(change_at(alloc, &pattern.change, value.place)?),
+            change: C::from_change(change_at(alloc, &pattern.change, value.place)?),
         })?;
     }
     Ok(entries)
 }
 
 /// Takes in a pattern, if it fits a dictionary. Whether it does.
-fn take_part<C: Carried, B: Listed>(
+fn take_part<C: Payload, B: Listing>(
     alloc: Global,
     parts: &mut Parts<C, B>,
     key: &[u8],

@@ -1,10 +1,10 @@
 //! Files of hyphenation patterns, as TeX and LibreOffice have them, made into dictionaries.
 //!
-//! A TeX file of hyph-utf8 has its patterns in a group behind `\patterns`, and its exceptions in one behind
+//! A TeX file of hyph-utf8 has its patterns in a group after `\patterns`, and its exceptions in one after
 //! `\hyphenation`; the plain files beside it have what stands in one such group:
 //!
 //! ```text
-//! \patterns{                   .fi2      2 behind fi, where a word begins with it
+//! \patterns{                   .fi2      2 after fi, where a word begins with it
 //! .fi2 r5kin 4k1i              r5kin     5 between r and k, wherever rkin stands in a word
 //! }
 //! \hyphenation{as-so-ciate}    associate, with breaks at 2 and 4

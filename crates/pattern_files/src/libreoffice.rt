@@ -12,7 +12,7 @@ use crate::convert::Converted;
 use crate::fault::{Cause, LineFault, Refusal};
 use crate::levels::Levels;
 use crate::notes::What;
-use hyphenation_commons::dictionary::{Carried, Listed};
+use hyphenation_commons::dictionary::{Payload, Listing};
 use hyphenation_commons::language::Language;
 use std::alloc::Global;
 
@@ -85,7 +85,7 @@ fn take_line<'a>(
     Ok(())
 }
 
-/// Takes in what stands behind line 1.
+/// Takes in what stands after line 1.
 fn take_lines(alloc: Global, levels: &mut Levels, text: &str) -> Result<(), LineFault> {
     let mut settings = Settings {
         no_hyphen: "",
@@ -104,7 +104,7 @@ fn take_lines(alloc: Global, levels: &mut Levels, text: &str) -> Result<(), Line
     Ok(())
 }
 
-/// Line 1, and what stands behind it.
+/// Line 1, and what stands after it.
 fn first_line(bytes: &[u8]) -> (&[u8], &[u8]) {
     match bytes.iter().position(|byte| *byte == b'\n') {
         Some(at) => (&bytes[..at], &bytes[at + 1..]),
@@ -153,7 +153,7 @@ fn minimum(given: Option<u8>, told: Option<u8>) -> u8
 ///
 /// Patterns with changes are taken where `changes` says so, else left out, which is noted. The refusal names the first
 /// fault: the line and the cause.
-pub fn convert_dic<C: Carried, B: Listed>(
+pub fn convert_dic<C: Payload, B: Listing>(
     alloc: Global,
     language: Language,
     changes: bool,

@@ -4,14 +4,14 @@ ghost use Rattle.std.specs.Prelude.{◌≡◌, [], ◌∷◌, ◌++◌, IfOk, On
 ghost use Rattle.std.specs.String.{string_bytes};
 ghost use Rattle.hyphenation_commons.specs.Kept.{are_listed};
 ghost use Rattle.hyphenation_commons.specs.Made.{fits_key};
-ghost use Rattle.pattern_files.specs.Converting.{spelled, followed, with_key, with_word, made, first_fault, IsLineFault};
-ghost use Rattle.pattern_files.specs.Groups.{shown_word};
-ghost use Rattle.pattern_files.specs.Spelling.{cause_of, IsWordFault};
+ghost use Rattle.pattern_files.specs.Converting.{words_spelled, one_after_other, with_key, with_word, contents_made, first_fault, IsLineFault};
+ghost use Rattle.pattern_files.specs.Groups.{word_view};
+ghost use Rattle.pattern_files.specs.Spelling.{word_cause, IsWordFault};
 
 use crate::fault::{LineFault, WordFault};
 use crate::group::{Group, Word};
 use crate::spelling::{read_exception, read_pattern};
-use hyphenation_commons::dictionary::{Carried, Dictionary, Entry, Listed};
+use hyphenation_commons::dictionary::{Payload, Dictionary, Entry, Listing};
 use hyphenation_commons::language::Language;
 use hyphenation_commons::maker::make;
 use std::alloc::{AllocError, Global};
@@ -19,26 +19,26 @@ use std::marker::Model;
 
 /// Keys and words that fit a dictionary, in the order in which files have them.
 #[derive(Drop)]
-pub struct Parts<C: Carried, B: Listed> {
+pub struct Parts<C: Payload, B: Listing> {
     patterns: Vec<(String, Vec<Entry<C>>)>,
     exceptions: Vec<(String, Vec<B>)>,
 }
 
-impl<C: Carried, B: Listed> Model for Parts<C, B> {
+impl<C: Payload, B: Listing> Model for Parts<C, B> {
     ghost use Rattle.std.specs.Prelude.{map, All, IsTrue};
     ghost use Rattle.std.specs.String.{string_bytes};
     ghost use Rattle.hyphenation_commons.specs.Kept.{are_listed};
-    ghost use Rattle.hyphenation_commons.specs.Made.{said_of, fits_key};
+    ghost use Rattle.hyphenation_commons.specs.Made.{pair_of, fits_key};
     ghost use Rattle.pattern_files.specs.Converting.{Spelled};
 
     ghost Value = { Spelled C B };
 
-    ghost view = { λ p. record { patterns = map said_of p.patterns.items; exceptions = map said_of p.exceptions.items } };
+    ghost view = { λ p. record { patterns = map pair_of p.patterns.items; exceptions = map pair_of p.exceptions.items } };
 
-    ghost invariant = { λ p. All (λ k. IsTrue (fits_key C.change (string_bytes k.0) k.1.items)) p.patterns.items × All (λ e. IsTrue (are_listed B.meaning (string_bytes e.0) 0 e.1.items)) p.exceptions.items };
+    ghost invariant = { λ p. All (λ k. IsTrue (fits_key C.change_of (string_bytes k.0) k.1.items)) p.patterns.items × All (λ e. IsTrue (are_listed B.meaning (string_bytes e.0) 0 e.1.items)) p.exceptions.items };
 }
 
-impl<C: Carried, B: Listed> Parts<C, B> {
+impl<C: Payload, B: Listing> Parts<C, B> {
     /// None yet.
     pub fn new(alloc: Global) -> Parts<C, B>
         ensures { result ≡ record { patterns = []; exceptions = [] } }
@@ -51,7 +51,7 @@ impl<C: Carried, B: Listed> Parts<C, B> {
 
     /// Takes in a key with its entries. The caller owes that the key may have them.
     pub fn push_pattern(&mut self, key: String, entries: Vec<Entry<C>>) -> Result<(), AllocError>
-        requires { IsTrue (fits_key C.change (string_bytes key) entries.items) }
+        requires { IsTrue (fits_key C.change_of (string_bytes key) entries.items) }
         ensures { OnOk result (self.new ≡ with_key self.old (string_bytes key, entries.items)) }
     {
         self.patterns.push((key, entries))?;
@@ -76,17 +76,17 @@ impl<C: Carried, B: Listed> Parts<C, B> {
         left: u8,
         right: u8,
     ) -> Result<Dictionary<C, B>, AllocError>
-        ensures { IfOk result (λ d. d ≡ made language left right self) }
+        ensures { IfOk result (λ d. d ≡ contents_made language left right self) }
     {
         make(alloc, language, left, right, self.patterns, self.exceptions)
     }
 
     /// Takes in what a word spells.
     fn take_word(&mut self, alloc: Global, word: &Word) -> Result<(), WordFault>
-        ensures good { OnOk result (cause_of word.now.group word.now.text.items ≡ None) }
-        ensures taken { OnOk result (self.new ≡ followed self.old
-            (spelled C.carries B.lists (shown_word word.now ∷ []))) }
-        ensures refused { IfErr result (λ fault. IsWordFault fault (cause_of word.now.group word.now.text.items)) }
+        ensures good { OnOk result (word_cause word.now.group word.now.text.items ≡ None) }
+        ensures taken { OnOk result (self.new ≡ one_after_other self.old
+            (words_spelled C.payload_of B.listing_of (word_view word.now ∷ []))) }
+        ensures refused { IfErr result (λ fault. IsWordFault fault (word_cause word.now.group word.now.text.items)) }
     {
         match word.group {
             Group::Patterns => {
@@ -103,10 +103,10 @@ impl<C: Carried, B: Listed> Parts<C, B> {
 
     /// Takes in what words spell, up to the first that spells nothing.
     pub fn take_words(&mut self, alloc: Global, words: &[Word]) -> Result<(), LineFault>
-        ensures good { OnOk result (first_fault (map shown_word words.now) ≡ None) }
-        ensures taken { OnOk result (self.new ≡ followed self.old
-            (spelled C.carries B.lists (map shown_word words.now))) }
-        ensures refused { IfErr result (λ fault. IsLineFault fault (first_fault (map shown_word words.now))) }
+        ensures good { OnOk result (first_fault (map word_view words.now) ≡ None) }
+        ensures taken { OnOk result (self.new ≡ one_after_other self.old
+            (words_spelled C.payload_of B.listing_of (map word_view words.now))) }
+        ensures refused { IfErr result (λ fault. IsLineFault fault (first_fault (map word_view words.now))) }
     {
         for word in words {
             match self.take_word(alloc, word) {

@@ -6,14 +6,14 @@ ghost use Rattle.std.specs.Str.{is_utf8};
 ghost use Rattle.std.specs.String.{string_bytes};
 ghost use Rattle.hyphenation.specs.Folding.{fold};
 ghost use Rattle.hyphenation_commons.specs.Kept.{has_letter, are_listed};
-ghost use Rattle.hyphenation_commons.specs.Made.{said_of, fits_key};
-ghost use Rattle.pattern_files.specs.Spelling.{is_digit, value_at, entry_of, folded, letter_cause, letters, entries, unhyphenated, breaks, pattern_of, exception_of, is_command, is_caret, is_sign, says_place, two_in_one_place, sign_cause, cause_of, IsWordFault};
+ghost use Rattle.hyphenation_commons.specs.Made.{pair_of, fits_key};
+ghost use Rattle.pattern_files.specs.Spelling.{is_digit, value_of_digit, entry_without_change, folded_text, letter_cause, letters, entries_of_digits, unhyphenated, breaks_of_hyphens, pattern_in, exception_in, is_command, is_caret, is_sign, says_place, two_in_one_place, sign_cause, word_cause, IsWordFault};
 ghost use Rattle.pattern_files.specs.declared.group.Group.TheVariants.{Patterns, Exceptions};
 
 use crate::fault::{Cause, WordFault};
 use crate::group::Group;
 use hyphenation::case_folding::refold;
-use hyphenation_commons::dictionary::{Carried, Dictionary, Entry, Listed};
+use hyphenation_commons::dictionary::{Payload, Dictionary, Entry, Listing};
 use hyphenation_commons::maker::fits_key;
 use std::alloc::{AllocError, Global};
 
@@ -78,13 +78,13 @@ fn says_place(group: Group, b: u8) -> bool
 fn has_two_in_one_place(group: Group, text: &[u8]) -> bool
     ensures { result ≡ two_in_one_place group false text.now }
 {
-    let mut behind = false;
+    let mut after = false;
     for b in text {
         let says = says_place(group, *b);
-        if behind && says {
+        if after && says {
             return true;
         }
-        behind = says;
+        after = says;
     }
     false
 }
@@ -107,13 +107,13 @@ fn sign_cause(group: Group, text: &[u8]) -> Option<Cause>
 }
 
 /// Appends the value that a digit is, unless that is 0.
-fn push_value<C: Carried>(
+fn push_value<C: Payload>(
     entries: &mut Vec<Entry<C>>,
     place: usize,
     digit: u8,
 ) -> Result<(), AllocError>
     requires { IsTrue (is_digit digit) }
-    ensures { OnOk result (entries.new.items ≡ entries.old.items ++ map (entry_of C.carries) (value_at place digit)) }
+    ensures { OnOk result (entries.new.items ≡ entries.old.items ++ map (entry_without_change C.payload_of) (value_of_digit place digit)) }
 {
     if digit == b'0' {
         return Ok(());
@@ -121,18 +121,18 @@ fn push_value<C: Carried>(
     entries.push(Entry {
         place,
         value: digit - b'0',
-        change: C::carry(None),
+        change: C::from_change(None),
     })?;
     Ok(())
 }
 
 /// The letters of a pattern, and its values other than 0, each with the number of bytes of letters before it.
-fn letters_and_entries<C: Carried>(
+fn letters_and_entries<C: Payload>(
     alloc: Global,
     text: &[u8],
 ) -> Result<(Vec<u8>, Vec<Entry<C>>), AllocError>
     ensures letters { IfOk result (λ found. found.0.items ≡ letters text.now) }
-    ensures entries { IfOk result (λ found. found.1.items ≡ entries C.carries text.now) }
+    ensures entries { IfOk result (λ found. found.1.items ≡ entries_of_digits C.payload_of text.now) }
 {
     let mut key = Vec::new(alloc);
     let mut entries = Vec::new(alloc);
@@ -147,18 +147,18 @@ fn letters_and_entries<C: Carried>(
 }
 
 /// The letters of a word, and its breaks.
-fn letters_and_breaks<B: Listed>(
+fn letters_and_breaks<B: Listing>(
     alloc: Global,
     text: &[u8],
 ) -> Result<(Vec<u8>, Vec<B>), AllocError>
     ensures letters { IfOk result (λ found. found.0.items ≡ unhyphenated text.now) }
-    ensures breaks { IfOk result (λ found. found.1.items ≡ breaks B.lists text.now) }
+    ensures breaks { IfOk result (λ found. found.1.items ≡ breaks_of_hyphens B.listing_of text.now) }
 {
     let mut word = Vec::new(alloc);
     let mut listed = Vec::new(alloc);
     for b in text {
         if *b == b'-' {
-            listed.push(B::list(word.len(), None))?;
+            listed.push(B::from_place(word.len(), None))?;
         } else {
             word.push(*b)?;
         }
@@ -198,13 +198,13 @@ fn text_of(bytes: Vec<u8>) -> Option<String>
 }
 
 /// The key that a pattern of good signs spells, with its entries.
-fn read_letters<C: Carried>(
+fn read_letters<C: Payload>(
     alloc: Global,
     text: &[u8],
 ) -> Result<(String, Vec<Entry<C>>), WordFault>
     ensures good { OnOk result (letter_cause Patterns text.now ≡ None) }
-    ensures spelled { IfOk result (λ p. said_of p ≡ (letters text.now, entries C.carries text.now)) }
-    ensures fits { IfOk result (λ p. IsTrue (fits_key C.change (string_bytes p.0) p.1.items)) }
+    ensures spelled { IfOk result (λ p. pair_of p ≡ (letters text.now, entries_of_digits C.payload_of text.now)) }
+    ensures fits { IfOk result (λ p. IsTrue (fits_key C.change_of (string_bytes p.0) p.1.items)) }
     ensures refused { IfErr result (λ fault. IsWordFault fault (letter_cause Patterns text.now)) }
 {
     let (key, entries) = letters_and_entries(alloc, text)?;
@@ -232,7 +232,7 @@ fn fold_text(alloc: Global, text: &str) -> Result<Vec<u8>, AllocError>
 
 /// A word with its capitals made small. What is not UTF-8 stays.
 pub fn folded(alloc: Global, text: &[u8]) -> Result<Vec<u8>, AllocError>
-    ensures { IfOk result (λ found. found.items ≡ folded text.now) }
+    ensures { IfOk result (λ found. found.items ≡ folded_text text.now) }
 {
     match std::str::from_utf8(text) {
         Ok(text) => fold_text(alloc, text),
@@ -241,14 +241,14 @@ pub fn folded(alloc: Global, text: &[u8]) -> Result<Vec<u8>, AllocError>
 }
 
 /// The key that a pattern spells, with its entries.
-pub fn read_pattern<C: Carried>(
+pub fn read_pattern<C: Payload>(
     alloc: Global,
     text: &[u8],
 ) -> Result<(String, Vec<Entry<C>>), WordFault>
-    ensures good { OnOk result (cause_of Patterns text.now ≡ None) }
-    ensures spelled { IfOk result (λ p. Some (said_of p) ≡ pattern_of C.carries Patterns text.now) }
-    ensures fits { IfOk result (λ p. IsTrue (fits_key C.change (string_bytes p.0) p.1.items)) }
-    ensures refused { IfErr result (λ fault. IsWordFault fault (cause_of Patterns text.now)) }
+    ensures good { OnOk result (word_cause Patterns text.now ≡ None) }
+    ensures spelled { IfOk result (λ p. Some (pair_of p) ≡ pattern_in C.payload_of Patterns text.now) }
+    ensures fits { IfOk result (λ p. IsTrue (fits_key C.change_of (string_bytes p.0) p.1.items)) }
+    ensures refused { IfErr result (λ fault. IsWordFault fault (word_cause Patterns text.now)) }
 {
     match sign_cause(Group::Patterns, text) {
         Some(cause) => Err(WordFault::Fails(cause)),
@@ -257,12 +257,12 @@ pub fn read_pattern<C: Carried>(
 }
 
 /// The word that an exception of good signs spells, with its breaks.
-fn read_breaks<C: Carried, B: Listed>(
+fn read_breaks<C: Payload, B: Listing>(
     alloc: Global,
     text: &[u8],
 ) -> Result<(String, Vec<B>), WordFault>
     ensures good { OnOk result (letter_cause Exceptions text.now ≡ None) }
-    ensures spelled { IfOk result (λ e. said_of e ≡ (unhyphenated text.now, breaks B.lists text.now)) }
+    ensures spelled { IfOk result (λ e. pair_of e ≡ (unhyphenated text.now, breaks_of_hyphens B.listing_of text.now)) }
     ensures fits { IfOk result (λ e. IsTrue (are_listed B.meaning (string_bytes e.0) 0 e.1.items)) }
     ensures refused { IfErr result (λ fault. IsWordFault fault (letter_cause Exceptions text.now)) }
 {
@@ -279,14 +279,14 @@ fn read_breaks<C: Carried, B: Listed>(
 }
 
 /// The word that an exception spells, with its breaks.
-pub fn read_exception<C: Carried, B: Listed>(
+pub fn read_exception<C: Payload, B: Listing>(
     alloc: Global,
     text: &[u8],
 ) -> Result<(String, Vec<B>), WordFault>
-    ensures good { OnOk result (cause_of Exceptions text.now ≡ None) }
-    ensures spelled { IfOk result (λ e. Some (said_of e) ≡ exception_of B.lists Exceptions text.now) }
+    ensures good { OnOk result (word_cause Exceptions text.now ≡ None) }
+    ensures spelled { IfOk result (λ e. Some (pair_of e) ≡ exception_in B.listing_of Exceptions text.now) }
     ensures fits { IfOk result (λ e. IsTrue (are_listed B.meaning (string_bytes e.0) 0 e.1.items)) }
-    ensures refused { IfErr result (λ fault. IsWordFault fault (cause_of Exceptions text.now)) }
+    ensures refused { IfErr result (λ fault. IsWordFault fault (word_cause Exceptions text.now)) }
 {
     match sign_cause(Group::Exceptions, text) {
         Some(cause) => Err(WordFault::Fails(cause)),

@@ -3,9 +3,9 @@
 ghost use Rattle.std.specs.Prelude.{◌≡◌, ◌+◌, ◌<◌, ◌^◌, IfOk, OnOk, map, fold};
 ghost use Rattle.hyphenation_commons.specs.Lines.{same};
 ghost use Rattle.pattern_files.specs.Converting.{words_of, group_fault};
-ghost use Rattle.pattern_files.specs.Groups.{is_space, is_brace, with_piece_at, closed_at, with_sign, ended, with_byte, pieces_of, behind, with_piece, with_plain, nothing_found, nothing_lexed, groups, plain_words, shown_word};
+ghost use Rattle.pattern_files.specs.Groups.{is_space, is_brace, with_piece_at, closed_at, with_read_byte, with_piece_ended, with_byte, pieces_of, place_after, with_piece, with_plain, nothing_found, nothing_lexed, groups, plain_words, word_view};
 ghost use Rattle.pattern_files.specs.declared.group.Place.TheVariants.{Outside};
-ghost use Rattle.pattern_files.specs.Read.{shown_piece, shown_lexer, shown_scan};
+ghost use Rattle.pattern_files.specs.Read.{piece_view, lexer_view, scan_view};
 
 use crate::fault::Cause;
 use crate::group::{Form, Group, Place, Word};
@@ -44,7 +44,7 @@ struct Lexer {
 
 impl Lexer {
     fn new(alloc: Global) -> Lexer
-        ensures { shown_lexer result ≡ nothing_lexed }
+        ensures { lexer_view result ≡ nothing_lexed }
     {
         Lexer {
             line: 1,
@@ -56,7 +56,7 @@ impl Lexer {
 
     /// Ends the piece that goes on. The next one begins so.
     fn end(&mut self, next: Vec<u8>) -> Result<(), AllocError>
-        ensures { OnOk result (shown_lexer self.new ≡ ended (shown_lexer self.old) next.items) }
+        ensures { OnOk result (lexer_view self.new ≡ with_piece_ended (lexer_view self.old) next.items) }
     {
         let text = mem::replace(&mut self.last, next);
         self.pieces.push(Piece {
@@ -68,7 +68,7 @@ impl Lexer {
 
     /// Reads a byte outside of comments, which begins none and ends no line.
     fn take_sign(&mut self, alloc: Global, b: u8) -> Result<(), AllocError>
-        ensures { OnOk result (shown_lexer self.new ≡ with_sign (shown_lexer self.old) b) }
+        ensures { OnOk result (lexer_view self.new ≡ with_read_byte (lexer_view self.old) b) }
     {
         if is_space(b) {
             return self.end(Vec::new(alloc));
@@ -87,7 +87,7 @@ impl Lexer {
     /// Reads a byte.
     fn take(&mut self, alloc: Global, b: u8) -> Result<(), AllocError>
         requires { self.old.line + 1 < 2 ^ 64 }
-        ensures { OnOk result (shown_lexer self.new ≡ with_byte (shown_lexer self.old) b) }
+        ensures { OnOk result (lexer_view self.new ≡ with_byte (lexer_view self.old) b) }
     {
         if b == b'\n' {
             self.end(Vec::new(alloc))?;
@@ -105,7 +105,7 @@ impl Lexer {
 
 /// The pieces of a file.
 fn pieces_of(alloc: Global, bytes: &[u8]) -> Result<Vec<Piece>, AllocError>
-    ensures { IfOk result (λ found. map shown_piece found.items ≡ pieces_of bytes.now) }
+    ensures { IfOk result (λ found. map piece_view found.items ≡ pieces_of bytes.now) }
 {
     let mut lexer = Lexer::new(alloc);
     for b in bytes {
@@ -115,7 +115,7 @@ fn pieces_of(alloc: Global, bytes: &[u8]) -> Result<Vec<Piece>, AllocError>
     Ok(lexer.pieces)
 }
 
-/// The words of groups, and what is wrong with the groups behind them.
+/// The words of groups, and what is wrong with the groups after them.
 #[derive(Debug, Drop)]
 pub struct Scan {
     pub words: Vec<Word>,
@@ -131,9 +131,9 @@ fn is(piece: &[u8], text: &str) -> bool
     piece == text.as_bytes()
 }
 
-/// Where the piece behind one outside of groups stands.
-fn place_behind(piece: &[u8]) -> Place
-    ensures { result ≡ behind piece.now }
+/// Where the piece after one outside of groups stands.
+fn place_after(piece: &[u8]) -> Place
+    ensures { result ≡ place_after piece.now }
 {
     if is(piece, "\\patterns") {
         Place::Before(Group::Patterns)
@@ -146,7 +146,7 @@ fn place_behind(piece: &[u8]) -> Place
 
 impl Scan {
     fn new(alloc: Global) -> Scan
-        ensures { shown_scan result ≡ nothing_found }
+        ensures { scan_view result ≡ nothing_found }
     {
         Scan {
             words: Vec::new(alloc),
@@ -158,8 +158,8 @@ impl Scan {
 
     /// Takes in a piece outside of groups.
     fn take_outside(&mut self, line: usize, text: &[u8])
-        ensures { shown_scan self.new
-            ≡ with_piece_at Outside (shown_scan self.old) (record { line = line; text = text.now }) }
+        ensures { scan_view self.new
+            ≡ with_piece_at Outside (scan_view self.old) (record { line = line; text = text.now }) }
     {
         if is(text, "\\input") {
             self.at_end = true;
@@ -170,12 +170,12 @@ impl Scan {
             self.at_end = true;
             return;
         }
-        self.place = place_behind(text);
+        self.place = place_after(text);
     }
 
     /// Takes in a piece.
     fn take(&mut self, alloc: Global, piece: &Piece) -> Result<(), AllocError>
-        ensures { OnOk result (shown_scan self.new ≡ with_piece (shown_scan self.old) (shown_piece piece.now)) }
+        ensures { OnOk result (scan_view self.new ≡ with_piece (scan_view self.old) (piece_view piece.now)) }
     {
         if self.at_end || piece.text.is_empty() {
             return Ok(());
@@ -190,7 +190,7 @@ impl Scan {
                     self.place = Place::Within(group, piece.line);
                     return Ok(());
                 }
-                self.place = place_behind(&piece.text);
+                self.place = place_after(&piece.text);
                 Ok(())
             }
             Place::Within(group, _) => {
@@ -210,7 +210,7 @@ impl Scan {
 
     /// Ends the file.
     fn close(&mut self)
-        ensures { shown_scan self.new ≡ closed_at (shown_scan self.old).place (shown_scan self.old) }
+        ensures { scan_view self.new ≡ closed_at (scan_view self.old).place (scan_view self.old) }
     {
         if let Place::Within(_, opened) = self.place {
             self.fault = Some((opened, Cause::Unclosed));
@@ -220,7 +220,7 @@ impl Scan {
 
 /// The words of the groups that pieces have.
 fn groups(alloc: Global, pieces: &[Piece]) -> Result<Scan, AllocError>
-    ensures { IfOk result (λ scan. shown_scan scan ≡ groups (map shown_piece pieces.now)) }
+    ensures { IfOk result (λ scan. scan_view scan ≡ groups (map piece_view pieces.now)) }
 {
     let mut scan = Scan::new(alloc);
     for piece in pieces {
@@ -232,7 +232,7 @@ fn groups(alloc: Global, pieces: &[Piece]) -> Result<Scan, AllocError>
 
 /// The words that are the pieces of a plain file.
 fn plain_words(alloc: Global, group: Group, pieces: &[Piece]) -> Result<Vec<Word>, AllocError>
-    ensures { IfOk result (λ words. map shown_word words.items ≡ plain_words group (map shown_piece pieces.now)) }
+    ensures { IfOk result (λ words. map word_view words.items ≡ plain_words group (map piece_view pieces.now)) }
 {
     let mut words = Vec::new(alloc);
     for piece in pieces {
@@ -247,13 +247,13 @@ fn plain_words(alloc: Global, group: Group, pieces: &[Piece]) -> Result<Vec<Word
     Ok(words)
 }
 
-/// The words of a file's groups, and what is wrong with the groups behind them.
+/// The words of a file's groups, and what is wrong with the groups after them.
 pub fn words_of(
     alloc: Global,
     form: Form,
     bytes: &[u8],
 ) -> Result<(Vec<Word>, Option<(usize, Cause)>), AllocError>
-    ensures words { IfOk result (λ found. map shown_word found.0.items ≡ words_of form bytes.now) }
+    ensures words { IfOk result (λ found. map word_view found.0.items ≡ words_of form bytes.now) }
     ensures fault { IfOk result (λ found. found.1 ≡ group_fault form bytes.now) }
 {
     let pieces = pieces_of(alloc, bytes)?;

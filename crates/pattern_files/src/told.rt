@@ -13,9 +13,9 @@ use std::collections::HashMap;
 #[derive(Clone, Copy, PartialEq, Eq)]
 enum Head {
     Other,
-    /// Behind `hyphenmins:`.
+    /// After `hyphenmins:`.
     Minima,
-    /// There behind `typesetting:`.
+    /// There after `typesetting:`.
     Typesetting,
 }
 
@@ -26,7 +26,7 @@ pub(crate) struct Minima {
     pub(crate) right: Option<u8>,
 }
 
-/// The number behind a name, in a comment.
+/// The number after a name, in a comment.
 fn setting_of(comment: &str, name: &str) -> Option<u8> {
     match comment.strip_prefix(name)?.trim().parse::<u8>() {
         Ok(number) => Some(number),
@@ -35,7 +35,7 @@ fn setting_of(comment: &str, name: &str) -> Option<u8> {
 }
 
 /// Takes in a comment: hyph-utf8's files say their minima there. Those of typesetting count, which stand before or
-/// behind those of generation.
+/// after those of generation.
 fn take_comment(minima: &mut Minima, head: Head, comment: &str) -> Head {
     match (head, comment) {
         (_, "hyphenmins:") => return Head::Minima,

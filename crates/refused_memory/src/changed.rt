@@ -183,8 +183,8 @@ pub fn word<G: Read, O: Write>(
     }
 }
 
-/// Goes through all segments, the mark of the later ones set behind the first, and says of each how many are to come
-/// behind it; a cross stands for one that was refused.
+/// Goes through all segments, the mark of the later ones set after the first, and says of each how many are to come
+/// after it; a cross stands for one that was refused.
 fn items<'m, I: Texts, G: Read, O: Write>(
     alloc: Global,
     mut items: Hyphenating<'m, I>,

@@ -56,7 +56,7 @@ fn an_extended_text_gives_its_exceptions(rt: HostRuntime) -> Result<(), Fail> {
 }
 
 #[test]
-fn all_behind_the_fourth_comma_is_the_substitution(rt: HostRuntime) -> Result<(), Fail> {
+fn all_after_the_fourth_comma_is_the_substitution(rt: HostRuntime) -> Result<(), Fail> {
     let dictionary = extended(rt.alloc())?;
     let change = Subregion {
         left: 1,

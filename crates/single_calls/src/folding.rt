@@ -85,7 +85,7 @@ fn realigned_places_are_held_at_the_ends(rt: HostRuntime) {
     assert_eq!(rt; realign(1, &[]), 1);
 }
 
-/// All characters, one behind the other.
+/// All characters, one after the other.
 fn all_characters(alloc: Global) -> Result<String, AllocError> {
     let mut all = String::new(alloc);
     for c in '\0'..=char::MAX {

@@ -11,7 +11,7 @@ use std::test::Fail;
 /// So many letters the key has.
 const LETTERS: usize = 20_000;
 
-/// Adds a letter and the value behind it for each letter of the key.
+/// Adds a letter and the value after it for each letter of the key.
 fn push_letters(text: &mut String) -> Result<(), AllocError> {
     for _ in 0..LETTERS {
         text.push_str("a1")?;
@@ -82,7 +82,7 @@ fn fault_of(alloc: Global, text: &str) -> Result<Option<(usize, Cause)>, AllocEr
 }
 
 #[test]
-fn a_change_behind_many_values_has_none(rt: HostRuntime) -> Result<(), Fail> {
+fn a_change_after_many_values_has_none(rt: HostRuntime) -> Result<(), Fail> {
     let text = text_of(rt.alloc(), "a", " 20001,0,0,1,b\n")?;
     assert_eq!(rt; fault_of(rt.alloc(), &text)?, Some((4, Cause::Change)));
     Ok(())

@@ -5,7 +5,7 @@ ghost use Rattle.std.specs.List.{concat};
 ghost use Rattle.std.specs.String.{string_bytes};
 ghost use Rattle.hyphenation_commons.specs.Break.{plain};
 ghost use Rattle.hyphenation.specs.Fits.{Fits};
-ghost use Rattle.hyphenation.specs.Segments.{segments, marked, with_marks};
+ghost use Rattle.hyphenation.specs.Segments.{segments, marked_segments, with_marks};
 
 use hyphenation::Iter;
 use hyphenation::hyphenator::Word;
@@ -51,7 +51,7 @@ fn joined_segments(alloc: Global, text: &str, breaks: &[usize]) -> Result<String
 }
 
 fn marked_text<I: Texts>(alloc: Global, items: Hyphenating<'_, I>) -> Result<String, AllocError>
-    ensures { IfOk result (λ joined. string_bytes joined ≡ concat (marked items.entry.1 (I.texts items.entry.0))) }
+    ensures { IfOk result (λ joined. string_bytes joined ≡ concat (marked_segments items.entry.1 (I.texts items.entry.0))) }
 {
     let mut joined = String::new(alloc);
     for item in items {
@@ -92,7 +92,7 @@ fn all_items<'t>(
 fn all_marked(alloc: Global, word: Word<'_, usize>) -> Result<Vec<String>, AllocError>
     ensures { IfOk result (λ list.
         map string_bytes list.items
-        ≡ marked (codes "-") (segments word.entry.text.now (map plain word.entry.breaks.items))) }
+        ≡ marked_segments (codes "-") (segments word.entry.text.now (map plain word.entry.breaks.items))) }
 {
     let mut list = Vec::new(alloc);
     for item in word {
@@ -232,7 +232,7 @@ fn spaced(alloc: Global, text: &str, breaks: &[usize]) -> Result<String, Fail> {
 }
 
 #[test]
-fn a_mark_stands_behind_each_segment_but_the_last(rt: HostRuntime) -> Result<(), Fail> {
+fn a_mark_stands_after_each_segment_but_the_last(rt: HostRuntime) -> Result<(), Fail> {
     let long = spaced(rt.alloc(), "hyphenation", &[2, 6, 7])?;
     assert_eq!(rt; long.as_str(), "hy- phen- a- tion");
     assert_eq!(rt; spaced(rt.alloc(), "firkin", &[3])?.as_str(), "fir- kin");

@@ -7,6 +7,6 @@ abbrev pub empty_line : List ℕ → List ℕ
 empty_line [] = 10 ∷ []
 empty_line (b ∷ bs) = []
 
--- Its lines, each with a line feed behind it; of an empty paragraph a line feed alone.
-abbrev pub written : List ℕ → List (List ℕ) → List ℕ
-written paragraph lines = with_line_feeds lines ++ empty_line paragraph
+-- Its lines, each with a line feed after it; of an empty paragraph a line feed alone.
+abbrev pub paragraph_text : List ℕ → List (List ℕ) → List ℕ
+paragraph_text paragraph lines = with_line_feeds lines ++ empty_line paragraph

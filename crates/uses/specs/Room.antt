@@ -16,5 +16,5 @@ abbrev pub places_of : List Break → List ℕ
 places_of breaks = map (λ b. b.place) breaks
 
 -- The two parts of a word at a place.
-abbrev pub parts_of : List ℕ → ℕ → List ℕ × List ℕ
-parts_of word place = (take place word, drop place word)
+abbrev pub word_parts : List ℕ → ℕ → List ℕ × List ℕ
+word_parts word place = (take place word, drop place word)

@@ -1,7 +1,7 @@
 -- A text with soft hyphens put in.
 use Rattle.std.specs.Prelude.{ℕ, List, [], ◌∷◌}
 use Rattle.hyphenation_commons.specs.Break.{Break}
-use Rattle.hyphenation.specs.Hyphenated.{joined}
+use Rattle.hyphenation.specs.Hyphenated.{marked_word}
 use Rattle.hyphenation.specs.SoftHyphens.{soft_hyphens}
 
 -- U+00AD in UTF-8.
@@ -14,5 +14,5 @@ unless_marked [] piece becomes = becomes
 unless_marked (place ∷ places) piece becomes = piece
 
 -- A piece with a soft hyphen at each break; one that has soft hyphens of its own stays as it is.
-abbrev pub softened : (List ℕ → List Break) → List ℕ → List ℕ
-softened breaks piece = unless_marked (soft_hyphens piece) piece (joined soft_hyphen piece (breaks piece))
+abbrev pub with_soft_hyphens : (List ℕ → List Break) → List ℕ → List ℕ
+with_soft_hyphens breaks piece = unless_marked (soft_hyphens piece) piece (marked_word soft_hyphen piece (breaks piece))

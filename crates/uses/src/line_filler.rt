@@ -3,7 +3,7 @@
 ghost use Rattle.std.specs.Prelude.{◌≡◌, ◌<◌, ℕ, IfOk, IfSome, length, slice_index};
 ghost use Rattle.std.specs.Option.{option_map};
 ghost use Rattle.std.specs.Str.{IsCharBoundary};
-ghost use Rattle.uses.specs.Room.{leaves_room, last_room, places_of, parts_of};
+ghost use Rattle.uses.specs.Room.{leaves_room, last_room, places_of, word_parts};
 
 use hyphenation::Hyphenator;
 use std::alloc::{AllocError, Global};
@@ -43,7 +43,7 @@ pub fn break_to_fit<'h, 't, H: Hyphenator<'h, Opportunity = usize>>(
 ) -> Result<Option<(&'t str, &'t str)>, AllocError>
     ensures { IfOk result (λ found.
         option_map (λ parts. (parts.0.now, parts.1.now)) found
-        ≡ option_map (parts_of word.now)
+        ≡ option_map (word_parts word.now)
         (last_room word.now columns (places_of (H.breaks_of dictionary.now word.now)))) }
 {
     let word = dictionary.hyphenate(alloc, word)?;

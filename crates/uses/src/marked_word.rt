@@ -2,7 +2,7 @@
 
 ghost use Rattle.std.specs.Prelude.{◌≡◌, IfOk};
 ghost use Rattle.std.specs.String.{string_bytes};
-ghost use Rattle.hyphenation.specs.Hyphenated.{joined};
+ghost use Rattle.hyphenation.specs.Hyphenated.{marked_word};
 
 use hyphenation::Hyphenator;
 use hyphenation::iter::joined::push_marked;
@@ -18,7 +18,7 @@ pub fn marked_word<'h, H: Hyphenator<'h>>(
     mark: &str,
 ) -> Result<String, AllocError>
     ensures { IfOk result (λ marked.
-        string_bytes marked ≡ joined mark.now word.now (H.breaks_of dictionary.now word.now)) }
+        string_bytes marked ≡ marked_word mark.now word.now (H.breaks_of dictionary.now word.now)) }
 {
     let word = dictionary.hyphenate(alloc, word)?;
     let mut marked = String::new(alloc);

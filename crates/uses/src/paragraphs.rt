@@ -6,13 +6,13 @@ ghost use Rattle.std.specs.Str.Lines.{lines};
 ghost use Rattle.std.specs.String.{string_bytes};
 ghost use Rattle.linefill.specs.Lines.{lines_by};
 ghost use Rattle.linefill.specs.Run.{with_line_feeds};
-ghost use Rattle.uses.specs.Paragraphs.{written};
+ghost use Rattle.uses.specs.Paragraphs.{paragraph_text};
 
 use hyphenation::Hyphenator;
 use linefill::fill;
 use std::alloc::{AllocError, Global};
 
-/// Appends lines, each with a line feed behind it.
+/// Appends lines, each with a line feed after it.
 fn push_lines(page: &mut String, lines: &[String]) -> Result<(), AllocError>
     ensures { OnOk result (string_bytes page.new ≡ string_bytes page.old ++ with_line_feeds
         (map string_bytes lines.now)) }
@@ -24,14 +24,14 @@ fn push_lines(page: &mut String, lines: &[String]) -> Result<(), AllocError>
     Ok(())
 }
 
-/// Appends the lines of a paragraph, each with a line feed behind it; of an empty one a line feed alone.
+/// Appends the lines of a paragraph, each with a line feed after it; of an empty one a line feed alone.
 fn push_paragraph<'h, H: Hyphenator<'h, Opportunity = usize>>(
     page: &mut String,
     dictionary: &'h H,
     paragraph: &str,
     columns: usize,
 ) -> Result<(), AllocError>
-    ensures { OnOk result (string_bytes page.new ≡ string_bytes page.old ++ written paragraph.now
+    ensures { OnOk result (string_bytes page.new ≡ string_bytes page.old ++ paragraph_text paragraph.now
         (lines_by (H.breaks_of dictionary.now) paragraph.now columns)) }
 {
     let lines = fill(*page.allocator(), dictionary, paragraph, columns)?;
@@ -44,7 +44,7 @@ fn push_paragraph<'h, H: Hyphenator<'h, Opportunity = usize>>(
 
 /// A text whose paragraphs, parted by line ends, are filled to so many columns, each by itself.
 ///
-/// The lines are those of [`fill`], in their order, each with a line feed behind it; an empty paragraph stays as an
+/// The lines are those of [`fill`], in their order, each with a line feed after it; an empty paragraph stays as an
 /// empty line. The only error is that memory was refused.
 pub fn fill_paragraphs<'h, H: Hyphenator<'h, Opportunity = usize>>(
     alloc: Global,
@@ -54,7 +54,7 @@ pub fn fill_paragraphs<'h, H: Hyphenator<'h, Opportunity = usize>>(
 ) -> Result<String, AllocError>
     ensures { IfOk result (λ page.
         string_bytes page
-        ≡ flat_map (λ paragraph. written paragraph (lines_by (H.breaks_of dictionary.now) paragraph columns))
+        ≡ flat_map (λ paragraph. paragraph_text paragraph (lines_by (H.breaks_of dictionary.now) paragraph columns))
         (lines text.now)) }
 {
     let mut page = String::new(alloc);

@@ -4,7 +4,7 @@ ghost use Rattle.std.specs.Prelude.{◌≡◌, ◌++◌, IfOk, OnOk};
 ghost use Rattle.std.specs.List.{flat_map};
 ghost use Rattle.std.specs.String.{string_bytes};
 ghost use Rattle.unicode_segmentation.specs.Word.{word_bounds};
-ghost use Rattle.uses.specs.SoftHyphens.{softened};
+ghost use Rattle.uses.specs.SoftHyphens.{with_soft_hyphens};
 
 use hyphenation::Hyphenator;
 use hyphenation::hyphenator::soft_hyphen_indices;
@@ -18,7 +18,7 @@ fn push_piece<'h, H: Hyphenator<'h>>(
     dictionary: &'h H,
     piece: &str,
 ) -> Result<(), AllocError>
-    ensures { OnOk result (string_bytes page.new ≡ string_bytes page.old ++ softened (H.breaks_of dictionary.now)
+    ensures { OnOk result (string_bytes page.new ≡ string_bytes page.old ++ with_soft_hyphens (H.breaks_of dictionary.now)
         piece.now) }
 {
     let alloc = *page.allocator();
@@ -37,7 +37,7 @@ pub fn with_soft_hyphens<'h, H: Hyphenator<'h>>(
     text: &str,
 ) -> Result<String, AllocError>
     ensures { IfOk result (λ page.
-        string_bytes page ≡ flat_map (softened (H.breaks_of dictionary.now)) (word_bounds text.now)) }
+        string_bytes page ≡ flat_map (with_soft_hyphens (H.breaks_of dictionary.now)) (word_bounds text.now)) }
 {
     let mut page = String::new(alloc);
     for piece in text.split_word_bounds() {

@@ -75,7 +75,7 @@ fn changed_score_by(rt: &HostRuntime, path: &str, word: &str) -> Answer {
     answer_to(rt, &["score", "extended", "hu", path, word])
 }
 
-/// Whether a dictionary of these bytes is refused with that message behind its path.
+/// Whether a dictionary of these bytes is refused with that message after its path.
 fn is_refused(
     rt: &HostRuntime,
     kind: &str,
@@ -243,7 +243,7 @@ fn a_path_that_is_missing_or_a_folder_is_a_fault_of_the_dictionary(rt: HostRunti
     }
 }
 
-/// What the program answers for a text, a dictionary of that kind and code, and the words behind its path.
+/// What the program answers for a text, a dictionary of that kind and code, and the words after its path.
 fn hyphenated_by(
     rt: &HostRuntime,
     kind: &str,
@@ -263,7 +263,7 @@ fn hyphenated_by(
 }
 
 #[test]
-fn a_text_is_hyphenated_behind_edits(rt: HostRuntime) -> Result<(), Fail> {
+fn a_text_is_hyphenated_after_edits(rt: HostRuntime) -> Result<(), Fail> {
     let path = file(&rt, "text", FIRKIN.as_bytes())?;
     let cases: [(&[&str], &str); 6] = [
         (&["\u{ad}"], "Fir\u{ad}kin, fir\u{ad}k\u{ad}ins.\n"),

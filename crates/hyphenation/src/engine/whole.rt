@@ -4,10 +4,10 @@ ghost use Rattle.std.specs.Prelude.{◌≡◌, ◌≢◌, List, ℕ, IsTrue, IfE
 ghost use Rattle.std.specs.IoError.{error_kind};
 ghost use Rattle.std.specs.String.{string_bytes};
 ghost use Rattle.hyphenation_commons.specs.Break.{Break};
-ghost use Rattle.hyphenation_commons.specs.Edits.{is_good};
+ghost use Rattle.hyphenation_commons.specs.Edits.{is_good_edit};
 ghost use Rattle.hyphenation_commons.specs.Judging.{refusal_of};
 ghost use Rattle.hyphenation.specs.Engine.{IsOfEdits, IsOfInput, IsOfText, JudgesDictionary, JudgesEdits, JudgesText, IsUnwritten, HoldsNoWant, language_in};
-ghost use Rattle.hyphenation.specs.Hyphenated.{hyphenated};
+ghost use Rattle.hyphenation.specs.Hyphenated.{hyphenated_text};
 ghost use Rattle.hyphenation.specs.Load.{ReadsIn, IsNoWant};
 
 use super::RunError;
@@ -36,7 +36,7 @@ pub(super) trait WholeTexts: Drop {
     /// The dictionary that an accepted text gives.
     ghost contents: { List ℕ → Self };
 
-    /// The dictionary behind an edit.
+    /// The dictionary after an edit.
     ghost edited: { Self → List ℕ → Self };
 
     /// The breaks of a word as written.
@@ -50,28 +50,28 @@ pub(super) trait WholeTexts: Drop {
 
     /// Does what an edit says. Whether the edit is good.
     fn edit(&mut self, alloc: Global, edit: &str) -> Result<bool, AllocError>
-        ensures good { IfOk result (λ good. good ≡ is_good kind edit.now) }
-        ensures done { IfOk result (λ good. IsTrue good → self.new ≡ edited self.old edit.now) };
+        ensures good { IfOk result (λ good. good ≡ is_good_edit kind edit.now) }
+        ensures done { IfOk result (λ good. IsTrue good → self.new ≡ after_edit self.old edit.now) };
 
     /// The text with its words hyphenated.
     fn hyphenated(&self, alloc: Global, mark: &str, text: &str) -> Result<String, AllocError>
-        ensures { IfOk result (λ output. string_bytes output ≡ hyphenated (breaks_of self.now) mark.now text.now) };
+        ensures { IfOk result (λ output. string_bytes output ≡ hyphenated_text (all_breaks_of self.now) mark.now text.now) };
 }
 
 impl WholeTexts for Standard {
     ghost use Rattle.hyphenation_commons.specs.declared.grammar.form.Kind.TheVariants.{Standard as OfStandard};
     ghost use Rattle.hyphenation_commons.specs.Break.{plain};
-    ghost use Rattle.hyphenation_commons.specs.Edits.{edited};
-    ghost use Rattle.hyphenation_commons.specs.Reading.{place_alone, standard_contents};
-    ghost use Rattle.hyphenation.specs.Opportunities.{no_change, rules_of, breaks_of};
+    ghost use Rattle.hyphenation_commons.specs.Edits.{after_edit};
+    ghost use Rattle.hyphenation_commons.specs.Reading.{place_as_listing, standard_contents};
+    ghost use Rattle.hyphenation.specs.Opportunities.{no_change, rules_of, all_breaks_of};
 
     ghost kind = { OfStandard };
 
     ghost contents = { standard_contents };
 
-    ghost edited = { edited place_alone };
+    ghost edited = { after_edit place_as_listing };
 
-    ghost breaks_of = { λ dictionary word. breaks_of (rules_of no_change plain dictionary) word };
+    ghost breaks_of = { λ dictionary word. all_breaks_of (rules_of no_change plain dictionary) word };
 
     fn load<D: Read>(alloc: Global, lang: Language, reader: &mut D) -> load::Result<Standard> {
         Standard::from_reader(alloc, lang, reader)
@@ -88,8 +88,8 @@ impl WholeTexts for Standard {
 
 impl WholeTexts for Extended {
     ghost use Rattle.hyphenation_commons.specs.declared.grammar.form.Kind.TheVariants.{Extended as OfExtended};
-    ghost use Rattle.hyphenation_commons.specs.Edits.{edited};
-    ghost use Rattle.hyphenation_commons.specs.Reading.{place_and_change, extended_contents};
+    ghost use Rattle.hyphenation_commons.specs.Edits.{after_edit};
+    ghost use Rattle.hyphenation_commons.specs.Reading.{break_as_listing, extended_contents};
     ghost use Rattle.hyphenation.specs.Fitting.{fitted_breaks_of};
     ghost use Rattle.hyphenation.specs.Opportunities.{own_change, own_break, rules_of};
 
@@ -97,7 +97,7 @@ impl WholeTexts for Extended {
 
     ghost contents = { extended_contents };
 
-    ghost edited = { edited place_and_change };
+    ghost edited = { after_edit break_as_listing };
 
     ghost breaks_of = { λ dictionary word. fitted_breaks_of (rules_of own_change own_break dictionary) word };
 
@@ -168,7 +168,7 @@ pub fn read_input<I: Read>(alloc: Global, input: &mut I) -> Result<String, RunEr
     }
 }
 
-/// The whole of a text, hyphenated by a kind of dictionary behind edits.
+/// The whole of a text, hyphenated by a kind of dictionary after edits.
 pub(super) fn whole_text<K: WholeTexts, D: Read, I: Read>(
     alloc: Global,
     lang: Language,
@@ -182,7 +182,7 @@ pub(super) fn whole_text<K: WholeTexts, D: Read, I: Read>(
     ensures edits { JudgesEdits K.kind (map (λ edit. edit.now) edits.now) result }
     ensures text { IfSome (I.remaining input.old) (λ text. JudgesText text result) }
     ensures output { IfOk result (λ output. IfSome (D.remaining reader.old) (λ bytes. IfSome (I.remaining input.old) (λ text.
-        string_bytes output ≡ hyphenated (K.breaks_of (fold K.edited (K.contents bytes) (map (λ edit. edit.now) edits.now))) mark.now text))) }
+        string_bytes output ≡ hyphenated_text (K.breaks_of (fold K.edited (K.contents bytes) (map (λ edit. edit.now) edits.now))) mark.now text))) }
     ensures unwritten { IfErr result IsUnwritten }
     ensures kind { IfErr result HoldsNoWant }
 {

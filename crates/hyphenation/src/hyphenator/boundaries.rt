@@ -14,7 +14,7 @@ pub fn boundaries_of(minima: (usize, usize), word: &str) -> Option<(usize, usize
     ensures left { IfSome result (λ bounds. IsCharBoundary word.now bounds.0) }
     ensures right { IfSome result (λ bounds. IsCharBoundary word.now bounds.1) }
 {
-    // Only the characters outside of the bounds are read: those before the first, and those behind the last.
+    // Only the characters outside of the bounds are read: those before the first, and those after the last.
     let (left, right) = minima;
     let last = place_from_end(word, right.max(1))?;
     let first = place_of(word, left);

@@ -12,7 +12,7 @@ use hyphenation_commons::dictionary::Entry;
 use hyphenation_commons::trie::automaton::Automaton;
 use std::alloc::{AllocError, Global};
 
-/// The first place from one on, and no greater than an end, that has an odd value; the place behind the end where none
+/// The first place from one on, and no greater than an end, that has an odd value; the place after the end where none
 /// has.
 #[inline(always)]
 fn first_odd(values: &[u8], first: usize, end: usize) -> usize
@@ -42,7 +42,7 @@ fn odd_places(
         ≡ filter (λ place. is_odd (slice_index values.now (place - 1)) && within bounds place)
         (range_with_len 1 (length values.now))) }
 {
-    // No place before the first bound or behind the second is looked at.
+    // No place before the first bound or after the second is looked at.
     let first = bounds.0.max(1);
     let end = values.len().min(bounds.1);
     let least = first_odd(values, first, end);

@@ -26,7 +26,7 @@ impl<'t, B: Break> Word<'t, B> {
     }
 
     /// Whether breaks fit a text: their places ascend strictly from 0 to the text's length, both included; no range
-    /// begins before the text or before the end of the range before it, or ends behind the text; and each place and
+    /// begins before the text or before the end of the range before it, or ends after the text; and each place and
     /// both ends of each range are character boundaries. The range of a plain break is empty, at its place.
     pub fn fits(text: &str, breaks: &[B]) -> bool
         ensures { IsTrue result ↔ Fits text.now (map B.meaning breaks.now) }
@@ -60,7 +60,7 @@ impl<'t, B: Break + Copy> Word<'t, B> {
     }
 }
 
-// Where the range of a break ends, if the break stands in the text behind the end of the last range and no earlier than
+// Where the range of a break ends, if the break stands in the text after the end of the last range and no earlier than
 // the least place.
 fn end_in<B: Break>(text: &str, last_end: usize, least: usize, b: &B) -> Option<usize>
     ensures { MatchOption result (¬ (Stands text.now last_end least (B.meaning b.now)))
@@ -68,11 +68,11 @@ fn end_in<B: Break>(text: &str, last_end: usize, least: usize, b: &B) -> Option<
 {
     let place = b.place();
     let (begin, end) = b.range()?;
-    let is_behind = place >= least && begin >= last_end;
+    let is_after = place >= least && begin >= last_end;
     let is_at_characters = text.is_char_boundary(place)
         && text.is_char_boundary(begin)
         && text.is_char_boundary(end);
-    if is_behind && is_at_characters {
+    if is_after && is_at_characters {
         Some(end)
     } else {
         None

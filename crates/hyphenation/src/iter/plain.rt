@@ -19,19 +19,19 @@ use std::slice;
 pub struct Segments<'t, I: Breaks<Item = usize>> {
     text: &'t str,
     breaks: I,
-    // The place of the last break, 0 before the first one, and nothing behind the last segment.
+    // The place of the last break, 0 before the first one, and nothing after the last segment.
     start: Option<usize>,
 }
 
 impl<'t, I: Breaks<Item = usize>> Model for Segments<'t, I> {
     ghost use Rattle.std.specs.Prelude.{List, ℕ};
-    ghost use Rattle.hyphenation.specs.Coming.{segments_from, FitsBehind, MayAsk};
+    ghost use Rattle.hyphenation.specs.Coming.{segments_from, FitsAfter, MayAsk};
 
     ghost Value = { List (List ℕ) };
 
     ghost view = { λ s. segments_from s.text.now s.start (I.to_come s.breaks) };
 
-    ghost invariant = { λ s. FitsBehind s.text.now s.start (I.to_come s.breaks) × MayAsk s.start (I.is_over s.breaks) };
+    ghost invariant = { λ s. FitsAfter s.text.now s.start (I.to_come s.breaks) × MayAsk s.start (I.is_over s.breaks) };
 }
 
 impl<'t, I: Breaks<Item = usize>> Segments<'t, I> {

@@ -6,14 +6,14 @@
 ghost use Rattle.std.specs.Prelude.{◌≡◌, ◌+◌, ◌-◌, ◌*◌, ◌<◌, ◌≤◌, ◌^◌, ◌==◌, if◌then◌else◌, ℕ, List, None, Some, length, filter, map, take, option_copied, IfOk, OnOk};
 ghost use Rattle.hyphenation_commons.specs.Dictionary.{keys_of, longest_key};
 ghost use Rattle.hyphenation_commons.specs.Links.{IsLongest, keys_in};
-ghost use Rattle.hyphenation_commons.specs.Trie.{text_of, key_at, EachBeginsKey};
+ghost use Rattle.hyphenation_commons.specs.Trie.{node_text, key_at, EachBeginsKey};
 ghost use Rattle.hyphenation.specs.Scoring.{frame, first_greatest, winners};
 ghost use Rattle.hyphenation.specs.OnePass.{occurrences};
 ghost use Rattle.hyphenation.specs.Winners.{best_of, meets, Sane, Holds, Asked};
 
 use super::framed_at;
 use hyphenation_commons::breaks::Break;
-use hyphenation_commons::dictionary::{Carried, Dictionary, Entry};
+use hyphenation_commons::dictionary::{Payload, Dictionary, Entry};
 use hyphenation_commons::trie::LookUps;
 use hyphenation_commons::trie::automaton::Automaton;
 use std::alloc::{AllocError, Global};
@@ -97,12 +97,12 @@ fn compete_reported<'d, C: Drop>(
     requires holds { (i : ℕ) → i < length bests.old
         → Holds (key_at automaton.now) (frame word.now) (i + 1) (Asked (frame word.now) end 0)
         (best_of bests.old starts.old i) }
-    requires room { count.old.reported + length (text_of automaton.now from) + 1 < 2 ^ 128 }
+    requires room { count.old.reported + length (node_text automaton.now from) + 1 < 2 ^ 128 }
     ensures holds { (i : ℕ) → i < length bests.old
         → Holds (key_at automaton.now) (frame word.now) (i + 1) (Asked (frame word.now) (end + 1) 0)
         (best_of bests.new starts.new i) }
     ensures reported { count.new.reported
-        ≡ count.old.reported + keys_in automaton.now (text_of automaton.now from) (length (text_of automaton.now from)) }
+        ≡ count.old.reported + keys_in automaton.now (node_text automaton.now from) (length (node_text automaton.now from)) }
     ensures made { count.new.made ≡ count.old.made }
 {
     let _root = automaton.root();
@@ -160,7 +160,7 @@ pub(crate) fn winners_in<'d, C: Drop>(
 /// from the winner what they need. The look-ups and the reports are counted, and the only error is
 /// memory.
 #[inline(always)]
-pub fn winners<'d, C: Carried, B: Break>(
+pub fn winners<'d, C: Payload, B: Break>(
     alloc: Global,
     dictionary: &'d Dictionary<C, B>,
     word: &str,

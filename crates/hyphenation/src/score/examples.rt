@@ -1,7 +1,7 @@
 //! Worked examples of values and winners, proved by computation.
 
 ghost use Rattle.std.specs.Prelude.{◌≡◌, [], ◌∷◌, codes, Some, None};
-ghost use Rattle.hyphenation.specs.Examples.{english, early_and_late, short_and_long, dotted, carried};
+ghost use Rattle.hyphenation.specs.Examples.{english, early_and_late, short_and_long, dotted, changes_won};
 ghost use Rattle.hyphenation.specs.Scoring.{values};
 
 /// In `firkin` the 5 of `r5kin` is above the 2 of `r2k`, and the 2 of `k2in.` above the 1 of `k1in`.
@@ -16,12 +16,12 @@ fn firkins()
 
 /// In `cabd` both `a1b` and `ca1bd` give 1 at place 2, and `ca1bd` wins, since it starts first.
 fn cabd()
-    ensures { carried early_and_late (codes "cabd") ≡ None ∷ Some 9 ∷ None ∷ [] }
+    ensures { changes_won early_and_late (codes "cabd") ≡ None ∷ Some 9 ∷ None ∷ [] }
 {}
 
 /// In `abd` both `a1b` and `a1bd` give 1 at place 1, and `a1b` wins, since it is shorter.
 fn abd()
-    ensures { carried short_and_long (codes "abd") ≡ Some 7 ∷ None ∷ [] }
+    ensures { changes_won short_and_long (codes "abd") ≡ Some 7 ∷ None ∷ [] }
 {}
 
 /// In `a.bcd` the dot of `.b1c` stands at the word's own dot.

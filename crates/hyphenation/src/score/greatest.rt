@@ -6,12 +6,12 @@
 ghost use Rattle.std.specs.Prelude.{◌≡◌, ◌+◌, ◌-◌, ◌*◌, ◌<◌, ◌≤◌, ◌^◌, ◌==◌, ◌++◌, ◌∷◌, [], if◌then◌else◌, max, ℕ, List, None, length, filter, slice_index, IfOk, OnOk};
 ghost use Rattle.hyphenation_commons.specs.Dictionary.{keys_of, longest_key};
 ghost use Rattle.hyphenation_commons.specs.Links.{IsLongest, keys_in};
-ghost use Rattle.hyphenation_commons.specs.Trie.{text_of, key_at, EachBeginsKey};
-ghost use Rattle.hyphenation.specs.OnePass.{ending, occurrences};
+ghost use Rattle.hyphenation_commons.specs.Trie.{node_text, key_at, EachBeginsKey};
+ghost use Rattle.hyphenation.specs.OnePass.{entries_of_ends, occurrences};
 ghost use Rattle.hyphenation.specs.Scoring.{frame, greatest_value, values};
 
 use hyphenation_commons::breaks::Break;
-use hyphenation_commons::dictionary::{Carried, Dictionary, Entry};
+use hyphenation_commons::dictionary::{Payload, Dictionary, Entry};
 use hyphenation_commons::trie::LookUps;
 use hyphenation_commons::trie::automaton::Automaton;
 use std::alloc::{AllocError, Global};
@@ -23,9 +23,9 @@ fn raise_at(values: &mut [u8], start: usize, place: usize, value: u8)
     ensures { (i : ℕ) → i < length values.old
         → slice_index values.new i ≡ max (slice_index values.old i) (if start + place == (i + 1) + 1 then value else 0) }
 {
-    // A place behind the word is passed over first, so that no sum is too great.
+    // A place after the word is passed over first, so that no sum is too great.
     if place <= values.len() + 1 {
-        // The frame has a dot before the word, and the first place stands behind the word's first byte.
+        // The frame has a dot before the word, and the first place stands after the word's first byte.
         let at = (start + place).wrapping_sub(2);
         if at < values.len() && values[at] < value {
             values[at] = value;
@@ -56,16 +56,16 @@ fn raise_reported<C: Drop>(
     count: &mut LookUps,
 )
     requires from { from < length automaton.now.texts }
-    requires end { length (text_of automaton.now from) ≤ end }
+    requires end { length (node_text automaton.now from) ≤ end }
     requires within { end ≤ length values.old + 3 }
     requires short { length values.old + 1 < 2 ^ 63 }
-    requires room { count.old.reported + length (text_of automaton.now from) + 1 < 2 ^ 128 }
+    requires room { count.old.reported + length (node_text automaton.now from) + 1 < 2 ^ 128 }
     ensures values { (i : ℕ) → i < length values.old
         → slice_index values.new i
         ≡ max (slice_index values.old i)
-        (greatest_value (ending (key_at automaton.now) (text_of automaton.now from) end (i + 1))) }
+        (greatest_value (entries_of_ends (key_at automaton.now) (node_text automaton.now from) end (i + 1))) }
     ensures reported { count.new.reported
-        ≡ count.old.reported + keys_in automaton.now (text_of automaton.now from) (length (text_of automaton.now from)) }
+        ≡ count.old.reported + keys_in automaton.now (node_text automaton.now from) (length (node_text automaton.now from)) }
     ensures made { count.new.made ≡ count.old.made }
 {
     let _root = automaton.root();
@@ -88,23 +88,23 @@ fn read<C: Drop>(
     count: &mut LookUps,
 ) -> usize
     requires from { from < length automaton.now.texts }
-    requires end { length (text_of automaton.now from) + 1 ≤ end }
+    requires end { length (node_text automaton.now from) + 1 ≤ end }
     requires within { end ≤ length values.old + 3 }
     requires short { length values.old + 1 < 2 ^ 63 }
     requires made { count.old.made ≤ 2 ^ 100 }
     requires reported { count.old.reported ≤ 2 ^ 127 }
-    ensures longest { IsLongest automaton.now.texts (text_of automaton.now from ++ byte ∷ []) result }
+    ensures longest { IsLongest automaton.now.texts (node_text automaton.now from ++ byte ∷ []) result }
     ensures values { (i : ℕ) → i < length values.old
         → slice_index values.new i
         ≡ max (slice_index values.old i)
-        (greatest_value (ending (key_at automaton.now) (text_of automaton.now result) end (i + 1))) }
+        (greatest_value (entries_of_ends (key_at automaton.now) (node_text automaton.now result) end (i + 1))) }
     ensures least { count.old.made + 1 ≤ count.new.made }
-    ensures most { count.new.made + length (text_of automaton.now result)
-        ≤ count.old.made + length (text_of automaton.now from) + 2 }
-    ensures alone { count.new.made ≤ count.old.made + length (text_of automaton.now from) + 1 }
+    ensures most { count.new.made + length (node_text automaton.now result)
+        ≤ count.old.made + length (node_text automaton.now from) + 2 }
+    ensures alone { count.new.made ≤ count.old.made + length (node_text automaton.now from) + 1 }
     ensures reported { count.new.reported
-        ≡ count.old.reported + keys_in automaton.now (text_of automaton.now result)
-        (length (text_of automaton.now result)) }
+        ≡ count.old.reported + keys_in automaton.now (node_text automaton.now result)
+        (length (node_text automaton.now result)) }
 {
     let node = automaton.step(from, byte, count);
     raise_reported(automaton, node, end, values, count);
@@ -131,7 +131,7 @@ pub(crate) fn raise_all<C: Drop>(
     ensures least { count.old.made + (length word.now + 2) ≤ count.new.made }
     ensures reported { count.new.reported ≡ count.old.reported + occurrences (key_at automaton.now) (frame word.now) }
 {
-    // The dots of the frame are read before the word and behind it.
+    // The dots of the frame are read before the word and after it.
     let root = automaton.root();
     let mut node = read(automaton, root, b'.', 1, scores, count);
     for at in 0..word.len() {
@@ -171,7 +171,7 @@ pub(super) fn values_in<C: Drop>(
 ///
 /// The look-ups and the reports are counted, and the only error is memory.
 #[inline(always)]
-pub(super) fn values<C: Carried, B: Break>(
+pub(super) fn values<C: Payload, B: Break>(
     alloc: Global,
     dictionary: &Dictionary<C, B>,
     word: &str,

@@ -1,4 +1,4 @@
-//! Edits of a dictionary's exceptions, as a user writes them: `+` and an exception as it stands behind `e ` in a
+//! Edits of a dictionary's exceptions, as a user writes them: `+` and an exception as it stands after `e ` in a
 //! line of a dictionary text of that kind, or `-` and a word.
 //!
 //! ```text
@@ -11,10 +11,10 @@
 //! may be an exception already.
 
 ghost use Rattle.std.specs.Prelude.{◌≡◌, IfOk, IsTrue, IsUtf8, OnErr, not};
-ghost use Rattle.hyphenation_commons.specs.Edits.{FourTests, LastDecides, Reads, VersionsAgree};
-ghost use Rattle.hyphenation_commons.specs.Edits.{as_line, edited, has_feed, is_good, is_sound, is_word_alone, with_exception, without_exception};
+ghost use Rattle.hyphenation_commons.specs.Edits.{FourTests, LastDecides, ReadsException, VersionsAgree};
+ghost use Rattle.hyphenation_commons.specs.Edits.{as_line, after_edit, has_feed, is_good_edit, is_sound_line, is_word_alone, with_exception, without_exception};
 
-use crate::dictionary::{Carried, Dictionary, Listed};
+use crate::dictionary::{Payload, Dictionary, Listing};
 use crate::grammar::form::{Form, Kind, Version};
 use crate::grammar::items::{Fault, exception_of};
 use std::alloc::{AllocError, Global};
@@ -23,14 +23,14 @@ use std::alloc::{AllocError, Global};
 /// as it was. The kind is to be the dictionary's: by another one changes are refused, or dropped.
 ///
 /// The only error is memory, and then the dictionary is as it was too.
-pub fn apply_edit<C: Carried, B: Listed>(
+pub fn apply_edit<C: Payload, B: Listing>(
     alloc: Global,
     kind: Kind,
     dictionary: &mut Dictionary<C, B>,
     edit: &str,
 ) -> Result<bool, AllocError>
-    ensures good { IfOk result (λ good. good ≡ is_good kind edit.now) }
-    ensures done { IfOk result (λ good. IsTrue good → dictionary.new ≡ edited B.lists dictionary.old edit.now) }
+    ensures good { IfOk result (λ good. good ≡ is_good_edit kind edit.now) }
+    ensures done { IfOk result (λ good. IsTrue good → dictionary.new ≡ after_edit B.listing_of dictionary.old edit.now) }
     ensures refused { IfOk result (λ good. IsTrue (not good) → dictionary.new ≡ dictionary.old) }
     ensures err { OnErr result (dictionary.new ≡ dictionary.old) }
 {
@@ -53,16 +53,16 @@ fn has_feed(edit: &[u8]) -> bool
 }
 
 /// Lists breaks for a word, in place of those that were listed, where the exception is sound. Whether it is.
-fn add<C: Carried, B: Listed>(
+fn add<C: Payload, B: Listing>(
     alloc: Global,
     kind: Kind,
     dictionary: &mut Dictionary<C, B>,
     exception: &[u8],
 ) -> Result<bool, AllocError>
     requires { IsUtf8 exception.now }
-    ensures good { IfOk result (λ good. good ≡ is_sound kind (as_line exception.now)) }
+    ensures good { IfOk result (λ good. good ≡ is_sound_line kind (as_line exception.now)) }
     ensures done { IfOk result (λ good.
-        IsTrue good → dictionary.new ≡ with_exception B.lists dictionary.old (as_line exception.now)) }
+        IsTrue good → dictionary.new ≡ with_exception B.listing_of dictionary.old (as_line exception.now)) }
     ensures refused { IfOk result (λ good. IsTrue (not good) → dictionary.new ≡ dictionary.old) }
     ensures err { OnErr result (dictionary.new ≡ dictionary.old) }
 {
@@ -76,7 +76,7 @@ fn add<C: Carried, B: Listed>(
 }
 
 /// Takes a word out of the exceptions, where it is sound and stands alone. Whether it is so.
-fn remove<C: Carried, B: Listed>(
+fn remove<C: Payload, B: Listing>(
     alloc: Global,
     kind: Kind,
     dictionary: &mut Dictionary<C, B>,
@@ -102,13 +102,13 @@ fn remove<C: Carried, B: Listed>(
 }
 
 /// The word of an exception and its listed breaks, where its line fails no test by itself.
-fn read_exception<B: Listed>(
+fn read_exception<B: Listing>(
     alloc: Global,
     kind: Kind,
     exception: &[u8],
 ) -> Result<Option<(String, Vec<B>)>, AllocError>
     requires { IsUtf8 exception.now }
-    ensures { IfOk result (λ found. Reads kind B.lists found (as_line exception.now)) }
+    ensures { IfOk result (λ found. ReadsException kind B.listing_of found (as_line exception.now)) }
 {
     // Both versions write an exception alike.
     let form = Form {

@@ -2,7 +2,7 @@
 
 ghost use Rattle.std.specs.Prelude.{◌≡◌, [], ◌∷◌, codes, map, Some, None};
 ghost use Rattle.hyphenation_commons.specs.Examples.{extended_first, judged, standard_first, standard_second};
-ghost use Rattle.hyphenation_commons.specs.Items.{pattern_of, exception_of};
+ghost use Rattle.hyphenation_commons.specs.Items.{pattern_of_line, exception_of_line};
 ghost use Rattle.hyphenation_commons.specs.Judging.{refusal_of};
 ghost use Rattle.hyphenation_commons.specs.declared.grammar.form.Kind.TheVariants.{Standard};
 ghost use Rattle.hyphenation_commons.specs.declared.grammar.form.Version.TheVariants.{First, Second};
@@ -18,9 +18,9 @@ fn changes()
         ≡ None ∷ None ∷ [] }
 {}
 
-/// A pattern's value carries the change that is listed at its place; all behind the fourth comma is the substitution.
+/// A pattern's value carries the change that is listed at its place; all after the fourth comma is the substitution.
 fn carried()
-    ensures pattern { pattern_of First (codes "p a1b 1,1,0,1,x")
+    ensures pattern { pattern_of_line First (codes "p a1b 1,1,0,1,x")
         ≡ Some (
           codes "ab",
           record {
@@ -35,22 +35,22 @@ fn carried()
             });
           } ∷ [],
         ) }
-    ensures comma { exception_of (codes "e ab 1,1,1,2,a,b")
+    ensures comma { exception_of_line (codes "e ab 1,1,1,2,a,b")
         ≡ Some (
           codes "ab",
           record
               { place = 1; change = Some (record { left = 1; right = 1; substitution = codes "a,b"; breakpoint = 2 }) } ∷
               [],
         ) }
-    ensures plain { pattern_of First (codes "p s1szo0")
+    ensures plain { pattern_of_line First (codes "p s1szo0")
         ≡ Some (codes "sszo", record { place = 1; value = 1; change = None } ∷ []) }
 {}
 
 /// In the second version a number from 10 to 255 in braces is one value, and braces are escaped as letters.
 fn braces()
-    ensures value { pattern_of Second (codes "p a{255}b")
+    ensures value { pattern_of_line Second (codes "p a{255}b")
         ≡ Some (codes "ab", record { place = 1; value = 255; change = None } ∷ []) }
-    ensures letters { pattern_of Second (codes "p \\{1\\}")
+    ensures letters { pattern_of_line Second (codes "p \\{1\\}")
         ≡ Some (codes "{}", record { place = 1; value = 1; change = None } ∷ []) }
     ensures bad { map (judged standard_second) (codes "p a{9}b" ∷ codes "p a{010}b" ∷ codes "p a{256}b" ∷ codes "p a{}b" ∷ codes "p a{10" ∷ codes "p a}b" ∷ codes "p {1\\0}" ∷ codes "p {10\\}" ∷ codes "p }12" ∷ [])
         ≡ Some Value ∷ Some Value ∷ Some Value ∷ Some Value ∷ Some Value ∷ Some Value ∷ Some Value ∷ Some Value ∷ Some Value ∷ [] }

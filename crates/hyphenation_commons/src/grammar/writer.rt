@@ -3,18 +3,18 @@
 ghost use Rattle.std.specs.Prelude.{◌≡◌, ◌++◌, ◌∷◌, [], None, Some, OnOk, IfOk, decimal, flat_map, map, nat_le, option_copied};
 ghost use Rattle.std.specs.List.{list_all};
 ghost use Rattle.std.specs.FinMap as finite;
-ghost use Rattle.hyphenation_commons.specs.Canonical.{are_digits, before_comma, break_token, byte_spelling, canonical_text_of, changes_of, ended, entry_of, exception_line, language_line, later_tokens, mark_spelling, minima_line, pattern_line, pattern_token, text_token, standard_text, extended_text};
-ghost use Rattle.hyphenation_commons.specs.Form.{head};
+ghost use Rattle.hyphenation_commons.specs.Canonical.{are_digits, before_comma, break_token, byte_spelling, canonical_text_of, changes_of, with_line_feeds, entry_as_said, exception_line, language_line, later_tokens, element_spelling, minima_line, pattern_line, pattern_token, text_token, standard_text, extended_text};
+ghost use Rattle.hyphenation_commons.specs.Form.{head_line};
 ghost use Rattle.hyphenation_commons.specs.declared.grammar.form.Kind.TheVariants.{Standard as OfStandard, Extended as OfExtended};
 ghost use Rattle.hyphenation_commons.specs.Judging.{refusal_of};
 ghost use Rattle.hyphenation_commons.specs.Reading.{standard_contents, extended_contents};
-ghost use Rattle.hyphenation_commons.specs.Ordered.{as_texts, shown_keys, shown_pairs};
-ghost use Rattle.hyphenation_commons.specs.Writing.{behind_place, key_line, value_at, version_of_keys, word_line};
+ghost use Rattle.hyphenation_commons.specs.Ordered.{as_texts, key_views, pair_views};
+ghost use Rattle.hyphenation_commons.specs.Writing.{entries_after, key_line, first_value_at, version_of_keys, word_line};
 ghost use Rattle.hyphenation_commons.specs.declared.grammar.tokens.Escapes.TheVariants.{Plain};
-ghost use Rattle.hyphenation_commons.specs.declared.grammar.tokens.Mark.TheVariants.{Value};
+ghost use Rattle.hyphenation_commons.specs.declared.grammar.tokens.PatternElement.TheVariants.{Value};
 ghost use Rattle.hyphenation_commons.specs.Tokens.{pattern_escapes};
 
-use crate::dictionary::{Carried, Dictionary, Entry, Extended, Listed, Standard};
+use crate::dictionary::{Payload, Dictionary, Entry, Extended, Listing, Standard};
 use crate::extended::Subregion;
 use crate::grammar::form::{Form, Kind, Version};
 use crate::grammar::laws::written_is_read_again;
@@ -101,8 +101,8 @@ fn push_break(
     }
 }
 
-/// Listed breaks, each behind a space.
-fn push_listed<B: Listed>(text: &mut Vec<u8>, listed: &[B]) -> Result<(), AllocError>
+/// Listed breaks, each after a space.
+fn push_listed<B: Listing>(text: &mut Vec<u8>, listed: &[B]) -> Result<(), AllocError>
     ensures { OnOk result (text.new.items ≡ text.old.items ++ later_tokens (map B.meaning listed.now)) }
 {
     for b in listed {
@@ -113,7 +113,7 @@ fn push_listed<B: Listed>(text: &mut Vec<u8>, listed: &[B]) -> Result<(), AllocE
 }
 
 /// The line of a word with the breaks that are listed for it.
-fn push_exception<B: Listed>(
+fn push_exception<B: Listing>(
     text: &mut Vec<u8>,
     word: &[u8],
     listed: &[B],
@@ -127,7 +127,7 @@ fn push_exception<B: Listed>(
 
 /// A value: a digit, or a greater one in braces.
 fn push_value(text: &mut Vec<u8>, version: Version, value: u8) -> Result<(), AllocError>
-    ensures { OnOk result (text.new.items ≡ text.old.items ++ mark_spelling version (Value value)) }
+    ensures { OnOk result (text.new.items ≡ text.old.items ++ element_spelling version (Value value)) }
 {
     if value <= 9 {
         return text.extend_from_slice(&[b'0' + value]);
@@ -139,14 +139,14 @@ fn push_value(text: &mut Vec<u8>, version: Version, value: u8) -> Result<(), All
 }
 
 /// The value of the first of the entries, if that stands at this place. The entries that are left to be written.
-fn push_value_at<'a, C: Carried>(
+fn push_value_at<'a, C: Payload>(
     text: &mut Vec<u8>,
     version: Version,
     at: usize,
     entries: &'a [Entry<C>],
 ) -> Result<&'a [Entry<C>], AllocError>
-    ensures value { OnOk result (text.new.items ≡ text.old.items ++ value_at version at entries.now) }
-    ensures later { IfOk result (λ later. later.now ≡ behind_place at entries.now) }
+    ensures value { OnOk result (text.new.items ≡ text.old.items ++ first_value_at version at entries.now) }
+    ensures later { IfOk result (λ later. later.now ≡ entries_after at entries.now) }
 {
     match entries.split_first() {
         Some((first, later)) if first.place == at => {
@@ -158,14 +158,14 @@ fn push_value_at<'a, C: Carried>(
 }
 
 /// A key with the values of its entries at their places.
-fn push_key<C: Carried>(
+fn push_key<C: Payload>(
     text: &mut Vec<u8>,
     version: Version,
     key: &[u8],
     entries: &[Entry<C>],
 ) -> Result<(), AllocError>
     ensures { OnOk result (text.new.items ≡ text.old.items ++ pattern_token version key.now
-        (map (entry_of C.change) entries.now)) }
+        (map (entry_as_said C.change_of) entries.now)) }
 {
     let escapes = pattern_escapes(version);
     let mut rest = entries;
@@ -179,13 +179,13 @@ fn push_key<C: Carried>(
     }
 }
 
-/// The changes of entries at their places, each behind a space.
-fn push_changes<C: Carried>(text: &mut Vec<u8>, entries: &[Entry<C>]) -> Result<(), AllocError>
+/// The changes of entries at their places, each after a space.
+fn push_changes<C: Payload>(text: &mut Vec<u8>, entries: &[Entry<C>]) -> Result<(), AllocError>
     ensures { OnOk result (text.new.items ≡ text.old.items ++ later_tokens
-        (changes_of (map (entry_of C.change) entries.now))) }
+        (changes_of (map (entry_as_said C.change_of) entries.now))) }
 {
     for entry in entries {
-        if let Some(change) = entry.change.carried() {
+        if let Some(change) = entry.change.as_change() {
             text.push(b' ')?;
             push_change(text, entry.place, change)?;
         }
@@ -194,14 +194,14 @@ fn push_changes<C: Carried>(text: &mut Vec<u8>, entries: &[Entry<C>]) -> Result<
 }
 
 /// The line of a key with its entries.
-fn push_pattern<C: Carried>(
+fn push_pattern<C: Payload>(
     text: &mut Vec<u8>,
     version: Version,
     key: &[u8],
     entries: &[Entry<C>],
 ) -> Result<(), AllocError>
     ensures { OnOk result (text.new.items ≡ text.old.items ++ pattern_line version key.now
-        (map (entry_of C.change) entries.now)) }
+        (map (entry_as_said C.change_of) entries.now)) }
 {
     text.extend_from_slice(b"p ")?;
     push_key(text, version, key, entries)?;
@@ -209,13 +209,13 @@ fn push_pattern<C: Carried>(
 }
 
 /// The lines of keys, in the order that they have here.
-fn push_patterns<C: Carried>(
+fn push_patterns<C: Payload>(
     text: &mut Vec<u8>,
     version: Version,
     keys: &[(&[u8], &[Entry<C>])],
 ) -> Result<(), AllocError>
-    ensures { OnOk result (text.new.items ≡ text.old.items ++ ended
-        (map (key_line version C.change) (shown_pairs keys.now))) }
+    ensures { OnOk result (text.new.items ≡ text.old.items ++ with_line_feeds
+        (map (key_line version C.change_of) (pair_views keys.now))) }
 {
     for (key, entries) in keys {
         push_pattern(text, version, key, entries)?;
@@ -225,9 +225,9 @@ fn push_patterns<C: Carried>(
 }
 
 /// The lines of words, in the order that they have here.
-fn push_exceptions<B: Listed>(text: &mut Vec<u8>, words: &[(&[u8], &[B])]) -> Result<(), AllocError>
+fn push_exceptions<B: Listing>(text: &mut Vec<u8>, words: &[(&[u8], &[B])]) -> Result<(), AllocError>
     ensures { OnOk result (
-        text.new.items ≡ text.old.items ++ ended (map (word_line B.meaning) (shown_pairs words.now))) }
+        text.new.items ≡ text.old.items ++ with_line_feeds (map (word_line B.meaning) (pair_views words.now))) }
 {
     for (word, listed) in words {
         push_exception(text, word, listed)?;
@@ -238,7 +238,7 @@ fn push_exceptions<B: Listed>(text: &mut Vec<u8>, words: &[(&[u8], &[B])]) -> Re
 
 /// Line 1.
 fn push_head(text: &mut Vec<u8>, form: Form) -> Result<(), AllocError>
-    ensures { OnOk result (text.new.items ≡ text.old.items ++ (head form ++ 10 ∷ [])) }
+    ensures { OnOk result (text.new.items ≡ text.old.items ++ (head_line form ++ 10 ∷ [])) }
 {
     text.extend_from_slice(head_of(form.kind, form.version))?;
     text.push(b'\n')?;
@@ -276,7 +276,7 @@ fn are_digits<C>(entries: &[Entry<C>]) -> bool
 
 /// The first version where it can say each value of these keys, else the second.
 fn version_for<C>(keys: &[(&[u8], &[Entry<C>])]) -> Version
-    ensures { result ≡ version_of_keys (shown_pairs keys.now) }
+    ensures { result ≡ version_of_keys (pair_views keys.now) }
 {
     for (_, entries) in keys {
         if !are_digits(entries) {
@@ -291,7 +291,7 @@ fn lent_keys<'a, X>(
     alloc: Global,
     keys: &'a [(Vec<u8>, &'a [X])],
 ) -> Result<Vec<(&'a [u8], &'a [X])>, AllocError>
-    ensures { IfOk result (λ lent. shown_pairs lent.items ≡ shown_keys keys.now) }
+    ensures { IfOk result (λ lent. pair_views lent.items ≡ key_views keys.now) }
 {
     let mut lent = Vec::with_capacity(alloc, keys.len())?;
     for (key, held) in keys {
@@ -300,8 +300,8 @@ fn lent_keys<'a, X>(
     Ok(lent)
 }
 
-/// The three head lines, and behind them the lines of keys and of words, in the order that they have here.
-fn whole_text<C: Carried, B: Listed>(
+/// The three head lines, and after them the lines of keys and of words, in the order that they have here.
+fn whole_text<C: Payload, B: Listing>(
     alloc: Global,
     form: Form,
     language: Language,
@@ -311,8 +311,8 @@ fn whole_text<C: Carried, B: Listed>(
 ) -> Result<Vec<u8>, AllocError>
     ensures { IfOk result (λ text.
         text.items
-        ≡ ended (head form ∷ language_line language ∷ minima_line minima.0 minima.1 ∷
-        (map (key_line form.version C.change) (shown_pairs keys.now) ++ map (word_line B.meaning) (shown_pairs
+        ≡ with_line_feeds (head_line form ∷ language_line language ∷ minima_line minima.0 minima.1 ∷
+        (map (key_line form.version C.change_of) (pair_views keys.now) ++ map (word_line B.meaning) (pair_views
         words.now)))) }
 {
     let mut text = Vec::new(alloc);
@@ -325,16 +325,16 @@ fn whole_text<C: Carried, B: Listed>(
 }
 
 /// The canonical text of a dictionary of that kind, which is a text of the format that reading gives the dictionary
-/// back of: keys, and behind them words, in the order of their bytes, and no more escapes than are needed. It is of
+/// back of: keys, and after them words, in the order of their bytes, and no more escapes than are needed. It is of
 /// version 1 where each value is a digit, else of version 2.
 ///
 /// The kind is to be that of the dictionary. The only error is memory.
-pub fn write_text<C: Carried, B: Listed>(
+pub fn write_text<C: Payload, B: Listing>(
     alloc: Global,
     kind: Kind,
     dictionary: &Dictionary<C, B>,
 ) -> Result<Vec<u8>, AllocError>
-    ensures { IfOk result (λ text. text.items ≡ canonical_text_of kind C.change B.meaning dictionary.now) }
+    ensures { IfOk result (λ text. text.items ≡ canonical_text_of kind C.change_of B.meaning dictionary.now) }
 {
     let keys = dictionary.keys(alloc)?;
     let lent = lent_keys(alloc, &keys)?;

@@ -1,7 +1,7 @@
 use Rattle.std.proofs.Common.{subst}
 use Rattle.hyphenation_commons.specs.Break.{plain}
 use Rattle.hyphenation.specs.Fits.{Fits}
-use Rattle.hyphenation.specs.Opportunities.{no_change, rules_of, breaks_of}
+use Rattle.hyphenation.specs.Opportunities.{no_change, rules_of, all_breaks_of}
 use Rattle.hyphenation.proofs.FittedBreaks.{breaks_fit}
 use Rattle.hyphenation.proofs.GivenBack.{given_back}
 use Rattle.hyphenation.proofs.Plain.{breaks_plain, fitted_alike}
@@ -11,6 +11,6 @@ pub returns : goal.returns
 returns c = λ text u.
     let dictionary = c.args.dictionary.now in
     let kept = c.minima-minima.ensures.kept in
-    given_back (breaks_of (rules_of no_change plain dictionary))
+    given_back (all_breaks_of (rules_of no_change plain dictionary))
     (λ word v. subst (Fits word) (fitted_alike dictionary word kept v) (breaks_fit no_change plain dictionary word kept v))
     (breaks_plain dictionary) text u

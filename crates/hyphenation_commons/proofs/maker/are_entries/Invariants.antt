@@ -3,4 +3,4 @@ use Rattle.hyphenation_commons.specs.Kept.{are_entries}
 use Rattle.hyphenation_commons.proofs.maker.are_entries.Given as goal
 
 abbrev pub invariant-loop-entry : goal.invariant-loop-entry
-invariant-loop-entry g l = are_entries g.C.Carried.change l.key l.least (drop l.entry-index l.entries) ≡ are_entries g.C.Carried.change l.key 0 l.entries
+invariant-loop-entry g l = are_entries g.C.Payload.change_of l.key l.least (drop l.entry-index l.entries) ≡ are_entries g.C.Payload.change_of l.key 0 l.entries

@@ -12,15 +12,15 @@ use Rattle.pattern_files.proofs.Between.{lines}
 use Rattle.pattern_files.proofs.laws.the_end_is_the_end.Goals as goal
 
 -- up to a command, of which the first byte is a backslash, and which is a piece of its own
-up_to : (before rest : List ℕ) (text : List ℕ) (behind : ℕ → List Piece) → ((line : ℕ) → lex line false (codes "\\") rest ≡ piece line text ∷ behind line) → IsOutside before
-    → fold with_piece nothing_found (pieces_of (before ++ 92 ∷ rest)) ≡ fold with_piece (found_at [] Outside) (piece (line_after 1 before) text ∷ behind (line_after 1 before))
-up_to before rest text behind is h =
+up_to : (before rest : List ℕ) (text : List ℕ) (after : ℕ → List Piece) → ((line : ℕ) → lex line false (codes "\\") rest ≡ piece line text ∷ after line) → IsOutside before
+    → fold with_piece nothing_found (pieces_of (before ++ 92 ∷ rest)) ≡ fold with_piece (found_at [] Outside) (piece (line_after 1 before) text ∷ after (line_after 1 before))
+up_to before rest text after is h =
     ap (λ (ps : List Piece). fold with_piece nothing_found ps)
     (pieces-lex (before ++ 92 ∷ rest)
     ∙ lex-end 92 rest (λ line. lex line false (codes "\\") rest) (λ line last. refl) 1 [] before h.comments
     ∙ ap (λ (ps : List Piece). lex 1 false [] before ++ ps) (is (line_after 1 before)))
-    ∙ fold-append with_piece nothing_found (lex 1 false [] before) (piece (line_after 1 before) text ∷ behind (line_after 1 before))
-    ∙ ap (λ (f : Found). fold with_piece f (piece (line_after 1 before) text ∷ behind (line_after 1 before)))
+    ∙ fold-append with_piece nothing_found (lex 1 false [] before) (piece (line_after 1 before) text ∷ after (line_after 1 before))
+    ∙ ap (λ (f : Found). fold with_piece f (piece (line_after 1 before) text ∷ after (line_after 1 before)))
     (outside [] (lex 1 false [] before) (lex-other (codes "\\patterns") 1 [] before h.comments h.patterns) (lex-other (codes "\\hyphenation") 1 [] before h.comments h.exceptions) (lex-other (codes "\\input") 1 [] before h.comments h.inputs) (lex-other (codes "\\endinput") 1 [] before h.comments h.ends))
 
 ended : (before after : List ℕ) → IsOutside before → fold with_piece nothing_found (pieces_of (before ++ codes "\\endinput\n" ++ after)) ≡ record (found_at [] Outside) { at_end = true }

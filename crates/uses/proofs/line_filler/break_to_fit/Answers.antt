@@ -1,6 +1,6 @@
 use Rattle.std.proofs.Common.{◌<◌, ◌∙◌, ℕ, IsCharBoundary, length, slice_index, sym, ap, subst}
 use Rattle.std.specs.Option.{option_map}
-use Rattle.uses.specs.Room.{last_room, places_of, parts_of}
+use Rattle.uses.specs.Room.{last_room, places_of, word_parts}
 use Rattle.uses.proofs.Placed.{on_boundaries, places_back}
 use Rattle.uses.proofs.line_filler.break_to_fit.Goals as goal
 
@@ -15,7 +15,7 @@ returns-in-Some g c =
     let columns = c.args.columns in
     let places = c.deref.ensures.value ∙ sym (places_back word.breaks.items) ∙ ap places_of c.in_ok-word.ensures.breaks in
     let found = c.in-Some.ensures.last ∙ ap (λ t. last_room t columns c.deref.result.now) c.in_ok-word.ensures.text ∙ ap (last_room c.args.word.now columns) places in
-    rw (c.split_at.ensures.front, c.split_at.ensures.back, c.in_ok-word.ensures.text) (ap (option_map (parts_of c.args.word.now)) found)
+    rw (c.split_at.ensures.front, c.split_at.ensures.back, c.in_ok-word.ensures.text) (ap (option_map (word_parts c.args.word.now)) found)
 
 pub returns : goal.returns
 returns g c =
@@ -23,4 +23,4 @@ returns g c =
     let columns = c.args.columns in
     let places = c.deref.ensures.value ∙ sym (places_back word.breaks.items) ∙ ap places_of c.in_ok-word.ensures.breaks in
     let found = c.in-None.ensures.last ∙ ap (λ t. last_room t columns c.deref.result.now) c.in_ok-word.ensures.text ∙ ap (last_room c.args.word.now columns) places in
-    ap (option_map (parts_of c.args.word.now)) found
+    ap (option_map (word_parts c.args.word.now)) found

@@ -2,7 +2,7 @@ use Rattle.std.proofs.Common.{◌≡◌, ℕ, List, map, length, IsUtf8, refl, s
 use Rattle.std.specs.List.Sorted.{IsNonDecreasingBy}
 use Rattle.hyphenation_commons.specs.Break.{plain}
 use Rattle.hyphenation.specs.declared.case_folding.Shift.{Shift}
-use Rattle.hyphenation.specs.Fitting.{is_steady_by, kept_by}
+use Rattle.hyphenation.specs.Fitting.{is_steady_by, kept_breaks}
 use Rattle.hyphenation.specs.Folding.{shifts_of}
 use Rattle.hyphenation.specs.Opportunities.{rules_of, realigned_break}
 use Rattle.hyphenation.specs.SoftHyphens.{soft_hyphens}
@@ -20,7 +20,7 @@ returns-in-Some g c =
     let found = rw c.in-Some.is at c.in_ok-places.ensures.found in
     let some = rw c.in-Some.is at c.in_ok-places.ensures.some in
     ok_then c.unchanged.result _ _
-    (λ v h. soft_breaks_are (rules_of g.F.Carries.Carried.change g.F.Listed.Break.meaning c.args.dictionary.now) word (map m v.items) (some.0 refl) (h ∙ ap (map plain) found))
+    (λ v h. soft_breaks_are (rules_of g.F.Payload.Payload.change_of g.F.Listing.Break.meaning c.args.dictionary.now) word (map m v.items) (some.0 refl) (h ∙ ap (map plain) found))
     c.unchanged.ensures
 
 -- Any other word.
@@ -39,21 +39,21 @@ returns g c =
     let m = g.F.Break.meaning in
     let word = c.args.word.now in
     let contents = c.args.dictionary.now in
-    let rules = rules_of g.F.Carries.Carried.change g.F.Listed.Break.meaning contents in
+    let rules = rules_of g.F.Payload.Payload.change_of g.F.Listing.Break.meaning contents in
     let text = c.as_str-text.result.now in
     let size = length text in
     let shifts = c.in_ok-folded.shifts.items in
     let none = no_soft_hyphens (soft_hyphens word) (λ some. none_is_not_some c.in_ok-places.field-0 c.in_default.is (c.in_ok-places.ensures.some.1 some)) in
-    let carries : Carries rules word text size shifts (map m c.in_ok-found.found.items) (map m c.in_ok-breaks.breaks.items) (map m c.realign_all.new.breaks) =
+    let payload_of : Carries rules word text size shifts (map m c.in_ok-found.found.items) (map m c.in_ok-breaks.breaks.items) (map m c.realign_all.new.breaks) =
     record {
       folded_is = c.as_str-text.ensures.value ∙ c.in_ok-folded.ensures.folded;
       size_is = refl;
       shifts_are = c.in_ok-folded.ensures.shifts;
       found_are = c.in_ok-found.ensures.breaks;
       ascend = c.in_ok-found.ensures.ascend;
-      kept_are = c.in_ok-breaks.ensures ∙ ap (λ s. kept_by (is_steady_by size s) (map m c.in_ok-found.found.items)) c.deref.ensures.value;
+      kept_are = c.in_ok-breaks.ensures ∙ ap (λ s. kept_breaks (is_steady_by size s) (map m c.in_ok-found.found.items)) c.deref.ensures.value;
       new_are = c.realign_all.ensures ∙ ap (λ s. map (realigned_break s) (map m c.deref_mut.result.now)) c.deref-2.ensures.value
           ∙ ap (map (realigned_break shifts)) (ap (map m) c.deref_mut.ensures.value);
     } in
     let written = whole_written c.in_ok-breaks.breaks.len c.realign_all.new.breaks c.in_ok-breaks.breaks.items (c.realign_all.auto.breaks ∙ c.deref_mut.ensures.len) in
-    ap (map m) written ∙ breaks_are _ _ _ _ _ _ _ _ c.utf8.word (omega arith) none carries
+    ap (map m) written ∙ breaks_are _ _ _ _ _ _ _ _ c.utf8.word (omega arith) none payload_of

@@ -35,8 +35,8 @@ unmoved_breaks-requires g c κs =
 pub returns : goal.returns
 returns g c =
     let word = c.args.word.now in
-    let change_of = g.F.Carries.Carried.change in
-    let break_of = g.F.Listed.Break.meaning in
+    let change_of = g.F.Payload.Payload.change_of in
+    let break_of = g.F.Listing.Break.meaning in
     let rules = rules_of change_of break_of c.args.dictionary.now in
     let text = (read_is c.from_utf8.result _ _ c.unwrap-text.result c.unwrap-text.ensures c.from_utf8.ensures.cases).0 in
     let ascend = opportunities_ascend rules (fold word) (rules_are_sound change_of break_of c.args.dictionary.now (fold word) c.minima-minima.ensures.kept (fold_is_utf8 word c.utf8.word)) in

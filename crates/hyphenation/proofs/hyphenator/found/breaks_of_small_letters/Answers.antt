@@ -1,5 +1,5 @@
 use Rattle.std.proofs.Common.{[], map, sym, ap, subst, ◌∙◌}
-use Rattle.hyphenation.specs.Fitting.{is_steady_by, kept_by}
+use Rattle.hyphenation.specs.Fitting.{is_steady_by, kept_breaks}
 use Rattle.hyphenation.specs.Folding.{fold}
 use Rattle.hyphenation.specs.Opportunities.{rules_of, opportunities, Ascending}
 use Rattle.hyphenation.proofs.SmallLetters.{small_fold, small_breaks}
@@ -9,10 +9,10 @@ use Rattle.hyphenation.proofs.hyphenator.found.breaks_of_small_letters.Goals as 
 pub returns : goal.returns
 returns g c =
     let word = c.args.word.now in
-    let rules = rules_of g.F.Carries.Carried.change g.F.Listed.Break.meaning c.args.dictionary.now in
+    let rules = rules_of g.F.Payload.Payload.change_of g.F.Listing.Break.meaning c.args.dictionary.now in
     let same = small_fold word c.utf8.word c.requires in
     let found = c.in_ok-found.ensures in
     let ascend : Ascending (fold word) (opportunities rules (fold word)) = subst (λ t. Ascending t (opportunities rules t)) (sym same) (subst (Ascending word) found.breaks found.ascend) in
     ok_then c.kept.result _ _
-    (λ v is. small_breaks rules word (map g.F.Break.meaning v.items) c.utf8.word c.requires ascend (is ∙ ap (kept_by (is_steady_by _ [])) found.breaks))
+    (λ v is. small_breaks rules word (map g.F.Break.meaning v.items) c.utf8.word c.requires ascend (is ∙ ap (kept_breaks (is_steady_by _ [])) found.breaks))
     c.kept.ensures

@@ -4,7 +4,7 @@ use Rattle.std.specs.List.{range_with_len, sum_by}
 use Rattle.std.proofs.Math.Nat.{mul-le-mul_right}
 use Rattle.std.proofs.lemmas.List.{length-append, length-take, take_at, length-map, get_or-map, ext_get_or}
 use Rattle.std.proofs.lemmas.List.FromFn.{length-map-range_with_len, get_or-map-range_with_len}
-use Rattle.hyphenation_commons.specs.Trie.{text_of, key_at}
+use Rattle.hyphenation_commons.specs.Trie.{node_text, key_at}
 use Rattle.hyphenation_commons.proofs.Suffixes.{longest_more}
 use Rattle.hyphenation.specs.Scoring.{frame, winner_at}
 use Rattle.hyphenation.specs.OnePass.{keys_ending}
@@ -30,7 +30,7 @@ compete_reported-requires-clause-room g c =
     let word : ℕ = length c.args.word.now in
     let few = c.loop-at.invariant.few in
     let times = mul-le-mul_right {m = c.loop-at.at} {n = 9223372036854775809} (word + 2) (omega arith) in
-    omega (arith, c.step-node.ensures.longest.ends.0, length-append (text_of tree c.loop-at.node) (c.framed_at.result ∷ []), c.loop-at.invariant.longest.ends.0, length-take c.loop-at.at (frame c.args.word.now), c.step-node.ensures.reported)
+    omega (arith, c.step-node.ensures.longest.ends.0, length-append (node_text tree c.loop-at.node) (c.framed_at.result ∷ []), c.loop-at.invariant.longest.ends.0, length-take c.loop-at.at (frame c.args.word.now), c.step-node.ensures.reported)
 
 pub compete_reported-requires-clause-holds : goal.compete_reported-requires-clause-holds
 compete_reported-requires-clause-holds g c = λ i lt.
@@ -71,7 +71,7 @@ loop-at-preserved g c =
           let h = c.step-node.ensures.alone in
           let made = c.compete_reported.ensures.made in
           let zero_is = alone_is tree c.requires.begins none c.loop-at.node c.loop-at.invariant.longest.within in
-          let nil = ap (λ (k : ℕ). length (text_of tree k)) zero_is ∙ ap length c.root-node.ensures.trie.root in
+          let nil = ap (λ (k : ℕ). length (node_text tree k)) zero_is ∙ ap length c.root-node.ensures.trie.root in
           omega arith;
       least = let h = c.step-node.ensures.least in let was = c.loop-at.invariant.least in let made = c.compete_reported.ensures.made in omega arith;
       reported =
@@ -81,7 +81,7 @@ loop-at-preserved g c =
           omega (arith, c.compete_reported.ensures.reported, c.step-node.ensures.reported, c.loop-at.invariant.reported, more, is);
       few =
           let was = c.loop-at.invariant.few in
-          let most = keys_in_most tree (text_of tree c.step-node.result) (length (text_of tree c.step-node.result)) in
+          let most = keys_in_most tree (node_text tree c.step-node.result) (length (node_text tree c.step-node.result)) in
           let size = longest.ends.0 in
           let long = length-take (c.loop-at.at + 1) framed in
           omega (arith, c.compete_reported.ensures.reported, c.step-node.ensures.reported, length-frame c.args.word.now);

@@ -1,9 +1,9 @@
 use Rattle.std.proofs.Common.{◌≡◌, ◌+◌, ◌<◌, ◌∷◌, [], ℕ, List, max, length, slice_index, refl, ap, sym, subst, ◌∙◌, arith, add-one}
 use Rattle.std.proofs.Math.Seq.{get_or-append_seam}
 use Rattle.std.proofs.lemmas.List.{get_or_append_left}
-use Rattle.hyphenation_commons.specs.Trie.{text_of, key_at}
+use Rattle.hyphenation_commons.specs.Trie.{node_text, key_at}
 use Rattle.hyphenation.specs.Scoring.{frame, greatest_value}
-use Rattle.hyphenation.specs.OnePass.{ending}
+use Rattle.hyphenation.specs.OnePass.{entries_of_ends}
 use Rattle.hyphenation.proofs.Passing.{Passed, passed_none, passed_more, passed_short, passed_room, passed_values, passed_reported}
 use Rattle.hyphenation.proofs.score.greatest.raise_all.Goals as goal
 
@@ -46,7 +46,7 @@ loop-at-preserved g c =
     let trie = c.root-root.ensures.trie in
     let r = c.read-node-in-loop-at.ensures in
     let two : c.loop-at.at + 2 ≡ (c.loop-at.at + 1) + 1 = omega arith in
-    let raised = subst (λ k. (i : ℕ) → i < length c.loop-at.scores → slice_index c.read-node-in-loop-at.new.values i ≡ max (slice_index c.loop-at.scores i) (greatest_value (ending (key_at tree) (text_of tree c.read-node-in-loop-at.result) k (i + 1)))) two r.values in
+    let raised = subst (λ k. (i : ℕ) → i < length c.loop-at.scores → slice_index c.read-node-in-loop-at.new.values i ≡ max (slice_index c.loop-at.scores i) (greatest_value (entries_of_ends (key_at tree) (node_text tree c.read-node-in-loop-at.result) k (i + 1)))) two r.values in
     record {
       len = c.read-node-in-loop-at.auto.values ∙ c.loop-at.invariant.len;
       passed = passed_more tree word trie c.requires.begins (c.loop-at.at + 1) c.loop-at.node (slice_index word c.loop-at.at) c.read-node-in-loop-at.result c.loop-at.scores c.read-node-in-loop-at.new.values _ _ _ _ c.read-node-in-loop-at.new.count.made c.read-node-in-loop-at.new.count.reported (omega arith) (word_byte word c.loop-at.at (omega arith)) c.loop-at.invariant.passed r.longest c.read-node-in-loop-at.auto.values raised r.least r.most r.alone r.reported;
@@ -73,7 +73,7 @@ all g c =
     let ends : c.loop-at.at ≡ length word = omega arith in
     let two : (length word + 1) + 1 ≡ length word + 2 = omega arith in
     let last = subst (λ k. Passed tree word (k + 1) c.loop-at.node c.loop-at.scores c.args.count.now.made c.args.count.now.reported c.loop-at.count.made c.loop-at.count.reported) ends c.loop-at.invariant.passed in
-    let raised = subst (λ k. (i : ℕ) → i < length c.loop-at.scores → slice_index c.read.new.values i ≡ max (slice_index c.loop-at.scores i) (greatest_value (ending (key_at tree) (text_of tree c.read.result) k (i + 1)))) (sym two) r.values in
+    let raised = subst (λ k. (i : ℕ) → i < length c.loop-at.scores → slice_index c.read.new.values i ≡ max (slice_index c.loop-at.scores i) (greatest_value (entries_of_ends (key_at tree) (node_text tree c.read.result) k (i + 1)))) (sym two) r.values in
     subst (λ k. Passed tree word k c.read.result c.read.new.values c.args.count.now.made c.args.count.now.reported c.read.new.count.made c.read.new.count.reported) two
     (passed_more tree word c.root-root.ensures.trie c.requires.begins (length word + 1) c.loop-at.node 46 c.read.result c.loop-at.scores c.read.new.values _ _ _ _ c.read.new.count.made c.read.new.count.reported (omega arith) (last_byte word) last r.longest c.read.auto.values raised r.least r.most r.alone r.reported)
 

@@ -1,18 +1,18 @@
 use Rattle.std.proofs.Common.{◌≡◌, ◌+◌, ◌-◌, ◌<◌, max, ℕ, Some, length, ap, refl, sym, arith, ◌∙◌, slice_index}
 use Rattle.std.specs.List.{flat_map, range_with_len}
 use Rattle.std.proofs.lemmas.List.{length-drop}
-use Rattle.hyphenation_commons.specs.Trie.{text_of, key_at}
+use Rattle.hyphenation_commons.specs.Trie.{node_text, key_at}
 use Rattle.hyphenation_commons.specs.Links.{keys_in}
 use Rattle.hyphenation_commons.proofs.Suffixes.{depth_pos, Ends-whole, Ends-trans}
 use Rattle.hyphenation.specs.Scoring.{greatest_value}
-use Rattle.hyphenation.specs.OnePass.{piece}
+use Rattle.hyphenation.specs.OnePass.{entries_of_end}
 use Rattle.hyphenation.proofs.OnePass.{piece_is, none_next, visit_more, visit_first, counted_first, counted_more}
 use Rattle.hyphenation.proofs.score.greatest.raise_reported.Goals as goal
 
 pub loop-node-init : goal.loop-node-init
 loop-node-init g c =
     let tree = c.args.automaton.now in
-    let t = text_of tree c.args.from in
+    let t = node_text tree c.args.from in
     let report = c.report-node.ensures in
     record {
       within = report.within;
@@ -30,24 +30,24 @@ loop-node-smaller g c =
     let at = c.loop-node.node in
     let pos = depth_pos tree c.root-root.ensures.trie at (omega arith) c.loop-node.invariant.within in
     let report = c.next_report-node.ensures in
-    omega (arith, report.ends.0, length-drop 1 (text_of tree at))
+    omega (arith, report.ends.0, length-drop 1 (node_text tree at))
 
 pub loop-node-preserved : goal.loop-node-preserved
 loop-node-preserved g c =
     let tree = c.args.automaton.now in
-    let t = text_of tree c.args.from in
+    let t = node_text tree c.args.from in
     let at = c.loop-node.node in
     let inv = c.loop-node.invariant in
     let to : ℕ = c.next_report-node.result in
     let pos = depth_pos tree c.root-root.ensures.trie at (omega arith) inv.within in
     let report = c.next_report-node.ensures in
-    let less : length (text_of tree to) < length (text_of tree at) = omega (arith, report.ends.0, length-drop 1 (text_of tree at)) in
+    let less : length (node_text tree to) < length (node_text tree at) = omega (arith, report.ends.0, length-drop 1 (node_text tree at)) in
     let none = none_next tree t at to inv.ends report in
     let more = counted_more tree t at to inv.ends less (inv.key (omega arith)) none in
     let counted = ap (λ x. x.reported) c.entries-entries.ensures.counted in
     record {
       within = report.within;
-      ends = Ends-trans t (text_of tree at) (text_of tree to) inv.ends (Ends-whole (text_of tree at) (text_of tree to) report.ends);
+      ends = Ends-trans t (node_text tree at) (node_text tree to) inv.ends (Ends-whole (node_text tree at) (node_text tree to) report.ends);
       key = report.key;
       values = λ i lt. visit_more tree t c.args.end (i + 1) at to (slice_index c.args.values.now i) (slice_index c.loop-node.values i) (slice_index c.raise.new.values i)
           inv.ends less none (inv.values i (omega arith))
@@ -62,17 +62,17 @@ loop-node-preserved g c =
 pub returns-clause-values : goal.returns-clause-values
 returns-clause-values g c = λ i lt.
     let tree = c.args.automaton.now in
-    let t = text_of tree c.args.from in
+    let t = node_text tree c.args.from in
     let zero_is : c.loop-node.node ≡ 0 = omega arith in
-    let nil : length (text_of tree c.loop-node.node) ≡ 0 = ap (λ (k : ℕ). length (text_of tree k)) zero_is ∙ ap length c.root-root.ensures.trie.root in
-    let whole : length t - length (text_of tree c.loop-node.node) ≡ length t = omega arith in
-    c.loop-node.invariant.values i (omega arith) ∙ ap (λ (k : ℕ). max (slice_index c.args.values.now i) (greatest_value (flat_map (λ d. piece (key_at tree) t c.args.end (i + 1) d) (range_with_len 0 k)))) whole
+    let nil : length (node_text tree c.loop-node.node) ≡ 0 = ap (λ (k : ℕ). length (node_text tree k)) zero_is ∙ ap length c.root-root.ensures.trie.root in
+    let whole : length t - length (node_text tree c.loop-node.node) ≡ length t = omega arith in
+    c.loop-node.invariant.values i (omega arith) ∙ ap (λ (k : ℕ). max (slice_index c.args.values.now i) (greatest_value (flat_map (λ d. entries_of_end (key_at tree) t c.args.end (i + 1) d) (range_with_len 0 k)))) whole
 
 pub returns-clause-reported : goal.returns-clause-reported
 returns-clause-reported g c =
     let tree = c.args.automaton.now in
-    let t = text_of tree c.args.from in
+    let t = node_text tree c.args.from in
     let zero_is : c.loop-node.node ≡ 0 = omega arith in
-    let nil : length (text_of tree c.loop-node.node) ≡ 0 = ap (λ (k : ℕ). length (text_of tree k)) zero_is ∙ ap length c.root-root.ensures.trie.root in
-    let whole : length t - length (text_of tree c.loop-node.node) ≡ length t = omega arith in
+    let nil : length (node_text tree c.loop-node.node) ≡ 0 = ap (λ (k : ℕ). length (node_text tree k)) zero_is ∙ ap length c.root-root.ensures.trie.root in
+    let whole : length t - length (node_text tree c.loop-node.node) ≡ length t = omega arith in
     c.loop-node.invariant.reported ∙ ap (λ (k : ℕ). c.args.count.now.reported + keys_in tree t k) whole

@@ -1,23 +1,23 @@
 use Rattle.std.proofs.Common.{◌≡◌, ℕ, ◌+◌, ◌-◌, ◌<◌, ◌≤◌, max, length, slice_index}
 use Rattle.std.specs.Prelude.{IsSome}
 use Rattle.std.specs.List.{flat_map, range_with_len}
-use Rattle.hyphenation_commons.specs.Trie.{text_of, key_at}
+use Rattle.hyphenation_commons.specs.Trie.{node_text, key_at}
 use Rattle.hyphenation_commons.specs.Links.{Ends, keys_in}
 use Rattle.hyphenation.specs.Scoring.{greatest_value}
-use Rattle.hyphenation.specs.OnePass.{piece}
+use Rattle.hyphenation.specs.OnePass.{entries_of_end}
 use Rattle.hyphenation.proofs.score.greatest.raise_reported.Given as goal
 
 abbrev pub invariant-loop-node : goal.invariant-loop-node
 invariant-loop-node g l = record {
   within : l.node < length l.automaton.texts;
-  ends : Ends (text_of l.automaton l.from) (text_of l.automaton l.node);
-  key : 0 < l.node → IsSome (key_at l.automaton (text_of l.automaton l.node));
+  ends : Ends (node_text l.automaton l.from) (node_text l.automaton l.node);
+  key : 0 < l.node → IsSome (key_at l.automaton (node_text l.automaton l.node));
   values : (i : ℕ) → i < length l.values → slice_index l.values i ≡ max (slice_index l.fn.values i)
-      (greatest_value (flat_map (λ d. piece (key_at l.automaton) (text_of l.automaton l.from) l.end (i + 1) d) (range_with_len 0 (length (text_of l.automaton l.from) - length (text_of l.automaton l.node)))));
-  reported : l.count.reported ≡ l.fn.count.reported + keys_in l.automaton (text_of l.automaton l.from) (length (text_of l.automaton l.from) - length (text_of l.automaton l.node));
-  few : l.count.reported + length (text_of l.automaton l.node) ≤ l.fn.count.reported + length (text_of l.automaton l.from);
+      (greatest_value (flat_map (λ d. entries_of_end (key_at l.automaton) (node_text l.automaton l.from) l.end (i + 1) d) (range_with_len 0 (length (node_text l.automaton l.from) - length (node_text l.automaton l.node)))));
+  reported : l.count.reported ≡ l.fn.count.reported + keys_in l.automaton (node_text l.automaton l.from) (length (node_text l.automaton l.from) - length (node_text l.automaton l.node));
+  few : l.count.reported + length (node_text l.automaton l.node) ≤ l.fn.count.reported + length (node_text l.automaton l.from);
   made : l.count.made ≡ l.fn.count.made;
 }
 
 abbrev pub decreases-loop-node : goal.decreases-loop-node
-decreases-loop-node g l = length (text_of l.automaton l.node)
+decreases-loop-node g l = length (node_text l.automaton l.node)

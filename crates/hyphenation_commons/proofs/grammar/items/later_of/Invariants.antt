@@ -1,14 +1,14 @@
 use Rattle.std.proofs.Common.{◌≡◌, suc, length}
 use Rattle.std.specs.Prelude.{IsUtf8, IfSome}
 use Rattle.std.specs.Option.{option_map, option_map_or}
-use Rattle.hyphenation_commons.specs.Lines.{tokens_behind}
-use Rattle.hyphenation_commons.specs.Parsed.{no_later, read_later, shown_later}
+use Rattle.hyphenation_commons.specs.Lines.{tokens_after}
+use Rattle.hyphenation_commons.specs.Parsed.{no_later, read_later, later_view}
 use Rattle.hyphenation_commons.proofs.grammar.items.later_of.Given as goal
 
 abbrev pub invariant-loop-rest : goal.invariant-loop-rest
 invariant-loop-rest l = record {
   utf8 : IfSome l.rest (λ text. IsUtf8 text.now);
-  read : read_later (shown_later l.later) (tokens_behind (option_map (λ text. text.now) l.rest)) ≡ read_later no_later (tokens_behind (option_map (λ text. text.now) l.fn.behind));
+  read : read_later (later_view l.later) (tokens_after (option_map (λ text. text.now) l.rest)) ≡ read_later no_later (tokens_after (option_map (λ text. text.now) l.fn.after));
 }
 
 abbrev pub decreases-loop-rest : goal.decreases-loop-rest

@@ -1,12 +1,12 @@
 use Rattle.std.proofs.Common.{◌∙◌, sym, ap, not}
-use Rattle.hyphenation_commons.specs.Matched.{waiting}
+use Rattle.hyphenation_commons.specs.Matched.{from_next}
 use Rattle.hyphenation_commons.proofs.Matched.{goes_on, told, made_all}
 use Rattle.hyphenation_commons.proofs.grammar.items.matched.Goals as goal
 
 pub loop-value-preserved : goal.loop-value-preserved
 loop-value-preserved g c =
-    let on = goes_on g.C.Carried.carries c.loop-value.entries.items c.push.new.self.items c.args.values.now c.loop-value.value-index (waiting c.loop-value.next c.loop-value.rest.rest.items)
-    (waiting c.taken_at-change.new.next c.taken_at-change.new.rest.rest.items) c.taken_at-change.result c.carry.result c.loop-value-test.true c.in_ok-push.ensures.items c.carry.ensures c.taken_at-change.ensures.taken c.taken_at-change.ensures.left in
+    let on = goes_on g.C.Payload.payload_of c.loop-value.entries.items c.push.new.self.items c.args.values.now c.loop-value.value-index (from_next c.loop-value.next c.loop-value.rest.rest.items)
+    (from_next c.taken_at-change.new.next c.taken_at-change.new.rest.rest.items) c.taken_at-change.result c.from_change.result c.loop-value-test.true c.in_ok-push.ensures.items c.from_change.ensures c.taken_at-change.ensures.taken c.taken_at-change.ensures.left in
     record { made = on.0 ∙ c.loop-value.invariant.made; left = on.1 ∙ c.loop-value.invariant.left }
 
 pub returns-then-is_some-clause-known : goal.returns-then-is_some-clause-known
@@ -24,4 +24,4 @@ returns-clause-entries g c =
     let all =
     told c.args.values.now c.args.listed.items c.requires.values c.requires.listed c.loop-value.value-index c.loop-value-test.false c.loop-value.next c.loop-value.rest.rest.items c.loop-value.invariant.left
     ∙ ap not (sym c.is_some.ensures ∙ c.if-is_some.false) in
-    made_all c.args.values.now c.args.listed.items c.requires.values c.requires.listed c.loop-value.value-index c.loop-value-test.false c.loop-value.next c.loop-value.rest.rest.items g.C.Carried.carries c.loop-value.entries.items c.loop-value.invariant.made all
+    made_all c.args.values.now c.args.listed.items c.requires.values c.requires.listed c.loop-value.value-index c.loop-value-test.false c.loop-value.next c.loop-value.rest.rest.items g.C.Payload.payload_of c.loop-value.entries.items c.loop-value.invariant.made all

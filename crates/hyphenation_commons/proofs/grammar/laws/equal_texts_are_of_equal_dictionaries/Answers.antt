@@ -5,7 +5,7 @@ use Rattle.hyphenation_commons.proofs.ReadAgain.{canonical-contents}
 use Rattle.hyphenation_commons.proofs.grammar.laws.equal_texts_are_of_equal_dictionaries.Goals as goal
 
 pub returns : goal.returns
-returns g c = λ kind carries lists change_of break_of contents others exact kept other same.
-    sym (canonical-contents kind carries lists change_of break_of exact contents kept)
-    ∙ ap (λ text. contents_of kind carries lists (lines_of text)) same
-    ∙ canonical-contents kind carries lists change_of break_of exact others other
+returns g c = λ kind payload_of listing_of change_of break_of contents others exact kept other same.
+    sym (canonical-contents kind payload_of listing_of change_of break_of exact contents kept)
+    ∙ ap (λ text. contents_of kind payload_of listing_of (lines_of text)) same
+    ∙ canonical-contents kind payload_of listing_of change_of break_of exact others other

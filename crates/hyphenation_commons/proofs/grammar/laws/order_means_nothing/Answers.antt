@@ -3,4 +3,4 @@ use Rattle.hyphenation_commons.proofs.Order.{same-contents}
 use Rattle.hyphenation_commons.proofs.grammar.laws.order_means_nothing.Goals as goal
 
 pub returns : goal.returns
-returns g c = λ kind carries lists first second third ls ms. same-contents carries lists (record { kind = kind; version = version_by kind first }) first second third ls ms
+returns g c = λ kind payload_of listing_of first second third ls ms. same-contents payload_of listing_of (record { kind = kind; version = version_by kind first }) first second third ls ms

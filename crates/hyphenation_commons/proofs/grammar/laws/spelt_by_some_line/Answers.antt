@@ -4,6 +4,6 @@ use Rattle.hyphenation_commons.proofs.grammar.laws.spelt_by_some_line.Goals as g
 
 pub returns : goal.returns
 returns g c = record {
-  patterns = λ kind carries lists lines key entries e. patterns-told carries lists (form_of kind lines) lines e key entries;
-  exceptions = λ kind carries lists lines word listed e. exceptions-told carries lists (form_of kind lines) lines e word listed;
+  patterns = λ kind payload_of listing_of lines key entries e. patterns-told payload_of listing_of (form_of kind lines) lines e key entries;
+  exceptions = λ kind payload_of listing_of lines word listed e. exceptions-told payload_of listing_of (form_of kind lines) lines e word listed;
 }

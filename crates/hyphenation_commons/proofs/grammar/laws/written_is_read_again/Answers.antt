@@ -3,6 +3,6 @@ use Rattle.hyphenation_commons.proofs.grammar.laws.written_is_read_again.Goals a
 
 pub returns : goal.returns
 returns g c = record {
-  accepted = λ kind carries lists change_of break_of contents exact kept. canonical-accepted kind carries lists change_of break_of exact contents kept;
-  equal = λ kind carries lists change_of break_of contents exact kept. canonical-contents kind carries lists change_of break_of exact contents kept;
+  accepted = λ kind payload_of listing_of change_of break_of contents exact kept. canonical-accepted kind payload_of listing_of change_of break_of exact contents kept;
+  equal = λ kind payload_of listing_of change_of break_of contents exact kept. canonical-contents kind payload_of listing_of change_of break_of exact contents kept;
 }

@@ -1,6 +1,6 @@
 use Rattle.std.proofs.Common.{◌≡◌, ◌++◌, drop}
-use Rattle.hyphenation_commons.specs.Ordered.{shown_keys, shown_pairs}
+use Rattle.hyphenation_commons.specs.Ordered.{key_views, pair_views}
 use Rattle.hyphenation_commons.proofs.grammar.writer.lent_keys.Given as goal
 
 abbrev pub invariant-loop-key : goal.invariant-loop-key
-invariant-loop-key g l = shown_pairs l.lent.items ++ shown_keys (drop l.key-index l.keys) ≡ shown_keys l.keys
+invariant-loop-key g l = pair_views l.lent.items ++ key_views (drop l.key-index l.keys) ≡ key_views l.keys

@@ -1,7 +1,7 @@
 use Rattle.std.proofs.Common.{◌≡◌, drop}
-use Rattle.hyphenation_commons.specs.Ordered.{shown_pairs}
+use Rattle.hyphenation_commons.specs.Ordered.{pair_views}
 use Rattle.hyphenation_commons.specs.Writing.{version_of_keys}
 use Rattle.hyphenation_commons.proofs.grammar.writer.version_for.Given as goal
 
 abbrev pub invariant-loop-entries : goal.invariant-loop-entries
-invariant-loop-entries g l = version_of_keys (shown_pairs (drop l.entries-index l.keys)) ≡ version_of_keys (shown_pairs l.keys)
+invariant-loop-entries g l = version_of_keys (pair_views (drop l.entries-index l.keys)) ≡ version_of_keys (pair_views l.keys)

@@ -1,12 +1,12 @@
 use Rattle.std.proofs.Common.{None, sym}
 use Rattle.hyphenation_commons.specs.Break.{plain}
-use Rattle.hyphenation_commons.specs.Reading.{no_change, place_alone}
+use Rattle.hyphenation_commons.specs.Reading.{no_payload, place_as_listing}
 use Rattle.hyphenation_commons.specs.declared.grammar.form.Kind.TheVariants.{Standard}
 use Rattle.hyphenation_commons.proofs.Holding.{standard_holds}
 use Rattle.hyphenation_commons.proofs.grammar.writer.write_standard.Goals as goal
 
 pub returns-clause-accepted : goal.returns-clause-accepted
-returns-clause-accepted c = c.written_is_read_again.ensures.accepted Standard no_change place_alone (λ _. None) plain c.args.dictionary.now standard_holds c.minima-minima.ensures.kept
+returns-clause-accepted c = c.written_is_read_again.ensures.accepted Standard no_payload place_as_listing (λ _. None) plain c.args.dictionary.now standard_holds c.minima-minima.ensures.kept
 
 pub returns-clause-given : goal.returns-clause-given
-returns-clause-given c = sym (c.written_is_read_again.ensures.equal Standard no_change place_alone (λ _. None) plain c.args.dictionary.now standard_holds c.minima-minima.ensures.kept)
+returns-clause-given c = sym (c.written_is_read_again.ensures.equal Standard no_payload place_as_listing (λ _. None) plain c.args.dictionary.now standard_holds c.minima-minima.ensures.kept)

@@ -1,6 +1,6 @@
 use Rattle.std.proofs.Common.{◌≡◌, ◌≢◌, ◌<◌, ℕ, ◌∙◌, sym, ap, arith, map, List, length, get_or, Option, Some, None}
 use Rattle.std.proofs.lemmas.List.{length-map, get_or-map, get_or_default}
-use Rattle.hyphenation_commons.specs.Growing.{IsHeld}
+use Rattle.hyphenation_commons.specs.Growing.{IsGrowing}
 use Rattle.hyphenation_commons.specs.Links.{parent_of}
 use Rattle.hyphenation_commons.specs.declared.trie.Node.{Node}
 use Rattle.hyphenation_commons.proofs.Children.{sought-start, sought-next, sought-found, sought-none, sought-byte, other_byte}
@@ -17,7 +17,7 @@ within ns i lt = omega (arith, length-map ns (λ n. n.from))
 back : (ns : List Node) (i : ℕ) → i < length ns → i < length (map (λ n. n.from) ns)
 back ns i lt = omega (arith, length-map ns (λ n. n.from))
 
-held-back : (froms : List (Option (ℕ × ℕ))) (lasts befores : List ℕ) (i : ℕ) → IsHeld froms lasts befores → i < length froms → i < length befores
+held-back : (froms : List (Option (ℕ × ℕ))) (lasts befores : List ℕ) (i : ℕ) → IsGrowing froms lasts befores → i < length froms → i < length befores
 held-back froms lasts befores i held lt = omega (arith, held.chained.lengths, length-map froms parent_of)
 
 some : (k : ℕ) → k ≢ 0 → 0 < k

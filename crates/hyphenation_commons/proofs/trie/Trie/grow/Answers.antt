@@ -1,6 +1,6 @@
 use Rattle.std.proofs.Common.{◌≡◌, length, ℕ, List, arith, sym, ◌∙◌, map, subst, None, Some, Option}
 use Rattle.std.proofs.lemmas.List.{map_push, length-map}
-use Rattle.hyphenation_commons.specs.Growing.{IsHeld}
+use Rattle.hyphenation_commons.specs.Growing.{IsGrowing}
 use Rattle.hyphenation_commons.specs.Links.{parent_of}
 use Rattle.hyphenation_commons.specs.Trie.{AreWithin}
 use Rattle.hyphenation_commons.specs.declared.trie.Node.{Node}
@@ -11,7 +11,7 @@ use Rattle.hyphenation_commons.proofs.trie.Trie.grow.Goals as goal
 froms_count : (ns : List Node) (n : ℕ) → n ≡ length ns → n ≡ length (map (λ n. n.from) ns)
 froms_count ns n e = e ∙ sym (simp length-map)
 
-members_count : (froms : List (Option (ℕ × ℕ))) (lasts befores : List ℕ) → IsHeld froms lasts befores → length befores ≡ length froms
+members_count : (froms : List (Option (ℕ × ℕ))) (lasts befores : List ℕ) → IsGrowing froms lasts befores → length befores ≡ length froms
 members_count froms lasts befores held = held.chained.lengths ∙ length-map froms parent_of
 
 pub add-requires : goal.add-requires

@@ -1,5 +1,5 @@
 use Rattle.std.proofs.Common.{◌∙◌, arith}
-use Rattle.hyphenation_commons.specs.Trie.{text_of}
+use Rattle.hyphenation_commons.specs.Trie.{node_text}
 use Rattle.hyphenation_commons.proofs.Tied.{key_at-grows, adds-grows, keeps-grows, front_more}
 use Rattle.hyphenation_commons.proofs.trie.Trie.path.Goals as goal
 
@@ -8,7 +8,7 @@ returns-in_err-node-clause-keys g c = λ q. key_at-grows c.loop-byte.self c.step
 
 pub returns-in_err-node-clause-adds : goal.returns-in_err-node-clause-adds
 returns-in_err-node-clause-adds g c =
-    let f = front_more c.args.text.now c.loop-byte.byte-index (text_of c.loop-byte.self c.loop-byte.node) c.loop-byte.invariant.text (omega arith) in
+    let f = front_more c.args.text.now c.loop-byte.byte-index (node_text c.loop-byte.self c.loop-byte.node) c.loop-byte.invariant.text (omega arith) in
     adds-grows c.args.self.now c.loop-byte.self c.step.new.self _ c.args.text.now c.loop-byte.invariant.adds c.in_err-node.ensures.grows f.1
 
 pub returns-in_err-node-clause-nodes : goal.returns-in_err-node-clause-nodes
@@ -16,7 +16,7 @@ returns-in_err-node-clause-nodes g c = keeps-grows c.args.self.now c.loop-byte.s
 
 pub loop-byte-preserved : goal.loop-byte-preserved
 loop-byte-preserved g c =
-    let f = front_more c.args.text.now c.loop-byte.byte-index (text_of c.loop-byte.self c.loop-byte.node) c.loop-byte.invariant.text (omega arith) in
+    let f = front_more c.args.text.now c.loop-byte.byte-index (node_text c.loop-byte.self c.loop-byte.node) c.loop-byte.invariant.text (omega arith) in
     record {
       within = c.in_ok-node.ensures.ok.0;
       text = c.in_ok-node.ensures.ok.1 ∙ f.0;

@@ -2,7 +2,7 @@ use Rattle.std.proofs.Common.{◌≡◌, ◌∙◌, sym, ap, arith, length, set,
 use Rattle.std.specs.Prelude.{is_some}
 use Rattle.std.proofs.Math.Seq.{map-set_same}
 use Rattle.std.proofs.lemmas.List.{length-append}
-use Rattle.hyphenation_commons.specs.Trie.{seen, with_entries, IsWithin}
+use Rattle.hyphenation_commons.specs.Trie.{tree_of, with_entries, IsWithin}
 use Rattle.hyphenation_commons.specs.declared.trie.Node.{Node}
 use Rattle.hyphenation_commons.specs.declared.trie.Span.{Span}
 use Rattle.hyphenation_commons.proofs.Tied.{seen_within, seen_entries, entries_at-here, IsTrie-seen, seen-with, all_within-more, all_within-set, has_entries}
@@ -37,7 +37,7 @@ returns-clause-set g c =
     let es = c.self.inside.entries.items in
     let xs = c.args.entries.now.items in
     let x : Node = record { from = c.index_mut.result.now.from; span = c.replace-old.new.self } in
-    ap (λ ys. seen (set ns c.args.node x) ys) c.in_ok-append.ensures.items
+    ap (λ ys. tree_of (set ns c.args.node x) ys) c.in_ok-append.ensures.items
     ∙ seen-with ns es xs c.args.node c.len-start.result c.len-end.result c.index_mut.result.now c.replace-old.new.self c.index_mut.ensures.value c.replace-old.ensures.after c.self.invariant.1 (c.len-start.ensures ∙ c.self.inside.entries.ok.0)
     (c.len-end.ensures ∙ c.append.new.self.ok.0 ∙ ap length c.in_ok-append.ensures.items)
     ∙ ap (λ t. with_entries t c.args.node xs) c.self.view_is
@@ -51,7 +51,7 @@ returns-clause-had g c =
     rw (← c.self.view_is) (
     c.is_some.ensures ∙ ap is_some c.replace-old.ensures.value ∙ has_entries es c.index_mut.result.now
     ∙ ap is_some (sym (seen_entries ns es c.args.node c.index_mut.result.now (seen_within ns c.args.node asked) c.index_mut.ensures.value)
-    ∙ sym (entries_at-here (seen ns es).texts (seen ns es).entries c.args.node trie.distinct trie.lengths asked)))
+    ∙ sym (entries_at-here (tree_of ns es).texts (tree_of ns es).entries c.args.node trie.distinct trie.lengths asked)))
 
 pub returns-clause-trie : goal.returns-clause-trie
 returns-clause-trie g c =

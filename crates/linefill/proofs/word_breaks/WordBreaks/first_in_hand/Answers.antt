@@ -2,7 +2,7 @@ use Rattle.std.proofs.Common.{◌≡◌, ◌+◌, ◌∷◌, map, drop, get_or, 
 use Rattle.std.proofs.lemmas.Bool.{le-ltb, cond-false}
 use Rattle.std.proofs.lemmas.List.{drop_more}
 use Rattle.std.proofs.lemmas.List.Elements.{All-head, All-tail}
-use Rattle.linefill.specs.WordBreaks.{left_behind, IsSmall}
+use Rattle.linefill.specs.WordBreaks.{places_after, IsSmall}
 use Rattle.linefill.proofs.word_breaks.WordBreaks.first_in_hand.Goals as goal
 
 pub overflow_add-place : goal.overflow_add-place
@@ -21,8 +21,8 @@ loop-self-preserved c =
     let item = get_or b.breaks.items b.passed c.index.result.now in
     let rest = drop (b.passed + 1) b.breaks.items in
     let here : drop b.passed b.breaks.items ≡ item ∷ rest = drop_more b.breaks.items b.passed c.index.result.now (omega (arith, c.len.ensures, c.loop-self-test.true)) in
-    let step : left_behind from (map (λ p. b.offset + p) (drop b.passed b.breaks.items)) ≡ left_behind from (map (λ p. b.offset + p) rest) =
-    ap (λ xs. left_behind from (map (λ p. b.offset + p) xs)) here ∙ cond-false _ _ _ (le-ltb from (b.offset + item) (omega (arith, c.if-from-place.false, c.index.ensures))) in
+    let step : places_after from (map (λ p. b.offset + p) (drop b.passed b.breaks.items)) ≡ places_after from (map (λ p. b.offset + p) rest) =
+    ap (λ xs. places_after from (map (λ p. b.offset + p) xs)) here ∙ cond-false _ _ _ (le-ltb from (b.offset + item) (omega (arith, c.if-from-place.false, c.index.ensures))) in
     record {
       hand = sym step ∙ c.loop-self.invariant.hand;
       pieces = c.loop-self.invariant.pieces;

@@ -1,12 +1,12 @@
 use Rattle.std.proofs.Common.{◌≡◌, ◌-◌, length, All}
-use Rattle.linefill.specs.WordBreaks.{in_hand, pieces_left, left_behind, IsSmall}
+use Rattle.linefill.specs.WordBreaks.{in_hand, remaining_pieces, places_after, IsSmall}
 use Rattle.linefill.proofs.word_breaks.WordBreaks.first_in_hand.Given as goal
 
--- Only breaks that are not behind the place were passed.
+-- Only breaks that are not after the place were passed.
 abbrev pub invariant-loop-self : goal.invariant-loop-self
 invariant-loop-self l = record {
-  hand : left_behind l.from (in_hand l.self) ≡ left_behind l.from (in_hand l.initial.self);
-  pieces : pieces_left l.self ≡ pieces_left l.initial.self;
+  hand : places_after l.from (in_hand l.self) ≡ places_after l.from (in_hand l.initial.self);
+  pieces : remaining_pieces l.self ≡ remaining_pieces l.initial.self;
   reached : l.self.reached ≡ l.initial.self.reached;
   small : All IsSmall (in_hand l.self);
 }

@@ -1,6 +1,6 @@
 use Rattle.std.proofs.Common.{refl, ap, ◌++◌, ◌≡◌}
 use Rattle.hyphenation.proofs.Steps.{held_is}
-use Rattle.hyphenation.specs.Segments.{marked, mark_if_more}
+use Rattle.hyphenation.specs.Segments.{marked_segments, mark_if_more}
 use Rattle.hyphenation.proofs.iter.marks.HyphenatingIterator.next.Goals as goal
 
 pub returns-in-Ok-clause-steps : goal.returns-in-Ok-clause-steps
@@ -9,9 +9,9 @@ returns-in-Ok-clause-steps g c =
     rw (← c.self.view_is) (
       (
         t.0 ++ mark_if_more c.self.inside.mark.now (g.I.Texts.texts c.pull.new.self),
-        ap (marked c.self.inside.mark.now) t.1,
+        ap (marked_segments c.self.inside.mark.now) t.1,
         let e : c.in-Ok.text.now ≡ t.0 = held_is _ _ _ c.in-Ok.ensures t.2 in
-            rw (← c.mark_behind-mark.ensures, ← e) c.with_mark.ensures,
+            rw (← c.mark_after-mark.ensures, ← e) c.with_mark.ensures,
       ),
       refl,
     )
@@ -20,4 +20,4 @@ pub returns-clause-steps : goal.returns-clause-steps
 returns-clause-steps g c =
     let t = c.in_ok-segment.ensures in
     rw (← c.self.view_is)
-    ((t.0 ++ mark_if_more c.self.inside.mark.now (g.I.Texts.texts c.pull.new.self), ap (marked c.self.inside.mark.now) t.1, tt), refl)
+    ((t.0 ++ mark_if_more c.self.inside.mark.now (g.I.Texts.texts c.pull.new.self), ap (marked_segments c.self.inside.mark.now) t.1, tt), refl)

@@ -1,7 +1,7 @@
 use Rattle.std.proofs.Common.{◌∙◌, ◌≡◌, List, ℕ, None, Option, length, map, get_or, sym, ap, subst}
 use Rattle.hyphenation_commons.specs.Links.{IsFrozen, HasDepths}
 use Rattle.hyphenation_commons.specs.States.{HasStates}
-use Rattle.hyphenation_commons.specs.Trie.{Tree, seen, IsWithin}
+use Rattle.hyphenation_commons.specs.Trie.{Tree, tree_of, IsWithin}
 use Rattle.hyphenation_commons.specs.declared.trie.Span.{Span}
 use Rattle.hyphenation_commons.proofs.Frozen.{frozen_is, has_depths}
 use Rattle.hyphenation_commons.proofs.States.{texts_are, tree_same, spans_within}
@@ -24,7 +24,7 @@ invariant_of-result g c =
     let states = c.in_ok-states.states.items in
     let bases = c.in_ok-bases.field-0.bases.items in
     let cells = c.in_ok-bases.field-0.cells.items in
-    let tree : Tree _ = seen ns es in
+    let tree : Tree _ = tree_of ns es in
     let spans = c.in_ok-states.ensures.spans ∙ c.deref-2.ensures.value ∙ c.in_ok-spans.ensures ∙ ap (map (λ n. n.span)) c.deref.ensures.value in
     let same = tree_same es states ns parents bytes (texts_are _ parents bytes c.requires.trie.some c.requires.trie.root c.requires.parents) spans in
     let same_bases : map (λ s. s.base) states ≡ bases = c.in_ok-states.ensures.bases ∙ c.deref-3.ensures.value in
