@@ -12,16 +12,17 @@ use Rattle.unicode.specs.Binary.{is_uppercase}
 use Rattle.unicode.specs.CaseFolding.{simple_fold}
 use Rattle.hyphenation_commons.specs.Break.{Break}
 use Rattle.hyphenation.specs.Boundaries.{boundaries}
-use Rattle.hyphenation.specs.Fitting.{is_steady_by, kept_breaks, fitted_breaks_of}
+use Rattle.hyphenation.specs.Fitting.{kept_breaks, fitted_breaks_of}
+use Rattle.hyphenation.specs.Private.Fitting.{is_steady_by}
 use Rattle.hyphenation.specs.Folding.{fold_character, fold, carried_back, shifts_of}
 use Rattle.hyphenation.specs.Opportunities.{Rules, opportunities, Ascending}
 use Rattle.hyphenation.specs.Places.{place_of_character}
 use Rattle.hyphenation.proofs.AsciiLetters.{is_uppercase_ascii}
-use Rattle.hyphenation.proofs.Bounds.{bounds_met, bounds_missed}
+use Rattle.hyphenation.proofs.CharacterPlaces.{bounds_met, bounds_missed}
 use Rattle.hyphenation.proofs.Folds.{fold_stays}
 use Rattle.hyphenation.proofs.Shifts.{no_shifts}
 use Rattle.hyphenation.proofs.SoftHyphens.{none_in_ascii}
-use Rattle.hyphenation.proofs.Unmoved.{unmoved_breaks}
+use Rattle.hyphenation.proofs.UnmovedPlaces.{unmoved_breaks}
 
 -- ---- letters a to z
 

@@ -9,12 +9,14 @@ use Rattle.std.proofs.lemmas.Grind.{flat_map-append, common_steps}
 use Rattle.hyphenation_commons.specs.declared.dictionary.Entry.{Entry}
 use Rattle.hyphenation_commons.specs.Dictionary.{Patterns}
 use Rattle.hyphenation_commons.specs.Trie.{Tree, node_text, key_at, EachBeginsKey}
-use Rattle.hyphenation_commons.specs.Links.{Ends, IsLongest, IsReport, keys_in}
+use Rattle.hyphenation_commons.specs.Links.{Ends, IsLongest, IsReport}
+use Rattle.hyphenation_commons.specs.Private.Links.{keys_in}
 use Rattle.hyphenation_commons.proofs.KeyNodes.{node_of_key}
 use Rattle.hyphenation.specs.Scoring.{frame, greatest_value, bearing, bearing_from, bearers, values}
-use Rattle.hyphenation.specs.OnePass.{entries_of_end, entries_of_ends, keys_ending, occurrences}
+use Rattle.hyphenation.specs.OnePass.{keys_ending, occurrences}
+use Rattle.hyphenation.specs.Private.OnePass.{entries_of_end, entries_of_ends}
 use Rattle.hyphenation.proofs.Greatest.{greatest_value-append, greatest_value-within, filter-append}
-use Rattle.hyphenation.proofs.Ranges.{range-append, range_more, flat_map_none}
+use Rattle.hyphenation.proofs.NumberRows.{range-append, range_more, flat_map_none}
 
 -- one more piece of a list of entries
 pub greatest_more : {C : Type 0} (f : ℕ → List (Entry C)) (a n : ℕ) → greatest_value (flat_map f (range_with_len a (n + 1))) ≡ max (greatest_value (flat_map f (range_with_len a n))) (greatest_value (f (a + n)))

@@ -12,7 +12,7 @@ use Rattle.hyphenation.specs.declared.case_folding.Shift.{Shift}
 use Rattle.hyphenation.specs.Places.{place_of_character}
 use Rattle.hyphenation.specs.Folding.{fold_character, fold, has_uppercase, changes_length, shift_of, shifts_of}
 use Rattle.hyphenation.proofs.Folds.{chars_of_fold, fold_stays, folds_to_itself}
-use Rattle.hyphenation.proofs.Numbered.{picked_more}
+use Rattle.hyphenation.proofs.NumberedCharacters.{picked_more}
 use Rattle.hyphenation.proofs.Places.{place_at}
 use Rattle.hyphenation.proofs.Shifts.{shifts_before, no_shifts}
 

@@ -13,7 +13,7 @@ use Rattle.hyphenation.specs.Places.{place_of_character}
 use Rattle.hyphenation.specs.Folding.{fold_character, fold, changes_length, shift_of, shifts_of, delta_below}
 use Rattle.hyphenation.proofs.Places.{place_more, place_rises, place_keeps_order, place_within, same_place}
 use Rattle.hyphenation.proofs.Folds.{chars_of_fold, as_many_characters}
-use Rattle.hyphenation.proofs.Numbered.{picked_more}
+use Rattle.hyphenation.proofs.NumberedCharacters.{picked_more}
 
 -- One more shift counts where its index is below the place.
 delta_below_more : (shifts : List Shift) (s : Shift) (place : ℕ) → delta_below (shifts ++ s ∷ []) place ≡ cond (nat_lt s.index place) s.delta (delta_below shifts place)

@@ -8,16 +8,17 @@ use Rattle.ucd_derived.specs.Binary.{is_uppercase}
 use Rattle.ucd_derived.proofs.BinaryLemmas.{is_uppercase_stepped}
 use Rattle.ucd_derived.proofs.Computing.{ucd_derived}
 use Rattle.hyphenation_commons.specs.Break.{Break}
-use Rattle.hyphenation.specs.Fitting.{is_steady_by, kept_breaks, fitted_breaks_of}
+use Rattle.hyphenation.specs.Fitting.{kept_breaks, fitted_breaks_of}
+use Rattle.hyphenation.specs.Private.Fitting.{is_steady_by}
 use Rattle.hyphenation.specs.Folding.{fold, carried_back}
 use Rattle.hyphenation.specs.Opportunities.{Rules, opportunities, Ascending}
 use Rattle.hyphenation.specs.Places.{place_of_character}
-use Rattle.hyphenation.specs.SmallLetters.{is_small_letter, are_small_letters}
+use Rattle.hyphenation.specs.Private.SmallLetters.{is_small_letter, are_small_letters}
 use Rattle.hyphenation.proofs.Folds.{fold_stays}
 use Rattle.hyphenation.proofs.Places.{place_of_boundary}
 use Rattle.hyphenation.proofs.Refolding.{stays_without_shifts}
 use Rattle.hyphenation.proofs.SoftHyphens.{none_at_all}
-use Rattle.hyphenation.proofs.Unmoved.{unmoved_breaks}
+use Rattle.hyphenation.proofs.UnmovedPlaces.{unmoved_breaks}
 
 ends_in : (low high c : ℕ) → high < 0x460 → (nat_le low c && nat_le c high) ≡ true → c < 0x460
 ends_in low high c h e = let last = leb-true c high (and_parts (nat_le low c) (nat_le c high) e).1 in omega arith

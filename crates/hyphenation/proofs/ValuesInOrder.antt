@@ -7,7 +7,7 @@ use Rattle.std.proofs.lemmas.List.FromFn.{length-map-range_with_len, get_or-map-
 use Rattle.hyphenation_commons.specs.Break.{Change}
 use Rattle.hyphenation_commons.specs.Dictionary.{Patterns}
 use Rattle.hyphenation.specs.Scoring.{frame, places, bearers, value_at, winner_at, value_of, values, winners, Scored, scored_by, scored_pair, scores}
-use Rattle.hyphenation.proofs.First.{value_of-first}
+use Rattle.hyphenation.proofs.FirstGreatest.{value_of-first}
 
 pub length-values : {C : Type 0} (keys : Patterns C) (word : List ℕ) → length (values keys word) ≡ length word - 1
 length-values keys word = length-map-range_with_len (λ p. value_at keys word p) 1 (length word - 1)

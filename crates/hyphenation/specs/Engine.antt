@@ -1,5 +1,5 @@
 -- What is written of a word's score, and when a run is refused.
-use Rattle.std.specs.Prelude.{◌≡◌, ◌≢◌, ◌==◌, if◌then◌else◌, ℕ, List, [], ◌∷◌, ◌++◌, map, decimal, IsUtf8, None, Result, Ok, Err, Option, Some, unwrap_or, slice_index_or}
+use Rattle.std.specs.Prelude.{◌≡◌, ◌≢◌, ℕ, List, [], ◌∷◌, ◌++◌, map, decimal, IsUtf8, None, Result, Ok, Err, Option, Some, unwrap_or, slice_index_or}
 use Rattle.std.specs.List.{join_with_byte}
 use Rattle.hyphenation_commons.specs.Break.{Break, plain}
 use Rattle.hyphenation_commons.specs.Dictionary.{keys_of}
@@ -22,10 +22,6 @@ use Rattle.hyphenation.specs.Scoring.{values}
 -- Values in decimal, one space between, and a line feed.
 abbrev pub score_line : List ℕ → List ℕ
 score_line values = join_with_byte 32 (map decimal values) ++ 10 ∷ []
-
--- The space before each value but the first.
-abbrev pub space_before : ℕ → List ℕ
-space_before index = if index == 0 then [] else 32 ∷ []
 
 -- The language that the second line of a text names, whatever the kind.
 abbrev pub language_in : List ℕ → List ℕ
@@ -58,15 +54,6 @@ Runs refusal language asked bytes (Err TextNotUtf8) = ⊥
 Runs refusal language asked bytes (Err (Input e)) = ⊥
 Runs refusal language asked bytes (Err (Output e)) = IsAccepted refusal language asked bytes
 Runs refusal language asked bytes (Err Memory) = Unit {0}
-
--- A run that is refused other than by its writing.
-abbrev pub IsUnwritten : RunError → Type 0
-IsUnwritten (Dictionary e) = Unit {0}
-IsUnwritten (Edit number) = Unit {0}
-IsUnwritten TextNotUtf8 = Unit {0}
-IsUnwritten (Input e) = Unit {0}
-IsUnwritten (Output e) = ⊥
-IsUnwritten Memory = Unit {0}
 
 -- A run that ended before its writing.
 abbrev pub BeforeWriting : Result (Unit {0}) RunError → Type 0 → Type 0
@@ -121,12 +108,6 @@ JudgesText text (Ok done) = IsUtf8 text
 JudgesText text (Err TextNotUtf8) = ¬ (IsUtf8 text)
 JudgesText text (Err (Output e)) = IsUtf8 text
 JudgesText text (Err _) = Unit {0}
-
--- Why edits are not all done.
-abbrev pub IsOfEdits : RunError → Type 0
-IsOfEdits (Edit number) = Unit {0}
-IsOfEdits Memory = Unit {0}
-IsOfEdits _ = ⊥
 
 -- Why the input can't be had: a fault of it that is no want of memory, or that want.
 abbrev pub IsOfInput : RunError → Type 0

@@ -1,8 +1,6 @@
 -- The breaks that fit a text.
 use Rattle.std.specs.Prelude.{ℕ, ◌+◌, ◌≤◌, List, [], ◌∷◌, ⊤}
 use Rattle.std.specs.Str.{IsCharBoundary}
-use Rattle.std.specs.Coded.{×_prop, Unit-prop}
-use Rattle.std.proofs.Props.{props}
 use Rattle.hyphenation_commons.specs.Break.{Break, left_of, begin_of, end_of}
 
 -- A break stands in a text: its place is no less than the least one, its range begins no earlier than the range
@@ -29,13 +27,3 @@ Fits text breaks = FitsFrom text 0 0 breaks
 abbrev pub Ascend : List ℕ → ℕ → List ℕ → Type 0
 Ascend text least [] = ⊤
 Ascend text least (p ∷ ps) = (least ≤ p) × IsCharBoundary text p × Ascend text (p + 1) ps
-
--- Any two proofs that a break stands in a text, or that breaks fit it, are equal.
-pub Stands-prop : (text : List ℕ) (last_end least : ℕ) (b : Break) → IsProp (Stands text last_end least b)
-Stands-prop text last_end least b = hlevel props
-
-pub FitsFrom-prop : (text : List ℕ) (last_end least : ℕ) (breaks : List Break)
-    → IsProp (FitsFrom text last_end least breaks)
-FitsFrom-prop text last_end least [] = Unit-prop
-FitsFrom-prop text last_end least (b ∷ bs) =
-    ×_prop (Stands-prop text last_end least b) (FitsFrom-prop text (end_of b) (b.place + 1) bs)

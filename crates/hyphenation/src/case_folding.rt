@@ -22,7 +22,7 @@ ghost use Rattle.std.specs.Option.{option_copied, option_map_or};
 ghost use Rattle.std.specs.Str.Pattern.{HasPassingCharAt};
 ghost use Rattle.unicode.specs.Binary.{is_uppercase};
 ghost use Rattle.hyphenation.specs.Places.{place_of_character};
-ghost use Rattle.hyphenation.specs.SmallLetters.{is_small_letter, are_small_letters};
+ghost use Rattle.hyphenation.specs.Private.SmallLetters.{is_small_letter, are_small_letters};
 ghost use Rattle.hyphenation.specs.Folding.{fold_character, fold, has_uppercase, shifts_of, delta_below, carried_back};
 
 use std::alloc::{AllocError, Global};

@@ -4,7 +4,8 @@ ghost use Rattle.std.specs.Prelude.{◌≡◌, ◌++◌, OnOk, IfOk, IfErr, IfSo
 ghost use Rattle.std.specs.String.{string_bytes};
 ghost use Rattle.std.specs.Io.KnownBytes.{Appends, Keeps};
 ghost use Rattle.hyphenation_commons.specs.Judging.{refusal_of};
-ghost use Rattle.hyphenation.specs.Engine.{score_line, space_before, language_in, values_by, breaks_by, Runs, JudgesDictionary, JudgesEdits, JudgesText, BeforeWriting, IsUnwritten, HoldsNoWant};
+ghost use Rattle.hyphenation.specs.Engine.{score_line, language_in, values_by, breaks_by, Runs, JudgesDictionary, JudgesEdits, JudgesText, BeforeWriting, HoldsNoWant};
+ghost use Rattle.hyphenation.specs.Private.Engine.{space_before, IsUnwritten};
 ghost use Rattle.hyphenation.specs.Hyphenated.{hyphenated_text};
 
 mod whole;

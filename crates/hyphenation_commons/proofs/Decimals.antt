@@ -8,7 +8,7 @@ use Rattle.std.proofs.lemmas.Bool.Decides.{nat_tests}
 use Rattle.std.proofs.lemmas.Str.{IsUtf8-from_ascii}
 use Rattle.hyphenation_commons.specs.Lines.{is_digit, with_digit, number, has_no_leading_zero, is_number, small_of}
 use Rattle.hyphenation_commons.specs.Tokens.{braced_value}
-use Rattle.hyphenation_commons.proofs.Passed.{both_left, both_right}
+use Rattle.hyphenation_commons.proofs.LineInvariant.{both_left, both_right}
 
 digit_is : (n : ℕ) → n < 10 → is_digit (48 + n) ≡ true
 digit_is n h = grind (arith, nat_tests)

@@ -12,12 +12,13 @@ use Rattle.std.specs.declared.vec.Vec.{Vec}
 use Rattle.std.proofs.lemmas.Str.{IsUtf8-append, is_utf8-from_IsUtf8}
 use Rattle.hyphenation_commons.specs.Break.{Break, Change, plain}
 use Rattle.hyphenation_commons.specs.Dictionary.{Contents}
-use Rattle.hyphenation_commons.specs.Edits.{ReadsException, as_line, form_in, is_addition, is_sound_line, edit_line, said_of_word, word_named, after_edit, after_edits, last_said_of}
+use Rattle.hyphenation_commons.specs.Edits.{as_line, form_in, is_addition, is_sound_line, edit_line, said_of_word, word_named, after_edit, after_edits, last_said_of}
+use Rattle.hyphenation_commons.specs.Private.Edits.{ReadsException}
 use Rattle.hyphenation_commons.specs.Items.{breaks_of_line}
 use Rattle.hyphenation_commons.specs.Judging.{own_cause, is_known}
-use Rattle.hyphenation_commons.specs.Kept.{are_listed}
+use Rattle.hyphenation_commons.specs.Invariant.{are_listed}
 use Rattle.hyphenation_commons.specs.Lines.{same, strip_prefix}
-use Rattle.hyphenation_commons.specs.Said.{AnswersException, item_cause}
+use Rattle.hyphenation_commons.specs.Private.LineAnswers.{AnswersException, item_cause}
 use Rattle.hyphenation_commons.specs.declared.grammar.form.Form.{Form}
 use Rattle.hyphenation_commons.specs.declared.grammar.form.Kind.{Kind}
 use Rattle.hyphenation_commons.specs.declared.grammar.form.Version.TheVariants.{First}
@@ -26,9 +27,9 @@ use Rattle.hyphenation_commons.specs.declared.grammar.items.Fault.TheVariants.{F
 use Rattle.hyphenation_commons.specs.declared.grammar.Cause.{Cause}
 use Rattle.hyphenation_commons.specs.declared.grammar.Cause.TheVariants.{NotUtf8, UnknownLine}
 use Rattle.hyphenation_commons.proofs.AsciiSplits.{split_ascii, one_ascii}
-use Rattle.hyphenation_commons.proofs.OneLine.{halves}
+use Rattle.hyphenation_commons.proofs.JudgingLine.{halves}
 use Rattle.hyphenation_commons.proofs.PatternsLemmas.{same_test}
-use Rattle.hyphenation_commons.proofs.Whole.{exception_held}
+use Rattle.hyphenation_commons.proofs.ReadingInvariant.{exception_held}
 
 -- ---- the line of an exception fails none of the tests before Token
 

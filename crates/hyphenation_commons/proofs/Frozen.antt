@@ -2,13 +2,14 @@
 use Rattle.std.proofs.Common.{◌≡◌, ◌≢◌, ℕ, zero, suc, ◌+◌, ◌<◌, ◌≤◌, List, [], ◌∷◌, ◌++◌, length, map, get_or, set, slice_index, Option, Some, None, sym, ap, subst, ◌∙◌, arith, inl, inr}
 use Rattle.std.proofs.lemmas.Bool.{cases_eq, cases_lt}
 use Rattle.std.proofs.lemmas.List.{length-append, length-map, get_or-map, get_or_append_left, get_or_push, get_or-set_same, get_or-set_other}
-use Rattle.hyphenation_commons.specs.Trie.{Tree, node_text, IsTrie, texts_of, HasFroms}
-use Rattle.hyphenation_commons.specs.Rows.{child_in, edge_in, HasRow}
-use Rattle.hyphenation_commons.specs.Links.{HasParents, parent_of, byte_of, IsDepths, IsFrozen, HasDepths}
+use Rattle.hyphenation_commons.specs.Trie.{Tree, node_text, IsTrie}
+use Rattle.hyphenation_commons.specs.Private.Trie.{texts_of, HasFroms}
+use Rattle.hyphenation_commons.specs.Private.Rows.{child_in, edge_in, HasRow}
+use Rattle.hyphenation_commons.specs.Private.Links.{HasParents, parent_of, byte_of, IsDepths, IsFrozen, HasDepths}
 use Rattle.hyphenation_commons.specs.declared.trie.rows.Cell.{Cell}
 use Rattle.hyphenation_commons.specs.declared.trie.Node.{Node}
 use Rattle.std.proofs.lemmas.Simd.{map-map}
-use Rattle.hyphenation_commons.proofs.Tied.{length-texts_of, last_same, not_empty}
+use Rattle.hyphenation_commons.proofs.TrieNodes.{length-texts_of, last_same, not_empty}
 
 -- ---- where nodes come from
 

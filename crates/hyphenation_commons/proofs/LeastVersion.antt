@@ -20,10 +20,10 @@ use Rattle.hyphenation_commons.specs.declared.grammar.form.Kind.{Kind}
 use Rattle.hyphenation_commons.specs.declared.grammar.form.Kind.TheVariants.{Standard, Extended}
 use Rattle.hyphenation_commons.specs.declared.grammar.form.Version.{Version}
 use Rattle.hyphenation_commons.specs.declared.grammar.form.Version.TheVariants.{First, Second}
-use Rattle.hyphenation_commons.proofs.Accepted.{AllPairs, all-entries}
-use Rattle.hyphenation_commons.proofs.Free.{Free}
-use Rattle.hyphenation_commons.proofs.Passed.{both_left, both_right}
-use Rattle.hyphenation_commons.proofs.ReadAgain.{head_feed, version-again}
+use Rattle.hyphenation_commons.proofs.CanonicalAccepted.{AllPairs, all-entries}
+use Rattle.hyphenation_commons.proofs.SpelledBytes.{Free}
+use Rattle.hyphenation_commons.proofs.LineInvariant.{both_left, both_right}
+use Rattle.hyphenation_commons.proofs.CanonicalRead.{head_feed, version-again}
 
 -- ---- The first line.
 

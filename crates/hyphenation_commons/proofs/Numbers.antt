@@ -2,7 +2,8 @@
 use Rattle.std.proofs.Common.{subst, ◌≡◌, ℕ, suc, ◌^◌, ◌<◌, ◌≤◌, Bool, true, false, cond, List, [], ◌∷◌, length, drop, get_or, refl, arith, nat_lt, Some, None, ap, ◌∙◌, sym, drop-cons}
 use Rattle.std.proofs.lemmas.Bool.Decides.{nat_tests}
 use Rattle.std.specs.List.{fold}
-use Rattle.hyphenation_commons.specs.Lines.{number, with_digit, value_below}
+use Rattle.hyphenation_commons.specs.Lines.{number, with_digit}
+use Rattle.hyphenation_commons.specs.Private.Lines.{value_below}
 
 pub grows : (n : ℕ) (text : List ℕ) → n ≤ fold with_digit n text
 grows n [] = omega arith

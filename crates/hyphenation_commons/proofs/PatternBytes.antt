@@ -2,7 +2,7 @@
 use Rattle.std.proofs.Common.{◌≡◌, ◌∙◌, ◌+◌, ◌<◌, ◌&&◌, ℕ, suc, Bool, true, false, cond, eqb, not, List, ◌∷◌, drop, drop-cons, fold, get_or, length, Option, Some, None, refl, sym, ap, arith}
 use Rattle.std.specs.Option.{option_map}
 use Rattle.std.proofs.lemmas.List.Sums.{fold-append}
-use Rattle.hyphenation_commons.specs.Parsed.{ReadPattern, with_spelt}
+use Rattle.hyphenation_commons.specs.Private.Parsed.{ReadPattern, with_spelt}
 use Rattle.hyphenation_commons.specs.Tokens.{bytes_added, both_joined, escaped_bytes_after, pattern_escapes}
 use Rattle.hyphenation_commons.specs.declared.grammar.form.Version.{Version}
 use Rattle.hyphenation_commons.specs.declared.grammar.tokens.Escapes.{Escapes}

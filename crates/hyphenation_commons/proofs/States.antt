@@ -6,15 +6,16 @@ use Rattle.std.proofs.Math.Seq.{map-set_same, take-length}
 use Rattle.std.proofs.lemmas.Bool.{cond-true, cond-false}
 use Rattle.std.proofs.lemmas.List.{length-map, get_or-map, map-set, get_or-set_same, get_or-set_other, get_or-take, take_more, drop_all}
 use Rattle.std.proofs.lemmas.Simd.{map-map}
-use Rattle.hyphenation_commons.specs.Links.{HasParents, HasDepths, IsFrozen}
-use Rattle.hyphenation_commons.specs.States.{no_links, texts_by, span_in, entries_there, linked_tree, HasStates}
-use Rattle.hyphenation_commons.specs.Trie.{Tree, node_text, key_at, texts_of, with_node_text, tree_of, entries_in, IsWithin, AreWithin}
+use Rattle.hyphenation_commons.specs.Private.Links.{HasParents, HasDepths, IsFrozen}
+use Rattle.hyphenation_commons.specs.Private.States.{no_links, texts_by, span_in, entries_there, linked_tree, HasStates}
+use Rattle.hyphenation_commons.specs.Trie.{Tree, node_text, key_at}
+use Rattle.hyphenation_commons.specs.Private.Trie.{texts_of, with_node_text, tree_of, entries_in, IsWithin, AreWithin}
 use Rattle.hyphenation_commons.specs.declared.trie.Node.{Node}
 use Rattle.hyphenation_commons.specs.declared.trie.Span.{Span}
 use Rattle.hyphenation_commons.specs.declared.trie.frozen.Links.{Links}
 use Rattle.hyphenation_commons.specs.declared.trie.frozen.State.{State}
 use Rattle.hyphenation_commons.specs.declared.trie.rows.Cell.{Cell}
-use Rattle.hyphenation_commons.proofs.Tied.{entries_at-here}
+use Rattle.hyphenation_commons.proofs.TrieNodes.{entries_at-here}
 
 -- ---- texts
 

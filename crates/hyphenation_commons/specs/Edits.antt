@@ -1,17 +1,13 @@
 -- Edits of the exceptions: which are good, and what they do.
-use Rattle.std.specs.Prelude.{◌≡◌, ℕ, ◌+◌, ◌==◌, ◌&&◌, ◌||◌, Bool, true, false, not, if◌then◌else◌, List, [], ◌∷◌, ◌++◌, length, map, drop, fold, codes, Option, Some, None, is_none, unwrap_or, find, IsUtf8}
+use Rattle.std.specs.Prelude.{◌≡◌, ℕ, ◌+◌, ◌==◌, ◌&&◌, ◌||◌, Bool, false, not, if◌then◌else◌, List, [], ◌∷◌, ◌++◌, length, map, drop, fold, codes, Option, Some, None, is_none, unwrap_or, find, IsUtf8}
 use Rattle.std.specs.List.{list_any}
 use Rattle.std.specs.Option.{option_or}
 use Rattle.std.specs.FinMap as finite
-use Rattle.std.specs.String.{string_bytes}
-use Rattle.std.specs.declared.string.String.{String}
-use Rattle.std.specs.declared.vec.Vec.{Vec}
 use Rattle.hyphenation_commons.specs.Break.{Break}
 use Rattle.hyphenation_commons.specs.Dictionary.{Contents}
-use Rattle.hyphenation_commons.specs.Items.{word_of_line, breaks_of_line, later_tokens_of, exception_of_line}
+use Rattle.hyphenation_commons.specs.Items.{word_of_line, breaks_of_line, later_tokens_of}
 use Rattle.hyphenation_commons.specs.Judging.{fails, own_cause}
 use Rattle.hyphenation_commons.specs.Lines.{same}
-use Rattle.hyphenation_commons.specs.Reading.{spelt_as}
 use Rattle.hyphenation_commons.specs.declared.grammar.form.Form.{Form}
 use Rattle.hyphenation_commons.specs.declared.grammar.form.Kind.{Kind}
 use Rattle.hyphenation_commons.specs.declared.grammar.form.Version.{Version}
@@ -83,7 +79,7 @@ refused_from kind number (edit ∷ edits) =
 abbrev pub first_refused : Kind → List (List ℕ) → Option ℕ
 first_refused kind edits = refused_from kind 1 edits
 
--- ---- what they do, in a dictionary that lists a break by lists
+-- ---- what they do, in a dictionary that lists a break by listing_of
 
 -- What an edit says of its word: the breaks that are listed for it, or that it is no exception.
 abbrev pub said_of_word : {B : Type 0} → (Break → B) → List ℕ → Option (List B)
@@ -130,11 +126,3 @@ abbrev pub FourTests : Type 0
 FourTests = (kind : Kind) (version : Version) (exception : List ℕ) → IsUtf8 exception →
     cause_in kind version (as_line exception)
     ≡ find (fails (form_in kind version) 4 (as_line exception)) (Token ∷ Number ∷ Place ∷ Change ∷ [])
-
--- ---- what reading the exception of an edit answers
-
--- The word and its listed breaks, exactly where the line of it is sound.
-abbrev pub ReadsException : {B Y Z : Type 0} → Kind → (Break → B) → Option (String Y × Vec B Z) → List ℕ → Type 0
-ReadsException kind listing_of None line = is_sound_line kind line ≡ false
-ReadsException kind listing_of (Some x) line =
-    (is_sound_line kind line ≡ true) × (spelt_as lists exception_of_line line ≡ Some (string_bytes x.0, x.1.items))

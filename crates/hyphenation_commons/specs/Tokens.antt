@@ -19,10 +19,6 @@ pattern_escapes Second = DigitsAndBraces
 abbrev pub is_brace : ℕ → Bool
 is_brace b = b == 123 || b == 125
 
--- A byte that stands for itself, without an escape.
-abbrev pub is_itself : ℕ → Bool
-is_itself b = not (b == 92 || b == 13)
-
 -- The byte that a letter after a backslash means.
 abbrev pub escaped_also : Escapes → ℕ → Bool
 escaped_also Plain c = false

@@ -8,9 +8,9 @@ ghost use Rattle.std.specs.FinMap as finite;
 ghost use Rattle.std.specs.Option.{option_map};
 ghost use Rattle.std.specs.String.{string_bytes};
 ghost use Rattle.hyphenation_commons.specs.Dictionary.{TextMap};
-ghost use Rattle.hyphenation_commons.specs.Held.{exceptions_of};
-ghost use Rattle.hyphenation_commons.specs.Ordered.{pair_views};
-ghost use Rattle.hyphenation_commons.specs.Spots.{spots, spot, AreMarked};
+ghost use Rattle.hyphenation_commons.specs.Private.Views.{exceptions_of};
+ghost use Rattle.hyphenation_commons.specs.Private.Ordered.{pair_views};
+ghost use Rattle.hyphenation_commons.specs.Private.Spots.{spots, spot, AreMarked};
 
 use std::alloc::{AllocError, Global};
 use std::collections::HashMap;
@@ -29,8 +29,8 @@ impl<B> Model for Exceptions<B> {
     ghost use Rattle.std.specs.Coded.{coded_ℕ, coded_list};
     ghost use Rattle.std.specs.FinMap as finite;
     ghost use Rattle.hyphenation_commons.specs.Dictionary.{TextMap};
-    ghost use Rattle.hyphenation_commons.specs.Held.{exceptions_of};
-    ghost use Rattle.hyphenation_commons.specs.Spots.{AreMarked};
+    ghost use Rattle.hyphenation_commons.specs.Private.Views.{exceptions_of};
+    ghost use Rattle.hyphenation_commons.specs.Private.Spots.{AreMarked};
 
     ghost Value = { TextMap (List B) };
 

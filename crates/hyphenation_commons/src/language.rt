@@ -21,7 +21,7 @@ pub struct Language {
 
 impl Model for Language {
     ghost use Rattle.std.specs.Prelude.{◌≡◌, ◌-◌, ◌≤◌, ◌++◌, List, ℕ, length, take, replicate};
-    ghost use Rattle.hyphenation_commons.specs.Language.{IsPadded, padded-take};
+    ghost use Rattle.hyphenation_commons.specs.Private.Language.{IsPadded, padded-take};
 
     ghost Value = { List ℕ };
 

@@ -5,9 +5,9 @@
 
 ghost use Rattle.std.specs.Prelude.{◌≡◌, ◌↔◌, IsTrue, IfOk, map, All};
 ghost use Rattle.std.specs.String.{string_bytes};
-ghost use Rattle.hyphenation_commons.specs.Held.{patterns_of};
-ghost use Rattle.hyphenation_commons.specs.Kept.{has_letter, are_entries, are_listed};
-ghost use Rattle.hyphenation_commons.specs.Made.{map_of_pairs, pair_of, fits_key};
+ghost use Rattle.hyphenation_commons.specs.Private.Views.{patterns_of};
+ghost use Rattle.hyphenation_commons.specs.Invariant.{has_letter, are_entries, are_listed};
+ghost use Rattle.hyphenation_commons.specs.Maker.{map_of_pairs, pair_of, fits_key};
 ghost use Rattle.hyphenation_commons.specs.Trie.{EachBeginsKey};
 
 use crate::breaks::stands_in;

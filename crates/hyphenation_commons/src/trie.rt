@@ -25,8 +25,9 @@
 ghost use Rattle.std.specs.Prelude.{◌≡◌, ◌≢◌, ◌+◌, ◌<◌, ◌≤◌, ◌^◌, ◌++◌, [], ◌∷◌, ℕ, List, length, None, Some, IfOk, OnOk, OnErr, if◌then◌else◌, nat_eq, is_some, IfSome, IfNone};
 ghost use Rattle.std.specs.Cmp.Lexicographic.{pointwise};
 ghost use Rattle.std.specs.List.{slice_range};
-ghost use Rattle.hyphenation_commons.specs.Links.{parent_of, byte_of};
-ghost use Rattle.hyphenation_commons.specs.Trie.{Tree, node_text, key_at, with_child, IsTrie, Grows, AddsFront, KeepsNodes, EachBeginsKey, with_entries};
+ghost use Rattle.hyphenation_commons.specs.Private.Links.{parent_of, byte_of};
+ghost use Rattle.hyphenation_commons.specs.Trie.{Tree, node_text, key_at, IsTrie, AddsFront, KeepsNodes, EachBeginsKey};
+ghost use Rattle.hyphenation_commons.specs.Private.Trie.{with_child, Grows, with_entries};
 
 pub mod automaton;
 mod chains;
@@ -156,8 +157,9 @@ pub struct Trie<E> {
 
 impl<E> Model for Trie<E> {
     ghost use Rattle.std.specs.Prelude.{map, length};
-    ghost use Rattle.hyphenation_commons.specs.Growing.{IsGrowing};
-    ghost use Rattle.hyphenation_commons.specs.Trie.{Tree, tree_of, AreWithin};
+    ghost use Rattle.hyphenation_commons.specs.Private.Growing.{IsGrowing};
+    ghost use Rattle.hyphenation_commons.specs.Trie.{Tree};
+    ghost use Rattle.hyphenation_commons.specs.Private.Trie.{tree_of, AreWithin};
 
     ghost Value = { Tree E };
 

@@ -1,7 +1,7 @@
 pub mod Division
-pub mod Passing
-pub mod Rows
-pub mod Walk
-pub mod Whole
+pub mod CutPassing
+pub mod CutRows
+pub mod FillWalk
+pub mod TextBreaks
 pub mod Widths
 pub mod WordBreaks

@@ -7,7 +7,7 @@ use Rattle.std.proofs.lemmas.List.Folds.{list_any-append}
 use Rattle.std.proofs.lemmas.Option.{none-some}
 use Rattle.hyphenation_commons.specs.Break.{Break}
 use Rattle.linefill.specs.Cuts.{is_in, breaks_in}
-use Rattle.linefill.specs.WordBreaks.{in_hand, remaining_pieces, remaining_breaks, places_after, first_place, Rise, Follow, IsSmall, InOrder, NoneWithin, IsFirstAfter}
+use Rattle.linefill.specs.Private.WordBreaks.{in_hand, remaining_pieces, remaining_breaks, places_after, first_place, Rise, Follow, IsSmall, InOrder, NoneWithin, IsFirstAfter}
 use Rattle.linefill.specs.declared.word_breaks.WordBreaks.{WordBreaks}
 
 some_same : (a b : ℕ) → Some a ≡ Some b → a ≡ b

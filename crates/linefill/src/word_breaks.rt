@@ -5,7 +5,7 @@ ghost use Rattle.std.specs.Option.{MatchOption};
 ghost use Rattle.unicode_segmentation.specs.Segments.{with_offsets};
 ghost use Rattle.unicode_segmentation.specs.Word.{word_bounds};
 ghost use Rattle.linefill.specs.Cuts.{is_in};
-ghost use Rattle.linefill.specs.WordBreaks.{in_hand, remaining_pieces, next_then, remaining_breaks, places_after, first_place, InOrder, NoneWithin, IsFirstAfter, IsSmall};
+ghost use Rattle.linefill.specs.Private.WordBreaks.{in_hand, remaining_pieces, next_then, remaining_breaks, places_after, first_place, InOrder, NoneWithin, IsFirstAfter, IsSmall};
 
 use hyphenation::Hyphenator;
 use std::alloc::{AllocError, Global};

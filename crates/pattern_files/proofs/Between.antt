@@ -4,7 +4,8 @@ use Rattle.std.proofs.lemmas.List.{append-nil}
 use Rattle.std.proofs.lemmas.List.Sums.{fold-append}
 use Rattle.std.specs.List.{slice_split, onto_first, count_by}
 use Rattle.std.specs.Prelude.{codes}
-use Rattle.pattern_files.specs.Groups.{Piece, GroupWord, Found, is_space, is_brace, with_piece, nothing_found, groups, pieces_of}
+use Rattle.pattern_files.specs.Groups.{Piece, GroupWord, Found, is_space, with_piece, nothing_found, groups, pieces_of}
+use Rattle.hyphenation_commons.specs.Tokens.{is_brace}
 use Rattle.pattern_files.specs.declared.group.Group.{Group}
 use Rattle.pattern_files.specs.declared.group.Group.TheVariants.{Patterns, Exceptions}
 use Rattle.pattern_files.specs.declared.group.Place.TheVariants.{Outside, Within}

@@ -4,8 +4,8 @@ use Rattle.std.specs.Prelude.{IsTrue, IsUtf8, ◌↔◌}
 use Rattle.std.specs.Str.{is_utf8}
 use Rattle.std.proofs.lemmas.Str.{IsUtf8-from_is_utf8}
 use Rattle.hyphenation_commons.specs.Break.{Break, Change, plain, is_boundary}
-use Rattle.hyphenation_commons.specs.Kept.{has_letter, are_entries, are_listed, is_value, stays_within, lists_within}
-use Rattle.hyphenation_commons.specs.Made.{fits_key}
+use Rattle.hyphenation_commons.specs.Invariant.{has_letter, are_entries, are_listed, is_value, stays_within, lists_within}
+use Rattle.hyphenation_commons.specs.Maker.{fits_key}
 use Rattle.hyphenation_commons.specs.declared.dictionary.Entry.{Entry}
 use Rattle.pattern_files.specs.Spelling.{letters, digit_values, entries_of_digits, entry_without_change, carries_nothing, unhyphenated, hyphens_from, breaks_of_hyphens, letter_cause, keeps_characters}
 use Rattle.pattern_files.specs.declared.fault.Cause.{Cause}

@@ -4,7 +4,7 @@ use Rattle.std.specs.Option.{option_or}
 use Rattle.std.specs.List.{filter_map}
 use Rattle.hyphenation_commons.specs.Break.{Break, Change}
 use Rattle.hyphenation_commons.specs.Dictionary.{Contents}
-use Rattle.hyphenation_commons.specs.Made.{map_of_pairs}
+use Rattle.hyphenation_commons.specs.Maker.{map_of_pairs}
 use Rattle.hyphenation_commons.specs.declared.dictionary.Entry.{Entry}
 use Rattle.pattern_files.specs.Groups.{GroupWord, groups, plain_words, pieces_of}
 use Rattle.pattern_files.specs.Spelling.{word_cause, pattern_in, exception_in}

@@ -1,8 +1,9 @@
 -- Which words of a TeX file, and of a plain one, are patterns and exceptions.
 -- A file is read byte by byte into pieces, and its pieces one by one into the words of its groups, as TeX reads it.
 -- Source: D. E. Knuth, The TeXbook, appendix H; the files of hyph-utf8.
-use Rattle.std.specs.Prelude.{ℕ, ◌+◌, ◌==◌, ◌||◌, Bool, true, false, if◌then◌else◌, List, [], ◌∷◌, ◌++◌, map, fold, length, codes, Option, Some, None}
+use Rattle.std.specs.Prelude.{ℕ, ◌+◌, ◌==◌, ◌||◌, Bool, true, false, if◌then◌else◌, List, [], ◌∷◌, ◌++◌, fold, length, codes, Option, Some, None}
 use Rattle.hyphenation_commons.specs.Lines.{same}
+use Rattle.hyphenation_commons.specs.Tokens.{is_brace}
 use Rattle.pattern_files.specs.declared.fault.Cause.{Cause}
 use Rattle.pattern_files.specs.declared.fault.Cause.TheVariants.{Input, Unclosed}
 use Rattle.pattern_files.specs.declared.group.Group.{Group}
@@ -16,9 +17,6 @@ use Rattle.pattern_files.specs.declared.group.Word.{Word}
 -- White space within a line.
 abbrev pub is_space : ℕ → Bool
 is_space b = b == 32 || b == 9 || b == 12 || b == 13
-
-abbrev pub is_brace : ℕ → Bool
-is_brace b = b == 123 || b == 125
 
 -- A piece of a file, and the number of its line.
 pub record Piece : Type 0 where

@@ -1,5 +1,5 @@
 pub mod Spelling
 pub mod Groups
 pub mod Converting
-pub mod Read
 pub mod TexFiles
+pub mod Private

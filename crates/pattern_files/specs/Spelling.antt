@@ -6,7 +6,8 @@ use Rattle.std.specs.List.{list_any}
 use Rattle.std.specs.Str.{is_utf8}
 use Rattle.hyphenation.specs.Folding.{fold}
 use Rattle.hyphenation_commons.specs.Break.{Break, Change, plain}
-use Rattle.hyphenation_commons.specs.Kept.{has_letter, are_entries, are_listed}
+use Rattle.hyphenation_commons.specs.Lines.{is_digit}
+use Rattle.hyphenation_commons.specs.Invariant.{has_letter, are_entries, are_listed}
 use Rattle.hyphenation_commons.specs.declared.dictionary.Entry.{Entry}
 use Rattle.pattern_files.specs.declared.fault.Cause.{Cause}
 use Rattle.pattern_files.specs.declared.fault.Cause.TheVariants.{Command, EightBit, Sign, TwoInOnePlace, NoLetters, NotUtf8}
@@ -14,9 +15,6 @@ use Rattle.pattern_files.specs.declared.fault.WordFault.{WordFault}
 use Rattle.pattern_files.specs.declared.fault.WordFault.TheVariants.{Memory, Fails}
 use Rattle.pattern_files.specs.declared.group.Group.{Group}
 use Rattle.pattern_files.specs.declared.group.Group.TheVariants.{Patterns, Exceptions}
-
-abbrev pub is_digit : ℕ → Bool
-is_digit b = nat_le 48 b && nat_le b 57
 
 -- The letters of a pattern: all but its digits.
 abbrev pub letters : List ℕ → List ℕ
@@ -41,14 +39,14 @@ abbrev pub hyphens_from : ℕ → List ℕ → List ℕ
 hyphens_from at [] = []
 hyphens_from at (b ∷ bs) = if b == 45 then at ∷ hyphens_from at bs else hyphens_from (at + 1) bs
 
--- The entries of a pattern, in a kind of dictionary that holds a change or none by carries.
+-- The entries of a pattern, in a kind of dictionary that holds a change or none by payload_of.
 abbrev pub entry_without_change : {C : Type 0} → (Option Change → C) → ℕ × ℕ → Entry C
 entry_without_change payload_of v = record { place = v.0; value = v.1; change = payload_of None }
 
 abbrev pub entries_of_digits : {C : Type 0} → (Option Change → C) → List ℕ → List (Entry C)
 entries_of_digits payload_of text = map (entry_without_change payload_of) (digit_values 0 text)
 
--- The breaks of a word with hyphens, in a kind of dictionary that lists a break by lists.
+-- The breaks of a word with hyphens, in a kind of dictionary that lists a break by listing_of.
 abbrev pub breaks_of_hyphens : {B : Type 0} → (Break → B) → List ℕ → List B
 breaks_of_hyphens listing_of text = map (λ place. listing_of (plain place)) (hyphens_from 0 text)
 

@@ -2,8 +2,8 @@
 
 ghost use Rattle.std.specs.Prelude.{◌≡◌, [], ◌∷◌, ◌++◌, IfOk, OnOk, IfErr, IsTrue, None, map};
 ghost use Rattle.std.specs.String.{string_bytes};
-ghost use Rattle.hyphenation_commons.specs.Kept.{are_listed};
-ghost use Rattle.hyphenation_commons.specs.Made.{fits_key};
+ghost use Rattle.hyphenation_commons.specs.Invariant.{are_listed};
+ghost use Rattle.hyphenation_commons.specs.Maker.{fits_key};
 ghost use Rattle.pattern_files.specs.Converting.{words_spelled, one_after_other, with_key, with_word, contents_made, first_fault, IsLineFault};
 ghost use Rattle.pattern_files.specs.Groups.{word_view};
 ghost use Rattle.pattern_files.specs.Spelling.{word_cause, IsWordFault};
@@ -27,8 +27,8 @@ pub struct Parts<C: Payload, B: Listing> {
 impl<C: Payload, B: Listing> Model for Parts<C, B> {
     ghost use Rattle.std.specs.Prelude.{map, All, IsTrue};
     ghost use Rattle.std.specs.String.{string_bytes};
-    ghost use Rattle.hyphenation_commons.specs.Kept.{are_listed};
-    ghost use Rattle.hyphenation_commons.specs.Made.{pair_of, fits_key};
+    ghost use Rattle.hyphenation_commons.specs.Invariant.{are_listed};
+    ghost use Rattle.hyphenation_commons.specs.Maker.{pair_of, fits_key};
     ghost use Rattle.pattern_files.specs.Converting.{Spelled};
 
     ghost Value = { Spelled C B };

@@ -5,7 +5,7 @@ ghost use Rattle.std.specs.FinMap as finite;
 ghost use Rattle.std.specs.Io.KnownBytes.{Appends, Keeps};
 ghost use Rattle.hyphenation_commons.specs.Break.{plain};
 ghost use Rattle.hyphenation_commons.specs.Canonical.{standard_text};
-ghost use Rattle.hyphenation_commons.specs.Kept.{are_listed};
+ghost use Rattle.hyphenation_commons.specs.Invariant.{are_listed};
 
 use hyphenation::load::{Error, Result};
 use hyphenation::{Load, Standard};

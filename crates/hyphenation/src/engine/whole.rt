@@ -6,7 +6,8 @@ ghost use Rattle.std.specs.String.{string_bytes};
 ghost use Rattle.hyphenation_commons.specs.Break.{Break};
 ghost use Rattle.hyphenation_commons.specs.Edits.{is_good_edit};
 ghost use Rattle.hyphenation_commons.specs.Judging.{refusal_of};
-ghost use Rattle.hyphenation.specs.Engine.{IsOfEdits, IsOfInput, IsOfText, JudgesDictionary, JudgesEdits, JudgesText, IsUnwritten, HoldsNoWant, language_in};
+ghost use Rattle.hyphenation.specs.Engine.{IsOfInput, IsOfText, JudgesDictionary, JudgesEdits, JudgesText, HoldsNoWant, language_in};
+ghost use Rattle.hyphenation.specs.Private.Engine.{IsOfEdits, IsUnwritten};
 ghost use Rattle.hyphenation.specs.Hyphenated.{hyphenated_text};
 ghost use Rattle.hyphenation.specs.Load.{ReadsIn, IsNoWant};
 

@@ -3,7 +3,8 @@
 ghost use Rattle.std.specs.Prelude.{◌≡◌, IfOk, map, option_copied};
 ghost use Rattle.std.specs.Option.{option_map};
 ghost use Rattle.hyphenation_commons.specs.Trie.{key_at, EachBeginsKey};
-ghost use Rattle.hyphenation.specs.Opportunities.{own_change, lent_break, breaks_within, allowed_by, won_at, won_within};
+ghost use Rattle.hyphenation.specs.Opportunities.{own_change, breaks_within, allowed_by};
+ghost use Rattle.hyphenation.specs.Private.Opportunities.{lent_break, won_at, won_within};
 
 use super::found::is_within;
 use crate::score::{LookUps, winners_in};

@@ -2,7 +2,8 @@
 
 ghost use Rattle.std.specs.Prelude.{◌≡◌, ◌↔◌, map, IsTrue, IfOk, MatchOption};
 ghost use Rattle.hyphenation_commons.specs.Break.{end_of};
-ghost use Rattle.hyphenation.specs.Fits.{Fits, Stands, FitsFrom-prop};
+ghost use Rattle.hyphenation.specs.Fits.{Fits, Stands};
+ghost use Rattle.hyphenation.specs.Private.Fits.{FitsFrom-prop};
 
 use hyphenation_commons::breaks::Break;
 use std::alloc::{AllocError, Global};

@@ -5,7 +5,7 @@ ghost use Rattle.std.specs.Iterator.{YieldsFirstRef, item_count, UpTo, at_most};
 ghost use Rattle.std.specs.Iterator.SizeHint.{IsWithinCount};
 ghost use Rattle.hyphenation.specs.Fits.{Fits};
 ghost use Rattle.hyphenation.specs.Segments.{segments};
-ghost use Rattle.hyphenation.specs.Coming.{TakesFirstOrRefuses};
+ghost use Rattle.hyphenation.specs.Remaining.{TakesFirstOrRefuses};
 
 use crate::iter::{Breaks, Texts};
 use std::alloc::AllocError;
@@ -25,7 +25,7 @@ pub struct Segments<'t, I: Breaks<Item = usize>> {
 
 impl<'t, I: Breaks<Item = usize>> Model for Segments<'t, I> {
     ghost use Rattle.std.specs.Prelude.{List, ℕ};
-    ghost use Rattle.hyphenation.specs.Coming.{segments_from, FitsAfter, MayAsk};
+    ghost use Rattle.hyphenation.specs.Private.Remaining.{segments_from, FitsAfter, MayAsk};
 
     ghost Value = { List (List ℕ) };
 

@@ -5,11 +5,13 @@
 
 ghost use Rattle.std.specs.Prelude.{◌≡◌, ◌+◌, ◌-◌, ◌*◌, ◌<◌, ◌≤◌, ◌^◌, ◌==◌, if◌then◌else◌, ℕ, List, None, Some, length, filter, map, take, option_copied, IfOk, OnOk};
 ghost use Rattle.hyphenation_commons.specs.Dictionary.{keys_of, longest_key};
-ghost use Rattle.hyphenation_commons.specs.Links.{IsLongest, keys_in};
+ghost use Rattle.hyphenation_commons.specs.Links.{IsLongest};
+ghost use Rattle.hyphenation_commons.specs.Private.Links.{keys_in};
 ghost use Rattle.hyphenation_commons.specs.Trie.{node_text, key_at, EachBeginsKey};
 ghost use Rattle.hyphenation.specs.Scoring.{frame, first_greatest, winners};
 ghost use Rattle.hyphenation.specs.OnePass.{occurrences};
-ghost use Rattle.hyphenation.specs.Winners.{best_of, meets, Sane, Holds, Asked};
+ghost use Rattle.hyphenation.specs.Winners.{Holds};
+ghost use Rattle.hyphenation.specs.Private.Winners.{best_of, meets, Sane, Asked};
 
 use super::framed_at;
 use hyphenation_commons::breaks::Break;

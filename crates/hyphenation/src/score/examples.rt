@@ -1,7 +1,7 @@
 //! Worked examples of values and winners, proved by computation.
 
 ghost use Rattle.std.specs.Prelude.{◌≡◌, [], ◌∷◌, codes, Some, None};
-ghost use Rattle.hyphenation.specs.Examples.{english, early_and_late, short_and_long, dotted, changes_won};
+ghost use Rattle.hyphenation.specs.Private.Examples.{english, early_and_late, short_and_long, dotted, changes_won};
 ghost use Rattle.hyphenation.specs.Scoring.{values};
 
 /// In `firkin` the 5 of `r5kin` is above the 2 of `r2k`, and the 2 of `k2in.` above the 1 of `k1in`.

@@ -11,7 +11,8 @@
 //! may be an exception already.
 
 ghost use Rattle.std.specs.Prelude.{◌≡◌, IfOk, IsTrue, IsUtf8, OnErr, not};
-ghost use Rattle.hyphenation_commons.specs.Edits.{FourTests, LastDecides, ReadsException, VersionsAgree};
+ghost use Rattle.hyphenation_commons.specs.Edits.{FourTests, LastDecides, VersionsAgree};
+ghost use Rattle.hyphenation_commons.specs.Private.Edits.{ReadsException};
 ghost use Rattle.hyphenation_commons.specs.Edits.{as_line, after_edit, has_feed, is_good_edit, is_sound_line, is_word_alone, with_exception, without_exception};
 
 use crate::dictionary::{Payload, Dictionary, Listing};

@@ -1,7 +1,7 @@
 //! Lines of dictionary texts, judged and spelt by computation.
 
 ghost use Rattle.std.specs.Prelude.{◌≡◌, [], ◌∷◌, codes, map, Some, None};
-ghost use Rattle.hyphenation_commons.specs.Examples.{extended_first, judged, standard_first, standard_second};
+ghost use Rattle.hyphenation_commons.specs.Private.Examples.{extended_first, judged, standard_first, standard_second};
 ghost use Rattle.hyphenation_commons.specs.Items.{pattern_of_line, exception_of_line};
 ghost use Rattle.hyphenation_commons.specs.Judging.{refusal_of};
 ghost use Rattle.hyphenation_commons.specs.declared.grammar.form.Kind.TheVariants.{Standard};

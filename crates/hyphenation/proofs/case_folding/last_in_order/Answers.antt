@@ -1,7 +1,7 @@
 use Rattle.std.proofs.Common.{nat_lt, rules, tests, ◌∙◌}
 use Rattle.std.proofs.lemmas.List.Sorted.{IsPartitionPoint-from_clause, IsPartitionedBy-ltb}
 use Rattle.hyphenation.specs.declared.case_folding.Shift.{Shift}
-use Rattle.hyphenation.proofs.InOrder.{last_before}
+use Rattle.hyphenation.proofs.ShiftOrder.{last_before}
 use Rattle.hyphenation.proofs.case_folding.last_in_order.Goals as goal
 
 pub returns : goal.returns

@@ -1,4 +1,4 @@
-use Rattle.hyphenation.proofs.Spaced.{value_after}
+use Rattle.hyphenation.proofs.ScoreLine.{value_after}
 use Rattle.hyphenation.proofs.engine.line_of.Goals as goal
 
 pub loop-index-preserved : goal.loop-index-preserved

@@ -3,8 +3,8 @@ use Rattle.hyphenation_commons.specs.Break.{plain}
 use Rattle.hyphenation.specs.Fits.{Fits}
 use Rattle.hyphenation.specs.Opportunities.{no_change, rules_of, all_breaks_of}
 use Rattle.hyphenation.proofs.FittedBreaks.{breaks_fit}
-use Rattle.hyphenation.proofs.GivenBack.{given_back}
-use Rattle.hyphenation.proofs.Plain.{breaks_plain, fitted_alike}
+use Rattle.hyphenation.proofs.TextGivenBack.{given_back}
+use Rattle.hyphenation.proofs.PlainBreaks.{breaks_plain, fitted_alike}
 use Rattle.hyphenation.proofs.text.an_empty_mark_gives_the_text_back.Goals as goal
 
 pub returns : goal.returns

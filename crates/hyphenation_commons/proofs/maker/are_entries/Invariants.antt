@@ -1,5 +1,5 @@
 use Rattle.std.proofs.Common.{◌≡◌, drop}
-use Rattle.hyphenation_commons.specs.Kept.{are_entries}
+use Rattle.hyphenation_commons.specs.Invariant.{are_entries}
 use Rattle.hyphenation_commons.proofs.maker.are_entries.Given as goal
 
 abbrev pub invariant-loop-entry : goal.invariant-loop-entry

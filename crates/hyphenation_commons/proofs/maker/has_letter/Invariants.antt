@@ -1,5 +1,5 @@
 use Rattle.std.proofs.Common.{◌≡◌, drop}
-use Rattle.hyphenation_commons.specs.Kept.{has_letter}
+use Rattle.hyphenation_commons.specs.Invariant.{has_letter}
 use Rattle.hyphenation_commons.proofs.maker.has_letter.Given as goal
 
 abbrev pub invariant-loop-b : goal.invariant-loop-b

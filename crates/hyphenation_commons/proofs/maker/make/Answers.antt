@@ -1,8 +1,8 @@
 use Rattle.std.proofs.Common.{◌≡◌, sym, subst, arith, map}
-use Rattle.hyphenation_commons.specs.Held.{patterns_of}
-use Rattle.hyphenation_commons.specs.Kept.{IsPattern, IsException}
-use Rattle.hyphenation_commons.specs.Made.{map_of_pairs, pair_of}
-use Rattle.hyphenation_commons.proofs.Making.{Holds, keys_hold, words_hold}
+use Rattle.hyphenation_commons.specs.Private.Views.{patterns_of}
+use Rattle.hyphenation_commons.specs.Invariant.{IsPattern, IsException}
+use Rattle.hyphenation_commons.specs.Maker.{map_of_pairs, pair_of}
+use Rattle.hyphenation_commons.proofs.MakerInvariant.{Holds, keys_hold, words_hold}
 use Rattle.hyphenation_commons.proofs.maker.make.Goals as goal
 
 pub new-requires-clause-kept : goal.new-requires-clause-kept

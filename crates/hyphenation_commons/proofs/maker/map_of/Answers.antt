@@ -1,4 +1,4 @@
-use Rattle.hyphenation_commons.proofs.Making.{one_more}
+use Rattle.hyphenation_commons.proofs.MakerInvariant.{one_more}
 use Rattle.hyphenation_commons.proofs.maker.map_of.Goals as goal
 
 pub loop-word-preserved : goal.loop-word-preserved

@@ -1,6 +1,6 @@
 use Rattle.std.proofs.Common.{◌≡◌, map, fold}
 use Rattle.std.specs.Vec.Iter.{into_iter_items}
-use Rattle.hyphenation_commons.specs.Made.{map_of_pairs, pair_of, with_pair}
+use Rattle.hyphenation_commons.specs.Maker.{map_of_pairs, pair_of, with_pair}
 use Rattle.hyphenation_commons.proofs.maker.map_of.Given as goal
 
 abbrev pub invariant-loop-word : goal.invariant-loop-word

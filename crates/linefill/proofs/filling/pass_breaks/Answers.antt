@@ -2,11 +2,11 @@ use Rattle.std.proofs.Common.{◌≡◌, ℕ, ◌<◌, true, sym, ap, ◌∙◌,
 use Rattle.std.proofs.lemmas.Bool.{or_right, false≢true}
 use Rattle.std.proofs.lemmas.Option.{MatchOption-at_some}
 use Rattle.linefill.specs.Cuts.{word_breaks, is_in, is_plain, is_cut}
-use Rattle.linefill.specs.Filling.{State, after_cut, all_lines}
-use Rattle.linefill.specs.Open.{state_of}
-use Rattle.linefill.specs.WordBreaks.{remaining_breaks}
-use Rattle.linefill.proofs.Walk.{IsState, or_from_false, cut_boundary, passing_end, passing_owed}
-use Rattle.linefill.proofs.Whole.{sound}
+use Rattle.linefill.specs.Private.Filling.{State, after_cut, all_lines}
+use Rattle.linefill.specs.Private.Open.{state_of}
+use Rattle.linefill.specs.Private.WordBreaks.{remaining_breaks}
+use Rattle.linefill.proofs.FillWalk.{IsState, or_from_false, cut_boundary, passing_end, passing_owed}
+use Rattle.linefill.proofs.TextBreaks.{sound}
 use Rattle.linefill.proofs.filling.pass_breaks.Goals as goal
 
 pub pass-requires-clause-place : goal.pass-requires-clause-place

@@ -1,6 +1,6 @@
 use Rattle.std.proofs.Common.{◌≡◌, fold, drop, map}
 use Rattle.pattern_files.specs.Groups.{with_piece, nothing_found}
-use Rattle.pattern_files.specs.Read.{scan_view, piece_view}
+use Rattle.pattern_files.specs.Private.Read.{scan_view, piece_view}
 use Rattle.pattern_files.proofs.tex.groups.Given as goal
 
 abbrev pub invariant-loop-piece : goal.invariant-loop-piece

@@ -1,6 +1,6 @@
 use Rattle.std.proofs.Common.{◌≡◌, ◌≤◌, ◌+◌, fold, drop}
 use Rattle.pattern_files.specs.Groups.{with_byte, nothing_lexed}
-use Rattle.pattern_files.specs.Read.{lexer_view}
+use Rattle.pattern_files.specs.Private.Read.{lexer_view}
 use Rattle.pattern_files.proofs.tex.pieces_of.Given as goal
 
 abbrev pub invariant-loop-b : goal.invariant-loop-b

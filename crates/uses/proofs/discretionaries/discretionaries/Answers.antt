@@ -1,6 +1,6 @@
 use Rattle.std.proofs.Common.{map, sym, subst}
 use Rattle.hyphenation.specs.Fits.{Fits}
-use Rattle.uses.proofs.Placed.{each_stands}
+use Rattle.uses.proofs.PlacesOfBreaks.{each_stands}
 use Rattle.uses.proofs.discretionaries.discretionaries.Goals as goal
 
 pub set_at-requires : goal.set_at-requires

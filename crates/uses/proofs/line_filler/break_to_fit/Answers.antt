@@ -1,7 +1,7 @@
 use Rattle.std.proofs.Common.{◌<◌, ◌∙◌, ℕ, IsCharBoundary, length, slice_index, sym, ap, subst}
 use Rattle.std.specs.Option.{option_map}
 use Rattle.uses.specs.Room.{last_room, places_of, word_parts}
-use Rattle.uses.proofs.Placed.{on_boundaries, places_back}
+use Rattle.uses.proofs.PlacesOfBreaks.{on_boundaries, places_back}
 use Rattle.uses.proofs.line_filler.break_to_fit.Goals as goal
 
 pub last_room-requires : goal.last_room-requires

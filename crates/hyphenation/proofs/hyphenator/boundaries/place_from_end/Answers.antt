@@ -1,6 +1,6 @@
 use Rattle.std.proofs.Common.{◌≡◌, ◌-◌, ◌++◌, ◌∙◌, ℕ, length, chars, encode_utf8, ap, sym, arith}
 use Rattle.hyphenation.specs.Places.{place_of_character}
-use Rattle.hyphenation.proofs.FromEnd.{one_last, last_few, last_place, last_boundary}
+use Rattle.hyphenation.proofs.PlacesFromEnd.{one_last, last_few, last_place, last_boundary}
 use Rattle.hyphenation.proofs.hyphenator.boundaries.place_from_end.Goals as goal
 
 pub returns-in_err-next_back-clause-few : goal.returns-in_err-next_back-clause-few

@@ -1,4 +1,4 @@
-use Rattle.hyphenation.proofs.FromEnd.{AreLast}
+use Rattle.hyphenation.proofs.PlacesFromEnd.{AreLast}
 use Rattle.hyphenation.proofs.hyphenator.boundaries.place_from_end.Given as goal
 
 abbrev pub invariant-loop-count : goal.invariant-loop-count

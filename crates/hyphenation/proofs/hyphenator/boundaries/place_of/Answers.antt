@@ -2,7 +2,7 @@ use Rattle.std.proofs.Common.{length, chars, IsUtf8, sym, subst, arith, take_at,
 use Rattle.std.proofs.lemmas.Grind.{common_steps}
 use Rattle.std.proofs.lemmas.List.{nil_from_length}
 use Rattle.std.proofs.lemmas.Str.{encodes-chars, chars-nil}
-use Rattle.hyphenation.proofs.Bounds.{passed, taken}
+use Rattle.hyphenation.proofs.CharacterPlaces.{passed, taken}
 use Rattle.hyphenation.proofs.hyphenator.boundaries.place_of.Goals as goal
 
 pub returns-in-Some : goal.returns-in-Some

@@ -2,12 +2,14 @@ use Rattle.std.proofs.Common.{◌≡◌, ℕ, List, map, length, IsUtf8, refl, s
 use Rattle.std.specs.List.Sorted.{IsNonDecreasingBy}
 use Rattle.hyphenation_commons.specs.Break.{plain}
 use Rattle.hyphenation.specs.declared.case_folding.Shift.{Shift}
-use Rattle.hyphenation.specs.Fitting.{is_steady_by, kept_breaks}
+use Rattle.hyphenation.specs.Fitting.{kept_breaks}
+use Rattle.hyphenation.specs.Private.Fitting.{is_steady_by}
 use Rattle.hyphenation.specs.Folding.{shifts_of}
-use Rattle.hyphenation.specs.Opportunities.{rules_of, realigned_break}
+use Rattle.hyphenation.specs.Opportunities.{rules_of}
+use Rattle.hyphenation.specs.Private.Opportunities.{realigned_break}
 use Rattle.hyphenation.specs.SoftHyphens.{soft_hyphens}
 use Rattle.hyphenation.proofs.FittedBreaks.{whole_written, Carries, breaks_are, soft_breaks_are}
-use Rattle.hyphenation.proofs.InOrder.{shifts_in_order}
+use Rattle.hyphenation.proofs.ShiftOrder.{shifts_in_order}
 use Rattle.hyphenation.proofs.Standard.{ok_then, no_soft_hyphens, none_is_not_some}
 use Rattle.hyphenation.proofs.hyphenator.found.breaks_of_any.Goals as goal
 

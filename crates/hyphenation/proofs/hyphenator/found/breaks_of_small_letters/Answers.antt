@@ -1,5 +1,6 @@
 use Rattle.std.proofs.Common.{[], map, sym, ap, subst, ◌∙◌}
-use Rattle.hyphenation.specs.Fitting.{is_steady_by, kept_breaks}
+use Rattle.hyphenation.specs.Fitting.{kept_breaks}
+use Rattle.hyphenation.specs.Private.Fitting.{is_steady_by}
 use Rattle.hyphenation.specs.Folding.{fold}
 use Rattle.hyphenation.specs.Opportunities.{rules_of, opportunities, Ascending}
 use Rattle.hyphenation.proofs.SmallLetters.{small_fold, small_breaks}

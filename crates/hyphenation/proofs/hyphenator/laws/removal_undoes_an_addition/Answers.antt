@@ -1,4 +1,4 @@
-use Rattle.hyphenation.proofs.Undone.{undone}
+use Rattle.hyphenation.proofs.ExceptionRemoval.{undone}
 use Rattle.hyphenation.proofs.hyphenator.laws.removal_undoes_an_addition.Goals as goal
 
 pub returns : goal.returns

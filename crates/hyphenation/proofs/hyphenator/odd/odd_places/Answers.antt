@@ -1,5 +1,5 @@
 use Rattle.std.proofs.Common.{◌∙◌, length, arith}
-use Rattle.hyphenation.proofs.Odd.{within_alone, outside, next_odd, next_even, even_none, test_of}
+use Rattle.hyphenation.proofs.OddPlaces.{within_alone, outside, next_odd, next_even, even_none, test_of}
 use Rattle.hyphenation.proofs.hyphenator.odd.odd_places.Goals as goal
 use Rattle.hyphenation.proofs.hyphenator.odd.odd_places.Goals.{then-values-place-eq1+in_ok-push, else-values-place-eq1}
 

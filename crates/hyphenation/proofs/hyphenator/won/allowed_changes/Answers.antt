@@ -2,7 +2,7 @@ use Rattle.std.proofs.Common.{◌∙◌, ap, map, option_copied}
 use Rattle.hyphenation_commons.specs.Trie.{key_at}
 use Rattle.hyphenation.specs.Opportunities.{own_change}
 use Rattle.hyphenation.specs.Scoring.{winners}
-use Rattle.hyphenation.proofs.Found.{won_allowed}
+use Rattle.hyphenation.proofs.BreaksFound.{won_allowed}
 use Rattle.hyphenation.proofs.Standard.{ok_then}
 use Rattle.hyphenation.proofs.hyphenator.won.allowed_changes.Goals as goal
 

@@ -4,8 +4,9 @@ use Rattle.std.specs.Option.{option_map}
 use Rattle.std.proofs.lemmas.List.{length-map, get_or-map, map-append}
 use Rattle.hyphenation_commons.specs.Break.{Change}
 use Rattle.hyphenation_commons.specs.declared.dictionary.Entry.{Entry}
-use Rattle.hyphenation.specs.Opportunities.{own_change, lent_break, won_break, is_won}
-use Rattle.hyphenation.proofs.Found.{is_won_at, is_not_won}
+use Rattle.hyphenation.specs.Opportunities.{own_change}
+use Rattle.hyphenation.specs.Private.Opportunities.{lent_break, won_break, is_won}
+use Rattle.hyphenation.proofs.BreaksFound.{is_won_at, is_not_won}
 use Rattle.hyphenation.proofs.hyphenator.won.won_within.Goals.{in-Some+in_ok-push, in_default}
 use Rattle.hyphenation.proofs.hyphenator.won.won_within.Goals as goal
 

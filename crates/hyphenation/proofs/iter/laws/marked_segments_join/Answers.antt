@@ -1,5 +1,5 @@
 use Rattle.std.proofs.Common.{arith}
-use Rattle.hyphenation.proofs.Joined.{marked_joined}
+use Rattle.hyphenation.proofs.SegmentsJoin.{marked_joined}
 use Rattle.hyphenation.proofs.iter.laws.marked_segments_join.Goals as goal
 
 pub returns : goal.returns

@@ -1,5 +1,5 @@
 use Rattle.hyphenation_commons.specs.Break.{plain}
-use Rattle.hyphenation.proofs.Joined.{neighbours}
+use Rattle.hyphenation.proofs.SegmentsJoin.{neighbours}
 use Rattle.hyphenation.proofs.iter.laws.segments_are_given_by_neighbours.Goals as goal
 
 pub returns : goal.returns

@@ -1,5 +1,5 @@
 use Rattle.hyphenation_commons.specs.Break.{plain}
-use Rattle.hyphenation.proofs.Steps.{segments_count}
+use Rattle.hyphenation.proofs.SegmentSteps.{segments_count}
 use Rattle.hyphenation.proofs.iter.laws.segments_are_one_more.Goals as goal
 
 pub returns : goal.returns

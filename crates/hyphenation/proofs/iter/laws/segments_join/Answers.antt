@@ -1,5 +1,5 @@
 use Rattle.std.proofs.Common.{arith}
-use Rattle.hyphenation.proofs.Joined.{joined}
+use Rattle.hyphenation.proofs.SegmentsJoin.{joined}
 use Rattle.hyphenation.proofs.iter.laws.segments_join.Goals as goal
 
 pub returns : goal.returns

@@ -1,7 +1,7 @@
 use Rattle.std.proofs.Common.{◌≡◌, ◌+◌, ◌==◌, filter, take, arith, ap, ◌∙◌, sym}
 use Rattle.std.proofs.lemmas.List.{take_all}
 use Rattle.hyphenation.specs.Scoring.{first_greatest}
-use Rattle.hyphenation.specs.Winners.{best_of, meets}
+use Rattle.hyphenation.specs.Private.Winners.{best_of, meets}
 use Rattle.hyphenation.proofs.Winners.{met_more}
 use Rattle.hyphenation.proofs.score.contest.compete.Goals as goal
 

@@ -1,6 +1,6 @@
 use Rattle.std.proofs.Common.{◌≡◌, ◌+◌, ◌<◌, ◌==◌, ℕ, length, filter, take}
 use Rattle.hyphenation.specs.Scoring.{first_greatest}
-use Rattle.hyphenation.specs.Winners.{best_of, meets}
+use Rattle.hyphenation.specs.Private.Winners.{best_of, meets}
 use Rattle.hyphenation.proofs.score.contest.compete.Given as goal
 
 abbrev pub invariant-loop-entry : goal.invariant-loop-entry

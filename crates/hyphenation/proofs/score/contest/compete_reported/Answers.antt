@@ -1,13 +1,14 @@
 use Rattle.std.proofs.Common.{◌≡◌, ◌+◌, ◌-◌, ◌<◌, ℕ, length, take, ap, refl, sym, subst, arith, ◌∙◌}
 use Rattle.std.proofs.lemmas.List.{length-drop}
 use Rattle.hyphenation_commons.specs.Trie.{node_text, key_at}
-use Rattle.hyphenation_commons.specs.Links.{keys_in}
+use Rattle.hyphenation_commons.specs.Private.Links.{keys_in}
 use Rattle.hyphenation_commons.proofs.Suffixes.{depth_pos, Ends-whole, Ends-trans}
 use Rattle.hyphenation.specs.Scoring.{frame}
-use Rattle.hyphenation.specs.Winners.{best_of, Holds, Asked}
+use Rattle.hyphenation.specs.Winners.{Holds}
+use Rattle.hyphenation.specs.Private.Winners.{best_of, Asked}
 use Rattle.hyphenation.proofs.OnePass.{none_next, counted_first, counted_more}
 use Rattle.hyphenation.proofs.Winners.{holds_sane}
-use Rattle.hyphenation.proofs.Visits.{met_first, met_next, met_all}
+use Rattle.hyphenation.proofs.WinnerVisits.{met_first, met_next, met_all}
 use Rattle.hyphenation.proofs.score.contest.compete_reported.Goals as goal
 
 pub loop-node-init : goal.loop-node-init

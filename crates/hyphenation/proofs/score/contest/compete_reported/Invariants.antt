@@ -1,9 +1,11 @@
 use Rattle.std.proofs.Common.{◌≡◌, ℕ, ◌+◌, ◌-◌, ◌<◌, ◌≤◌, length}
 use Rattle.std.specs.Prelude.{IsSome}
 use Rattle.hyphenation_commons.specs.Trie.{node_text, key_at}
-use Rattle.hyphenation_commons.specs.Links.{Ends, keys_in}
+use Rattle.hyphenation_commons.specs.Links.{Ends}
+use Rattle.hyphenation_commons.specs.Private.Links.{keys_in}
 use Rattle.hyphenation.specs.Scoring.{frame}
-use Rattle.hyphenation.specs.Winners.{best_of, Holds, Asked}
+use Rattle.hyphenation.specs.Winners.{Holds}
+use Rattle.hyphenation.specs.Private.Winners.{best_of, Asked}
 use Rattle.hyphenation.proofs.score.contest.compete_reported.Given as goal
 
 abbrev pub invariant-loop-node : goal.invariant-loop-node

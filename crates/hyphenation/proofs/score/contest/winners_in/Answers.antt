@@ -8,8 +8,9 @@ use Rattle.hyphenation_commons.specs.Trie.{node_text, key_at}
 use Rattle.hyphenation_commons.proofs.Suffixes.{longest_more}
 use Rattle.hyphenation.specs.Scoring.{frame, winner_at}
 use Rattle.hyphenation.specs.OnePass.{keys_ending}
-use Rattle.hyphenation.specs.Winners.{best_of, Holds, Asked}
-use Rattle.hyphenation.proofs.Visits.{met_end}
+use Rattle.hyphenation.specs.Winners.{Holds}
+use Rattle.hyphenation.specs.Private.Winners.{best_of, Asked}
+use Rattle.hyphenation.proofs.WinnerVisits.{met_end}
 use Rattle.hyphenation.proofs.OnePass.{length-frame, read_more, sum_more, alone_is, counted_is, keys_in_most}
 use Rattle.hyphenation.proofs.score.contest.winners_in.Goals as goal
 

@@ -4,7 +4,8 @@ use Rattle.hyphenation_commons.specs.Trie.{node_text, key_at}
 use Rattle.hyphenation_commons.specs.Links.{IsLongest}
 use Rattle.hyphenation.specs.Scoring.{frame}
 use Rattle.hyphenation.specs.OnePass.{keys_ending}
-use Rattle.hyphenation.specs.Winners.{best_of, Holds, Asked}
+use Rattle.hyphenation.specs.Winners.{Holds}
+use Rattle.hyphenation.specs.Private.Winners.{best_of, Asked}
 use Rattle.hyphenation.proofs.score.contest.winners_in.Given as goal
 
 abbrev pub invariant-loop-at : goal.invariant-loop-at

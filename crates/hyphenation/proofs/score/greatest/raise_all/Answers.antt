@@ -3,8 +3,8 @@ use Rattle.std.proofs.Math.Seq.{get_or-append_seam}
 use Rattle.std.proofs.lemmas.List.{get_or_append_left}
 use Rattle.hyphenation_commons.specs.Trie.{node_text, key_at}
 use Rattle.hyphenation.specs.Scoring.{frame, greatest_value}
-use Rattle.hyphenation.specs.OnePass.{entries_of_ends}
-use Rattle.hyphenation.proofs.Passing.{Passed, passed_none, passed_more, passed_short, passed_room, passed_values, passed_reported}
+use Rattle.hyphenation.specs.Private.OnePass.{entries_of_ends}
+use Rattle.hyphenation.proofs.OnePassInvariant.{Passed, passed_none, passed_more, passed_short, passed_room, passed_values, passed_reported}
 use Rattle.hyphenation.proofs.score.greatest.raise_all.Goals as goal
 
 word_byte : (word : List ℕ) (at : ℕ) → at < length word → slice_index word at ≡ slice_index (frame word) (at + 1)

@@ -1,5 +1,5 @@
 use Rattle.std.proofs.Common.{◌≡◌, ◌+◌, length}
-use Rattle.hyphenation.proofs.Passing.{Passed}
+use Rattle.hyphenation.proofs.OnePassInvariant.{Passed}
 use Rattle.hyphenation.proofs.score.greatest.raise_all.Given as goal
 
 abbrev pub invariant-loop-at : goal.invariant-loop-at

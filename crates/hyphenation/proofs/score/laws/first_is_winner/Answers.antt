@@ -1,4 +1,4 @@
-use Rattle.hyphenation.proofs.Winning.{only_winner}
+use Rattle.hyphenation.proofs.WinnerPlaces.{only_winner}
 use Rattle.hyphenation.proofs.score.laws.first_is_winner.Goals as goal
 
 pub returns : goal.returns

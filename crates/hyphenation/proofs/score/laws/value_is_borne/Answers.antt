@@ -1,4 +1,4 @@
-use Rattle.hyphenation.proofs.Winning.{value_borne}
+use Rattle.hyphenation.proofs.WinnerPlaces.{value_borne}
 use Rattle.hyphenation.proofs.score.laws.value_is_borne.Goals as goal
 
 pub returns : goal.returns

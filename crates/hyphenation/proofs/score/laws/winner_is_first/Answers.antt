@@ -1,4 +1,4 @@
-use Rattle.hyphenation.proofs.Winning.{winner_wins}
+use Rattle.hyphenation.proofs.WinnerPlaces.{winner_wins}
 use Rattle.hyphenation.proofs.score.laws.winner_is_first.Goals as goal
 
 pub returns : goal.returns

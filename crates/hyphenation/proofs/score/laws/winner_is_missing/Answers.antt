@@ -1,6 +1,6 @@
 use Rattle.hyphenation.specs.Scoring.{frame, bearers}
-use Rattle.hyphenation.proofs.First.{first_none}
-use Rattle.hyphenation.proofs.Winning.{missing_value}
+use Rattle.hyphenation.proofs.FirstGreatest.{first_none}
+use Rattle.hyphenation.proofs.WinnerPlaces.{missing_value}
 use Rattle.hyphenation.proofs.score.laws.winner_is_missing.Goals as goal
 
 pub returns : goal.returns

@@ -1,5 +1,5 @@
 use Rattle.std.proofs.Common.{◌≡◌, drop}
-use Rattle.hyphenation_commons.specs.Kept.{are_listed}
+use Rattle.hyphenation_commons.specs.Invariant.{are_listed}
 use Rattle.hyphenation_commons.proofs.dictionary.Dictionary.fits.Given as goal
 
 abbrev pub invariant-loop-b : goal.invariant-loop-b

@@ -1,8 +1,8 @@
 use Rattle.std.proofs.Common.{◌≡◌, suc, length}
 use Rattle.std.specs.Prelude.{IsUtf8, IfSome}
 use Rattle.std.specs.Option.{option_map, option_map_or}
-use Rattle.hyphenation_commons.specs.Lines.{tokens_after}
-use Rattle.hyphenation_commons.specs.Parsed.{no_later, read_later, later_view}
+use Rattle.hyphenation_commons.specs.Private.Lines.{tokens_after}
+use Rattle.hyphenation_commons.specs.Private.Parsed.{no_later, read_later, later_view}
 use Rattle.hyphenation_commons.proofs.grammar.items.later_of.Given as goal
 
 abbrev pub invariant-loop-rest : goal.invariant-loop-rest

@@ -1,6 +1,6 @@
 use Rattle.std.proofs.Common.{◌∙◌, sym, ap, not}
-use Rattle.hyphenation_commons.specs.Matched.{from_next}
-use Rattle.hyphenation_commons.proofs.Matched.{goes_on, told, made_all}
+use Rattle.hyphenation_commons.specs.Private.Matched.{from_next}
+use Rattle.hyphenation_commons.proofs.MatchedEntries.{goes_on, told, made_all}
 use Rattle.hyphenation_commons.proofs.grammar.items.matched.Goals as goal
 
 pub loop-value-preserved : goal.loop-value-preserved

@@ -1,5 +1,5 @@
 use Rattle.std.proofs.Common.{◌≡◌, ◌++◌, drop}
-use Rattle.hyphenation_commons.specs.Matched.{matched_entries, unmatched_changes, from_next}
+use Rattle.hyphenation_commons.specs.Private.Matched.{matched_entries, unmatched_changes, from_next}
 use Rattle.hyphenation_commons.proofs.grammar.items.matched.Given as goal
 
 abbrev pub invariant-loop-value : goal.invariant-loop-value

@@ -1,5 +1,5 @@
 use Rattle.hyphenation_commons.specs.Form.{version_by}
-use Rattle.hyphenation_commons.proofs.AnyOrder.{accepted-anyhow}
+use Rattle.hyphenation_commons.proofs.JudgingAnyOrder.{accepted-anyhow}
 use Rattle.hyphenation_commons.proofs.grammar.laws.accepted_in_any_order.Goals as goal
 
 pub returns : goal.returns

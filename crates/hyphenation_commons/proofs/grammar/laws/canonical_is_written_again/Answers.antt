@@ -1,6 +1,6 @@
 use Rattle.std.proofs.Common.{ap}
 use Rattle.hyphenation_commons.specs.Canonical.{canonical_text_of}
-use Rattle.hyphenation_commons.proofs.ReadAgain.{canonical-contents}
+use Rattle.hyphenation_commons.proofs.CanonicalRead.{canonical-contents}
 use Rattle.hyphenation_commons.proofs.grammar.laws.canonical_is_written_again.Goals as goal
 
 pub returns : goal.returns

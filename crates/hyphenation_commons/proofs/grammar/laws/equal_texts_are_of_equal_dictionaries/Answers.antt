@@ -1,7 +1,7 @@
 use Rattle.std.proofs.Common.{ap, ◌∙◌, sym}
 use Rattle.hyphenation_commons.specs.Lines.{lines_of}
 use Rattle.hyphenation_commons.specs.Reading.{contents_of}
-use Rattle.hyphenation_commons.proofs.ReadAgain.{canonical-contents}
+use Rattle.hyphenation_commons.proofs.CanonicalRead.{canonical-contents}
 use Rattle.hyphenation_commons.proofs.grammar.laws.equal_texts_are_of_equal_dictionaries.Goals as goal
 
 pub returns : goal.returns

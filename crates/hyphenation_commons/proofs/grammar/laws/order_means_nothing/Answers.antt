@@ -1,5 +1,5 @@
 use Rattle.hyphenation_commons.specs.Form.{version_by}
-use Rattle.hyphenation_commons.proofs.Order.{same-contents}
+use Rattle.hyphenation_commons.proofs.ReadingOrder.{same-contents}
 use Rattle.hyphenation_commons.proofs.grammar.laws.order_means_nothing.Goals as goal
 
 pub returns : goal.returns

@@ -1,5 +1,5 @@
 use Rattle.hyphenation_commons.specs.Form.{form_of}
-use Rattle.hyphenation_commons.proofs.Order.{patterns-told, exceptions-told}
+use Rattle.hyphenation_commons.proofs.ReadingOrder.{patterns-told, exceptions-told}
 use Rattle.hyphenation_commons.proofs.grammar.laws.spelt_by_some_line.Goals as goal
 
 pub returns : goal.returns

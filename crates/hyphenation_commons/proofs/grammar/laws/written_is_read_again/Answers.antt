@@ -1,4 +1,4 @@
-use Rattle.hyphenation_commons.proofs.ReadAgain.{canonical-accepted, canonical-contents}
+use Rattle.hyphenation_commons.proofs.CanonicalRead.{canonical-accepted, canonical-contents}
 use Rattle.hyphenation_commons.proofs.grammar.laws.written_is_read_again.Goals as goal
 
 pub returns : goal.returns

@@ -1,5 +1,5 @@
 use Rattle.std.proofs.Common.{arith}
-use Rattle.hyphenation_commons.proofs.Split.{alone, ended, ended-utf8}
+use Rattle.hyphenation_commons.proofs.LinesSplit.{alone, ended, ended-utf8}
 use Rattle.hyphenation_commons.proofs.grammar.lines.first_token.Goals as goal
 
 pub returns-in-None-clause-parts : goal.returns-in-None-clause-parts

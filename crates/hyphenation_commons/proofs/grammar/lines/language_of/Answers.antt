@@ -1,4 +1,4 @@
-use Rattle.hyphenation_commons.proofs.Heads.{no_language}
+use Rattle.hyphenation_commons.proofs.LanguageLine.{no_language}
 use Rattle.hyphenation_commons.proofs.grammar.lines.language_of.Goals as goal
 
 pub returns-in-Err : goal.returns-in-Err

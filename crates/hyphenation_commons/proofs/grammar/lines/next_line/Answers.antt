@@ -1,5 +1,5 @@
 use Rattle.std.proofs.Common.{arith}
-use Rattle.hyphenation_commons.proofs.Split.{last_line, line_more, filled, ended-utf8, nothing-utf8}
+use Rattle.hyphenation_commons.proofs.LinesSplit.{last_line, line_more, filled, ended-utf8, nothing-utf8}
 use Rattle.hyphenation_commons.proofs.grammar.lines.next_line.Goals as goal
 
 pub returns-in-None-clause-first : goal.returns-in-None-clause-first

@@ -1,5 +1,5 @@
 use Rattle.std.proofs.Common.{◌≡◌, ◌-◌, length, drop}
-use Rattle.hyphenation_commons.specs.Ordered.{pair_views, in_byte_order}
+use Rattle.hyphenation_commons.specs.Private.Ordered.{pair_views, in_byte_order}
 use Rattle.hyphenation_commons.proofs.grammar.order.by_text.Given as goal
 
 abbrev pub invariant-loop-index : goal.invariant-loop-index

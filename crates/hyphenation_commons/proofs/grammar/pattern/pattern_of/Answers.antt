@@ -1,5 +1,5 @@
 use Rattle.std.proofs.Common.{◌≡◌, ◌&&◌, eqb, not, slice_index, arith}
-use Rattle.hyphenation_commons.specs.Parsed.{pattern_view}
+use Rattle.hyphenation_commons.specs.Private.Parsed.{pattern_view}
 use Rattle.hyphenation_commons.proofs.PatternBytes.{byte_more, then_after, else_after}
 use Rattle.hyphenation_commons.proofs.grammar.pattern.pattern_of.Goals as goal
 use Rattle.hyphenation_commons.proofs.grammar.pattern.pattern_of.Goals.{then-not-after, else-not-after}

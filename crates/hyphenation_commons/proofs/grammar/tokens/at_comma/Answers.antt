@@ -1,4 +1,4 @@
-use Rattle.hyphenation_commons.proofs.Parts as parts
+use Rattle.hyphenation_commons.proofs.TokenParts as parts
 use Rattle.hyphenation_commons.proofs.grammar.tokens.at_comma.Goals as goal
 
 pub returns-then-commas-eq0 : goal.returns-then-commas-eq0

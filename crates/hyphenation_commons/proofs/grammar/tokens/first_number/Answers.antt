@@ -1,5 +1,5 @@
 use Rattle.std.proofs.Common.{◌-◌, length, arith, ◌∙◌}
-use Rattle.hyphenation_commons.proofs.Later.{not_all, first_of_all}
+use Rattle.hyphenation_commons.proofs.LaterTokens.{not_all, first_of_all}
 use Rattle.hyphenation_commons.proofs.grammar.tokens.first_number.Goals as goal
 
 pub returns-then-not-are_numbers : goal.returns-then-not-are_numbers

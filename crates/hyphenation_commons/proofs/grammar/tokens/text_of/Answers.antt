@@ -1,5 +1,5 @@
 use Rattle.std.proofs.Common.{◌∙◌, ap, sym, List, ℕ, Some}
-use Rattle.hyphenation_commons.proofs.Words.{text_itself}
+use Rattle.hyphenation_commons.proofs.WordUtf8.{text_itself}
 use Rattle.hyphenation_commons.proofs.grammar.tokens.text_of.Goals as goal
 
 pub returns-then-are_themselves : goal.returns-then-are_themselves

@@ -1,4 +1,4 @@
-use Rattle.hyphenation_commons.proofs.Marks.{key_step}
+use Rattle.hyphenation_commons.proofs.PatternElements.{key_step}
 use Rattle.hyphenation_commons.proofs.grammar.writer.push_key.Goals as goal
 
 pub loop-at-preserved : goal.loop-at-preserved

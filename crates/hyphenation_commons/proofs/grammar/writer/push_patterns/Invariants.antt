@@ -1,7 +1,7 @@
 use Rattle.std.proofs.Common.{◌≡◌, ◌++◌, drop, map}
 use Rattle.hyphenation_commons.specs.Canonical.{with_line_feeds}
-use Rattle.hyphenation_commons.specs.Ordered.{pair_views}
-use Rattle.hyphenation_commons.specs.Writing.{key_line}
+use Rattle.hyphenation_commons.specs.Private.Ordered.{pair_views}
+use Rattle.hyphenation_commons.specs.Private.Writing.{key_line}
 use Rattle.hyphenation_commons.proofs.grammar.writer.push_patterns.Given as goal
 
 abbrev pub invariant-loop-key : goal.invariant-loop-key

@@ -1,6 +1,6 @@
 use Rattle.std.proofs.Common.{◌≡◌, drop}
-use Rattle.hyphenation_commons.specs.Ordered.{pair_views}
-use Rattle.hyphenation_commons.specs.Writing.{version_of_keys}
+use Rattle.hyphenation_commons.specs.Private.Ordered.{pair_views}
+use Rattle.hyphenation_commons.specs.Private.Writing.{version_of_keys}
 use Rattle.hyphenation_commons.proofs.grammar.writer.version_for.Given as goal
 
 abbrev pub invariant-loop-entries : goal.invariant-loop-entries

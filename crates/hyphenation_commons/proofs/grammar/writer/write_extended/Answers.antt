@@ -2,7 +2,7 @@ use Rattle.std.proofs.Common.{sym}
 use Rattle.hyphenation_commons.specs.Break.{changed_by}
 use Rattle.hyphenation_commons.specs.Reading.{change_as_payload, break_as_listing}
 use Rattle.hyphenation_commons.specs.declared.grammar.form.Kind.TheVariants.{Extended}
-use Rattle.hyphenation_commons.proofs.Holding.{extended_holds}
+use Rattle.hyphenation_commons.proofs.HoldsExactly.{extended_holds}
 use Rattle.hyphenation_commons.proofs.grammar.writer.write_extended.Goals as goal
 
 pub returns-clause-accepted : goal.returns-clause-accepted

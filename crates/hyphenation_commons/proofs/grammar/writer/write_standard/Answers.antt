@@ -2,7 +2,7 @@ use Rattle.std.proofs.Common.{None, sym}
 use Rattle.hyphenation_commons.specs.Break.{plain}
 use Rattle.hyphenation_commons.specs.Reading.{no_payload, place_as_listing}
 use Rattle.hyphenation_commons.specs.declared.grammar.form.Kind.TheVariants.{Standard}
-use Rattle.hyphenation_commons.proofs.Holding.{standard_holds}
+use Rattle.hyphenation_commons.proofs.HoldsExactly.{standard_holds}
 use Rattle.hyphenation_commons.proofs.grammar.writer.write_standard.Goals as goal
 
 pub returns-clause-accepted : goal.returns-clause-accepted

@@ -1,5 +1,5 @@
 use Rattle.std.proofs.Common.{take}
-use Rattle.hyphenation_commons.proofs.Codes.{is_code-utf8, is_ok_unless}
+use Rattle.hyphenation_commons.proofs.LanguageCodes.{is_code-utf8, is_ok_unless}
 use Rattle.hyphenation_commons.proofs.language.Language.code.Goals as goal
 
 pub unwrap-requires : goal.unwrap-requires

@@ -1,6 +1,6 @@
 use Rattle.std.proofs.Common.{sym, ◌∙◌}
 use Rattle.hyphenation_commons.specs.Language.{IsCode}
-use Rattle.hyphenation_commons.proofs.Codes.{IsHeld-made}
+use Rattle.hyphenation_commons.proofs.LanguageCodes.{IsHeld-made}
 use Rattle.hyphenation_commons.proofs.language.Language.from_code.Goals as goal
 
 pub invariant_of-result : goal.invariant_of-result

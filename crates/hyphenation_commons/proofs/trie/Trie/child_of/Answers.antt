@@ -1,10 +1,10 @@
 use Rattle.std.proofs.Common.{◌≡◌, ◌≢◌, ◌<◌, ℕ, ◌∙◌, sym, ap, arith, map, List, length, get_or, Option, Some, None}
 use Rattle.std.proofs.lemmas.List.{length-map, get_or-map, get_or_default}
-use Rattle.hyphenation_commons.specs.Growing.{IsGrowing}
-use Rattle.hyphenation_commons.specs.Links.{parent_of}
+use Rattle.hyphenation_commons.specs.Private.Growing.{IsGrowing}
+use Rattle.hyphenation_commons.specs.Private.Links.{parent_of}
 use Rattle.hyphenation_commons.specs.declared.trie.Node.{Node}
-use Rattle.hyphenation_commons.proofs.Children.{sought-start, sought-next, sought-found, sought-none, sought-byte, other_byte}
-use Rattle.hyphenation_commons.proofs.Tied.{IsTrie-seen, seen_within}
+use Rattle.hyphenation_commons.proofs.GrowingNodes.{sought-start, sought-next, sought-found, sought-none, sought-byte, other_byte}
+use Rattle.hyphenation_commons.proofs.TrieNodes.{IsTrie-seen, seen_within}
 use Rattle.hyphenation_commons.proofs.trie.Trie.child_of.Goals as goal
 
 -- what a node says of itself stands in the list

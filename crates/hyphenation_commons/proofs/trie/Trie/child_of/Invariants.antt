@@ -1,5 +1,5 @@
 use Rattle.std.proofs.Common.{map}
-use Rattle.hyphenation_commons.specs.Growing.{IsSought}
+use Rattle.hyphenation_commons.specs.Private.Growing.{IsSought}
 use Rattle.hyphenation_commons.proofs.trie.Trie.child_of.Given as goal
 
 abbrev pub invariant-loop-child : goal.invariant-loop-child

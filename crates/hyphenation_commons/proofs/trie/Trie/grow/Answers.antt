@@ -1,11 +1,11 @@
 use Rattle.std.proofs.Common.{◌≡◌, length, ℕ, List, arith, sym, ◌∙◌, map, subst, None, Some, Option}
 use Rattle.std.proofs.lemmas.List.{map_push, length-map}
-use Rattle.hyphenation_commons.specs.Growing.{IsGrowing}
-use Rattle.hyphenation_commons.specs.Links.{parent_of}
-use Rattle.hyphenation_commons.specs.Trie.{AreWithin}
+use Rattle.hyphenation_commons.specs.Private.Growing.{IsGrowing}
+use Rattle.hyphenation_commons.specs.Private.Links.{parent_of}
+use Rattle.hyphenation_commons.specs.Private.Trie.{AreWithin}
 use Rattle.hyphenation_commons.specs.declared.trie.Node.{Node}
-use Rattle.hyphenation_commons.proofs.Children.{held-grow}
-use Rattle.hyphenation_commons.proofs.Tied.{length-texts_of, seen-grown, all_within-push}
+use Rattle.hyphenation_commons.proofs.GrowingNodes.{held-grow}
+use Rattle.hyphenation_commons.proofs.TrieNodes.{length-texts_of, seen-grown, all_within-push}
 use Rattle.hyphenation_commons.proofs.trie.Trie.grow.Goals as goal
 
 froms_count : (ns : List Node) (n : ℕ) → n ≡ length ns → n ≡ length (map (λ n. n.from) ns)

@@ -1,7 +1,7 @@
 use Rattle.std.proofs.Common.{◌∙◌, ap, Some, cond, nat_eq}
 use Rattle.std.specs.Cmp.Lexicographic.{pointwise}
 use Rattle.hyphenation_commons.specs.Trie.{key_at}
-use Rattle.hyphenation_commons.proofs.Tied.{key_at-with, begins-insert}
+use Rattle.hyphenation_commons.proofs.TrieNodes.{key_at-with, begins-insert}
 use Rattle.hyphenation_commons.proofs.trie.Trie.insert.Goals as goal
 
 pub returns-clause-ok : goal.returns-clause-ok

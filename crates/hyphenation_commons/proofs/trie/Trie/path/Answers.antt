@@ -1,6 +1,6 @@
 use Rattle.std.proofs.Common.{◌∙◌, arith}
 use Rattle.hyphenation_commons.specs.Trie.{node_text}
-use Rattle.hyphenation_commons.proofs.Tied.{key_at-grows, adds-grows, keeps-grows, front_more}
+use Rattle.hyphenation_commons.proofs.TrieNodes.{key_at-grows, adds-grows, keeps-grows, front_more}
 use Rattle.hyphenation_commons.proofs.trie.Trie.path.Goals as goal
 
 pub returns-in_err-node-clause-keys : goal.returns-in_err-node-clause-keys

@@ -2,10 +2,10 @@ use Rattle.std.proofs.Common.{◌≡◌, ◌∙◌, sym, ap, arith, length, set,
 use Rattle.std.specs.Prelude.{is_some}
 use Rattle.std.proofs.Math.Seq.{map-set_same}
 use Rattle.std.proofs.lemmas.List.{length-append}
-use Rattle.hyphenation_commons.specs.Trie.{tree_of, with_entries, IsWithin}
+use Rattle.hyphenation_commons.specs.Private.Trie.{tree_of, with_entries, IsWithin}
 use Rattle.hyphenation_commons.specs.declared.trie.Node.{Node}
 use Rattle.hyphenation_commons.specs.declared.trie.Span.{Span}
-use Rattle.hyphenation_commons.proofs.Tied.{seen_within, seen_entries, entries_at-here, IsTrie-seen, seen-with, all_within-more, all_within-set, has_entries}
+use Rattle.hyphenation_commons.proofs.TrieNodes.{seen_within, seen_entries, entries_at-here, IsTrie-seen, seen-with, all_within-more, all_within-set, has_entries}
 use Rattle.hyphenation_commons.proofs.trie.Trie.set_entries.Goals as goal
 
 pub returns-in_err-append-clause-trie : goal.returns-in_err-append-clause-trie

@@ -1,9 +1,9 @@
 use Rattle.std.proofs.Common.{◌≡◌, ℕ, List, length, map, slice_index, sym, ap, subst, ◌∙◌, arith, Option}
 use Rattle.std.proofs.lemmas.Simd.{map-map}
 use Rattle.std.proofs.lemmas.List.{length-map}
-use Rattle.hyphenation_commons.specs.Chains.{IsChained}
-use Rattle.hyphenation_commons.specs.Links.{parent_of}
-use Rattle.hyphenation_commons.specs.Trie.{texts_of}
+use Rattle.hyphenation_commons.specs.Private.Chains.{IsChained}
+use Rattle.hyphenation_commons.specs.Private.Links.{parent_of}
+use Rattle.hyphenation_commons.specs.Private.Trie.{texts_of}
 use Rattle.hyphenation_commons.specs.declared.trie.Node.{Node}
 use Rattle.hyphenation_commons.proofs.Frozen.{nodes_parents, apart_are}
 use Rattle.hyphenation_commons.proofs.trie.frozen.children_of.Goals as goal

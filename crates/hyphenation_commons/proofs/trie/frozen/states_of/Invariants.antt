@@ -1,5 +1,5 @@
 use Rattle.std.proofs.Common.{◌≡◌, map, take, replicate}
-use Rattle.hyphenation_commons.specs.States.{no_links, span_in}
+use Rattle.hyphenation_commons.specs.Private.States.{no_links, span_in}
 use Rattle.hyphenation_commons.proofs.trie.frozen.states_of.Given as goal
 
 abbrev pub invariant-loop-node : goal.invariant-loop-node

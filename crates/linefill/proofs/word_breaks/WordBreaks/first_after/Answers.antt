@@ -1,9 +1,9 @@
 use Rattle.std.proofs.Common.{◌≡◌, ℕ, ◌+◌, List, ◌∷◌, ◌++◌, None, length, map, refl, sym, ap, ◌∙◌, arith}
 use Rattle.std.specs.List.{flat_map}
 use Rattle.linefill.specs.Cuts.{is_in, breaks_in}
-use Rattle.linefill.specs.WordBreaks.{in_hand, remaining_pieces, first_place, next_then}
+use Rattle.linefill.specs.Private.WordBreaks.{in_hand, remaining_pieces, first_place, next_then}
 use Rattle.linefill.specs.declared.word_breaks.WordBreaks.{WordBreaks}
-use Rattle.linefill.proofs.Whole.{placed}
+use Rattle.linefill.proofs.TextBreaks.{placed}
 use Rattle.linefill.proofs.WordBreaks.{no_head, all_small, follow_order, order_left, stay_left, first_left, piece_small, none_before, order_without, stay_without, order_broken, stay_broken}
 use Rattle.linefill.proofs.word_breaks.WordBreaks.first_after.Goals as goal
 

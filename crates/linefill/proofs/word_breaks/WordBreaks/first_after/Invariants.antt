@@ -1,6 +1,6 @@
 use Rattle.std.proofs.Common.{◌≡◌, ℕ, ◌<◌, length}
 use Rattle.linefill.specs.Cuts.{is_in}
-use Rattle.linefill.specs.WordBreaks.{remaining_pieces, remaining_breaks, InOrder}
+use Rattle.linefill.specs.Private.WordBreaks.{remaining_pieces, remaining_breaks, InOrder}
 use Rattle.linefill.proofs.word_breaks.WordBreaks.first_after.Given as goal
 
 -- The breaks after the place all stay.

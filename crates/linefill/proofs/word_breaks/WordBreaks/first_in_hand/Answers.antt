@@ -2,7 +2,7 @@ use Rattle.std.proofs.Common.{◌≡◌, ◌+◌, ◌∷◌, map, drop, get_or, 
 use Rattle.std.proofs.lemmas.Bool.{le-ltb, cond-false}
 use Rattle.std.proofs.lemmas.List.{drop_more}
 use Rattle.std.proofs.lemmas.List.Elements.{All-head, All-tail}
-use Rattle.linefill.specs.WordBreaks.{places_after, IsSmall}
+use Rattle.linefill.specs.Private.WordBreaks.{places_after, IsSmall}
 use Rattle.linefill.proofs.word_breaks.WordBreaks.first_in_hand.Goals as goal
 
 pub overflow_add-place : goal.overflow_add-place

@@ -1,5 +1,5 @@
 use Rattle.std.proofs.Common.{◌≡◌, ◌-◌, length, All}
-use Rattle.linefill.specs.WordBreaks.{in_hand, remaining_pieces, places_after, IsSmall}
+use Rattle.linefill.specs.Private.WordBreaks.{in_hand, remaining_pieces, places_after, IsSmall}
 use Rattle.linefill.proofs.word_breaks.WordBreaks.first_in_hand.Given as goal
 
 -- Only breaks that are not after the place were passed.

@@ -1,7 +1,7 @@
 use Rattle.std.proofs.Common.{ℕ, None, Option, Bor, map, take, ap, ◌∙◌, refl}
 use Rattle.std.proofs.lemmas.List.{take_all}
 use Rattle.hyphenation_commons.specs.Break.{Change, plain}
-use Rattle.hyphenation.specs.Opportunities.{lent_break}
+use Rattle.hyphenation.specs.Private.Opportunities.{lent_break}
 use Rattle.hyphenation.proofs.FittedBreaks.{made_plain}
 use Rattle.hyphenation.proofs.hyphenator.found.Tuple2UsizeOptionRefSubregionFound.unchanged.Goals as goal
 

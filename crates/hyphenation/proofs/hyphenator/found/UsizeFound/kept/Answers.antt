@@ -1,6 +1,6 @@
 use Rattle.std.proofs.Common.{refl, sym, map}
 use Rattle.hyphenation_commons.specs.Break.{plain}
-use Rattle.hyphenation.proofs.Plain.{plain_kept, plain_made}
+use Rattle.hyphenation.proofs.PlainBreaks.{plain_kept, plain_made}
 use Rattle.hyphenation.proofs.hyphenator.found.UsizeFound.kept.Goals as goal
 
 pub returns : goal.returns

@@ -3,7 +3,7 @@ use Rattle.hyphenation_commons.specs.Break.{plain}
 use Rattle.hyphenation.specs.Fits.{Fits}
 use Rattle.hyphenation.specs.Opportunities.{no_change, Ascending}
 use Rattle.hyphenation.proofs.FittedBreaks.{breaks_fit, breaks_ascend}
-use Rattle.hyphenation.proofs.Plain.{fitted_alike}
+use Rattle.hyphenation.proofs.PlainBreaks.{fitted_alike}
 use Rattle.hyphenation.proofs.hyphenator.standard.StandardHyphenator.unbreakable_chars.Goals as goal
 
 pub returns-clause-fit : goal.returns-clause-fit

@@ -1,5 +1,5 @@
 use Rattle.std.proofs.Common.{refl, ap, ◌++◌, ◌≡◌}
-use Rattle.hyphenation.proofs.Steps.{held_is}
+use Rattle.hyphenation.proofs.SegmentSteps.{held_is}
 use Rattle.hyphenation.specs.Segments.{marked_segments, mark_if_more}
 use Rattle.hyphenation.proofs.iter.marks.HyphenatingIterator.next.Goals as goal
 

@@ -1,5 +1,5 @@
 use Rattle.std.proofs.Common.{arith, ◌∙◌, sym, ap, length, ◌+◌}
-use Rattle.hyphenation.proofs.Steps.{left_fits, left_is}
+use Rattle.hyphenation.proofs.SegmentSteps.{left_fits, left_is}
 use Rattle.hyphenation.proofs.iter.plain.SegmentsExactSizeIterator.len.Goals as goal
 
 pub overflow_add-result : goal.overflow_add-result

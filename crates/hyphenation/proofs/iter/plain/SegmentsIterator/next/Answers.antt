@@ -1,5 +1,5 @@
 use Rattle.std.proofs.Common.{refl}
-use Rattle.hyphenation.proofs.Steps.{fits_next}
+use Rattle.hyphenation.proofs.SegmentSteps.{fits_next}
 use Rattle.hyphenation.proofs.iter.plain.SegmentsIterator.next.Goals as goal
 
 pub invariant_of-self-in-Some : goal.invariant_of-self-in-Some

@@ -1,5 +1,5 @@
 use Rattle.std.proofs.Common.{◌<◌, ap, length, arith}
-use Rattle.hyphenation_commons.proofs.Climb.{key_more, no_key_here}
+use Rattle.hyphenation_commons.proofs.NodeTexts.{key_more, no_key_here}
 use Rattle.hyphenation_commons.proofs.trie.frozen.Frozen.keys.Goals as goal
 use Rattle.hyphenation_commons.proofs.trie.frozen.Frozen.keys.Goals.{in-Some+in_ok-key+in_ok-push, in_default}
 

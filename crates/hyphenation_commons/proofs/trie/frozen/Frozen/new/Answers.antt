@@ -1,7 +1,8 @@
 use Rattle.std.proofs.Common.{◌∙◌, ◌≡◌, List, ℕ, None, Option, length, map, get_or, sym, ap, subst}
-use Rattle.hyphenation_commons.specs.Links.{IsFrozen, HasDepths}
-use Rattle.hyphenation_commons.specs.States.{HasStates}
-use Rattle.hyphenation_commons.specs.Trie.{Tree, tree_of, IsWithin}
+use Rattle.hyphenation_commons.specs.Private.Links.{IsFrozen, HasDepths}
+use Rattle.hyphenation_commons.specs.Private.States.{HasStates}
+use Rattle.hyphenation_commons.specs.Trie.{Tree}
+use Rattle.hyphenation_commons.specs.Private.Trie.{tree_of, IsWithin}
 use Rattle.hyphenation_commons.specs.declared.trie.Span.{Span}
 use Rattle.hyphenation_commons.proofs.Frozen.{frozen_is, has_depths}
 use Rattle.hyphenation_commons.proofs.States.{texts_are, tree_same, spans_within}

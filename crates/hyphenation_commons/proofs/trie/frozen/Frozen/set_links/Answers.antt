@@ -1,5 +1,5 @@
 use Rattle.std.proofs.Common.{◌∙◌, ap, refl, length}
-use Rattle.hyphenation_commons.specs.States.{links_of}
+use Rattle.hyphenation_commons.specs.Private.States.{links_of}
 use Rattle.hyphenation_commons.specs.declared.trie.frozen.State.{State}
 use Rattle.hyphenation_commons.proofs.States.{states_within, states_kept, tree_kept, links_set, links_kept}
 use Rattle.hyphenation_commons.proofs.trie.frozen.Frozen.set_links.Goals as goal
