@@ -7,7 +7,7 @@ ghost use Rattle.hyphenation.specs.Hyphenated.{hyphenated_text, marked_word};
 ghost use Rattle.hyphenation.specs.Opportunities.{no_change, rules_of, all_breaks_of};
 
 use crate::hyphenator::Hyphenator;
-use crate::iter::joined::push_marked;
+use crate::iter::push_marked;
 use hyphenation_commons::dictionary::Standard;
 use std::alloc::{AllocError, Global};
 use unicode_segmentation::UnicodeSegmentation;

@@ -12,7 +12,7 @@ use std::marker::Model;
 /// A language, by its code: 1 to 32 bytes of `a-z`, `0-9` and `-`.
 ///
 /// Displayed it is its code.
-#[derive(Clone, Copy, Debug)]
+#[derive(Clone, Copy)]
 pub struct Language {
     /// The code, and zeros after it.
     bytes: [u8; 32],
@@ -121,6 +121,13 @@ impl Eq for Language {
     ghost use Rattle.std.specs.Cmp.Lexicographic.{nat_list_eq_equiv};
 
     ghost laws = { nat_list_eq_equiv };
+}
+
+/// `Language("en-us")`.
+impl fmt::Debug for Language {
+    fn fmt<W: fmt::Write>(&self, f: &mut fmt::Formatter<W>) -> fmt::Result {
+        f.debug_tuple("Language").field(&self.code()).finish()
+    }
 }
 
 impl fmt::Display for Language {

@@ -144,7 +144,7 @@ fn byte_of(from: Option<(usize, u8)>) -> u8
 
 /// Keys, each with its entries.
 #[derive(Drop)]
-pub struct Trie<E> {
+pub(crate) struct Trie<E> {
     /// The root, and after it each node later than its parent.
     nodes: Vec<Node>,
     /// The entries of all keys, in one list, so that a key costs no allocation of its own. Those that a key had
@@ -172,7 +172,7 @@ impl<E> Model for Trie<E> {
 
 impl<E: Drop> Trie<E> {
     /// The trie of no key: the root alone. The only error is memory.
-    pub fn new(alloc: Global) -> Result<Self, AllocError>
+    pub(crate) fn new(alloc: Global) -> Result<Self, AllocError>
         ensures { IfOk result (λ trie. trie ≡ record { texts = [] ∷ []; entries = None ∷ [] }) }
     {
         Self::with_room(alloc, 0)
@@ -181,7 +181,7 @@ impl<E: Drop> Trie<E> {
     /// The trie of no key, with room for so many nodes. The only error is memory.
     ///
     /// Room that is not used costs addresses and no memory. It saves the copies that growing makes.
-    pub fn with_room(alloc: Global, nodes: usize) -> Result<Self, AllocError>
+    pub(crate) fn with_room(alloc: Global, nodes: usize) -> Result<Self, AllocError>
         ensures { IfOk result (λ trie. trie ≡ record { texts = [] ∷ []; entries = None ∷ [] }) }
     {
         let children = Chains::with_room(alloc, nodes)?;
@@ -202,7 +202,7 @@ impl<E: Drop> Trie<E> {
     ///
     /// No other key changes, and the list is empty then and can be filled again. The only error is memory, and then
     /// each key is as before.
-    pub fn insert(&mut self, key: &[u8], entries: &mut Vec<E>) -> Result<bool, AllocError>
+    pub(crate) fn insert(&mut self, key: &[u8], entries: &mut Vec<E>) -> Result<bool, AllocError>
         ensures ok { OnOk result ((q : List ℕ) → key_at self.new q ≡
             (if pointwise nat_eq key.now q then Some entries.old.items else key_at self.old q)) }
         ensures had { IfOk result (λ had. had ≡ is_some (key_at self.old key.now)) }

@@ -5,7 +5,7 @@ use crate::texts::{CHANGES, FIRKIN, WORDS, dictionary};
 use hyphenation::Standard;
 use hyphenation::extended::{Extended, Subregion};
 use hyphenation::hyphenator::{Break, Hyphenator};
-use hyphenation::iter::joined::push_marked;
+use hyphenation::iter::push_marked;
 use hyphenation::score::{LookUps, Score};
 use std::alloc::{AllocError, Global};
 use std::io;

@@ -5,7 +5,7 @@ use crate::texts::{CHANGES, FIRKIN, WORDS, dictionary};
 use hyphenation::case_folding::refold;
 use hyphenation::extended::Extended;
 use hyphenation::hyphenator::{Hyphenator, Word, soft_hyphen_indices};
-use hyphenation::iter::joined::push_marked;
+use hyphenation::iter::push_marked;
 use hyphenation::iter::{Hyphenating, Iter, Texts};
 use hyphenation::{Standard, hyphenate_text};
 use std::alloc::{AllocError, Global};

@@ -5,7 +5,7 @@ ghost use Rattle.std.specs.String.{string_bytes};
 ghost use Rattle.hyphenation.specs.Hyphenated.{marked_word};
 
 use hyphenation::Hyphenator;
-use hyphenation::iter::joined::push_marked;
+use hyphenation::iter::push_marked;
 use std::alloc::{AllocError, Global};
 
 /// A word with the mark at each break that the dictionary finds, and with the letters that a break changes.

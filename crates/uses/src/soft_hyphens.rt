@@ -8,7 +8,7 @@ ghost use Rattle.uses.specs.SoftHyphens.{with_soft_hyphens};
 
 use hyphenation::Hyphenator;
 use hyphenation::hyphenator::soft_hyphen_indices;
-use hyphenation::iter::joined::push_marked;
+use hyphenation::iter::push_marked;
 use std::alloc::{AllocError, Global};
 use unicode_segmentation::UnicodeSegmentation;
 
