@@ -9,7 +9,9 @@ TakesFirst view list old item new = MatchOption item (list old ≡ []) (λ x. li
 
 -- The same, where an item may hold a refusal in place of what it stands for.
 abbrev pub TakesFirstOrRefuses : {S A X : Type 0} → (A → Option X) → (S → List X) → S → Option A → S → Type 0
-TakesFirstOrRefuses {X = X} held list old item new = MatchOption item (list old ≡ []) (λ x. (first : X) × (list old ≡ first ∷ list new) × IfSome (held x) (λ value. value ≡ first))
+TakesFirstOrRefuses {X = X} held list old item new =
+    MatchOption item (list old ≡ [])
+    (λ x. (first : X) × (list old ≡ first ∷ list new) × IfSome (held x) (λ value. value ≡ first))
 
 -- An item is the first of the texts to come, or a refusal in its place; after the end there is none again.
 abbrev pub GivesMarked : {Z E : Type 0} → List (List ℕ) → Option (Result (String Z) E) → List (List ℕ) → Type 0

@@ -166,7 +166,8 @@ pub fn run_score<D: Read, O: Write>(
     ensures answers { IfSome (D.remaining dictionary.old) (λ bytes.
         Runs (refusal_of kind) language_in lang bytes result) }
     ensures written { OnOk result (IfSome (D.remaining dictionary.old)
-        (λ bytes. Appends (O.contents output.old) (O.contents output.new) (score_line (values_by kind bytes word.now)))) }
+        (λ bytes. Appends (O.contents output.old) (O.contents output.new)
+        (score_line (values_by kind bytes word.now)))) }
     ensures untouched { BeforeWriting result (Keeps (O.contents output.old) (O.contents output.new)) }
     ensures kind { IfErr result HoldsNoWant }
 {
@@ -189,8 +190,10 @@ fn text_by<D: Read, I: Read>(
         JudgesDictionary (refusal_of kind) lang bytes result) }
     ensures edits { JudgesEdits kind (map (λ edit. edit.now) edits.now) result }
     ensures text { IfSome (I.remaining input.old) (λ text. JudgesText text result) }
-    ensures output { IfOk result (λ output. IfSome (D.remaining reader.old) (λ bytes. IfSome (I.remaining input.old) (λ text.
-        string_bytes output ≡ hyphenated_text (breaks_by kind bytes (map (λ edit. edit.now) edits.now)) mark.now text))) }
+    ensures output { IfOk result (λ output. IfSome (D.remaining reader.old)
+        (λ bytes. IfSome (I.remaining input.old) (λ text.
+        string_bytes output
+        ≡ hyphenated_text (breaks_by kind bytes (map (λ edit. edit.now) edits.now)) mark.now text))) }
     ensures unwritten { IfErr result IsUnwritten }
     ensures kind { IfErr result HoldsNoWant }
 {

@@ -34,7 +34,8 @@ pub(crate) fn hyphenated_text<'h, H: Hyphenator<'h>>(
     text: &str,
     mark: &str,
 ) -> Result<String, AllocError>
-    ensures { IfOk result (λ output. string_bytes output ≡ hyphenated_text (H.breaks_of dictionary.now) mark.now text.now) }
+    ensures { IfOk result (λ output. string_bytes output
+        ≡ hyphenated_text (H.breaks_of dictionary.now) mark.now text.now) }
 {
     let mut output = String::with_capacity(alloc, text.len())?;
     for piece in text.split_word_bounds() {

@@ -358,7 +358,7 @@ module _ {C B : Type 0} (kind : Kind) (payload_of : Option Change → C) (listin
   say_p = spelt_as (entry_as payload_of) (pattern_of_line version)
 
   abbrev say_e : List ℕ → Option (List ℕ × List B)
-  say_e = spelt_as lists exception_of_line
+  say_e = spelt_as listing_of exception_of_line
 
   key_again : (q : List ℕ) (es : List (Entry C)) → KeyLine q es → Again say_p p_line q es
   key_again q es k =

@@ -75,14 +75,14 @@ module _ {C B : Type 0} (version : Version) (payload_of : Option Change → C) (
   key_agrees : (l : List ℕ) → option_map (λ x. x.0) (spelt_as (entry_as payload_of) (pattern_of_line version) l) ≡ key_spelt version l
   key_agrees l = elim (is_pattern l) as (λ b. option_map (λ (x : List ℕ × List (Entry C)). x.0) (option_map {U = List ℕ × List (Entry C)} (λ x. (x.0, map (entry_as payload_of) x.1)) (cond {A = Option (List ℕ × List (Entry (Option Change)))} b (Some (key_of_line version l, entries_of_line version l)) None)) ≡ cond b (Some (key_of_line version l)) None) [ true ↦ refl | false ↦ refl ]
 
-  word_agrees : (l : List ℕ) → option_map (λ x. x.0) (spelt_as lists exception_of_line l) ≡ word_spelt l
+  word_agrees : (l : List ℕ) → option_map (λ x. x.0) (spelt_as listing_of exception_of_line l) ≡ word_spelt l
   word_agrees l = elim (is_exception l) as (λ b. option_map (λ (x : List ℕ × List B). x.0) (option_map {U = List ℕ × List B} (λ x. (x.0, map listing_of x.1)) (cond {A = Option (List ℕ × List Break)} b (Some (word_of_line l, breaks_of_line l)) None)) ≡ cond b (Some (word_of_line l)) None) [ true ↦ refl | false ↦ refl ]
 
   key_stands : (earlier : List (List ℕ)) (q : List ℕ) → is_some (finite.get (items_of_lines version payload_of listing_of earlier).patterns q) ≡ stands_in (key_spelt version) earlier q
   key_stands earlier q = contains (spelt_as (entry_as payload_of) (pattern_of_line version)) earlier q ∙ ap (λ (s : List ℕ → Option (List ℕ)). stands_in s earlier q) (λ k l. key_agrees l k)
 
   word_stands : (earlier : List (List ℕ)) (q : List ℕ) → is_some (finite.get (items_of_lines version payload_of listing_of earlier).exceptions q) ≡ stands_in word_spelt earlier q
-  word_stands earlier q = contains (spelt_as lists exception_of_line) earlier q ∙ ap (λ (s : List ℕ → Option (List ℕ)). stands_in s earlier q) (λ k l. word_agrees l k)
+  word_stands earlier q = contains (spelt_as listing_of exception_of_line) earlier q ∙ ap (λ (s : List ℕ → Option (List ℕ)). stands_in s earlier q) (λ k l. word_agrees l k)
 
   has_key : (earlier : List (List ℕ)) (line : List ℕ) → has (items_of_lines version payload_of listing_of earlier).patterns (spelt_as (entry_as payload_of) (pattern_of_line version) line) ≡ (is_pattern line && stands_in (key_spelt version) earlier (key_of_line version line))
   has_key earlier line =
@@ -91,7 +91,7 @@ module _ {C B : Type 0} (version : Version) (payload_of : Option Change → C) (
         | false ↦ refl
       ]
 
-  has_word : (earlier : List (List ℕ)) (line : List ℕ) → has (items_of_lines version payload_of lists earlier).exceptions (spelt_as lists exception_of_line line) ≡ (is_exception line && stands_in word_spelt earlier (word_of_line line))
+  has_word : (earlier : List (List ℕ)) (line : List ℕ) → has (items_of_lines version payload_of listing_of earlier).exceptions (spelt_as listing_of exception_of_line line) ≡ (is_exception line && stands_in word_spelt earlier (word_of_line line))
   has_word earlier line =
       elim (is_exception line) as (λ b. has (items_of_lines version payload_of listing_of earlier).exceptions (option_map {U = List ℕ × List B} (λ x. (x.0, map listing_of x.1)) (cond {A = Option (List ℕ × List Break)} b (Some (word_of_line line, breaks_of_line line)) None)) ≡ (b && stands_in word_spelt earlier (word_of_line line))) [
         | true ↦ word_stands earlier (word_of_line line)
@@ -100,21 +100,21 @@ module _ {C B : Type 0} (version : Version) (payload_of : Option Change → C) (
 
   -- the last two tests by what was items_of_lines are those by the lines
   pub repeats-spelt : (earlier : List (List ℕ)) (line : List ℕ)
-      → repeats (items_of_lines version payload_of lists earlier).patterns (items_of_lines version payload_of lists earlier).exceptions (spelt_as (entry_as payload_of) (pattern_of_line version) line) (spelt_as lists exception_of_line line) ≡ repetition version earlier line
+      → repeats (items_of_lines version payload_of listing_of earlier).patterns (items_of_lines version payload_of listing_of earlier).exceptions (spelt_as (entry_as payload_of) (pattern_of_line version) line) (spelt_as listing_of exception_of_line line) ≡ repetition version earlier line
   repeats-spelt earlier line =
-      ap (λ (b : Bool). cond b (Some RepeatedPattern) (cond (has (items_of_lines version payload_of lists earlier).exceptions (spelt_as lists exception_of_line line)) (Some RepeatedException) None)) (has_key earlier line)
+      ap (λ (b : Bool). cond b (Some RepeatedPattern) (cond (has (items_of_lines version payload_of listing_of earlier).exceptions (spelt_as listing_of exception_of_line line)) (Some RepeatedException) None)) (has_key earlier line)
       ∙ ap (λ (b : Bool). cond (is_pattern line && stands_in (key_spelt version) earlier (key_of_line version line)) (Some RepeatedPattern) (cond b (Some RepeatedException) None)) (has_word earlier line)
 
   -- a line more, which repeats none
   pub new_key : (earlier : List (List ℕ)) (line : List ℕ) → None ≡ repetition version earlier line → has (map_of_lines (spelt_as (entry_as payload_of) (pattern_of_line version)) earlier) (spelt_as (entry_as payload_of) (pattern_of_line version) line) ≡ false
-  new_key earlier line none = (neither (has (items_of_lines version payload_of lists earlier).patterns (spelt_as (entry_as payload_of) (pattern_of_line version) line)) (has (items_of_lines version payload_of lists earlier).exceptions (spelt_as lists exception_of_line line)) (none ∙ sym (repeats-spelt earlier line))).0
+  new_key earlier line none = (neither (has (items_of_lines version payload_of listing_of earlier).patterns (spelt_as (entry_as payload_of) (pattern_of_line version) line)) (has (items_of_lines version payload_of listing_of earlier).exceptions (spelt_as listing_of exception_of_line line)) (none ∙ sym (repeats-spelt earlier line))).0
 
-  pub new_word : (earlier : List (List ℕ)) (line : List ℕ) → None ≡ repetition version earlier line → has (map_of_lines (spelt_as lists exception_of_line) earlier) (spelt_as lists exception_of_line line) ≡ false
-  new_word earlier line none = (neither (has (items_of_lines version payload_of lists earlier).patterns (spelt_as (entry_as payload_of) (pattern_of_line version) line)) (has (items_of_lines version payload_of lists earlier).exceptions (spelt_as lists exception_of_line line)) (none ∙ sym (repeats-spelt earlier line))).1
+  pub new_word : (earlier : List (List ℕ)) (line : List ℕ) → None ≡ repetition version earlier line → has (map_of_lines (spelt_as listing_of exception_of_line) earlier) (spelt_as listing_of exception_of_line line) ≡ false
+  new_word earlier line none = (neither (has (items_of_lines version payload_of listing_of earlier).patterns (spelt_as (entry_as payload_of) (pattern_of_line version) line)) (has (items_of_lines version payload_of listing_of earlier).exceptions (spelt_as listing_of exception_of_line line)) (none ∙ sym (repeats-spelt earlier line))).1
 
   pub spelt-more : (earlier : List (List ℕ)) (line : List ℕ) → None ≡ repetition version earlier line
-      → items_of_lines version payload_of lists (earlier ++ line ∷ []) ≡ record { patterns = with_spelt (items_of_lines version payload_of lists earlier).patterns (spelt_as (entry_as payload_of) (pattern_of_line version) line); exceptions = with_spelt (items_of_lines version payload_of lists earlier).exceptions (spelt_as lists exception_of_line line) }
+      → items_of_lines version payload_of listing_of (earlier ++ line ∷ []) ≡ record { patterns = with_spelt (items_of_lines version payload_of listing_of earlier).patterns (spelt_as (entry_as payload_of) (pattern_of_line version) line); exceptions = with_spelt (items_of_lines version payload_of listing_of earlier).exceptions (spelt_as listing_of exception_of_line line) }
   spelt-more earlier line none = λ i. record {
     patterns = gathered-more (spelt_as (entry_as payload_of) (pattern_of_line version)) earlier line (new_key earlier line none) i;
-    exceptions = gathered-more (spelt_as lists exception_of_line) earlier line (new_word earlier line none) i;
+    exceptions = gathered-more (spelt_as listing_of exception_of_line) earlier line (new_word earlier line none) i;
   }

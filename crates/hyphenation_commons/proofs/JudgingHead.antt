@@ -160,5 +160,5 @@ neither false false e = (refl, refl)
 pub idle-spelt : {C B : Type 0} (version : Version) (payload_of : Option Change → C) (listing_of : Break → B) (ls : List (List ℕ)) → are_idle ls ≡ true → items_of_lines version payload_of listing_of ls ≡ items_of_lines version payload_of listing_of []
 idle-spelt {C} {B} version payload_of listing_of ls e =
     let keys = unspelt (spelt_as (entry_as payload_of) (pattern_of_line version)) ls (λ l h. ap (λ (b : Bool). option_map {U = List ℕ × List (Entry C)} (λ (x : List ℕ × List (Entry (Option Change))). (x.0, map (entry_as payload_of) x.1)) (cond b (Some (key_of_line version l, entries_of_line version l)) None)) (neither (is_pattern l) (is_exception l) h).0) e in
-    let words = unspelt (spelt_as lists exception_of_line) ls (λ l h. ap (λ (b : Bool). option_map {U = List ℕ × List B} (λ (x : List ℕ × List Break). (x.0, map lists x.1)) (cond b (Some (word_of_line l, breaks_of_line l)) None)) (neither (is_pattern l) (is_exception l) h).1) e in
+    let words = unspelt (spelt_as listing_of exception_of_line) ls (λ l h. ap (λ (b : Bool). option_map {U = List ℕ × List B} (λ (x : List ℕ × List Break). (x.0, map listing_of x.1)) (cond b (Some (word_of_line l, breaks_of_line l)) None)) (neither (is_pattern l) (is_exception l) h).1) e in
     λ i. record { patterns = finite.from_entries (keys i); exceptions = finite.from_entries (words i) }

@@ -502,7 +502,7 @@ module _ (form : Form) (line text : List ℕ) (start : Some text ≡ strip_prefi
   exception_caused w l e = as_exception ∙ exception_some form (spaced text) w l e
 
   pub exception_says : {B : Type 0} (listing_of : Break → B) (w : List ℕ) (l : ReadLater) → exception_parts (spaced text) ≡ Some (w, l) → exception_cause form w l ≡ None
-      → (pattern_of_line form.version line ≡ None) × (spelt_as lists exception_of_line line ≡ Some (w, map lists (breaks_listed l.listed)))
+      → (pattern_of_line form.version line ≡ None) × (spelt_as listing_of exception_of_line line ≡ Some (w, map listing_of (breaks_listed l.listed)))
   exception_says listing_of w l e none = (
     ap (λ (a : Bool). cond a (Some (key_of_line form.version line, entries_of_line form.version line)) None) (other_sort line sort_e),
     ap (λ (x : Bool). exception_by listing_of x (tokens_of line)) sort_e ∙ ap (exception_by listing_of true) tokens_e ∙ exception_spelt listing_of form (spaced text) w l e none,

@@ -171,7 +171,7 @@ module _ {C B : Type 0} (payload_of : Option Change → C) (listing_of : Break �
         ascend = subst (λ (xs : List (Entry C)). are_entries change_of (key_of_line form.version line) 0 xs ≡ true) (ap (map (entry_as payload_of)) s.2 ∙ t.2) (entries_held (key_of_line form.version line) 0 (entries_of_line form.version line) kept.ascend);
       })
 
-  pub exception_held : (form : Form) (n : ℕ) (line w : List ℕ) (bs : List B) → own_cause form n line ≡ None → spelt_as lists exception_of_line line ≡ Some (w, bs) → IsException break_of w bs
+  pub exception_held : (form : Form) (n : ℕ) (line w : List ℕ) (bs : List B) → own_cause form n line ≡ None → spelt_as listing_of exception_of_line line ≡ Some (w, bs) → IsException break_of w bs
   exception_held form n line w bs own e =
       let t = told_from listing_of exception_of_line line w bs e in
       let s = spelt_from (is_exception line) (word_of_line line) (breaks_of_line line) w t.0 t.1 in
@@ -194,7 +194,7 @@ module _ {C B : Type 0} (payload_of : Option Change → C) (listing_of : Break �
             let own = own-none form (λ l. spelt_as (entry_as payload_of) (pattern_of_line form.version) l ≡ Some (k, es)) [] lines e ((patterns-told payload_of listing_of form lines e k es).0 got) in
             pattern_held form own.0 own.1 k es own.3 own.2;
         exceptions = λ w bs got.
-            let own = own-none form (λ l. spelt_as lists exception_of_line l ≡ Some (w, bs)) [] lines e ((exceptions-told payload_of lists form lines e w bs).0 got) in
+            let own = own-none form (λ l. spelt_as listing_of exception_of_line l ≡ Some (w, bs)) [] lines e ((exceptions-told payload_of listing_of form lines e w bs).0 got) in
             exception_held form own.0 own.1 w bs own.3 own.2;
       }
 

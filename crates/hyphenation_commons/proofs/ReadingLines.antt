@@ -39,17 +39,17 @@ module _ {C B : Type 0} (version : Version) (payload_of : Option Change → C) (
   abbrev before : SpeltItems C B
   before = items_of_lines version payload_of listing_of earlier
 
-  repeats_by : (p : Keys) (e : Words) → spelt_as (entry_as payload_of) (pattern_of_line version) line ≡ p → spelt_as lists exception_of_line line ≡ e → repeats before.patterns before.exceptions p e ≡ repetition version earlier line
+  repeats_by : (p : Keys) (e : Words) → spelt_as (entry_as payload_of) (pattern_of_line version) line ≡ p → spelt_as listing_of exception_of_line line ≡ e → repeats before.patterns before.exceptions p e ≡ repetition version earlier line
   repeats_by p e hp he = (λ i. repeats before.patterns before.exceptions (sym hp i) (sym he i)) ∙ repeats-spelt version payload_of listing_of earlier line
 
-  more_by : (p : Keys) (e : Words) → spelt_as (entry_as payload_of) (pattern_of_line version) line ≡ p → spelt_as lists exception_of_line line ≡ e → None ≡ repetition version earlier line
+  more_by : (p : Keys) (e : Words) → spelt_as (entry_as payload_of) (pattern_of_line version) line ≡ p → spelt_as listing_of exception_of_line line ≡ e → None ≡ repetition version earlier line
       → ◌≡◌ {A = SpeltItems C B} (record { patterns = with_spelt before.patterns p; exceptions = with_spelt before.exceptions e }) (items_of_lines version payload_of listing_of (earlier ++ line ∷ []))
   more_by p e hp he none = (λ i. record { patterns = with_spelt before.patterns (sym hp i); exceptions = with_spelt before.exceptions (sym he i) }) ∙ sym (spelt-more version payload_of listing_of earlier line none)
 
   no_key : pattern_of_line version line ≡ None → spelt_as (entry_as payload_of) (pattern_of_line version) line ≡ None
   no_key e = ap (option_map {U = List ℕ × List (Entry C)} (λ x. (x.0, map (entry_as payload_of) x.1))) e
 
-  no_word : exception_of_line line ≡ None → spelt_as lists exception_of_line line ≡ None
+  no_word : exception_of_line line ≡ None → spelt_as listing_of exception_of_line line ≡ None
   no_word e = ap (option_map {U = List ℕ × List B} (λ x. (x.0, map listing_of x.1))) e
 
   -- the last two tests, by what an item repeats

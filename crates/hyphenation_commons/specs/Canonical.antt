@@ -120,7 +120,8 @@ with_line_feeds lines = flat_map (λ line. line ++ 10 ∷ []) lines
 -- The canonical text of a dictionary of that kind, which holds a change as change_of says, and a listed break as break_of says.
 abbrev pub canonical_text_of : {C B : Type 0} → Kind → (C → Option Change) → (B → Break) → Contents C B → List ℕ
 canonical_text_of kind change_of break_of contents =
-    with_line_feeds (canonical_lines (record { kind = kind; version = version_for contents }) change_of break_of contents)
+    with_line_feeds
+    (canonical_lines (record { kind = kind; version = version_for contents }) change_of break_of contents)
 
 -- The canonical text of a standard dictionary, which holds no change, and that of an extended one, which holds each as it is.
 abbrev pub standard_text : Contents (Unit {0}) ℕ → List ℕ
@@ -131,7 +132,8 @@ extended_text contents = canonical_text_of Extended (λ change. change) (λ b. c
 
 -- A kind of dictionary holds exactly what its texts say: what it holds of a change or a listed break says
 -- that again, and a standard one holds no change.
-pub record HoldsExactly {C B : Type 0} (kind : Kind) (payload_of : Option Change → C) (listing_of : Break → B) (change_of : C → Option Change) (break_of : B → Break) : Type 0 where
+pub record HoldsExactly {C B : Type 0} (kind : Kind) (payload_of : Option Change → C) (listing_of : Break → B)
+    (change_of : C → Option Change) (break_of : B → Break) : Type 0 where
   pub changes : (c : C) → payload_of (change_of c) ≡ c
   pub breaks : (b : B) → listing_of (break_of b) ≡ b
   pub no_change : kind ≡ Standard → (c : C) → change_of c ≡ None

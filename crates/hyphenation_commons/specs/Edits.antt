@@ -83,12 +83,14 @@ first_refused kind edits = refused_from kind 1 edits
 
 -- What an edit says of its word: the breaks that are listed for it, or that it is no exception.
 abbrev pub said_of_word : {B : Type 0} → (Break → B) → List ℕ → Option (List B)
-said_of_word listing_of edit = if is_addition edit then Some (map listing_of (breaks_of_line (edit_line edit))) else None
+said_of_word listing_of edit =
+    if is_addition edit then Some (map listing_of (breaks_of_line (edit_line edit))) else None
 
 -- The dictionary in which the breaks of a line are listed for its word, or its word is no exception.
 abbrev pub with_exception : {C B : Type 0} → (Break → B) → Contents C B → List ℕ → Contents C B
 with_exception listing_of contents line =
-    record contents { exceptions = finite.insert contents.exceptions (word_of_line line) (map listing_of (breaks_of_line line)) }
+    record contents { exceptions = finite.insert contents.exceptions (word_of_line line)
+    (map listing_of (breaks_of_line line)) }
 
 abbrev pub without_exception : {C B : Type 0} → Contents C B → List ℕ → Contents C B
 without_exception contents line = record contents { exceptions = finite.remove contents.exceptions (word_of_line line) }
@@ -96,7 +98,8 @@ without_exception contents line = record contents { exceptions = finite.remove c
 -- The dictionary after an edit, and after edits from first to last.
 abbrev pub after_edit : {C B : Type 0} → (Break → B) → Contents C B → List ℕ → Contents C B
 after_edit listing_of contents edit =
-    if is_addition edit then with_exception listing_of contents (edit_line edit) else without_exception contents (edit_line edit)
+    if is_addition edit then with_exception listing_of contents (edit_line edit)
+    else without_exception contents (edit_line edit)
 
 abbrev pub after_edits : {C B : Type 0} → (Break → B) → Contents C B → List (List ℕ) → Contents C B
 after_edits listing_of contents edits = fold (after_edit listing_of) contents edits
@@ -107,7 +110,8 @@ after_edits listing_of contents edits = fold (after_edit listing_of) contents ed
 abbrev pub last_said_of : {B : Type 0} → (Break → B) → List ℕ → List (List ℕ) → Option (Option (List B))
 last_said_of listing_of word [] = None
 last_said_of listing_of word (edit ∷ edits) =
-    option_or (last_said_of listing_of word edits) (if same (word_named edit) word then Some (said_of_word listing_of edit) else None)
+    option_or (last_said_of listing_of word edits)
+    (if same (word_named edit) word then Some (said_of_word listing_of edit) else None)
 
 -- Of the edits that name a word the last one decides, and where there is none, the dictionary before them.
 abbrev pub LastDecides : Type 0 → Type 0 → Type 0

@@ -45,7 +45,8 @@ word_spelt line = if is_exception line then Some (word_of_line line) else None
 
 -- What a later token lists: a place, with a change where it has commas.
 abbrev pub break_of_token : List ℕ → Break
-break_of_token token = record { place = place_of token; change = if has_comma token then Some (change_of token) else None }
+break_of_token token = record { place = place_of token; change = if has_comma token then Some (change_of token)
+    else None }
 
 abbrev pub breaks_of_line : List ℕ → List Break
 breaks_of_line line = map break_of_token (later_tokens_of line)
@@ -62,7 +63,8 @@ entries_of_line version line =
 
 -- What a line spells: a key with its entries, or a word with its listed breaks.
 abbrev pub pattern_of_line : Version → List ℕ → Option (List ℕ × List (Entry (Option Change)))
-pattern_of_line version line = if is_pattern line then Some (key_of_line version line, entries_of_line version line) else None
+pattern_of_line version line = if is_pattern line then Some (key_of_line version line, entries_of_line version line)
+    else None
 
 abbrev pub exception_of_line : List ℕ → Option (List ℕ × List Break)
 exception_of_line line = if is_exception line then Some (word_of_line line, breaks_of_line line) else None

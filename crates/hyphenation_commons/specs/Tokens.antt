@@ -56,7 +56,8 @@ bytes_of bytes = map (λ spelt. spelt.byte) bytes
 
 -- A word or a substitution as it is written: `\e` is the empty text.
 abbrev pub text_spelt : List ℕ → Option (List ℕ)
-text_spelt written = if same written (codes "\\e") then Some [] else option_map bytes_of (escaped_bytes_of Plain written)
+text_spelt written =
+    if same written (codes "\\e") then Some [] else option_map bytes_of (escaped_bytes_of Plain written)
 
 -- In a pattern an unescaped digit is a value.
 abbrev pub element_of : EscapedByte → PatternElement
@@ -76,7 +77,8 @@ braced_value digits = option_and_then (λ value. if nat_le 10 value then Some va
 -- A byte outside braces: the digits in the braces that it opens, if it does, and the elements that it adds. None of a closing one.
 abbrev pub step_outside : EscapedByte → Option (Option (List ℕ) × List PatternElement)
 step_outside spelt =
-    if is_raw 123 spelt then Some (Some [], []) else (if is_raw 125 spelt then None else Some (None, element_of spelt ∷ []))
+    if is_raw 123 spelt then Some (Some [], [])
+    else (if is_raw 125 spelt then None else Some (None, element_of spelt ∷ []))
 
 -- A byte in braces, after these digits: one more of them, or the brace that ends the value. None where it can't stand there.
 abbrev pub step_inside : List ℕ → EscapedByte → Option (Option (List ℕ) × List PatternElement)
@@ -124,7 +126,8 @@ is_value_element (Value v) = true
 -- Whether two values stand in succession, after a value or not.
 abbrev pub two_values : Bool → List PatternElement → Bool
 two_values after [] = false
-two_values after (element ∷ elements) = (after && is_value_element element) || two_values (is_value_element element) elements
+two_values after (element ∷ elements) =
+    (after && is_value_element element) || two_values (is_value_element element) elements
 
 -- A later token is parted by its first four commas.
 abbrev pub put_byte : Bool → ℕ → List (List ℕ) → List (List ℕ)

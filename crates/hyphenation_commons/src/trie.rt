@@ -235,7 +235,8 @@ impl<E: Drop> Trie<E> {
         requires { node < length self.now.texts }
         ensures found { IfSome result (λ j.
             (j < length self.now.texts) × (node_text self.now j ≡ node_text self.now node ++ byte ∷ [])) }
-        ensures none { IfNone result ((j : ℕ) → j < length self.now.texts → node_text self.now j ≢ node_text self.now node
+        ensures none { IfNone result ((j : ℕ) → j < length self.now.texts
+            → node_text self.now j ≢ node_text self.now node
             ++ byte ∷ []) }
         ensures trie { IsTrie self.now }
     {

@@ -7,4 +7,5 @@ use Rattle.linefill.specs.Lines.{lines_by}
 
 -- The lines of a text by the dictionary that the bytes give.
 abbrev pub filled_by : List ℕ → ℕ → List ℕ → List (List ℕ)
-filled_by bytes columns text = lines_by (all_breaks_of (rules_of no_change plain (standard_contents bytes))) text columns
+filled_by bytes columns text =
+    lines_by (all_breaks_of (rules_of no_change plain (standard_contents bytes))) text columns

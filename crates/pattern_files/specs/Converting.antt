@@ -74,7 +74,8 @@ fault_from number (file ∷ files) =
 abbrev pub spelled_in : {C B : Type 0} → (Option Change → C) → (Break → B) → List File → Spelled C B
 spelled_in payload_of listing_of [] = record { patterns = []; exceptions = [] }
 spelled_in payload_of listing_of (file ∷ files) =
-    one_after_other (words_spelled payload_of listing_of (words_of file.form file.bytes.now)) (spelled_in payload_of listing_of files)
+    one_after_other (words_spelled payload_of listing_of (words_of file.form file.bytes.now))
+    (spelled_in payload_of listing_of files)
 
 -- A key with its entries more, and a word with its breaks more.
 abbrev pub with_key : {C B : Type 0} → Spelled C B → List ℕ × List (Entry C) → Spelled C B
@@ -96,7 +97,8 @@ contents_made language left right all = record {
 -- The dictionary of files.
 abbrev pub contents_of_files : {C B : Type 0} → (Option Change → C) → (Break → B) → List ℕ → ℕ → ℕ → List File
     → Contents C B
-contents_of_files payload_of listing_of language left right files = contents_made language left right (spelled_in payload_of listing_of files)
+contents_of_files payload_of listing_of language left right files =
+    contents_made language left right (spelled_in payload_of listing_of files)
 
 -- Want of memory, or that very fault.
 abbrev pub IsLineFault : LineFault → Option (ℕ × Cause) → Type 0

@@ -62,7 +62,8 @@ pattern_in payload_of Exceptions text = None
 
 abbrev pub exception_in : {B : Type 0} → (Break → B) → Group → List ℕ → Option (List ℕ × List B)
 exception_in listing_of Patterns text = None
-exception_in listing_of Exceptions text = Some (unhyphenated (folded_text text), breaks_of_hyphens listing_of (folded_text text))
+exception_in listing_of Exceptions text =
+    Some (unhyphenated (folded_text text), breaks_of_hyphens listing_of (folded_text text))
 
 -- ---- What spells nothing.
 

@@ -21,7 +21,8 @@ fn take_file<C: Payload, B: Listing>(
     bytes: &[u8],
 ) -> Result<(), LineFault>
     ensures good { OnOk result (file_fault form bytes.now ≡ None) }
-    ensures taken { OnOk result (parts.new ≡ one_after_other parts.old (words_spelled C.payload_of B.listing_of (words_of form bytes.now))) }
+    ensures taken { OnOk result (parts.new
+        ≡ one_after_other parts.old (words_spelled C.payload_of B.listing_of (words_of form bytes.now))) }
     ensures refused { IfErr result (λ fault. IsLineFault fault (file_fault form bytes.now)) }
 {
     let (words, fault) = words_of(alloc, form, bytes)?;
@@ -41,7 +42,8 @@ fn take_files<C: Payload, B: Listing>(
     files: &[File<'_>],
 ) -> Result<(), Refusal>
     ensures good { OnOk result (fault_from 0 files.now ≡ None) }
-    ensures taken { OnOk result (parts.new ≡ one_after_other parts.old (spelled_in C.payload_of B.listing_of files.now)) }
+    ensures taken { OnOk result (parts.new
+        ≡ one_after_other parts.old (spelled_in C.payload_of B.listing_of files.now)) }
     ensures refused { IfErr result (λ refusal. IsRefusalOf refusal (fault_from 0 files.now)) }
 {
     let mut number: usize = 0;
@@ -74,7 +76,8 @@ pub fn convert<C: Payload, B: Listing>(
     files: &[File<'_>],
 ) -> Result<Dictionary<C, B>, Refusal>
     ensures good { OnOk result (fault_from 0 files.now ≡ None) }
-    ensures contents { IfOk result (λ d. d ≡ contents_of_files C.payload_of B.listing_of language left right files.now) }
+    ensures contents { IfOk result (λ d. d
+        ≡ contents_of_files C.payload_of B.listing_of language left right files.now) }
     ensures refused { IfErr result (λ refusal. IsRefusalOf refusal (fault_from 0 files.now)) }
 {
     let mut parts = Parts::new(alloc);
@@ -98,7 +101,8 @@ pub fn convert_with_notes<C: Payload, B: Listing>(
     files: &[File<'_>],
 ) -> Result<Converted<C, B>, Refusal>
     ensures good { OnOk result (fault_from 0 files.now ≡ None) }
-    ensures contents { IfOk result (λ c. c.dictionary ≡ contents_of_files C.payload_of B.listing_of language left right files.now) }
+    ensures contents { IfOk result (λ c. c.dictionary
+        ≡ contents_of_files C.payload_of B.listing_of language left right files.now) }
     ensures refused { IfErr result (λ refusal. IsRefusalOf refusal (fault_from 0 files.now)) }
 {
     let dictionary = convert(alloc, language, left, right, files)?;

@@ -114,7 +114,8 @@ fn push_value<C: Payload>(
     digit: u8,
 ) -> Result<(), AllocError>
     requires { IsTrue (is_digit digit) }
-    ensures { OnOk result (entries.new.items ≡ entries.old.items ++ map (entry_without_change C.payload_of) (value_of_digit place digit)) }
+    ensures { OnOk result (entries.new.items
+        ≡ entries.old.items ++ map (entry_without_change C.payload_of) (value_of_digit place digit)) }
 {
     if digit == b'0' {
         return Ok(());

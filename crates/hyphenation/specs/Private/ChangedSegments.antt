@@ -31,7 +31,8 @@ change_of_last None = None
 change_of_last (Some b) = b.change
 
 -- A segment between two changes or none: borrowed exactly where there is none, and then never refused.
-pub record IsSegmentMade {Z E : Type 0} (last : Option Change) (middle : List ℕ) (next : Option Change) (made : Result (CowStr Z) E) : Type 0 where
+pub record IsSegmentMade {Z E : Type 0} (last : Option Change) (middle : List ℕ) (next : Option Change)
+    (made : Result (CowStr Z) E) : Type 0 where
   pub value : IfOk made (λ segment. cow_str_bytes segment ≡ after_of last ++ middle ++ before_of next)
   pub borrowed : IfOk made (λ segment. IsBorrowedStr segment ↔ (is_some last || is_some next ≡ false))
   pub given : is_some last || is_some next ≡ false → IsOk made

@@ -56,7 +56,8 @@ pub(super) trait WholeTexts: Drop {
 
     /// The text with its words hyphenated.
     fn hyphenated(&self, alloc: Global, mark: &str, text: &str) -> Result<String, AllocError>
-        ensures { IfOk result (λ output. string_bytes output ≡ hyphenated_text (all_breaks_of self.now) mark.now text.now) };
+        ensures { IfOk result (λ output. string_bytes output
+            ≡ hyphenated_text (all_breaks_of self.now) mark.now text.now) };
 }
 
 impl WholeTexts for Standard {
@@ -182,8 +183,11 @@ pub(super) fn whole_text<K: WholeTexts, D: Read, I: Read>(
         JudgesDictionary (refusal_of K.kind) lang bytes result) }
     ensures edits { JudgesEdits K.kind (map (λ edit. edit.now) edits.now) result }
     ensures text { IfSome (I.remaining input.old) (λ text. JudgesText text result) }
-    ensures output { IfOk result (λ output. IfSome (D.remaining reader.old) (λ bytes. IfSome (I.remaining input.old) (λ text.
-        string_bytes output ≡ hyphenated_text (K.breaks_of (fold K.edited (K.contents bytes) (map (λ edit. edit.now) edits.now))) mark.now text))) }
+    ensures output { IfOk result (λ output. IfSome (D.remaining reader.old)
+        (λ bytes. IfSome (I.remaining input.old) (λ text.
+        string_bytes output
+        ≡ hyphenated_text
+        (K.breaks_of (fold K.edited (K.contents bytes) (map (λ edit. edit.now) edits.now))) mark.now text))) }
     ensures unwritten { IfErr result IsUnwritten }
     ensures kind { IfErr result HoldsNoWant }
 {

@@ -104,7 +104,8 @@ fn compete_reported<'d, C: Drop>(
         → Holds (key_at automaton.now) (frame word.now) (i + 1) (Asked (frame word.now) (end + 1) 0)
         (best_of bests.new starts.new i) }
     ensures reported { count.new.reported
-        ≡ count.old.reported + keys_in automaton.now (node_text automaton.now from) (length (node_text automaton.now from)) }
+        ≡ count.old.reported + keys_in automaton.now (node_text automaton.now from)
+        (length (node_text automaton.now from)) }
     ensures made { count.new.made ≡ count.old.made }
 {
     let _root = automaton.root();

@@ -23,7 +23,8 @@ fn raise_at(values: &mut [u8], start: usize, place: usize, value: u8)
     requires start { start ≤ length values.old + 2 }
     requires room { length values.old + 1 < 2 ^ 63 }
     ensures { (i : ℕ) → i < length values.old
-        → slice_index values.new i ≡ max (slice_index values.old i) (if start + place == (i + 1) + 1 then value else 0) }
+        → slice_index values.new i ≡ max (slice_index values.old i) (if start + place == (i + 1) + 1 then value
+        else 0) }
 {
     // A place after the word is passed over first, so that no sum is too great.
     if place <= values.len() + 1 {
@@ -67,7 +68,8 @@ fn raise_reported<C: Drop>(
         ≡ max (slice_index values.old i)
         (greatest_value (entries_of_ends (key_at automaton.now) (node_text automaton.now from) end (i + 1))) }
     ensures reported { count.new.reported
-        ≡ count.old.reported + keys_in automaton.now (node_text automaton.now from) (length (node_text automaton.now from)) }
+        ≡ count.old.reported + keys_in automaton.now (node_text automaton.now from)
+        (length (node_text automaton.now from)) }
     ensures made { count.new.made ≡ count.old.made }
 {
     let _root = automaton.root();

@@ -13,4 +13,4 @@ use Rattle.hyphenation_commons.specs.Edits.{is_sound_line}
 abbrev pub ReadsException : {B Y Z : Type 0} → Kind → (Break → B) → Option (String Y × Vec B Z) → List ℕ → Type 0
 ReadsException kind listing_of None line = is_sound_line kind line ≡ false
 ReadsException kind listing_of (Some x) line =
-    (is_sound_line kind line ≡ true) × (spelt_as lists exception_of_line line ≡ Some (string_bytes x.0, x.1.items))
+    (is_sound_line kind line ≡ true) × (spelt_as listing_of exception_of_line line ≡ Some (string_bytes x.0, x.1.items))

@@ -23,11 +23,14 @@ use Rattle.hyphenation_commons.specs.declared.grammar.items.Item.TheVariants.{No
 
 -- The item is what the line spells in a dictionary that holds changes and listed breaks so.
 abbrev pub IsItemOf : {C B : Type 0} → Version → (Option Changed → C) → (Break → B) → Item C B → List ℕ → Type 0
-IsItemOf version payload_of listing_of Nothing line = (pattern_of_line version line ≡ None) × (exception_of_line line ≡ None)
+IsItemOf version payload_of listing_of Nothing line =
+    (pattern_of_line version line ≡ None) × (exception_of_line line ≡ None)
 IsItemOf version payload_of listing_of (Pattern key entries) line =
-    (spelt_as (entry_as payload_of) (pattern_of_line version) line ≡ Some (key.items, entries.items)) × (exception_of_line line ≡ None)
+    (spelt_as (entry_as payload_of) (pattern_of_line version) line ≡ Some (key.items, entries.items))
+    × (exception_of_line line ≡ None)
 IsItemOf version payload_of listing_of (Exception word listed) line =
-    (pattern_of_line version line ≡ None) × (spelt_as lists exception_of_line line ≡ Some (string_bytes word, listed.items))
+    (pattern_of_line version line ≡ None)
+    × (spelt_as listing_of exception_of_line line ≡ Some (string_bytes word, listed.items))
 
 -- Want of memory, or that very test.
 abbrev pub IsFault : Fault → Option Cause → Type 0
@@ -47,10 +50,12 @@ Answers form payload_of listing_of line result =
     (λ fault. IsFault fault (item_cause form line))
 
 -- The same of an `e` line: its word and its listed breaks.
-abbrev pub AnswersException : {B Y Z : Type 0} → Form → (Break → B) → List ℕ → Result (String Y × Vec B Z) Fault → Type 0
+abbrev pub AnswersException : {B Y Z : Type 0} → Form → (Break → B) → List ℕ → Result (String Y × Vec B Z) Fault
+    → Type 0
 AnswersException form listing_of line result =
     MatchResult result (λ x. (item_cause form line ≡ None) ×
-    ((pattern_of_line form.version line ≡ None) × (spelt_as lists exception_of_line line ≡ Some (string_bytes x.0, x.1.items))))
+    ((pattern_of_line form.version line ≡ None)
+    × (spelt_as listing_of exception_of_line line ≡ Some (string_bytes x.0, x.1.items))))
     (λ fault. IsFault fault (item_cause form line))
 
 -- From a least one on, places ascend on the boundaries of a text.

@@ -46,5 +46,6 @@ pub record IsFrozen {E : Type 0} (tree : Tree E) (bases : List ℕ) (cells : Lis
   pub room : (i : ℕ) → i < length tree.texts → slice_index bases i + 255 < length cells
   pub sound : (i b j : ℕ) → i < length tree.texts → edge_in bases cells i b ≡ Some j
       → (j < length tree.texts) × (node_text tree j ≡ node_text tree i ++ b ∷ [])
-  pub complete : (i b j : ℕ) → i < length tree.texts → j < length tree.texts → node_text tree j ≡ node_text tree i ++ b ∷ []
+  pub complete : (i b j : ℕ) → i < length tree.texts → j < length tree.texts
+      → node_text tree j ≡ node_text tree i ++ b ∷ []
       → edge_in bases cells i b ≡ Some j

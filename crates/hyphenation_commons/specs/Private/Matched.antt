@@ -33,7 +33,8 @@ left_at place [] = []
 left_at place (b ∷ rest) = if b.0 == place then rest else b ∷ rest
 
 -- The entries that one pass over values and listed changes makes, and the listed ones that it leaves.
-abbrev pub matched_entries : {C : Type 0} → (Option Changed → C) → List (ℕ × ℕ) → List (ℕ × Option Changed) → List (Entry C)
+abbrev pub matched_entries : {C : Type 0} → (Option Changed → C) → List (ℕ × ℕ) → List (ℕ × Option Changed)
+    → List (Entry C)
 matched_entries payload_of [] listed = []
 matched_entries payload_of (v ∷ values) listed =
     record { place = v.0; value = v.1; change = payload_of (first_at v.0 listed) }

@@ -8,7 +8,8 @@ use Rattle.hyphenation_commons.specs.Trie.{Tree, node_text}
 
 -- With one node more, of no key.
 abbrev pub with_child : {E : Type 0} → Tree E → ℕ → ℕ → Tree E
-with_child t node byte = record { texts = t.texts ++ (node_text t node ++ byte ∷ []) ∷ []; entries = t.entries ++ None ∷ [] }
+with_child t node byte =
+    record { texts = t.texts ++ (node_text t node ++ byte ∷ []) ∷ []; entries = t.entries ++ None ∷ [] }
 
 -- With at most one node more, of that text and of no key.
 abbrev pub Grows : {E : Type 0} → Tree E → Tree E → List ℕ → Type 0

@@ -31,7 +31,8 @@ pub fn apply_edit<C: Payload, B: Listing>(
     edit: &str,
 ) -> Result<bool, AllocError>
     ensures good { IfOk result (λ good. good ≡ is_good_edit kind edit.now) }
-    ensures done { IfOk result (λ good. IsTrue good → dictionary.new ≡ after_edit B.listing_of dictionary.old edit.now) }
+    ensures done { IfOk result (λ good. IsTrue good
+        → dictionary.new ≡ after_edit B.listing_of dictionary.old edit.now) }
     ensures refused { IfOk result (λ good. IsTrue (not good) → dictionary.new ≡ dictionary.old) }
     ensures err { OnErr result (dictionary.new ≡ dictionary.old) }
 {

@@ -10,7 +10,8 @@ ghost use Rattle.hyphenation_commons.specs.declared.grammar.Cause.TheVariants.{C
 
 /// A change is whole, belongs to a value or a listed place, and keeps within the key or the word.
 fn changes()
-    ensures refused { map (judged extended_first) (codes "p a1b 1" ∷ codes "p a1b 0,0,0,0,\\e" ∷ codes "p a1b 1,2,0,0,\\e" ∷ codes "e ab 1,0,0" ∷ codes "e ab 1,0,0,0," ∷ codes "e ab 1,0,0,3,xy" ∷ [])
+    ensures refused { map (judged extended_first) (codes "p a1b 1" ∷ codes "p a1b 0,0,0,0,\\e"
+        ∷ codes "p a1b 1,2,0,0,\\e" ∷ codes "e ab 1,0,0" ∷ codes "e ab 1,0,0,0," ∷ codes "e ab 1,0,0,3,xy" ∷ [])
         ≡ Some Change ∷ Some Change ∷ Some Change ∷ Some Change ∷ Some Change ∷ Some Change ∷ [] }
     ensures earlier { map (judged extended_first) (codes "e ab x,0" ∷ codes "e ab 3,0,0" ∷ [])
         ≡ Some Number ∷ Some Place ∷ [] }
@@ -52,8 +53,10 @@ fn braces()
         ≡ Some (codes "ab", record { place = 1; value = 255; change = None } ∷ []) }
     ensures letters { pattern_of_line Second (codes "p \\{1\\}")
         ≡ Some (codes "{}", record { place = 1; value = 1; change = None } ∷ []) }
-    ensures bad { map (judged standard_second) (codes "p a{9}b" ∷ codes "p a{010}b" ∷ codes "p a{256}b" ∷ codes "p a{}b" ∷ codes "p a{10" ∷ codes "p a}b" ∷ codes "p {1\\0}" ∷ codes "p {10\\}" ∷ codes "p }12" ∷ [])
-        ≡ Some Value ∷ Some Value ∷ Some Value ∷ Some Value ∷ Some Value ∷ Some Value ∷ Some Value ∷ Some Value ∷ Some Value ∷ [] }
+    ensures bad { map (judged standard_second) (codes "p a{9}b" ∷ codes "p a{010}b" ∷ codes "p a{256}b" ∷ codes "p a{}b"
+        ∷ codes "p a{10" ∷ codes "p a}b" ∷ codes "p {1\\0}" ∷ codes "p {10\\}" ∷ codes "p }12" ∷ [])
+        ≡ Some Value ∷ Some Value ∷ Some Value ∷ Some Value ∷ Some Value ∷ Some Value ∷ Some Value ∷ Some Value
+        ∷ Some Value ∷ [] }
     ensures other { map (judged standard_second)
         (codes "p a{10}{11}b" ∷ codes "p a1{10}b" ∷ codes "p {10}" ∷ codes "e a\\{b" ∷ [])
         ≡ Some Pattern ∷ Some Pattern ∷ Some NoLetters ∷ Some Token ∷ [] }
