@@ -16,6 +16,7 @@ use Rattle.hyphenation.specs.declared.engine.RunError.TheVariants.{Dictionary, E
 use Rattle.std.specs.IoError.{error_kind}
 use Rattle.std.specs.declared.io.ErrorKind.TheVariants.{OutOfMemory}
 use Rattle.hyphenation.specs.Fitting.{fitted_breaks_of}
+use Rattle.hyphenation.specs.Load.{TellsIn}
 use Rattle.hyphenation.specs.Opportunities.{no_change, own_change, own_break, rules_of, all_breaks_of}
 use Rattle.hyphenation.specs.Scoring.{values}
 
@@ -36,19 +37,11 @@ values_by Extended bytes word = values (keys_of (extended_contents bytes)) word
 abbrev pub IsAccepted : (List ℕ → Option (ℕ × Cause)) → (List ℕ → List ℕ) → List ℕ → List ℕ → Type 0
 IsAccepted refusal language asked bytes = (refusal bytes ≡ None) × (language bytes ≡ asked)
 
--- Why a dictionary could not be had: the refusal of its text, a fault of its reading, or another language; never want of memory.
-abbrev pub IsRefused : (List ℕ → Option (ℕ × Cause)) → (List ℕ → List ℕ) → List ℕ → List ℕ → Error → Type 0
-IsRefused refusal language asked bytes (Deserialization line cause) = refusal bytes ≡ Some (line, cause)
-IsRefused refusal language asked bytes (IO e) = Unit {0}
-IsRefused refusal language asked bytes (LanguageMismatch expected found) =
-    (refusal bytes ≡ None) × (language bytes ≡ found) × (expected ≡ asked) × (found ≢ asked)
-IsRefused refusal language asked bytes (NoMemory e) = ⊥
-
 -- A run over a dictionary's bytes ends well, or at the writing, exactly where the text is accepted and of the asked language.
 abbrev pub Runs : {X : Type 0} → (List ℕ → Option (ℕ × Cause)) → (List ℕ → List ℕ) → List ℕ → List ℕ → Result X RunError
     → Type 0
 Runs refusal language asked bytes (Ok done) = IsAccepted refusal language asked bytes
-Runs refusal language asked bytes (Err (Dictionary e)) = IsRefused refusal language asked bytes e
+Runs refusal language asked bytes (Err (Dictionary e)) = TellsIn refusal language asked bytes e
 Runs refusal language asked bytes (Err (Edit number)) = ⊥
 Runs refusal language asked bytes (Err TextNotUtf8) = ⊥
 Runs refusal language asked bytes (Err (Input e)) = ⊥
@@ -91,7 +84,7 @@ breaks_by Extended bytes edits word =
 -- The dictionary is judged first: only where it is accepted, and of the asked language, anything else is answered.
 abbrev pub JudgesDictionary : {X : Type 0} → (List ℕ → Option (ℕ × Cause)) → List ℕ → List ℕ → Result X RunError
     → Type 0
-JudgesDictionary refusal asked bytes (Err (Dictionary e)) = IsRefused refusal language_in asked bytes e
+JudgesDictionary refusal asked bytes (Err (Dictionary e)) = TellsIn refusal language_in asked bytes e
 JudgesDictionary refusal asked bytes (Err Memory) = Unit {0}
 JudgesDictionary refusal asked bytes _ = IsAccepted refusal language_in asked bytes
 

@@ -89,8 +89,10 @@ said_of_word listing_of edit =
 -- The dictionary in which the breaks of a line are listed for its word, or its word is no exception.
 abbrev pub with_exception : {C B : Type 0} → (Break → B) → Contents C B → List ℕ → Contents C B
 with_exception listing_of contents line =
-    record contents { exceptions = finite.insert contents.exceptions (word_of_line line)
-    (map listing_of (breaks_of_line line)) }
+    record contents {
+      exceptions = finite.insert contents.exceptions (word_of_line line)
+          (map listing_of (breaks_of_line line));
+    }
 
 abbrev pub without_exception : {C B : Type 0} → Contents C B → List ℕ → Contents C B
 without_exception contents line = record contents { exceptions = finite.remove contents.exceptions (word_of_line line) }

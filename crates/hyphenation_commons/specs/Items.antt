@@ -45,8 +45,11 @@ word_spelt line = if is_exception line then Some (word_of_line line) else None
 
 -- What a later token lists: a place, with a change where it has commas.
 abbrev pub break_of_token : List ℕ → Break
-break_of_token token = record { place = place_of token; change = if has_comma token then Some (change_of token)
-    else None }
+break_of_token token = record {
+  place = place_of token;
+  change = if has_comma token then Some (change_of token)
+      else None;
+}
 
 abbrev pub breaks_of_line : List ℕ → List Break
 breaks_of_line line = map break_of_token (later_tokens_of line)

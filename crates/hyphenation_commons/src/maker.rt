@@ -11,7 +11,7 @@ ghost use Rattle.hyphenation_commons.specs.Maker.{map_of_pairs, pair_of, fits_ke
 ghost use Rattle.hyphenation_commons.specs.Trie.{EachBeginsKey};
 
 use crate::breaks::stands_in;
-use crate::dictionary::{Payload, Dictionary, Entry, Listing};
+use crate::dictionary::{Dictionary, Entry, Listing, Payload};
 use crate::exceptions::Exceptions;
 use crate::language::Language;
 use crate::trie::Trie;

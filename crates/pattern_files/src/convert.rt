@@ -9,7 +9,7 @@ use crate::notes::Note;
 use crate::parts::Parts;
 use crate::tex::words_of;
 use crate::told::notes_of;
-use hyphenation_commons::dictionary::{Payload, Dictionary, Listing};
+use hyphenation_commons::dictionary::{Dictionary, Listing, Payload};
 use hyphenation_commons::language::Language;
 use std::alloc::Global;
 

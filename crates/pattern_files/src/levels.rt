@@ -4,7 +4,7 @@ use crate::change::{Change, change_of};
 use crate::fault::LineFault;
 use crate::notes::{Note, Spot, What, add_note};
 use crate::parts::Parts;
-use hyphenation_commons::dictionary::{Payload, Entry, Listing};
+use hyphenation_commons::dictionary::{Entry, Listing, Payload};
 use hyphenation_commons::extended::Subregion;
 use hyphenation_commons::maker::fits_key;
 use std::alloc::{AllocError, Global};

@@ -12,7 +12,7 @@ use crate::convert::Converted;
 use crate::fault::{Cause, LineFault, Refusal};
 use crate::levels::Levels;
 use crate::notes::What;
-use hyphenation_commons::dictionary::{Payload, Listing};
+use hyphenation_commons::dictionary::{Listing, Payload};
 use hyphenation_commons::language::Language;
 use std::alloc::Global;
 

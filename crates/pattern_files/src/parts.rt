@@ -11,7 +11,7 @@ ghost use Rattle.pattern_files.specs.Spelling.{word_cause, IsWordFault};
 use crate::fault::{LineFault, WordFault};
 use crate::group::{Group, Word};
 use crate::spelling::{read_exception, read_pattern};
-use hyphenation_commons::dictionary::{Payload, Dictionary, Entry, Listing};
+use hyphenation_commons::dictionary::{Dictionary, Entry, Listing, Payload};
 use hyphenation_commons::language::Language;
 use hyphenation_commons::maker::make;
 use std::alloc::{AllocError, Global};

@@ -14,7 +14,7 @@ ghost use Rattle.pattern_files.specs.declared.group.Group.TheVariants.{Patterns,
 use crate::fault::{Cause, WordFault};
 use crate::group::Group;
 use hyphenation::case_folding::refold;
-use hyphenation_commons::dictionary::{Payload, Dictionary, Entry, Listing};
+use hyphenation_commons::dictionary::{Dictionary, Entry, Listing, Payload};
 use hyphenation_commons::maker::fits_key;
 use std::alloc::{AllocError, Global};
 

@@ -52,12 +52,12 @@ pub(super) trait WholeTexts: Drop {
     /// Does what an edit says. Whether the edit is good.
     fn edit(&mut self, alloc: Global, edit: &str) -> Result<bool, AllocError>
         ensures good { IfOk result (λ good. good ≡ is_good_edit kind edit.now) }
-        ensures done { IfOk result (λ good. IsTrue good → self.new ≡ after_edit self.old edit.now) };
+        ensures done { IfOk result (λ good. IsTrue good → self.new ≡ edited self.old edit.now) };
 
     /// The text with its words hyphenated.
     fn hyphenated(&self, alloc: Global, mark: &str, text: &str) -> Result<String, AllocError>
         ensures { IfOk result (λ output. string_bytes output
-            ≡ hyphenated_text (all_breaks_of self.now) mark.now text.now) };
+            ≡ hyphenated_text (breaks_of self.now) mark.now text.now) };
 }
 
 impl WholeTexts for Standard {

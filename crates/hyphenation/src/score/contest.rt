@@ -15,7 +15,7 @@ ghost use Rattle.hyphenation.specs.Private.Winners.{best_of, meets, Sane, Asked}
 
 use super::framed_at;
 use hyphenation_commons::breaks::Break;
-use hyphenation_commons::dictionary::{Payload, Dictionary, Entry};
+use hyphenation_commons::dictionary::{Dictionary, Entry, Payload};
 use hyphenation_commons::trie::LookUps;
 use hyphenation_commons::trie::automaton::Automaton;
 use std::alloc::{AllocError, Global};

@@ -13,7 +13,7 @@ ghost use Rattle.hyphenation.specs.Private.OnePass.{entries_of_ends};
 ghost use Rattle.hyphenation.specs.Scoring.{frame, greatest_value, values};
 
 use hyphenation_commons::breaks::Break;
-use hyphenation_commons::dictionary::{Payload, Dictionary, Entry};
+use hyphenation_commons::dictionary::{Dictionary, Entry, Payload};
 use hyphenation_commons::trie::LookUps;
 use hyphenation_commons::trie::automaton::Automaton;
 use std::alloc::{AllocError, Global};

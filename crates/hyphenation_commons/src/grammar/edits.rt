@@ -15,7 +15,7 @@ ghost use Rattle.hyphenation_commons.specs.Edits.{FourTests, LastDecides, Versio
 ghost use Rattle.hyphenation_commons.specs.Private.Edits.{ReadsException};
 ghost use Rattle.hyphenation_commons.specs.Edits.{as_line, after_edit, has_feed, is_good_edit, is_sound_line, is_word_alone, with_exception, without_exception};
 
-use crate::dictionary::{Payload, Dictionary, Listing};
+use crate::dictionary::{Dictionary, Listing, Payload};
 use crate::grammar::form::{Form, Kind, Version};
 use crate::grammar::items::{Fault, exception_of};
 use std::alloc::{AllocError, Global};

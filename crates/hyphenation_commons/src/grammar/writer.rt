@@ -14,7 +14,7 @@ ghost use Rattle.hyphenation_commons.specs.declared.grammar.tokens.Escapes.TheVa
 ghost use Rattle.hyphenation_commons.specs.declared.grammar.tokens.PatternElement.TheVariants.{Value};
 ghost use Rattle.hyphenation_commons.specs.Tokens.{pattern_escapes};
 
-use crate::dictionary::{Payload, Dictionary, Entry, Extended, Listing, Standard};
+use crate::dictionary::{Dictionary, Entry, Extended, Listing, Payload, Standard};
 use crate::extended::Subregion;
 use crate::grammar::form::{Form, Kind, Version};
 use crate::grammar::laws::written_is_read_again;
@@ -225,7 +225,10 @@ fn push_patterns<C: Payload>(
 }
 
 /// The lines of words, in the order that they have here.
-fn push_exceptions<B: Listing>(text: &mut Vec<u8>, words: &[(&[u8], &[B])]) -> Result<(), AllocError>
+fn push_exceptions<B: Listing>(
+    text: &mut Vec<u8>,
+    words: &[(&[u8], &[B])],
+) -> Result<(), AllocError>
     ensures { OnOk result (
         text.new.items ≡ text.old.items ++ with_line_feeds (map (word_line B.meaning) (pair_views words.now))) }
 {
