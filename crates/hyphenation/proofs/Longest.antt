@@ -8,7 +8,7 @@ use Rattle.std.specs.FinMap as finite
 use Rattle.std.specs.FinMap.{contains_key-keys}
 use Rattle.hyphenation_commons.specs.Dictionary.{Contents, keys_of, greatest, longest_key}
 use Rattle.hyphenation.proofs.Greatest.{greatest_from}
-use Rattle.hyphenation_commons.proofs.TrieNodes.{same_text}
+use Rattle.hyphenation_trie.proofs.TrieNodes.{same_text}
 
 either_true : (a b : Bool) → (a || b) ≡ true → a ≡ false → b ≡ true
 either_true true b h e = absurd cc

@@ -8,10 +8,10 @@ use Rattle.std.proofs.lemmas.List.{length-append, take_more, length-take, length
 use Rattle.std.proofs.lemmas.Grind.{flat_map-append, common_steps}
 use Rattle.hyphenation_commons.specs.declared.dictionary.Entry.{Entry}
 use Rattle.hyphenation_commons.specs.Dictionary.{Patterns}
-use Rattle.hyphenation_commons.specs.Trie.{Tree, node_text, key_at, EachBeginsKey}
-use Rattle.hyphenation_commons.specs.Links.{Ends, IsLongest, IsReport}
-use Rattle.hyphenation_commons.specs.Private.Links.{keys_in}
-use Rattle.hyphenation_commons.proofs.KeyNodes.{node_of_key}
+use Rattle.hyphenation_trie.specs.Trie.{Tree, node_text, key_at, EachBeginsKey}
+use Rattle.hyphenation_trie.specs.Links.{Ends, IsLongest, IsReport}
+use Rattle.hyphenation_trie.specs.Private.Links.{keys_in}
+use Rattle.hyphenation_trie.proofs.KeyNodes.{node_of_key}
 use Rattle.hyphenation.specs.Scoring.{frame, greatest_value, bearing, bearing_from, bearers, values}
 use Rattle.hyphenation.specs.OnePass.{keys_ending, occurrences}
 use Rattle.hyphenation.specs.Private.OnePass.{entries_of_end, entries_of_ends}

@@ -4,11 +4,11 @@ use Rattle.std.specs.List.{range_with_len, flat_map, sum_by}
 use Rattle.std.proofs.Math.Nat.{mul-le-mul_right}
 use Rattle.std.proofs.lemmas.List.{length-take, ext_get_or}
 use Rattle.std.proofs.lemmas.List.FromFn.{length-map-range_with_len, get_or-map-range_with_len}
-use Rattle.hyphenation_commons.specs.Trie.{Tree, node_text, key_at, IsTrie, EachBeginsKey}
-use Rattle.hyphenation_commons.specs.Links.{IsLongest}
-use Rattle.hyphenation_commons.specs.Private.Links.{keys_in}
+use Rattle.hyphenation_trie.specs.Trie.{Tree, node_text, key_at, IsTrie, EachBeginsKey}
+use Rattle.hyphenation_trie.specs.Links.{IsLongest}
+use Rattle.hyphenation_trie.specs.Private.Links.{keys_in}
 use Rattle.hyphenation_commons.specs.declared.dictionary.Entry.{Entry}
-use Rattle.hyphenation_commons.proofs.Suffixes.{longest_more, Ends-refl}
+use Rattle.hyphenation_trie.proofs.Suffixes.{longest_more, Ends-refl}
 use Rattle.hyphenation.specs.Scoring.{frame, greatest_value, value_at, values}
 use Rattle.hyphenation.specs.OnePass.{keys_ending, occurrences}
 use Rattle.hyphenation.specs.Private.OnePass.{entries_of_ends}

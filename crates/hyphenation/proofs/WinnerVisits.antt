@@ -4,9 +4,9 @@ use Rattle.std.specs.Prelude.{unwrap_or}
 use Rattle.std.proofs.lemmas.Bool.{cases_eq, cases_lt}
 use Rattle.std.proofs.lemmas.List.{length-take, length-drop}
 use Rattle.hyphenation_commons.specs.declared.dictionary.Entry.{Entry}
-use Rattle.hyphenation_commons.specs.Trie.{Tree, node_text, key_at}
-use Rattle.hyphenation_commons.specs.Links.{Ends, IsLongest, IsReport}
-use Rattle.hyphenation_commons.proofs.LinksMade.{report_next}
+use Rattle.hyphenation_trie.specs.Trie.{Tree, node_text, key_at}
+use Rattle.hyphenation_trie.specs.Links.{Ends, IsLongest, IsReport}
+use Rattle.hyphenation_trie.proofs.LinksMade.{report_next}
 use Rattle.hyphenation.specs.Scoring.{greatest_value, first_greatest, bearing, bearers}
 use Rattle.hyphenation.specs.Winners.{IsPair, Best, Holds}
 use Rattle.hyphenation.specs.Private.Winners.{meets, Asked}

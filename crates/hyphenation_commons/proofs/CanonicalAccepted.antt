@@ -19,7 +19,7 @@ use Rattle.hyphenation_commons.specs.Reading.{map_of_lines}
 use Rattle.hyphenation_commons.specs.declared.grammar.Cause.{Cause}
 use Rattle.hyphenation_commons.specs.declared.grammar.form.Form.{Form}
 use Rattle.hyphenation_commons.proofs.LineInvariant.{both_left, both_right}
-use Rattle.hyphenation_commons.proofs.TrieNodes.{same_text}
+use Rattle.hyphenation_trie.proofs.TrieNodes.{same_text}
 
 -- ---- The entries of a finite map.
 

@@ -12,7 +12,7 @@ use Rattle.hyphenation_commons.specs.Break.{Break, Change, is_boundary}
 use Rattle.hyphenation_commons.specs.Dictionary.{Contents}
 use Rattle.hyphenation_commons.specs.Invariant.{IsDictionary, IsException, are_listed, lists_within, fits_usize, can_be_said}
 use Rattle.hyphenation_commons.proofs.PatternsLemmas.{same_test}
-use Rattle.hyphenation_commons.proofs.TrieNodes.{same_text, chosen}
+use Rattle.hyphenation_trie.proofs.TrieNodes.{same_text, chosen}
 
 pub IsKept-insert : {C B : Type 0} (change_of : C → Option Change) (break_of : B → Break) (contents : Contents C B) (word : List ℕ) (listed : List B)
     → IsDictionary change_of break_of contents → IsException break_of word listed → IsDictionary change_of break_of (record contents { exceptions = finite.insert contents.exceptions word listed })

@@ -30,7 +30,7 @@ use Rattle.hyphenation_commons.specs.declared.grammar.reader.Refusal.TheVariants
 use Rattle.hyphenation_commons.proofs.LineCauses.{causes, by_tokens, front, off}
 use Rattle.hyphenation_commons.proofs.JudgingLine.{halves}
 use Rattle.hyphenation_commons.proofs.LineInvariant.{found_none, both_left, both_right}
-use Rattle.hyphenation_commons.proofs.TrieNodes.{same_text}
+use Rattle.hyphenation_trie.proofs.TrieNodes.{same_text}
 
 -- a line of neither sort
 pub record IsIdle (line : List ℕ) : Type 0 where

@@ -15,7 +15,7 @@ use Rattle.hyphenation_commons.specs.Invariant.{IsPattern, IsException, are_list
 use Rattle.hyphenation_commons.specs.Maker.{with_pair, map_of_pairs, pair_of, fits_key}
 use Rattle.hyphenation_commons.specs.declared.dictionary.Entry.{Entry}
 use Rattle.hyphenation_commons.proofs.PatternsLemmas.{same_test}
-use Rattle.hyphenation_commons.proofs.TrieNodes.{same_text, chosen}
+use Rattle.hyphenation_trie.proofs.TrieNodes.{same_text, chosen}
 
 -- each text of a map, with what is said of it, is so
 abbrev pub Holds : {X : Type 0} → (List ℕ → X → Type 0) → TextMap X → Type 0

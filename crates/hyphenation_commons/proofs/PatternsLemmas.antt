@@ -7,10 +7,11 @@ use Rattle.std.specs.Cmp.Lexicographic.{slice_cmp, pointwise, nat_list_cmp_total
 use Rattle.std.specs.FinMap as finite
 use Rattle.std.specs.FinMap.{find, get-from_entries, get-insert, same_map, contains_key-keys, slice_cmp-IsAntisymmetric, nat_cmp-IsAntisymmetric}
 use Rattle.hyphenation_commons.specs.Dictionary.{greatest}
-use Rattle.hyphenation_commons.specs.Private.Views.{pairs_of, patterns_of}
-use Rattle.hyphenation_commons.specs.Trie.{Tree, entries_at, key_at, IsTrie, EachBeginsKey}
-use Rattle.hyphenation_commons.proofs.KeyNodes.{node_of_key}
-use Rattle.hyphenation_commons.proofs.TrieNodes.{AllApart, apart_rest, apart_first, same_text}
+use Rattle.hyphenation_commons.specs.Private.Views.{patterns_of}
+use Rattle.hyphenation_trie.specs.Keys.{pairs_of}
+use Rattle.hyphenation_trie.specs.Trie.{Tree, entries_at, key_at, IsTrie, EachBeginsKey}
+use Rattle.hyphenation_trie.proofs.KeyNodes.{node_of_key}
+use Rattle.hyphenation_trie.proofs.TrieNodes.{AllApart, apart_rest, apart_first, same_text}
 
 -- the test by which a finite map of texts looks up is the equality of their bytes
 pub same_test : (a b : List ℕ) → eq_by_cmp (slice_cmp nat_cmp) a b ≡ pointwise nat_eq b a

@@ -9,7 +9,7 @@ use Rattle.std.proofs.lemmas.List.{length-replicate}
 use Rattle.hyphenation_commons.specs.Dictionary.{TextMap}
 use Rattle.hyphenation_commons.specs.Private.Spots.{spots, spot, AreMarked}
 use Rattle.hyphenation_commons.proofs.PatternsLemmas.{same_test}
-use Rattle.hyphenation_commons.proofs.TrieNodes.{same_text, chosen}
+use Rattle.hyphenation_trie.proofs.TrieNodes.{same_text, chosen}
 
 pub marked_none : {X : Type 0} (marks : List Bool) (words : TextMap X) → marks ≡ replicate spots false → words ≡ finite.empty → AreMarked marks words
 marked_none marks words is none = record {

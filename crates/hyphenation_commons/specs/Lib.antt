@@ -4,9 +4,6 @@ pub mod Dictionary
 pub mod Invariant
 pub mod Maker
 pub mod Canonical
-pub mod Counts
-pub mod Trie
-pub mod Links
 pub mod Form
 pub mod Lines
 pub mod Tokens

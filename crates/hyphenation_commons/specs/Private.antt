@@ -1,22 +1,16 @@
 -- What private functions and proofs are stated by. No contract of a public call cites it, so it is not for signing.
 pub mod Builder
-pub mod Chains
 pub mod Edits
 pub mod Examples
-pub mod Growing
 pub mod Views
 pub mod Judging
 pub mod Language
 pub mod Lines
-pub mod Links
 pub mod Matched
 pub mod Ordered
 pub mod Parsed
 pub mod Refusals
-pub mod Rows
 pub mod LineAnswers
 pub mod Spots
-pub mod States
 pub mod Tokens
-pub mod Trie
 pub mod Writing

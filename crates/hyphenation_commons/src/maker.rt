@@ -8,13 +8,13 @@ ghost use Rattle.std.specs.String.{string_bytes};
 ghost use Rattle.hyphenation_commons.specs.Private.Views.{patterns_of};
 ghost use Rattle.hyphenation_commons.specs.Invariant.{has_letter, are_entries, are_listed};
 ghost use Rattle.hyphenation_commons.specs.Maker.{map_of_pairs, pair_of, fits_key};
-ghost use Rattle.hyphenation_commons.specs.Trie.{EachBeginsKey};
+ghost use Rattle.hyphenation_trie.specs.Trie.{EachBeginsKey};
 
 use crate::breaks::stands_in;
 use crate::dictionary::{Dictionary, Entry, Listing, Payload};
 use crate::exceptions::Exceptions;
 use crate::language::Language;
-use crate::trie::Trie;
+use hyphenation_trie::Trie;
 use std::alloc::{AllocError, Global};
 
 /// Whether a key has a character other than a dot.

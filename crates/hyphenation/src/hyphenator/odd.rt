@@ -3,13 +3,13 @@
 ghost use Rattle.std.specs.Prelude.{◌≡◌, ◌≢◌, ◌%◌, ◌+◌, ◌-◌, ◌<◌, ◌≤◌, ◌&&◌, ℕ, IfOk, length, map, filter, slice_index};
 ghost use Rattle.std.specs.List.{range_with_len};
 ghost use Rattle.hyphenation_commons.specs.Break.{plain};
-ghost use Rattle.hyphenation_commons.specs.Trie.{key_at, EachBeginsKey};
+ghost use Rattle.hyphenation_trie.specs.Trie.{key_at, EachBeginsKey};
 ghost use Rattle.hyphenation.specs.Opportunities.{is_odd, within, no_change, breaks_within, allowed_by};
 ghost use Rattle.hyphenation.specs.Scoring.{values};
 
 use crate::score::{LookUps, raise_all};
 use hyphenation_commons::dictionary::Entry;
-use hyphenation_commons::trie::automaton::Automaton;
+use hyphenation_trie::Automaton;
 use std::alloc::{AllocError, Global};
 
 /// The first place from one on, and no greater than an end, that has an odd value; the place after the end where none

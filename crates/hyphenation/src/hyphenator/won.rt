@@ -2,7 +2,7 @@
 
 ghost use Rattle.std.specs.Prelude.{◌≡◌, IfOk, map, option_copied};
 ghost use Rattle.std.specs.Option.{option_map};
-ghost use Rattle.hyphenation_commons.specs.Trie.{key_at, EachBeginsKey};
+ghost use Rattle.hyphenation_trie.specs.Trie.{key_at, EachBeginsKey};
 ghost use Rattle.hyphenation.specs.Opportunities.{own_change, breaks_within, allowed_by};
 ghost use Rattle.hyphenation.specs.Private.Opportunities.{lent_break, won_at, won_within};
 
@@ -10,7 +10,7 @@ use super::found::is_within;
 use crate::score::{LookUps, winners_in};
 use hyphenation_commons::dictionary::Entry;
 use hyphenation_commons::extended::Subregion;
-use hyphenation_commons::trie::automaton::Automaton;
+use hyphenation_trie::Automaton;
 use std::alloc::{AllocError, Global};
 
 /// The break at a place that is won, if its value is odd and the place within bounds.

@@ -5,9 +5,9 @@
 
 ghost use Rattle.std.specs.Prelude.{◌≡◌, ◌+◌, ◌-◌, ◌*◌, ◌<◌, ◌≤◌, ◌^◌, ◌==◌, if◌then◌else◌, ℕ, List, None, Some, length, filter, map, take, option_copied, IfOk, OnOk};
 ghost use Rattle.hyphenation_commons.specs.Dictionary.{keys_of, longest_key};
-ghost use Rattle.hyphenation_commons.specs.Links.{IsLongest};
-ghost use Rattle.hyphenation_commons.specs.Private.Links.{keys_in};
-ghost use Rattle.hyphenation_commons.specs.Trie.{node_text, key_at, EachBeginsKey};
+ghost use Rattle.hyphenation_trie.specs.Links.{IsLongest};
+ghost use Rattle.hyphenation_trie.specs.Private.Links.{keys_in};
+ghost use Rattle.hyphenation_trie.specs.Trie.{node_text, key_at, EachBeginsKey};
 ghost use Rattle.hyphenation.specs.Scoring.{frame, first_greatest, winners};
 ghost use Rattle.hyphenation.specs.OnePass.{occurrences};
 ghost use Rattle.hyphenation.specs.Winners.{Holds};
@@ -16,8 +16,8 @@ ghost use Rattle.hyphenation.specs.Private.Winners.{best_of, meets, Sane, Asked}
 use super::framed_at;
 use hyphenation_commons::breaks::Break;
 use hyphenation_commons::dictionary::{Dictionary, Entry, Payload};
-use hyphenation_commons::trie::LookUps;
-use hyphenation_commons::trie::automaton::Automaton;
+use hyphenation_trie::LookUps;
+use hyphenation_trie::Automaton;
 use std::alloc::{AllocError, Global};
 
 /// The better of what is best so far, with where its key starts, and an entry of a key that starts there.

@@ -5,17 +5,17 @@
 
 ghost use Rattle.std.specs.Prelude.{◌≡◌, ◌+◌, ◌-◌, ◌*◌, ◌<◌, ◌≤◌, ◌^◌, ◌==◌, ◌++◌, ◌∷◌, [], if◌then◌else◌, max, ℕ, List, None, length, filter, slice_index, IfOk, OnOk};
 ghost use Rattle.hyphenation_commons.specs.Dictionary.{keys_of, longest_key};
-ghost use Rattle.hyphenation_commons.specs.Links.{IsLongest};
-ghost use Rattle.hyphenation_commons.specs.Private.Links.{keys_in};
-ghost use Rattle.hyphenation_commons.specs.Trie.{node_text, key_at, EachBeginsKey};
+ghost use Rattle.hyphenation_trie.specs.Links.{IsLongest};
+ghost use Rattle.hyphenation_trie.specs.Private.Links.{keys_in};
+ghost use Rattle.hyphenation_trie.specs.Trie.{node_text, key_at, EachBeginsKey};
 ghost use Rattle.hyphenation.specs.OnePass.{occurrences};
 ghost use Rattle.hyphenation.specs.Private.OnePass.{entries_of_ends};
 ghost use Rattle.hyphenation.specs.Scoring.{frame, greatest_value, values};
 
 use hyphenation_commons::breaks::Break;
 use hyphenation_commons::dictionary::{Dictionary, Entry, Payload};
-use hyphenation_commons::trie::LookUps;
-use hyphenation_commons::trie::automaton::Automaton;
+use hyphenation_trie::LookUps;
+use hyphenation_trie::Automaton;
 use std::alloc::{AllocError, Global};
 
 /// Raises the value of the place for which `start + place` stands, if that is within the word.

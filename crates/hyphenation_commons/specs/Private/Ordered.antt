@@ -15,7 +15,3 @@ as_texts pairs = finite.from_entries pairs
 
 abbrev pub in_byte_order : {X : Type 0} → List (List ℕ × List X) → List (List ℕ × List X)
 in_byte_order pairs = finite.entries (as_texts pairs)
-
--- Keys with their entries, as they are seen.
-abbrev pub key_views : {E Y : Type 0} → List (Vec ℕ Y × Bor (List E)) → List (List ℕ × List E)
-key_views keys = map (λ key. (key.0.items, key.1.now)) keys

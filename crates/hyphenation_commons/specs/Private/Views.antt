@@ -7,7 +7,8 @@ use Rattle.std.specs.HashMap.{HashMap}
 use Rattle.std.specs.declared.string.String.{String}
 use Rattle.std.specs.declared.vec.Vec.{Vec}
 use Rattle.hyphenation_commons.specs.Dictionary.{Contents, TextMap}
-use Rattle.hyphenation_commons.specs.Trie.{Tree}
+use Rattle.hyphenation_trie.specs.Keys.{pairs_of}
+use Rattle.hyphenation_trie.specs.Trie.{Tree}
 use Rattle.hyphenation_commons.specs.declared.dictionary.Entry.{Entry}
 
 -- An entry is coded as its place, its value and what it carries.
@@ -27,13 +28,6 @@ contents_code {C} {B} code listed =
     (λ v. (v.language, (v.left, (v.right, (v.patterns, v.exceptions)))))
     (λ p. record { language = p.0; left = p.1.0; right = p.1.1.0; patterns = p.1.1.1.0; exceptions = p.1.1.1.1 })
     (λ _. refl)
-
--- The nodes that are keys, each with its entries.
-abbrev pub pairs_of : {E : Type 0} → List (List ℕ) → List (Option (List E)) → List (List ℕ × List E)
-pairs_of [] es = []
-pairs_of (t ∷ ts) [] = []
-pairs_of (t ∷ ts) (None ∷ es) = pairs_of ts es
-pairs_of (t ∷ ts) (Some x ∷ es) = (t, x) ∷ pairs_of ts es
 
 -- The keys of a trie, each with its entries.
 abbrev pub patterns_of : {E : Type 0} → Tree E → TextMap (List E)

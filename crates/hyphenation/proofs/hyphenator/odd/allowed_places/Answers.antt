@@ -1,6 +1,6 @@
 use Rattle.std.proofs.Common.{ℕ, ◌∙◌, arith, replicate}
 use Rattle.std.proofs.lemmas.List.{length-take, get_or-take, get_or-replicate}
-use Rattle.hyphenation_commons.specs.Trie.{key_at}
+use Rattle.hyphenation_trie.specs.Trie.{key_at}
 use Rattle.hyphenation.proofs.OddPlaces.{places_allowed}
 use Rattle.hyphenation.proofs.Standard.{ok_then}
 use Rattle.hyphenation.proofs.hyphenator.odd.allowed_places.Goals as goal

@@ -1,8 +1,8 @@
 use Rattle.std.proofs.Common.{◌≡◌, ℕ, ◌+◌, ◌-◌, ◌<◌, ◌≤◌, length}
 use Rattle.std.specs.Prelude.{IsSome}
-use Rattle.hyphenation_commons.specs.Trie.{node_text, key_at}
-use Rattle.hyphenation_commons.specs.Links.{Ends}
-use Rattle.hyphenation_commons.specs.Private.Links.{keys_in}
+use Rattle.hyphenation_trie.specs.Trie.{node_text, key_at}
+use Rattle.hyphenation_trie.specs.Links.{Ends}
+use Rattle.hyphenation_trie.specs.Private.Links.{keys_in}
 use Rattle.hyphenation.specs.Scoring.{frame}
 use Rattle.hyphenation.specs.Winners.{Holds}
 use Rattle.hyphenation.specs.Private.Winners.{best_of, Asked}

@@ -4,7 +4,7 @@ use Rattle.std.proofs.lemmas.Bool.{cases_eq}
 use Rattle.std.proofs.lemmas.List.{length-map}
 use Rattle.std.specs.Option.{option_copied}
 use Rattle.hyphenation_commons.specs.Dictionary.{keys_of, longest_key}
-use Rattle.hyphenation_commons.specs.Trie.{key_at}
+use Rattle.hyphenation_trie.specs.Trie.{key_at}
 use Rattle.hyphenation.specs.Scoring.{frame, winners}
 use Rattle.hyphenation.specs.OnePass.{occurrences}
 use Rattle.hyphenation.proofs.NoKeys.{none_at_all}

@@ -4,8 +4,8 @@ use Rattle.std.specs.List.{range_with_len, sum_by}
 use Rattle.std.proofs.Math.Nat.{mul-le-mul_right}
 use Rattle.std.proofs.lemmas.List.{length-append, length-take, take_at, length-map, get_or-map, ext_get_or}
 use Rattle.std.proofs.lemmas.List.FromFn.{length-map-range_with_len, get_or-map-range_with_len}
-use Rattle.hyphenation_commons.specs.Trie.{node_text, key_at}
-use Rattle.hyphenation_commons.proofs.Suffixes.{longest_more}
+use Rattle.hyphenation_trie.specs.Trie.{node_text, key_at}
+use Rattle.hyphenation_trie.proofs.Suffixes.{longest_more}
 use Rattle.hyphenation.specs.Scoring.{frame, winner_at}
 use Rattle.hyphenation.specs.OnePass.{keys_ending}
 use Rattle.hyphenation.specs.Winners.{Holds}

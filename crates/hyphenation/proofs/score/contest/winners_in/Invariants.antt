@@ -1,7 +1,7 @@
 use Rattle.std.proofs.Common.{◌≡◌, ◌+◌, ◌-◌, ◌*◌, ◌<◌, ◌≤◌, ℕ, List, None, length, take}
 use Rattle.std.specs.List.{range_with_len, sum_by}
-use Rattle.hyphenation_commons.specs.Trie.{node_text, key_at}
-use Rattle.hyphenation_commons.specs.Links.{IsLongest}
+use Rattle.hyphenation_trie.specs.Trie.{node_text, key_at}
+use Rattle.hyphenation_trie.specs.Links.{IsLongest}
 use Rattle.hyphenation.specs.Scoring.{frame}
 use Rattle.hyphenation.specs.OnePass.{keys_ending}
 use Rattle.hyphenation.specs.Winners.{Holds}

@@ -1,7 +1,7 @@
 use Rattle.std.proofs.Common.{◌≡◌, ◌+◌, ◌<◌, ◌∷◌, [], ℕ, List, max, length, slice_index, refl, ap, sym, subst, ◌∙◌, arith, add-one}
 use Rattle.std.proofs.Math.Seq.{get_or-append_seam}
 use Rattle.std.proofs.lemmas.List.{get_or_append_left}
-use Rattle.hyphenation_commons.specs.Trie.{node_text, key_at}
+use Rattle.hyphenation_trie.specs.Trie.{node_text, key_at}
 use Rattle.hyphenation.specs.Scoring.{frame, greatest_value}
 use Rattle.hyphenation.specs.Private.OnePass.{entries_of_ends}
 use Rattle.hyphenation.proofs.OnePassInvariant.{Passed, passed_none, passed_more, passed_short, passed_room, passed_values, passed_reported}

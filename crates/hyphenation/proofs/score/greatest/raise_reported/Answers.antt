@@ -1,9 +1,9 @@
 use Rattle.std.proofs.Common.{◌≡◌, ◌+◌, ◌-◌, ◌<◌, max, ℕ, Some, length, ap, refl, sym, arith, ◌∙◌, slice_index}
 use Rattle.std.specs.List.{flat_map, range_with_len}
 use Rattle.std.proofs.lemmas.List.{length-drop}
-use Rattle.hyphenation_commons.specs.Trie.{node_text, key_at}
-use Rattle.hyphenation_commons.specs.Private.Links.{keys_in}
-use Rattle.hyphenation_commons.proofs.Suffixes.{depth_pos, Ends-whole, Ends-trans}
+use Rattle.hyphenation_trie.specs.Trie.{node_text, key_at}
+use Rattle.hyphenation_trie.specs.Private.Links.{keys_in}
+use Rattle.hyphenation_trie.proofs.Suffixes.{depth_pos, Ends-whole, Ends-trans}
 use Rattle.hyphenation.specs.Scoring.{greatest_value}
 use Rattle.hyphenation.specs.Private.OnePass.{entries_of_end}
 use Rattle.hyphenation.proofs.OnePass.{piece_is, none_next, visit_more, visit_first, counted_first, counted_more}

@@ -1,9 +1,9 @@
 use Rattle.std.proofs.Common.{◌≡◌, ℕ, ◌+◌, ◌-◌, ◌<◌, ◌≤◌, max, length, slice_index}
 use Rattle.std.specs.Prelude.{IsSome}
 use Rattle.std.specs.List.{flat_map, range_with_len}
-use Rattle.hyphenation_commons.specs.Trie.{node_text, key_at}
-use Rattle.hyphenation_commons.specs.Links.{Ends}
-use Rattle.hyphenation_commons.specs.Private.Links.{keys_in}
+use Rattle.hyphenation_trie.specs.Trie.{node_text, key_at}
+use Rattle.hyphenation_trie.specs.Links.{Ends}
+use Rattle.hyphenation_trie.specs.Private.Links.{keys_in}
 use Rattle.hyphenation.specs.Scoring.{greatest_value}
 use Rattle.hyphenation.specs.Private.OnePass.{entries_of_end}
 use Rattle.hyphenation.proofs.score.greatest.raise_reported.Given as goal

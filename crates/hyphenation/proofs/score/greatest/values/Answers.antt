@@ -2,7 +2,7 @@ use Rattle.std.proofs.Common.{◌≡◌, ◌+◌, ◌-◌, ℕ, length, sym, ap,
 use Rattle.std.proofs.Math.Nat.{mul-le-mul_right}
 use Rattle.std.proofs.lemmas.Bool.{cases_eq}
 use Rattle.hyphenation_commons.specs.Dictionary.{keys_of, longest_key}
-use Rattle.hyphenation_commons.specs.Trie.{key_at}
+use Rattle.hyphenation_trie.specs.Trie.{key_at}
 use Rattle.hyphenation.specs.Scoring.{frame, values}
 use Rattle.hyphenation.specs.OnePass.{occurrences}
 use Rattle.hyphenation.proofs.NoKeys.{none_at_all}

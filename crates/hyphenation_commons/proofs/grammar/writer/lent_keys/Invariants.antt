@@ -1,5 +1,6 @@
 use Rattle.std.proofs.Common.{◌≡◌, ◌++◌, drop}
-use Rattle.hyphenation_commons.specs.Private.Ordered.{key_views, pair_views}
+use Rattle.hyphenation_commons.specs.Private.Ordered.{pair_views}
+use Rattle.hyphenation_trie.specs.Keys.{key_views}
 use Rattle.hyphenation_commons.proofs.grammar.writer.lent_keys.Given as goal
 
 abbrev pub invariant-loop-key : goal.invariant-loop-key

@@ -1,0 +1,140 @@
+-- Parents, depths and rows of a trie's nodes.
+use Rattle.std.proofs.Common.{◌≡◌, ◌≢◌, ℕ, zero, suc, ◌+◌, ◌<◌, ◌≤◌, List, [], ◌∷◌, ◌++◌, length, map, get_or, set, slice_index, Option, Some, None, sym, ap, subst, ◌∙◌, arith, inl, inr}
+use Rattle.std.proofs.lemmas.Bool.{cases_eq, cases_lt}
+use Rattle.std.proofs.lemmas.List.{length-append, length-map, get_or-map, get_or_append_left, get_or_push, get_or-set_same, get_or-set_other}
+use Rattle.hyphenation_trie.specs.Trie.{Tree, node_text, IsTrie}
+use Rattle.hyphenation_trie.specs.Private.Trie.{texts_of, HasFroms}
+use Rattle.hyphenation_trie.specs.Private.Rows.{child_in, edge_in, HasRow}
+use Rattle.hyphenation_trie.specs.Private.Links.{HasParents, parent_of, byte_of, IsDepths, IsFrozen, HasDepths}
+use Rattle.hyphenation_trie.specs.declared.rows.Cell.{Cell}
+use Rattle.hyphenation_trie.specs.declared.Node.{Node}
+use Rattle.std.proofs.lemmas.Simd.{map-map}
+use Rattle.hyphenation_trie.proofs.TrieNodes.{length-texts_of, last_same, not_empty}
+
+-- ---- where nodes come from
+
+pub HasFroms-grow : (texts : List (List ℕ)) (froms : List (Option (ℕ × ℕ))) (i b : ℕ) → length froms ≡ length texts → i < length texts → HasFroms texts froms
+    → HasFroms (texts ++ (get_or texts i [] ++ b ∷ []) ∷ []) (froms ++ Some (i, b) ∷ [])
+HasFroms-grow texts froms i b len li has j pos lj =
+    let t : List ℕ = get_or texts i [] ++ b ∷ [] in
+    let new : List (List ℕ) = texts ++ t ∷ [] in
+    elim (cases_lt j (length texts)) [
+      | inl old ↦
+          let h = has j pos old in
+          let at : get_or new j [] ≡ get_or texts j [] = get_or_append_left texts (t ∷ []) [] j old in
+          let up : get_or new h.0.0 [] ≡ get_or texts h.0.0 [] = get_or_append_left texts (t ∷ []) [] h.0.0 (omega (arith, h.2)) in
+          (h.0, get_or_append_left froms (Some (i, b) ∷ []) None j (omega arith) ∙ h.1, h.2, at ∙ h.3 ∙ ap (λ (x : List ℕ). x ++ h.0.1 ∷ []) (sym up))
+      | inr last ↦
+          let is : j ≡ length texts = omega (arith, length-append texts (t ∷ [])) in
+          let at : get_or new j [] ≡ t = get_or_push texts t [] j (sym is) in
+          let up : get_or new i [] ≡ get_or texts i [] = get_or_append_left texts (t ∷ []) [] i li in
+          ((i, b), get_or_push froms (Some (i, b)) None j (len ∙ sym is), omega arith, at ∙ ap (λ (x : List ℕ). x ++ b ∷ []) (sym up))
+    ]
+
+-- ---- parents
+
+pub parents_are : (texts : List (List ℕ)) (froms : List (Option (ℕ × ℕ))) → length froms ≡ length texts → HasFroms texts froms → HasParents texts (map parent_of froms) (map byte_of froms)
+parents_are texts froms len has = record {
+  nodes = length-map froms parent_of ∙ len;
+  bytes_of = length-map froms byte_of ∙ len;
+  each = λ j pos lj.
+      let h = has j pos lj in
+      let p : slice_index (map parent_of froms) j ≡ h.0.0 = get_or-map parent_of froms j None 0 (omega arith) ∙ ap parent_of h.1 in
+      let b : slice_index (map byte_of froms) j ≡ h.0.1 = get_or-map byte_of froms j None 0 (omega arith) ∙ ap byte_of h.1 in
+      (omega (arith, h.2), h.3 ∙ ap (λ (x : ℕ). get_or texts x [] ++ h.0.1 ∷ []) (sym p) ∙ ap (λ (x : ℕ). get_or texts (slice_index (map parent_of froms) j) [] ++ x ∷ []) (sym b));
+}
+
+-- siblings have different bytes
+pub apart_are : (texts : List (List ℕ)) (parents bytes : List ℕ) → ((i j : ℕ) → i < length texts → j < length texts → get_or texts i [] ≡ get_or texts j [] → i ≡ j) → HasParents texts parents bytes
+    → (j k : ℕ) → 0 < j → j < k → k < length parents → slice_index parents j ≡ slice_index parents k → slice_index bytes j ≢ slice_index bytes k
+apart_are texts parents bytes distinct has j k pos lt lk same e =
+    let hj = has.each j pos (omega (arith, has.nodes)) in
+    let hk = has.each k (omega arith) (omega (arith, has.nodes)) in
+    let one : get_or texts j [] ≡ get_or texts k [] =
+    hj.1 ∙ ap (λ (x : ℕ). get_or texts x [] ++ slice_index bytes j ∷ []) same ∙ ap (λ (x : ℕ). get_or texts (slice_index parents k) [] ++ x ∷ []) e ∙ sym hk.1 in
+    absurd (omega (arith, distinct j k (omega (arith, has.nodes)) (omega (arith, has.nodes)) one))
+
+-- ---- depths
+
+pub depth_is : (texts : List (List ℕ)) (parents bytes depths : List ℕ) → get_or texts 0 [] ≡ [] → HasParents texts parents bytes → IsDepths parents depths
+    → (fuel j : ℕ) → j < fuel → j < length texts → slice_index depths j ≡ length (get_or texts j [])
+depth_is texts parents bytes depths root has deep zero j lt lj = absurd (omega arith)
+depth_is texts parents bytes depths root has deep (suc fuel) j lt lj = elim (cases_eq j 0) [
+  | inl is ↦ ap (λ (x : ℕ). slice_index depths x) is ∙ deep.root ∙ sym (ap (λ (x : ℕ). length (get_or texts x [])) is ∙ ap length root)
+  | inr apart ↦
+      let h = has.each j (omega arith) lj in
+      let up = depth_is texts parents bytes depths root has deep fuel (slice_index parents j) (omega (arith, h.0)) (omega (arith, h.0)) in
+      deep.each j (omega arith) (omega (arith, has.nodes)) ∙ ap (λ (x : ℕ). x + 1) up ∙ sym (ap length h.1 ∙ length-append (get_or texts (slice_index parents j) []) (slice_index bytes j ∷ []))
+]
+
+-- ---- rows
+
+pub frozen_is : {E : Type 0} (tree : Tree E) (parents bytes bases : List ℕ) (cells : List Cell) → IsTrie tree → HasParents tree.texts parents bytes → length bases ≡ length parents
+    → ((i : ℕ) → i < length parents → HasRow parents bytes cells (slice_index bases i) i) → IsFrozen tree bases cells
+frozen_is tree parents bytes bases cells trie has len rows = record {
+  trie = trie;
+  lengths = len ∙ has.nodes;
+  room = λ i li. (rows i (omega (arith, has.nodes))).room;
+  sound = λ i b j li e.
+      let row = rows i (omega (arith, has.nodes)) in
+      let w = row.only (slice_index bases i + b) j e in
+      let byte : slice_index bytes j ≡ b = omega (arith, w.3) in
+      let h = has.each j w.0 (omega (arith, w.1, has.nodes)) in (
+        omega (arith, w.1, has.nodes),
+        h.1 ∙ ap (λ (x : ℕ). get_or tree.texts x [] ++ slice_index bytes j ∷ []) w.2 ∙ ap (λ (x : ℕ). get_or tree.texts i [] ++ x ∷ []) byte,
+      );
+  complete = λ i b j li lj e. elim (cases_eq j 0) [
+    | inl is ↦ absurd (not_empty (get_or tree.texts i []) b (sym trie.root ∙ ap (λ (x : ℕ). get_or tree.texts x []) (sym is) ∙ e))
+    | inr apart ↦
+        let h = has.each j (omega arith) lj in
+        let parts = last_same (get_or tree.texts (slice_index parents j) []) (get_or tree.texts i []) (slice_index bytes j) b (sym h.1 ∙ e) in
+        let up : slice_index parents j ≡ i = trie.distinct (slice_index parents j) i (omega (arith, h.0)) li parts.0 in
+        let row = rows i (omega (arith, has.nodes)) in
+        ap (λ (x : ℕ). child_in cells i (slice_index bases i + x)) (sym parts.1) ∙ row.mine j (omega arith) (omega (arith, has.nodes)) up
+  ];
+}
+
+-- What a look-up finds: the child, or that there is none.
+abbrev pub Found : {E : Type 0} → Tree E → ℕ → ℕ → Option ℕ → Type 0
+Found tree i b None = (j : ℕ) → j < length tree.texts → node_text tree j ≢ node_text tree i ++ b ∷ []
+Found tree i b (Some j) = (j < length tree.texts) × (node_text tree j ≡ node_text tree i ++ b ∷ [])
+
+pub found_is : {E : Type 0} (tree : Tree E) (bases : List ℕ) (cells : List Cell) (i b : ℕ) (o : Option ℕ) → IsFrozen tree bases cells → i < length tree.texts → o ≡ edge_in bases cells i b
+    → Found tree i b o
+found_is tree bases cells i b None frozen li e = λ j lj is. let bad : None ≡ Some j = e ∙ frozen.complete i b j li lj is in absurd cc
+found_is tree bases cells i b (Some j) frozen li e = frozen.sound i b j li (sym e)
+
+-- one depth more
+pub depths_more : (parents depths : List ℕ) (node depth : ℕ) → length depths ≡ node → ((j : ℕ) → 0 < j → j < node + 1 → slice_index parents j < j)
+    → depth ≡ slice_index depths (slice_index parents node) + 1
+    → ((j : ℕ) → 0 < j → j < node → slice_index depths j ≡ slice_index depths (slice_index parents j) + 1)
+    → (j : ℕ) → 0 < j → j < node + 1 → slice_index (depths ++ depth ∷ []) j ≡ slice_index (depths ++ depth ∷ []) (slice_index parents j) + 1
+depths_more parents depths node depth len before is each j jpos lj =
+    let up : slice_index parents j < j = before j jpos lj in
+    let above : slice_index (depths ++ depth ∷ []) (slice_index parents j) ≡ slice_index depths (slice_index parents j) = get_or_append_left depths (depth ∷ []) 0 (slice_index parents j) (omega arith) in
+    elim (cases_eq j node) [
+      | inl same ↦
+          get_or_push depths depth 0 j (len ∙ sym same) ∙ is ∙ ap (λ (x : ℕ). slice_index depths (slice_index parents x) + 1) (sym same) ∙ ap (λ (x : ℕ). x + 1) (sym above)
+      | inr apart ↦ get_or_append_left depths (depth ∷ []) 0 j (omega arith) ∙ each j jpos (omega arith) ∙ ap (λ (x : ℕ). x + 1) (sym above)
+    ]
+
+pub low_more : (depths : List ℕ) (node depth : ℕ) → depth ≤ node → length depths ≡ node → ((j : ℕ) → j < node → slice_index depths j ≤ j) → (j : ℕ) → j < node + 1 → slice_index (depths ++ depth ∷ []) j ≤ j
+low_more depths node depth le len low j lj = elim (cases_eq j node) [
+  | inl same ↦ omega (arith, get_or_push depths depth 0 j (len ∙ sym same))
+  | inr apart ↦ omega (arith, get_or_append_left depths (depth ∷ []) 0 j (omega arith), low j (omega arith))
+]
+
+pub has_depths : {E : Type 0} (tree : Tree E) (parents bytes depths : List ℕ) → IsTrie tree → HasParents tree.texts parents bytes → IsDepths parents depths → HasDepths tree.texts depths
+has_depths tree parents bytes depths trie has deep = record {
+  lengths = deep.lengths ∙ has.nodes;
+  each = λ j lj. depth_is tree.texts parents bytes depths trie.root has deep (j + 1) j (omega arith) lj;
+}
+
+-- what is collected of the nodes
+pub nodes_parents : (ns : List Node) (parents bytes : List ℕ) → parents ≡ map (λ n. parent_of n.from) ns → bytes ≡ map (λ n. byte_of n.from) ns
+    → HasFroms (texts_of (map (λ n. n.from) ns)) (map (λ n. n.from) ns) → HasParents (texts_of (map (λ n. n.from) ns)) parents bytes
+nodes_parents ns parents bytes p b has =
+    let froms : List (Option (ℕ × ℕ)) = map (λ n. n.from) ns in
+    let ps : map parent_of froms ≡ parents = map-map parent_of (λ n. n.from) ns ∙ sym p in
+    let bs : map byte_of froms ≡ bytes = map-map byte_of (λ n. n.from) ns ∙ sym b in
+    subst (λ (xs : List ℕ). HasParents (texts_of froms) xs bytes) ps (subst (λ (xs : List ℕ). HasParents (texts_of froms) (map parent_of froms) xs) bs (parents_are (texts_of froms) froms (sym (length-texts_of froms)) has))

@@ -1,0 +1,10 @@
+pub mod KeyNodes
+pub mod NodeTexts
+pub mod TrieNodes
+pub mod ChainsGrow
+pub mod GrowingNodes
+pub mod RowsPlaced
+pub mod Suffixes
+pub mod LinksMade
+pub mod FrozenTrie
+pub mod States

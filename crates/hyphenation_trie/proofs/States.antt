@@ -1,0 +1,162 @@
+-- What is read of the states of nodes, and what stays when links are set.
+use Rattle.std.proofs.Common.{◌≡◌, ◌≢◌, ℕ, zero, suc, ◌+◌, ◌<◌, ◌≤◌, Bool, true, false, cond, List, [], ◌∷◌, ◌++◌, length, map, fold, take, drop, drop-cons, get_or, set, slice_index, Option, Some, None, refl, sym, ap, subst, ◌∙◌, arith, replicate}
+use Rattle.std.specs.Prelude.{IsSome}
+use Rattle.std.specs.List.{zip}
+use Rattle.std.proofs.Math.Seq.{map-set_same, take-length}
+use Rattle.std.proofs.lemmas.Bool.{cond-true, cond-false}
+use Rattle.std.proofs.lemmas.List.{length-map, get_or-map, map-set, get_or-set_same, get_or-set_other, get_or-take, take_more, drop_all}
+use Rattle.std.proofs.lemmas.Simd.{map-map}
+use Rattle.hyphenation_trie.specs.Private.Links.{HasParents, HasDepths, IsFrozen}
+use Rattle.hyphenation_trie.specs.Private.States.{no_links, texts_by, span_in, entries_there, linked_tree, HasStates}
+use Rattle.hyphenation_trie.specs.Trie.{Tree, node_text, key_at}
+use Rattle.hyphenation_trie.specs.Private.Trie.{texts_of, with_node_text, tree_of, entries_in, IsWithin, AreWithin}
+use Rattle.hyphenation_trie.specs.declared.Node.{Node}
+use Rattle.hyphenation_trie.specs.declared.Span.{Span}
+use Rattle.hyphenation_trie.specs.declared.frozen.Links.{Links}
+use Rattle.hyphenation_trie.specs.declared.frozen.State.{State}
+use Rattle.hyphenation_trie.specs.declared.rows.Cell.{Cell}
+use Rattle.hyphenation_trie.proofs.TrieNodes.{entries_at-here}
+
+-- ---- texts
+
+next : (n : ℕ) → suc n ≡ n + 1
+next n = omega arith
+
+-- the text of one node more
+text_more : (texts : List (List ℕ)) (parents bytes : List ℕ) (k : ℕ) → HasParents texts parents bytes → 0 < k → k < length texts
+    → with_node_text (take k texts) (Some (get_or parents k 0, get_or bytes k 0)) ≡ take (suc k) texts
+text_more texts parents bytes k has pos lt =
+    let h = has.each k pos lt in
+    let up : get_or (take k texts) (get_or parents k 0) [] ≡ get_or texts (get_or parents k 0) [] = get_or-take k texts (get_or parents k 0) [] h.0 in
+    ap (λ (x : List ℕ). take k texts ++ (x ++ get_or bytes k 0 ∷ []) ∷ []) up
+    ∙ ap (λ (x : List ℕ). take k texts ++ x ∷ []) (sym h.1)
+    ∙ sym (take_more texts k [] lt)
+    ∙ ap (λ (n : ℕ). take n texts) (sym (next k))
+
+texts_on : (texts : List (List ℕ)) (parents bytes : List ℕ) (n k : ℕ) → HasParents texts parents bytes → 0 < k → k + n ≡ length texts
+    → fold with_node_text (take k texts) (map (λ from. Some from) (zip (drop k parents) (drop k bytes))) ≡ texts
+texts_on texts parents bytes zero k has pos e =
+    let none : drop k parents ≡ [] = drop_all k parents (omega (arith, has.nodes)) in
+    let all : k ≡ length texts = omega arith in
+    ap (λ (xs : List ℕ). fold with_node_text (take k texts) (map (λ from. Some from) (zip xs (drop k bytes)))) none ∙ ap (λ (n : ℕ). take n texts) all ∙ take-length texts
+texts_on texts parents bytes (suc n) k has pos e =
+    let lt : k < length texts = omega arith in
+    let ps = drop-cons parents k 0 (omega (arith, has.nodes)) in
+    let bs = drop-cons bytes k 0 (omega (arith, has.bytes_of)) in
+    ap (λ (xs : List ℕ). fold with_node_text (take k texts) (map (λ from. Some from) (zip xs (drop k bytes)))) ps
+    ∙ ap (λ (xs : List ℕ). fold with_node_text (take k texts) (map (λ from. Some from) (zip (get_or parents k 0 ∷ drop (suc k) parents) xs))) bs
+    ∙ ap (λ (ts : List (List ℕ)). fold with_node_text ts (map (λ from. Some from) (zip (drop (suc k) parents) (drop (suc k) bytes)))) (text_more texts parents bytes k has pos lt)
+    ∙ texts_on texts parents bytes n (suc k) has (omega arith) (omega arith)
+
+-- texts are known by parents and bytes
+pub texts_are : (texts : List (List ℕ)) (parents bytes : List ℕ) → 0 < length texts → get_or texts 0 [] ≡ [] → HasParents texts parents bytes → texts_by parents bytes ≡ texts
+texts_are [] parents bytes some root has = absurd (omega arith)
+texts_are (t ∷ ts) parents bytes some root has =
+    ap (λ (x : List ℕ). fold with_node_text (x ∷ []) (map (λ from. Some from) (zip (drop 1 parents) (drop 1 bytes)))) (sym root)
+    ∙ texts_on (t ∷ ts) parents bytes (length ts) 1 has (omega arith) (omega arith)
+
+-- ---- what is read of a state
+
+pub states_within : {E : Type 0} (tree : Tree E) (parents bytes : List ℕ) (states : List State) (cells : List Cell) (bound node : ℕ) → HasStates tree parents bytes states cells bound → node < length tree.texts → node < length states
+states_within tree parents bytes states cells bound node has lt = omega (arith, has.frozen.lengths, length-map states (λ s. s.base))
+
+pub base_is : (states : List State) (node : ℕ) (s : State) → node < length states → s ≡ get_or states node s → slice_index (map (λ s. s.base) states) node ≡ s.base
+base_is states node s lt read = get_or-map (λ s. s.base) states node s 0 lt ∙ ap (λ s. s.base) (sym read)
+
+pub depth_of_state : (states : List State) (node : ℕ) (s : State) → node < length states → s ≡ get_or states node s → slice_index (map (λ s. s.depth) states) node ≡ s.depth
+depth_of_state states node s lt read = get_or-map (λ s. s.depth) states node s 0 lt ∙ ap (λ s. s.depth) (sym read)
+
+pub links_of_state : (states : List State) (node : ℕ) (s : State) → node < length states → s ≡ get_or states node s → get_or (map (λ s. s.links) states) node no_links ≡ s.links
+links_of_state states node s lt read = get_or-map (λ s. s.links) states node s no_links lt ∙ ap (λ s. s.links) (sym read)
+
+pub span_of_state : (states : List State) (node : ℕ) (s : State) → node < length states → s ≡ get_or states node s → get_or (map span_in states) node None ≡ span_in s
+span_of_state states node s lt read = get_or-map span_in states node s None lt ∙ ap span_in (sym read)
+
+pub entries_of_state : {E : Type 0} (es : List E) (states : List State) (node : ℕ) (s : State) → node < length states → s ≡ get_or states node s → get_or (map (λ s. entries_there es (span_in s)) states) node None ≡ entries_there es (span_in s)
+entries_of_state es states node s lt read = get_or-map (λ s. entries_there es (span_in s)) states node s None lt ∙ ap (λ s. entries_there es (span_in s)) (sym read)
+
+pub span_of_key : (s : State) → s.is_key ≡ true → span_in s ≡ Some s.span
+span_of_key s e = cond-true s.is_key (Some s.span) None e
+
+pub span_of_none : (s : State) → s.is_key ≡ false → span_in s ≡ None
+span_of_none s e = cond-false s.is_key (Some s.span) None e
+
+-- a state that has entries is a key's
+pub span_of_entries : {E : Type 0} (es : List E) (s : State) → IsSome (entries_there es (span_in s)) → span_in s ≡ Some s.span
+span_of_entries es s some =
+    elim s.is_key as (λ t. IsSome (entries_there es (cond t (Some s.span) None)) → cond t (Some s.span) None ≡ Some s.span) [
+      | true ↦ λ h. refl
+      | false ↦ λ h. absurd cc
+    ] some
+
+-- where the entries of a key stand is within those of all
+pub key_within : {E : Type 0} (tree : Tree E) (parents bytes : List ℕ) (states : List State) (cells : List Cell) (bound node : ℕ) (s : State) → HasStates tree parents bytes states cells bound → node < length tree.texts
+    → s ≡ get_or states node s → span_in s ≡ Some s.span → (s.span.start ≤ s.span.end) × (s.span.end ≤ bound)
+key_within tree parents bytes states cells bound node s has lt read is =
+    let within = states_within tree parents bytes states cells bound node has lt in
+    subst (λ (x : Option Span). IsWithin bound x) (span_of_state states node s within read ∙ is) (has.within node)
+
+-- the entries of a state are those of the key that its node's text is
+pub entries_of_node : {E : Type 0} (es : List E) (parents bytes : List ℕ) (states : List State) (cells : List Cell) (bound node : ℕ) (s : State)
+    → HasStates (linked_tree parents bytes states es).tree parents bytes states cells bound → node < length (linked_tree parents bytes states es).tree.texts → s ≡ get_or states node s
+    → entries_there es (span_in s) ≡ key_at (linked_tree parents bytes states es).tree (node_text (linked_tree parents bytes states es).tree node)
+entries_of_node es parents bytes states cells bound node s has lt read =
+    let tree = (linked_tree parents bytes states es).tree in
+    let trie = has.frozen.trie in
+    sym (entries_of_state es states node s (states_within tree parents bytes states cells bound node has lt) read)
+    ∙ sym (entries_at-here tree.texts tree.entries node trie.distinct trie.lengths lt)
+
+-- ---- as made
+
+pub spans_within : (bound : ℕ) (ns : List Node) → AreWithin bound ns → (i : ℕ) → IsWithin bound (get_or (map (λ n. n.span) ns) i None)
+spans_within bound [] h i = tt
+spans_within bound (n ∷ ns) h zero = h.0
+spans_within bound (n ∷ ns) h (suc i) = spans_within bound ns h.1 i
+
+pub entries_same : {E : Type 0} (es : List E) (states : List State) (ns : List Node) → map span_in states ≡ map (λ n. n.span) ns → map (λ s. entries_there es (span_in s)) states ≡ map (entries_in es) ns
+entries_same es states ns e = sym (map-map (entries_there es) span_in states) ∙ ap (map (entries_there es)) e ∙ map-map (entries_there es) (λ (n : Node). n.span) ns
+
+pub tree_same : {E : Type 0} (es : List E) (states : List State) (ns : List Node) (parents bytes : List ℕ) → texts_by parents bytes ≡ texts_of (map (λ n. n.from) ns) → map span_in states ≡ map (λ n. n.span) ns
+    → (linked_tree parents bytes states es).tree ≡ tree_of ns es
+tree_same es states ns parents bytes texts spans =
+    let entries = entries_same es states ns spans in
+    λ k. record { texts = texts k; entries = entries k }
+
+pub none_linked : (n : ℕ) (states : List State) → map (λ s. s.links) states ≡ replicate n no_links → (j : ℕ) → get_or (map (λ s. s.links) states) j no_links ≡ no_links
+none_linked n states e j = ap (λ (xs : List Links). get_or xs j no_links) e ∙ all n j
+  where
+    all : (n j : ℕ) → get_or (replicate n no_links) j no_links ≡ no_links
+    all zero j = refl
+    all (suc n) zero = refl
+    all (suc n) (suc j) = all n j
+
+-- ---- links are set
+
+pub tree_kept : {E : Type 0} (es : List E) (states : List State) (parents bytes : List ℕ) (node : ℕ) (s x : State) → s ≡ get_or states node s → span_in x ≡ span_in s
+    → (linked_tree parents bytes (set states node x) es).tree ≡ (linked_tree parents bytes states es).tree
+tree_kept es states parents bytes node s x read same =
+    let entries = map-set_same (λ s. entries_there es (span_in s)) states node x s (ap (entries_there es) (same ∙ ap span_in read)) in
+    λ k. record { texts = texts_by parents bytes; entries = entries k }
+
+pub states_kept : {E : Type 0} (es : List E) (states : List State) (parents bytes : List ℕ) (cells : List Cell) (bound node : ℕ) (s x : State) → s ≡ get_or states node s → span_in x ≡ span_in s → x.base ≡ s.base → x.depth ≡ s.depth
+    → HasStates (linked_tree parents bytes states es).tree parents bytes states cells bound
+    → HasStates (linked_tree parents bytes (set states node x) es).tree parents bytes (set states node x) cells bound
+states_kept es states parents bytes cells bound node s x read span base depth has =
+    let tree = tree_kept es states parents bytes node s x read span in
+    let bases : map (λ s. s.base) (set states node x) ≡ map (λ s. s.base) states = map-set_same (λ s. s.base) states node x s (base ∙ ap (λ s. s.base) read) in
+    let depths : map (λ s. s.depth) (set states node x) ≡ map (λ s. s.depth) states = map-set_same (λ s. s.depth) states node x s (depth ∙ ap (λ s. s.depth) read) in
+    let spans : map span_in (set states node x) ≡ map span_in states = map-set_same span_in states node x s (span ∙ ap span_in read) in
+    subst (λ (t : Tree _). HasStates t parents bytes (set states node x) cells bound) (sym tree) (record {
+      frozen = subst (λ (xs : List ℕ). IsFrozen (linked_tree parents bytes states es).tree xs cells) (sym bases) has.frozen;
+      depths_of = subst (λ (xs : List ℕ). HasDepths (linked_tree parents bytes states es).tree.texts xs) (sym depths) has.depths_of;
+      parents_of = has.parents_of;
+      within = λ i. subst (λ (xs : List (Option Span)). IsWithin bound (get_or xs i None)) (sym spans) (has.within i);
+    })
+
+pub links_set : (states : List State) (node : ℕ) (x : State) → node < length states → get_or (map (λ s. s.links) (set states node x)) node no_links ≡ x.links
+links_set states node x lt =
+    ap (λ (xs : List Links). get_or xs node no_links) (map-set (λ s. s.links) states node x) ∙ get_or-set_same (map (λ s. s.links) states) node x.links no_links (omega (arith, length-map states (λ s. s.links)))
+
+pub links_kept : (states : List State) (node j : ℕ) (x : State) → j ≢ node → get_or (map (λ s. s.links) (set states node x)) j no_links ≡ get_or (map (λ s. s.links) states) j no_links
+links_kept states node j x apart =
+    ap (λ (xs : List Links). get_or xs j no_links) (map-set (λ s. s.links) states node x) ∙ get_or-set_other (map (λ s. s.links) states) node j x.links no_links apart

@@ -1,0 +1,23 @@
+use Rattle.std.proofs.Common.{◌≡◌, ◌+◌, ◌++◌, [], ◌∷◌, ℕ, List, length, slice_index, sym, ap, subst, ◌∙◌, arith}
+use Rattle.std.proofs.lemmas.List.{length-append}
+use Rattle.hyphenation_trie.specs.Private.Rows.{HasRow}
+use Rattle.hyphenation_trie.proofs.RowsPlaced.{placed_more}
+use Rattle.hyphenation_trie.proofs.rows.rows_of.Goals as goal
+
+pub loop-node-preserved : goal.loop-node-preserved
+loop-node-preserved c =
+    let parents = c.args.children.now.parents.items in
+    let bytes = c.args.children.now.bytes.items in
+    let inv = c.loop-node.invariant in
+    let node : ℕ = c.loop-node.node in
+    let old = c.loop-node.bases.items in
+    let base : ℕ = c.in_ok-base.base in
+    let cells = c.place_row.new.cells.items in
+    let pushed : c.push.new.self.items ≡ old ++ base ∷ [] = c.in_ok-push.ensures.items in
+    record {
+      bases = ap length pushed ∙ length-append old (base ∷ []) ∙ ap (λ (x : ℕ). x + 1) inv.bases;
+      room = omega (arith, inv.room, c.place_row.ensures.longer);
+      placed = λ i li. subst (λ (xs : List ℕ). HasRow parents bytes cells (slice_index xs i) i) (sym pushed)
+          (placed_more parents bytes old c.loop-node.cells.items cells c.len-free.result node base inv.bases (omega arith) (omega arith) c.place_row.ensures.longer c.in_ok-base.ensures.row c.place_row.ensures.others inv.placed i li);
+      left = λ i low lt k. c.place_row.ensures.others i k (λ e. absurd (omega arith)) (λ e. absurd (omega arith)) ∙ inv.left i (omega arith) lt k;
+    }

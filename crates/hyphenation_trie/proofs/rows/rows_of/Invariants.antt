@@ -1,0 +1,11 @@
+use Rattle.std.proofs.Common.{◌≡◌, ℕ, ◌<◌, ◌≤◌, length, slice_index}
+use Rattle.hyphenation_trie.specs.Private.Rows.{OwnsNone, HasRow}
+use Rattle.hyphenation_trie.proofs.rows.rows_of.Given as goal
+
+abbrev pub invariant-loop-node : goal.invariant-loop-node
+invariant-loop-node l = record {
+  bases : length l.bases.items ≡ l.node;
+  room : 255 < length l.cells.items;
+  placed : (i : ℕ) → i < l.node → HasRow l.children.parents.items l.children.bytes.items l.cells.items (slice_index l.bases.items i) i;
+  left : (i : ℕ) → l.node ≤ i → i < length l.children.parents.items → OwnsNone l.cells.items i;
+}

@@ -1,0 +1,69 @@
+use Rattle.std.proofs.Common.{◌≡◌, ℕ, ◌+◌, ◌<◌, slice_index, Some, sym, ap, subst, ◌∙◌, arith, inl, inr}
+use Rattle.std.proofs.lemmas.Bool.{cases_eq, cases_lt}
+use Rattle.std.proofs.lemmas.List.{get_or_default}
+use Rattle.hyphenation_trie.specs.Private.Chains.{IsLastBelow}
+use Rattle.hyphenation_trie.specs.Private.Rows.{child_in}
+use Rattle.hyphenation_trie.proofs.ChainsGrow.{next_less}
+use Rattle.hyphenation_trie.proofs.rows.write_row.Goals as goal
+
+same_some : (a b : ℕ) → Some a ≡ Some b → a ≡ b
+same_some a b e = cc
+
+pub loop-child-preserved : goal.loop-child-preserved
+loop-child-preserved c =
+    let parents = c.args.children.now.parents.items in
+    let bytes = c.args.children.now.bytes.items in
+    let before = c.args.children.now.before.items in
+    let node : ℕ = c.args.node in
+    let base : ℕ = c.args.base in
+    let child : ℕ = c.loop-child.child in
+    let inv = c.loop-child.invariant in
+    let asked = c.requires.children in
+    let new = c.put.new.cells in
+    let here = inv.within (omega arith) in
+    let next : ℕ = c.index-child-in-loop-child.result.now in
+    let read : next ≡ slice_index before child = c.index-child-in-loop-child.ensures ∙ get_or_default before child next 0 (omega (arith, here.0, asked.chained.lengths)) in
+    let chain : IsLastBelow parents node child next =
+    subst (λ (x : ℕ). IsLastBelow parents node child x) (sym read) (subst (λ (x : ℕ). IsLastBelow parents x child (slice_index before child)) here.1 (asked.chained.befores child (omega arith) here.0)) in
+    let less : next < child = next_less parents node child next (omega arith) chain in
+    let byte : c.index.result.now ≡ slice_index bytes child = c.index.ensures ∙ get_or_default bytes child c.index.result.now 0 (omega (arith, here.0, asked.bytes_of)) in
+    let at : ℕ = base + c.index.result.now in
+    let at_is : at ≡ base + slice_index bytes child = ap (λ (x : ℕ). base + x) byte in
+    record {
+      within = λ pos. let w = chain.within pos in (omega (arith, w.0, here.0), w.1);
+      mine = λ j low lj is. elim (cases_eq j child) [
+        | inl same ↦
+            ap (λ (x : ℕ). child_in new node (base + slice_index bytes x)) same ∙ ap (λ (x : ℕ). child_in new node x) (sym at_is) ∙ c.put.ensures.mine ∙ ap (λ (x : ℕ). Some x) (sym same)
+        | inr other ↦ elim (cases_lt child j) [
+          | inl above ↦
+              let differ = asked.apart child j (omega arith) above lj (here.1 ∙ sym is) in
+              c.put.ensures.rest node (base + slice_index bytes j) (λ e. differ (omega (arith, e, at_is))) ∙ inv.mine j above lj is
+          | inr below ↦ absurd (chain.none j low (omega arith) is)
+        ]
+      ];
+      only = λ c' j is. elim (cases_eq c' at) [
+        | inl same ↦
+            let e : Some child ≡ Some j = sym c.put.ensures.mine ∙ ap (λ (x : ℕ). child_in new node x) (sym same) ∙ is in
+            let cj : child ≡ j = same_some child j e in
+            (omega arith, omega (arith, here.0), ap (λ (x : ℕ). slice_index parents x) (sym cj) ∙ here.1, same ∙ at_is ∙ ap (λ (x : ℕ). base + slice_index bytes x) cj)
+        | inr other ↦
+            let was = inv.only c' j (sym (c.put.ensures.rest node c' other) ∙ is) in
+            (omega (arith, was.0), was.1, was.2, was.3)
+      ];
+      others = λ i c' nf nn. elim (cases_eq c' at) [
+        | inl same ↦ ap (λ (x : ℕ). child_in new i x) same ∙ c.put.ensures.apart i nf nn ∙ ap (λ (x : ℕ). child_in c.loop-child.cells i x) (sym same) ∙ inv.others i c' nf nn
+        | inr other ↦ c.put.ensures.rest i c' other ∙ inv.others i c' nf nn
+      ];
+      free = λ j pos le is e.
+          let differ = asked.apart j child pos (omega arith) here.0 (is ∙ sym here.1) in
+          inv.free j pos (omega arith) is (sym (c.put.ensures.rest c.args.free (base + slice_index bytes j) (λ e. differ (omega (arith, e, at_is)))) ∙ e);
+    }
+
+pub returns-clause-row : goal.returns-clause-row
+returns-clause-row c =
+    let inv = c.loop-child.invariant in
+    record {
+      room = omega (arith, c.requires.room, c.loop-child.auto.cells);
+      mine = λ j pos lj is. inv.mine j (omega arith) lj is;
+      only = λ c' j is. let w = inv.only c' j is in (omega (arith, w.0), w.1, w.2, w.3);
+    }

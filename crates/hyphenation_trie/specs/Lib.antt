@@ -1,0 +1,5 @@
+pub mod Counts
+pub mod Trie
+pub mod Links
+pub mod Keys
+pub mod Private

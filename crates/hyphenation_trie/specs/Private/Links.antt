@@ -1,0 +1,51 @@
+-- Links between the nodes of a trie: from a node to one whose text ends the node's: what private functions and proofs need of it beside, and no public contract cites.
+use Rattle.std.specs.Prelude.{◌≡◌, ℕ, ◌+◌, ◌<◌, ◌≤◌, List, [], ◌∷◌, ◌++◌, length, drop, slice_index, slice_index_or, Option, is_some, Some, None, count_by}
+use Rattle.std.specs.List.{range_with_len}
+use Rattle.hyphenation_trie.specs.Trie.{Tree, node_text, key_at, IsTrie}
+use Rattle.hyphenation_trie.specs.declared.rows.Cell.{Cell}
+use Rattle.hyphenation_trie.specs.Private.Rows.{edge_in}
+
+-- How long the text of each node is.
+pub record HasDepths (texts : List (List ℕ)) (depths : List ℕ) : Type 0 where
+  pub lengths : length depths ≡ length texts
+  pub each : (j : ℕ) → j < length texts → slice_index depths j ≡ length (slice_index_or texts j [])
+
+-- How many of the n longest ends of a text are keys.
+abbrev pub keys_in : {E : Type 0} → Tree E → List ℕ → ℕ → ℕ
+keys_in tree text n = count_by (λ d. is_some (key_at tree (drop d text))) (range_with_len 0 n)
+
+-- The parent of each node but the root stands before it, and its text is the parent's with one byte more.
+pub record HasParents (texts : List (List ℕ)) (parents bytes : List ℕ) : Type 0 where
+  pub nodes : length parents ≡ length texts
+  pub bytes_of : length bytes ≡ length texts
+  pub each : (j : ℕ) → 0 < j → j < length texts
+      → (slice_index parents j < j)
+      × (slice_index_or texts j [] ≡ slice_index_or texts (slice_index parents j) [] ++ slice_index bytes j ∷ [])
+
+-- The number of a parent, and the byte after it; 0 for the root, which has neither.
+abbrev pub parent_of : Option (ℕ × ℕ) → ℕ
+parent_of None = 0
+parent_of (Some from) = from.0
+
+abbrev pub byte_of : Option (ℕ × ℕ) → ℕ
+byte_of None = 0
+byte_of (Some from) = from.1
+
+-- The depth of the root is 0, and that of each other node is its parent's and 1.
+pub record IsDepths (parents depths : List ℕ) : Type 0 where
+  pub lengths : length depths ≡ length parents
+  pub root : slice_index depths 0 ≡ 0
+  pub each : (j : ℕ) → 0 < j → j < length parents
+      → slice_index depths j ≡ slice_index depths (slice_index parents j) + 1
+  pub low : (j : ℕ) → j < length parents → slice_index depths j ≤ j
+
+-- The rows show the edges of the trie: the child of a node at a byte is the node of the text with that byte more.
+pub record IsFrozen {E : Type 0} (tree : Tree E) (bases : List ℕ) (cells : List Cell) : Type 0 where
+  pub trie : IsTrie tree
+  pub lengths : length bases ≡ length tree.texts
+  pub room : (i : ℕ) → i < length tree.texts → slice_index bases i + 255 < length cells
+  pub sound : (i b j : ℕ) → i < length tree.texts → edge_in bases cells i b ≡ Some j
+      → (j < length tree.texts) × (node_text tree j ≡ node_text tree i ++ b ∷ [])
+  pub complete : (i b j : ℕ) → i < length tree.texts → j < length tree.texts
+      → node_text tree j ≡ node_text tree i ++ b ∷ []
+      → edge_in bases cells i b ≡ Some j

@@ -1,0 +1,42 @@
+-- Rows of cells that lie over one another, one row for each node of a trie.
+use Rattle.std.specs.Prelude.{◌≡◌, ◌≢◌, ℕ, ◌+◌, ◌<◌, ◌==◌, if◌then◌else◌, List, length, slice_index, slice_index_or, Option, Some, None}
+use Rattle.hyphenation_trie.specs.Private.Chains.{IsChained}
+use Rattle.hyphenation_trie.specs.declared.rows.Cell.{Cell}
+
+-- The child in a cell, if the cell is this node's. A cell that is not there is nobody's.
+abbrev pub child_in : List Cell → ℕ → ℕ → Option ℕ
+child_in cells node at =
+    let cell = slice_index_or cells at (record { owner = node + 1; child = 0 }) in if cell.owner == node
+    then Some cell.child
+    else None
+
+-- The edge of a node at a byte: the child in the cell as far after the begin of its row as the byte says.
+abbrev pub edge_in : List ℕ → List Cell → ℕ → ℕ → Option ℕ
+edge_in bases cells node byte = child_in cells node (slice_index bases node + byte)
+
+-- The parents of all nodes, the bytes that lead from them, and the children of each node as a chain. Node 0 is the root, and no child.
+pub record AreChildren (parents bytes last before : List ℕ) : Type 0 where
+  pub bytes_of : length bytes ≡ length parents
+  pub nodes : length last ≡ length parents
+  pub small : (k : ℕ) → slice_index bytes k < 256
+  pub chained : IsChained parents last before
+  pub apart : (j k : ℕ) → 0 < j → j < k → k < length parents → slice_index parents j ≡ slice_index parents k
+      → slice_index bytes j ≢ slice_index bytes k
+
+-- The node owns no cell.
+abbrev pub OwnsNone : List Cell → ℕ → Type 0
+OwnsNone cells node = (c : ℕ) → child_in cells node c ≡ None
+
+-- All cells in which the node's children would stand, if its row began there, are free.
+abbrev pub IsFreeRow : List ℕ → List ℕ → List Cell → ℕ → ℕ → ℕ → Type 0
+IsFreeRow parents bytes cells free base node =
+    (j : ℕ) → 0 < j → j < length parents → slice_index parents j ≡ node
+    → child_in cells free (base + slice_index bytes j) ≢ None
+
+-- The node's row begins there: each child stands in the cell of its byte, and the node owns no other cell.
+pub record HasRow (parents bytes : List ℕ) (cells : List Cell) (base node : ℕ) : Type 0 where
+  pub room : base + 255 < length cells
+  pub mine : (j : ℕ) → 0 < j → j < length parents → slice_index parents j ≡ node
+      → child_in cells node (base + slice_index bytes j) ≡ Some j
+  pub only : (c j : ℕ) → child_in cells node c ≡ Some j
+      → (0 < j) × (j < length parents) × (slice_index parents j ≡ node) × (c ≡ base + slice_index bytes j)

@@ -1,0 +1,62 @@
+-- Tries, as the texts that their nodes stand for: what private functions and proofs need of it beside, and no public contract cites.
+use Rattle.std.specs.Prelude.{◌≡◌, ℕ, ◌<◌, List, [], ◌∷◌, ◌++◌, length, map, fold, Option, Some, None, slice_index_or, ◌≤◌, ◌⊎◌, slice_set}
+use Rattle.std.specs.Option.{option_map}
+use Rattle.std.specs.List.{slice_range}
+use Rattle.hyphenation_trie.specs.declared.Node.{Node}
+use Rattle.hyphenation_trie.specs.declared.Span.{Span}
+use Rattle.hyphenation_trie.specs.Trie.{Tree, node_text}
+
+-- With one node more, of no key.
+abbrev pub with_child : {E : Type 0} → Tree E → ℕ → ℕ → Tree E
+with_child t node byte =
+    record { texts = t.texts ++ (node_text t node ++ byte ∷ []) ∷ []; entries = t.entries ++ None ∷ [] }
+
+-- With at most one node more, of that text and of no key.
+abbrev pub Grows : {E : Type 0} → Tree E → Tree E → List ℕ → Type 0
+Grows old new text = (new ≡ old) ⊎ (new ≡ record { texts = old.texts ++ text ∷ []; entries = old.entries ++ None ∷ [] })
+
+-- With these entries at a node.
+abbrev pub with_entries : {E : Type 0} → Tree E → ℕ → List E → Tree E
+with_entries t node es = record t { entries = slice_set t.entries node (Some es) }
+
+-- The text after a parent and a byte. The root has neither.
+abbrev pub text_after : List (List ℕ) → Option (ℕ × ℕ) → List ℕ
+text_after texts None = []
+text_after texts (Some from) = slice_index_or texts from.0 [] ++ from.1 ∷ []
+
+-- The texts, with that of one node more.
+abbrev pub with_node_text : List (List ℕ) → Option (ℕ × ℕ) → List (List ℕ)
+with_node_text texts from = texts ++ text_after texts from ∷ []
+
+-- The texts of nodes, each given by its parent, which stands before it, and its byte.
+abbrev pub texts_of : List (Option (ℕ × ℕ)) → List (List ℕ)
+texts_of froms = fold with_node_text [] froms
+
+-- The entries of a node, among those of all nodes.
+abbrev pub entries_in : {E : Type 0} → List E → Node → Option (List E)
+entries_in es n = option_map (λ span. slice_range es span.start span.end) n.span
+
+-- What a clause sees of the nodes and of all entries.
+abbrev pub tree_of : {E : Type 0} → List Node → List E → Tree E
+tree_of ns es = record { texts = texts_of (map (λ n. n.from) ns); entries = map (entries_in es) ns }
+
+-- The entries of each node stand among so many.
+abbrev pub IsWithin : ℕ → Option Span → Type 0
+IsWithin bound None = Unit {0}
+IsWithin bound (Some span) = (span.start ≤ span.end) × (span.end ≤ bound)
+
+abbrev pub AreWithin : ℕ → List Node → Type 0
+AreWithin bound [] = Unit {0}
+AreWithin bound (n ∷ ns) = IsWithin bound n.span × AreWithin bound ns
+
+-- Each node but the root is after a parent, which stands before it, and a byte.
+abbrev pub HasFroms : List (List ℕ) → List (Option (ℕ × ℕ)) → Type 0
+HasFroms texts froms =
+    (j : ℕ) → 0 < j → j < length texts
+    → (from : ℕ × ℕ) × (slice_index_or froms j None ≡ Some from) × (from.0 < j)
+    × (slice_index_or texts j [] ≡ slice_index_or texts from.0 [] ++ from.1 ∷ [])
+
+-- No two of the texts are the same.
+abbrev pub AreApart : List (List ℕ) → Type 0
+AreApart texts =
+    (i j : ℕ) → i < length texts → j < length texts → slice_index_or texts i [] ≡ slice_index_or texts j [] → i ≡ j

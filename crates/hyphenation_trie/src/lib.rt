@@ -1,0 +1,328 @@
+//! A trie: a tree that holds keys by the bytes that they share.
+//!
+//! Each node stands for a text, the root for the empty one. A step along a byte leads to the node
+//! of the text with that byte after it, its child. A node whose text is a key holds the key's
+//! entries. Here are the keys `ir`, `rk` and `rkin`, whose nodes are marked:
+//!
+//! ```text
+//!             root
+//!         i /      \ r
+//!         i          r
+//!       r |          | k
+//!        [ir]       [rk]
+//!                    | i
+//!                   rki
+//!                    | n
+//!                  [rkin]
+//! ```
+//!
+//! A trie grows key by key. Then it is frozen, which makes it an [`Automaton`]: that grows no more, and finds
+//! the keys that stand in a word in one pass over the word's bytes.
+//!
+//! Nodes are numbers: those below the number of texts that a clause sees, `length texts`. A node
+//! keeps its number as the trie grows, and when it is frozen.
+#![tactic(auto)]
+
+ghost use Rattle.std.specs.Prelude.{◌≡◌, ◌≢◌, ◌+◌, ◌<◌, ◌≤◌, ◌^◌, ◌++◌, [], ◌∷◌, ℕ, List, length, None, Some, IfOk, OnOk, OnErr, if◌then◌else◌, nat_eq, is_some, IfSome, IfNone};
+ghost use Rattle.std.specs.Cmp.Lexicographic.{pointwise};
+ghost use Rattle.std.specs.List.{slice_range};
+ghost use Rattle.hyphenation_trie.specs.Private.Links.{parent_of, byte_of};
+ghost use Rattle.hyphenation_trie.specs.Trie.{Tree, node_text, key_at, IsTrie, AddsFront, KeepsNodes, EachBeginsKey};
+ghost use Rattle.hyphenation_trie.specs.Private.Trie.{with_child, Grows, with_entries};
+
+mod automaton;
+mod chains;
+mod frozen;
+mod rows;
+
+pub use automaton::Automaton;
+use chains::Chains;
+use std::alloc::{AllocError, Global};
+use std::fmt;
+use std::marker::Model;
+
+/// Counts the look-ups of a byte among a node's children, and the keys reported.
+///
+/// Each look-up counts, whether there is such a child or not.
+#[derive(Debug, Drop)]
+pub struct LookUps {
+    made: u128,
+    reported: u128,
+}
+
+impl Model for LookUps {
+    ghost use Rattle.hyphenation_trie.specs.Counts.{Counts};
+
+    ghost Value = { Counts };
+
+    ghost view = { λ counts. record { made = counts.made; reported = counts.reported } };
+}
+
+impl LookUps {
+    /// Counts from 0.
+    pub fn new() -> Self
+        ensures { result ≡ record { made = 0; reported = 0 } }
+    {
+        LookUps {
+            made: 0,
+            reported: 0,
+        }
+    }
+
+    /// The number of look-ups made.
+    pub fn made(&self) -> u128
+        ensures { result ≡ self.now.made }
+    {
+        self.made
+    }
+
+    /// The number of keys reported.
+    pub fn reported(&self) -> u128
+        ensures { result ≡ self.now.reported }
+    {
+        self.reported
+    }
+
+    /// Counts one look-up.
+    pub(crate) fn look_up(&mut self)
+        requires { self.old.made + 1 < 2 ^ 128 }
+        ensures { self.new ≡ record self.old { made = self.old.made + 1 } }
+    {
+        self.made += 1;
+    }
+
+    /// Counts one report.
+    pub(crate) fn report(&mut self)
+        requires { self.old.reported + 1 < 2 ^ 128 }
+        ensures { self.new ≡ record self.old { reported = self.old.reported + 1 } }
+    {
+        self.reported += 1;
+    }
+}
+
+/// Where the entries of a key stand among the entries of all keys.
+#[derive(Clone, Copy, Debug)]
+struct Span {
+    start: usize,
+    end: usize,
+}
+
+#[derive(Clone, Copy, Debug)]
+struct Node {
+    /// The parent and the byte that leads from it to here. The root has none.
+    from: Option<(usize, u8)>,
+    /// Where the entries stand, where the node's text is a key.
+    span: Option<Span>,
+}
+
+/// The entries that stand there.
+fn part<E>(entries: &[E], span: Span) -> &[E]
+    requires ordered { span.start ≤ span.end }
+    requires within { span.end ≤ length entries.now }
+    ensures { result.now ≡ slice_range entries.now span.start span.end }
+{
+    &entries[span.start..span.end]
+}
+
+/// The number of a node's parent; 0 for the root.
+fn parent_of(from: Option<(usize, u8)>) -> usize
+    ensures { result ≡ parent_of from }
+{
+    match from {
+        Some((parent, _byte)) => parent,
+        None => 0,
+    }
+}
+
+/// The byte that leads to a node from its parent; 0 for the root.
+fn byte_of(from: Option<(usize, u8)>) -> u8
+    ensures { result ≡ byte_of from }
+{
+    match from {
+        Some((_parent, byte)) => byte,
+        None => 0,
+    }
+}
+
+/// Keys, each with its entries.
+#[derive(Drop)]
+pub struct Trie<E> {
+    /// The root, and after it each node later than its parent.
+    nodes: Vec<Node>,
+    /// The entries of all keys, in one list, so that a key costs no allocation of its own. Those that a key had
+    /// before it was given others stay here, unused.
+    entries: Vec<E>,
+    /// The children of each node. In a text whose keys stand in order the child that is asked for is the last one or
+    /// new.
+    children: Chains,
+}
+
+impl<E> Model for Trie<E> {
+    ghost use Rattle.std.specs.Prelude.{map, length};
+    ghost use Rattle.hyphenation_trie.specs.Private.Growing.{IsGrowing};
+    ghost use Rattle.hyphenation_trie.specs.Trie.{Tree};
+    ghost use Rattle.hyphenation_trie.specs.Private.Trie.{tree_of, AreWithin};
+
+    ghost Value = { Tree E };
+
+    ghost view = { λ t. tree_of t.nodes.items t.entries.items };
+
+    ghost invariant = { λ t.
+        IsGrowing (map (λ n. n.from) t.nodes.items) t.children.last.items t.children.before.items
+        × AreWithin (length t.entries.items) t.nodes.items };
+}
+
+impl<E: Drop> Trie<E> {
+    /// The trie of no key: the root alone. The only error is memory.
+    pub fn new(alloc: Global) -> Result<Self, AllocError>
+        ensures { IfOk result (λ trie. trie ≡ record { texts = [] ∷ []; entries = None ∷ [] }) }
+    {
+        Self::with_room(alloc, 0)
+    }
+
+    /// The trie of no key, with room for so many nodes. The only error is memory.
+    ///
+    /// Room that is not used costs addresses and no memory. It saves the copies that growing makes.
+    pub fn with_room(alloc: Global, nodes: usize) -> Result<Self, AllocError>
+        ensures { IfOk result (λ trie. trie ≡ record { texts = [] ∷ []; entries = None ∷ [] }) }
+    {
+        let children = Chains::with_room(alloc, nodes)?;
+        let room = nodes;
+        let mut nodes = Vec::with_capacity(alloc, room)?;
+        nodes.push(Node {
+            from: None,
+            span: None,
+        })?;
+        Ok(Trie {
+            nodes,
+            entries: Vec::with_capacity(alloc, room)?,
+            children,
+        })
+    }
+
+    /// Moves these entries to a key, in place of those that it had. Whether it was a key.
+    ///
+    /// No other key changes, and the list is empty then and can be filled again. The only error is memory, and then
+    /// each key is as before.
+    pub fn insert(&mut self, key: &[u8], entries: &mut Vec<E>) -> Result<bool, AllocError>
+        ensures ok { OnOk result ((q : List ℕ) → key_at self.new q ≡
+            (if pointwise nat_eq key.now q then Some entries.old.items else key_at self.old q)) }
+        ensures had { IfOk result (λ had. had ≡ is_some (key_at self.old key.now)) }
+        ensures moved { OnOk result (entries.new.items ≡ []) }
+        ensures begins { OnOk result (EachBeginsKey self.old → EachBeginsKey self.new) }
+        ensures err { OnErr result ((q : List ℕ) → key_at self.new q ≡ key_at self.old q) }
+        ensures trie { OnOk result (IsTrie self.old × IsTrie self.new) }
+        ensures adds { AddsFront self.old self.new key.now }
+        ensures nodes { KeepsNodes self.old self.new }
+    {
+        let node = self.path(key)?;
+        let had = self.set_entries(node, entries)?;
+        Ok(had)
+    }
+
+    /// The root: the node of the empty text.
+    fn root(&self) -> usize
+        ensures root { result ≡ 0 }
+        ensures node { result < length self.now.texts }
+        ensures text { node_text self.now result ≡ [] }
+        ensures trie { IsTrie self.now }
+    {
+        // The look at a field tells the proof what is true of each trie.
+        let _nodes = &self.nodes;
+        0
+    }
+
+    /// The child of a node at a byte.
+    fn child_of(&self, node: usize, byte: u8) -> Option<usize>
+        requires { node < length self.now.texts }
+        ensures found { IfSome result (λ j.
+            (j < length self.now.texts) × (node_text self.now j ≡ node_text self.now node ++ byte ∷ [])) }
+        ensures none { IfNone result ((j : ℕ) → j < length self.now.texts
+            → node_text self.now j ≢ node_text self.now node
+            ++ byte ∷ []) }
+        ensures trie { IsTrie self.now }
+    {
+        let mut child = self.children.last[node];
+        while child != 0 {
+            if byte_of(self.nodes[child].from) == byte {
+                return Some(child);
+            }
+            child = self.children.before[child];
+        }
+        None
+    }
+
+    /// A new child of a node.
+    fn grow(&mut self, node: usize, byte: u8) -> Result<usize, AllocError>
+        requires node { node < length self.old.texts }
+        requires absent { (j : ℕ) → j < length self.old.texts
+            → node_text self.old j ≢ node_text self.old node ++ byte ∷ [] }
+        ensures ok { IfOk result (λ j. (j ≡ length self.old.texts) × (self.new ≡ with_child self.old node byte)) }
+        ensures err { OnErr result (self.new ≡ self.old) }
+    {
+        let child = self.nodes.len();
+        // Room first, so that no chain has a node that is then refused.
+        self.nodes.reserve(1)?;
+        self.children.add(node)?;
+        self.nodes
+            .push(Node {
+                from: Some((node, byte)),
+                span: None,
+            })
+            .unwrap();
+        Ok(child)
+    }
+
+    /// The child of a node at a byte, made where there is none.
+    fn step(&mut self, node: usize, byte: u8) -> Result<usize, AllocError>
+        requires { node < length self.old.texts }
+        ensures ok { IfOk result (λ j.
+            (j < length self.new.texts) × (node_text self.new j ≡ node_text self.old node ++ byte ∷ [])) }
+        ensures grows { Grows self.old self.new (node_text self.old node ++ byte ∷ []) }
+        ensures trie { IsTrie self.old }
+    {
+        match self.child_of(node, byte) {
+            Some(child) => Ok(child),
+            None => self.grow(node, byte),
+        }
+    }
+
+    /// The node of a text, made where there is none.
+    fn path(&mut self, text: &[u8]) -> Result<usize, AllocError>
+        ensures ok { IfOk result (λ j. (j < length self.new.texts) × (node_text self.new j ≡ text.now)) }
+        ensures keys { (q : List ℕ) → key_at self.new q ≡ key_at self.old q }
+        ensures adds { AddsFront self.old self.new text.now }
+        ensures nodes { KeepsNodes self.old self.new }
+        ensures trie { IsTrie self.old }
+    {
+        let mut node = self.root();
+        for byte in text {
+            node = self.step(node, *byte)?;
+        }
+        Ok(node)
+    }
+
+    /// Moves these entries to a node, in place of those that it had. Whether it had any.
+    fn set_entries(&mut self, node: usize, entries: &mut Vec<E>) -> Result<bool, AllocError>
+        requires { node < length self.old.texts }
+        ensures set { OnOk result (self.new ≡ with_entries self.old node entries.old.items) }
+        ensures had { IfOk result (λ had. had ≡ is_some (key_at self.old (node_text self.old node))) }
+        ensures moved { OnOk result (entries.new.items ≡ []) }
+        ensures err { OnErr result (self.new ≡ self.old) }
+        ensures trie { IsTrie self.old × IsTrie self.new }
+    {
+        let start = self.entries.len();
+        self.entries.append(entries)?;
+        let end = self.entries.len();
+        let old = self.nodes[node].span.replace(Span { start, end });
+        Ok(old.is_some())
+    }
+}
+
+impl<E> fmt::Debug for Trie<E> {
+    fn fmt<W: fmt::Write>(&self, f: &mut fmt::Formatter<W>) -> fmt::Result {
+        f.debug_struct("Trie")
+            .field("nodes", &self.nodes.len())
+            .finish()
+    }
+}

@@ -1,0 +1,329 @@
+//! The rows of the nodes, one over another in one list of cells.
+//!
+//! A row is 256 cells long, one for each byte, and most of it is empty: so the rows lie over one another, and each cell
+//! says whose it is. A look-up reads one cell.
+
+ghost use Rattle.std.specs.Prelude.{◌≡◌, ◌+◌, ◌<◌, ◌≤◌, ◌≢◌, ℕ, true, false, OnOk, IfOk, IfSome, length, slice_index, Some, None};
+ghost use Rattle.hyphenation_trie.specs.Private.Rows.{child_in, AreChildren, OwnsNone, IsFreeRow, HasRow};
+
+use std::alloc::{AllocError, Global};
+
+/// A child of a node, and the node. A free cell's owner is no node.
+#[derive(Clone, Copy)]
+pub(crate) struct Cell {
+    pub(crate) owner: usize,
+    pub(crate) child: usize,
+}
+
+/// The children of all nodes.
+#[derive(Drop)]
+pub(crate) struct Children {
+    /// The parent of each node, and the byte that leads from it.
+    pub(crate) parents: Vec<usize>,
+    pub(crate) bytes: Vec<u8>,
+    /// The last child of each node, and the sibling before each node.
+    pub(crate) last: Vec<usize>,
+    pub(crate) before: Vec<usize>,
+}
+
+/// The child at a byte of a node whose row begins at `base`.
+pub(crate) fn find(cells: &[Cell], base: usize, node: usize, byte: u8) -> Option<usize>
+    requires { base + 255 < length cells.now }
+    ensures { result ≡ child_in cells.now node (base + byte) }
+{
+    let cell = &cells[base + byte as usize];
+    if cell.owner == node {
+        Some(cell.child)
+    } else {
+        None
+    }
+}
+
+/// Writes a free cell.
+fn put(cells: &mut [Cell], free: usize, at: usize, node: usize, child: usize)
+    requires at { at < length cells.old }
+    requires free { child_in cells.old free at ≢ None }
+    requires node { node ≢ free }
+    ensures mine { child_in cells.new node at ≡ Some child }
+    ensures rest { (i c : ℕ) → c ≢ at → child_in cells.new i c ≡ child_in cells.old i c }
+    ensures apart { (i : ℕ) → i ≢ free → i ≢ node → child_in cells.new i at ≡ child_in cells.old i at }
+{
+    cells[at] = Cell { owner: node, child };
+}
+
+/// Grows by free cells up to a length.
+fn grow(cells: &mut Vec<Cell>, free: usize, len: usize) -> Result<(), AllocError>
+    ensures ok { OnOk result (len ≤ length cells.new.items) }
+    ensures longer { length cells.old.items ≤ length cells.new.items }
+    ensures same { (i c : ℕ) → i ≢ free → child_in cells.new.items i c ≡ child_in cells.old.items i c }
+    ensures old { (i c : ℕ) → c < length cells.old.items → child_in cells.new.items i c ≡ child_in cells.old.items i c }
+    ensures fresh { (c : ℕ) → length cells.old.items ≤ c → c < length cells.new.items
+        → child_in cells.new.items free c ≢ None }
+{
+    if cells.len() < len {
+        cells.resize(
+            len,
+            Cell {
+                owner: free,
+                child: 0,
+            },
+        )?;
+    }
+    Ok(())
+}
+
+/// Writes the row of a node into free cells.
+fn write_row(cells: &mut [Cell], free: usize, base: usize, node: usize, children: &Children)
+    requires children { AreChildren children.now.parents.items children.now.bytes.items children.now.last.items
+        children.now.before.items }
+    requires node { node < length children.now.parents.items }
+    requires free { node ≢ free }
+    requires room { base + 255 < length cells.old }
+    requires none { OwnsNone cells.old node }
+    requires fits { IsFreeRow children.now.parents.items children.now.bytes.items cells.old free base node }
+    ensures row { HasRow children.now.parents.items children.now.bytes.items cells.new base node }
+    ensures others { (i c : ℕ) → i ≢ free → i ≢ node → child_in cells.new i c ≡ child_in cells.old i c }
+{
+    let mut child = children.last[node];
+    while child != 0 {
+        let at = base + children.bytes[child] as usize;
+        put(cells, free, at, node, child);
+        child = children.before[child];
+    }
+}
+
+/// Whether the row of a node fits there: the cells in which its children would stand are free.
+fn fits(cells: &[Cell], free: usize, base: usize, node: usize, children: &Children) -> bool
+    requires children { AreChildren children.now.parents.items children.now.bytes.items children.now.last.items
+        children.now.before.items }
+    requires node { node < length children.now.parents.items }
+    requires room { base + 255 < length cells.now }
+    ensures fits { result ≡ true
+        → IsFreeRow children.now.parents.items children.now.bytes.items cells.now free base node }
+{
+    let mut child = children.last[node];
+    while child != 0 {
+        if cells[base + children.bytes[child] as usize].owner != free {
+            return false;
+        }
+        child = children.before[child];
+    }
+    true
+}
+
+/// How many places are tried for a row, and how far after the last cell in use the first of them lies. More of them
+/// pack the rows closer and take longer; there are so few that freezing takes time in the number of nodes alone.
+const TRIES: usize = 16;
+
+const BACK: usize = 64;
+
+/// Where free cells are: below `low` there is none, and from `top` on all are free. This only guides the search.
+#[derive(Drop)]
+struct Gaps {
+    low: usize,
+    top: usize,
+}
+
+/// The least and the greatest byte that leads from a node.
+fn span(node: usize, children: &Children) -> (usize, usize)
+    requires children { AreChildren children.now.parents.items children.now.bytes.items children.now.last.items
+        children.now.before.items }
+    requires node { node < length children.now.parents.items }
+{
+    let mut least = 255;
+    let mut greatest = 0;
+    let mut child = children.last[node];
+    while child != 0 {
+        let byte = children.bytes[child] as usize;
+        if byte < least {
+            least = byte;
+        }
+        if greatest < byte {
+            greatest = byte;
+        }
+        child = children.before[child];
+    }
+    (least, greatest)
+}
+
+/// The first free cell from one on.
+fn first_free(cells: &[Cell], free: usize, low: usize) -> usize {
+    for at in low..cells.len() {
+        if cells[at].owner == free {
+            return at;
+        }
+    }
+    cells.len()
+}
+
+/// The first place of some where the row of a node fits.
+fn first_fit(
+    cells: &[Cell],
+    free: usize,
+    from: usize,
+    to: usize,
+    node: usize,
+    children: &Children,
+) -> Option<usize>
+    requires children { AreChildren children.now.parents.items children.now.bytes.items children.now.last.items
+        children.now.before.items }
+    requires node { node < length children.now.parents.items }
+    ensures room { IfSome result (λ base. base + 255 < length cells.now) }
+    ensures fits { IfSome result (λ base.
+        IsFreeRow children.now.parents.items children.now.bytes.items cells.now free base node) }
+{
+    // Where a row fits not, mostly the cell of its last child is in use, so that is looked at first.
+    let last = children.bytes[children.last[node]] as usize;
+    // A row is 256 cells long.
+    let end = to.min(cells.len().saturating_sub(255));
+    for base in from..end {
+        if cells[base + last].owner == free && fits(cells, free, base, node, children) {
+            return Some(base);
+        }
+    }
+    None
+}
+
+/// A place where the row of a node fits, among those that are tried.
+fn place_of(
+    cells: &[Cell],
+    free: usize,
+    gaps: &mut Gaps,
+    node: usize,
+    children: &Children,
+) -> Option<usize>
+    requires children { AreChildren children.now.parents.items children.now.bytes.items children.now.last.items
+        children.now.before.items }
+    requires node { node < length children.now.parents.items }
+    ensures room { IfSome result (λ base. base + 255 < length cells.now) }
+    ensures fits { IfSome result (λ base.
+        IsFreeRow children.now.parents.items children.now.bytes.items cells.now free base node) }
+{
+    let (least, greatest) = span(node, children);
+    gaps.low = first_free(cells, free, gaps.low);
+    let near = gaps.top.saturating_sub(BACK);
+    // A row of one child goes into the first free cell.
+    let begin = if least == greatest || near < gaps.low {
+        gaps.low
+    } else {
+        near
+    };
+    let from = begin.saturating_sub(least);
+    if let Some(base) = first_fit(
+        cells,
+        free,
+        from,
+        from.saturating_add(TRIES),
+        node,
+        children,
+    ) {
+        let end = base.saturating_add(greatest).saturating_add(1);
+        if gaps.top < end {
+            gaps.top = end;
+        }
+        return Some(base);
+    }
+    let last = gaps.top.saturating_sub(least);
+    gaps.top = last.saturating_add(greatest).saturating_add(1);
+    first_fit(cells, free, last, last.saturating_add(1), node, children)
+}
+
+/// Grows by one row of free cells, and answers where it begins.
+fn add_row(cells: &mut Vec<Cell>, free: usize) -> Result<usize, AllocError>
+    ensures base { IfOk result (λ base. (base ≡ length cells.old.items) × (base + 255 < length cells.new.items)) }
+    ensures room { OnOk result (length cells.old.items + 255 < length cells.new.items) }
+    ensures longer { length cells.old.items ≤ length cells.new.items }
+    ensures same { (i c : ℕ) → i ≢ free → child_in cells.new.items i c ≡ child_in cells.old.items i c }
+    ensures fresh { (c : ℕ) → length cells.old.items ≤ c → c < length cells.new.items
+        → child_in cells.new.items free c ≢ None }
+{
+    let base = cells.len();
+    for count in 0..256usize {
+        cells.push(Cell {
+            owner: free,
+            child: 0,
+        })?;
+    }
+    Ok(base)
+}
+
+/// A place where the row of a node fits, after all others where none was found.
+fn make_place(
+    cells: &mut Vec<Cell>,
+    free: usize,
+    gaps: &mut Gaps,
+    node: usize,
+    children: &Children,
+) -> Result<usize, AllocError>
+    requires children { AreChildren children.now.parents.items children.now.bytes.items children.now.last.items
+        children.now.before.items }
+    requires node { node < length children.now.parents.items }
+    ensures room { IfOk result (λ base. base + 255 < length cells.new.items) }
+    ensures fits { IfOk result (λ base.
+        IsFreeRow children.now.parents.items children.now.bytes.items cells.new.items free base node) }
+    ensures longer { length cells.old.items ≤ length cells.new.items }
+    ensures same { (i c : ℕ) → i ≢ free → child_in cells.new.items i c ≡ child_in cells.old.items i c }
+{
+    grow(cells, free, gaps.top.saturating_add(256))?;
+    if let Some(base) = place_of(cells, free, gaps, node, children) {
+        return Ok(base);
+    }
+    add_row(cells, free)
+}
+
+/// Gives a node that owns no cell its row, and answers where the row begins.
+fn place_row(
+    cells: &mut Vec<Cell>,
+    free: usize,
+    gaps: &mut Gaps,
+    node: usize,
+    children: &Children,
+) -> Result<usize, AllocError>
+    requires children { AreChildren children.now.parents.items children.now.bytes.items children.now.last.items
+        children.now.before.items }
+    requires node { node < length children.now.parents.items }
+    requires free { node ≢ free }
+    requires room { 255 < length cells.old.items }
+    requires none { OwnsNone cells.old.items node }
+    ensures row { IfOk result (λ base.
+        HasRow children.now.parents.items children.now.bytes.items cells.new.items base node) }
+    ensures longer { length cells.old.items ≤ length cells.new.items }
+    ensures others { (i c : ℕ) → i ≢ free → i ≢ node → child_in cells.new.items i c ≡ child_in cells.old.items i c }
+{
+    if children.last[node] == 0 {
+        return Ok(0);
+    }
+    let base = make_place(cells, free, gaps, node, children)?;
+    write_row(cells, free, base, node, children);
+    Ok(base)
+}
+
+/// Where the row of each node begins, and the cells of all rows.
+#[derive(Drop)]
+pub(crate) struct Rows {
+    pub(crate) bases: Vec<usize>,
+    pub(crate) cells: Vec<Cell>,
+}
+
+/// The rows of all nodes.
+pub(crate) fn rows_of(alloc: Global, children: &Children) -> Result<Rows, AllocError>
+    requires children { AreChildren children.now.parents.items children.now.bytes.items children.now.last.items
+        children.now.before.items }
+    ensures nodes { IfOk result (λ rows. length rows.bases.items ≡ length children.now.parents.items) }
+    ensures rows { IfOk result (λ rows.
+        (i : ℕ) → i < length children.now.parents.items
+        → HasRow children.now.parents.items children.now.bytes.items rows.cells.items
+        (slice_index rows.bases.items i) i) }
+{
+    let free = children.parents.len();
+    let mut gaps = Gaps { low: 0, top: 0 };
+    // Some two cells for each node are enough as a rule. Room that is not used costs addresses and no memory.
+    let mut cells = Vec::with_capacity(alloc, free.saturating_mul(5) / 2)?;
+    add_row(&mut cells, free)?;
+    let mut bases = Vec::with_capacity(alloc, free)?;
+    for node in 0..children.parents.len() {
+        let base = place_row(&mut cells, free, &mut gaps, node, children)?;
+        bases.push(base)?;
+    }
+    Ok(Rows { bases, cells })
+}
