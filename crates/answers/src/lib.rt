@@ -96,13 +96,10 @@ pub fn places<'h, H: Hyphenator<'h>>(
 }
 
 /// Writes a word's items, with the mark `=`.
-fn push_items(
+fn push_items<I: Texts>(
     output: &mut String,
-    alloc: Global,
-    dictionary: &Standard,
-    word: &str,
+    mut items: Hyphenating<'_, I>,
 ) -> Result<(), AllocError> {
-    let mut items = dictionary.hyphenate(alloc, word)?.into_iter();
     items.mark_with("=");
     for item in items {
         output.push_str(item?.as_str())?;
@@ -114,32 +111,17 @@ fn push_items(
 pub fn marked(alloc: Global, dictionary: &Standard, words: &str) -> Result<String, AllocError> {
     let mut output = String::new(alloc);
     for word in words.split(' ') {
-        push_items(&mut output, alloc, dictionary, word)?;
+        push_items(&mut output, dictionary.hyphenate(alloc, word)?.into_iter())?;
         output.push(' ')?;
     }
     Ok(output)
 }
 
-/// Writes a word's items as they are changed, with the mark `=`.
-fn push_changed(
-    output: &mut String,
-    alloc: Global,
-    dictionary: &Extended,
-    word: &str,
-) -> Result<(), AllocError> {
-    let mut items = dictionary.hyphenate(alloc, word)?.into_iter();
-    items.mark_with("=");
-    for item in items {
-        output.push_str(item?.as_str())?;
-    }
-    Ok(())
-}
-
-/// Words that a space parts, each as its items, changed, with the mark `=`, and a space after it.
+/// The same by an extended dictionary: the items are changed as it says.
 pub fn changed(alloc: Global, dictionary: &Extended, words: &str) -> Result<String, AllocError> {
     let mut output = String::new(alloc);
     for word in words.split(' ') {
-        push_changed(&mut output, alloc, dictionary, word)?;
+        push_items(&mut output, dictionary.hyphenate(alloc, word)?.into_iter())?;
         output.push(' ')?;
     }
     Ok(output)

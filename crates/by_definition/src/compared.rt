@@ -136,93 +136,49 @@ struct Edit {
     is_listed: bool,
 }
 
-/// The first of four words near the book that the dictionary does not score and break as the book says.
-fn standard_mismatch(
-    alloc: Global,
-    dice: &mut Dice,
-    dictionary: &Standard,
-    book: &Book,
-    compared: &mut Compared,
-) -> Result<Option<String>, AllocError> {
-    for _ in 0..4 {
-        let word = dice.word_near(alloc, book)?;
-        if !is_standard_as(alloc, dictionary, book, &word)? {
-            return Ok(Some(word));
+/// A kind of dictionary, as it is compared with a book.
+trait Kind: Load {
+    /// Its name in line 1 of a text.
+    fn name() -> &'static str;
+
+    /// Whether its breaks may have changes.
+    fn has_changes() -> bool;
+
+    /// Whether it scores and breaks the word as the book says.
+    fn is_as(&self, alloc: Global, book: &Book, word: &str) -> Result<bool, AllocError>;
+
+    /// Lists the cuts for the word. Whether the word was an exception.
+    fn set(&mut self, alloc: Global, word: &str, cuts: &[Cut]) -> Result<bool, Fail>;
+
+    /// Takes the word out of the exceptions. Whether it was one.
+    fn take_out(&mut self, word: &str) -> bool;
+}
+
+impl Kind for Standard {
+    fn name() -> &'static str {
+        "standard"
+    }
+
+    fn has_changes() -> bool {
+        false
+    }
+
+    fn is_as(&self, alloc: Global, book: &Book, word: &str) -> Result<bool, AllocError> {
+        is_standard_as(alloc, self, book, word)
+    }
+
+    fn set(&mut self, alloc: Global, word: &str, cuts: &[Cut]) -> Result<bool, Fail> {
+        let list = listed_places(alloc, cuts)?;
+        if !Standard::fits(word, &list) {
+            return Err(Fail::from("the list does not fit"));
         }
-        compared.note_word();
+        let old = self.add_exception(String::from_str(alloc, word)?, list)?;
+        Ok(old.is_some())
     }
-    Ok(None)
-}
 
-/// Sets an exception, or takes one out.
-fn edit_standard(
-    alloc: Global,
-    dice: &mut Dice,
-    dictionary: &mut Standard,
-    book: &mut Book,
-) -> Result<Edit, Fail> {
-    let word = dice.word_near(alloc, book)?;
-    let cuts = dice.cuts(alloc, &word, false)?;
-    let has_change = cuts.iter().any(|cut| cut.change.is_some());
-    let list = listed_places(alloc, &cuts)?;
-    let is_listed = book.take_out(&word);
-    let takes_out = dice.below(3) == 0;
-    let had = if takes_out {
-        dictionary.remove_exception(&word).is_some()
-    } else if Standard::fits(&word, &list) {
-        book.list(alloc, &word, cuts)?;
-        dictionary
-            .add_exception(String::from_str(alloc, &word)?, list)?
-            .is_some()
-    } else {
-        return Err(Fail::from("the list does not fit"));
-    };
-    if had != is_listed {
-        return Err(Fail::from("an exception stood in one and not in the other"));
+    fn take_out(&mut self, word: &str) -> bool {
+        self.remove_exception(word).is_some()
     }
-    Ok(Edit {
-        word,
-        takes_out,
-        has_change,
-        is_listed,
-    })
-}
-
-/// The first of five words that a dictionary by chance does not score and break as its book says, the fifth after an
-/// edit of its exceptions; with the dictionary's text.
-fn standard_round(
-    alloc: Global,
-    dice: &mut Dice,
-    compared: &mut Compared,
-) -> Result<Option<(String, String)>, Fail> {
-    let mut book = dice.book(alloc, false)?;
-    let text = book.text(alloc, "standard")?;
-    let mut reader = text.as_bytes();
-    let mut dictionary = Standard::any_from_reader(alloc, &mut reader)?;
-    compared.note_text(&text);
-    if let Some(word) = standard_mismatch(alloc, dice, &dictionary, &book, compared)? {
-        return Ok(Some((text, word)));
-    }
-    let edit = edit_standard(alloc, dice, &mut dictionary, &mut book)?;
-    compared.note_edit(&edit);
-    compared.note_word();
-    if is_standard_as(alloc, &dictionary, &book, &edit.word)? {
-        Ok(None)
-    } else {
-        Ok(Some((text, edit.word)))
-    }
-}
-
-#[test]
-fn standard_dictionaries_answer_as_the_second_hand(rt: HostRuntime) -> Result<(), Fail> {
-    let mut dice = Dice(1);
-    let mut compared = NOTHING;
-    for _ in 0..2_000 {
-        let mismatch = standard_round(rt.alloc(), &mut dice, &mut compared)?;
-        assert!(rt; mismatch.is_none(), "{mismatch:?}");
-    }
-    assert!(rt; compared.is_enough());
-    Ok(())
 }
 
 /// The list of an exception, as an extended dictionary takes it; nothing where a change can't be made.
@@ -248,17 +204,44 @@ fn listed_changes(
     Ok(Some(list))
 }
 
+impl Kind for Extended {
+    fn name() -> &'static str {
+        "extended"
+    }
+
+    fn has_changes() -> bool {
+        true
+    }
+
+    fn is_as(&self, alloc: Global, book: &Book, word: &str) -> Result<bool, AllocError> {
+        is_extended_as(alloc, self, book, word)
+    }
+
+    fn set(&mut self, alloc: Global, word: &str, cuts: &[Cut]) -> Result<bool, Fail> {
+        let list = listed_changes(alloc, cuts)?.ok_or("no change")?;
+        if !Extended::fits(word, &list) {
+            return Err(Fail::from("the list does not fit"));
+        }
+        let old = self.add_exception(String::from_str(alloc, word)?, list)?;
+        Ok(old.is_some())
+    }
+
+    fn take_out(&mut self, word: &str) -> bool {
+        self.remove_exception(word).is_some()
+    }
+}
+
 /// The first of four words near the book that the dictionary does not score and break as the book says.
-fn extended_mismatch(
+fn first_mismatch<K: Kind>(
     alloc: Global,
     dice: &mut Dice,
-    dictionary: &Extended,
+    dictionary: &K,
     book: &Book,
     compared: &mut Compared,
 ) -> Result<Option<String>, AllocError> {
     for _ in 0..4 {
         let word = dice.word_near(alloc, book)?;
-        if !is_extended_as(alloc, dictionary, book, &word)? {
+        if !dictionary.is_as(alloc, book, &word)? {
             return Ok(Some(word));
         }
         compared.note_word();
@@ -266,28 +249,24 @@ fn extended_mismatch(
     Ok(None)
 }
 
-/// Sets an exception, of which some places have changes, or takes one out.
-fn edit_extended(
+/// Sets an exception, of which some places may have changes, or takes one out.
+fn edit<K: Kind>(
     alloc: Global,
     dice: &mut Dice,
-    dictionary: &mut Extended,
+    dictionary: &mut K,
     book: &mut Book,
 ) -> Result<Edit, Fail> {
     let word = dice.word_near(alloc, book)?;
-    let cuts = dice.cuts(alloc, &word, true)?;
+    let cuts = dice.cuts(alloc, &word, K::has_changes())?;
     let has_change = cuts.iter().any(|cut| cut.change.is_some());
-    let list = listed_changes(alloc, &cuts)?.ok_or("no change")?;
     let is_listed = book.take_out(&word);
     let takes_out = dice.below(3) == 0;
     let had = if takes_out {
-        dictionary.remove_exception(&word).is_some()
-    } else if Extended::fits(&word, &list) {
-        book.list(alloc, &word, cuts)?;
-        dictionary
-            .add_exception(String::from_str(alloc, &word)?, list)?
-            .is_some()
+        dictionary.take_out(&word)
     } else {
-        return Err(Fail::from("the list does not fit"));
+        let had = dictionary.set(alloc, &word, &cuts)?;
+        book.list(alloc, &word, cuts)?;
+        had
     };
     if had != is_listed {
         return Err(Fail::from("an exception stood in one and not in the other"));
@@ -302,23 +281,23 @@ fn edit_extended(
 
 /// The first of five words that a dictionary by chance does not score and break as its book says, the fifth after an
 /// edit of its exceptions; with the dictionary's text.
-fn extended_round(
+fn round<K: Kind>(
     alloc: Global,
     dice: &mut Dice,
     compared: &mut Compared,
 ) -> Result<Option<(String, String)>, Fail> {
-    let mut book = dice.book(alloc, true)?;
-    let text = book.text(alloc, "extended")?;
+    let mut book = dice.book(alloc, K::has_changes())?;
+    let text = book.text(alloc, K::name())?;
     let mut reader = text.as_bytes();
-    let mut dictionary = Extended::any_from_reader(alloc, &mut reader)?;
+    let mut dictionary = K::any_from_reader(alloc, &mut reader)?;
     compared.note_text(&text);
-    if let Some(word) = extended_mismatch(alloc, dice, &dictionary, &book, compared)? {
+    if let Some(word) = first_mismatch(alloc, dice, &dictionary, &book, compared)? {
         return Ok(Some((text, word)));
     }
-    let edit = edit_extended(alloc, dice, &mut dictionary, &mut book)?;
+    let edit = edit(alloc, dice, &mut dictionary, &mut book)?;
     compared.note_edit(&edit);
     compared.note_word();
-    if is_extended_as(alloc, &dictionary, &book, &edit.word)? {
+    if dictionary.is_as(alloc, &book, &edit.word)? {
         Ok(None)
     } else {
         Ok(Some((text, edit.word)))
@@ -326,11 +305,23 @@ fn extended_round(
 }
 
 #[test]
+fn standard_dictionaries_answer_as_the_second_hand(rt: HostRuntime) -> Result<(), Fail> {
+    let mut dice = Dice(1);
+    let mut compared = NOTHING;
+    for _ in 0..2_000 {
+        let mismatch = round::<Standard>(rt.alloc(), &mut dice, &mut compared)?;
+        assert!(rt; mismatch.is_none(), "{mismatch:?}");
+    }
+    assert!(rt; compared.is_enough());
+    Ok(())
+}
+
+#[test]
 fn extended_dictionaries_answer_as_the_second_hand(rt: HostRuntime) -> Result<(), Fail> {
     let mut dice = Dice(2);
     let mut compared = NOTHING;
     for _ in 0..2_000 {
-        let mismatch = extended_round(rt.alloc(), &mut dice, &mut compared)?;
+        let mismatch = round::<Extended>(rt.alloc(), &mut dice, &mut compared)?;
         assert!(rt; mismatch.is_none(), "{mismatch:?}");
     }
     assert!(rt; compared.is_enough() && compared.changed > 500);

@@ -16,8 +16,7 @@ ghost use Rattle.hyphenation.specs.Private.Winners.{best_of, meets, Sane, Asked}
 use super::framed_at;
 use hyphenation_commons::breaks::Break;
 use hyphenation_commons::dictionary::{Dictionary, Entry, Payload};
-use hyphenation_trie::LookUps;
-use hyphenation_trie::Automaton;
+use hyphenation_trie::{Automaton, LookUps};
 use std::alloc::{AllocError, Global};
 
 /// The better of what is best so far, with where its key starts, and an entry of a key that starts there.

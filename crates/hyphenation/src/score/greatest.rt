@@ -14,8 +14,7 @@ ghost use Rattle.hyphenation.specs.Scoring.{frame, greatest_value, values};
 
 use hyphenation_commons::breaks::Break;
 use hyphenation_commons::dictionary::{Dictionary, Entry, Payload};
-use hyphenation_trie::LookUps;
-use hyphenation_trie::Automaton;
+use hyphenation_trie::{Automaton, LookUps};
 use std::alloc::{AllocError, Global};
 
 /// Raises the value of the place for which `start + place` stands, if that is within the word.
