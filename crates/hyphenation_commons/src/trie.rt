@@ -98,17 +98,28 @@ impl LookUps {
     }
 }
 
+/// A number in 32 bits, as a dictionary holds all its numbers. One that needs more is refused as if memory were: the
+/// dictionary would take more than 2^32 nodes, cells or entries.
+fn in_32_bits(number: usize) -> Result<u32, AllocError>
+    ensures { IfOk result (λ held. held ≡ number) }
+{
+    match u32::try_from(number) {
+        Ok(held) => Ok(held),
+        Err(_) => Err(AllocError),
+    }
+}
+
 /// Where the entries of a key stand among the entries of all keys.
 #[derive(Clone, Copy, Debug)]
 struct Span {
-    start: usize,
-    end: usize,
+    start: u32,
+    end: u32,
 }
 
 #[derive(Clone, Copy, Debug)]
 struct Node {
     /// The parent and the byte that leads from it to here. The root has none.
-    from: Option<(usize, u8)>,
+    from: Option<(u32, u8)>,
     /// Where the entries stand, where the node's text is a key.
     span: Option<Span>,
 }
@@ -119,11 +130,11 @@ fn part<E>(entries: &[E], span: Span) -> &[E]
     requires within { span.end ≤ length entries.now }
     ensures { result.now ≡ slice_range entries.now span.start span.end }
 {
-    &entries[span.start..span.end]
+    &entries[span.start as usize..span.end as usize]
 }
 
 /// The number of a node's parent; 0 for the root.
-fn parent_of(from: Option<(usize, u8)>) -> usize
+fn parent_of(from: Option<(u32, u8)>) -> u32
     ensures { result ≡ parent_of from }
 {
     match from {
@@ -133,7 +144,7 @@ fn parent_of(from: Option<(usize, u8)>) -> usize
 }
 
 /// The byte that leads to a node from its parent; 0 for the root.
-fn byte_of(from: Option<(usize, u8)>) -> u8
+fn byte_of(from: Option<(u32, u8)>) -> u8
     ensures { result ≡ byte_of from }
 {
     match from {
@@ -242,10 +253,10 @@ impl<E: Drop> Trie<E> {
     {
         let mut child = self.children.last[node];
         while child != 0 {
-            if byte_of(self.nodes[child].from) == byte {
-                return Some(child);
+            if byte_of(self.nodes[child as usize].from) == byte {
+                return Some(child as usize);
             }
-            child = self.children.before[child];
+            child = self.children.before[child as usize];
         }
         None
     }
@@ -261,10 +272,11 @@ impl<E: Drop> Trie<E> {
         let child = self.nodes.len();
         // Room first, so that no chain has a node that is then refused.
         self.nodes.reserve(1)?;
+        let parent = in_32_bits(node)?;
         self.children.add(node)?;
         self.nodes
             .push(Node {
-                from: Some((node, byte)),
+                from: Some((parent, byte)),
                 span: None,
             })
             .unwrap();
@@ -309,9 +321,9 @@ impl<E: Drop> Trie<E> {
         ensures err { OnErr result (self.new ≡ self.old) }
         ensures trie { IsTrie self.old × IsTrie self.new }
     {
-        let start = self.entries.len();
+        let start = in_32_bits(self.entries.len())?;
+        let end = in_32_bits(self.entries.len().saturating_add(entries.len()))?;
         self.entries.append(entries)?;
-        let end = self.entries.len();
         let old = self.nodes[node].span.replace(Span { start, end });
         Ok(old.is_some())
     }
