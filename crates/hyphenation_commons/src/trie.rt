@@ -103,9 +103,10 @@ impl LookUps {
 fn in_32_bits(number: usize) -> Result<u32, AllocError>
     ensures { IfOk result (λ held. held ≡ number) }
 {
-    match u32::try_from(number) {
-        Ok(held) => Ok(held),
-        Err(_) => Err(AllocError),
+    if number <= u32::MAX as usize {
+        Ok(number as u32)
+    } else {
+        Err(AllocError)
     }
 }
 
@@ -230,7 +231,7 @@ impl<E: Drop> Trie<E> {
     }
 
     /// The root: the node of the empty text.
-    fn root(&self) -> usize
+    fn root(&self) -> u32
         ensures root { result ≡ 0 }
         ensures node { result < length self.now.texts }
         ensures text { node_text self.now result ≡ [] }
@@ -242,7 +243,7 @@ impl<E: Drop> Trie<E> {
     }
 
     /// The child of a node at a byte.
-    fn child_of(&self, node: usize, byte: u8) -> Option<usize>
+    fn child_of(&self, node: u32, byte: u8) -> Option<u32>
         requires { node < length self.now.texts }
         ensures found { IfSome result (λ j.
             (j < length self.now.texts) × (node_text self.now j ≡ node_text self.now node ++ byte ∷ [])) }
@@ -251,10 +252,10 @@ impl<E: Drop> Trie<E> {
             ++ byte ∷ []) }
         ensures trie { IsTrie self.now }
     {
-        let mut child = self.children.last[node];
+        let mut child = self.children.last[node as usize];
         while child != 0 {
             if byte_of(self.nodes[child as usize].from) == byte {
-                return Some(child as usize);
+                return Some(child);
             }
             child = self.children.before[child as usize];
         }
@@ -262,21 +263,20 @@ impl<E: Drop> Trie<E> {
     }
 
     /// A new child of a node.
-    fn grow(&mut self, node: usize, byte: u8) -> Result<usize, AllocError>
+    fn grow(&mut self, node: u32, byte: u8) -> Result<u32, AllocError>
         requires node { node < length self.old.texts }
         requires absent { (j : ℕ) → j < length self.old.texts
             → node_text self.old j ≢ node_text self.old node ++ byte ∷ [] }
         ensures ok { IfOk result (λ j. (j ≡ length self.old.texts) × (self.new ≡ with_child self.old node byte)) }
         ensures err { OnErr result (self.new ≡ self.old) }
     {
-        let child = self.nodes.len();
+        let child = in_32_bits(self.nodes.len())?;
         // Room first, so that no chain has a node that is then refused.
         self.nodes.reserve(1)?;
-        let parent = in_32_bits(node)?;
-        self.children.add(node)?;
+        self.children.add(node as usize, child)?;
         self.nodes
             .push(Node {
-                from: Some((parent, byte)),
+                from: Some((node, byte)),
                 span: None,
             })
             .unwrap();
@@ -284,7 +284,7 @@ impl<E: Drop> Trie<E> {
     }
 
     /// The child of a node at a byte, made where there is none.
-    fn step(&mut self, node: usize, byte: u8) -> Result<usize, AllocError>
+    fn step(&mut self, node: u32, byte: u8) -> Result<u32, AllocError>
         requires { node < length self.old.texts }
         ensures ok { IfOk result (λ j.
             (j < length self.new.texts) × (node_text self.new j ≡ node_text self.old node ++ byte ∷ [])) }
@@ -298,7 +298,7 @@ impl<E: Drop> Trie<E> {
     }
 
     /// The node of a text, made where there is none.
-    fn path(&mut self, text: &[u8]) -> Result<usize, AllocError>
+    fn path(&mut self, text: &[u8]) -> Result<u32, AllocError>
         ensures ok { IfOk result (λ j. (j < length self.new.texts) × (node_text self.new j ≡ text.now)) }
         ensures keys { (q : List ℕ) → key_at self.new q ≡ key_at self.old q }
         ensures adds { AddsFront self.old self.new text.now }
@@ -313,7 +313,7 @@ impl<E: Drop> Trie<E> {
     }
 
     /// Moves these entries to a node, in place of those that it had. Whether it had any.
-    fn set_entries(&mut self, node: usize, entries: &mut Vec<E>) -> Result<bool, AllocError>
+    fn set_entries(&mut self, node: u32, entries: &mut Vec<E>) -> Result<bool, AllocError>
         requires { node < length self.old.texts }
         ensures set { OnOk result (self.new ≡ with_entries self.old node entries.old.items) }
         ensures had { IfOk result (λ had. had ≡ is_some (key_at self.old (node_text self.old node))) }
@@ -321,10 +321,11 @@ impl<E: Drop> Trie<E> {
         ensures err { OnErr result (self.new ≡ self.old) }
         ensures trie { IsTrie self.old × IsTrie self.new }
     {
-        let start = in_32_bits(self.entries.len())?;
-        let end = in_32_bits(self.entries.len().saturating_add(entries.len()))?;
+        let start = self.entries.len();
+        let end = in_32_bits(start.saturating_add(entries.len()))?;
+        let start = start as u32;
         self.entries.append(entries)?;
-        let old = self.nodes[node].span.replace(Span { start, end });
+        let old = self.nodes[node as usize].span.replace(Span { start, end });
         Ok(old.is_some())
     }
 }
