@@ -100,17 +100,29 @@ impl LookUps {
     }
 }
 
+/// A number in 32 bits, as a dictionary holds all its numbers. One that needs more is refused as if memory were: the
+/// dictionary would take more than 2^32 nodes, cells or entries.
+fn in_32_bits(number: usize) -> Result<u32, AllocError>
+    ensures { IfOk result (λ held. held ≡ number) }
+{
+    if number <= u32::MAX as usize {
+        Ok(number as u32)
+    } else {
+        Err(AllocError)
+    }
+}
+
 /// Where the entries of a key stand among the entries of all keys.
 #[derive(Clone, Copy, Debug)]
 struct Span {
-    start: usize,
-    end: usize,
+    start: u32,
+    end: u32,
 }
 
 #[derive(Clone, Copy, Debug)]
 struct Node {
     /// The parent and the byte that leads from it to here. The root has none.
-    from: Option<(usize, u8)>,
+    from: Option<(u32, u8)>,
     /// Where the entries stand, where the node's text is a key.
     span: Option<Span>,
 }
@@ -121,11 +133,11 @@ fn part<E>(entries: &[E], span: Span) -> &[E]
     requires within { span.end ≤ length entries.now }
     ensures { result.now ≡ slice_range entries.now span.start span.end }
 {
-    &entries[span.start..span.end]
+    &entries[span.start as usize..span.end as usize]
 }
 
 /// The number of a node's parent; 0 for the root.
-fn parent_of(from: Option<(usize, u8)>) -> usize
+fn parent_of(from: Option<(u32, u8)>) -> u32
     ensures { result ≡ parent_of from }
 {
     match from {
@@ -135,7 +147,7 @@ fn parent_of(from: Option<(usize, u8)>) -> usize
 }
 
 /// The byte that leads to a node from its parent; 0 for the root.
-fn byte_of(from: Option<(usize, u8)>) -> u8
+fn byte_of(from: Option<(u32, u8)>) -> u8
     ensures { result ≡ byte_of from }
 {
     match from {
@@ -221,7 +233,7 @@ impl<E: Drop> Trie<E> {
     }
 
     /// The root: the node of the empty text.
-    fn root(&self) -> usize
+    fn root(&self) -> u32
         ensures root { result ≡ 0 }
         ensures node { result < length self.now.texts }
         ensures text { node_text self.now result ≡ [] }
@@ -233,7 +245,7 @@ impl<E: Drop> Trie<E> {
     }
 
     /// The child of a node at a byte.
-    fn child_of(&self, node: usize, byte: u8) -> Option<usize>
+    fn child_of(&self, node: u32, byte: u8) -> Option<u32>
         requires { node < length self.now.texts }
         ensures found { IfSome result (λ j.
             (j < length self.now.texts) × (node_text self.now j ≡ node_text self.now node ++ byte ∷ [])) }
@@ -242,28 +254,28 @@ impl<E: Drop> Trie<E> {
             ++ byte ∷ []) }
         ensures trie { IsTrie self.now }
     {
-        let mut child = self.children.last[node];
+        let mut child = self.children.last[node as usize];
         while child != 0 {
-            if byte_of(self.nodes[child].from) == byte {
+            if byte_of(self.nodes[child as usize].from) == byte {
                 return Some(child);
             }
-            child = self.children.before[child];
+            child = self.children.before[child as usize];
         }
         None
     }
 
     /// A new child of a node.
-    fn grow(&mut self, node: usize, byte: u8) -> Result<usize, AllocError>
+    fn grow(&mut self, node: u32, byte: u8) -> Result<u32, AllocError>
         requires node { node < length self.old.texts }
         requires absent { (j : ℕ) → j < length self.old.texts
             → node_text self.old j ≢ node_text self.old node ++ byte ∷ [] }
         ensures ok { IfOk result (λ j. (j ≡ length self.old.texts) × (self.new ≡ with_child self.old node byte)) }
         ensures err { OnErr result (self.new ≡ self.old) }
     {
-        let child = self.nodes.len();
+        let child = in_32_bits(self.nodes.len())?;
         // Room first, so that no chain has a node that is then refused.
         self.nodes.reserve(1)?;
-        self.children.add(node)?;
+        self.children.add(node as usize, child)?;
         self.nodes
             .push(Node {
                 from: Some((node, byte)),
@@ -274,7 +286,7 @@ impl<E: Drop> Trie<E> {
     }
 
     /// The child of a node at a byte, made where there is none.
-    fn step(&mut self, node: usize, byte: u8) -> Result<usize, AllocError>
+    fn step(&mut self, node: u32, byte: u8) -> Result<u32, AllocError>
         requires { node < length self.old.texts }
         ensures ok { IfOk result (λ j.
             (j < length self.new.texts) × (node_text self.new j ≡ node_text self.old node ++ byte ∷ [])) }
@@ -288,7 +300,7 @@ impl<E: Drop> Trie<E> {
     }
 
     /// The node of a text, made where there is none.
-    fn path(&mut self, text: &[u8]) -> Result<usize, AllocError>
+    fn path(&mut self, text: &[u8]) -> Result<u32, AllocError>
         ensures ok { IfOk result (λ j. (j < length self.new.texts) × (node_text self.new j ≡ text.now)) }
         ensures keys { (q : List ℕ) → key_at self.new q ≡ key_at self.old q }
         ensures adds { AddsFront self.old self.new text.now }
@@ -303,7 +315,7 @@ impl<E: Drop> Trie<E> {
     }
 
     /// Moves these entries to a node, in place of those that it had. Whether it had any.
-    fn set_entries(&mut self, node: usize, entries: &mut Vec<E>) -> Result<bool, AllocError>
+    fn set_entries(&mut self, node: u32, entries: &mut Vec<E>) -> Result<bool, AllocError>
         requires { node < length self.old.texts }
         ensures set { OnOk result (self.new ≡ with_entries self.old node entries.old.items) }
         ensures had { IfOk result (λ had. had ≡ is_some (key_at self.old (node_text self.old node))) }
@@ -312,9 +324,10 @@ impl<E: Drop> Trie<E> {
         ensures trie { IsTrie self.old × IsTrie self.new }
     {
         let start = self.entries.len();
+        let end = in_32_bits(start.saturating_add(entries.len()))?;
+        let start = start as u32;
         self.entries.append(entries)?;
-        let end = self.entries.len();
-        let old = self.nodes[node].span.replace(Span { start, end });
+        let old = self.nodes[node as usize].span.replace(Span { start, end });
         Ok(old.is_some())
     }
 }

@@ -6,33 +6,34 @@
 ghost use Rattle.std.specs.Prelude.{◌≡◌, ◌+◌, ◌<◌, ◌≤◌, ◌≢◌, ℕ, true, false, OnOk, IfOk, IfSome, length, slice_index, Some, None};
 ghost use Rattle.hyphenation_trie.specs.Private.Rows.{child_in, AreChildren, OwnsNone, IsFreeRow, HasRow};
 
+use super::in_32_bits;
 use std::alloc::{AllocError, Global};
 
 /// A child of a node, and the node. A free cell's owner is no node.
 #[derive(Clone, Copy)]
 pub(crate) struct Cell {
-    pub(crate) owner: usize,
-    pub(crate) child: usize,
+    pub(crate) owner: u32,
+    pub(crate) child: u32,
 }
 
 /// The children of all nodes.
 #[derive(Drop)]
 pub(crate) struct Children {
     /// The parent of each node, and the byte that leads from it.
-    pub(crate) parents: Vec<usize>,
+    pub(crate) parents: Vec<u32>,
     pub(crate) bytes: Vec<u8>,
     /// The last child of each node, and the sibling before each node.
-    pub(crate) last: Vec<usize>,
-    pub(crate) before: Vec<usize>,
+    pub(crate) last: Vec<u32>,
+    pub(crate) before: Vec<u32>,
 }
 
 /// The child at a byte of a node whose row begins at `base`.
-pub(crate) fn find(cells: &[Cell], base: usize, node: usize, byte: u8) -> Option<usize>
+pub(crate) fn find(cells: &[Cell], base: usize, node: usize, byte: u8) -> Option<u32>
     requires { base + 255 < length cells.now }
     ensures { result ≡ child_in cells.now node (base + byte) }
 {
     let cell = &cells[base + byte as usize];
-    if cell.owner == node {
+    if cell.owner as usize == node {
         Some(cell.child)
     } else {
         None
@@ -40,7 +41,7 @@ pub(crate) fn find(cells: &[Cell], base: usize, node: usize, byte: u8) -> Option
 }
 
 /// Writes a free cell.
-fn put(cells: &mut [Cell], free: usize, at: usize, node: usize, child: usize)
+fn put(cells: &mut [Cell], free: u32, at: usize, node: u32, child: u32)
     requires at { at < length cells.old }
     requires free { child_in cells.old free at ≢ None }
     requires node { node ≢ free }
@@ -52,7 +53,7 @@ fn put(cells: &mut [Cell], free: usize, at: usize, node: usize, child: usize)
 }
 
 /// Grows by free cells up to a length.
-fn grow(cells: &mut Vec<Cell>, free: usize, len: usize) -> Result<(), AllocError>
+fn grow(cells: &mut Vec<Cell>, free: u32, len: usize) -> Result<(), AllocError>
     ensures ok { OnOk result (len ≤ length cells.new.items) }
     ensures longer { length cells.old.items ≤ length cells.new.items }
     ensures same { (i c : ℕ) → i ≢ free → child_in cells.new.items i c ≡ child_in cells.old.items i c }
@@ -73,7 +74,7 @@ fn grow(cells: &mut Vec<Cell>, free: usize, len: usize) -> Result<(), AllocError
 }
 
 /// Writes the row of a node into free cells.
-fn write_row(cells: &mut [Cell], free: usize, base: usize, node: usize, children: &Children)
+fn write_row(cells: &mut [Cell], free: u32, base: usize, node: u32, children: &Children)
     requires children { AreChildren children.now.parents.items children.now.bytes.items children.now.last.items
         children.now.before.items }
     requires node { node < length children.now.parents.items }
@@ -84,16 +85,16 @@ fn write_row(cells: &mut [Cell], free: usize, base: usize, node: usize, children
     ensures row { HasRow children.now.parents.items children.now.bytes.items cells.new base node }
     ensures others { (i c : ℕ) → i ≢ free → i ≢ node → child_in cells.new i c ≡ child_in cells.old i c }
 {
-    let mut child = children.last[node];
+    let mut child = children.last[node as usize];
     while child != 0 {
-        let at = base + children.bytes[child] as usize;
+        let at = base + children.bytes[child as usize] as usize;
         put(cells, free, at, node, child);
-        child = children.before[child];
+        child = children.before[child as usize];
     }
 }
 
 /// Whether the row of a node fits there: the cells in which its children would stand are free.
-fn fits(cells: &[Cell], free: usize, base: usize, node: usize, children: &Children) -> bool
+fn fits(cells: &[Cell], free: u32, base: usize, node: u32, children: &Children) -> bool
     requires children { AreChildren children.now.parents.items children.now.bytes.items children.now.last.items
         children.now.before.items }
     requires node { node < length children.now.parents.items }
@@ -101,12 +102,12 @@ fn fits(cells: &[Cell], free: usize, base: usize, node: usize, children: &Childr
     ensures fits { result ≡ true
         → IsFreeRow children.now.parents.items children.now.bytes.items cells.now free base node }
 {
-    let mut child = children.last[node];
+    let mut child = children.last[node as usize];
     while child != 0 {
-        if cells[base + children.bytes[child] as usize].owner != free {
+        if cells[base + children.bytes[child as usize] as usize].owner != free {
             return false;
         }
-        child = children.before[child];
+        child = children.before[child as usize];
     }
     true
 }
@@ -125,29 +126,29 @@ struct Gaps {
 }
 
 /// The least and the greatest byte that leads from a node.
-fn span(node: usize, children: &Children) -> (usize, usize)
+fn span(node: u32, children: &Children) -> (usize, usize)
     requires children { AreChildren children.now.parents.items children.now.bytes.items children.now.last.items
         children.now.before.items }
     requires node { node < length children.now.parents.items }
 {
     let mut least = 255;
     let mut greatest = 0;
-    let mut child = children.last[node];
+    let mut child = children.last[node as usize];
     while child != 0 {
-        let byte = children.bytes[child] as usize;
+        let byte = children.bytes[child as usize] as usize;
         if byte < least {
             least = byte;
         }
         if greatest < byte {
             greatest = byte;
         }
-        child = children.before[child];
+        child = children.before[child as usize];
     }
     (least, greatest)
 }
 
 /// The first free cell from one on.
-fn first_free(cells: &[Cell], free: usize, low: usize) -> usize {
+fn first_free(cells: &[Cell], free: u32, low: usize) -> usize {
     for at in low..cells.len() {
         if cells[at].owner == free {
             return at;
@@ -159,10 +160,10 @@ fn first_free(cells: &[Cell], free: usize, low: usize) -> usize {
 /// The first place of some where the row of a node fits.
 fn first_fit(
     cells: &[Cell],
-    free: usize,
+    free: u32,
     from: usize,
     to: usize,
-    node: usize,
+    node: u32,
     children: &Children,
 ) -> Option<usize>
     requires children { AreChildren children.now.parents.items children.now.bytes.items children.now.last.items
@@ -173,7 +174,7 @@ fn first_fit(
         IsFreeRow children.now.parents.items children.now.bytes.items cells.now free base node) }
 {
     // Where a row fits not, mostly the cell of its last child is in use, so that is looked at first.
-    let last = children.bytes[children.last[node]] as usize;
+    let last = children.bytes[children.last[node as usize] as usize] as usize;
     // A row is 256 cells long.
     let end = to.min(cells.len().saturating_sub(255));
     for base in from..end {
@@ -187,9 +188,9 @@ fn first_fit(
 /// A place where the row of a node fits, among those that are tried.
 fn place_of(
     cells: &[Cell],
-    free: usize,
+    free: u32,
     gaps: &mut Gaps,
-    node: usize,
+    node: u32,
     children: &Children,
 ) -> Option<usize>
     requires children { AreChildren children.now.parents.items children.now.bytes.items children.now.last.items
@@ -229,7 +230,7 @@ fn place_of(
 }
 
 /// Grows by one row of free cells, and answers where it begins.
-fn add_row(cells: &mut Vec<Cell>, free: usize) -> Result<usize, AllocError>
+fn add_row(cells: &mut Vec<Cell>, free: u32) -> Result<usize, AllocError>
     ensures base { IfOk result (λ base. (base ≡ length cells.old.items) × (base + 255 < length cells.new.items)) }
     ensures room { OnOk result (length cells.old.items + 255 < length cells.new.items) }
     ensures longer { length cells.old.items ≤ length cells.new.items }
@@ -250,9 +251,9 @@ fn add_row(cells: &mut Vec<Cell>, free: usize) -> Result<usize, AllocError>
 /// A place where the row of a node fits, after all others where none was found.
 fn make_place(
     cells: &mut Vec<Cell>,
-    free: usize,
+    free: u32,
     gaps: &mut Gaps,
-    node: usize,
+    node: u32,
     children: &Children,
 ) -> Result<usize, AllocError>
     requires children { AreChildren children.now.parents.items children.now.bytes.items children.now.last.items
@@ -274,9 +275,9 @@ fn make_place(
 /// Gives a node that owns no cell its row, and answers where the row begins.
 fn place_row(
     cells: &mut Vec<Cell>,
-    free: usize,
+    free: u32,
     gaps: &mut Gaps,
-    node: usize,
+    node: u32,
     children: &Children,
 ) -> Result<usize, AllocError>
     requires children { AreChildren children.now.parents.items children.now.bytes.items children.now.last.items
@@ -290,7 +291,7 @@ fn place_row(
     ensures longer { length cells.old.items ≤ length cells.new.items }
     ensures others { (i c : ℕ) → i ≢ free → i ≢ node → child_in cells.new.items i c ≡ child_in cells.old.items i c }
 {
-    if children.last[node] == 0 {
+    if children.last[node as usize] == 0 {
         return Ok(0);
     }
     let base = make_place(cells, free, gaps, node, children)?;
@@ -301,7 +302,7 @@ fn place_row(
 /// Where the row of each node begins, and the cells of all rows.
 #[derive(Drop)]
 pub(crate) struct Rows {
-    pub(crate) bases: Vec<usize>,
+    pub(crate) bases: Vec<u32>,
     pub(crate) cells: Vec<Cell>,
 }
 
@@ -315,14 +316,16 @@ pub(crate) fn rows_of(alloc: Global, children: &Children) -> Result<Rows, AllocE
         → HasRow children.now.parents.items children.now.bytes.items rows.cells.items
         (slice_index rows.bases.items i) i) }
 {
-    let free = children.parents.len();
+    let nodes = children.parents.len();
+    let free = in_32_bits(nodes)?;
     let mut gaps = Gaps { low: 0, top: 0 };
     // Some two cells for each node are enough as a rule. Room that is not used costs addresses and no memory.
-    let mut cells = Vec::with_capacity(alloc, free.saturating_mul(5) / 2)?;
+    let mut cells = Vec::with_capacity(alloc, nodes.saturating_mul(5) / 2)?;
     add_row(&mut cells, free)?;
-    let mut bases = Vec::with_capacity(alloc, free)?;
-    for node in 0..children.parents.len() {
-        let base = place_row(&mut cells, free, &mut gaps, node, children)?;
+    let mut bases = Vec::with_capacity(alloc, nodes)?;
+    for node in 0..free {
+        let place = place_row(&mut cells, free, &mut gaps, node, children)?;
+        let base = in_32_bits(place)?;
         bases.push(base)?;
     }
     Ok(Rows { bases, cells })

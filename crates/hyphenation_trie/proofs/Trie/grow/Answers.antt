@@ -17,7 +17,10 @@ members_count froms lasts befores held = held.chained.lengths ∙ length-map fro
 pub add-requires : goal.add-requires
 add-requires g c =
     let asked = rw (← c.self.view_is) at c.requires in
-    omega (arith, length-texts_of (map (λ n. n.from) c.self.inside.nodes.items), asked.node, c.self.invariant.0.nodes)
+    record {
+      class = omega (arith, length-texts_of (map (λ n. n.from) c.self.inside.nodes.items), asked.node, c.self.invariant.0.nodes);
+      member = froms_count c.self.inside.nodes.items c.in_ok-child.child (c.in_ok-child.ensures ∙ c.len.ensures ∙ c.self.inside.nodes.ok.0) ∙ sym (members_count _ _ _ c.self.invariant.0);
+    }
 
 pub invariant_of-self : goal.invariant_of-self
 invariant_of-self g c = rw c.reserve.ensures.items c.self.invariant
@@ -40,5 +43,5 @@ invariant_of-self-2 g c =
 pub returns-clause-ok : goal.returns-clause-ok
 returns-clause-ok g c =
     let items = rw (c.unwrap.ensures, c.reserve.ensures.items) at c.push.ensures.items in
-    let count = froms_count c.self.inside.nodes.items c.len-child.result (c.len-child.ensures ∙ c.self.inside.nodes.ok.0) in
+    let count = froms_count c.self.inside.nodes.items c.in_ok-child.child (c.in_ok-child.ensures ∙ c.len.ensures ∙ c.self.inside.nodes.ok.0) in
     rw (← c.self.view_is, items) (count ∙ sym (length-texts_of _), seen-grown c.self.inside.nodes.items c.self.inside.entries.items c.args.node c.args.byte)

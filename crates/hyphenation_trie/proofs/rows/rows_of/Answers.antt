@@ -13,11 +13,12 @@ loop-node-preserved c =
     let old = c.loop-node.bases.items in
     let base : ℕ = c.in_ok-base.base in
     let cells = c.place_row.new.cells.items in
+    let row : HasRow parents bytes cells base node = subst (λ (x : ℕ). HasRow parents bytes cells x node) (sym c.in_ok-base.ensures) c.in_ok-place.ensures.row in
     let pushed : c.push.new.self.items ≡ old ++ base ∷ [] = c.in_ok-push.ensures.items in
     record {
       bases = ap length pushed ∙ length-append old (base ∷ []) ∙ ap (λ (x : ℕ). x + 1) inv.bases;
       room = omega (arith, inv.room, c.place_row.ensures.longer);
       placed = λ i li. subst (λ (xs : List ℕ). HasRow parents bytes cells (slice_index xs i) i) (sym pushed)
-          (placed_more parents bytes old c.loop-node.cells.items cells c.len-free.result node base inv.bases (omega arith) (omega arith) c.place_row.ensures.longer c.in_ok-base.ensures.row c.place_row.ensures.others inv.placed i li);
-      left = λ i low lt k. c.place_row.ensures.others i k (λ e. absurd (omega arith)) (λ e. absurd (omega arith)) ∙ inv.left i (omega arith) lt k;
+          (placed_more parents bytes old c.loop-node.cells.items cells c.in_ok-free.free node base inv.bases (omega arith) (omega (arith, c.in_ok-free.ensures)) c.place_row.ensures.longer row c.place_row.ensures.others inv.placed i li);
+      left = λ i low lt k. c.place_row.ensures.others i k (λ e. absurd (omega (arith, c.in_ok-free.ensures))) (λ e. absurd (omega arith)) ∙ inv.left i (omega arith) lt k;
     }
