@@ -9,12 +9,12 @@ use Rattle.std.proofs.lemmas.List.Splits.{slice_split_at, slice_split_none}
 use Rattle.std.proofs.lemmas.Str.{IsUtf8-append, IsUtf8-nil, is_utf8-from_IsUtf8}
 use Rattle.std.proofs.lemmas.Bool.{leb-true, and_from, and_left, and_right, le-leb, ltb-true, not-true, or_left, or_right}
 use Rattle.std.proofs.lemmas.Bool.Decides.{nat_tests}
-use Rattle.hyphenation_commons.specs.Break.{Break, Change, is_boundary, keeps_within}
+use Rattle.hyphenation_commons.specs.Break.{Break, Change, ascend_on, is_boundary, keeps_within}
 use Rattle.hyphenation_commons.specs.declared.grammar.form.Form.{Form}
 use Rattle.hyphenation_commons.specs.declared.grammar.form.Kind.{Kind}
 use Rattle.hyphenation_commons.specs.declared.grammar.form.Version.{Version}
 use Rattle.hyphenation_commons.specs.Items.{break_of_token, change_at, pattern_of_line, exception_of_line}
-use Rattle.hyphenation_commons.specs.Judging.{is_good_later_token, good_places, has_value_at, fails, own_cause, is_known}
+use Rattle.hyphenation_commons.specs.Judging.{is_good_later_token, has_value_at, fails, own_cause, is_known}
 use Rattle.hyphenation_commons.specs.Invariant.{fits_usize, can_be_said, can_be_said_if_any, stays_within, lists_within, is_value, are_entries, are_listed, has_letter}
 use Rattle.hyphenation_commons.specs.Lines.{is_number}
 use Rattle.hyphenation_commons.specs.Tokens.{elements_of, pattern_bytes, text_spelt, key_of, values_from, two_values, numerals_of, is_readable, place_of}
@@ -100,13 +100,13 @@ module _ (form : Form) where
   feed_each [] w = tt
   feed_each (b ∷ bs) w = free-append 10 (32 ∷ token_of b) (later_tokens bs) (refl, (tell b (first_of b bs w)).free 10 feed) (feed_each bs (rest_of b bs w))
 
-  pub places_each : (text : List ℕ) (least : ℕ) (bs : List Break) → list_all (is_sayable form.kind) bs ≡ true → are_listed (λ b. b) text least bs ≡ true → good_places text least (tokens_for bs) ≡ true
+  pub places_each : (text : List ℕ) (least : ℕ) (bs : List Break) → list_all (is_sayable form.kind) bs ≡ true → are_listed (λ b. b) text least bs ≡ true → ascend_on text least (map place_of (tokens_for bs)) ≡ true
   places_each text least [] w l = refl
   places_each text least (b ∷ bs) w l =
       let at : place_of (token_of b) ≡ b.place = ap (λ (x : Break). x.place) (tell b (first_of b bs w)).listed in
       let front = both_left (nat_le least b.place && is_boundary text b.place && lists_within text b.place b.change) (are_listed (λ b. b) text (b.place + 1) bs) l in
-      ap (λ (p : ℕ). nat_le least p && is_boundary text p && good_places text (p + 1) (tokens_for bs)) at
-      ∙ and_from (nat_le least b.place && is_boundary text b.place) (good_places text (b.place + 1) (tokens_for bs))
+      ap (λ (p : ℕ). nat_le least p && is_boundary text p && ascend_on text (p + 1) (map place_of (tokens_for bs))) at
+      ∙ and_from (nat_le least b.place && is_boundary text b.place) (ascend_on text (b.place + 1) (map place_of (tokens_for bs)))
       (both_left (nat_le least b.place && is_boundary text b.place) (lists_within text b.place b.change) front)
       (places_each text (b.place + 1) bs (rest_of b bs w) (both_right (nat_le least b.place && is_boundary text b.place && lists_within text b.place b.change) (are_listed (λ b. b) text (b.place + 1) bs) l))
 
@@ -190,8 +190,8 @@ module _ (form : Form) (word : List ℕ) (bs : List Break) (u : IsUtf8 word) (al
         pattern = refl;
         letters = refl;
         number = ap (λ (ts : List (List ℕ)). not (list_all (λ token. list_all is_number (numerals_of token)) (drop 1 ts))) e_toks ∙ ap not (numbers_each form bs w);
-        place = ap (λ (ts : List (List ℕ)). not (good_places (unwrap_or (text_spelt (get_or ts 0 [])) []) 0 (drop 1 ts))) e_toks
-            ∙ ap (λ (o : Option (List ℕ)). not (good_places (unwrap_or o []) 0 (tokens_for bs))) t ∙ ap not (places_each form word 0 bs w l);
+        place = ap (λ (ts : List (List ℕ)). not (ascend_on (unwrap_or (text_spelt (get_or ts 0 [])) []) 0 (map place_of (drop 1 ts)))) e_toks
+            ∙ ap (λ (o : Option (List ℕ)). not (ascend_on (unwrap_or o []) 0 (map place_of (tokens_for bs)))) t ∙ ap not (places_each form word 0 bs w l);
         change = ap (λ (ts : List (List ℕ)). not (list_all (is_good_later_token form false (unwrap_or (elements_of form.version (get_or ts 0 [])) []) (unwrap_or (text_spelt (get_or ts 0 [])) [])) (drop 1 ts))) e_toks
             ∙ ap (λ (o : Option (List ℕ)). not (list_all (is_good_later_token form false (unwrap_or (elements_of form.version (text_token word)) []) (unwrap_or o [])) (tokens_for bs))) t
             ∙ ap not (good_each form false (unwrap_or (elements_of form.version (text_token word)) []) word 0 bs w l (λ e. absurd cc));
@@ -393,9 +393,9 @@ module _ (form : Form) (whole : List ℕ) (es : List (Entry (Option Change))) (u
         pattern = ap (λ (ts : List (List ℕ)). two_values false (read_marks (get_or ts 0 []))) p_toks ∙ ap (λ (o : Option (List PatternElement)). two_values false (unwrap_or o [])) p_marks ∙ no_two 0 whole es;
         letters = ap (λ (ts : List (List ℕ)). list_all (λ b. b == 46) (key_of (read_marks (get_or ts 0 [])))) p_toks ∙ ap (λ (o : Option (List PatternElement)). list_all (λ b. b == 46) (key_of (unwrap_or o []))) p_marks ∙ ap (list_all (λ b. b == 46)) p_key ∙ not-true (list_all (λ b. b == 46) whole) letter;
         number = ap (λ (ts : List (List ℕ)). not (list_all (λ token. list_all is_number (numerals_of token)) (drop 1 ts))) p_toks ∙ ap not (numbers_each form the_breaks p_writable);
-        place = ap (λ (ts : List (List ℕ)). not (good_places (key_of (read_marks (get_or ts 0 []))) 0 (drop 1 ts))) p_toks
-            ∙ ap (λ (o : Option (List PatternElement)). not (good_places (key_of (unwrap_or o [])) 0 (tokens_for the_breaks))) p_marks
-            ∙ ap (λ (k : List ℕ). not (good_places k 0 (tokens_for the_breaks))) p_key ∙ ap not (places_each form whole 0 the_breaks p_writable p_listed);
+        place = ap (λ (ts : List (List ℕ)). not (ascend_on (key_of (read_marks (get_or ts 0 []))) 0 (map place_of (drop 1 ts)))) p_toks
+            ∙ ap (λ (o : Option (List PatternElement)). not (ascend_on (key_of (unwrap_or o [])) 0 (map place_of (tokens_for the_breaks)))) p_marks
+            ∙ ap (λ (k : List ℕ). not (ascend_on k 0 (map place_of (tokens_for the_breaks)))) p_key ∙ ap not (places_each form whole 0 the_breaks p_writable p_listed);
         change = ap (λ (ts : List (List ℕ)). not (list_all (is_good_later_token form true (read_marks (get_or ts 0 [])) (key_of (read_marks (get_or ts 0 [])))) (drop 1 ts))) p_toks
             ∙ ap (λ (o : Option (List PatternElement)). not (list_all (is_good_later_token form true (unwrap_or o []) (key_of (unwrap_or o []))) (tokens_for the_breaks))) p_marks
             ∙ ap (λ (k : List ℕ). not (list_all (is_good_later_token form true the_marks k) (tokens_for the_breaks))) p_key

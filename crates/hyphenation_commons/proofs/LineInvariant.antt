@@ -7,13 +7,13 @@ use Rattle.std.specs.Str.{is_utf8}
 use Rattle.std.proofs.lemmas.List.{get_or_past}
 use Rattle.std.proofs.lemmas.Bool.Decides.{nat_tests}
 use Rattle.std.proofs.lemmas.Str.{IsUtf8-from_is_utf8, is_utf8-from_IsUtf8, IsUtf8-nil, IsCharBoundary-at_seam}
-use Rattle.hyphenation_commons.specs.Break.{Break, Change, is_boundary, keeps_within}
+use Rattle.hyphenation_commons.specs.Break.{Break, Change, ascend_on, is_boundary, keeps_within}
 use Rattle.hyphenation_commons.specs.declared.grammar.form.Form.{Form}
 use Rattle.hyphenation_commons.specs.Invariant.{fits_usize, can_be_said, is_value, stays_within, are_entries, are_listed, IsPattern, IsException}
 use Rattle.hyphenation_commons.specs.Lines.{same, starts_with, is_digit, has_no_leading_zero, is_number, is_small, number}
 use Rattle.hyphenation_commons.specs.Tokens.{escaped_bytes_of, bytes_of, element_of, is_raw, is_raw_digit, braced_value, step_outside, step_inside, elements_from, elements_of, pattern_bytes, text_spelt, key_of, values_from, two_values, has_comma, parts_of, numerals_of, place_of, change_of, is_whole}
 use Rattle.hyphenation_commons.specs.Items.{is_pattern, is_exception, tokens_of, first_token_of, later_tokens_of, pattern_elements, key_of_line, word_of_line, counted_text, break_of_token, breaks_of_line, change_at, entries_of_line}
-use Rattle.hyphenation_commons.specs.Judging.{is_item, is_extended, has_value_at, is_good_later_token, good_places, fails, own_cause}
+use Rattle.hyphenation_commons.specs.Judging.{is_item, is_extended, has_value_at, is_good_later_token, fails, own_cause}
 use Rattle.hyphenation_commons.specs.declared.dictionary.Entry.{Entry}
 use Rattle.hyphenation_commons.specs.declared.grammar.Cause.TheVariants.{NotUtf8, Header, Language, Minima, UnknownLine, Token, Value as BadValue, Pattern, NoLetters, Number, Place, Change as BadChange}
 use Rattle.hyphenation_commons.specs.declared.grammar.form.Version.{Version}
@@ -207,15 +207,15 @@ module _ (form : Form) (in_pattern : Bool) (marks : List PatternElement) (text :
           (stays token u.0 (both_left (has_numbers token) (list_all has_numbers later) n) (both_left (is_good_later_token form in_pattern marks text token) (list_all (is_good_later_token form in_pattern marks text) later) e))
       by false is more = more
 
-  pub listed-stand : (least : ℕ) (later : List (List ℕ)) → AllUtf8 later → list_all has_numbers later ≡ true → good_places text least later ≡ true → list_all (is_good_later_token form in_pattern marks text) later ≡ true
+  pub listed-stand : (least : ℕ) (later : List (List ℕ)) → AllUtf8 later → list_all has_numbers later ≡ true → ascend_on text least (map place_of later) ≡ true → list_all (is_good_later_token form in_pattern marks text) later ≡ true
       → are_listed (λ b. b) text least (map break_of_token later) ≡ true
   listed-stand least [] u n places good = refl
   listed-stand least (token ∷ later) u n places good =
-      let front = both_left (nat_le least (place_of token) && is_boundary text (place_of token)) (good_places text (place_of token + 1) later) places in
+      let front = both_left (nat_le least (place_of token) && is_boundary text (place_of token)) (ascend_on text (place_of token + 1) (map place_of later)) places in
       let numbers = both_left (has_numbers token) (list_all has_numbers later) n in
       let here : stays_within text (place_of token) (break_of_token token).change ≡ true = stays token u.0 numbers (both_left (is_good_later_token form in_pattern marks text token) (list_all (is_good_later_token form in_pattern marks text) later) good) in
       let rest : are_listed (λ b. b) text (place_of token + 1) (map break_of_token later) ≡ true =
-      listed-stand (place_of token + 1) later u.1 (both_right (has_numbers token) (list_all has_numbers later) n) (both_right (nat_le least (place_of token) && is_boundary text (place_of token)) (good_places text (place_of token + 1) later) places)
+      listed-stand (place_of token + 1) later u.1 (both_right (has_numbers token) (list_all has_numbers later) n) (both_right (nat_le least (place_of token) && is_boundary text (place_of token)) (ascend_on text (place_of token + 1) (map place_of later)) places)
       (both_right (is_good_later_token form in_pattern marks text token) (list_all (is_good_later_token form in_pattern marks text) later) good) in
       joined (nat_le least (place_of token) && is_boundary text (place_of token)) (fits_usize (place_of token)) (stays_within text (place_of token) (break_of_token token).change) (are_listed (λ b. b) text (place_of token + 1) (map break_of_token later)) front (place_short token numbers) here rest
     where
@@ -397,7 +397,7 @@ module _ (form : Form) (number : ℕ) (line : List ℕ) (none : own_cause form n
   exception-kept sort =
       let item : is_item line ≡ true = either_right (is_pattern line) (is_exception line) sort in
       let off : is_pattern line ≡ false = apart line sort in
-      let places : good_places (counted_text form.version line) 0 (later_tokens_of line) ≡ true = item_test (good_places (counted_text form.version line) 0 (later_tokens_of line)) passed.place item in
+      let places : ascend_on (counted_text form.version line) 0 (map place_of (later_tokens_of line)) ≡ true = item_test (ascend_on (counted_text form.version line) 0 (map place_of (later_tokens_of line))) passed.place item in
       let good : list_all (is_good_later_token form (is_pattern line) (pattern_elements form.version line) (counted_text form.version line)) (later_tokens_of line) ≡ true = item_test (list_all (is_good_later_token form (is_pattern line) (pattern_elements form.version line) (counted_text form.version line)) (later_tokens_of line)) passed.change item in
       let rest : IsUtf8 (drop 2 line) = after_two 101 32 (omega arith) (omega arith) line sort line-utf8 in
       let numbers : list_all has_numbers (later_tokens_of line) ≡ true = item_test (list_all has_numbers (later_tokens_of line)) passed.numbers item in
