@@ -51,16 +51,18 @@ said_of : (text : List ℕ) (place : ℕ) (o : Option Change) → stays_within t
 said_of text place None s = refl
 said_of text place (Some c) s = both_right (fits_usize place) (can_be_said c) (both_left (fits_usize place && can_be_said c) (keeps_within text place c) s)
 
-listed-sayable : (kind : Kind) (text : List ℕ) (least : ℕ) (bs : List Break) → are_listed (λ b. b) text least bs ≡ true → are_allowed kind bs ≡ true → list_all (is_sayable kind) bs ≡ true
-listed-sayable kind text least [] l w = refl
-listed-sayable kind text least (b ∷ bs) l w =
-    let front = both_left (nat_le least b.place && is_boundary text b.place && lists_within text b.place b.change) (are_listed (λ b. b) text (b.place + 1) bs) l in
-    let here = both_right (nat_le least b.place && is_boundary text b.place) (lists_within text b.place b.change) front in
+abbrev are_within : List ℕ → List Break → Bool
+are_within text bs = list_all (λ b. lists_within text b.place b.change) bs
+
+listed-sayable : (kind : Kind) (text : List ℕ) (bs : List Break) → are_within text bs ≡ true → are_allowed kind bs ≡ true → list_all (is_sayable kind) bs ≡ true
+listed-sayable kind text [] l w = refl
+listed-sayable kind text (b ∷ bs) l w =
+    let here = both_left (lists_within text b.place b.change) (are_within text bs) l in
     and_from (is_sayable kind b) (list_all (is_sayable kind) bs)
     (and_from (fits_usize b.place && can_be_said_if_any b.change) (is_allowed kind b.change)
     (and_from (fits_usize b.place) (can_be_said_if_any b.change) (both_left (fits_usize b.place) (stays_within text b.place b.change) here) (said_of text b.place b.change (both_right (fits_usize b.place) (stays_within text b.place b.change) here)))
     (both_left (is_allowed kind b.change) (are_allowed kind bs) w))
-    (listed-sayable kind text (b.place + 1) bs (both_right (nat_le least b.place && is_boundary text b.place && lists_within text b.place b.change) (are_listed (λ b. b) text (b.place + 1) bs) l) (both_right (is_allowed kind b.change) (are_allowed kind bs) w))
+    (listed-sayable kind text bs (both_right (lists_within text b.place b.change) (are_within text bs) l) (both_right (is_allowed kind b.change) (are_allowed kind bs) w))
 
 module _ (form : Form) where
   tell : (b : Break) → is_sayable form.kind b ≡ true → Tells (token_of b) b
@@ -100,30 +102,23 @@ module _ (form : Form) where
   feed_each [] w = tt
   feed_each (b ∷ bs) w = free-append 10 (32 ∷ token_of b) (later_tokens bs) (refl, (tell b (first_of b bs w)).free 10 feed) (feed_each bs (rest_of b bs w))
 
-  pub places_each : (text : List ℕ) (least : ℕ) (bs : List Break) → list_all (is_sayable form.kind) bs ≡ true → are_listed (λ b. b) text least bs ≡ true → ascend_on text least (map place_of (tokens_for bs)) ≡ true
-  places_each text least [] w l = refl
-  places_each text least (b ∷ bs) w l =
-      let at : place_of (token_of b) ≡ b.place = ap (λ (x : Break). x.place) (tell b (first_of b bs w)).listed in
-      let front = both_left (nat_le least b.place && is_boundary text b.place && lists_within text b.place b.change) (are_listed (λ b. b) text (b.place + 1) bs) l in
-      ap (λ (p : ℕ). nat_le least p && is_boundary text p && ascend_on text (p + 1) (map place_of (tokens_for bs))) at
-      ∙ and_from (nat_le least b.place && is_boundary text b.place) (ascend_on text (b.place + 1) (map place_of (tokens_for bs)))
-      (both_left (nat_le least b.place && is_boundary text b.place) (lists_within text b.place b.change) front)
-      (places_each text (b.place + 1) bs (rest_of b bs w) (both_right (nat_le least b.place && is_boundary text b.place && lists_within text b.place b.change) (are_listed (λ b. b) text (b.place + 1) bs) l))
+  pub places_each : (bs : List Break) → list_all (is_sayable form.kind) bs ≡ true → map place_of (tokens_for bs) ≡ map (λ b. b.place) bs
+  places_each [] w = refl
+  places_each (b ∷ bs) w = λ i. ((tell b (first_of b bs w)).listed i).place ∷ places_each bs (rest_of b bs w) i
 
   -- each is a change at the place of a value
   abbrev pub AllBelong : List PatternElement → List Break → Type 0
   AllBelong marks [] = Unit {0}
   AllBelong marks (b ∷ bs) = ((is_some b.change ≡ true) × (has_value_at marks b.place ≡ true)) × AllBelong marks bs
 
-  pub good_each : (in_pattern : Bool) (marks : List PatternElement) (text : List ℕ) (least : ℕ) (bs : List Break) → list_all (is_sayable form.kind) bs ≡ true → are_listed (λ b. b) text least bs ≡ true
+  pub good_each : (in_pattern : Bool) (marks : List PatternElement) (text : List ℕ) (bs : List Break) → list_all (is_sayable form.kind) bs ≡ true → are_within text bs ≡ true
       → (in_pattern ≡ true → AllBelong marks bs) → list_all (is_good_later_token form in_pattern marks text) (tokens_for bs) ≡ true
-  good_each in_pattern marks text least [] w l belong = refl
-  good_each in_pattern marks text least (b ∷ bs) w l belong =
-      let front = both_left (nat_le least b.place && is_boundary text b.place && lists_within text b.place b.change) (are_listed (λ b. b) text (b.place + 1) bs) l in
+  good_each in_pattern marks text [] w l belong = refl
+  good_each in_pattern marks text (b ∷ bs) w l belong =
       and_from (is_good_later_token form in_pattern marks text (token_of b)) (list_all (is_good_later_token form in_pattern marks text) (tokens_for bs))
       (good form in_pattern marks text (token_of b) b.place b.change (tell b (first_of b bs w)) (both_right (fits_usize b.place && can_be_said_if_any b.change) (is_allowed form.kind b.change) (first_of b bs w))
-      (both_right (fits_usize b.place) (stays_within text b.place b.change) (both_right (nat_le least b.place && is_boundary text b.place) (lists_within text b.place b.change) front)) (λ e. (belong e).0))
-      (good_each in_pattern marks text (b.place + 1) bs (rest_of b bs w) (both_right (nat_le least b.place && is_boundary text b.place && lists_within text b.place b.change) (are_listed (λ b. b) text (b.place + 1) bs) l) (λ e. (belong e).1))
+      (both_right (fits_usize b.place) (stays_within text b.place b.change) (both_left (lists_within text b.place b.change) (are_within text bs) l)) (λ e. (belong e).0))
+      (good_each in_pattern marks text bs (rest_of b bs w) (both_right (lists_within text b.place b.change) (are_within text bs) l) (λ e. (belong e).1))
 
 -- ---- A line that passes each test of its own.
 
@@ -171,9 +166,15 @@ known_by false = refl
 
 -- ---- A line of a word.
 
-module _ (form : Form) (word : List ℕ) (bs : List Break) (u : IsUtf8 word) (allowed : are_allowed form.kind bs ≡ true) (l : are_listed (λ b. b) word 0 bs ≡ true) where
+module _ (form : Form) (word : List ℕ) (bs : List Break) (u : IsUtf8 word) (allowed : are_allowed form.kind bs ≡ true) (l : are_listed (λ b. b) word bs ≡ true) where
+  l_places : ascend_on word 0 (map (λ b. b.place) bs) ≡ true
+  l_places = both_left (ascend_on word 0 (map (λ b. b.place) bs)) (are_within word bs) l
+
+  l_within : are_within word bs ≡ true
+  l_within = both_right (ascend_on word 0 (map (λ b. b.place) bs)) (are_within word bs) l
+
   w : list_all (is_sayable form.kind) bs ≡ true
-  w = listed-sayable form.kind word 0 bs l allowed
+  w = listed-sayable form.kind word bs l_within allowed
 
   e_toks : slice_split (λ b. eqb b 32) (text_token word ++ later_tokens bs) ≡ text_token word ∷ tokens_for bs
   e_toks = tokens_again form (text_token word) bs (text-free 32 space word) w
@@ -191,10 +192,10 @@ module _ (form : Form) (word : List ℕ) (bs : List Break) (u : IsUtf8 word) (al
         letters = refl;
         number = ap (λ (ts : List (List ℕ)). not (list_all (λ token. list_all is_number (numerals_of token)) (drop 1 ts))) e_toks ∙ ap not (numbers_each form bs w);
         place = ap (λ (ts : List (List ℕ)). not (ascend_on (unwrap_or (text_spelt (get_or ts 0 [])) []) 0 (map place_of (drop 1 ts)))) e_toks
-            ∙ ap (λ (o : Option (List ℕ)). not (ascend_on (unwrap_or o []) 0 (map place_of (tokens_for bs)))) t ∙ ap not (places_each form word 0 bs w l);
+            ∙ ap (λ (o : Option (List ℕ)). not (ascend_on (unwrap_or o []) 0 (map place_of (tokens_for bs)))) t ∙ ap not (ap (ascend_on word 0) (places_each form bs w) ∙ l_places);
         change = ap (λ (ts : List (List ℕ)). not (list_all (is_good_later_token form false (unwrap_or (elements_of form.version (get_or ts 0 [])) []) (unwrap_or (text_spelt (get_or ts 0 [])) [])) (drop 1 ts))) e_toks
             ∙ ap (λ (o : Option (List ℕ)). not (list_all (is_good_later_token form false (unwrap_or (elements_of form.version (text_token word)) []) (unwrap_or o [])) (tokens_for bs))) t
-            ∙ ap not (good_each form false (unwrap_or (elements_of form.version (text_token word)) []) word 0 bs w l (λ e. absurd cc));
+            ∙ ap not (good_each form false (unwrap_or (elements_of form.version (text_token word)) []) word bs w l_within (λ e. absurd cc));
       }
 
   pub exception-spelt : exception_of_line (exception_line word bs) ≡ Some (word, bs)
@@ -267,20 +268,27 @@ no_two at (b ∷ key) (e ∷ es) = by (eqb e.place at) (no_two (at + 1) key es) 
     by false h k = k
 
 -- the changes of entries are listed as they are
-changes-listed : (key : List ℕ) (least at : ℕ) (es : List (Entry (Option Change))) → at ≤ least → are_entries (λ c. c) key least es ≡ true → are_listed (λ b. b) key at (changes_of es) ≡ true
-changes-listed key least at [] le a = refl
-changes-listed key least at (e ∷ es) le a =
+changes-ascend : (key : List ℕ) (least at : ℕ) (es : List (Entry (Option Change))) → at ≤ least → are_entries (λ c. c) key least es ≡ true → ascend_on key at (map (λ b. b.place) (changes_of es)) ≡ true
+changes-ascend key least at [] le a = refl
+changes-ascend key least at (e ∷ es) le a =
     let t = entry_tests key least e es a in
     let near : least ≤ e.place = leb-true least e.place t.0 in
-    by e.place e.change (le-leb at e.place (omega arith)) t.1 t.3 (changes-listed key (e.place + 1) at es (omega arith) t.4) (changes-listed key (e.place + 1) (e.place + 1) es (omega arith) t.4)
+    by e.place e.change (le-leb at e.place (omega arith)) t.1 (changes-ascend key (e.place + 1) at es (omega arith) t.4) (changes-ascend key (e.place + 1) (e.place + 1) es (omega arith) t.4)
   where
-    by : (p : ℕ) (o : Option Change) → nat_le at p ≡ true → is_boundary key p ≡ true → stays_within key p o ≡ true → are_listed (λ b. b) key at (changes_of es) ≡ true → are_listed (λ b. b) key (p + 1) (changes_of es) ≡ true
-        → are_listed (λ b. b) key at (onto_changes p o (changes_of es)) ≡ true
-    by p None h k s more next = more
-    by p (Some c) h k s more next =
+    by : (p : ℕ) (o : Option Change) → nat_le at p ≡ true → is_boundary key p ≡ true → ascend_on key at (map (λ b. b.place) (changes_of es)) ≡ true → ascend_on key (p + 1) (map (λ b. b.place) (changes_of es)) ≡ true
+        → ascend_on key at (map (λ b. b.place) (onto_changes p o (changes_of es))) ≡ true
+    by p None h k more next = more
+    by p (Some c) h k more next = and_from (nat_le at p && is_boundary key p) (ascend_on key (p + 1) (map (λ b. b.place) (changes_of es))) (and_from (nat_le at p) (is_boundary key p) h k) next
+
+changes-within : (key : List ℕ) (least : ℕ) (es : List (Entry (Option Change))) → are_entries (λ c. c) key least es ≡ true → are_within key (changes_of es) ≡ true
+changes-within key least [] a = refl
+changes-within key least (e ∷ es) a = let t = entry_tests key least e es a in by e.place e.change t.3 (changes-within key (e.place + 1) es t.4)
+  where
+    by : (p : ℕ) (o : Option Change) → stays_within key p o ≡ true → are_within key (changes_of es) ≡ true → are_within key (onto_changes p o (changes_of es)) ≡ true
+    by p None s more = more
+    by p (Some c) s more =
         let short = both_left (fits_usize p) (can_be_said c) (both_left (fits_usize p && can_be_said c) (keeps_within key p c) s) in
-        and_from (nat_le at p && is_boundary key p && lists_within key p (Some c)) (are_listed (λ b. b) key (p + 1) (changes_of es))
-        (and_from (nat_le at p && is_boundary key p) (lists_within key p (Some c)) (and_from (nat_le at p) (is_boundary key p) h k) (and_from (fits_usize p) (stays_within key p (Some c)) short s)) next
+        and_from (lists_within key p (Some c)) (are_within key (changes_of es)) (and_from (fits_usize p) (stays_within key p (Some c)) short s) more
 
 -- each of them belongs to a value
 one_is : (p : ℕ) → eqb p p ≡ true
@@ -366,11 +374,11 @@ module _ (form : Form) (whole : List ℕ) (es : List (Entry (Option Change))) (u
   p_values : values_from 0 the_marks ≡ pairs es
   p_values = values_again 0 (length whole) whole es (omega arith) (ascend whole 0 es a)
 
-  p_listed : are_listed (λ b. b) whole 0 the_breaks ≡ true
-  p_listed = changes-listed whole 0 0 es (omega arith) a
+  p_within : are_within whole the_breaks ≡ true
+  p_within = changes-within whole 0 es a
 
   p_writable : list_all (is_sayable form.kind) the_breaks ≡ true
-  p_writable = listed-sayable form.kind whole 0 the_breaks p_listed (changes-allowed form.kind es w)
+  p_writable = listed-sayable form.kind whole the_breaks p_within (changes-allowed form.kind es w)
 
   p_belong : AllBelong form the_marks the_breaks
   p_belong = changes-belong form the_marks es (λ p h. ap (λ (vs : List (ℕ × ℕ)). list_any (λ v. eqb v.0 p) vs) p_values ∙ h)
@@ -395,11 +403,11 @@ module _ (form : Form) (whole : List ℕ) (es : List (Entry (Option Change))) (u
         number = ap (λ (ts : List (List ℕ)). not (list_all (λ token. list_all is_number (numerals_of token)) (drop 1 ts))) p_toks ∙ ap not (numbers_each form the_breaks p_writable);
         place = ap (λ (ts : List (List ℕ)). not (ascend_on (key_of (read_marks (get_or ts 0 []))) 0 (map place_of (drop 1 ts)))) p_toks
             ∙ ap (λ (o : Option (List PatternElement)). not (ascend_on (key_of (unwrap_or o [])) 0 (map place_of (tokens_for the_breaks)))) p_marks
-            ∙ ap (λ (k : List ℕ). not (ascend_on k 0 (map place_of (tokens_for the_breaks)))) p_key ∙ ap not (places_each form whole 0 the_breaks p_writable p_listed);
+            ∙ ap (λ (k : List ℕ). not (ascend_on k 0 (map place_of (tokens_for the_breaks)))) p_key ∙ ap not (ap (ascend_on whole 0) (places_each form the_breaks p_writable) ∙ changes-ascend whole 0 0 es (omega arith) a);
         change = ap (λ (ts : List (List ℕ)). not (list_all (is_good_later_token form true (read_marks (get_or ts 0 [])) (key_of (read_marks (get_or ts 0 [])))) (drop 1 ts))) p_toks
             ∙ ap (λ (o : Option (List PatternElement)). not (list_all (is_good_later_token form true (unwrap_or o []) (key_of (unwrap_or o []))) (tokens_for the_breaks))) p_marks
             ∙ ap (λ (k : List ℕ). not (list_all (is_good_later_token form true the_marks k) (tokens_for the_breaks))) p_key
-            ∙ ap not (good_each form true the_marks whole 0 the_breaks p_writable p_listed (λ e. p_belong));
+            ∙ ap not (good_each form true the_marks whole the_breaks p_writable p_within (λ e. p_belong));
       }
 
   pub pattern-spelt : pattern_of_line form.version (pattern_line form.version whole es) ≡ Some (whole, es)

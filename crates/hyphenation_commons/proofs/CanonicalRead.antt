@@ -7,12 +7,13 @@ use Rattle.std.specs.Str.{is_utf8, chars}
 use Rattle.std.specs.FinMap as finite
 use Rattle.std.specs.FinMap.{entries_sorted}
 use Rattle.std.proofs.lemmas.List.{append-nil}
+use Rattle.std.proofs.lemmas.List.Folds.{list_all-map}
 use Rattle.std.proofs.lemmas.List.Elements.{All-from_recursion}
 use Rattle.std.proofs.lemmas.List.Splits.{slice_split_at, slice_split_none}
 use Rattle.std.proofs.lemmas.Str.{IsUtf8-append, is_utf8-from_IsUtf8, IsUtf8-from_is_utf8}
 use Rattle.std.proofs.lemmas.Bool.{and_from, not-true}
 use Rattle.std.proofs.lemmas.Bool.Decides.{nat_tests}
-use Rattle.hyphenation_commons.specs.Break.{Break, Change, is_boundary}
+use Rattle.hyphenation_commons.specs.Break.{Break, Change, ascend_on, is_boundary}
 use Rattle.hyphenation_commons.specs.Dictionary.{Contents}
 use Rattle.hyphenation_commons.specs.Form.{head_line, head_of, version_by}
 use Rattle.hyphenation_commons.specs.Items.{key_of_line, word_of_line, key_spelt, word_spelt, pattern_of_line, exception_of_line}
@@ -36,6 +37,7 @@ use Rattle.hyphenation_commons.proofs.LanguageCodes.{is_code-utf8}
 use Rattle.hyphenation_commons.proofs.Decimals.{decimal-utf8, wide, small-again}
 use Rattle.hyphenation_commons.proofs.SpelledBytes.{Free, free-append, digits-free}
 use Rattle.hyphenation_commons.proofs.CanonicalLines.{Faultless, own_tests, own-none, none-found, are_small, have_allowed, are_allowed, pattern-faultless, pattern-spelt, pattern-feed, exception-faultless, exception-spelt, exception-feed}
+use Rattle.hyphenation_commons.proofs.PlacesInOrder.{map_twice}
 use Rattle.hyphenation_commons.proofs.LineInvariant.{both_left, both_right}
 use Rattle.hyphenation_commons.proofs.CanonicalLaterTokens.{is_allowed}
 use Rattle.hyphenation_commons.proofs.CanonicalTokens.{AllLines, lines-ended}
@@ -189,9 +191,11 @@ module _ {C B : Type 0} (kind : Kind) (payload_of : Option Change → C) (listin
   as_entries q least [] = refl
   as_entries q least (e ∷ es) = ap (λ (t : Bool). nat_le least e.place && is_boundary q e.place && is_value e.value && stays_within q e.place (change_of e.change) && t) (as_entries q (e.place + 1) es)
 
-  as_listed : (q : List ℕ) (least : ℕ) (bs : List B) → are_listed (λ b. b) q least (map break_of bs) ≡ are_listed break_of q least bs
-  as_listed q least [] = refl
-  as_listed q least (b ∷ bs) = ap (λ (t : Bool). nat_le least (break_of b).place && is_boundary q (break_of b).place && lists_within q (break_of b).place (break_of b).change && t) (as_listed q ((break_of b).place + 1) bs)
+  as_listed : (q : List ℕ) (bs : List B) → are_listed (λ b. b) q (map break_of bs) ≡ are_listed break_of q bs
+  as_listed q bs =
+      let places : map (λ b. b.place) (map break_of bs) ≡ map (λ b. (break_of b).place) bs = map_twice (λ b. b.place) break_of bs in
+      let within : list_all (λ b. lists_within q b.place b.change) (map break_of bs) ≡ list_all (λ b. lists_within q (break_of b).place (break_of b).change) bs = list_all-map (λ b. lists_within q b.place b.change) break_of bs in
+      λ i. ascend_on q 0 (places i) && within i
 
   entries-back : (es : List (Entry C)) → map (entry_as payload_of) (map (entry_as_said change_of) es) ≡ es
   entries-back [] = refl
@@ -253,7 +257,7 @@ module _ {C B : Type 0} (kind : Kind) (payload_of : Option Change → C) (listin
   word_line : (q : List ℕ) (bs : List B) → IsException break_of q bs → WordLine q bs
   word_line q bs is =
       let w = listed-allowed bs in
-      let l : are_listed (λ b. b) q 0 (map break_of bs) ≡ true = as_listed q 0 bs ∙ is.ascend in
+      let l : are_listed (λ b. b) q (map break_of bs) ≡ true = as_listed q bs ∙ is.ascend in
       record {
         faultless = exception-faultless form q (map break_of bs) is.utf8 w l;
         spelt = exception-spelt form q (map break_of bs) is.utf8 w l;

@@ -5,11 +5,12 @@ use Rattle.std.specs.Option.{option_map, option_and_then, is_none}
 use Rattle.std.specs.List.{find, list_all}
 use Rattle.std.specs.Str.{is_utf8}
 use Rattle.std.proofs.lemmas.List.{get_or_past}
+use Rattle.std.proofs.lemmas.Bool.{and_from, and_parts}
 use Rattle.std.proofs.lemmas.Bool.Decides.{nat_tests}
 use Rattle.std.proofs.lemmas.Str.{IsUtf8-from_is_utf8, is_utf8-from_IsUtf8, IsUtf8-nil, IsCharBoundary-at_seam}
 use Rattle.hyphenation_commons.specs.Break.{Break, Change, ascend_on, is_boundary, keeps_within}
 use Rattle.hyphenation_commons.specs.declared.grammar.form.Form.{Form}
-use Rattle.hyphenation_commons.specs.Invariant.{fits_usize, can_be_said, is_value, stays_within, are_entries, are_listed, IsPattern, IsException}
+use Rattle.hyphenation_commons.specs.Invariant.{fits_usize, can_be_said, is_value, stays_within, lists_within, are_entries, are_listed, IsPattern, IsException}
 use Rattle.hyphenation_commons.specs.Lines.{same, starts_with, is_digit, has_no_leading_zero, is_number, is_small, number}
 use Rattle.hyphenation_commons.specs.Tokens.{escaped_bytes_of, bytes_of, element_of, is_raw, is_raw_digit, braced_value, step_outside, step_inside, elements_from, elements_of, pattern_bytes, text_spelt, key_of, values_from, two_values, has_comma, parts_of, numerals_of, place_of, change_of, is_whole}
 use Rattle.hyphenation_commons.specs.Items.{is_pattern, is_exception, tokens_of, first_token_of, later_tokens_of, pattern_elements, key_of_line, word_of_line, counted_text, break_of_token, breaks_of_line, change_at, entries_of_line}
@@ -207,20 +208,25 @@ module _ (form : Form) (in_pattern : Bool) (marks : List PatternElement) (text :
           (stays token u.0 (both_left (has_numbers token) (list_all has_numbers later) n) (both_left (is_good_later_token form in_pattern marks text token) (list_all (is_good_later_token form in_pattern marks text) later) e))
       by false is more = more
 
-  pub listed-stand : (least : ℕ) (later : List (List ℕ)) → AllUtf8 later → list_all has_numbers later ≡ true → ascend_on text least (map place_of later) ≡ true → list_all (is_good_later_token form in_pattern marks text) later ≡ true
-      → are_listed (λ b. b) text least (map break_of_token later) ≡ true
-  listed-stand least [] u n places good = refl
-  listed-stand least (token ∷ later) u n places good =
-      let front = both_left (nat_le least (place_of token) && is_boundary text (place_of token)) (ascend_on text (place_of token + 1) (map place_of later)) places in
-      let numbers = both_left (has_numbers token) (list_all has_numbers later) n in
-      let here : stays_within text (place_of token) (break_of_token token).change ≡ true = stays token u.0 numbers (both_left (is_good_later_token form in_pattern marks text token) (list_all (is_good_later_token form in_pattern marks text) later) good) in
-      let rest : are_listed (λ b. b) text (place_of token + 1) (map break_of_token later) ≡ true =
-      listed-stand (place_of token + 1) later u.1 (both_right (has_numbers token) (list_all has_numbers later) n) (both_right (nat_le least (place_of token) && is_boundary text (place_of token)) (ascend_on text (place_of token + 1) (map place_of later)) places)
-      (both_right (is_good_later_token form in_pattern marks text token) (list_all (is_good_later_token form in_pattern marks text) later) good) in
-      joined (nat_le least (place_of token) && is_boundary text (place_of token)) (fits_usize (place_of token)) (stays_within text (place_of token) (break_of_token token).change) (are_listed (λ b. b) text (place_of token + 1) (map break_of_token later)) front (place_short token numbers) here rest
-    where
-      joined : (a s b c : Bool) → a ≡ true → s ≡ true → b ≡ true → c ≡ true → (a && (s && b) && c) ≡ true
-      joined a s b c x w y z = rw (x, w, y, z) refl
+  token-places : (later : List (List ℕ)) → map (λ b. b.place) (map break_of_token later) ≡ map place_of later
+  token-places [] = refl
+  token-places (token ∷ later) = ap (λ places. place_of token ∷ places) (token-places later)
+
+  tokens-stay : (later : List (List ℕ)) → AllUtf8 later → list_all has_numbers later ≡ true → list_all (is_good_later_token form in_pattern marks text) later ≡ true
+      → list_all (λ b. lists_within text b.place b.change) (map break_of_token later) ≡ true
+  tokens-stay [] u n good = refl
+  tokens-stay (token ∷ later) u n good =
+      let numbers = and_parts (has_numbers token) (list_all has_numbers later) n in
+      let all = and_parts (is_good_later_token form in_pattern marks text token) (list_all (is_good_later_token form in_pattern marks text) later) good in
+      and_from (lists_within text (place_of token) (break_of_token token).change) (list_all (λ b. lists_within text b.place b.change) (map break_of_token later))
+      (and_from (fits_usize (place_of token)) (stays_within text (place_of token) (break_of_token token).change) (place_short token numbers.0) (stays token u.0 numbers.0 all.0))
+      (tokens-stay later u.1 numbers.1 all.1)
+
+  pub listed-stand : (later : List (List ℕ)) → AllUtf8 later → list_all has_numbers later ≡ true → ascend_on text 0 (map place_of later) ≡ true → list_all (is_good_later_token form in_pattern marks text) later ≡ true
+      → are_listed (λ b. b) text (map break_of_token later) ≡ true
+  listed-stand later u n places good =
+      and_from (ascend_on text 0 (map (λ b. b.place) (map break_of_token later))) (list_all (λ b. lists_within text b.place b.change) (map break_of_token later))
+      (ap (ascend_on text 0) (token-places later) ∙ places) (tokens-stay later u n good)
 
 -- values are digits
 abbrev AreSmall : List PatternElement → Type 0
@@ -404,5 +410,5 @@ module _ (form : Form) (number : ℕ) (line : List ℕ) (none : own_cause form n
       let is : counted_text form.version line ≡ word_of_line line = ap (λ (t : Bool). cond t (key_of_line form.version line) (word_of_line line)) off in
       record {
         utf8 = text_read (first_token_of line) (first-token-utf8 rest);
-        ascend = subst (λ (text : List ℕ). are_listed (λ b. b) text 0 (breaks_of_line line) ≡ true) is (listed-stand form (is_pattern line) (pattern_elements form.version line) (counted_text form.version line) 0 (later_tokens_of line) (later-utf8 rest) numbers places good);
+        ascend = subst (λ (text : List ℕ). are_listed (λ b. b) text (breaks_of_line line) ≡ true) is (listed-stand form (is_pattern line) (pattern_elements form.version line) (counted_text form.version line) (later_tokens_of line) (later-utf8 rest) numbers places good);
       }
