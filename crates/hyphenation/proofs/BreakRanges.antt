@@ -8,7 +8,7 @@ use Rattle.std.proofs.Math.Nat.{sub-zero}
 use Rattle.std.proofs.lemmas.Bool.{and_parts}
 use Rattle.hyphenation_commons.specs.Break.{Break, Change, changed_by, ascend_on, is_boundary, keeps_within}
 use Rattle.hyphenation_commons.specs.Dictionary.{Contents, keys_of}
-use Rattle.hyphenation_commons.specs.Invariant.{IsDictionary, fits_usize, can_be_said, is_value, are_entries, stays_within, lists_within}
+use Rattle.hyphenation_commons.specs.Invariant.{IsDictionary, fits_usize, can_be_said, is_value, stays_within, lists_within}
 use Rattle.hyphenation_commons.specs.declared.dictionary.Entry.{Entry}
 use Rattle.hyphenation.specs.Opportunities.{rules_of, is_odd, within, breaks_within, winning_break, by_patterns, by_exception, opportunities_in, opportunities, boundaries_by}
 use Rattle.hyphenation.specs.Scoring.{frame, value_at, winner_at}
@@ -53,16 +53,15 @@ listed_ranged break_of word least (b ∷ bs) h k =
 -- ---- patterns
 
 -- The change of an entry of a key keeps within it.
-entry_stays : {C : Type 0} (change_of : C → Option Change) (key : List ℕ) (least : ℕ) (entries : List (Entry C)) (i : ℕ) (entry : Entry C)
-    → are_entries change_of key least entries ≡ true → i < length entries → entry ≡ get_or entries i entry → stays_within key entry.place (change_of entry.change) ≡ true
-entry_stays {C} change_of key least [] i entry h lt is = absurd (omega arith)
-entry_stays {C} change_of key least (e ∷ es) i entry h lt is =
-    let rest = are_entries change_of key (e.place + 1) es in
-    let all = and_parts (nat_le least e.place && is_boundary key e.place && is_value e.value && stays_within key e.place (change_of e.change)) rest h in
-    let most = and_parts (nat_le least e.place && is_boundary key e.place && is_value e.value) _ all.0 in
+entry_stays : {C : Type 0} (change_of : C → Option Change) (key : List ℕ) (entries : List (Entry C)) (i : ℕ) (entry : Entry C)
+    → list_all (λ e. is_value e.value && stays_within key e.place (change_of e.change)) entries ≡ true → i < length entries → entry ≡ get_or entries i entry → stays_within key entry.place (change_of entry.change) ≡ true
+entry_stays {C} change_of key [] i entry h lt is = absurd (omega arith)
+entry_stays {C} change_of key (e ∷ es) i entry h lt is =
+    let stays = stays_within key e.place (change_of e.change) in
+    let all = and_parts (is_value e.value && stays) (list_all (λ e. is_value e.value && stays_within key e.place (change_of e.change)) es) h in
     elim i as (λ i. i < length (e ∷ es) → entry ≡ get_or (e ∷ es) i entry → stays_within key entry.place (change_of entry.change) ≡ true) [
-      | zero ↦ λ _ here. subst (λ (x : Entry C). stays_within key x.place (change_of x.change) ≡ true) (sym here) most.1
-      | suc i ↦ λ lt there. entry_stays change_of key (e.place + 1) es i entry all.1 (omega arith) there
+      | zero ↦ λ _ here. subst (λ (x : Entry C). stays_within key x.place (change_of x.change) ≡ true) (sym here) (and_parts (is_value e.value) stays all.0).1
+      | suc i ↦ λ lt there. entry_stays change_of key es i entry all.1 (omega arith) there
     ] lt is
 
 -- In the word a change stands as it does in the key, the dots of the frame aside.
@@ -91,7 +90,8 @@ won_ranged {C} change_of break_of contents word p kept u at =
           let bears = wins.2.bears in
           let key = slice_range (frame word) wins.0 wins.1 in
           let pattern = kept.patterns key bears.entries bears.key in
-          let stays = entry_stays change_of key 0 bears.entries bears.among.0 entry pattern.ascend bears.among.1.0 bears.among.1.1 in
+          let sound = (and_parts (ascend_on key 0 (map (λ e. e.place) bears.entries)) _ pattern.ascend).1 in
+          let stays = entry_stays change_of key bears.entries bears.among.0 entry sound bears.among.1.0 bears.among.1.1 in
           elim (change_of entry.change) as (λ change. stays_within key entry.place change ≡ true → Ranged word (changed_by p change)) [
             | None ↦ λ _. unchanged_ranged word p at
             | Some change ↦ λ h. in_word word p wins.0 wins.1 entry.place change u bears.some bears.within pattern.utf8 bears.place (kept_within key entry.place change (and_parts (fits_usize entry.place && can_be_said change) _ h).1)

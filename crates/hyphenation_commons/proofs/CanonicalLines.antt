@@ -1,5 +1,5 @@
 -- A line that is spelt passes its tests, and spells again what it was spelt of.
-use Rattle.std.proofs.Common.{◌≡◌, ℕ, suc, ◌+◌, ◌<◌, ◌≤◌, Bool, true, false, cond, not, ◌&&◌, ◌||◌, ◌==◌, eqb, nat_le, nat_lt, List, [], ◌∷◌, ◌++◌, length, drop, map, get_or, Option, Some, None, is_some, is_none, unwrap_or, refl, ap, ◌∙◌, arith}
+use Rattle.std.proofs.Common.{◌≡◌, ℕ, suc, ◌+◌, ◌<◌, ◌≤◌, Bool, true, false, cond, not, ◌&&◌, ◌||◌, ◌==◌, eqb, nat_le, nat_lt, List, [], ◌∷◌, ◌++◌, length, drop, map, get_or, Option, Some, None, is_some, is_none, unwrap_or, refl, sym, ap, ◌∙◌, arith}
 use Rattle.std.specs.Prelude.{IsUtf8}
 use Rattle.std.specs.List.{find, list_all, list_any, slice_split, AllByRecursion}
 use Rattle.std.specs.Str.{is_utf8}
@@ -26,6 +26,7 @@ use Rattle.hyphenation_commons.specs.declared.grammar.tokens.PatternElement.{Pat
 use Rattle.hyphenation_commons.specs.declared.grammar.tokens.PatternElement.TheVariants.{Letter, Value}
 use Rattle.hyphenation_commons.proofs.AsciiSplits.{one_ascii}
 use Rattle.hyphenation_commons.proofs.SpelledBytes.{Free, space, feed, free-append, marks-free, text-free}
+use Rattle.hyphenation_commons.proofs.PlacesInOrder.{entries_from, entries_in_order}
 use Rattle.hyphenation_commons.proofs.LineInvariant.{both_left, both_right}
 use Rattle.hyphenation_commons.proofs.CanonicalLaterTokens.{Tells, tells, is_allowed, good, text-again, token-some}
 use Rattle.hyphenation_commons.proofs.SpelledUtf8.{AllSeams, marks-utf8, token-utf8}
@@ -215,9 +216,9 @@ first_test a b c d e h =
     let ab = both_left (a && b) c abc in
     (both_left a b ab, both_right a b ab, both_right (a && b) c abc, both_right (a && b && c) d abcd, both_right (a && b && c && d) e h)
 
-entry_tests : (key : List ℕ) (least : ℕ) (e : Entry (Option Change)) (es : List (Entry (Option Change))) → are_entries (λ c. c) key least (e ∷ es) ≡ true
-    → (nat_le least e.place ≡ true) × (is_boundary key e.place ≡ true) × (is_value e.value ≡ true) × (stays_within key e.place e.change ≡ true) × (are_entries (λ c. c) key (e.place + 1) es ≡ true)
-entry_tests key least e es a = first_test (nat_le least e.place) (is_boundary key e.place) (is_value e.value) (stays_within key e.place e.change) (are_entries (λ c. c) key (e.place + 1) es) a
+entry_tests : (key : List ℕ) (least : ℕ) (e : Entry (Option Change)) (es : List (Entry (Option Change))) → entries_from (λ c. c) key least (e ∷ es) ≡ true
+    → (nat_le least e.place ≡ true) × (is_boundary key e.place ≡ true) × (is_value e.value ≡ true) × (stays_within key e.place e.change ≡ true) × (entries_from (λ c. c) key (e.place + 1) es ≡ true)
+entry_tests key least e es a = first_test (nat_le least e.place) (is_boundary key e.place) (is_value e.value) (stays_within key e.place e.change) (entries_from (λ c. c) key (e.place + 1) es) a
 
 -- The version says each value, and the kind each change.
 abbrev pub are_small : Version → List (Entry (Option Change)) → Bool
@@ -226,13 +227,13 @@ are_small version es = list_all (λ e. nat_le e.value (greatest version)) es
 abbrev pub have_allowed : Kind → List (Entry (Option Change)) → Bool
 have_allowed kind es = list_all (λ e. is_allowed kind e.change) es
 
-ascend : (key : List ℕ) (least : ℕ) (es : List (Entry (Option Change))) → are_entries (λ c. c) key least es ≡ true → Ascend least (length key) es
+ascend : (key : List ℕ) (least : ℕ) (es : List (Entry (Option Change))) → entries_from (λ c. c) key least es ≡ true → Ascend least (length key) es
 ascend key least [] a = tt
 ascend key least (e ∷ es) a =
     let t = entry_tests key least e es a in
     (leb-true least e.place t.0, leb-true e.place (length key) (both_left (nat_le e.place (length key)) _ t.1), ltb-true 0 e.value (both_left (nat_lt 0 e.value) (nat_le e.value 255) t.2), ascend key (e.place + 1) es t.4)
 
-seams : (version : Version) (key : List ℕ) (least : ℕ) (es : List (Entry (Option Change))) → are_entries (λ c. c) key least es ≡ true → are_small version es ≡ true → AllSeams version key es
+seams : (version : Version) (key : List ℕ) (least : ℕ) (es : List (Entry (Option Change))) → entries_from (λ c. c) key least es ≡ true → are_small version es ≡ true → AllSeams version key es
 seams version key least [] a v = tt
 seams version key least (e ∷ es) a v =
     let t = entry_tests key least e es a in
@@ -268,7 +269,7 @@ no_two at (b ∷ key) (e ∷ es) = by (eqb e.place at) (no_two (at + 1) key es) 
     by false h k = k
 
 -- the changes of entries are listed as they are
-changes-ascend : (key : List ℕ) (least at : ℕ) (es : List (Entry (Option Change))) → at ≤ least → are_entries (λ c. c) key least es ≡ true → ascend_on key at (map (λ b. b.place) (changes_of es)) ≡ true
+changes-ascend : (key : List ℕ) (least at : ℕ) (es : List (Entry (Option Change))) → at ≤ least → entries_from (λ c. c) key least es ≡ true → ascend_on key at (map (λ b. b.place) (changes_of es)) ≡ true
 changes-ascend key least at [] le a = refl
 changes-ascend key least at (e ∷ es) le a =
     let t = entry_tests key least e es a in
@@ -280,7 +281,7 @@ changes-ascend key least at (e ∷ es) le a =
     by p None h k more next = more
     by p (Some c) h k more next = and_from (nat_le at p && is_boundary key p) (ascend_on key (p + 1) (map (λ b. b.place) (changes_of es))) (and_from (nat_le at p) (is_boundary key p) h k) next
 
-changes-within : (key : List ℕ) (least : ℕ) (es : List (Entry (Option Change))) → are_entries (λ c. c) key least es ≡ true → are_within key (changes_of es) ≡ true
+changes-within : (key : List ℕ) (least : ℕ) (es : List (Entry (Option Change))) → entries_from (λ c. c) key least es ≡ true → are_within key (changes_of es) ≡ true
 changes-within key least [] a = refl
 changes-within key least (e ∷ es) a = let t = entry_tests key least e es a in by e.place e.change t.3 (changes-within key (e.place + 1) es t.4)
   where
@@ -303,7 +304,7 @@ changes-belong form marks (e ∷ es) f = by e.change (changes-belong form marks 
     by (Some c) h = ((refl, f e.place (or_left (eqb e.place e.place) (list_any (λ v. eqb v.0 e.place) (pairs es)) (one_is e.place))), h)
 
 -- the change at a place below all others, and at that of an entry
-none_at : (key : List ℕ) (least p : ℕ) (es : List (Entry (Option Change))) → p < least → are_entries (λ c. c) key least es ≡ true → change_at p (changes_of es) ≡ None
+none_at : (key : List ℕ) (least p : ℕ) (es : List (Entry (Option Change))) → p < least → entries_from (λ c. c) key least es ≡ true → change_at p (changes_of es) ≡ None
 none_at key least p [] lt a = refl
 none_at key least p (e ∷ es) lt a =
     let t = entry_tests key least e es a in
@@ -320,7 +321,7 @@ none_at key least p (e ∷ es) lt a =
 abbrev again : List Break → ℕ × ℕ → Entry (Option Change)
 again said v = record { place = v.0; value = v.1; change = change_at v.0 said }
 
-restored : (key : List ℕ) (least : ℕ) (said : List Break) (es : List (Entry (Option Change))) → are_entries (λ c. c) key least es ≡ true
+restored : (key : List ℕ) (least : ℕ) (said : List Break) (es : List (Entry (Option Change))) → entries_from (λ c. c) key least es ≡ true
     → ((p : ℕ) → least ≤ p → change_at p said ≡ change_at p (changes_of es)) → map (again said) (pairs es) ≡ es
 restored key least said [] a f = refl
 restored key least said (e ∷ es) a f =
@@ -352,7 +353,10 @@ some_byte version (b ∷ token) ms key m k letter = above (length token)
     above : (n : ℕ) → nat_lt 0 (suc n) ≡ true
     above n = grind (arith, nat_tests)
 
-module _ (form : Form) (whole : List ℕ) (es : List (Entry (Option Change))) (u : IsUtf8 whole) (letter : has_letter whole ≡ true) (v : are_small form.version es ≡ true) (w : have_allowed form.kind es ≡ true) (a : are_entries (λ c. c) whole 0 es ≡ true) where
+module _ (form : Form) (whole : List ℕ) (es : List (Entry (Option Change))) (u : IsUtf8 whole) (letter : has_letter whole ≡ true) (v : are_small form.version es ≡ true) (w : have_allowed form.kind es ≡ true) (a : are_entries (λ c. c) whole es ≡ true) where
+  a_each : entries_from (λ c. c) whole 0 es ≡ true
+  a_each = sym (entries_in_order (λ c. c) whole 0 es) ∙ a
+
   abbrev the_marks : List PatternElement
   the_marks = elements_for 0 whole es
 
@@ -360,7 +364,7 @@ module _ (form : Form) (whole : List ℕ) (es : List (Entry (Option Change))) (u
   the_breaks = changes_of es
 
   p_seams : AllSeams form.version whole es
-  p_seams = seams form.version whole 0 es a v
+  p_seams = seams form.version whole 0 es a_each v
 
   p_spelt : AllValues form.version the_marks
   p_spelt = all-values form.version whole 0 whole es p_seams
@@ -372,10 +376,10 @@ module _ (form : Form) (whole : List ℕ) (es : List (Entry (Option Change))) (u
   p_key = key_again 0 whole es
 
   p_values : values_from 0 the_marks ≡ pairs es
-  p_values = values_again 0 (length whole) whole es (omega arith) (ascend whole 0 es a)
+  p_values = values_again 0 (length whole) whole es (omega arith) (ascend whole 0 es a_each)
 
   p_within : are_within whole the_breaks ≡ true
-  p_within = changes-within whole 0 es a
+  p_within = changes-within whole 0 es a_each
 
   p_writable : list_all (is_sayable form.kind) the_breaks ≡ true
   p_writable = listed-sayable form.kind whole the_breaks p_within (changes-allowed form.kind es w)
@@ -403,7 +407,7 @@ module _ (form : Form) (whole : List ℕ) (es : List (Entry (Option Change))) (u
         number = ap (λ (ts : List (List ℕ)). not (list_all (λ token. list_all is_number (numerals_of token)) (drop 1 ts))) p_toks ∙ ap not (numbers_each form the_breaks p_writable);
         place = ap (λ (ts : List (List ℕ)). not (ascend_on (key_of (read_marks (get_or ts 0 []))) 0 (map place_of (drop 1 ts)))) p_toks
             ∙ ap (λ (o : Option (List PatternElement)). not (ascend_on (key_of (unwrap_or o [])) 0 (map place_of (tokens_for the_breaks)))) p_marks
-            ∙ ap (λ (k : List ℕ). not (ascend_on k 0 (map place_of (tokens_for the_breaks)))) p_key ∙ ap not (ap (ascend_on whole 0) (places_each form the_breaks p_writable) ∙ changes-ascend whole 0 0 es (omega arith) a);
+            ∙ ap (λ (k : List ℕ). not (ascend_on k 0 (map place_of (tokens_for the_breaks)))) p_key ∙ ap not (ap (ascend_on whole 0) (places_each form the_breaks p_writable) ∙ changes-ascend whole 0 0 es (omega arith) a_each);
         change = ap (λ (ts : List (List ℕ)). not (list_all (is_good_later_token form true (read_marks (get_or ts 0 [])) (key_of (read_marks (get_or ts 0 [])))) (drop 1 ts))) p_toks
             ∙ ap (λ (o : Option (List PatternElement)). not (list_all (is_good_later_token form true (unwrap_or o []) (key_of (unwrap_or o []))) (tokens_for the_breaks))) p_marks
             ∙ ap (λ (k : List ℕ). not (list_all (is_good_later_token form true the_marks k) (tokens_for the_breaks))) p_key
@@ -415,7 +419,7 @@ module _ (form : Form) (whole : List ℕ) (es : List (Entry (Option Change))) (u
       ap (λ (ts : List (List ℕ)). Some (key_of (read_marks (get_or ts 0 [])), map (again (map break_of_token (drop 1 ts))) (values_from 0 (read_marks (get_or ts 0 []))))) p_toks
       ∙ ap (λ (o : Option (List PatternElement)). Some (key_of (unwrap_or o []), map (again (map break_of_token (tokens_for the_breaks))) (values_from 0 (unwrap_or o [])))) p_marks
       ∙ (λ i. Some (p_key i, map (again (listed_each form the_breaks p_writable i)) (p_values i)))
-      ∙ ap (λ (xs : List (Entry (Option Change))). Some (whole, xs)) (restored whole 0 the_breaks es a (λ p h. refl))
+      ∙ ap (λ (xs : List (Entry (Option Change))). Some (whole, xs)) (restored whole 0 the_breaks es a_each (λ p h. refl))
 
   pub pattern-feed : Free 10 (pattern_line form.version whole es)
   pattern-feed = (refl, (refl, free-append 10 (pattern_token form.version whole es) (later_tokens the_breaks) (marks-free 10 feed form.version the_marks p_spelt) (feed_each form the_breaks p_writable)))

@@ -10,7 +10,7 @@ use Rattle.std.proofs.lemmas.Bool.Decides.{nat_tests}
 use Rattle.std.proofs.lemmas.Str.{IsUtf8-from_is_utf8, is_utf8-from_IsUtf8, IsUtf8-nil, IsCharBoundary-at_seam}
 use Rattle.hyphenation_commons.specs.Break.{Break, Change, ascend_on, is_boundary, keeps_within}
 use Rattle.hyphenation_commons.specs.declared.grammar.form.Form.{Form}
-use Rattle.hyphenation_commons.specs.Invariant.{fits_usize, can_be_said, is_value, stays_within, lists_within, are_entries, are_listed, IsPattern, IsException}
+use Rattle.hyphenation_commons.specs.Invariant.{fits_usize, can_be_said, is_value, stays_within, lists_within, are_listed, IsPattern, IsException}
 use Rattle.hyphenation_commons.specs.Lines.{same, starts_with, is_digit, has_no_leading_zero, is_number, is_small, number}
 use Rattle.hyphenation_commons.specs.Tokens.{escaped_bytes_of, bytes_of, element_of, is_raw, is_raw_digit, braced_value, step_outside, step_inside, elements_from, elements_of, pattern_bytes, text_spelt, key_of, values_from, two_values, has_comma, parts_of, numerals_of, place_of, change_of, is_whole}
 use Rattle.hyphenation_commons.specs.Items.{is_pattern, is_exception, tokens_of, first_token_of, later_tokens_of, pattern_elements, key_of_line, word_of_line, counted_text, break_of_token, breaks_of_line, change_at, entries_of_line}
@@ -24,6 +24,7 @@ use Rattle.hyphenation_commons.specs.declared.grammar.tokens.PatternElement.{Pat
 use Rattle.hyphenation_commons.specs.declared.grammar.tokens.PatternElement.TheVariants.{Letter, Value}
 use Rattle.hyphenation_commons.specs.declared.grammar.tokens.Escapes.TheVariants.{Plain}
 use Rattle.hyphenation_commons.proofs.AsciiSplits.{AllUtf8, split_ascii, same_byte, split-utf8, first-utf8, part-utf8}
+use Rattle.hyphenation_commons.proofs.PlacesInOrder.{entries_from, entries_in_order}
 use Rattle.hyphenation_commons.proofs.LineCauses.{in_front, five}
 use Rattle.hyphenation_commons.proofs.TokenUtf8.{AreSeams, seams-utf8, marks-seams, read-utf8}
 
@@ -331,7 +332,7 @@ module _ (key : List ℕ) (said : List Break) (within : (place : ℕ) → stays_
   on_seam q rest at is len u = boundary_test key at (subst (λ (n : ℕ). IsCharBoundary key n) len (IsCharBoundary-at_seam key q rest is u))
 
   pub values-stand : (q p : List ℕ) (ms : List PatternElement) (at least : ℕ) (after : Bool) → key ≡ q ++ key_of ms → length q ≡ at → AreSeams p ms → AreSmall ms → two_values after ms ≡ false → least ≤ at + cond after 1 0
-      → are_entries (λ c. c) key least (map entry (values_from at ms)) ≡ true
+      → entries_from (λ c. c) key least (map entry (values_from at ms)) ≡ true
   values-stand q p [] at least after is len seams small alone le = refl
   values-stand q p (Letter b ∷ ms) at least after is len seams small alone le =
       values-stand (q ++ b ∷ []) (p ++ b ∷ []) ms (at + 1) least false (is ∙ sym (append_assoc q (b ∷ []) (key_of ms))) (omega (arith, length-append q (b ∷ []))) seams small (quiet after alone) (reach after le)
@@ -349,11 +350,11 @@ module _ (key : List ℕ) (said : List Break) (within : (place : ℕ) → stays_
       (values-stand q [] ms at least true is len seams.1 small.1 alone (omega arith))
       (values-stand q [] ms at (at + 1) true is len seams.1 small.1 alone (omega arith))
     where
-      by : (t : Bool) → eqb v 0 ≡ t → are_entries (λ c. c) key least (map entry (values_from at ms)) ≡ true → are_entries (λ c. c) key (at + 1) (map entry (values_from at ms)) ≡ true
-          → are_entries (λ c. c) key least (map entry (cond t (values_from at ms) ((at, v) ∷ values_from at ms))) ≡ true
+      by : (t : Bool) → eqb v 0 ≡ t → entries_from (λ c. c) key least (map entry (values_from at ms)) ≡ true → entries_from (λ c. c) key (at + 1) (map entry (values_from at ms)) ≡ true
+          → entries_from (λ c. c) key least (map entry (cond t (values_from at ms) ((at, v) ∷ values_from at ms))) ≡ true
       by true e none more = none
       by false e none more =
-          all_four (nat_le least at) (is_boundary key at) (is_value v) (stays_within key at (change_at at said)) (are_entries (λ c. c) key (at + 1) (map entry (values_from at ms)))
+          all_four (nat_le least at) (is_boundary key at) (is_value v) (stays_within key at (change_at at said)) (entries_from (λ c. c) key (at + 1) (map entry (values_from at ms)))
           (not_above least at (omega arith)) (on_seam q (key_of ms) at is len (seams-utf8 [] ms seams.1)) (positive v e small.0) (within at) more
 
 marks_read : (version : Version) (token : List ℕ) → IsUtf8 token → is_none (elements_of version token) ≡ false → AreSeams [] (unwrap_or (elements_of version token) [])
@@ -395,7 +396,8 @@ module _ (form : Form) (number : ℕ) (line : List ℕ) (none : own_cause form n
       record {
         utf8 = seams-utf8 [] (pattern_elements form.version line) seams;
         letter = not_off (list_all (λ b. b == 46) (key_of_line form.version line)) (off_right (is_pattern line) (list_all (λ b. b == 46) (key_of_line form.version line)) passed.letters sort);
-        ascend = values-stand (key_of_line form.version line) (breaks_of_line line) (changes-stay form (is_pattern line) (pattern_elements form.version line) (key_of_line form.version line) (later_tokens_of line) (later-utf8 rest) numbers by_key) [] [] (pattern_elements form.version line) 0 0 false refl refl seams (values-small form.version (first_token_of line))
+        ascend = entries_in_order (λ c. c) (key_of_line form.version line) 0 (entries_of_line form.version line)
+            ∙ values-stand (key_of_line form.version line) (breaks_of_line line) (changes-stay form (is_pattern line) (pattern_elements form.version line) (key_of_line form.version line) (later_tokens_of line) (later-utf8 rest) numbers by_key) [] [] (pattern_elements form.version line) 0 0 false refl refl seams (values-small form.version (first_token_of line))
             (off_right (is_pattern line) (two_values false (pattern_elements form.version line)) passed.pattern sort) (omega arith);
       }
 

@@ -5,7 +5,7 @@ use Rattle.std.specs.Option.{option_map}
 use Rattle.std.specs.List.{list_all, slice_split}
 use Rattle.std.proofs.lemmas.Bool.{and_from, and_parts}
 use Rattle.std.proofs.lemmas.Bool.Decides.{nat_tests}
-use Rattle.hyphenation_commons.specs.Break.{Break, Change, ascend_on, is_boundary, plain}
+use Rattle.hyphenation_commons.specs.Break.{Break, Change, ascend_on, plain}
 use Rattle.hyphenation_commons.specs.Dictionary.{Contents}
 use Rattle.hyphenation_commons.specs.declared.grammar.form.Form.{Form}
 use Rattle.hyphenation_commons.specs.declared.grammar.form.Version.{Version}
@@ -16,6 +16,7 @@ use Rattle.hyphenation_commons.specs.Items.{is_pattern, is_exception, key_of_lin
 use Rattle.hyphenation_commons.specs.Judging.{fault_after, own_cause, repetition}
 use Rattle.hyphenation_commons.specs.Reading.{spelt_as, entry_as, SpeltItems, items_of_lines, contents_in, SomeLine}
 use Rattle.hyphenation_commons.specs.declared.dictionary.Entry.{Entry}
+use Rattle.hyphenation_commons.proofs.PlacesInOrder.{is_entry, map_twice}
 use Rattle.hyphenation_commons.proofs.ReadingOrder.{no_fault, patterns-told, exceptions-told}
 use Rattle.hyphenation_commons.proofs.LineInvariant.{both_left, both_right, passes, pattern-kept, exception-kept}
 
@@ -137,18 +138,20 @@ module _ {C B : Type 0} (payload_of : Option Change → C) (listing_of : Break �
     | inr alone ↦ subst (λ (x : Break). lists_within text place x.change ≡ true) (sym alone) (both_on (fits_usize place) (both_left (fits_usize place) (stays_within text place b.change) h))
   ]
 
-  five : (a b c d e : Bool) → (a && b && c && d && e) ≡ true → (a && b && c ≡ true) × (d ≡ true) × (e ≡ true)
-  five a b c d e h = (both_left (a && b && c) d (both_left (a && b && c && d) e h), both_right (a && b && c) d (both_left (a && b && c && d) e h), both_right (a && b && c && d) e h)
+  each_held : (text : List ℕ) (es : List (Entry (Option Change))) → list_all (is_entry (λ c. c) text) es ≡ true → list_all (is_entry change_of text) (map (entry_as payload_of) es) ≡ true
+  each_held text [] h = refl
+  each_held text (e ∷ es) h =
+      let parts = and_parts (is_entry (λ c. c) text e) (list_all (is_entry (λ c. c) text) es) h in
+      let here = and_parts (is_value e.value) (stays_within text e.place e.change) parts.0 in
+      and_from (is_entry change_of text (entry_as payload_of e)) (list_all (is_entry change_of text) (map (entry_as payload_of) es))
+      (and_from (is_value e.value) (stays_within text e.place (change_of (payload_of e.change))) here.0 (carried text e.place e.change here.1)) (each_held text es parts.1)
 
-  three : (a d e : Bool) → a ≡ true → d ≡ true → e ≡ true → (a && d && e) ≡ true
-  three a d e x y z = rw (x, y, z) refl
-
-  entries_held : (text : List ℕ) (least : ℕ) (es : List (Entry (Option Change))) → are_entries (λ c. c) text least es ≡ true → are_entries change_of text least (map (entry_as payload_of) es) ≡ true
-  entries_held text least [] h = refl
-  entries_held text least (e ∷ es) h =
-      let parts = five (nat_le least e.place) (is_boundary text e.place) (is_value e.value) (stays_within text e.place e.change) (are_entries (λ c. c) text (e.place + 1) es) h in
-      three (nat_le least e.place && is_boundary text e.place && is_value e.value) (stays_within text e.place (change_of (payload_of e.change))) (are_entries change_of text (e.place + 1) (map (entry_as payload_of) es))
-      parts.0 (carried text e.place e.change parts.1) (entries_held text (e.place + 1) es parts.2)
+  entries_held : (text : List ℕ) (es : List (Entry (Option Change))) → are_entries (λ c. c) text es ≡ true → are_entries change_of text (map (entry_as payload_of) es) ≡ true
+  entries_held text es h =
+      let parts = and_parts (ascend_on text 0 (map (λ e. e.place) es)) (list_all (is_entry (λ c. c) text) es) h in
+      let places : map (λ e. e.place) (map (entry_as payload_of) es) ≡ map (λ e. e.place) es = map_twice (λ e. e.place) (entry_as payload_of) es in
+      and_from (ascend_on text 0 (map (λ e. e.place) (map (entry_as payload_of) es))) (list_all (is_entry change_of text) (map (entry_as payload_of) es))
+      (ap (ascend_on text 0) places ∙ parts.0) (each_held text es parts.1)
 
   places_held : (bs : List Break) → map (λ b. (break_of b).place) (map listing_of bs) ≡ map (λ b. b.place) bs
   places_held [] = refl
@@ -176,7 +179,7 @@ module _ {C B : Type 0} (payload_of : Option Change → C) (listing_of : Break �
       (record {
         utf8 = kept.utf8;
         letter = kept.letter;
-        ascend = subst (λ (xs : List (Entry C)). are_entries change_of (key_of_line form.version line) 0 xs ≡ true) (ap (map (entry_as payload_of)) s.2 ∙ t.2) (entries_held (key_of_line form.version line) 0 (entries_of_line form.version line) kept.ascend);
+        ascend = subst (λ (xs : List (Entry C)). are_entries change_of (key_of_line form.version line) xs ≡ true) (ap (map (entry_as payload_of)) s.2 ∙ t.2) (entries_held (key_of_line form.version line) (entries_of_line form.version line) kept.ascend);
       })
 
   pub exception_held : (form : Form) (n : ℕ) (line w : List ℕ) (bs : List B) → own_cause form n line ≡ None → spelt_as listing_of exception_of_line line ≡ Some (w, bs) → IsException break_of w bs

@@ -31,7 +31,7 @@ fn has_letter(key: &str) -> bool
 
 /// Whether entries ascend on the boundaries of a key, with values above 0 and changes that keep within it.
 fn are_entries<C: Payload>(key: &str, entries: &[Entry<C>]) -> bool
-    ensures { IsTrue result ↔ IsTrue (are_entries C.change_of key.now 0 entries.now) }
+    ensures { IsTrue result ↔ IsTrue (are_entries C.change_of key.now entries.now) }
 {
     let mut least = 0;
     for entry in entries {

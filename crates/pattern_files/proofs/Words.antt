@@ -1,15 +1,13 @@
 -- When a word's letters can be a key, or a word.
-use Rattle.std.proofs.Common.{◌≡◌, ◌⊎◌, ◌∙◌, ℕ, ◌+◌, ◌&&◌, nat_le, Bool, true, false, List, [], ◌∷◌, map, Option, Some, None, refl, sym, ap, subst, inl, inr}
-use Rattle.std.specs.Prelude.{IsTrue, IsUtf8, ◌↔◌}
+use Rattle.std.proofs.Common.{◌≡◌, ◌⊎◌, ◌∙◌, ℕ, ◌&&◌, Bool, true, false, List, [], ◌∷◌, map, Option, Some, None, refl, sym, ap, subst, inl, inr}
+use Rattle.std.specs.Prelude.{IsTrue, ◌↔◌}
 use Rattle.std.specs.List.{list_all}
 use Rattle.std.specs.Str.{is_utf8}
-use Rattle.std.proofs.lemmas.Str.{IsUtf8-from_is_utf8}
-use Rattle.hyphenation_commons.specs.Break.{Break, Change, plain, ascend_on, is_boundary}
+use Rattle.hyphenation_commons.specs.Break.{Break, Change, plain, ascend_on}
 use Rattle.hyphenation_commons.specs.Invariant.{has_letter, are_entries, are_listed, is_value, stays_within, lists_within}
 use Rattle.hyphenation_commons.specs.Maker.{fits_key}
 use Rattle.hyphenation_commons.specs.declared.dictionary.Entry.{Entry}
-use Rattle.pattern_files.specs.Spelling.{letters, digit_values, entries_of_digits, entry_without_change, carries_nothing, unhyphenated, hyphens_from, breaks_of_hyphens, letter_cause, keeps_characters}
-use Rattle.pattern_files.specs.declared.fault.Cause.{Cause}
+use Rattle.pattern_files.specs.Spelling.{letters, digit_values, entries_of_digits, entry_without_change, carries_nothing, unhyphenated, hyphens_from, breaks_of_hyphens, letter_cause}
 use Rattle.pattern_files.specs.declared.fault.Cause.TheVariants.{NotUtf8}
 use Rattle.pattern_files.specs.declared.group.Group.TheVariants.{Patterns, Exceptions}
 
@@ -18,12 +16,19 @@ either (inl a) = a
 either (inr a) = a
 
 -- entries without changes fit in each kind of dictionary alike
-pub same_entries : {C : Type 0} (change_of : C → Option Change) (payload_of : Option Change → C) → change_of (payload_of None) ≡ None → (key : List ℕ) (least : ℕ) (vs : List (ℕ × ℕ))
-    → are_entries change_of key least (map (entry_without_change payload_of) vs) ≡ are_entries (λ (change : Option Change). change) key least (map (entry_without_change carries_nothing) vs)
-same_entries change_of payload_of none key least [] = refl
-same_entries {C} change_of payload_of none key least (v ∷ vs) =
-    ap (λ o. nat_le least v.0 && is_boundary key v.0 && is_value v.1 && stays_within key v.0 o && are_entries change_of key (v.0 + 1) (map (entry_without_change payload_of) vs)) none
-    ∙ ap (λ r. nat_le least v.0 && is_boundary key v.0 && is_value v.1 && true && r) (same_entries change_of payload_of none key (v.0 + 1) vs)
+pub same_entries : {C : Type 0} (change_of : C → Option Change) (payload_of : Option Change → C) → change_of (payload_of None) ≡ None → (key : List ℕ) (vs : List (ℕ × ℕ))
+    → are_entries change_of key (map (entry_without_change payload_of) vs) ≡ are_entries (λ (change : Option Change). change) key (map (entry_without_change carries_nothing) vs)
+same_entries {C} change_of payload_of none key vs = λ i. ascend_on key 0 (places vs i) && each vs i
+  where
+    places : (vs : List (ℕ × ℕ)) → map (λ e. e.place) (map (entry_without_change payload_of) vs) ≡ map (λ e. e.place) (map (entry_without_change carries_nothing) vs)
+    places [] = refl
+    places (v ∷ vs) = ap (λ ps. v.0 ∷ ps) (places vs)
+
+    each : (vs : List (ℕ × ℕ))
+        → list_all (λ (e : Entry C). is_value e.value && stays_within key e.place (change_of e.change)) (map (entry_without_change payload_of) vs)
+        ≡ list_all (λ (e : Entry (Option Change)). is_value e.value && stays_within key e.place e.change) (map (entry_without_change carries_nothing) vs)
+    each [] = refl
+    each (v ∷ vs) = λ i. is_value v.1 && stays_within key v.0 (none i) && each vs i
 
 places_said : {B : Type 0} (break_of : B → Break) (listing_of : Break → B) → ((place : ℕ) → break_of (listing_of (plain place)) ≡ plain place) → (ps : List ℕ)
     → map (λ b. (break_of b).place) (map (λ place. listing_of (plain place)) ps) ≡ map (λ place. (plain place).place) ps
@@ -67,18 +72,18 @@ pub bad_entries : {C : Type 0} (change_of : C → Option Change) (payload_of : O
     → key ≡ letters text → es ≡ entries_of_digits payload_of text → has_letter (letters text) ≡ true → is_utf8 (letters text) ≡ true → IsTrue t ↔ IsTrue (fits_key change_of key es) → t ≡ false
     → letter_cause Patterns text ≡ Some NotUtf8
 bad_entries change_of payload_of text key es t none hk he l u fits e =
-    let is : fits_key change_of key es ≡ (has_letter (letters text) && are_entries change_of (letters text) 0 (entries_of_digits payload_of text)) = rw (hk, he) refl in
-    let so : IsTrue t ↔ IsTrue (has_letter (letters text) && are_entries change_of (letters text) 0 (entries_of_digits payload_of text)) = subst (λ (b : Bool). IsTrue t ↔ IsTrue b) is fits in
-    let none_fit = sym (same_entries change_of payload_of none (letters text) 0 (digit_values 0 text)) ∙ off t (has_letter (letters text)) (are_entries change_of (letters text) 0 (entries_of_digits payload_of text)) e l so in
+    let is : fits_key change_of key es ≡ (has_letter (letters text) && are_entries change_of (letters text) (entries_of_digits payload_of text)) = rw (hk, he) refl in
+    let so : IsTrue t ↔ IsTrue (has_letter (letters text) && are_entries change_of (letters text) (entries_of_digits payload_of text)) = subst (λ (b : Bool). IsTrue t ↔ IsTrue b) is fits in
+    let none_fit = sym (same_entries change_of payload_of none (letters text) (digit_values 0 text)) ∙ off t (has_letter (letters text)) (are_entries change_of (letters text) (entries_of_digits payload_of text)) e l so in
     rw (l, u, none_fit) refl
 
 pub good_entries : {C : Type 0} (change_of : C → Option Change) (payload_of : Option Change → C) (text key : List ℕ) (es : List (Entry C)) (t : Bool) → change_of (payload_of None) ≡ None
     → key ≡ letters text → es ≡ entries_of_digits payload_of text → has_letter (letters text) ≡ true → is_utf8 (letters text) ≡ true → IsTrue t ↔ IsTrue (fits_key change_of key es) → t ≡ true
     → letter_cause Patterns text ≡ None
 good_entries change_of payload_of text key es t none hk he l u fits e =
-    let is : fits_key change_of key es ≡ (has_letter (letters text) && are_entries change_of (letters text) 0 (entries_of_digits payload_of text)) = rw (hk, he) refl in
-    let so : IsTrue t ↔ IsTrue (has_letter (letters text) && are_entries change_of (letters text) 0 (entries_of_digits payload_of text)) = subst (λ (b : Bool). IsTrue t ↔ IsTrue b) is fits in
-    let all_fit = sym (same_entries change_of payload_of none (letters text) 0 (digit_values 0 text)) ∙ on t (has_letter (letters text)) (are_entries change_of (letters text) 0 (entries_of_digits payload_of text)) e so in
+    let is : fits_key change_of key es ≡ (has_letter (letters text) && are_entries change_of (letters text) (entries_of_digits payload_of text)) = rw (hk, he) refl in
+    let so : IsTrue t ↔ IsTrue (has_letter (letters text) && are_entries change_of (letters text) (entries_of_digits payload_of text)) = subst (λ (b : Bool). IsTrue t ↔ IsTrue b) is fits in
+    let all_fit = sym (same_entries change_of payload_of none (letters text) (digit_values 0 text)) ∙ on t (has_letter (letters text)) (are_entries change_of (letters text) (entries_of_digits payload_of text)) e so in
     rw (l, u, all_fit) refl
 
 pub bad_word : (text : List ℕ) → is_utf8 (unhyphenated text) ≡ false → letter_cause Exceptions text ≡ Some NotUtf8
