@@ -1,8 +1,8 @@
 -- Plain breaks that fit, and places that ascend.
-use Rattle.std.proofs.Common.{◌≡◌, ℕ, ◌+◌, ◌≤◌, List, [], ◌∷◌, map, subst, sym, arith, add-zero, IsCharBoundary, true, inl, inr, length, nat_le, nat_lt, slice_index, ◌||◌}
+use Rattle.std.proofs.Common.{◌≡◌, ℕ, ◌+◌, ◌≤◌, List, [], ◌∷◌, map, subst, sym, arith, add-zero, IsCharBoundary, true, inl, inr, length, nat_le, nat_lt, slice_index, ◌&&◌, ◌||◌}
 use Rattle.std.proofs.lemmas.Bool.{and_parts, or_cases, leb-true, ltb-true}
 use Rattle.std.proofs.Math.Nat.{sub-zero}
-use Rattle.hyphenation_commons.specs.Break.{plain, is_boundary}
+use Rattle.hyphenation_commons.specs.Break.{plain, ascend_on, is_boundary}
 use Rattle.hyphenation.specs.Fits.{FitsFrom, Ascend}
 
 pub ascend_fits : (text : List ℕ) (last_end least : ℕ) (places : List ℕ) → last_end ≤ least → Ascend text least places → FitsFrom text last_end least (map plain places)
@@ -23,7 +23,7 @@ pub fits_ascend : (text : List ℕ) (last_end least : ℕ) (places : List ℕ) �
 fits_ascend text last_end least [] f = tt
 fits_ascend text last_end least (p ∷ ps) f = (f.0.ascends, f.0.place, fits_ascend text (p + 0) (p + 1) ps f.1)
 
--- The test of a boundary, and std's word for it.
+-- The tests of a boundary and of places, and the words for them.
 pub boundary_from_test : (text : List ℕ) (at : ℕ) → is_boundary text at ≡ true → IsCharBoundary text at
 boundary_from_test text at passes =
     let both = and_parts (nat_le at (length text)) (nat_lt (slice_index text at) 128 || nat_le 192 (slice_index text at)) passes in (
@@ -33,3 +33,10 @@ boundary_from_test text at passes =
         | inr lead ↦ leb-true 192 (slice_index text at) lead
       ],
     )
+
+pub ascend_from_test : (text : List ℕ) (least : ℕ) (places : List ℕ) → ascend_on text least places ≡ true → Ascend text least places
+ascend_from_test text least [] h = tt
+ascend_from_test text least (p ∷ ps) h =
+    let all = and_parts (nat_le least p && is_boundary text p) (ascend_on text (p + 1) ps) h in
+    let here = and_parts (nat_le least p) (is_boundary text p) all.0 in
+    (leb-true least p here.0, boundary_from_test text p here.1, ascend_from_test text (p + 1) ps all.1)

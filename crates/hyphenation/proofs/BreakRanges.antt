@@ -1,14 +1,14 @@
 -- The ranges of the breaks that a dictionary finds stand on boundaries, where they lie in the word.
 use Rattle.std.proofs.Common.{◌≡◌, ℕ, zero, suc, ◌+◌, ◌-◌, ◌<◌, ◌≤◌, ◌&&◌, nat_le, leb-true, Bool, true, false, cond, List, [], ◌∷◌, length, map, filter, get_or, Option, Some, None, refl, sym, subst, arith, add-zero}
-use Rattle.std.specs.List.{range_with_len, slice_range}
+use Rattle.std.specs.List.{list_all, range_with_len, slice_range}
 use Rattle.std.specs.Option.{IfSome, option_map, option_and_then, option_map_or, unwrap_or}
 use Rattle.std.specs.Str.{IsUtf8, IsCharBoundary}
 use Rattle.std.specs.FinMap as finite
 use Rattle.std.proofs.Math.Nat.{sub-zero}
 use Rattle.std.proofs.lemmas.Bool.{and_parts}
-use Rattle.hyphenation_commons.specs.Break.{Break, Change, changed_by, is_boundary, keeps_within}
+use Rattle.hyphenation_commons.specs.Break.{Break, Change, changed_by, ascend_on, is_boundary, keeps_within}
 use Rattle.hyphenation_commons.specs.Dictionary.{Contents, keys_of}
-use Rattle.hyphenation_commons.specs.Invariant.{IsDictionary, fits_usize, can_be_said, is_value, are_entries, are_listed, stays_within, lists_within}
+use Rattle.hyphenation_commons.specs.Invariant.{IsDictionary, fits_usize, can_be_said, is_value, stays_within, lists_within}
 use Rattle.hyphenation_commons.specs.declared.dictionary.Entry.{Entry}
 use Rattle.hyphenation.specs.Opportunities.{rules_of, is_odd, within, breaks_within, winning_break, by_patterns, by_exception, opportunities_in, opportunities, boundaries_by}
 use Rattle.hyphenation.specs.Scoring.{frame, value_at, winner_at}
@@ -40,28 +40,28 @@ stays_ranged : (text : List ℕ) (place : ℕ) (change : Option Change) → IsCh
 stays_ranged text place None at h = unchanged_ranged text place at
 stays_ranged text place (Some change) at h = λ left end. let k = kept_within text place change (and_parts (fits_usize place && can_be_said change) _ h).1 in (k.begin, k.end)
 
-listed_ranged : {B : Type 0} (break_of : B → Break) (word : List ℕ) (least : ℕ) (listed : List B) → are_listed break_of word least listed ≡ true → AreRanged word (map break_of listed)
-listed_ranged break_of word least [] h = tt
-listed_ranged break_of word least (b ∷ bs) h =
+listed_ranged : {B : Type 0} (break_of : B → Break) (word : List ℕ) (least : ℕ) (listed : List B) → ascend_on word least (map (λ b. (break_of b).place) listed) ≡ true
+    → list_all (λ b. lists_within word (break_of b).place (break_of b).change) listed ≡ true → AreRanged word (map break_of listed)
+listed_ranged break_of word least [] h k = tt
+listed_ranged break_of word least (b ∷ bs) h k =
     let p = (break_of b).place in
-    let all = and_parts (nat_le least p && is_boundary word p && lists_within word p (break_of b).change) (are_listed break_of word (p + 1) bs) h in
-    let two = and_parts (nat_le least p && is_boundary word p) _ all.0 in
-    let one = and_parts (nat_le least p) _ two.0 in
-    (stays_ranged word p (break_of b).change (boundary_from_test word p one.1) (and_parts (fits_usize p) _ two.1).1, listed_ranged break_of word (p + 1) bs all.1)
+    let places = and_parts (nat_le least p && is_boundary word p) (ascend_on word (p + 1) (map (λ b. (break_of b).place) bs)) h in
+    let here = and_parts (nat_le least p) (is_boundary word p) places.0 in
+    let within = and_parts (lists_within word p (break_of b).change) (list_all (λ b. lists_within word (break_of b).place (break_of b).change) bs) k in
+    (stays_ranged word p (break_of b).change (boundary_from_test word p here.1) (and_parts (fits_usize p) _ within.0).1, listed_ranged break_of word (p + 1) bs places.1 within.1)
 
 -- ---- patterns
 
 -- The change of an entry of a key keeps within it.
-entry_stays : {C : Type 0} (change_of : C → Option Change) (key : List ℕ) (least : ℕ) (entries : List (Entry C)) (i : ℕ) (entry : Entry C)
-    → are_entries change_of key least entries ≡ true → i < length entries → entry ≡ get_or entries i entry → stays_within key entry.place (change_of entry.change) ≡ true
-entry_stays {C} change_of key least [] i entry h lt is = absurd (omega arith)
-entry_stays {C} change_of key least (e ∷ es) i entry h lt is =
-    let rest = are_entries change_of key (e.place + 1) es in
-    let all = and_parts (nat_le least e.place && is_boundary key e.place && is_value e.value && stays_within key e.place (change_of e.change)) rest h in
-    let most = and_parts (nat_le least e.place && is_boundary key e.place && is_value e.value) _ all.0 in
+entry_stays : {C : Type 0} (change_of : C → Option Change) (key : List ℕ) (entries : List (Entry C)) (i : ℕ) (entry : Entry C)
+    → list_all (λ e. is_value e.value && stays_within key e.place (change_of e.change)) entries ≡ true → i < length entries → entry ≡ get_or entries i entry → stays_within key entry.place (change_of entry.change) ≡ true
+entry_stays {C} change_of key [] i entry h lt is = absurd (omega arith)
+entry_stays {C} change_of key (e ∷ es) i entry h lt is =
+    let stays = stays_within key e.place (change_of e.change) in
+    let all = and_parts (is_value e.value && stays) (list_all (λ e. is_value e.value && stays_within key e.place (change_of e.change)) es) h in
     elim i as (λ i. i < length (e ∷ es) → entry ≡ get_or (e ∷ es) i entry → stays_within key entry.place (change_of entry.change) ≡ true) [
-      | zero ↦ λ _ here. subst (λ (x : Entry C). stays_within key x.place (change_of x.change) ≡ true) (sym here) most.1
-      | suc i ↦ λ lt there. entry_stays change_of key (e.place + 1) es i entry all.1 (omega arith) there
+      | zero ↦ λ _ here. subst (λ (x : Entry C). stays_within key x.place (change_of x.change) ≡ true) (sym here) (and_parts (is_value e.value) stays all.0).1
+      | suc i ↦ λ lt there. entry_stays change_of key es i entry all.1 (omega arith) there
     ] lt is
 
 -- In the word a change stands as it does in the key, the dots of the frame aside.
@@ -90,7 +90,8 @@ won_ranged {C} change_of break_of contents word p kept u at =
           let bears = wins.2.bears in
           let key = slice_range (frame word) wins.0 wins.1 in
           let pattern = kept.patterns key bears.entries bears.key in
-          let stays = entry_stays change_of key 0 bears.entries bears.among.0 entry pattern.ascend bears.among.1.0 bears.among.1.1 in
+          let sound = (and_parts (ascend_on key 0 (map (λ e. e.place) bears.entries)) _ pattern.ascend).1 in
+          let stays = entry_stays change_of key bears.entries bears.among.0 entry sound bears.among.1.0 bears.among.1.1 in
           elim (change_of entry.change) as (λ change. stays_within key entry.place change ≡ true → Ranged word (changed_by p change)) [
             | None ↦ λ _. unchanged_ranged word p at
             | Some change ↦ λ h. in_word word p wins.0 wins.1 entry.place change u bears.some bears.within pattern.utf8 bears.place (kept_within key entry.place change (and_parts (fits_usize entry.place && can_be_said change) _ h).1)
@@ -127,7 +128,9 @@ exception_ranged : {C B : Type 0} (change_of : C → Option Change) (break_of : 
 exception_ranged {C} {B} change_of break_of contents word bounds kept =
     elim (finite.get contents.exceptions word) as (λ found. finite.get contents.exceptions word ≡ found → IfSome (option_map (λ l. breaks_within l bounds) (option_map (map break_of) found)) (AreRanged word)) [
       | None ↦ λ _. tt
-      | Some listed ↦ λ is. within_ranged word (map break_of listed) bounds (listed_ranged break_of word 0 listed (kept.exceptions word listed is).ascend)
+      | Some listed ↦ λ is.
+          let both = and_parts (ascend_on word 0 (map (λ b. (break_of b).place) listed)) _ (kept.exceptions word listed is).ascend in
+          within_ranged word (map break_of listed) bounds (listed_ranged break_of word 0 listed both.0 both.1)
     ] refl
 
 pub opportunities_ranged : {C B : Type 0} (change_of : C → Option Change) (break_of : B → Break) (contents : Contents C B) (word : List ℕ)

@@ -1,5 +1,5 @@
 -- What the rules of a dictionary give ascends on character boundaries.
-use Rattle.std.proofs.Common.{◌≡◌, ℕ, zero, suc, ◌+◌, ◌-◌, ◌<◌, ◌≤◌, ◌&&◌, nat_le, leb-true, Bool, true, false, cond, List, [], ◌∷◌, length, map, filter, Option, Some, None, refl, sym, ap, subst, ◌∙◌, arith, add-one}
+use Rattle.std.proofs.Common.{◌≡◌, ℕ, zero, suc, ◌+◌, ◌-◌, ◌<◌, ◌≤◌, Bool, true, false, cond, List, [], ◌∷◌, length, map, filter, Option, Some, None, refl, sym, ap, subst, ◌∙◌, arith, add-one}
 use Rattle.std.specs.Prelude.{All}
 use Rattle.std.specs.List.{range_with_len, slice_index}
 use Rattle.std.specs.List.Sorted.{IsStrictlyIncreasing}
@@ -8,13 +8,14 @@ use Rattle.std.specs.Str.{IsUtf8, IsCharBoundary}
 use Rattle.std.specs.FinMap as finite
 use Rattle.std.proofs.lemmas.Bool.{and_parts}
 use Rattle.std.proofs.lemmas.List.Elements.{All-head, All-tail}
-use Rattle.hyphenation_commons.specs.Break.{Break, Change, plain, is_boundary, end_of}
+use Rattle.hyphenation_commons.specs.Break.{Break, Change, plain, ascend_on, end_of}
 use Rattle.hyphenation_commons.specs.Dictionary.{Contents, keys_of}
-use Rattle.hyphenation_commons.specs.Invariant.{IsDictionary, are_listed, lists_within}
+use Rattle.hyphenation_commons.specs.Invariant.{IsDictionary, are_listed}
+use Rattle.hyphenation_commons.proofs.PlacesInOrder.{map_twice}
 use Rattle.hyphenation.specs.Fits.{Ascend, Fits, FitsFrom}
 use Rattle.hyphenation.specs.Scoring.{value_at}
 use Rattle.hyphenation.specs.Opportunities.{Rules, rules_of, is_odd, within, breaks_within, winning_break, by_patterns, by_exception, opportunities_in, opportunities, boundaries_by, exception_within_boundaries, Ascending}
-use Rattle.hyphenation.proofs.Ascending.{boundary_from_test, ascend_fits}
+use Rattle.hyphenation.proofs.Ascending.{ascend_from_test, ascend_fits}
 use Rattle.hyphenation.proofs.Occurrences.{value_boundary}
 
 -- From a least place on.
@@ -41,14 +42,10 @@ pub record AreSound (rules : Rules) (word : List ℕ) : Type 0 where
 
 -- ---- the rules of a dictionary
 
-listed_ascend : {B : Type 0} (break_of : B → Break) (word : List ℕ) (least : ℕ) (listed : List B) → are_listed break_of word least listed ≡ true → AscendFrom word least (map break_of listed)
-listed_ascend break_of word least [] h = tt
-listed_ascend break_of word least (b ∷ bs) h =
-    let p = (break_of b).place in
-    let all = and_parts (nat_le least p && is_boundary word p && lists_within word p (break_of b).change) (are_listed break_of word (p + 1) bs) h in
-    let two = and_parts (nat_le least p && is_boundary word p) _ all.0 in
-    let one = and_parts (nat_le least p) _ two.0 in
-    (leb-true least p one.0, boundary_from_test word p one.1, listed_ascend break_of word (p + 1) bs all.1)
+listed_ascend : {B : Type 0} (break_of : B → Break) (word : List ℕ) (listed : List B) → are_listed break_of word listed ≡ true → Ascending word (map break_of listed)
+listed_ascend break_of word listed h =
+    subst (Ascend word 0) (sym (map_twice (λ b. b.place) break_of listed))
+    (ascend_from_test word 0 (map (λ b. (break_of b).place) listed) (and_parts (ascend_on word 0 (map (λ b. (break_of b).place) listed)) _ h).0)
 
 kept_ascend : (text : List ℕ) (test : ℕ → Bool) (break_to : ℕ → Break) → ((p : ℕ) → (break_to p).place ≡ p) → (first n least : ℕ) → least ≤ first
     → ((p : ℕ) → p < first + n → test p ≡ true → IsCharBoundary text p) → AscendFrom text least (map break_to (filter test (range_with_len first n)))
@@ -71,7 +68,7 @@ rules_are_sound {C} {B} change_of break_of contents word kept u =
     record {
       listed = elim (finite.get contents.exceptions word) as (λ found. finite.get contents.exceptions word ≡ found → IfSome (option_map (map break_of) found) (λ listed. Ascending word listed)) [
         | None ↦ λ _. tt
-        | Some listed ↦ λ is. listed_ascend break_of word 0 listed (kept.exceptions word listed is).ascend
+        | Some listed ↦ λ is. listed_ascend break_of word listed (kept.exceptions word listed is).ascend
       ] refl;
       allowed = kept_ascend word (λ place. is_odd (value_at keys word place)) (winning_break change_of keys word) (λ _. refl) 1 (length word - 1) 0 (omega arith)
           (λ p lt odd. value_boundary change_of break_of contents word p kept u (omega arith) (odd_is_some (value_at keys word p) odd));

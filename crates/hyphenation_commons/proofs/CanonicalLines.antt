@@ -1,5 +1,5 @@
 -- A line that is spelt passes its tests, and spells again what it was spelt of.
-use Rattle.std.proofs.Common.{◌≡◌, ℕ, suc, ◌+◌, ◌<◌, ◌≤◌, Bool, true, false, cond, not, ◌&&◌, ◌||◌, ◌==◌, eqb, nat_le, nat_lt, List, [], ◌∷◌, ◌++◌, length, drop, map, get_or, Option, Some, None, is_some, is_none, unwrap_or, refl, ap, ◌∙◌, arith}
+use Rattle.std.proofs.Common.{◌≡◌, ℕ, suc, ◌+◌, ◌<◌, ◌≤◌, Bool, true, false, cond, not, ◌&&◌, ◌||◌, ◌==◌, eqb, nat_le, nat_lt, List, [], ◌∷◌, ◌++◌, length, drop, map, get_or, Option, Some, None, is_some, is_none, unwrap_or, refl, sym, ap, ◌∙◌, arith}
 use Rattle.std.specs.Prelude.{IsUtf8}
 use Rattle.std.specs.List.{find, list_all, list_any, slice_split, AllByRecursion}
 use Rattle.std.specs.Str.{is_utf8}
@@ -9,12 +9,12 @@ use Rattle.std.proofs.lemmas.List.Splits.{slice_split_at, slice_split_none}
 use Rattle.std.proofs.lemmas.Str.{IsUtf8-append, IsUtf8-nil, is_utf8-from_IsUtf8}
 use Rattle.std.proofs.lemmas.Bool.{leb-true, and_from, and_left, and_right, le-leb, ltb-true, not-true, or_left, or_right}
 use Rattle.std.proofs.lemmas.Bool.Decides.{nat_tests}
-use Rattle.hyphenation_commons.specs.Break.{Break, Change, is_boundary, keeps_within}
+use Rattle.hyphenation_commons.specs.Break.{Break, Change, ascend_on, is_boundary, keeps_within}
 use Rattle.hyphenation_commons.specs.declared.grammar.form.Form.{Form}
 use Rattle.hyphenation_commons.specs.declared.grammar.form.Kind.{Kind}
 use Rattle.hyphenation_commons.specs.declared.grammar.form.Version.{Version}
 use Rattle.hyphenation_commons.specs.Items.{break_of_token, change_at, pattern_of_line, exception_of_line}
-use Rattle.hyphenation_commons.specs.Judging.{is_good_later_token, good_places, has_value_at, fails, own_cause, is_known}
+use Rattle.hyphenation_commons.specs.Judging.{is_good_later_token, has_value_at, fails, own_cause, is_known}
 use Rattle.hyphenation_commons.specs.Invariant.{fits_usize, can_be_said, can_be_said_if_any, stays_within, lists_within, is_value, are_entries, are_listed, has_letter}
 use Rattle.hyphenation_commons.specs.Lines.{is_number}
 use Rattle.hyphenation_commons.specs.Tokens.{elements_of, pattern_bytes, text_spelt, key_of, values_from, two_values, numerals_of, is_readable, place_of}
@@ -26,6 +26,7 @@ use Rattle.hyphenation_commons.specs.declared.grammar.tokens.PatternElement.{Pat
 use Rattle.hyphenation_commons.specs.declared.grammar.tokens.PatternElement.TheVariants.{Letter, Value}
 use Rattle.hyphenation_commons.proofs.AsciiSplits.{one_ascii}
 use Rattle.hyphenation_commons.proofs.SpelledBytes.{Free, space, feed, free-append, marks-free, text-free}
+use Rattle.hyphenation_commons.proofs.PlacesInOrder.{entries_from, entries_in_order}
 use Rattle.hyphenation_commons.proofs.LineInvariant.{both_left, both_right}
 use Rattle.hyphenation_commons.proofs.CanonicalLaterTokens.{Tells, tells, is_allowed, good, text-again, token-some}
 use Rattle.hyphenation_commons.proofs.SpelledUtf8.{AllSeams, marks-utf8, token-utf8}
@@ -51,16 +52,18 @@ said_of : (text : List ℕ) (place : ℕ) (o : Option Change) → stays_within t
 said_of text place None s = refl
 said_of text place (Some c) s = both_right (fits_usize place) (can_be_said c) (both_left (fits_usize place && can_be_said c) (keeps_within text place c) s)
 
-listed-sayable : (kind : Kind) (text : List ℕ) (least : ℕ) (bs : List Break) → are_listed (λ b. b) text least bs ≡ true → are_allowed kind bs ≡ true → list_all (is_sayable kind) bs ≡ true
-listed-sayable kind text least [] l w = refl
-listed-sayable kind text least (b ∷ bs) l w =
-    let front = both_left (nat_le least b.place && is_boundary text b.place && lists_within text b.place b.change) (are_listed (λ b. b) text (b.place + 1) bs) l in
-    let here = both_right (nat_le least b.place && is_boundary text b.place) (lists_within text b.place b.change) front in
+abbrev are_within : List ℕ → List Break → Bool
+are_within text bs = list_all (λ b. lists_within text b.place b.change) bs
+
+listed-sayable : (kind : Kind) (text : List ℕ) (bs : List Break) → are_within text bs ≡ true → are_allowed kind bs ≡ true → list_all (is_sayable kind) bs ≡ true
+listed-sayable kind text [] l w = refl
+listed-sayable kind text (b ∷ bs) l w =
+    let here = both_left (lists_within text b.place b.change) (are_within text bs) l in
     and_from (is_sayable kind b) (list_all (is_sayable kind) bs)
     (and_from (fits_usize b.place && can_be_said_if_any b.change) (is_allowed kind b.change)
     (and_from (fits_usize b.place) (can_be_said_if_any b.change) (both_left (fits_usize b.place) (stays_within text b.place b.change) here) (said_of text b.place b.change (both_right (fits_usize b.place) (stays_within text b.place b.change) here)))
     (both_left (is_allowed kind b.change) (are_allowed kind bs) w))
-    (listed-sayable kind text (b.place + 1) bs (both_right (nat_le least b.place && is_boundary text b.place && lists_within text b.place b.change) (are_listed (λ b. b) text (b.place + 1) bs) l) (both_right (is_allowed kind b.change) (are_allowed kind bs) w))
+    (listed-sayable kind text bs (both_right (lists_within text b.place b.change) (are_within text bs) l) (both_right (is_allowed kind b.change) (are_allowed kind bs) w))
 
 module _ (form : Form) where
   tell : (b : Break) → is_sayable form.kind b ≡ true → Tells (token_of b) b
@@ -100,30 +103,23 @@ module _ (form : Form) where
   feed_each [] w = tt
   feed_each (b ∷ bs) w = free-append 10 (32 ∷ token_of b) (later_tokens bs) (refl, (tell b (first_of b bs w)).free 10 feed) (feed_each bs (rest_of b bs w))
 
-  pub places_each : (text : List ℕ) (least : ℕ) (bs : List Break) → list_all (is_sayable form.kind) bs ≡ true → are_listed (λ b. b) text least bs ≡ true → good_places text least (tokens_for bs) ≡ true
-  places_each text least [] w l = refl
-  places_each text least (b ∷ bs) w l =
-      let at : place_of (token_of b) ≡ b.place = ap (λ (x : Break). x.place) (tell b (first_of b bs w)).listed in
-      let front = both_left (nat_le least b.place && is_boundary text b.place && lists_within text b.place b.change) (are_listed (λ b. b) text (b.place + 1) bs) l in
-      ap (λ (p : ℕ). nat_le least p && is_boundary text p && good_places text (p + 1) (tokens_for bs)) at
-      ∙ and_from (nat_le least b.place && is_boundary text b.place) (good_places text (b.place + 1) (tokens_for bs))
-      (both_left (nat_le least b.place && is_boundary text b.place) (lists_within text b.place b.change) front)
-      (places_each text (b.place + 1) bs (rest_of b bs w) (both_right (nat_le least b.place && is_boundary text b.place && lists_within text b.place b.change) (are_listed (λ b. b) text (b.place + 1) bs) l))
+  pub places_each : (bs : List Break) → list_all (is_sayable form.kind) bs ≡ true → map place_of (tokens_for bs) ≡ map (λ b. b.place) bs
+  places_each [] w = refl
+  places_each (b ∷ bs) w = λ i. ((tell b (first_of b bs w)).listed i).place ∷ places_each bs (rest_of b bs w) i
 
   -- each is a change at the place of a value
   abbrev pub AllBelong : List PatternElement → List Break → Type 0
   AllBelong marks [] = Unit {0}
   AllBelong marks (b ∷ bs) = ((is_some b.change ≡ true) × (has_value_at marks b.place ≡ true)) × AllBelong marks bs
 
-  pub good_each : (in_pattern : Bool) (marks : List PatternElement) (text : List ℕ) (least : ℕ) (bs : List Break) → list_all (is_sayable form.kind) bs ≡ true → are_listed (λ b. b) text least bs ≡ true
+  pub good_each : (in_pattern : Bool) (marks : List PatternElement) (text : List ℕ) (bs : List Break) → list_all (is_sayable form.kind) bs ≡ true → are_within text bs ≡ true
       → (in_pattern ≡ true → AllBelong marks bs) → list_all (is_good_later_token form in_pattern marks text) (tokens_for bs) ≡ true
-  good_each in_pattern marks text least [] w l belong = refl
-  good_each in_pattern marks text least (b ∷ bs) w l belong =
-      let front = both_left (nat_le least b.place && is_boundary text b.place && lists_within text b.place b.change) (are_listed (λ b. b) text (b.place + 1) bs) l in
+  good_each in_pattern marks text [] w l belong = refl
+  good_each in_pattern marks text (b ∷ bs) w l belong =
       and_from (is_good_later_token form in_pattern marks text (token_of b)) (list_all (is_good_later_token form in_pattern marks text) (tokens_for bs))
       (good form in_pattern marks text (token_of b) b.place b.change (tell b (first_of b bs w)) (both_right (fits_usize b.place && can_be_said_if_any b.change) (is_allowed form.kind b.change) (first_of b bs w))
-      (both_right (fits_usize b.place) (stays_within text b.place b.change) (both_right (nat_le least b.place && is_boundary text b.place) (lists_within text b.place b.change) front)) (λ e. (belong e).0))
-      (good_each in_pattern marks text (b.place + 1) bs (rest_of b bs w) (both_right (nat_le least b.place && is_boundary text b.place && lists_within text b.place b.change) (are_listed (λ b. b) text (b.place + 1) bs) l) (λ e. (belong e).1))
+      (both_right (fits_usize b.place) (stays_within text b.place b.change) (both_left (lists_within text b.place b.change) (are_within text bs) l)) (λ e. (belong e).0))
+      (good_each in_pattern marks text bs (rest_of b bs w) (both_right (lists_within text b.place b.change) (are_within text bs) l) (λ e. (belong e).1))
 
 -- ---- A line that passes each test of its own.
 
@@ -171,9 +167,15 @@ known_by false = refl
 
 -- ---- A line of a word.
 
-module _ (form : Form) (word : List ℕ) (bs : List Break) (u : IsUtf8 word) (allowed : are_allowed form.kind bs ≡ true) (l : are_listed (λ b. b) word 0 bs ≡ true) where
+module _ (form : Form) (word : List ℕ) (bs : List Break) (u : IsUtf8 word) (allowed : are_allowed form.kind bs ≡ true) (l : are_listed (λ b. b) word bs ≡ true) where
+  l_places : ascend_on word 0 (map (λ b. b.place) bs) ≡ true
+  l_places = both_left (ascend_on word 0 (map (λ b. b.place) bs)) (are_within word bs) l
+
+  l_within : are_within word bs ≡ true
+  l_within = both_right (ascend_on word 0 (map (λ b. b.place) bs)) (are_within word bs) l
+
   w : list_all (is_sayable form.kind) bs ≡ true
-  w = listed-sayable form.kind word 0 bs l allowed
+  w = listed-sayable form.kind word bs l_within allowed
 
   e_toks : slice_split (λ b. eqb b 32) (text_token word ++ later_tokens bs) ≡ text_token word ∷ tokens_for bs
   e_toks = tokens_again form (text_token word) bs (text-free 32 space word) w
@@ -190,11 +192,11 @@ module _ (form : Form) (word : List ℕ) (bs : List Break) (u : IsUtf8 word) (al
         pattern = refl;
         letters = refl;
         number = ap (λ (ts : List (List ℕ)). not (list_all (λ token. list_all is_number (numerals_of token)) (drop 1 ts))) e_toks ∙ ap not (numbers_each form bs w);
-        place = ap (λ (ts : List (List ℕ)). not (good_places (unwrap_or (text_spelt (get_or ts 0 [])) []) 0 (drop 1 ts))) e_toks
-            ∙ ap (λ (o : Option (List ℕ)). not (good_places (unwrap_or o []) 0 (tokens_for bs))) t ∙ ap not (places_each form word 0 bs w l);
+        place = ap (λ (ts : List (List ℕ)). not (ascend_on (unwrap_or (text_spelt (get_or ts 0 [])) []) 0 (map place_of (drop 1 ts)))) e_toks
+            ∙ ap (λ (o : Option (List ℕ)). not (ascend_on (unwrap_or o []) 0 (map place_of (tokens_for bs)))) t ∙ ap not (ap (ascend_on word 0) (places_each form bs w) ∙ l_places);
         change = ap (λ (ts : List (List ℕ)). not (list_all (is_good_later_token form false (unwrap_or (elements_of form.version (get_or ts 0 [])) []) (unwrap_or (text_spelt (get_or ts 0 [])) [])) (drop 1 ts))) e_toks
             ∙ ap (λ (o : Option (List ℕ)). not (list_all (is_good_later_token form false (unwrap_or (elements_of form.version (text_token word)) []) (unwrap_or o [])) (tokens_for bs))) t
-            ∙ ap not (good_each form false (unwrap_or (elements_of form.version (text_token word)) []) word 0 bs w l (λ e. absurd cc));
+            ∙ ap not (good_each form false (unwrap_or (elements_of form.version (text_token word)) []) word bs w l_within (λ e. absurd cc));
       }
 
   pub exception-spelt : exception_of_line (exception_line word bs) ≡ Some (word, bs)
@@ -214,9 +216,9 @@ first_test a b c d e h =
     let ab = both_left (a && b) c abc in
     (both_left a b ab, both_right a b ab, both_right (a && b) c abc, both_right (a && b && c) d abcd, both_right (a && b && c && d) e h)
 
-entry_tests : (key : List ℕ) (least : ℕ) (e : Entry (Option Change)) (es : List (Entry (Option Change))) → are_entries (λ c. c) key least (e ∷ es) ≡ true
-    → (nat_le least e.place ≡ true) × (is_boundary key e.place ≡ true) × (is_value e.value ≡ true) × (stays_within key e.place e.change ≡ true) × (are_entries (λ c. c) key (e.place + 1) es ≡ true)
-entry_tests key least e es a = first_test (nat_le least e.place) (is_boundary key e.place) (is_value e.value) (stays_within key e.place e.change) (are_entries (λ c. c) key (e.place + 1) es) a
+entry_tests : (key : List ℕ) (least : ℕ) (e : Entry (Option Change)) (es : List (Entry (Option Change))) → entries_from (λ c. c) key least (e ∷ es) ≡ true
+    → (nat_le least e.place ≡ true) × (is_boundary key e.place ≡ true) × (is_value e.value ≡ true) × (stays_within key e.place e.change ≡ true) × (entries_from (λ c. c) key (e.place + 1) es ≡ true)
+entry_tests key least e es a = first_test (nat_le least e.place) (is_boundary key e.place) (is_value e.value) (stays_within key e.place e.change) (entries_from (λ c. c) key (e.place + 1) es) a
 
 -- The version says each value, and the kind each change.
 abbrev pub are_small : Version → List (Entry (Option Change)) → Bool
@@ -225,13 +227,13 @@ are_small version es = list_all (λ e. nat_le e.value (greatest version)) es
 abbrev pub have_allowed : Kind → List (Entry (Option Change)) → Bool
 have_allowed kind es = list_all (λ e. is_allowed kind e.change) es
 
-ascend : (key : List ℕ) (least : ℕ) (es : List (Entry (Option Change))) → are_entries (λ c. c) key least es ≡ true → Ascend least (length key) es
+ascend : (key : List ℕ) (least : ℕ) (es : List (Entry (Option Change))) → entries_from (λ c. c) key least es ≡ true → Ascend least (length key) es
 ascend key least [] a = tt
 ascend key least (e ∷ es) a =
     let t = entry_tests key least e es a in
     (leb-true least e.place t.0, leb-true e.place (length key) (both_left (nat_le e.place (length key)) _ t.1), ltb-true 0 e.value (both_left (nat_lt 0 e.value) (nat_le e.value 255) t.2), ascend key (e.place + 1) es t.4)
 
-seams : (version : Version) (key : List ℕ) (least : ℕ) (es : List (Entry (Option Change))) → are_entries (λ c. c) key least es ≡ true → are_small version es ≡ true → AllSeams version key es
+seams : (version : Version) (key : List ℕ) (least : ℕ) (es : List (Entry (Option Change))) → entries_from (λ c. c) key least es ≡ true → are_small version es ≡ true → AllSeams version key es
 seams version key least [] a v = tt
 seams version key least (e ∷ es) a v =
     let t = entry_tests key least e es a in
@@ -267,20 +269,27 @@ no_two at (b ∷ key) (e ∷ es) = by (eqb e.place at) (no_two (at + 1) key es) 
     by false h k = k
 
 -- the changes of entries are listed as they are
-changes-listed : (key : List ℕ) (least at : ℕ) (es : List (Entry (Option Change))) → at ≤ least → are_entries (λ c. c) key least es ≡ true → are_listed (λ b. b) key at (changes_of es) ≡ true
-changes-listed key least at [] le a = refl
-changes-listed key least at (e ∷ es) le a =
+changes-ascend : (key : List ℕ) (least at : ℕ) (es : List (Entry (Option Change))) → at ≤ least → entries_from (λ c. c) key least es ≡ true → ascend_on key at (map (λ b. b.place) (changes_of es)) ≡ true
+changes-ascend key least at [] le a = refl
+changes-ascend key least at (e ∷ es) le a =
     let t = entry_tests key least e es a in
     let near : least ≤ e.place = leb-true least e.place t.0 in
-    by e.place e.change (le-leb at e.place (omega arith)) t.1 t.3 (changes-listed key (e.place + 1) at es (omega arith) t.4) (changes-listed key (e.place + 1) (e.place + 1) es (omega arith) t.4)
+    by e.place e.change (le-leb at e.place (omega arith)) t.1 (changes-ascend key (e.place + 1) at es (omega arith) t.4) (changes-ascend key (e.place + 1) (e.place + 1) es (omega arith) t.4)
   where
-    by : (p : ℕ) (o : Option Change) → nat_le at p ≡ true → is_boundary key p ≡ true → stays_within key p o ≡ true → are_listed (λ b. b) key at (changes_of es) ≡ true → are_listed (λ b. b) key (p + 1) (changes_of es) ≡ true
-        → are_listed (λ b. b) key at (onto_changes p o (changes_of es)) ≡ true
-    by p None h k s more next = more
-    by p (Some c) h k s more next =
+    by : (p : ℕ) (o : Option Change) → nat_le at p ≡ true → is_boundary key p ≡ true → ascend_on key at (map (λ b. b.place) (changes_of es)) ≡ true → ascend_on key (p + 1) (map (λ b. b.place) (changes_of es)) ≡ true
+        → ascend_on key at (map (λ b. b.place) (onto_changes p o (changes_of es))) ≡ true
+    by p None h k more next = more
+    by p (Some c) h k more next = and_from (nat_le at p && is_boundary key p) (ascend_on key (p + 1) (map (λ b. b.place) (changes_of es))) (and_from (nat_le at p) (is_boundary key p) h k) next
+
+changes-within : (key : List ℕ) (least : ℕ) (es : List (Entry (Option Change))) → entries_from (λ c. c) key least es ≡ true → are_within key (changes_of es) ≡ true
+changes-within key least [] a = refl
+changes-within key least (e ∷ es) a = let t = entry_tests key least e es a in by e.place e.change t.3 (changes-within key (e.place + 1) es t.4)
+  where
+    by : (p : ℕ) (o : Option Change) → stays_within key p o ≡ true → are_within key (changes_of es) ≡ true → are_within key (onto_changes p o (changes_of es)) ≡ true
+    by p None s more = more
+    by p (Some c) s more =
         let short = both_left (fits_usize p) (can_be_said c) (both_left (fits_usize p && can_be_said c) (keeps_within key p c) s) in
-        and_from (nat_le at p && is_boundary key p && lists_within key p (Some c)) (are_listed (λ b. b) key (p + 1) (changes_of es))
-        (and_from (nat_le at p && is_boundary key p) (lists_within key p (Some c)) (and_from (nat_le at p) (is_boundary key p) h k) (and_from (fits_usize p) (stays_within key p (Some c)) short s)) next
+        and_from (lists_within key p (Some c)) (are_within key (changes_of es)) (and_from (fits_usize p) (stays_within key p (Some c)) short s) more
 
 -- each of them belongs to a value
 one_is : (p : ℕ) → eqb p p ≡ true
@@ -295,7 +304,7 @@ changes-belong form marks (e ∷ es) f = by e.change (changes-belong form marks 
     by (Some c) h = ((refl, f e.place (or_left (eqb e.place e.place) (list_any (λ v. eqb v.0 e.place) (pairs es)) (one_is e.place))), h)
 
 -- the change at a place below all others, and at that of an entry
-none_at : (key : List ℕ) (least p : ℕ) (es : List (Entry (Option Change))) → p < least → are_entries (λ c. c) key least es ≡ true → change_at p (changes_of es) ≡ None
+none_at : (key : List ℕ) (least p : ℕ) (es : List (Entry (Option Change))) → p < least → entries_from (λ c. c) key least es ≡ true → change_at p (changes_of es) ≡ None
 none_at key least p [] lt a = refl
 none_at key least p (e ∷ es) lt a =
     let t = entry_tests key least e es a in
@@ -312,7 +321,7 @@ none_at key least p (e ∷ es) lt a =
 abbrev again : List Break → ℕ × ℕ → Entry (Option Change)
 again said v = record { place = v.0; value = v.1; change = change_at v.0 said }
 
-restored : (key : List ℕ) (least : ℕ) (said : List Break) (es : List (Entry (Option Change))) → are_entries (λ c. c) key least es ≡ true
+restored : (key : List ℕ) (least : ℕ) (said : List Break) (es : List (Entry (Option Change))) → entries_from (λ c. c) key least es ≡ true
     → ((p : ℕ) → least ≤ p → change_at p said ≡ change_at p (changes_of es)) → map (again said) (pairs es) ≡ es
 restored key least said [] a f = refl
 restored key least said (e ∷ es) a f =
@@ -344,7 +353,10 @@ some_byte version (b ∷ token) ms key m k letter = above (length token)
     above : (n : ℕ) → nat_lt 0 (suc n) ≡ true
     above n = grind (arith, nat_tests)
 
-module _ (form : Form) (whole : List ℕ) (es : List (Entry (Option Change))) (u : IsUtf8 whole) (letter : has_letter whole ≡ true) (v : are_small form.version es ≡ true) (w : have_allowed form.kind es ≡ true) (a : are_entries (λ c. c) whole 0 es ≡ true) where
+module _ (form : Form) (whole : List ℕ) (es : List (Entry (Option Change))) (u : IsUtf8 whole) (letter : has_letter whole ≡ true) (v : are_small form.version es ≡ true) (w : have_allowed form.kind es ≡ true) (a : are_entries (λ c. c) whole es ≡ true) where
+  a_each : entries_from (λ c. c) whole 0 es ≡ true
+  a_each = sym (entries_in_order (λ c. c) whole 0 es) ∙ a
+
   abbrev the_marks : List PatternElement
   the_marks = elements_for 0 whole es
 
@@ -352,7 +364,7 @@ module _ (form : Form) (whole : List ℕ) (es : List (Entry (Option Change))) (u
   the_breaks = changes_of es
 
   p_seams : AllSeams form.version whole es
-  p_seams = seams form.version whole 0 es a v
+  p_seams = seams form.version whole 0 es a_each v
 
   p_spelt : AllValues form.version the_marks
   p_spelt = all-values form.version whole 0 whole es p_seams
@@ -364,13 +376,13 @@ module _ (form : Form) (whole : List ℕ) (es : List (Entry (Option Change))) (u
   p_key = key_again 0 whole es
 
   p_values : values_from 0 the_marks ≡ pairs es
-  p_values = values_again 0 (length whole) whole es (omega arith) (ascend whole 0 es a)
+  p_values = values_again 0 (length whole) whole es (omega arith) (ascend whole 0 es a_each)
 
-  p_listed : are_listed (λ b. b) whole 0 the_breaks ≡ true
-  p_listed = changes-listed whole 0 0 es (omega arith) a
+  p_within : are_within whole the_breaks ≡ true
+  p_within = changes-within whole 0 es a_each
 
   p_writable : list_all (is_sayable form.kind) the_breaks ≡ true
-  p_writable = listed-sayable form.kind whole 0 the_breaks p_listed (changes-allowed form.kind es w)
+  p_writable = listed-sayable form.kind whole the_breaks p_within (changes-allowed form.kind es w)
 
   p_belong : AllBelong form the_marks the_breaks
   p_belong = changes-belong form the_marks es (λ p h. ap (λ (vs : List (ℕ × ℕ)). list_any (λ v. eqb v.0 p) vs) p_values ∙ h)
@@ -393,13 +405,13 @@ module _ (form : Form) (whole : List ℕ) (es : List (Entry (Option Change))) (u
         pattern = ap (λ (ts : List (List ℕ)). two_values false (read_marks (get_or ts 0 []))) p_toks ∙ ap (λ (o : Option (List PatternElement)). two_values false (unwrap_or o [])) p_marks ∙ no_two 0 whole es;
         letters = ap (λ (ts : List (List ℕ)). list_all (λ b. b == 46) (key_of (read_marks (get_or ts 0 [])))) p_toks ∙ ap (λ (o : Option (List PatternElement)). list_all (λ b. b == 46) (key_of (unwrap_or o []))) p_marks ∙ ap (list_all (λ b. b == 46)) p_key ∙ not-true (list_all (λ b. b == 46) whole) letter;
         number = ap (λ (ts : List (List ℕ)). not (list_all (λ token. list_all is_number (numerals_of token)) (drop 1 ts))) p_toks ∙ ap not (numbers_each form the_breaks p_writable);
-        place = ap (λ (ts : List (List ℕ)). not (good_places (key_of (read_marks (get_or ts 0 []))) 0 (drop 1 ts))) p_toks
-            ∙ ap (λ (o : Option (List PatternElement)). not (good_places (key_of (unwrap_or o [])) 0 (tokens_for the_breaks))) p_marks
-            ∙ ap (λ (k : List ℕ). not (good_places k 0 (tokens_for the_breaks))) p_key ∙ ap not (places_each form whole 0 the_breaks p_writable p_listed);
+        place = ap (λ (ts : List (List ℕ)). not (ascend_on (key_of (read_marks (get_or ts 0 []))) 0 (map place_of (drop 1 ts)))) p_toks
+            ∙ ap (λ (o : Option (List PatternElement)). not (ascend_on (key_of (unwrap_or o [])) 0 (map place_of (tokens_for the_breaks)))) p_marks
+            ∙ ap (λ (k : List ℕ). not (ascend_on k 0 (map place_of (tokens_for the_breaks)))) p_key ∙ ap not (ap (ascend_on whole 0) (places_each form the_breaks p_writable) ∙ changes-ascend whole 0 0 es (omega arith) a_each);
         change = ap (λ (ts : List (List ℕ)). not (list_all (is_good_later_token form true (read_marks (get_or ts 0 [])) (key_of (read_marks (get_or ts 0 [])))) (drop 1 ts))) p_toks
             ∙ ap (λ (o : Option (List PatternElement)). not (list_all (is_good_later_token form true (unwrap_or o []) (key_of (unwrap_or o []))) (tokens_for the_breaks))) p_marks
             ∙ ap (λ (k : List ℕ). not (list_all (is_good_later_token form true the_marks k) (tokens_for the_breaks))) p_key
-            ∙ ap not (good_each form true the_marks whole 0 the_breaks p_writable p_listed (λ e. p_belong));
+            ∙ ap not (good_each form true the_marks whole the_breaks p_writable p_within (λ e. p_belong));
       }
 
   pub pattern-spelt : pattern_of_line form.version (pattern_line form.version whole es) ≡ Some (whole, es)
@@ -407,7 +419,7 @@ module _ (form : Form) (whole : List ℕ) (es : List (Entry (Option Change))) (u
       ap (λ (ts : List (List ℕ)). Some (key_of (read_marks (get_or ts 0 [])), map (again (map break_of_token (drop 1 ts))) (values_from 0 (read_marks (get_or ts 0 []))))) p_toks
       ∙ ap (λ (o : Option (List PatternElement)). Some (key_of (unwrap_or o []), map (again (map break_of_token (tokens_for the_breaks))) (values_from 0 (unwrap_or o [])))) p_marks
       ∙ (λ i. Some (p_key i, map (again (listed_each form the_breaks p_writable i)) (p_values i)))
-      ∙ ap (λ (xs : List (Entry (Option Change))). Some (whole, xs)) (restored whole 0 the_breaks es a (λ p h. refl))
+      ∙ ap (λ (xs : List (Entry (Option Change))). Some (whole, xs)) (restored whole 0 the_breaks es a_each (λ p h. refl))
 
   pub pattern-feed : Free 10 (pattern_line form.version whole es)
   pattern-feed = (refl, (refl, free-append 10 (pattern_token form.version whole es) (later_tokens the_breaks) (marks-free 10 feed form.version the_marks p_spelt) (feed_each form the_breaks p_writable)))

@@ -1,5 +1,5 @@
 -- The canonical text is accepted, and gives its dictionary again.
-use Rattle.std.proofs.Common.{◌≡◌, ℕ, suc, ◌+◌, ◌<◌, ◌≤◌, Bool, true, false, cond, not, ◌&&◌, eqb, nat_le, nat_lt, List, [], ◌∷◌, ◌++◌, length, map, Option, Some, None, is_none, unwrap_or, refl, sym, ap, subst, ◌∙◌, arith}
+use Rattle.std.proofs.Common.{◌≡◌, ℕ, suc, ◌<◌, ◌≤◌, Bool, true, false, cond, not, ◌&&◌, eqb, nat_le, nat_lt, List, [], ◌∷◌, ◌++◌, length, map, Option, Some, None, is_none, unwrap_or, refl, sym, ap, subst, ◌∙◌, arith}
 use Rattle.std.specs.Prelude.{decimal, codes, IsUtf8}
 use Rattle.std.specs.Option.{option_map, option_and_then}
 use Rattle.std.specs.List.{list_all, slice_split, All}
@@ -7,12 +7,13 @@ use Rattle.std.specs.Str.{is_utf8, chars}
 use Rattle.std.specs.FinMap as finite
 use Rattle.std.specs.FinMap.{entries_sorted}
 use Rattle.std.proofs.lemmas.List.{append-nil}
+use Rattle.std.proofs.lemmas.List.Folds.{list_all-map}
 use Rattle.std.proofs.lemmas.List.Elements.{All-from_recursion}
 use Rattle.std.proofs.lemmas.List.Splits.{slice_split_at, slice_split_none}
 use Rattle.std.proofs.lemmas.Str.{IsUtf8-append, is_utf8-from_IsUtf8, IsUtf8-from_is_utf8}
 use Rattle.std.proofs.lemmas.Bool.{and_from, not-true}
 use Rattle.std.proofs.lemmas.Bool.Decides.{nat_tests}
-use Rattle.hyphenation_commons.specs.Break.{Break, Change, is_boundary}
+use Rattle.hyphenation_commons.specs.Break.{Break, Change, ascend_on}
 use Rattle.hyphenation_commons.specs.Dictionary.{Contents}
 use Rattle.hyphenation_commons.specs.Form.{head_line, head_of, version_by}
 use Rattle.hyphenation_commons.specs.Items.{key_of_line, word_of_line, key_spelt, word_spelt, pattern_of_line, exception_of_line}
@@ -36,6 +37,7 @@ use Rattle.hyphenation_commons.proofs.LanguageCodes.{is_code-utf8}
 use Rattle.hyphenation_commons.proofs.Decimals.{decimal-utf8, wide, small-again}
 use Rattle.hyphenation_commons.proofs.SpelledBytes.{Free, free-append, digits-free}
 use Rattle.hyphenation_commons.proofs.CanonicalLines.{Faultless, own_tests, own-none, none-found, are_small, have_allowed, are_allowed, pattern-faultless, pattern-spelt, pattern-feed, exception-faultless, exception-spelt, exception-feed}
+use Rattle.hyphenation_commons.proofs.PlacesInOrder.{is_entry, map_twice}
 use Rattle.hyphenation_commons.proofs.LineInvariant.{both_left, both_right}
 use Rattle.hyphenation_commons.proofs.CanonicalLaterTokens.{is_allowed}
 use Rattle.hyphenation_commons.proofs.CanonicalTokens.{AllLines, lines-ended}
@@ -149,14 +151,12 @@ one_allowed Standard o f = ap (is_allowed Standard) (f refl)
 one_allowed Extended None f = refl
 one_allowed Extended (Some c) f = refl
 
-values-small : {C : Type 0} (change_of : C → Option Change) (q : List ℕ) (least : ℕ) (es : List (Entry C)) → are_entries change_of q least es ≡ true → are_small Second (map (entry_as_said change_of) es) ≡ true
-values-small change_of q least [] a = refl
-values-small change_of q least (e ∷ es) a =
-    let rest = are_entries change_of q (e.place + 1) es in
-    let front = both_left (nat_le least e.place && is_boundary q e.place && is_value e.value && stays_within q e.place (change_of e.change)) rest a in
-    let value = both_right (nat_le least e.place && is_boundary q e.place) (is_value e.value) (both_left (nat_le least e.place && is_boundary q e.place && is_value e.value) (stays_within q e.place (change_of e.change)) front) in
+values-small : {C : Type 0} (change_of : C → Option Change) (q : List ℕ) (es : List (Entry C)) → list_all (is_entry change_of q) es ≡ true → are_small Second (map (entry_as_said change_of) es) ≡ true
+values-small change_of q [] a = refl
+values-small change_of q (e ∷ es) a =
+    let value = both_left (is_value e.value) (stays_within q e.place (change_of e.change)) (both_left (is_entry change_of q e) (list_all (is_entry change_of q) es) a) in
     and_from (nat_le e.value 255) (are_small Second (map (entry_as_said change_of) es)) (both_right (nat_lt 0 e.value) (nat_le e.value 255) value)
-    (values-small change_of q (e.place + 1) es (both_right (nat_le least e.place && is_boundary q e.place && is_value e.value && stays_within q e.place (change_of e.change)) rest a))
+    (values-small change_of q es (both_right (is_entry change_of q e) (list_all (is_entry change_of q) es) a))
 
 digits-small : {C : Type 0} (change_of : C → Option Change) (es : List (Entry C)) → are_digits es ≡ true → are_small First (map (entry_as_said change_of) es) ≡ true
 digits-small change_of [] e = refl
@@ -185,13 +185,17 @@ module _ {C B : Type 0} (kind : Kind) (payload_of : Option Change → C) (listin
   e_lines = map e_line (finite.entries contents.exceptions)
 
   -- what a dictionary holds says what it carries
-  as_entries : (q : List ℕ) (least : ℕ) (es : List (Entry C)) → are_entries (λ c. c) q least (map (entry_as_said change_of) es) ≡ are_entries change_of q least es
-  as_entries q least [] = refl
-  as_entries q least (e ∷ es) = ap (λ (t : Bool). nat_le least e.place && is_boundary q e.place && is_value e.value && stays_within q e.place (change_of e.change) && t) (as_entries q (e.place + 1) es)
+  as_entries : (q : List ℕ) (es : List (Entry C)) → are_entries (λ c. c) q (map (entry_as_said change_of) es) ≡ are_entries change_of q es
+  as_entries q es =
+      let places : map (λ e. e.place) (map (entry_as_said change_of) es) ≡ map (λ e. e.place) es = map_twice (λ e. e.place) (entry_as_said change_of) es in
+      let each : list_all (is_entry (λ c. c) q) (map (entry_as_said change_of) es) ≡ list_all (is_entry change_of q) es = list_all-map (is_entry (λ c. c) q) (entry_as_said change_of) es in
+      λ i. ascend_on q 0 (places i) && each i
 
-  as_listed : (q : List ℕ) (least : ℕ) (bs : List B) → are_listed (λ b. b) q least (map break_of bs) ≡ are_listed break_of q least bs
-  as_listed q least [] = refl
-  as_listed q least (b ∷ bs) = ap (λ (t : Bool). nat_le least (break_of b).place && is_boundary q (break_of b).place && lists_within q (break_of b).place (break_of b).change && t) (as_listed q ((break_of b).place + 1) bs)
+  as_listed : (q : List ℕ) (bs : List B) → are_listed (λ b. b) q (map break_of bs) ≡ are_listed break_of q bs
+  as_listed q bs =
+      let places : map (λ b. b.place) (map break_of bs) ≡ map (λ b. (break_of b).place) bs = map_twice (λ b. b.place) break_of bs in
+      let within : list_all (λ b. lists_within q b.place b.change) (map break_of bs) ≡ list_all (λ b. lists_within q (break_of b).place (break_of b).change) bs = list_all-map (λ b. lists_within q b.place b.change) break_of bs in
+      λ i. ascend_on q 0 (places i) && within i
 
   entries-back : (es : List (Entry C)) → map (entry_as payload_of) (map (entry_as_said change_of) es) ≡ es
   entries-back [] = refl
@@ -224,7 +228,7 @@ module _ {C B : Type 0} (kind : Kind) (payload_of : Option Change → C) (listin
       by true e =
           let each = all-tested (λ x. are_digits x.1) (finite.entries contents.patterns) e in
           all-both (IsPattern change_of) (λ q es. are_digits es ≡ true) (IsSmall First) (finite.entries contents.patterns) (λ q es k h. digits-small change_of es h) keys_kept each
-      by false e = all-both (IsPattern change_of) (IsPattern change_of) (IsSmall Second) (finite.entries contents.patterns) (λ q es k h. values-small change_of q 0 es k.ascend) keys_kept keys_kept
+      by false e = all-both (IsPattern change_of) (IsPattern change_of) (IsSmall Second) (finite.entries contents.patterns) (λ q es k h. values-small change_of q es (both_right (ascend_on q 0 (map (λ e. e.place) es)) (list_all (is_entry change_of q) es) k.ascend)) keys_kept keys_kept
 
   -- each key_of_line, and each word_of_line
   record KeyLine (q : List ℕ) (es : List (Entry C)) : Type 0 where
@@ -235,7 +239,7 @@ module _ {C B : Type 0} (kind : Kind) (payload_of : Option Change → C) (listin
   key_line : (q : List ℕ) (es : List (Entry C)) → IsPattern change_of q es → IsSmall version q es → KeyLine q es
   key_line q es is small =
       let w = entries-allowed es in
-      let a : are_entries (λ c. c) q 0 (map (entry_as_said change_of) es) ≡ true = as_entries q 0 es ∙ is.ascend in
+      let a : are_entries (λ c. c) q (map (entry_as_said change_of) es) ≡ true = as_entries q es ∙ is.ascend in
       record {
         faultless = pattern-faultless form q (map (entry_as_said change_of) es) is.utf8 is.letter small w a;
         spelt = pattern-spelt form q (map (entry_as_said change_of) es) is.utf8 is.letter small w a;
@@ -253,7 +257,7 @@ module _ {C B : Type 0} (kind : Kind) (payload_of : Option Change → C) (listin
   word_line : (q : List ℕ) (bs : List B) → IsException break_of q bs → WordLine q bs
   word_line q bs is =
       let w = listed-allowed bs in
-      let l : are_listed (λ b. b) q 0 (map break_of bs) ≡ true = as_listed q 0 bs ∙ is.ascend in
+      let l : are_listed (λ b. b) q (map break_of bs) ≡ true = as_listed q bs ∙ is.ascend in
       record {
         faultless = exception-faultless form q (map break_of bs) is.utf8 w l;
         spelt = exception-spelt form q (map break_of bs) is.utf8 w l;

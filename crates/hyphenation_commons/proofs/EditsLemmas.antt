@@ -76,7 +76,7 @@ unread {B} {Y} {Z} kind listing_of text r u answers fault cause e fails =
     some_cause (own_cause form 4 (as_line text)) cause (only_item form text u ∙ h)
 
 pub may_be_listed : {B Y Z : Type 0} (kind : Kind) (listing_of : Break → B) (break_of : B → Break) → ((b : Break) → (break_of (listing_of b) ≡ b) ⊎ (break_of (listing_of b) ≡ plain b.place))
-    → (line : List ℕ) (found : Option (String Y × Vec B Z)) (x : String Y × Vec B Z) → found ≡ Some x → ReadsException kind listing_of found line → IsTrue (are_listed break_of (string_bytes x.0) 0 x.1.items)
+    → (line : List ℕ) (found : Option (String Y × Vec B Z)) (x : String Y × Vec B Z) → found ≡ Some x → ReadsException kind listing_of found line → IsTrue (are_listed break_of (string_bytes x.0) x.1.items)
 may_be_listed {B} {Y} {Z} kind listing_of break_of kept line found x e reads =
     let form = form_in kind First in
     let h : ReadsException kind listing_of (Some x) line = subst (λ (o : Option (String Y × Vec B Z)). ReadsException kind listing_of o line) e reads in

@@ -10,7 +10,8 @@ use Rattle.std.specs.FinMap as finite
 use Rattle.std.specs.FinMap.{get-insert, get-remove}
 use Rattle.hyphenation_commons.specs.Break.{Break, Change, is_boundary}
 use Rattle.hyphenation_commons.specs.Dictionary.{Contents}
-use Rattle.hyphenation_commons.specs.Invariant.{IsDictionary, IsException, are_listed, lists_within, fits_usize, can_be_said}
+use Rattle.hyphenation_commons.specs.Invariant.{IsDictionary, IsException, lists_within, fits_usize, can_be_said}
+use Rattle.hyphenation_commons.proofs.PlacesInOrder.{listed_from}
 use Rattle.hyphenation_commons.proofs.PatternsLemmas.{same_test}
 use Rattle.hyphenation_trie.proofs.TrieNodes.{same_text, chosen}
 
@@ -48,25 +49,25 @@ pub never : (t : Bool) → t ≡ false → (IsTrue false → IsTrue t) × (IsTru
 never true e = absurd cc
 never false e = (λ h. h, λ h. h)
 
-pub before_least : {B : Type 0} (break_of : B → Break) (word : List ℕ) (least : ℕ) (listed : List B) (i : ℕ) (d : B) → i < length listed → (break_of (get_or listed i d)).place < least → are_listed break_of word least (drop i listed) ≡ false
+pub before_least : {B : Type 0} (break_of : B → Break) (word : List ℕ) (least : ℕ) (listed : List B) (i : ℕ) (d : B) → i < length listed → (break_of (get_or listed i d)).place < least → listed_from break_of word least (drop i listed) ≡ false
 before_least {B} break_of word least listed i d lt below =
-    ap (are_listed break_of word least) (drop-cons listed i d lt) ∙ by (nat_le least (break_of (get_or listed i d)).place) off
+    ap (listed_from break_of word least) (drop-cons listed i d lt) ∙ by (nat_le least (break_of (get_or listed i d)).place) off
   where
     off : nat_le least (break_of (get_or listed i d)).place ≡ false
     off = grind (arith, nat_tests)
 
     by : (t : Bool) → t ≡ false
-        → (t && is_boundary word (break_of (get_or listed i d)).place && lists_within word (break_of (get_or listed i d)).place (break_of (get_or listed i d)).change && are_listed break_of word ((break_of (get_or listed i d)).place + 1) (drop (suc i) listed)) ≡ false
+        → (t && is_boundary word (break_of (get_or listed i d)).place && lists_within word (break_of (get_or listed i d)).place (break_of (get_or listed i d)).change && listed_from break_of word ((break_of (get_or listed i d)).place + 1) (drop (suc i) listed)) ≡ false
     by true e = absurd cc
     by false e = refl
 
 pub out_of_word : {B : Type 0} (break_of : B → Break) (word : List ℕ) (least : ℕ) (listed : List B) (i : ℕ) (d : B) → i < length listed
-    → (is_boundary word (break_of (get_or listed i d)).place && lists_within word (break_of (get_or listed i d)).place (break_of (get_or listed i d)).change) ≡ false → are_listed break_of word least (drop i listed) ≡ false
+    → (is_boundary word (break_of (get_or listed i d)).place && lists_within word (break_of (get_or listed i d)).place (break_of (get_or listed i d)).change) ≡ false → listed_from break_of word least (drop i listed) ≡ false
 out_of_word {B} break_of word least listed i d lt off =
-    ap (are_listed break_of word least) (drop-cons listed i d lt)
+    ap (listed_from break_of word least) (drop-cons listed i d lt)
     ∙ by (nat_le least (break_of (get_or listed i d)).place) (is_boundary word (break_of (get_or listed i d)).place) (lists_within word (break_of (get_or listed i d)).place (break_of (get_or listed i d)).change) off
   where
-    by : (t a b : Bool) → (a && b) ≡ false → (t && a && b && are_listed break_of word ((break_of (get_or listed i d)).place + 1) (drop (suc i) listed)) ≡ false
+    by : (t a b : Bool) → (a && b) ≡ false → (t && a && b && listed_from break_of word ((break_of (get_or listed i d)).place + 1) (drop (suc i) listed)) ≡ false
     by true true true e = absurd cc
     by true true false e = refl
     by true false b e = refl

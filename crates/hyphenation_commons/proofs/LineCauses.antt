@@ -4,14 +4,14 @@ use Rattle.std.specs.Prelude.{codes, fold, is_none}
 use Rattle.std.specs.Option.{option_map, option_and_then, option_or, unwrap_or}
 use Rattle.std.specs.List.{list_all, slice_split}
 use Rattle.std.proofs.lemmas.Bool.Decides.{nat_tests}
-use Rattle.hyphenation_commons.specs.Break.{Break, Change as Changed, is_boundary}
+use Rattle.hyphenation_commons.specs.Break.{Break, Change as Changed, ascend_on, is_boundary}
 use Rattle.hyphenation_commons.specs.declared.grammar.form.Form.{Form}
 use Rattle.hyphenation_commons.specs.Items.{is_pattern, is_exception, tokens_of, pattern_of_line, exception_of_line, break_of_token, change_at, entries_of_line, breaks_of_line, key_of_line, word_of_line}
-use Rattle.hyphenation_commons.specs.Judging.{is_extended, is_good_later_token, has_value_at, has_bad_number, has_bad_place, has_bad_change, good_places}
+use Rattle.hyphenation_commons.specs.Judging.{is_extended, is_good_later_token, has_value_at, has_bad_number, has_bad_place, has_bad_change}
 use Rattle.hyphenation_commons.specs.Lines.{strip_prefix, is_number, number, number_of, same}
 use Rattle.hyphenation_commons.specs.Private.Parsed.{ReadPattern, ReadLater, nothing_read, is_bad, with_spelt, read_pattern, no_later, read_later, first_token, pattern_parts, exception_parts, part_at, change_with, sound_change}
 use Rattle.hyphenation_commons.specs.Reading.{spelt_as, entry_as}
-use Rattle.hyphenation_commons.specs.Private.LineAnswers.{item_cause, pattern_cause, exception_cause, places_cause, are_places, suits_key, suits_word, breaks_listed, entries_of}
+use Rattle.hyphenation_commons.specs.Private.LineAnswers.{item_cause, pattern_cause, exception_cause, places_cause, suits_key, suits_word, breaks_listed, entries_of}
 use Rattle.hyphenation_commons.specs.Tokens.{elements_of, elements_from, pattern_bytes, text_spelt, escaped_bytes_of, parts_of, key_of, values_from, two_values, is_readable, place_of, change_of}
 use Rattle.hyphenation_commons.specs.declared.dictionary.Entry.{Entry}
 use Rattle.hyphenation_commons.specs.declared.grammar.Cause.{Cause}
@@ -94,7 +94,7 @@ not_off : (b : Bool) → not b ≡ false → b ≡ true
 not_off true e = refl
 not_off false e = absurd cc
 
-same_places : (text : List ℕ) (least : ℕ) (ts : List (List ℕ)) → good_places text least ts ≡ are_places text least (map (λ token. said_by (parts_of token)) ts)
+same_places : (text : List ℕ) (least : ℕ) (ts : List (List ℕ)) → ascend_on text least (map place_of ts) ≡ ascend_on text least (map (λ b. b.0) (map (λ token. said_by (parts_of token)) ts))
 same_places text least [] = refl
 same_places text least (t ∷ ts) = ap (λ (b : Bool). (nat_le least (place_of t) && is_boundary text (place_of t)) && b) (same_places text (place_of t + 1) ts)
 
@@ -283,8 +283,8 @@ module _ (form : Form) (l : ReadLater) (later : List (List ℕ)) (read : read_la
   are_numbers : not l.are_numbers ≡ false → all_numbers later ≡ true
   are_numbers off = sym (reads_later no_later l later read).numbers ∙ not_off l.are_numbers off
 
-  place_test : (text : List ℕ) → not l.are_numbers ≡ false → has_bad_place text later ≡ not (are_places text 0 l.listed)
-  place_test text off = ap not (same_places text 0 later ∙ ap (are_places text 0) (sym (said off)))
+  place_test : (text : List ℕ) → not l.are_numbers ≡ false → has_bad_place text later ≡ not (ascend_on text 0 (map (λ b. b.0) l.listed))
+  place_test text off = ap not (same_places text 0 later ∙ ap (λ (bs : List (ℕ × Option Changed)). ascend_on text 0 (map (λ b. b.0) bs)) (sym (said off)))
 
   key_test : (ms : List PatternElement) (text : List ℕ) → not l.are_numbers ≡ false → has_bad_change form true ms text later ≡ not (l.are_sound && list_all (suits_key form text (values_from 0 ms)) l.listed)
   key_test ms text off =
@@ -305,13 +305,13 @@ module _ (form : Form) (l : ReadLater) (later : List (List ℕ)) (read : read_la
       → cond (has_bad_number later) (Some Number) (cond (has_bad_place text later) (Some Place) (cond (has_bad_change form true ms text later) (Some Change) None))
       ≡ option_or (places_cause text l) (cond (not (l.are_sound && list_all (suits_key form text (values_from 0 ms)) l.listed)) (Some Change) None)
   pattern_tail ms text =
-      tail (has_bad_number later) (not l.are_numbers) (has_bad_place text later) (not (are_places text 0 l.listed)) (has_bad_change form true ms text later) (not (l.are_sound && list_all (suits_key form text (values_from 0 ms)) l.listed))
+      tail (has_bad_number later) (not l.are_numbers) (has_bad_place text later) (not (ascend_on text 0 (map (λ b. b.0) l.listed))) (has_bad_change form true ms text later) (not (l.are_sound && list_all (suits_key form text (values_from 0 ms)) l.listed))
       numbers_by (place_test text) (key_test ms text)
 
   exception_tail : (ms : List PatternElement) (text : List ℕ)
       → cond (has_bad_number later) (Some Number) (cond (has_bad_place text later) (Some Place) (cond (has_bad_change form false ms text later) (Some Change) None)) ≡ exception_cause form text l
   exception_tail ms text =
-      tail (has_bad_number later) (not l.are_numbers) (has_bad_place text later) (not (are_places text 0 l.listed)) (has_bad_change form false ms text later) (not (l.are_sound && list_all (suits_word form text) l.listed))
+      tail (has_bad_number later) (not l.are_numbers) (has_bad_place text later) (not (ascend_on text 0 (map (λ b. b.0) l.listed))) (has_bad_change form false ms text later) (not (l.are_sound && list_all (suits_word form text) l.listed))
       numbers_by (place_test text) (word_test ms text)
 
 -- a pattern's tokens, by the marks of the first
@@ -410,7 +410,7 @@ pattern_passed form r l e = by (is_bad r) r.has_two_values (list_all (λ b. eqb 
     by true two dots is h = absurd cc
     by false true dots is h = absurd cc
     by false false true is h = absurd cc
-    by false false false is h = let p = passed l.are_numbers (not (are_places r.key 0 l.listed)) l.are_sound (list_all (suits_key form r.key r.values) l.listed) h in (p.0, p.1, is)
+    by false false false is h = let p = passed l.are_numbers (not (ascend_on r.key 0 (map (λ b. b.0) l.listed))) l.are_sound (list_all (suits_key form r.key r.values) l.listed) h in (p.0, p.1, is)
 
 -- the marks are there where no value is bad
 pub read_marks : (r : ReadPattern) (found : Option (List PatternElement)) → Finds nothing_read r found → is_bad r ≡ false → (ms : List PatternElement) × (found ≡ Some ms) × IsRead r ms
@@ -454,7 +454,7 @@ exception_spelt : {B : Type 0} (listing_of : Break → B) (form : Form) (tokens 
     → exception_by listing_of true tokens ≡ Some (word, map listing_of (breaks_listed l.listed))
 exception_spelt listing_of form tokens word l e none =
     let parts = both_parts (eqb (length (first_token tokens)) 0) (text_spelt (first_token tokens)) (read_later no_later (drop 1 tokens)) word l e in
-    let ok = passed l.are_numbers (not (are_places word 0 l.listed)) l.are_sound (list_all (suits_word form word) l.listed) none in
+    let ok = passed l.are_numbers (not (ascend_on word 0 (map (λ b. b.0) l.listed))) l.are_sound (list_all (suits_word form word) l.listed) none in
     ap (λ (o : Option (List ℕ)). pair (unwrap_or o []) (map listing_of (map break_of_token (drop 1 tokens)))) parts.0
     ∙ ap (λ (bs : List Break). pair word (map listing_of bs)) (breaks_by form l (drop 1 tokens) parts.1 ok.0 ok.1)
 

@@ -5,15 +5,16 @@ use Rattle.std.specs.Option.{option_map, option_and_then, is_none}
 use Rattle.std.specs.List.{find, list_all}
 use Rattle.std.specs.Str.{is_utf8}
 use Rattle.std.proofs.lemmas.List.{get_or_past}
+use Rattle.std.proofs.lemmas.Bool.{and_from, and_parts}
 use Rattle.std.proofs.lemmas.Bool.Decides.{nat_tests}
 use Rattle.std.proofs.lemmas.Str.{IsUtf8-from_is_utf8, is_utf8-from_IsUtf8, IsUtf8-nil, IsCharBoundary-at_seam}
-use Rattle.hyphenation_commons.specs.Break.{Break, Change, is_boundary, keeps_within}
+use Rattle.hyphenation_commons.specs.Break.{Break, Change, ascend_on, is_boundary, keeps_within}
 use Rattle.hyphenation_commons.specs.declared.grammar.form.Form.{Form}
-use Rattle.hyphenation_commons.specs.Invariant.{fits_usize, can_be_said, is_value, stays_within, are_entries, are_listed, IsPattern, IsException}
+use Rattle.hyphenation_commons.specs.Invariant.{fits_usize, can_be_said, is_value, stays_within, lists_within, are_listed, IsPattern, IsException}
 use Rattle.hyphenation_commons.specs.Lines.{same, starts_with, is_digit, has_no_leading_zero, is_number, is_small, number}
 use Rattle.hyphenation_commons.specs.Tokens.{escaped_bytes_of, bytes_of, element_of, is_raw, is_raw_digit, braced_value, step_outside, step_inside, elements_from, elements_of, pattern_bytes, text_spelt, key_of, values_from, two_values, has_comma, parts_of, numerals_of, place_of, change_of, is_whole}
 use Rattle.hyphenation_commons.specs.Items.{is_pattern, is_exception, tokens_of, first_token_of, later_tokens_of, pattern_elements, key_of_line, word_of_line, counted_text, break_of_token, breaks_of_line, change_at, entries_of_line}
-use Rattle.hyphenation_commons.specs.Judging.{is_item, is_extended, has_value_at, is_good_later_token, good_places, fails, own_cause}
+use Rattle.hyphenation_commons.specs.Judging.{is_item, is_extended, has_value_at, is_good_later_token, fails, own_cause}
 use Rattle.hyphenation_commons.specs.declared.dictionary.Entry.{Entry}
 use Rattle.hyphenation_commons.specs.declared.grammar.Cause.TheVariants.{NotUtf8, Header, Language, Minima, UnknownLine, Token, Value as BadValue, Pattern, NoLetters, Number, Place, Change as BadChange}
 use Rattle.hyphenation_commons.specs.declared.grammar.form.Version.{Version}
@@ -23,6 +24,7 @@ use Rattle.hyphenation_commons.specs.declared.grammar.tokens.PatternElement.{Pat
 use Rattle.hyphenation_commons.specs.declared.grammar.tokens.PatternElement.TheVariants.{Letter, Value}
 use Rattle.hyphenation_commons.specs.declared.grammar.tokens.Escapes.TheVariants.{Plain}
 use Rattle.hyphenation_commons.proofs.AsciiSplits.{AllUtf8, split_ascii, same_byte, split-utf8, first-utf8, part-utf8}
+use Rattle.hyphenation_commons.proofs.PlacesInOrder.{entries_from, entries_in_order}
 use Rattle.hyphenation_commons.proofs.LineCauses.{in_front, five}
 use Rattle.hyphenation_commons.proofs.TokenUtf8.{AreSeams, seams-utf8, marks-seams, read-utf8}
 
@@ -207,20 +209,25 @@ module _ (form : Form) (in_pattern : Bool) (marks : List PatternElement) (text :
           (stays token u.0 (both_left (has_numbers token) (list_all has_numbers later) n) (both_left (is_good_later_token form in_pattern marks text token) (list_all (is_good_later_token form in_pattern marks text) later) e))
       by false is more = more
 
-  pub listed-stand : (least : ℕ) (later : List (List ℕ)) → AllUtf8 later → list_all has_numbers later ≡ true → good_places text least later ≡ true → list_all (is_good_later_token form in_pattern marks text) later ≡ true
-      → are_listed (λ b. b) text least (map break_of_token later) ≡ true
-  listed-stand least [] u n places good = refl
-  listed-stand least (token ∷ later) u n places good =
-      let front = both_left (nat_le least (place_of token) && is_boundary text (place_of token)) (good_places text (place_of token + 1) later) places in
-      let numbers = both_left (has_numbers token) (list_all has_numbers later) n in
-      let here : stays_within text (place_of token) (break_of_token token).change ≡ true = stays token u.0 numbers (both_left (is_good_later_token form in_pattern marks text token) (list_all (is_good_later_token form in_pattern marks text) later) good) in
-      let rest : are_listed (λ b. b) text (place_of token + 1) (map break_of_token later) ≡ true =
-      listed-stand (place_of token + 1) later u.1 (both_right (has_numbers token) (list_all has_numbers later) n) (both_right (nat_le least (place_of token) && is_boundary text (place_of token)) (good_places text (place_of token + 1) later) places)
-      (both_right (is_good_later_token form in_pattern marks text token) (list_all (is_good_later_token form in_pattern marks text) later) good) in
-      joined (nat_le least (place_of token) && is_boundary text (place_of token)) (fits_usize (place_of token)) (stays_within text (place_of token) (break_of_token token).change) (are_listed (λ b. b) text (place_of token + 1) (map break_of_token later)) front (place_short token numbers) here rest
-    where
-      joined : (a s b c : Bool) → a ≡ true → s ≡ true → b ≡ true → c ≡ true → (a && (s && b) && c) ≡ true
-      joined a s b c x w y z = rw (x, w, y, z) refl
+  token-places : (later : List (List ℕ)) → map (λ b. b.place) (map break_of_token later) ≡ map place_of later
+  token-places [] = refl
+  token-places (token ∷ later) = ap (λ places. place_of token ∷ places) (token-places later)
+
+  tokens-stay : (later : List (List ℕ)) → AllUtf8 later → list_all has_numbers later ≡ true → list_all (is_good_later_token form in_pattern marks text) later ≡ true
+      → list_all (λ b. lists_within text b.place b.change) (map break_of_token later) ≡ true
+  tokens-stay [] u n good = refl
+  tokens-stay (token ∷ later) u n good =
+      let numbers = and_parts (has_numbers token) (list_all has_numbers later) n in
+      let all = and_parts (is_good_later_token form in_pattern marks text token) (list_all (is_good_later_token form in_pattern marks text) later) good in
+      and_from (lists_within text (place_of token) (break_of_token token).change) (list_all (λ b. lists_within text b.place b.change) (map break_of_token later))
+      (and_from (fits_usize (place_of token)) (stays_within text (place_of token) (break_of_token token).change) (place_short token numbers.0) (stays token u.0 numbers.0 all.0))
+      (tokens-stay later u.1 numbers.1 all.1)
+
+  pub listed-stand : (later : List (List ℕ)) → AllUtf8 later → list_all has_numbers later ≡ true → ascend_on text 0 (map place_of later) ≡ true → list_all (is_good_later_token form in_pattern marks text) later ≡ true
+      → are_listed (λ b. b) text (map break_of_token later) ≡ true
+  listed-stand later u n places good =
+      and_from (ascend_on text 0 (map (λ b. b.place) (map break_of_token later))) (list_all (λ b. lists_within text b.place b.change) (map break_of_token later))
+      (ap (ascend_on text 0) (token-places later) ∙ places) (tokens-stay later u n good)
 
 -- values are digits
 abbrev AreSmall : List PatternElement → Type 0
@@ -325,7 +332,7 @@ module _ (key : List ℕ) (said : List Break) (within : (place : ℕ) → stays_
   on_seam q rest at is len u = boundary_test key at (subst (λ (n : ℕ). IsCharBoundary key n) len (IsCharBoundary-at_seam key q rest is u))
 
   pub values-stand : (q p : List ℕ) (ms : List PatternElement) (at least : ℕ) (after : Bool) → key ≡ q ++ key_of ms → length q ≡ at → AreSeams p ms → AreSmall ms → two_values after ms ≡ false → least ≤ at + cond after 1 0
-      → are_entries (λ c. c) key least (map entry (values_from at ms)) ≡ true
+      → entries_from (λ c. c) key least (map entry (values_from at ms)) ≡ true
   values-stand q p [] at least after is len seams small alone le = refl
   values-stand q p (Letter b ∷ ms) at least after is len seams small alone le =
       values-stand (q ++ b ∷ []) (p ++ b ∷ []) ms (at + 1) least false (is ∙ sym (append_assoc q (b ∷ []) (key_of ms))) (omega (arith, length-append q (b ∷ []))) seams small (quiet after alone) (reach after le)
@@ -343,11 +350,11 @@ module _ (key : List ℕ) (said : List Break) (within : (place : ℕ) → stays_
       (values-stand q [] ms at least true is len seams.1 small.1 alone (omega arith))
       (values-stand q [] ms at (at + 1) true is len seams.1 small.1 alone (omega arith))
     where
-      by : (t : Bool) → eqb v 0 ≡ t → are_entries (λ c. c) key least (map entry (values_from at ms)) ≡ true → are_entries (λ c. c) key (at + 1) (map entry (values_from at ms)) ≡ true
-          → are_entries (λ c. c) key least (map entry (cond t (values_from at ms) ((at, v) ∷ values_from at ms))) ≡ true
+      by : (t : Bool) → eqb v 0 ≡ t → entries_from (λ c. c) key least (map entry (values_from at ms)) ≡ true → entries_from (λ c. c) key (at + 1) (map entry (values_from at ms)) ≡ true
+          → entries_from (λ c. c) key least (map entry (cond t (values_from at ms) ((at, v) ∷ values_from at ms))) ≡ true
       by true e none more = none
       by false e none more =
-          all_four (nat_le least at) (is_boundary key at) (is_value v) (stays_within key at (change_at at said)) (are_entries (λ c. c) key (at + 1) (map entry (values_from at ms)))
+          all_four (nat_le least at) (is_boundary key at) (is_value v) (stays_within key at (change_at at said)) (entries_from (λ c. c) key (at + 1) (map entry (values_from at ms)))
           (not_above least at (omega arith)) (on_seam q (key_of ms) at is len (seams-utf8 [] ms seams.1)) (positive v e small.0) (within at) more
 
 marks_read : (version : Version) (token : List ℕ) → IsUtf8 token → is_none (elements_of version token) ≡ false → AreSeams [] (unwrap_or (elements_of version token) [])
@@ -389,7 +396,8 @@ module _ (form : Form) (number : ℕ) (line : List ℕ) (none : own_cause form n
       record {
         utf8 = seams-utf8 [] (pattern_elements form.version line) seams;
         letter = not_off (list_all (λ b. b == 46) (key_of_line form.version line)) (off_right (is_pattern line) (list_all (λ b. b == 46) (key_of_line form.version line)) passed.letters sort);
-        ascend = values-stand (key_of_line form.version line) (breaks_of_line line) (changes-stay form (is_pattern line) (pattern_elements form.version line) (key_of_line form.version line) (later_tokens_of line) (later-utf8 rest) numbers by_key) [] [] (pattern_elements form.version line) 0 0 false refl refl seams (values-small form.version (first_token_of line))
+        ascend = entries_in_order (λ c. c) (key_of_line form.version line) 0 (entries_of_line form.version line)
+            ∙ values-stand (key_of_line form.version line) (breaks_of_line line) (changes-stay form (is_pattern line) (pattern_elements form.version line) (key_of_line form.version line) (later_tokens_of line) (later-utf8 rest) numbers by_key) [] [] (pattern_elements form.version line) 0 0 false refl refl seams (values-small form.version (first_token_of line))
             (off_right (is_pattern line) (two_values false (pattern_elements form.version line)) passed.pattern sort) (omega arith);
       }
 
@@ -397,12 +405,12 @@ module _ (form : Form) (number : ℕ) (line : List ℕ) (none : own_cause form n
   exception-kept sort =
       let item : is_item line ≡ true = either_right (is_pattern line) (is_exception line) sort in
       let off : is_pattern line ≡ false = apart line sort in
-      let places : good_places (counted_text form.version line) 0 (later_tokens_of line) ≡ true = item_test (good_places (counted_text form.version line) 0 (later_tokens_of line)) passed.place item in
+      let places : ascend_on (counted_text form.version line) 0 (map place_of (later_tokens_of line)) ≡ true = item_test (ascend_on (counted_text form.version line) 0 (map place_of (later_tokens_of line))) passed.place item in
       let good : list_all (is_good_later_token form (is_pattern line) (pattern_elements form.version line) (counted_text form.version line)) (later_tokens_of line) ≡ true = item_test (list_all (is_good_later_token form (is_pattern line) (pattern_elements form.version line) (counted_text form.version line)) (later_tokens_of line)) passed.change item in
       let rest : IsUtf8 (drop 2 line) = after_two 101 32 (omega arith) (omega arith) line sort line-utf8 in
       let numbers : list_all has_numbers (later_tokens_of line) ≡ true = item_test (list_all has_numbers (later_tokens_of line)) passed.numbers item in
       let is : counted_text form.version line ≡ word_of_line line = ap (λ (t : Bool). cond t (key_of_line form.version line) (word_of_line line)) off in
       record {
         utf8 = text_read (first_token_of line) (first-token-utf8 rest);
-        ascend = subst (λ (text : List ℕ). are_listed (λ b. b) text 0 (breaks_of_line line) ≡ true) is (listed-stand form (is_pattern line) (pattern_elements form.version line) (counted_text form.version line) 0 (later_tokens_of line) (later-utf8 rest) numbers places good);
+        ascend = subst (λ (text : List ℕ). are_listed (λ b. b) text (breaks_of_line line) ≡ true) is (listed-stand form (is_pattern line) (pattern_elements form.version line) (counted_text form.version line) (later_tokens_of line) (later-utf8 rest) numbers places good);
       }

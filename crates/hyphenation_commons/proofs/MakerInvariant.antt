@@ -62,19 +62,19 @@ keys-are : {C Y Z : Type 0} (change_of : C → Option Change) (ps : List (String
     → All (λ s. IsPattern change_of s.0 s.1) (map pair_of ps)
 keys-are change_of [] all = nothing _
 keys-are change_of (p ∷ ps) all =
-    let fits = both (has_letter (string_bytes p.0)) (are_entries change_of (string_bytes p.0) 0 p.1.items) (first_of (λ x. IsTrue (fits_key change_of (string_bytes x.0) x.1.items)) p ps all) in
+    let fits = both (has_letter (string_bytes p.0)) (are_entries change_of (string_bytes p.0) p.1.items) (first_of (λ x. IsTrue (fits_key change_of (string_bytes x.0) x.1.items)) p ps all) in
     more (λ s. IsPattern change_of s.0 s.1) (pair_of p) (map pair_of ps) (record { utf8 = IsUtf8-string_bytes p.0; letter = fits.0; ascend = fits.1 }) (keys-are change_of ps (rest_of (λ x. IsTrue (fits_key change_of (string_bytes x.0) x.1.items)) p ps all))
 
-words-are : {B Y Z : Type 0} (break_of : B → Break) (es : List (String Y × Vec B Z)) → All (λ e. IsTrue (are_listed break_of (string_bytes e.0) 0 e.1.items)) es
+words-are : {B Y Z : Type 0} (break_of : B → Break) (es : List (String Y × Vec B Z)) → All (λ e. IsTrue (are_listed break_of (string_bytes e.0) e.1.items)) es
     → All (λ s. IsException break_of s.0 s.1) (map pair_of es)
 words-are break_of [] all = nothing _
-words-are break_of (e ∷ es) all = more (λ s. IsException break_of s.0 s.1) (pair_of e) (map pair_of es) (record { utf8 = IsUtf8-string_bytes e.0; ascend = first_of (λ x. IsTrue (are_listed break_of (string_bytes x.0) 0 x.1.items)) e es all }) (words-are break_of es (rest_of (λ x. IsTrue (are_listed break_of (string_bytes x.0) 0 x.1.items)) e es all))
+words-are break_of (e ∷ es) all = more (λ s. IsException break_of s.0 s.1) (pair_of e) (map pair_of es) (record { utf8 = IsUtf8-string_bytes e.0; ascend = first_of (λ x. IsTrue (are_listed break_of (string_bytes x.0) x.1.items)) e es all }) (words-are break_of es (rest_of (λ x. IsTrue (are_listed break_of (string_bytes x.0) x.1.items)) e es all))
 
 pub keys_hold : {C Y Z : Type 0} (change_of : C → Option Change) (ps : List (String Y × Vec (Entry C) Z)) → All (λ p. IsTrue (fits_key change_of (string_bytes p.0) p.1.items)) ps
     → Holds (IsPattern change_of) (map_of_pairs (map pair_of ps))
 keys_hold change_of ps all = folded (IsPattern change_of) (map pair_of ps) finite.empty (nothing_held (IsPattern change_of)) (keys-are change_of ps all)
 
-pub words_hold : {B Y Z : Type 0} (break_of : B → Break) (es : List (String Y × Vec B Z)) → All (λ e. IsTrue (are_listed break_of (string_bytes e.0) 0 e.1.items)) es
+pub words_hold : {B Y Z : Type 0} (break_of : B → Break) (es : List (String Y × Vec B Z)) → All (λ e. IsTrue (are_listed break_of (string_bytes e.0) e.1.items)) es
     → Holds (IsException break_of) (map_of_pairs (map pair_of es))
 words_hold break_of es all = folded (IsException break_of) (map pair_of es) finite.empty (nothing_held (IsException break_of)) (words-are break_of es all)
 

@@ -1,16 +1,16 @@
 -- One pass over values and listed changes, both in ascending order, finds what a search for each of them would.
-use Rattle.std.proofs.Common.{◌≡◌, ◌∙◌, ℕ, ◌+◌, ◌<◌, ◌≤◌, Bool, true, false, cond, not, ◌&&◌, ◌||◌, eqb, nat_le, List, [], ◌∷◌, ◌++◌, length, drop, get_or, Option, Some, None, refl, sym, ap, arith, append_assoc, drop-cons, add-one, is_some, inl, inr, ◌⊎◌}
+use Rattle.std.proofs.Common.{◌≡◌, ◌∙◌, ℕ, ◌+◌, ◌<◌, ◌≤◌, Bool, true, false, cond, not, ◌&&◌, ◌||◌, eqb, nat_le, List, [], ◌∷◌, ◌++◌, length, drop, map, get_or, Option, Some, None, refl, sym, ap, arith, append_assoc, drop-cons, add-one, is_some, inl, inr, ◌⊎◌}
 use Rattle.std.proofs.Math.ListN.{drop_of_length-le}
 use Rattle.std.proofs.lemmas.List.{append-nil}
 use Rattle.std.proofs.lemmas.Bool.{cases_order}
 use Rattle.std.specs.Option.{option_or}
 use Rattle.std.specs.List.{list_all, list_any}
 use Rattle.std.proofs.lemmas.Bool.Decides.{nat_tests}
-use Rattle.hyphenation_commons.specs.Break.{Change as Changed, is_boundary}
+use Rattle.hyphenation_commons.specs.Break.{Change as Changed, ascend_on, is_boundary}
 use Rattle.hyphenation_commons.specs.Items.{change_at}
 use Rattle.hyphenation_commons.specs.Private.Matched.{ascend, have_values, from_next, first_at, left_at, matched_entries, unmatched_changes, suits_form_in_pattern, cause_before_match}
 use Rattle.hyphenation_commons.specs.Private.Parsed.{ReadPattern, ReadLater, is_bad, read_pattern, no_later, read_later, first_token, pattern_parts}
-use Rattle.hyphenation_commons.specs.Private.LineAnswers.{are_places, breaks_listed, entries_of, suits_key, pattern_cause, places_cause}
+use Rattle.hyphenation_commons.specs.Private.LineAnswers.{breaks_listed, entries_of, suits_key, pattern_cause, places_cause}
 use Rattle.hyphenation_commons.specs.Tokens.{elements_of, values_from, two_values}
 use Rattle.hyphenation_commons.specs.declared.dictionary.Entry.{Entry}
 use Rattle.hyphenation_commons.specs.declared.grammar.Cause.{Cause}
@@ -217,11 +217,11 @@ values_ascend false at (Value v ∷ marks) e = by (eqb v 0) (values_ascend true 
     by false more = both (nat_le (at + 0) at) (ascend (at + 1) (values_from at marks)) (at_least (at + 0) at (omega arith)) more
 
 -- listed places ascend, where they pass the test of places
-pub listed_ascend : (text : List ℕ) (least : ℕ) (listed : List (ℕ × Option Changed)) → are_places text least listed ≡ true → ascend least listed ≡ true
+pub listed_ascend : (text : List ℕ) (least : ℕ) (listed : List (ℕ × Option Changed)) → ascend_on text least (map (λ b. b.0) listed) ≡ true → ascend least listed ≡ true
 listed_ascend text least [] e = refl
 listed_ascend text least (b ∷ listed) e =
-    both (nat_le least b.0) (ascend (b.0 + 1) listed) (left (nat_le least b.0) (is_boundary text b.0) (left (nat_le least b.0 && is_boundary text b.0) (are_places text (b.0 + 1) listed) e))
-    (listed_ascend text (b.0 + 1) listed (right (nat_le least b.0 && is_boundary text b.0) (are_places text (b.0 + 1) listed) e))
+    both (nat_le least b.0) (ascend (b.0 + 1) listed) (left (nat_le least b.0) (is_boundary text b.0) (left (nat_le least b.0 && is_boundary text b.0) (ascend_on text (b.0 + 1) (map (λ x. x.0) listed)) e))
+    (listed_ascend text (b.0 + 1) listed (right (nat_le least b.0 && is_boundary text b.0) (ascend_on text (b.0 + 1) (map (λ x. x.0) listed)) e))
 
 -- each change is kept and has a value, if all are kept and all have values
 fits_apart : (form : Form) (key : List ℕ) (values : List (ℕ × ℕ)) (b : ℕ × Option Changed) → suits_key form key values b ≡ (suits_form_in_pattern form key b && has_value values b.0)
@@ -284,6 +284,6 @@ passed false false false sound kept true true e = (refl, refl, refl)
 pub both_ascend : (form : Form) (tokens : List (List ℕ)) (r : ReadPattern) (l : ReadLater) → pattern_parts form.version tokens ≡ Some (r, l) → cause_before_match form r l ≡ None → (ascend 0 r.values ≡ true) × (ascend 0 l.listed ≡ true)
 both_ascend form tokens r l e none =
     let parts = both_parts (eqb (length (first_token tokens)) 0) (read_pattern form.version (first_token tokens)) (read_later no_later (drop 1 tokens)) r l e in
-    let ok = passed (is_bad r) r.has_two_values (list_all (λ x. eqb x 46) r.key) l.are_sound (list_all (suits_form_in_pattern form r.key) l.listed) l.are_numbers (are_places r.key 0 l.listed) none in
+    let ok = passed (is_bad r) r.has_two_values (list_all (λ x. eqb x 46) r.key) l.are_sound (list_all (suits_form_in_pattern form r.key) l.listed) l.are_numbers (ascend_on r.key 0 (map (λ b. b.0) l.listed)) none in
     let m = read_marks r (elements_of form.version (first_token tokens)) (found_marks form.version (first_token tokens) r parts.0) ok.0 in
     (sym (ap (ascend 0) m.2.values) ∙ values_ascend false 0 m.0 (m.2.twice ∙ ok.1), listed_ascend r.key 0 l.listed ok.2)

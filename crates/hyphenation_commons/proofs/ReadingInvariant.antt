@@ -2,9 +2,10 @@
 use Rattle.std.proofs.Common.{◌≡◌, ℕ, ◌+◌, ◌<◌, ◌≤◌, Bool, true, false, cond, ◌&&◌, ◌==◌, nat_le, List, [], ◌∷◌, ◌++◌, length, map, Option, Some, None, is_some, unwrap_or, refl, sym, ap, subst, ◌∙◌, arith, inl, inr}
 use Rattle.std.specs.Prelude.{◌⊎◌, is_none, option_and_then, slice_index_or, codes}
 use Rattle.std.specs.Option.{option_map}
-use Rattle.std.specs.List.{slice_split}
+use Rattle.std.specs.List.{list_all, slice_split}
+use Rattle.std.proofs.lemmas.Bool.{and_from, and_parts}
 use Rattle.std.proofs.lemmas.Bool.Decides.{nat_tests}
-use Rattle.hyphenation_commons.specs.Break.{Break, Change, is_boundary, plain}
+use Rattle.hyphenation_commons.specs.Break.{Break, Change, ascend_on, plain}
 use Rattle.hyphenation_commons.specs.Dictionary.{Contents}
 use Rattle.hyphenation_commons.specs.declared.grammar.form.Form.{Form}
 use Rattle.hyphenation_commons.specs.declared.grammar.form.Version.{Version}
@@ -15,6 +16,7 @@ use Rattle.hyphenation_commons.specs.Items.{is_pattern, is_exception, key_of_lin
 use Rattle.hyphenation_commons.specs.Judging.{fault_after, own_cause, repetition}
 use Rattle.hyphenation_commons.specs.Reading.{spelt_as, entry_as, SpeltItems, items_of_lines, contents_in, SomeLine}
 use Rattle.hyphenation_commons.specs.declared.dictionary.Entry.{Entry}
+use Rattle.hyphenation_commons.proofs.PlacesInOrder.{is_entry, map_twice}
 use Rattle.hyphenation_commons.proofs.ReadingOrder.{no_fault, patterns-told, exceptions-told}
 use Rattle.hyphenation_commons.proofs.LineInvariant.{both_left, both_right, passes, pattern-kept, exception-kept}
 
@@ -136,28 +138,37 @@ module _ {C B : Type 0} (payload_of : Option Change → C) (listing_of : Break �
     | inr alone ↦ subst (λ (x : Break). lists_within text place x.change ≡ true) (sym alone) (both_on (fits_usize place) (both_left (fits_usize place) (stays_within text place b.change) h))
   ]
 
-  five : (a b c d e : Bool) → (a && b && c && d && e) ≡ true → (a && b && c ≡ true) × (d ≡ true) × (e ≡ true)
-  five a b c d e h = (both_left (a && b && c) d (both_left (a && b && c && d) e h), both_right (a && b && c) d (both_left (a && b && c && d) e h), both_right (a && b && c && d) e h)
+  each_held : (text : List ℕ) (es : List (Entry (Option Change))) → list_all (is_entry (λ c. c) text) es ≡ true → list_all (is_entry change_of text) (map (entry_as payload_of) es) ≡ true
+  each_held text [] h = refl
+  each_held text (e ∷ es) h =
+      let parts = and_parts (is_entry (λ c. c) text e) (list_all (is_entry (λ c. c) text) es) h in
+      let here = and_parts (is_value e.value) (stays_within text e.place e.change) parts.0 in
+      and_from (is_entry change_of text (entry_as payload_of e)) (list_all (is_entry change_of text) (map (entry_as payload_of) es))
+      (and_from (is_value e.value) (stays_within text e.place (change_of (payload_of e.change))) here.0 (carried text e.place e.change here.1)) (each_held text es parts.1)
 
-  three : (a d e : Bool) → a ≡ true → d ≡ true → e ≡ true → (a && d && e) ≡ true
-  three a d e x y z = rw (x, y, z) refl
+  entries_held : (text : List ℕ) (es : List (Entry (Option Change))) → are_entries (λ c. c) text es ≡ true → are_entries change_of text (map (entry_as payload_of) es) ≡ true
+  entries_held text es h =
+      let parts = and_parts (ascend_on text 0 (map (λ e. e.place) es)) (list_all (is_entry (λ c. c) text) es) h in
+      let places : map (λ e. e.place) (map (entry_as payload_of) es) ≡ map (λ e. e.place) es = map_twice (λ e. e.place) (entry_as payload_of) es in
+      and_from (ascend_on text 0 (map (λ e. e.place) (map (entry_as payload_of) es))) (list_all (is_entry change_of text) (map (entry_as payload_of) es))
+      (ap (ascend_on text 0) places ∙ parts.0) (each_held text es parts.1)
 
-  entries_held : (text : List ℕ) (least : ℕ) (es : List (Entry (Option Change))) → are_entries (λ c. c) text least es ≡ true → are_entries change_of text least (map (entry_as payload_of) es) ≡ true
-  entries_held text least [] h = refl
-  entries_held text least (e ∷ es) h =
-      let parts = five (nat_le least e.place) (is_boundary text e.place) (is_value e.value) (stays_within text e.place e.change) (are_entries (λ c. c) text (e.place + 1) es) h in
-      three (nat_le least e.place && is_boundary text e.place && is_value e.value) (stays_within text e.place (change_of (payload_of e.change))) (are_entries change_of text (e.place + 1) (map (entry_as payload_of) es))
-      parts.0 (carried text e.place e.change parts.1) (entries_held text (e.place + 1) es parts.2)
+  places_held : (bs : List Break) → map (λ b. (break_of b).place) (map listing_of bs) ≡ map (λ b. b.place) bs
+  places_held [] = refl
+  places_held (b ∷ bs) = λ i. placed b i ∷ places_held bs i
 
-  listed_held : (text : List ℕ) (least : ℕ) (bs : List Break) → are_listed (λ b. b) text least bs ≡ true → are_listed break_of text least (map listing_of bs) ≡ true
-  listed_held text least [] h = refl
-  listed_held text least (b ∷ bs) h =
-      let last = both_right (nat_le least b.place && is_boundary text b.place && lists_within text b.place b.change) (are_listed (λ b. b) text (b.place + 1) bs) h in
-      let front = both_left (nat_le least b.place && is_boundary text b.place && lists_within text b.place b.change) (are_listed (λ b. b) text (b.place + 1) bs) h in
-      let here : lists_within text b.place (break_of (listing_of b)).change ≡ true = meant text b.place b (both_right (nat_le least b.place && is_boundary text b.place) (lists_within text b.place b.change) front) in
-      subst (λ (place : ℕ). (nat_le least place && is_boundary text place && lists_within text place (break_of (listing_of b)).change && are_listed break_of text (place + 1) (map listing_of bs)) ≡ true) (sym (placed b))
-      (three (nat_le least b.place && is_boundary text b.place) (lists_within text b.place (break_of (listing_of b)).change) (are_listed break_of text (b.place + 1) (map listing_of bs))
-      (both_left (nat_le least b.place && is_boundary text b.place) (lists_within text b.place b.change) front) here (listed_held text (b.place + 1) bs last))
+  changes_held : (text : List ℕ) (bs : List Break) → list_all (λ b. lists_within text b.place b.change) bs ≡ true → list_all (λ b. lists_within text (break_of b).place (break_of b).change) (map listing_of bs) ≡ true
+  changes_held text [] h = refl
+  changes_held text (b ∷ bs) h =
+      let parts = and_parts (lists_within text b.place b.change) (list_all (λ b. lists_within text b.place b.change) bs) h in
+      and_from (lists_within text (break_of (listing_of b)).place (break_of (listing_of b)).change) (list_all (λ b. lists_within text (break_of b).place (break_of b).change) (map listing_of bs))
+      (subst (λ (place : ℕ). lists_within text place (break_of (listing_of b)).change ≡ true) (sym (placed b)) (meant text b.place b parts.0)) (changes_held text bs parts.1)
+
+  listed_held : (text : List ℕ) (bs : List Break) → are_listed (λ b. b) text bs ≡ true → are_listed break_of text (map listing_of bs) ≡ true
+  listed_held text bs h =
+      let parts = and_parts (ascend_on text 0 (map (λ b. b.place) bs)) (list_all (λ b. lists_within text b.place b.change) bs) h in
+      and_from (ascend_on text 0 (map (λ b. (break_of b).place) (map listing_of bs))) (list_all (λ b. lists_within text (break_of b).place (break_of b).change) (map listing_of bs))
+      (ap (ascend_on text 0) (places_held bs) ∙ parts.0) (changes_held text bs parts.1)
 
   pattern_held : (form : Form) (n : ℕ) (line k : List ℕ) (es : List (Entry C)) → own_cause form n line ≡ None → spelt_as (entry_as payload_of) (pattern_of_line form.version) line ≡ Some (k, es) → IsPattern change_of k es
   pattern_held form n line k es own e =
@@ -168,7 +179,7 @@ module _ {C B : Type 0} (payload_of : Option Change → C) (listing_of : Break �
       (record {
         utf8 = kept.utf8;
         letter = kept.letter;
-        ascend = subst (λ (xs : List (Entry C)). are_entries change_of (key_of_line form.version line) 0 xs ≡ true) (ap (map (entry_as payload_of)) s.2 ∙ t.2) (entries_held (key_of_line form.version line) 0 (entries_of_line form.version line) kept.ascend);
+        ascend = subst (λ (xs : List (Entry C)). are_entries change_of (key_of_line form.version line) xs ≡ true) (ap (map (entry_as payload_of)) s.2 ∙ t.2) (entries_held (key_of_line form.version line) (entries_of_line form.version line) kept.ascend);
       })
 
   pub exception_held : (form : Form) (n : ℕ) (line w : List ℕ) (bs : List B) → own_cause form n line ≡ None → spelt_as listing_of exception_of_line line ≡ Some (w, bs) → IsException break_of w bs
@@ -179,7 +190,7 @@ module _ {C B : Type 0} (payload_of : Option Change → C) (listing_of : Break �
       subst (λ (q : List ℕ). IsException break_of q bs) s.1
       (record {
         utf8 = kept.utf8;
-        ascend = subst (λ (xs : List B). are_listed break_of (word_of_line line) 0 xs ≡ true) (ap (map listing_of) s.2 ∙ t.2) (listed_held (word_of_line line) 0 (breaks_of_line line) kept.ascend);
+        ascend = subst (λ (xs : List B). are_listed break_of (word_of_line line) xs ≡ true) (ap (map listing_of) s.2 ∙ t.2) (listed_held (word_of_line line) (breaks_of_line line) kept.ascend);
       })
 
   pub contents-kept : (form : Form) (lines : List (List ℕ)) → fault_after form [] lines ≡ None → IsDictionary change_of break_of (contents_in form.version payload_of listing_of lines)

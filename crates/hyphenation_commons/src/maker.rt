@@ -31,7 +31,7 @@ fn has_letter(key: &str) -> bool
 
 /// Whether entries ascend on the boundaries of a key, with values above 0 and changes that keep within it.
 fn are_entries<C: Payload>(key: &str, entries: &[Entry<C>]) -> bool
-    ensures { IsTrue result ↔ IsTrue (are_entries C.change_of key.now 0 entries.now) }
+    ensures { IsTrue result ↔ IsTrue (are_entries C.change_of key.now entries.now) }
 {
     let mut least = 0;
     for entry in entries {
@@ -100,7 +100,7 @@ pub fn make<C: Payload, B: Listing>(
     exceptions: Vec<(String, Vec<B>)>,
 ) -> Result<Dictionary<C, B>, AllocError>
     requires keys { All (λ p. IsTrue (fits_key C.change_of (string_bytes p.0) p.1.items)) patterns.items }
-    requires words { All (λ e. IsTrue (are_listed B.meaning (string_bytes e.0) 0 e.1.items)) exceptions.items }
+    requires words { All (λ e. IsTrue (are_listed B.meaning (string_bytes e.0) e.1.items)) exceptions.items }
     ensures { IfOk result (λ d.
         d
         ≡ record {

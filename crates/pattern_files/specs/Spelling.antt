@@ -108,9 +108,9 @@ carries_nothing change = None
 
 abbrev pub keeps_characters : Group → List ℕ → Bool
 keeps_characters Patterns text =
-    is_utf8 (letters text) && are_entries (λ change. change) (letters text) 0 (entries_of_digits carries_nothing text)
+    is_utf8 (letters text) && are_entries (λ change. change) (letters text) (entries_of_digits carries_nothing text)
 keeps_characters Exceptions text =
-    is_utf8 (unhyphenated text) && are_listed plain (unhyphenated text) 0 (hyphens_from 0 text)
+    is_utf8 (unhyphenated text) && are_listed plain (unhyphenated text) (hyphens_from 0 text)
 
 -- The first test that a word of a group fails: first those of its signs.
 abbrev pub sign_cause : Group → List ℕ → Option Cause

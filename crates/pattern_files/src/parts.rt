@@ -35,7 +35,7 @@ impl<C: Payload, B: Listing> Model for Parts<C, B> {
 
     ghost view = { λ p. record { patterns = map pair_of p.patterns.items; exceptions = map pair_of p.exceptions.items } };
 
-    ghost invariant = { λ p. All (λ k. IsTrue (fits_key C.change_of (string_bytes k.0) k.1.items)) p.patterns.items × All (λ e. IsTrue (are_listed B.meaning (string_bytes e.0) 0 e.1.items)) p.exceptions.items };
+    ghost invariant = { λ p. All (λ k. IsTrue (fits_key C.change_of (string_bytes k.0) k.1.items)) p.patterns.items × All (λ e. IsTrue (are_listed B.meaning (string_bytes e.0) e.1.items)) p.exceptions.items };
 }
 
 impl<C: Payload, B: Listing> Parts<C, B> {
@@ -60,7 +60,7 @@ impl<C: Payload, B: Listing> Parts<C, B> {
 
     /// Takes in a word with its breaks. The caller owes that they fit the word.
     pub fn push_exception(&mut self, word: String, listed: Vec<B>) -> Result<(), AllocError>
-        requires { IsTrue (are_listed B.meaning (string_bytes word) 0 listed.items) }
+        requires { IsTrue (are_listed B.meaning (string_bytes word) listed.items) }
         ensures { OnOk result (self.new ≡ with_word self.old (string_bytes word, listed.items)) }
     {
         self.exceptions.push((word, listed))?;

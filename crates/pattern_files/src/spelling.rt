@@ -265,7 +265,7 @@ fn read_breaks<C: Payload, B: Listing>(
 ) -> Result<(String, Vec<B>), WordFault>
     ensures good { OnOk result (letter_cause Exceptions text.now ≡ None) }
     ensures spelled { IfOk result (λ e. pair_of e ≡ (unhyphenated text.now, breaks_of_hyphens B.listing_of text.now)) }
-    ensures fits { IfOk result (λ e. IsTrue (are_listed B.meaning (string_bytes e.0) 0 e.1.items)) }
+    ensures fits { IfOk result (λ e. IsTrue (are_listed B.meaning (string_bytes e.0) e.1.items)) }
     ensures refused { IfErr result (λ fault. IsWordFault fault (letter_cause Exceptions text.now)) }
 {
     let (word, listed) = letters_and_breaks(alloc, text)?;
@@ -287,7 +287,7 @@ pub fn read_exception<C: Payload, B: Listing>(
 ) -> Result<(String, Vec<B>), WordFault>
     ensures good { OnOk result (word_cause Exceptions text.now ≡ None) }
     ensures spelled { IfOk result (λ e. Some (pair_of e) ≡ exception_in B.listing_of Exceptions text.now) }
-    ensures fits { IfOk result (λ e. IsTrue (are_listed B.meaning (string_bytes e.0) 0 e.1.items)) }
+    ensures fits { IfOk result (λ e. IsTrue (are_listed B.meaning (string_bytes e.0) e.1.items)) }
     ensures refused { IfErr result (λ fault. IsWordFault fault (word_cause Exceptions text.now)) }
 {
     match sign_cause(Group::Exceptions, text) {

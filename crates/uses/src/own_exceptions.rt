@@ -23,7 +23,7 @@ pub fn list_and_write<W: Write>(
     places: Vec<usize>,
     writer: &mut W,
 ) -> Result<bool>
-    ensures good { IfOk result (λ good. good ≡ are_listed plain word.now 0 places.items) }
+    ensures good { IfOk result (λ good. good ≡ are_listed plain word.now places.items) }
     ensures listed { IfOk result (λ good.
         IsTrue good
         → dictionary.new

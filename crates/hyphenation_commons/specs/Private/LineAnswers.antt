@@ -1,12 +1,12 @@
 -- What reading one line answers.
 -- Private functions of the reader cite this, and no public contract does: it follows their steps, and they are proved equal to Items and Judging.
-use Rattle.std.specs.Prelude.{◌≡◌, ℕ, ◌+◌, ◌==◌, ◌&&◌, nat_le, Bool, true, false, not, if◌then◌else◌, List, [], ◌∷◌, map, find, Option, Some, None, Result, MatchResult}
+use Rattle.std.specs.Prelude.{◌≡◌, ℕ, ◌==◌, ◌&&◌, Bool, true, false, not, if◌then◌else◌, List, [], ◌∷◌, map, find, Option, Some, None, Result, MatchResult}
 use Rattle.std.specs.Option.{option_or}
 use Rattle.std.specs.List.{list_all, list_any}
 use Rattle.std.specs.String.{string_bytes}
 use Rattle.std.specs.declared.string.String.{String}
 use Rattle.std.specs.declared.vec.Vec.{Vec}
-use Rattle.hyphenation_commons.specs.Break.{Break, Change as Changed, changed_by, is_boundary, keeps_within}
+use Rattle.hyphenation_commons.specs.Break.{Break, Change as Changed, changed_by, ascend_on, keeps_within}
 use Rattle.hyphenation_commons.specs.Items.{pattern_of_line, exception_of_line, change_at}
 use Rattle.hyphenation_commons.specs.Judging.{fails, is_extended}
 use Rattle.hyphenation_commons.specs.Private.Parsed.{ReadPattern, ReadLater, is_bad}
@@ -58,15 +58,11 @@ AnswersException form listing_of line result =
     × (spelt_as listing_of exception_of_line line ≡ Some (string_bytes x.0, x.1.items))))
     (λ fault. IsFault fault (item_cause form line))
 
--- From a least one on, places ascend on the boundaries of a text.
-abbrev pub are_places : List ℕ → ℕ → List (ℕ × Option Changed) → Bool
-are_places text least [] = true
-are_places text least (b ∷ bs) = nat_le least b.0 && is_boundary text b.0 && are_places text (b.0 + 1) bs
-
 -- The first of Number and Place that later tokens fail, whose places count in the text.
 abbrev pub places_cause : List ℕ → ReadLater → Option Cause
 places_cause text later =
-    if not later.are_numbers then Some Number else (if not (are_places text 0 later.listed) then Some Place else None)
+    if not later.are_numbers then Some Number
+    else (if not (ascend_on text 0 (map (λ b. b.0) later.listed)) then Some Place else None)
 
 -- A change belongs to an extended text, and keeps within the key or the word.
 abbrev pub suits_form : Form → List ℕ → ℕ → Changed → Bool
