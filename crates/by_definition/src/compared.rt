@@ -137,7 +137,7 @@ struct Edit {
 }
 
 /// A kind of dictionary, as it is compared with a book.
-trait Kind: Load {
+trait Kind: Load + Drop {
     /// Its name in line 1 of a text.
     fn name() -> &'static str;
 
