@@ -1,17 +1,18 @@
--- The odd places of a word are the breaks that a standard dictionary's patterns allow; they are looked for within the bounds alone.
-use Rattle.std.proofs.Common.{◌≡◌, ◌≢◌, ◌%◌, ◌&&◌, nat_le, ℕ, zero, suc, ◌+◌, ◌-◌, ◌<◌, ◌≤◌, ◌⊎◌, Bool, true, false, cond, List, [], ◌∷◌, ◌++◌, length, map, filter, max, min, refl, sym, ap, subst, ◌∙◌, arith, inl, inr}
+-- The odd places of a word are the breaks that patterns allow, where none changes anything; they are looked for within the bounds alone.
+use Rattle.std.proofs.Common.{◌≡◌, ◌≢◌, ◌%◌, ◌&&◌, nat_le, ℕ, zero, suc, ◌+◌, ◌-◌, ◌<◌, ◌≤◌, ◌⊎◌, Bool, true, false, cond, List, [], ◌∷◌, ◌++◌, length, map, filter, max, min, Option, refl, sym, ap, subst, ◌∙◌, arith, inl, inr}
 use Rattle.std.specs.List.{range_with_len, slice_index}
 use Rattle.std.proofs.Math.Bool.{and-false, and-true}
 use Rattle.std.proofs.lemmas.Bool.{cases_lt, le-leb, lt-leb}
 use Rattle.std.proofs.lemmas.List.{append-nil, get_or_past}
 use Rattle.std.proofs.lemmas.List.Elements.{filter-append}
 use Rattle.std.proofs.lemmas.List.FromFn.{get_or-map-range_with_len, length-map-range_with_len}
-use Rattle.hyphenation_commons.specs.Break.{Break, plain}
+use Rattle.hyphenation_commons.specs.Break.{Break, Change, plain, changed_by}
 use Rattle.hyphenation_commons.specs.Dictionary.{Patterns}
-use Rattle.hyphenation.specs.Opportunities.{is_odd, within, breaks_within, no_change, winning_break, allowed_by}
-use Rattle.hyphenation.specs.Scoring.{value_at, values}
+use Rattle.hyphenation.specs.Opportunities.{is_odd, within, breaks_within, winning_break, allowed_by}
+use Rattle.hyphenation.specs.Private.OnePass.{carry_change}
+use Rattle.hyphenation.specs.Scoring.{frame, bearers, value_at, values}
+use Rattle.hyphenation.proofs.CarriedChanges.{none_wins}
 use Rattle.hyphenation.proofs.NumberRows.{range-append, range_more}
-use Rattle.hyphenation.proofs.PlainBreaks.{changes_nothing}
 
 pub none_of : (test : ℕ → Bool) (a n : ℕ) → ((p : ℕ) → a ≤ p → p < a + n → test p ≡ false) → filter test (range_with_len a n) ≡ []
 none_of test a zero h = refl
@@ -120,14 +121,13 @@ same_breaks test odd break_to bounds is first (suc n) agree =
       | false ↦ rest
     ]
 
--- The odd places within bounds are the breaks that the keys allow.
-pub places_allowed : (keys : Patterns (Unit {0})) (word found : List ℕ) (bounds : ℕ × ℕ)
-    → found ≡ filter (test_of (values keys word) bounds) (range_with_len 1 (length (values keys word)))
-    → map plain found ≡ breaks_within (allowed_by no_change keys word) bounds
-places_allowed keys word found bounds is =
+-- The odd places within bounds are the breaks that the keys allow, where no entry that bears on a place carries a change.
+pub places_allowed : {C : Type 0} (change_of : C → Option Change) (keys : Patterns C) (word : List ℕ) (bounds : ℕ × ℕ) → ((p : ℕ) → carry_change change_of (bearers keys (frame word) p) ≡ false)
+    → map plain (filter (test_of (values keys word) bounds) (range_with_len 1 (length (values keys word)))) ≡ breaks_within (allowed_by change_of keys word) bounds
+places_allowed change_of keys word bounds none =
     let n = length word - 1 in
     let test : ℕ → Bool = test_of (values keys word) bounds in
     let count : length (values keys word) ≡ n = length-map-range_with_len (λ p. value_at keys word p) 1 n in
-    ap (map plain) (is ∙ ap (λ m. filter test (range_with_len 1 m)) count)
-    ∙ same_breaks test (λ place. is_odd (value_at keys word place)) (winning_break no_change keys word) bounds (changes_nothing keys word) 1 n
+    ap (λ m. map plain (filter test (range_with_len 1 m))) count
+    ∙ same_breaks test (λ place. is_odd (value_at keys word place)) (winning_break change_of keys word) bounds (λ p. ap (changed_by p) (none_wins change_of keys word p (none p))) 1 n
     (λ p l h. ap (λ v. is_odd v && within bounds p) (get_or-map-range_with_len (λ q. value_at keys word q) 1 n (p - 1) p 0 (omega arith) (omega arith)))

@@ -155,6 +155,21 @@ none_next tree t at next ends report k low high =
     let same : drop m (drop 1 (node_text tree at)) ≡ drop k t = drop-drop m 1 (node_text tree at) ∙ ap (drop (1 + m)) (sym ends.1) ∙ drop-drop (1 + m) d0 t ∙ ap (λ (x : ℕ). drop x t) n in
     ap (key_at tree) (sym same) ∙ report.none m (omega (arith, ends.0, report.ends.0, length-drop 1 (node_text tree at)))
 
+-- what is met by one visit more
+pub visited_more : {C : Type 0} (tree : Tree (Entry C)) (t : List ℕ) (end p at to : ℕ) → Ends t (node_text tree at) → length (node_text tree to) < length (node_text tree at)
+    → ((k : ℕ) → length t - length (node_text tree at) < k → k < length t - length (node_text tree to) → key_at tree (drop k t) ≡ None)
+    → flat_map (λ d. entries_of_end (key_at tree) t end p d) (range_with_len 0 (length t - length (node_text tree to)))
+    ≡ flat_map (λ d. entries_of_end (key_at tree) t end p d) (range_with_len 0 ((length t - length (node_text tree at)) + 1))
+visited_more tree t end p at to ends less none =
+    let f = λ (d : ℕ). entries_of_end (key_at tree) t end p d in
+    let d0 : ℕ = length t - length (node_text tree at) in
+    let gap : ℕ = length (node_text tree at) - length (node_text tree to) - 1 in
+    let n : length t - length (node_text tree to) ≡ (d0 + 1) + gap = omega (arith, ends.0) in
+    let rest : flat_map f (range_with_len (d0 + 1) gap) ≡ [] = flat_map_none f (d0 + 1) gap (λ k low high.
+    ap (λ o. filter (λ entry. (end - (length t - k)) + entry.place == p + 1) (unwrap_or o [])) (none k (omega arith) (omega (arith, ends.0)))) in
+    ap (λ (k : ℕ). flat_map f (range_with_len 0 k)) n ∙ ap (flat_map f) (range-append 0 (d0 + 1) gap) ∙ flat_map-append f (range_with_len 0 (d0 + 1)) (range_with_len (0 + (d0 + 1)) gap)
+    ∙ ap (λ (k : ℕ). flat_map f (range_with_len 0 (d0 + 1)) ++ flat_map f (range_with_len k gap)) (omega arith) ∙ ap (λ ys. flat_map f (range_with_len 0 (d0 + 1)) ++ ys) rest ∙ append-nil (flat_map f (range_with_len 0 (d0 + 1)))
+
 -- one visit more
 pub visit_more : {C : Type 0} (tree : Tree (Entry C)) (t : List ℕ) (end p at to first now next : ℕ) → Ends t (node_text tree at) → length (node_text tree to) < length (node_text tree at)
     → ((k : ℕ) → length t - length (node_text tree at) < k → k < length t - length (node_text tree to) → key_at tree (drop k t) ≡ None)
@@ -164,24 +179,19 @@ pub visit_more : {C : Type 0} (tree : Tree (Entry C)) (t : List ℕ) (end p at t
 visit_more tree t end p at to first now next ends less none a b =
     let f = λ (d : ℕ). entries_of_end (key_at tree) t end p d in
     let d0 : ℕ = length t - length (node_text tree at) in
-    let gap : ℕ = length (node_text tree at) - length (node_text tree to) - 1 in
-    let n : length t - length (node_text tree to) ≡ (d0 + 1) + gap = omega (arith, ends.0) in
-    let rest : flat_map f (range_with_len (d0 + 1) gap) ≡ [] = flat_map_none f (d0 + 1) gap (λ k low high.
-    ap (λ o. filter (λ entry. (end - (length t - k)) + entry.place == p + 1) (unwrap_or o [])) (none k (omega arith) (omega (arith, ends.0)))) in
-    let all : flat_map f (range_with_len 0 (length t - length (node_text tree to))) ≡ flat_map f (range_with_len 0 (d0 + 1)) =
-    ap (λ (k : ℕ). flat_map f (range_with_len 0 k)) n ∙ ap (flat_map f) (range-append 0 (d0 + 1) gap) ∙ flat_map-append f (range_with_len 0 (d0 + 1)) (range_with_len (0 + (d0 + 1)) gap)
-    ∙ ap (λ (k : ℕ). flat_map f (range_with_len 0 (d0 + 1)) ++ flat_map f (range_with_len k gap)) (omega arith) ∙ ap (λ ys. flat_map f (range_with_len 0 (d0 + 1)) ++ ys) rest ∙ append-nil (flat_map f (range_with_len 0 (d0 + 1))) in
+    let all = visited_more tree t end p at to ends less none in
     let last : 0 + d0 ≡ d0 = omega arith in
     let more = greatest_more f 0 d0 ∙ ap (λ (k : ℕ). max (greatest_value (flat_map f (range_with_len 0 d0))) (greatest_value (f k))) last in
     omega (arith, ap greatest_value all, more)
 
+-- before the first report nothing is met
+pub visited_first : {C : Type 0} (tree : Tree (Entry C)) (t : List ℕ) (end p to : ℕ) → IsReport tree t to → flat_map (λ d. entries_of_end (key_at tree) t end p d) (range_with_len 0 (length t - length (node_text tree to))) ≡ []
+visited_first tree t end p to report = flat_map_none (λ d. entries_of_end (key_at tree) t end p d) 0 (length t - length (node_text tree to)) (λ k low high.
+    ap (λ o. filter (λ entry. (end - (length t - k)) + entry.place == p + 1) (unwrap_or o [])) (report.none k (omega arith)))
+
 -- where there is none before the first, nothing is to be raised
 pub visit_first : {C : Type 0} (tree : Tree (Entry C)) (t : List ℕ) (end p to first : ℕ) → IsReport tree t to → first ≡ max first (greatest_value (flat_map (λ d. entries_of_end (key_at tree) t end p d) (range_with_len 0 (length t - length (node_text tree to)))))
-visit_first tree t end p to first report =
-    let f = λ (d : ℕ). entries_of_end (key_at tree) t end p d in
-    let nil : flat_map f (range_with_len 0 (length t - length (node_text tree to))) ≡ [] = flat_map_none f 0 (length t - length (node_text tree to)) (λ k low high.
-    ap (λ o. filter (λ entry. (end - (length t - k)) + entry.place == p + 1) (unwrap_or o [])) (report.none k (omega arith))) in
-    omega (arith, ap greatest_value nil)
+visit_first tree t end p to first report = omega (arith, ap greatest_value (visited_first tree t end p to report))
 
 -- ---- the number of visits
 

@@ -1,15 +1,18 @@
 -- Breaks that change nothing are all kept, and those of a standard dictionary are such.
-use Rattle.std.proofs.Common.{◌≡◌, ℕ, ◌+◌, ◌-◌, ◌≤◌, ◌==◌, ◌&&◌, not, Bool, true, false, cond, nat_le, le-leb, List, [], ◌∷◌, length, map, Some, None, refl, sym, ap, ◌∙◌, arith}
+use Rattle.std.proofs.Common.{◌≡◌, ℕ, ◌+◌, ◌-◌, ◌≤◌, ◌==◌, ◌&&◌, not, Bool, true, false, cond, nat_le, le-leb, List, [], ◌∷◌, length, map, Option, Some, None, Bor, option_copied, refl, sym, ap, ◌∙◌, arith}
 use Rattle.std.specs.Option.{option_map, option_and_then, option_map_or, unwrap_or}
 use Rattle.std.specs.Str.{IsUtf8}
 use Rattle.std.specs.FinMap as finite
-use Rattle.std.proofs.lemmas.Bool.{cond-true}
-use Rattle.hyphenation_commons.specs.Break.{Break, plain, changed_by, begin_of, end_of}
+use Rattle.std.specs.Prelude.{is_none}
+use Rattle.std.specs.List.{list_all}
+use Rattle.std.proofs.lemmas.Bool.{cond-true, and_parts}
+use Rattle.hyphenation_commons.specs.Break.{Break, Change, plain, changed_by, begin_of, end_of}
 use Rattle.hyphenation_commons.specs.Dictionary.{Contents, Patterns, keys_of}
 use Rattle.hyphenation_commons.specs.Invariant.{IsDictionary}
 use Rattle.hyphenation.specs.declared.case_folding.Shift.{Shift}
 use Rattle.hyphenation.specs.Fitting.{kept_breaks, fitted_breaks_of}
 use Rattle.hyphenation.specs.Private.Fitting.{holds_shift, is_steady_by}
+use Rattle.hyphenation.specs.Private.Opportunities.{lent_break}
 use Rattle.hyphenation.specs.Folding.{fold, carried_back, shifts_of}
 use Rattle.hyphenation.specs.Opportunities.{Rules, no_change, rules_of, within, breaks_within, winning_break, by_patterns, opportunities_in, opportunities, boundaries_by, all_breaks_of, breaks_as_written, break_carried_back, Ascending}
 use Rattle.hyphenation.specs.SoftHyphens.{soft_hyphens}
@@ -60,6 +63,13 @@ carried_plain word (b ∷ bs) p = (ap (λ x. changed_by (carried_back word b.pla
 pub plain_made : {X : Type 0} (make : X → Break) → ((x : X) → make x ≡ plain (make x).place) → (xs : List X) → ArePlain (map make xs)
 plain_made make h [] = tt
 plain_made make h (x ∷ xs) = (h x, plain_made make h xs)
+
+-- Of lent breaks without a change.
+pub plain_lent : (found : List (ℕ × Option (Bor Change))) → list_all (λ b. is_none b.1) found ≡ true → ArePlain (map lent_break found)
+plain_lent [] none = tt
+plain_lent (b ∷ bs) none =
+    let parts = and_parts (is_none b.1) (list_all (λ b. is_none b.1) bs) none in
+    (elim b.1 as (λ o. is_none o ≡ true → changed_by b.0 (option_copied o) ≡ plain b.0) [ None ↦ λ _. refl | Some change ↦ λ h. absurd cc ] parts.0, plain_lent bs parts.1)
 
 plain_within : (breaks : List Break) (bounds : ℕ × ℕ) → ArePlain breaks → ArePlain (breaks_within breaks bounds)
 plain_within [] bounds p = tt

@@ -1,6 +1,7 @@
 -- Keys by their ends, as one pass over the frame meets them: what private functions and proofs need of it beside, and no public contract cites.
-use Rattle.std.specs.Prelude.{ℕ, ◌+◌, ◌-◌, ◌==◌, List, [], length, drop, filter, unwrap_or}
-use Rattle.std.specs.List.{flat_map, range_with_len}
+use Rattle.std.specs.Prelude.{ℕ, ◌+◌, ◌-◌, ◌==◌, Bool, List, [], length, drop, filter, Option, is_some, unwrap_or}
+use Rattle.std.specs.List.{flat_map, list_any, range_with_len}
+use Rattle.hyphenation_commons.specs.Break.{Change}
 use Rattle.hyphenation_commons.specs.Dictionary.{Patterns}
 use Rattle.hyphenation_commons.specs.declared.dictionary.Entry.{Entry}
 
@@ -12,3 +13,7 @@ entries_of_end keys text end p d =
 -- Those of all keys that end this text.
 abbrev pub entries_of_ends : {C : Type 0} → Patterns C → List ℕ → ℕ → ℕ → List (Entry C)
 entries_of_ends keys text end p = flat_map (λ d. entries_of_end keys text end p d) (range_with_len 0 (length text))
+
+-- One of the entries carries a change, where it is told which change an entry carries.
+abbrev pub carry_change : {C : Type 0} → (C → Option Change) → List (Entry C) → Bool
+carry_change change_of entries = list_any (λ entry. is_some (change_of entry.change)) entries

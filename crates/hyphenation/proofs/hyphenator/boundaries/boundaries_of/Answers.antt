@@ -1,4 +1,4 @@
-use Rattle.std.proofs.Common.{◌≡◌, ◌≤◌, ◌-◌, ◌∙◌, ap, sym, subst, max, length, chars, refl, arith, None, Some}
+use Rattle.std.proofs.Common.{◌≤◌, ◌-◌, ◌∙◌, ap, sym, max, length, chars, arith, Some}
 use Rattle.hyphenation.specs.Places.{place_of_character}
 use Rattle.hyphenation.proofs.PlacesFromEnd.{bounds_apart, bounds_in_order}
 use Rattle.hyphenation.proofs.hyphenator.boundaries.boundaries_of.Goals as goal

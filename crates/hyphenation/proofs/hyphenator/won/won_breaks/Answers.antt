@@ -1,0 +1,12 @@
+use Rattle.std.proofs.Common.{◌∙◌, ap, map, option_copied}
+use Rattle.hyphenation.specs.Scoring.{winners}
+use Rattle.hyphenation.proofs.BreaksFound.{won_allowed}
+use Rattle.hyphenation.proofs.Standard.{ok_then}
+use Rattle.hyphenation.proofs.hyphenator.won.won_breaks.Goals as goal
+
+pub returns : goal.returns
+returns g c =
+    let keys = key_at c.args.patterns.now in
+    ok_then c.won_within.result _ _
+    (λ v h. h ∙ won_allowed g.F.Payload.Payload.change_of keys c.args.word.now c.args.bounds _ (ap (map option_copied) c.deref.ensures.value ∙ c.in_ok-winners.ensures.winners ∙ ap (winners keys) c.as_bytes.ensures.value))
+    c.won_within.ensures
