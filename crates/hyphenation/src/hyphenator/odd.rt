@@ -1,6 +1,8 @@
 //! The odd values of a word: where patterns allow a break.
 
 ghost use Rattle.std.specs.Prelude.{◌≡◌, ◌≢◌, ◌%◌, ◌+◌, ◌-◌, ◌<◌, ◌≤◌, ◌&&◌, ℕ, IfOk, length, map, filter, slice_index};
+ghost use Rattle.hyphenation_trie.specs.Trie.{key_at, EachBeginsKey};
+ghost use Rattle.hyphenation.specs.Opportunities.{is_odd, within, breaks_within, allowed_by};
 ghost use Rattle.std.specs.List.{range_with_len};
 ghost use Rattle.hyphenation_commons.specs.Break.{plain};
 

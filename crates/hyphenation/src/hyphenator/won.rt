@@ -1,6 +1,9 @@
 //! The entries that win a word's places: where patterns allow a break, and what it changes.
 
 ghost use Rattle.std.specs.Prelude.{◌≡◌, IfOk, map, option_copied};
+ghost use Rattle.hyphenation_trie.specs.Trie.{key_at, EachBeginsKey};
+ghost use Rattle.hyphenation.specs.Opportunities.{breaks_within, allowed_by};
+ghost use Rattle.hyphenation.specs.Private.Opportunities.{won_at, won_within};
 ghost use Rattle.std.specs.Option.{option_map};
 
 use super::found::{Found, is_within};

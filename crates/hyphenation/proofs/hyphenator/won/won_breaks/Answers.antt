@@ -1,4 +1,5 @@
 use Rattle.std.proofs.Common.{◌∙◌, ap, map, option_copied}
+use Rattle.hyphenation_trie.specs.Trie.{key_at}
 use Rattle.hyphenation.specs.Scoring.{winners}
 use Rattle.hyphenation.proofs.BreaksFound.{won_allowed}
 use Rattle.hyphenation.proofs.Standard.{ok_then}

@@ -1,4 +1,5 @@
 use Rattle.std.proofs.Common.{◌≡◌, ◌+◌, ◌<◌, ◌∷◌, [], ℕ, List, false, max, length, take, slice_index, refl, ap, sym, subst, ◌∙◌, arith, add-one}
+use Rattle.hyphenation_trie.specs.Trie.{node_text, key_at}
 use Rattle.std.proofs.Math.Seq.{get_or-append_seam}
 use Rattle.std.proofs.lemmas.Bool.{or_parts}
 use Rattle.std.proofs.lemmas.List.{get_or_append_left}
