@@ -1,9 +1,15 @@
 -- Plain breaks that fit, and places that ascend.
-use Rattle.std.proofs.Common.{◌≡◌, ℕ, ◌+◌, ◌≤◌, List, [], ◌∷◌, map, subst, sym, arith, add-zero, IsCharBoundary, true, inl, inr, length, nat_le, nat_lt, slice_index, ◌&&◌, ◌||◌}
-use Rattle.std.proofs.lemmas.Bool.{and_parts, or_cases, leb-true, ltb-true}
+use Rattle.std.proofs.Common.{◌≡◌, ℕ, ◌+◌, ◌≤◌, List, [], ◌∷◌, map, refl, subst, sym, arith, add-zero, IsCharBoundary, true, inl, inr, length, nat_le, nat_lt, slice_index, ◌&&◌, ◌||◌}
+use Rattle.std.proofs.lemmas.Bool.{and_from, and_parts, or_cases, le-leb, leb-true, ltb-true}
 use Rattle.std.proofs.Math.Nat.{sub-zero}
 use Rattle.hyphenation_commons.specs.Break.{plain, ascend_on, is_boundary}
-use Rattle.hyphenation.specs.Fits.{FitsFrom, Ascend}
+use Rattle.hyphenation_commons.proofs.LineInvariant.{boundary_test}
+use Rattle.hyphenation.specs.Fits.{FitsFrom}
+
+-- From a least place on, by std's word for a boundary, which gives each place its facts.
+abbrev pub Ascend : List ℕ → ℕ → List ℕ → Type 0
+Ascend text least [] = Unit {0}
+Ascend text least (p ∷ ps) = (least ≤ p) × IsCharBoundary text p × Ascend text (p + 1) ps
 
 pub ascend_fits : (text : List ℕ) (last_end least : ℕ) (places : List ℕ) → last_end ≤ least → Ascend text least places → FitsFrom text last_end least (map plain places)
 ascend_fits text last_end least [] h a = tt
@@ -40,3 +46,9 @@ ascend_from_test text least (p ∷ ps) h =
     let all = and_parts (nat_le least p && is_boundary text p) (ascend_on text (p + 1) ps) h in
     let here = and_parts (nat_le least p) (is_boundary text p) all.0 in
     (leb-true least p here.0, boundary_from_test text p here.1, ascend_from_test text (p + 1) ps all.1)
+
+pub test_from_ascend : (text : List ℕ) (least : ℕ) (places : List ℕ) → Ascend text least places → ascend_on text least places ≡ true
+test_from_ascend text least [] a = refl
+test_from_ascend text least (p ∷ ps) a =
+    and_from (nat_le least p && is_boundary text p) (ascend_on text (p + 1) ps)
+    (and_from (nat_le least p) (is_boundary text p) (le-leb least p a.0) (boundary_test text p a.1)) (test_from_ascend text (p + 1) ps a.2)

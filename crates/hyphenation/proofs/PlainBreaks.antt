@@ -19,7 +19,7 @@ use Rattle.hyphenation.specs.SoftHyphens.{soft_hyphens}
 use Rattle.hyphenation.specs.Scoring.{winner_at}
 use Rattle.hyphenation.proofs.Fitting.{kept_from, kept_is, fitted_by_shifts}
 use Rattle.hyphenation.proofs.Folds.{fold_is_utf8}
-use Rattle.hyphenation.proofs.RulesAscend.{AscendFrom, rules_are_sound, opportunities_ascend}
+use Rattle.hyphenation.proofs.RulesAscend.{AscendFrom, from_ascending, rules_are_sound, opportunities_ascend}
 
 -- Each break is a place alone.
 abbrev pub ArePlain : List Break → Type 0
@@ -52,7 +52,7 @@ all_kept text test last_end least (b ∷ bs) steady h a p =
     cond-true _ (b ∷ kept_from test (end_of b) bs) (kept_from test last_end bs) passes ∙ ap (λ rest. b ∷ rest) (all_kept text test (end_of b) (place + 1) bs steady (omega arith) a.2 p.1)
 
 pub plain_kept : (text : List ℕ) (shifts : List Shift) (breaks : List Break) → Ascending text breaks → ArePlain breaks → kept_breaks (is_steady_by (length text) shifts) breaks ≡ breaks
-plain_kept text shifts breaks a p = kept_is _ breaks ∙ all_kept text (is_steady_by (length text) shifts) 0 0 breaks (plain_is_steady (length text) shifts) (omega arith) a p
+plain_kept text shifts breaks a p = kept_is _ breaks ∙ all_kept text (is_steady_by (length text) shifts) 0 0 breaks (plain_is_steady (length text) shifts) (omega arith) (from_ascending text breaks a) p
 
 carried_plain : (word : List ℕ) (breaks : List Break) → ArePlain breaks → ArePlain (map (break_carried_back word) breaks)
 carried_plain word [] p = tt

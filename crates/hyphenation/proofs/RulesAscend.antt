@@ -12,15 +12,21 @@ use Rattle.hyphenation_commons.specs.Break.{Break, Change, plain, ascend_on, end
 use Rattle.hyphenation_commons.specs.Dictionary.{Contents, keys_of}
 use Rattle.hyphenation_commons.specs.Invariant.{IsDictionary, are_listed}
 use Rattle.hyphenation_commons.proofs.PlacesInOrder.{map_twice}
-use Rattle.hyphenation.specs.Fits.{Ascend, Fits, FitsFrom}
+use Rattle.hyphenation.specs.Fits.{Fits, FitsFrom}
 use Rattle.hyphenation.specs.Scoring.{value_at}
 use Rattle.hyphenation.specs.Opportunities.{Rules, rules_of, is_odd, within, breaks_within, winning_break, by_patterns, by_exception, opportunities_in, opportunities, boundaries_by, exception_within_boundaries, Ascending}
-use Rattle.hyphenation.proofs.Ascending.{ascend_from_test, ascend_fits}
+use Rattle.hyphenation.proofs.Ascending.{Ascend, ascend_from_test, ascend_fits, test_from_ascend}
 use Rattle.hyphenation.proofs.Occurrences.{value_boundary}
 
 -- From a least place on.
 abbrev pub AscendFrom : List ℕ → ℕ → List Break → Type 0
 AscendFrom text least breaks = Ascend text least (map (λ b. b.place) breaks)
+
+pub from_ascending : (text : List ℕ) (breaks : List Break) → Ascending text breaks → AscendFrom text 0 breaks
+from_ascending text breaks a = ascend_from_test text 0 (map (λ b. b.place) breaks) a
+
+pub to_ascending : (text : List ℕ) (breaks : List Break) → AscendFrom text 0 breaks → Ascending text breaks
+to_ascending text breaks a = test_from_ascend text 0 (map (λ b. b.place) breaks) a
 
 pub ascend_earlier : (text : List ℕ) (least less : ℕ) (breaks : List Break) → less ≤ least → AscendFrom text least breaks → AscendFrom text less breaks
 ascend_earlier text least less [] h a = tt
@@ -35,6 +41,9 @@ within_ascend text least (b ∷ bs) bounds a =
       | false ↦ ascend_earlier text (b.place + 1) least (breaks_within bs bounds) (omega (arith, a.0)) rest
     ]
 
+within_ascending : (text : List ℕ) (breaks : List Break) (bounds : ℕ × ℕ) → Ascending text breaks → Ascending text (breaks_within breaks bounds)
+within_ascending text breaks bounds a = to_ascending text (breaks_within breaks bounds) (within_ascend text 0 breaks bounds (from_ascending text breaks a))
+
 -- What is listed for a word, and what is allowed in it, ascends.
 pub record AreSound (rules : Rules) (word : List ℕ) : Type 0 where
   pub listed : IfSome (rules.listed word) (λ listed. Ascending word listed)
@@ -44,8 +53,7 @@ pub record AreSound (rules : Rules) (word : List ℕ) : Type 0 where
 
 listed_ascend : {B : Type 0} (break_of : B → Break) (word : List ℕ) (listed : List B) → are_listed break_of word listed ≡ true → Ascending word (map break_of listed)
 listed_ascend break_of word listed h =
-    subst (Ascend word 0) (sym (map_twice (λ b. b.place) break_of listed))
-    (ascend_from_test word 0 (map (λ b. (break_of b).place) listed) (and_parts (ascend_on word 0 (map (λ b. (break_of b).place) listed)) _ h).0)
+    ap (ascend_on word 0) (map_twice (λ b. b.place) break_of listed) ∙ (and_parts (ascend_on word 0 (map (λ b. (break_of b).place) listed)) _ h).0
 
 kept_ascend : (text : List ℕ) (test : ℕ → Bool) (break_to : ℕ → Break) → ((p : ℕ) → (break_to p).place ≡ p) → (first n least : ℕ) → least ≤ first
     → ((p : ℕ) → p < first + n → test p ≡ true → IsCharBoundary text p) → AscendFrom text least (map break_to (filter test (range_with_len first n)))
@@ -70,20 +78,21 @@ rules_are_sound {C} {B} change_of break_of contents word kept u =
         | None ↦ λ _. tt
         | Some listed ↦ λ is. listed_ascend break_of word listed (kept.exceptions word listed is).ascend
       ] refl;
-      allowed = kept_ascend word (λ place. is_odd (value_at keys word place)) (winning_break change_of keys word) (λ _. refl) 1 (length word - 1) 0 (omega arith)
-          (λ p lt odd. value_boundary change_of break_of contents word p kept u (omega arith) (odd_is_some (value_at keys word p) odd));
+      allowed = to_ascending word ((rules_of change_of break_of contents).allowed word)
+          (kept_ascend word (λ place. is_odd (value_at keys word place)) (winning_break change_of keys word) (λ _. refl) 1 (length word - 1) 0 (omega arith)
+          (λ p lt odd. value_boundary change_of break_of contents word p kept u (omega arith) (odd_is_some (value_at keys word p) odd)));
     }
 
 -- ---- what they give
 
 pub by_patterns_ascend : (rules : Rules) (word : List ℕ) (bounds : ℕ × ℕ) → AreSound rules word → Ascending word (by_patterns rules word bounds)
-by_patterns_ascend rules word bounds sound = within_ascend word 0 (rules.allowed word) bounds sound.allowed
+by_patterns_ascend rules word bounds sound = within_ascending word (rules.allowed word) bounds sound.allowed
 
 pub by_exception_ascends : (rules : Rules) (word : List ℕ) (bounds : ℕ × ℕ) → AreSound rules word → IfSome (by_exception rules word bounds) (λ listed. Ascending word listed)
 by_exception_ascends rules word bounds sound =
     elim (rules.listed word) as (λ found. IfSome found (λ listed. Ascending word listed) → IfSome (option_map (λ listed. breaks_within listed bounds) found) (λ listed. Ascending word listed)) [
       | None ↦ λ _. tt
-      | Some listed ↦ λ a. within_ascend word 0 listed bounds a
+      | Some listed ↦ λ a. within_ascending word listed bounds a
     ] sound.listed
 
 pub exception_ascends : (rules : Rules) (word : List ℕ) → AreSound rules word → IfSome (exception_within_boundaries rules word) (λ listed. Ascending word listed)
@@ -96,7 +105,7 @@ exception_ascends rules word sound =
 pub opportunities_ascend : (rules : Rules) (word : List ℕ) → AreSound rules word → Ascending word (opportunities rules word)
 opportunities_ascend rules word sound =
     elim (boundaries_by rules word) as (λ found. Ascending word (option_map_or (opportunities_in rules word) found [])) [
-      | None ↦ tt
+      | None ↦ refl
       | Some bounds ↦
           elim (by_exception rules word bounds) as (λ found. IfSome found (λ listed. Ascending word listed) → Ascending word (unwrap_or found (by_patterns rules word bounds))) [
             | None ↦ λ _. by_patterns_ascend rules word bounds sound
@@ -125,7 +134,7 @@ places_of_plain [] = refl
 places_of_plain (x ∷ xs) = ap (λ ys. x ∷ ys) (places_of_plain xs)
 
 -- Plain breaks that ascend fit.
-pub ascending_fit : (text xs : List ℕ) → Ascending text (map plain xs) → Fits text (map plain xs)
+pub ascending_fit : (text xs : List ℕ) → AscendFrom text 0 (map plain xs) → Fits text (map plain xs)
 ascending_fit text xs a = ascend_fits text 0 0 xs (omega arith) (subst (Ascend text 0) (places_of_plain xs) a)
 
 pub increasing_fit : (text xs : List ℕ) → IsStrictlyIncreasing xs → All (λ place. IsCharBoundary text place × (place < length text)) xs → Fits text (map plain xs)

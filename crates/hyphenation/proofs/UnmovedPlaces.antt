@@ -9,7 +9,7 @@ use Rattle.hyphenation.specs.Folding.{fold, carried_back, shifts_of}
 use Rattle.hyphenation.specs.Opportunities.{Rules, opportunities, break_carried_back, Ascending}
 use Rattle.hyphenation.specs.SoftHyphens.{soft_hyphens}
 use Rattle.hyphenation.proofs.Fitting.{kept_from, kept_is, fitted_by_shifts}
-use Rattle.hyphenation.proofs.RulesAscend.{AscendFrom}
+use Rattle.hyphenation.proofs.RulesAscend.{AscendFrom, from_ascending}
 
 -- Each place of the folded word is the same place of the word as written.
 abbrev pub MovesNothing : List ℕ → Type 0
@@ -34,6 +34,6 @@ unmoved_breaks rules word folded kept no_shifts no_hyphens stays folded_is ascen
     let kept_are : kept ≡ fitted_breaks word all =
     is ∙ ap (λ t. kept_breaks (is_steady_by (length t) []) (opportunities rules t)) folded_is ∙ ap (λ s. kept_breaks (is_steady_by (length (fold word)) s) all) (sym no_shifts) ∙ fitted_by_shifts word all in
     let from : fitted_breaks word all ≡ kept_from (is_steady word) 0 all = kept_is (is_steady word) all in
-    let stay : map (break_carried_back word) (fitted_breaks word all) ≡ fitted_breaks word all = ap (map (break_carried_back word)) from ∙ kept_stay word (is_steady word) 0 0 all stays ascend ∙ sym from in
+    let stay : map (break_carried_back word) (fitted_breaks word all) ≡ fitted_breaks word all = ap (map (break_carried_back word)) from ∙ kept_stay word (is_steady word) 0 0 all stays (from_ascending (fold word) all ascend) ∙ sym from in
     let none : (length (soft_hyphens word) == 0) ≡ true = ap (λ xs. length xs == 0) no_hyphens in
     kept_are ∙ sym stay ∙ sym (cond-true (length (soft_hyphens word) == 0) (map (break_carried_back word) (fitted_breaks word all)) (map plain (soft_hyphens word)) none)

@@ -22,8 +22,3 @@ FitsFrom text last_end least (b ∷ bs) = Stands text last_end least b × FitsFr
 -- its character boundaries. No breaks fit any text.
 abbrev pub Fits : List ℕ → List Break → Type 0
 Fits text breaks = FitsFrom text 0 0 breaks
-
--- From a least place on the places ascend strictly, on character boundaries of the text.
-abbrev pub Ascend : List ℕ → ℕ → List ℕ → Type 0
-Ascend text least [] = ⊤
-Ascend text least (p ∷ ps) = (least ≤ p) × IsCharBoundary text p × Ascend text (p + 1) ps

@@ -127,7 +127,7 @@ apart (x ∷ y ∷ rest) e = by (nat_eq x 112) (nat_eq x 101) (nat_eq y 32) refl
     by true false r es et h = absurd cc
     by false t r es et h = refl
 
-boundary_test : (text : List ℕ) (at : ℕ) → IsCharBoundary text at → is_boundary text at ≡ true
+pub boundary_test : (text : List ℕ) (at : ℕ) → IsCharBoundary text at → is_boundary text at ≡ true
 boundary_test text at h = by (h.1) (get_or_past text at 0)
   where
     by : (at < length text → 128 ≤ get_or text at 0 → 192 ≤ get_or text at 0) → (length text ≤ at → get_or text at 0 ≡ 0) → is_boundary text at ≡ true

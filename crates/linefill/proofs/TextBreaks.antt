@@ -9,8 +9,8 @@ use Rattle.std.proofs.lemmas.List.Elements.{All-nil, All-cons, All-head, All-tai
 use Rattle.std.proofs.lemmas.List.Folds.{list_any-append, drop_split}
 use Rattle.std.proofs.lemmas.Str.{IsCharBoundary-start, IsUtf8-between}
 use Rattle.hyphenation_commons.specs.Break.{Break, plain}
-use Rattle.hyphenation.specs.Fits.{Ascend}
 use Rattle.hyphenation.specs.Opportunities.{Ascending}
+use Rattle.hyphenation.proofs.Ascending.{Ascend, ascend_from_test}
 use Rattle.unicode_segmentation.specs.Segments.{with_offsets}
 use Rattle.unicode_segmentation.specs.Word.{is_word_break, word_bounds}
 use Rattle.unicode_segmentation.proofs.SegmentsLemmas.{IsPieceOf, All-IsPieceOf}
@@ -79,7 +79,7 @@ follow breaks_of text at [] u ascend within are = within
 follow breaks_of text at (p ∷ ps) u ascend within are =
     let x : ℕ × List ℕ = (at, p) in (
       omega arith,
-      piece_rises x 0 at (breaks_of p) (omega arith) (omega arith) (ascend p (piece_utf8 text x u are.0)),
+      piece_rises x 0 at (breaks_of p) (omega arith) (omega arith) (ascend_from_test p 0 (map (λ b. b.place) (breaks_of p)) (ascend p (piece_utf8 text x u are.0))),
       follow breaks_of text (at + length p) ps u ascend are.0.end.0 are.1,
     )
 
@@ -89,7 +89,7 @@ in_some_piece breaks_of text (x ∷ xs) p u ascend are i =
     let here = breaks_in breaks_of x in
     let rest = flat_map (breaks_in breaks_of) xs in
     elim (or_cases (is_in p here) (is_in p rest) (sym (list_any-append (λ b. p == b) here rest) ∙ i)) [
-      | inl first ↦ placed_boundary text x 0 p (breaks_of x.1) are.0 (ascend x.1 (piece_utf8 text x u are.0)) first
+      | inl first ↦ placed_boundary text x 0 p (breaks_of x.1) are.0 (ascend_from_test x.1 0 (map (λ b. b.place) (breaks_of x.1)) (ascend x.1 (piece_utf8 text x u are.0))) first
       | inr later ↦ in_some_piece breaks_of text xs p u ascend are.1 later
     ]
 
