@@ -133,6 +133,7 @@ pub(crate) fn winners_in<'d, C: Drop>(
         → count.new.made ≤ count.old.made + (length word.now + 2) }
     ensures least { OnOk result (count.old.made + (length word.now + 2) ≤ count.new.made) }
     ensures kept { count.old.made ≤ count.new.made }
+    ensures counted { count.old.reported ≤ count.new.reported }
     ensures reported { OnOk result (count.new.reported ≡ count.old.reported + occurrences (key_at automaton.now)
         (frame word.now)) }
     ensures visited { count.new.reported ≤ count.old.reported + occurrences (key_at automaton.now) (frame word.now) }
@@ -176,6 +177,7 @@ pub fn winners<'d, C: Payload, B: Break>(
     ensures linear { count.new.made ≤ count.old.made + 2 * (length word.now + 2) }
     ensures least { OnOk result (count.old.made + (length word.now + 2) ≤ count.new.made) }
     ensures kept { count.old.made ≤ count.new.made }
+    ensures counted { count.old.reported ≤ count.new.reported }
     ensures reported { OnOk result (count.new.reported ≡ count.old.reported + occurrences (keys_of dictionary.now)
         (frame word.now)) }
     ensures visited { count.new.reported ≤ count.old.reported + occurrences (keys_of dictionary.now) (frame word.now) }

@@ -182,6 +182,7 @@ pub(super) fn values_in<C: Payload>(
         → count.new.made ≤ count.old.made + (length word.now + 2) }
     ensures least { OnOk result (count.old.made + (length word.now + 2) ≤ count.new.made) }
     ensures kept { count.old.made ≤ count.new.made }
+    ensures counted { count.old.reported ≤ count.new.reported }
     ensures reported { OnOk result (count.new.reported ≡ count.old.reported + occurrences (key_at automaton.now)
         (frame word.now)) }
     ensures visited { count.new.reported ≤ count.old.reported + occurrences (key_at automaton.now) (frame word.now) }
@@ -210,6 +211,7 @@ pub(super) fn values<C: Payload, B: Break>(
     ensures linear { count.new.made ≤ count.old.made + 2 * (length word.now + 2) }
     ensures least { OnOk result (count.old.made + (length word.now + 2) ≤ count.new.made) }
     ensures kept { count.old.made ≤ count.new.made }
+    ensures counted { count.old.reported ≤ count.new.reported }
     ensures reported { OnOk result (count.new.reported ≡ count.old.reported + occurrences (keys_of dictionary.now)
         (frame word.now)) }
     ensures visited { count.new.reported ≤ count.old.reported + occurrences (keys_of dictionary.now) (frame word.now) }
