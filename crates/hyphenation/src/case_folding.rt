@@ -22,7 +22,7 @@ ghost use Rattle.std.specs.Option.{option_copied, option_map_or};
 ghost use Rattle.std.specs.Str.Pattern.{HasPassingCharAt};
 ghost use Rattle.unicode.specs.Binary.{is_uppercase};
 ghost use Rattle.hyphenation.specs.Places.{place_of_character};
-ghost use Rattle.hyphenation.specs.Private.SmallLetters.{is_small_letter, are_small_letters};
+ghost use Rattle.hyphenation.specs.Private.SmallLetters.{is_small_letter, is_small_pair, are_small_letters};
 ghost use Rattle.hyphenation.specs.Folding.{fold_character, fold, has_uppercase, shifts_of, delta_below, carried_back};
 
 use std::alloc::{AllocError, Global};
@@ -95,11 +95,40 @@ fn is_small_letter(c: char) -> bool
         || (c == 'ő' || c == 'ű')
 }
 
-/// Whether each character is such a letter: then the word folds to itself, and has no soft hyphen.
+/// Whether two bytes are such a letter beyond ASCII: those of Cyrillic, of Latin-1, and the `ő` and the `ű`.
+#[inline(always)]
+fn is_small_pair(first: u8, second: u8) -> bool
+    ensures { result ≡ is_small_pair first second }
+{
+    (first == 0xD0 && 0xB0 <= second && second <= 0xBF)
+        || (first == 0xD1 && 0x80 <= second && second <= 0x9F)
+        || (first == 0xC3 && 0x9F <= second && second <= 0xBF)
+        || (first == 0xC5 && (second == 0x91 || second == 0xB1))
+}
+
+/// Whether a word is made of such letters: then it folds to itself, and has no soft hyphen.
+///
+/// The bytes are looked at as they stand, since to put characters together takes thrice as long.
 pub(crate) fn are_small_letters(word: &str) -> bool
     ensures { result ≡ are_small_letters word.now }
 {
-    word.chars().all(|c| is_small_letter(c))
+    let bytes = word.as_bytes();
+    let mut at = 0;
+    while at + 1 < bytes.len() {
+        let first = bytes[at];
+        if first < 0x80 {
+            if !first.is_ascii_lowercase() {
+                return false;
+            }
+            at += 1;
+        } else {
+            if !is_small_pair(first, bytes[at + 1]) {
+                return false;
+            }
+            at += 2;
+        }
+    }
+    at == bytes.len() || bytes[at].is_ascii_lowercase()
 }
 
 // Whether a character has the property Uppercase, by short roads for ASCII and for the letters of which most words are.
