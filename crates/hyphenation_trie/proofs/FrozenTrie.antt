@@ -1,13 +1,14 @@
 -- Parents, depths and rows of a trie's nodes.
-use Rattle.std.proofs.Common.{◌≡◌, ◌≢◌, ℕ, zero, suc, ◌+◌, ◌<◌, ◌≤◌, List, [], ◌∷◌, ◌++◌, length, map, get_or, set, slice_index, Option, Some, None, sym, ap, subst, ◌∙◌, arith, inl, inr}
+use Rattle.std.proofs.Common.{◌≡◌, ◌≢◌, ℕ, zero, suc, ◌+◌, ◌<◌, ◌≤◌, List, [], ◌∷◌, ◌++◌, length, map, drop, get_or, set, slice_index, Option, Some, None, refl, sym, ap, subst, ◌∙◌, arith, inl, inr}
 use Rattle.std.proofs.lemmas.Bool.{cases_eq, cases_lt}
-use Rattle.std.proofs.lemmas.List.{length-append, length-map, get_or-map, get_or_append_left, get_or_push, get_or-set_same, get_or-set_other}
+use Rattle.std.proofs.lemmas.List.{length-append, length-drop, length-map, map_push, get_or-map, get_or_append_left, get_or_push, get_or-set_same, get_or-set_other}
 use Rattle.hyphenation_trie.specs.Trie.{Tree, node_text, IsTrie}
 use Rattle.hyphenation_trie.specs.Private.Trie.{texts_of, HasFroms}
 use Rattle.hyphenation_trie.specs.Private.Rows.{child_in, edge_in, HasRow}
 use Rattle.hyphenation_trie.specs.Private.Links.{HasParents, parent_of, byte_of, IsDepths, IsFrozen, HasDepths}
 use Rattle.hyphenation_trie.specs.declared.rows.Cell.{Cell}
-use Rattle.hyphenation_trie.specs.declared.Node.{Node}
+use Rattle.std.specs.List.{zip}
+use Rattle.hyphenation_trie.specs.Private.States.{froms_by, texts_by}
 use Rattle.std.proofs.lemmas.Simd.{map-map}
 use Rattle.hyphenation_trie.proofs.TrieNodes.{length-texts_of, last_same, not_empty}
 
@@ -130,11 +131,58 @@ has_depths tree parents bytes depths trie has deep = record {
   each = λ j lj. depth_is tree.texts parents bytes depths trie.root has deep (j + 1) j (omega arith) lj;
 }
 
--- what is collected of the nodes
-pub nodes_parents : (ns : List Node) (parents bytes : List ℕ) → parents ≡ map (λ n. parent_of n.from) ns → bytes ≡ map (λ n. byte_of n.from) ns
-    → HasFroms (texts_of (map (λ n. n.from) ns)) (map (λ n. n.from) ns) → HasParents (texts_of (map (λ n. n.from) ns)) parents bytes
-nodes_parents ns parents bytes p b has =
-    let froms : List (Option (ℕ × ℕ)) = map (λ n. n.from) ns in
-    let ps : map parent_of froms ≡ parents = map-map parent_of (λ n. n.from) ns ∙ sym p in
-    let bs : map byte_of froms ≡ bytes = map-map byte_of (λ n. n.from) ns ∙ sym b in
-    subst (λ (xs : List ℕ). HasParents (texts_of froms) xs bytes) ps (subst (λ (xs : List ℕ). HasParents (texts_of froms) (map parent_of froms) xs) bs (parents_are (texts_of froms) froms (sym (length-texts_of froms)) has))
+-- ---- parents and bytes, each in a list of its own
+
+zip_first : (xs ys : List ℕ) → length ys ≡ length xs → map (λ (x : ℕ × ℕ). x.0) (zip xs ys) ≡ xs
+zip_first [] ys e = refl
+zip_first (x ∷ xs) [] e = absurd (omega arith)
+zip_first (x ∷ xs) (y ∷ ys) e = ap (λ (zs : List ℕ). x ∷ zs) (zip_first xs ys (omega arith))
+
+zip_second : (xs ys : List ℕ) → length ys ≡ length xs → map (λ (x : ℕ × ℕ). x.1) (zip xs ys) ≡ ys
+zip_second [] [] e = refl
+zip_second [] (y ∷ ys) e = absurd (omega arith)
+zip_second (x ∷ xs) [] e = absurd (omega arith)
+zip_second (x ∷ xs) (y ∷ ys) e = ap (λ (zs : List ℕ). y ∷ zs) (zip_second xs ys (omega arith))
+
+zip_push : (xs ys : List ℕ) (x y : ℕ) → length ys ≡ length xs → zip (xs ++ x ∷ []) (ys ++ y ∷ []) ≡ zip xs ys ++ (x, y) ∷ []
+zip_push [] [] x y e = refl
+zip_push [] (w ∷ ys) x y e = absurd (omega arith)
+zip_push (v ∷ xs) [] x y e = absurd (omega arith)
+zip_push (v ∷ xs) (w ∷ ys) x y e = ap (λ (zs : List (ℕ × ℕ)). (v, w) ∷ zs) (zip_push xs ys x y (omega arith))
+
+rests : (parents bytes : List ℕ) → length bytes ≡ length parents → length (drop 1 bytes) ≡ length (drop 1 parents)
+rests parents bytes e = omega (arith, length-drop 1 parents, length-drop 1 bytes)
+
+pub parents_by : (parents bytes : List ℕ) → parents ≡ 0 ∷ drop 1 parents → length bytes ≡ length parents → map parent_of (froms_by parents bytes) ≡ parents
+parents_by parents bytes first e =
+    ap (λ (xs : List ℕ). 0 ∷ xs) (map-map parent_of (λ from. Some from) (zip (drop 1 parents) (drop 1 bytes)) ∙ zip_first (drop 1 parents) (drop 1 bytes) (rests parents bytes e)) ∙ sym first
+
+pub bytes_by : (parents bytes : List ℕ) → bytes ≡ 0 ∷ drop 1 bytes → length bytes ≡ length parents → map byte_of (froms_by parents bytes) ≡ bytes
+bytes_by parents bytes first e =
+    ap (λ (xs : List ℕ). 0 ∷ xs) (map-map byte_of (λ from. Some from) (zip (drop 1 parents) (drop 1 bytes)) ∙ zip_second (drop 1 parents) (drop 1 bytes) (rests parents bytes e)) ∙ sym first
+
+pub length-froms_by : (parents bytes : List ℕ) → parents ≡ 0 ∷ drop 1 parents → length bytes ≡ length parents → length (froms_by parents bytes) ≡ length parents
+length-froms_by parents bytes first e = sym (length-map (froms_by parents bytes) parent_of) ∙ ap length (parents_by parents bytes first e)
+
+pub froms_by-push : (parents bytes : List ℕ) (parent byte : ℕ) → parents ≡ 0 ∷ drop 1 parents → bytes ≡ 0 ∷ drop 1 bytes → length bytes ≡ length parents
+    → froms_by (parents ++ parent ∷ []) (bytes ++ byte ∷ []) ≡ froms_by parents bytes ++ Some (parent, byte) ∷ []
+froms_by-push [] bytes parent byte p b e = absurd (omega (arith, ap length p))
+froms_by-push (x ∷ xs) [] parent byte p b e = absurd (omega arith)
+froms_by-push (x ∷ xs) (y ∷ ys) parent byte p b e =
+    ap (λ (zs : List (ℕ × ℕ)). None ∷ map (λ from. Some from) zs) (zip_push xs ys parent byte (omega arith))
+    ∙ ap (λ (zs : List (Option (ℕ × ℕ))). None ∷ zs) (map_push (λ from. Some from) (zip xs ys) (parent, byte))
+
+pub first-push : (xs : List ℕ) (x : ℕ) → xs ≡ 0 ∷ drop 1 xs → xs ++ x ∷ [] ≡ 0 ∷ drop 1 (xs ++ x ∷ [])
+first-push [] x e = absurd (omega (arith, ap length e))
+first-push (y ∷ ys) x e = let zero_is : y ≡ 0 = cc in ap (λ (z : ℕ). z ∷ ys ++ x ∷ []) zero_is
+
+-- the byte of a node is the one that leads from its parent
+pub byte_here : (parents bytes : List ℕ) (j : ℕ) → bytes ≡ 0 ∷ drop 1 bytes → length bytes ≡ length parents → j < length (froms_by parents bytes)
+    → byte_of (get_or (froms_by parents bytes) j None) ≡ slice_index bytes j
+byte_here parents bytes j first e lt = sym (get_or-map byte_of (froms_by parents bytes) j None 0 lt) ∙ ap (λ (xs : List ℕ). slice_index xs j) (bytes_by parents bytes first e)
+
+pub has_parents : (parents bytes : List ℕ) → parents ≡ 0 ∷ drop 1 parents → bytes ≡ 0 ∷ drop 1 bytes → length bytes ≡ length parents → HasFroms (texts_by parents bytes) (froms_by parents bytes)
+    → HasParents (texts_by parents bytes) parents bytes
+has_parents parents bytes p b e has =
+    let froms = froms_by parents bytes in
+    subst (λ (xs : List ℕ). HasParents (texts_of froms) xs bytes) (parents_by parents bytes p e) (subst (λ (xs : List ℕ). HasParents (texts_of froms) (map parent_of froms) xs) (bytes_by parents bytes b e) (parents_are (texts_of froms) froms (sym (length-texts_of froms)) has))

@@ -3,6 +3,7 @@ pub mod NodeTexts
 pub mod TrieNodes
 pub mod ChainsGrow
 pub mod GrowingNodes
+pub mod HeldNodes
 pub mod RowsPlaced
 pub mod Suffixes
 pub mod LinksMade

@@ -1,59 +1,18 @@
 -- What is read of the states of nodes, and what stays when links are set.
-use Rattle.std.proofs.Common.{◌≡◌, ◌≢◌, ℕ, zero, suc, ◌+◌, ◌<◌, ◌≤◌, Bool, true, false, cond, List, [], ◌∷◌, ◌++◌, length, map, fold, take, drop, drop-cons, get_or, set, slice_index, Option, Some, None, refl, sym, ap, subst, ◌∙◌, arith, replicate}
+use Rattle.std.proofs.Common.{◌≡◌, ◌≢◌, ℕ, zero, suc, ◌+◌, ◌<◌, ◌≤◌, Bool, true, false, cond, List, [], ◌∷◌, length, map, get_or, set, slice_index, Option, Some, None, refl, sym, ap, subst, ◌∙◌, arith, inl, inr}
 use Rattle.std.specs.Prelude.{IsSome}
-use Rattle.std.specs.List.{zip}
-use Rattle.std.proofs.Math.Seq.{map-set_same, take-length}
-use Rattle.std.proofs.lemmas.Bool.{cond-true, cond-false}
-use Rattle.std.proofs.lemmas.List.{length-map, get_or-map, map-set, get_or-set_same, get_or-set_other, get_or-take, take_more, drop_all}
-use Rattle.std.proofs.lemmas.Simd.{map-map}
-use Rattle.hyphenation_trie.specs.Private.Links.{HasParents, HasDepths, IsFrozen}
-use Rattle.hyphenation_trie.specs.Private.States.{no_links, texts_by, span_in, entries_there, linked_tree, HasStates}
+use Rattle.std.proofs.Math.Seq.{map-set_same}
+use Rattle.std.proofs.lemmas.Bool.{cases_eq, cases_lt, cond-true, cond-false}
+use Rattle.std.proofs.lemmas.List.{length-map, get_or-map, map-set, get_or-set_same, get_or-set_other, get_or_past}
+use Rattle.hyphenation_trie.specs.Private.Links.{HasDepths, IsFrozen}
+use Rattle.hyphenation_trie.specs.Private.States.{no_links, texts_by, span_in, linked_tree, HasStates}
 use Rattle.hyphenation_trie.specs.Trie.{Tree, node_text, key_at}
-use Rattle.hyphenation_trie.specs.Private.Trie.{texts_of, with_node_text, tree_of, entries_in, IsWithin, AreWithin}
-use Rattle.hyphenation_trie.specs.declared.Node.{Node}
+use Rattle.hyphenation_trie.specs.Private.Trie.{entries_there, IsWithin, AreWithin}
 use Rattle.hyphenation_trie.specs.declared.Span.{Span}
 use Rattle.hyphenation_trie.specs.declared.frozen.Links.{Links}
 use Rattle.hyphenation_trie.specs.declared.frozen.State.{State}
 use Rattle.hyphenation_trie.specs.declared.rows.Cell.{Cell}
 use Rattle.hyphenation_trie.proofs.TrieNodes.{entries_at-here}
-
--- ---- texts
-
-next : (n : ℕ) → suc n ≡ n + 1
-next n = omega arith
-
--- the text of one node more
-text_more : (texts : List (List ℕ)) (parents bytes : List ℕ) (k : ℕ) → HasParents texts parents bytes → 0 < k → k < length texts
-    → with_node_text (take k texts) (Some (get_or parents k 0, get_or bytes k 0)) ≡ take (suc k) texts
-text_more texts parents bytes k has pos lt =
-    let h = has.each k pos lt in
-    let up : get_or (take k texts) (get_or parents k 0) [] ≡ get_or texts (get_or parents k 0) [] = get_or-take k texts (get_or parents k 0) [] h.0 in
-    ap (λ (x : List ℕ). take k texts ++ (x ++ get_or bytes k 0 ∷ []) ∷ []) up
-    ∙ ap (λ (x : List ℕ). take k texts ++ x ∷ []) (sym h.1)
-    ∙ sym (take_more texts k [] lt)
-    ∙ ap (λ (n : ℕ). take n texts) (sym (next k))
-
-texts_on : (texts : List (List ℕ)) (parents bytes : List ℕ) (n k : ℕ) → HasParents texts parents bytes → 0 < k → k + n ≡ length texts
-    → fold with_node_text (take k texts) (map (λ from. Some from) (zip (drop k parents) (drop k bytes))) ≡ texts
-texts_on texts parents bytes zero k has pos e =
-    let none : drop k parents ≡ [] = drop_all k parents (omega (arith, has.nodes)) in
-    let all : k ≡ length texts = omega arith in
-    ap (λ (xs : List ℕ). fold with_node_text (take k texts) (map (λ from. Some from) (zip xs (drop k bytes)))) none ∙ ap (λ (n : ℕ). take n texts) all ∙ take-length texts
-texts_on texts parents bytes (suc n) k has pos e =
-    let lt : k < length texts = omega arith in
-    let ps = drop-cons parents k 0 (omega (arith, has.nodes)) in
-    let bs = drop-cons bytes k 0 (omega (arith, has.bytes_of)) in
-    ap (λ (xs : List ℕ). fold with_node_text (take k texts) (map (λ from. Some from) (zip xs (drop k bytes)))) ps
-    ∙ ap (λ (xs : List ℕ). fold with_node_text (take k texts) (map (λ from. Some from) (zip (get_or parents k 0 ∷ drop (suc k) parents) xs))) bs
-    ∙ ap (λ (ts : List (List ℕ)). fold with_node_text ts (map (λ from. Some from) (zip (drop (suc k) parents) (drop (suc k) bytes)))) (text_more texts parents bytes k has pos lt)
-    ∙ texts_on texts parents bytes n (suc k) has (omega arith) (omega arith)
-
--- texts are known by parents and bytes
-pub texts_are : (texts : List (List ℕ)) (parents bytes : List ℕ) → 0 < length texts → get_or texts 0 [] ≡ [] → HasParents texts parents bytes → texts_by parents bytes ≡ texts
-texts_are [] parents bytes some root has = absurd (omega arith)
-texts_are (t ∷ ts) parents bytes some root has =
-    ap (λ (x : List ℕ). fold with_node_text (x ∷ []) (map (λ from. Some from) (zip (drop 1 parents) (drop 1 bytes)))) (sym root)
-    ∙ texts_on (t ∷ ts) parents bytes (length ts) 1 has (omega arith) (omega arith)
 
 -- ---- what is read of a state
 
@@ -72,8 +31,8 @@ links_of_state states node s lt read = get_or-map (λ s. s.links) states node s 
 pub span_of_state : (states : List State) (node : ℕ) (s : State) → node < length states → s ≡ get_or states node s → get_or (map span_in states) node None ≡ span_in s
 span_of_state states node s lt read = get_or-map span_in states node s None lt ∙ ap span_in (sym read)
 
-pub entries_of_state : {E : Type 0} (es : List E) (states : List State) (node : ℕ) (s : State) → node < length states → s ≡ get_or states node s → get_or (map (λ s. entries_there es (span_in s)) states) node None ≡ entries_there es (span_in s)
-entries_of_state es states node s lt read = get_or-map (λ s. entries_there es (span_in s)) states node s None lt ∙ ap (λ s. entries_there es (span_in s)) (sym read)
+pub entries_of_state : {E : Type 0} (es : List E) (states : List State) (node : ℕ) (s : State) → node < length states → s ≡ get_or states node s → get_or (map (entries_there es) (map span_in states)) node None ≡ entries_there es (span_in s)
+entries_of_state es states node s lt read = get_or-map (entries_there es) (map span_in states) node None None (omega (arith, length-map states span_in)) ∙ ap (entries_there es) (span_of_state states node s lt read)
 
 pub span_of_key : (s : State) → s.is_key ≡ true → span_in s ≡ Some s.span
 span_of_key s e = cond-true s.is_key (Some s.span) None e
@@ -108,35 +67,43 @@ entries_of_node es parents bytes states cells bound node s has lt read =
 
 -- ---- as made
 
-pub spans_within : (bound : ℕ) (ns : List Node) → AreWithin bound ns → (i : ℕ) → IsWithin bound (get_or (map (λ n. n.span) ns) i None)
+pub spans_within : (bound : ℕ) (spans : List (Option Span)) → AreWithin bound spans → (i : ℕ) → IsWithin bound (get_or spans i None)
 spans_within bound [] h i = tt
 spans_within bound (n ∷ ns) h zero = h.0
 spans_within bound (n ∷ ns) h (suc i) = spans_within bound ns h.1 i
 
-pub entries_same : {E : Type 0} (es : List E) (states : List State) (ns : List Node) → map span_in states ≡ map (λ n. n.span) ns → map (λ s. entries_there es (span_in s)) states ≡ map (entries_in es) ns
-entries_same es states ns e = sym (map-map (entries_there es) span_in states) ∙ ap (map (entries_there es)) e ∙ map-map (entries_there es) (λ (n : Node). n.span) ns
+pub tree_same : {E : Type 0} (es : List E) (old new : List State) (parents bytes : List ℕ) → map span_in new ≡ map span_in old
+    → (linked_tree parents bytes new es).tree ≡ (linked_tree parents bytes old es).tree
+tree_same es old new parents bytes spans = λ k. record { texts = texts_by parents bytes; entries = map (entries_there es) (spans k) }
 
-pub tree_same : {E : Type 0} (es : List E) (states : List State) (ns : List Node) (parents bytes : List ℕ) → texts_by parents bytes ≡ texts_of (map (λ n. n.from) ns) → map span_in states ≡ map (λ n. n.span) ns
-    → (linked_tree parents bytes states es).tree ≡ tree_of ns es
-tree_same es states ns parents bytes texts spans =
-    let entries = entries_same es states ns spans in
-    λ k. record { texts = texts k; entries = entries k }
+-- what is true of the states before a node, and of the one that is set there, is true of one more
+pub one_more : {X : Type 0} (f : State → X) (d : X) (states : List State) (node : ℕ) (s : State) (asked : ℕ → X) → node < length states → f s ≡ asked node → ((j : ℕ) → j < node → get_or (map f states) j d ≡ asked j)
+    → (j : ℕ) → j < node + 1 → get_or (map f (set states node s)) j d ≡ asked j
+one_more {X} f d states node s asked lt here before j lj = elim (cases_eq j node) [
+  | inl is ↦
+      ap (λ (xs : List X). get_or xs j d) (map-set f states node s)
+      ∙ ap (λ (i : ℕ). get_or (set (map f states) node (f s)) i d) is
+      ∙ get_or-set_same (map f states) node (f s) d (omega (arith, length-map states f))
+      ∙ here
+      ∙ ap asked (sym is)
+  | inr apart ↦
+      ap (λ (xs : List X). get_or xs j d) (map-set f states node s)
+      ∙ get_or-set_other (map f states) node j (f s) d apart
+      ∙ before j (omega arith)
+]
 
-pub none_linked : (n : ℕ) (states : List State) → map (λ s. s.links) states ≡ replicate n no_links → (j : ℕ) → get_or (map (λ s. s.links) states) j no_links ≡ no_links
-none_linked n states e j = ap (λ (xs : List Links). get_or xs j no_links) e ∙ all n j
-  where
-    all : (n j : ℕ) → get_or (replicate n no_links) j no_links ≡ no_links
-    all zero j = refl
-    all (suc n) zero = refl
-    all (suc n) (suc j) = all n j
+pub none_linked : (states : List State) → ((j : ℕ) → j < length states → get_or (map (λ s. s.links) states) j no_links ≡ no_links) → (j : ℕ) → get_or (map (λ s. s.links) states) j no_links ≡ no_links
+none_linked states none j = elim (cases_lt j (length states)) [
+  | inl lt ↦ none j lt
+  | inr ge ↦ get_or_past (map (λ s. s.links) states) j no_links (omega (arith, length-map states (λ s. s.links)))
+]
 
 -- ---- links are set
 
 pub tree_kept : {E : Type 0} (es : List E) (states : List State) (parents bytes : List ℕ) (node : ℕ) (s x : State) → s ≡ get_or states node s → span_in x ≡ span_in s
     → (linked_tree parents bytes (set states node x) es).tree ≡ (linked_tree parents bytes states es).tree
 tree_kept es states parents bytes node s x read same =
-    let entries = map-set_same (λ s. entries_there es (span_in s)) states node x s (ap (entries_there es) (same ∙ ap span_in read)) in
-    λ k. record { texts = texts_by parents bytes; entries = entries k }
+    tree_same es states (set states node x) parents bytes (map-set_same span_in states node x s (same ∙ ap span_in read))
 
 pub states_kept : {E : Type 0} (es : List E) (states : List State) (parents bytes : List ℕ) (cells : List Cell) (bound node : ℕ) (s x : State) → s ≡ get_or states node s → span_in x ≡ span_in s → x.base ≡ s.base → x.depth ≡ s.depth
     → HasStates (linked_tree parents bytes states es).tree parents bytes states cells bound

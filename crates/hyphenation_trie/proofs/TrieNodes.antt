@@ -6,12 +6,11 @@ use Rattle.std.proofs.lemmas.List.{length-append, map_push, length-map, map-set,
 use Rattle.std.proofs.lemmas.Grind.{fold-append}
 use Rattle.hyphenation_trie.specs.Private.Growing.{IsGrowing}
 use Rattle.hyphenation_trie.specs.Trie.{IsTrie, Tree, entries_at, key_at, node_text, AddsFront, KeepsNodes, EachBeginsKey}
-use Rattle.hyphenation_trie.specs.Private.Trie.{with_node_text, text_after, texts_of, IsWithin, AreWithin, entries_in, tree_of, with_child, Grows, with_entries}
+use Rattle.hyphenation_trie.specs.Private.Trie.{with_node_text, text_after, texts_of, IsWithin, AreWithin, entries_there, tree_of, with_child, Grows, with_entries}
 use Rattle.std.specs.Option.{option_map}
 use Rattle.std.specs.List.{slice_range}
 use Rattle.std.proofs.Math.Seq.{map-set_same, drop-append_seam, take-length}
 use Rattle.std.specs.Cmp.Lexicographic.{pointwise}
-use Rattle.hyphenation_trie.specs.declared.Node.{Node}
 use Rattle.hyphenation_trie.specs.declared.Span.{Span}
 
 length-fold : (acc : List (List ℕ)) (fs : List (Option (ℕ × ℕ))) → length (fold with_node_text acc fs) ≡ length acc + length fs
@@ -57,14 +56,14 @@ pub chosen : {X : Type 0} (b : Bool) (x y z : X) → cond b x y ≡ z → ((b �
 chosen true x y z e = inl (refl, e)
 chosen false x y z e = inr (refl, e)
 
-pub seen-grown : {E : Type 0} (ns : List Node) (es : List E) (i b : ℕ) → tree_of (ns ++ record { from = Some (i, b); span = None } ∷ []) es ≡ with_child (tree_of ns es) i b
-seen-grown ns es i b = rw (map_push, map_push, texts_of-push) refl
+pub seen-grown : {E : Type 0} (froms : List (Option (ℕ × ℕ))) (spans : List (Option Span)) (es : List E) (i b : ℕ) → tree_of (froms ++ Some (i, b) ∷ []) (spans ++ None ∷ []) es ≡ with_child (tree_of froms spans es) i b
+seen-grown froms spans es i b = rw (map_push, texts_of-push) refl
 
-pub IsTrie-seen : {E : Type 0} (ns : List Node) (es : List E) (lasts befores : List ℕ) → IsGrowing (map (λ n. n.from) ns) lasts befores → IsTrie (tree_of ns es)
-IsTrie-seen ns es lasts befores held =
-    let r = root_text (tree_of ns es).texts held.root in
+pub IsTrie-seen : {E : Type 0} (froms : List (Option (ℕ × ℕ))) (spans : List (Option Span)) (es : List E) (lasts befores : List ℕ) → length spans ≡ length froms → IsGrowing froms lasts befores → IsTrie (tree_of froms spans es)
+IsTrie-seen froms spans es lasts befores len held =
+    let r = root_text (texts_of froms) held.root in
     record {
-      lengths = simp length-map (sym (length-texts_of (map (λ n. n.from) ns) ∙ simp length-map));
+      lengths = length-map spans (entries_there es) ∙ len ∙ sym (length-texts_of froms);
       some = r.1;
       root = r.0;
       distinct = held.apart;
@@ -77,30 +76,22 @@ within-more : (n m : ℕ) (span : Option Span) → n ≤ m → IsWithin n span �
 within-more n m None le h = tt
 within-more n m (Some span) le h = (h.0, omega (arith, h.1))
 
-pub all_within-more : (n m : ℕ) (ns : List Node) → n ≤ m → AreWithin n ns → AreWithin m ns
+pub all_within-more : (n m : ℕ) (ns : List (Option Span)) → n ≤ m → AreWithin n ns → AreWithin m ns
 all_within-more n m [] le h = h
-all_within-more n m (x ∷ ns) le h = (within-more n m x.span le h.0, all_within-more n m ns le h.1)
+all_within-more n m (x ∷ ns) le h = (within-more n m x le h.0, all_within-more n m ns le h.1)
 
-pub all_within-push : (bound : ℕ) (ns : List Node) (x : Node) → AreWithin bound ns → IsWithin bound x.span → AreWithin bound (ns ++ x ∷ [])
+pub all_within-push : (bound : ℕ) (ns : List (Option Span)) (x : Option Span) → AreWithin bound ns → IsWithin bound x → AreWithin bound (ns ++ x ∷ [])
 all_within-push bound [] x h is = (is, tt)
 all_within-push bound (n ∷ ns) x h is = (h.0, all_within-push bound ns x h.1 is)
 
-pub all_within-set : (bound : ℕ) (ns : List Node) (i : ℕ) (x : Node) → AreWithin bound ns → IsWithin bound x.span → AreWithin bound (set ns i x)
+pub all_within-set : (bound : ℕ) (ns : List (Option Span)) (i : ℕ) (x : Option Span) → AreWithin bound ns → IsWithin bound x → AreWithin bound (set ns i x)
 all_within-set bound [] i x h is = h
 all_within-set bound (n ∷ ns) zero x h is = (is, h.1)
 all_within-set bound (n ∷ ns) (suc i) x h is = (h.0, all_within-set bound ns i x h.1 is)
 
-pub all_within-at : (bound : ℕ) (ns : List Node) (i : ℕ) (n : Node) → AreWithin bound ns → i < length ns → n ≡ get_or ns i n → IsWithin bound n.span
-all_within-at bound [] i n h lt read = absurd (omega arith)
-all_within-at bound (m ∷ ns) zero n h lt read = subst (λ (x : Node). IsWithin bound x.span) (sym read) h.0
-all_within-at bound (m ∷ ns) (suc i) n h lt read = all_within-at bound ns i n h.1 (omega arith) read
-
-pub has_entries : {E : Type 0} (es : List E) (n : Node) → is_some n.span ≡ is_some (entries_in es n)
-has_entries es n = by n.span
-  where
-    by : (span : Option Span) → is_some span ≡ is_some (option_map (λ s. slice_range es s.start s.end) span)
-    by None = refl
-    by (Some span) = refl
+pub has_entries : {E : Type 0} (es : List E) (span : Option Span) → is_some span ≡ is_some (entries_there es span)
+has_entries es None = refl
+has_entries es (Some span) = refl
 
 range_kept : {E : Type 0} (es xs : List E) (a b : ℕ) → a ≤ b → b ≤ length es → slice_range (es ++ xs) a b ≡ slice_range es a b
 range_kept es xs a b ab be = ap (take (b - a)) (drop-append-le a es xs (omega arith)) ∙ take-append-le (b - a) (drop a es) xs (omega (arith, length-drop a es))
@@ -110,9 +101,9 @@ kept es xs None h = refl
 kept es xs (Some span) h = ap (λ (ys : List _). Some ys) (range_kept es xs span.start span.end h.0 h.1)
 
 -- entries put after the others change no node's
-all_kept : {E : Type 0} (es xs : List E) (ns : List Node) → AreWithin (length es) ns → map (entries_in (es ++ xs)) ns ≡ map (entries_in es) ns
+all_kept : {E : Type 0} (es xs : List E) (ns : List (Option Span)) → AreWithin (length es) ns → map (entries_there (es ++ xs)) ns ≡ map (entries_there es) ns
 all_kept es xs [] h = refl
-all_kept es xs (n ∷ ns) h = λ k. kept es xs n.span h.0 k ∷ all_kept es xs ns h.1 k
+all_kept es xs (n ∷ ns) h = λ k. kept es xs n h.0 k ∷ all_kept es xs ns h.1 k
 
 range_new : {E : Type 0} (es xs : List E) (a b : ℕ) → a ≡ length es → b ≡ length (es ++ xs) → slice_range (es ++ xs) a b ≡ xs
 range_new es xs a b ea eb =
@@ -167,10 +158,8 @@ front_more key i t e lt =
 
 -- ---- the entries of a node
 
-pub seen_within : (ns : List Node) (i : ℕ) → i < length (texts_of (map (λ n. n.from) ns)) → i < length ns
-seen_within ns i lt =
-    let e : length (map (λ n. n.from) ns) ≡ length ns = simp length-map in
-    omega (arith, length-texts_of (map (λ n. n.from) ns))
+pub seen_within : (froms : List (Option (ℕ × ℕ))) (i : ℕ) → i < length (texts_of froms) → i < length froms
+seen_within froms i lt = omega (arith, length-texts_of froms)
 
 abbrev pub AllApart : List (List ℕ) → Type 0
 AllApart ts = (i j : ℕ) → i < length ts → j < length ts → get_or ts i [] ≡ get_or ts j [] → i ≡ j
@@ -227,18 +216,13 @@ entries_at-here (t ∷ ts) (e ∷ es) (suc i) apart len lt =
     ap (λ b. cond b e (entries_at ts es (get_or ts i []))) (other_text t (get_or ts i []) (λ same. apart_first t ts i apart (omega arith) same))
     ∙ entries_at-here ts es i (apart_rest t ts apart) (omega arith) (omega arith)
 
-pub seen_entries : {E : Type 0} (ns : List Node) (es : List E) (i : ℕ) (n : Node) → i < length ns → n ≡ get_or ns i n → get_or (tree_of ns es).entries i None ≡ entries_in es n
-seen_entries ns es i n lt read = get_or-map (entries_in es) ns i n None lt ∙ ap (entries_in es) (sym read)
-
-pub seen-with : {E : Type 0} (ns : List Node) (es xs : List E) (i start end : ℕ) (n : Node) (now : Option Span) → n ≡ get_or ns i n → now ≡ Some (record { start = start; end = end })
-    → AreWithin (length es) ns → start ≡ length es → end ≡ length (es ++ xs) → tree_of (set ns i (record { from = n.from; span = now })) (es ++ xs) ≡ with_entries (tree_of ns es) i xs
-seen-with {E} ns es xs i start end n now read is within begin stop =
-    let x : Node = record { from = n.from; span = now } in
-    let froms : map (λ n. n.from) (set ns i x) ≡ map (λ n. n.from) ns = map-set_same (λ n. n.from) ns i x n (ap (λ n. n.from) read) in
-    let mine : entries_in (es ++ xs) x ≡ Some xs = ap (option_map (λ s. slice_range (es ++ xs) s.start s.end)) is ∙ ap (λ (ys : List E). Some ys) (range_new es xs start end begin stop) in
-    let news : map (entries_in (es ++ xs)) (set ns i x) ≡ set (map (entries_in es) ns) i (Some xs) =
-    map-set (entries_in (es ++ xs)) ns i x ∙ ap (λ (o : Option (List E)). set (map (entries_in (es ++ xs)) ns) i o) mine ∙ ap (λ (os : List (Option (List E))). set os i (Some xs)) (all_kept es xs ns within) in
-    λ k. record { texts = texts_of (froms k); entries = news k }
+pub seen-with : {E : Type 0} (froms : List (Option (ℕ × ℕ))) (spans : List (Option Span)) (es xs : List E) (i start end : ℕ) (now : Option Span) → now ≡ Some (record { start = start; end = end })
+    → AreWithin (length es) spans → start ≡ length es → end ≡ length (es ++ xs) → tree_of froms (set spans i now) (es ++ xs) ≡ with_entries (tree_of froms spans es) i xs
+seen-with {E} froms spans es xs i start end now is within begin stop =
+    let mine : entries_there (es ++ xs) now ≡ Some xs = ap (entries_there (es ++ xs)) is ∙ ap (λ (ys : List E). Some ys) (range_new es xs start end begin stop) in
+    let news : map (entries_there (es ++ xs)) (set spans i now) ≡ set (map (entries_there es) spans) i (Some xs) =
+    map-set (entries_there (es ++ xs)) spans i now ∙ ap (λ (o : Option (List E)). set (map (entries_there (es ++ xs)) spans) i o) mine ∙ ap (λ (os : List (Option (List E))). set os i (Some xs)) (all_kept es xs spans within) in
+    λ k. record { texts = texts_of froms; entries = news k }
 
 -- the entries of one key are set
 pub key_at-with : {E : Type 0} (t : Tree E) (node : ℕ) (es : List E) (key q : List ℕ) → IsTrie t → node < length t.texts → node_text t node ≡ key

@@ -26,7 +26,6 @@
 ghost use Rattle.std.specs.Prelude.{◌≡◌, ◌≢◌, ◌+◌, ◌<◌, ◌≤◌, ◌^◌, ◌++◌, [], ◌∷◌, ℕ, List, length, None, Some, IfOk, OnOk, OnErr, if◌then◌else◌, nat_eq, is_some, IfSome, IfNone};
 ghost use Rattle.std.specs.Cmp.Lexicographic.{pointwise};
 ghost use Rattle.std.specs.List.{slice_range};
-ghost use Rattle.hyphenation_trie.specs.Private.Links.{parent_of, byte_of};
 ghost use Rattle.hyphenation_trie.specs.Trie.{Tree, node_text, key_at, IsTrie, AddsFront, KeepsNodes, EachBeginsKey};
 ghost use Rattle.hyphenation_trie.specs.Private.Trie.{with_child, Grows, with_entries};
 
@@ -37,6 +36,7 @@ mod rows;
 
 pub use automaton::Automaton;
 use chains::Chains;
+use frozen::State;
 use std::alloc::{AllocError, Global};
 use std::fmt;
 use std::marker::Model;
@@ -119,14 +119,6 @@ struct Span {
     end: u32,
 }
 
-#[derive(Clone, Copy, Debug)]
-struct Node {
-    /// The parent and the byte that leads from it to here. The root has none.
-    from: Option<(u32, u8)>,
-    /// Where the entries stand, where the node's text is a key.
-    span: Option<Span>,
-}
-
 /// The entries that stand there.
 fn part<E>(entries: &[E], span: Span) -> &[E]
     requires ordered { span.start ≤ span.end }
@@ -136,31 +128,15 @@ fn part<E>(entries: &[E], span: Span) -> &[E]
     &entries[span.start as usize..span.end as usize]
 }
 
-/// The number of a node's parent; 0 for the root.
-fn parent_of(from: Option<(u32, u8)>) -> u32
-    ensures { result ≡ parent_of from }
-{
-    match from {
-        Some((parent, _byte)) => parent,
-        None => 0,
-    }
-}
-
-/// The byte that leads to a node from its parent; 0 for the root.
-fn byte_of(from: Option<(u32, u8)>) -> u8
-    ensures { result ≡ byte_of from }
-{
-    match from {
-        Some((_parent, byte)) => byte,
-        None => 0,
-    }
-}
-
 /// Keys, each with its entries.
 #[derive(Drop)]
 pub struct Trie<E> {
-    /// The root, and after it each node later than its parent.
-    nodes: Vec<Node>,
+    /// The parent of each node, and the byte that leads from it to the node. The root comes first, with 0 for both, and
+    /// each other node is later than its parent.
+    parents: Vec<u32>,
+    bytes: Vec<u8>,
+    /// What a search asks of each node. As yet it is known where its entries stand, and no more.
+    states: Vec<State>,
     /// The entries of all keys, in one list, so that a key costs no allocation of its own. Those that a key had
     /// before it was given others stay here, unused.
     entries: Vec<E>,
@@ -171,17 +147,17 @@ pub struct Trie<E> {
 
 impl<E> Model for Trie<E> {
     ghost use Rattle.std.specs.Prelude.{map, length};
-    ghost use Rattle.hyphenation_trie.specs.Private.Growing.{IsGrowing};
     ghost use Rattle.hyphenation_trie.specs.Trie.{Tree};
-    ghost use Rattle.hyphenation_trie.specs.Private.Trie.{tree_of, AreWithin};
+    ghost use Rattle.hyphenation_trie.specs.Private.States.{froms_by, span_in, IsHeld};
+    ghost use Rattle.hyphenation_trie.specs.Private.Trie.{tree_of};
 
     ghost Value = { Tree E };
 
-    ghost view = { λ t. tree_of t.nodes.items t.entries.items };
+    ghost view = { λ t. tree_of (froms_by t.parents.items t.bytes.items) (map span_in t.states.items) t.entries.items };
 
     ghost invariant = { λ t.
-        IsGrowing (map (λ n. n.from) t.nodes.items) t.children.last.items t.children.before.items
-        × AreWithin (length t.entries.items) t.nodes.items };
+        IsHeld t.parents.items t.bytes.items t.states.items t.children.last.items t.children.before.items
+        (length t.entries.items) };
 }
 
 impl<E: Drop> Trie<E> {
@@ -199,15 +175,18 @@ impl<E: Drop> Trie<E> {
         ensures { IfOk result (λ trie. trie ≡ record { texts = [] ∷ []; entries = None ∷ [] }) }
     {
         let children = Chains::with_room(alloc, nodes)?;
-        let room = nodes;
-        let mut nodes = Vec::with_capacity(alloc, room)?;
-        nodes.push(Node {
-            from: None,
-            span: None,
-        })?;
+        let mut parents = Vec::with_capacity(alloc, nodes)?;
+        let mut bytes = Vec::with_capacity(alloc, nodes)?;
+        let mut states = Vec::with_capacity(alloc, nodes)?;
+        let entries = Vec::with_capacity(alloc, nodes)?;
+        parents.push(0)?;
+        bytes.push(0)?;
+        states.push(State::bare())?;
         Ok(Trie {
-            nodes,
-            entries: Vec::with_capacity(alloc, room)?,
+            parents,
+            bytes,
+            states,
+            entries,
             children,
         })
     }
@@ -240,7 +219,7 @@ impl<E: Drop> Trie<E> {
         ensures trie { IsTrie self.now }
     {
         // The look at a field tells the proof what is true of each trie.
-        let _nodes = &self.nodes;
+        let _nodes = &self.states;
         0
     }
 
@@ -256,7 +235,7 @@ impl<E: Drop> Trie<E> {
     {
         let mut child = self.children.last[node as usize];
         while child != 0 {
-            if byte_of(self.nodes[child as usize].from) == byte {
+            if self.bytes[child as usize] == byte {
                 return Some(child);
             }
             child = self.children.before[child as usize];
@@ -272,16 +251,19 @@ impl<E: Drop> Trie<E> {
         ensures ok { IfOk result (λ j. (j ≡ length self.old.texts) × (self.new ≡ with_child self.old node byte)) }
         ensures err { OnErr result (self.new ≡ self.old) }
     {
-        let child = in_32_bits(self.nodes.len())?;
+        let count = self.states.len();
+        if count > u32::MAX as usize {
+            return Err(AllocError);
+        }
+        let child = count as u32;
         // Room first, so that no chain has a node that is then refused.
-        self.nodes.reserve(1)?;
+        self.parents.reserve(1)?;
+        self.bytes.reserve(1)?;
+        self.states.reserve(1)?;
         self.children.add(node as usize, child)?;
-        self.nodes
-            .push(Node {
-                from: Some((node, byte)),
-                span: None,
-            })
-            .unwrap();
+        self.parents.push(node).unwrap();
+        self.bytes.push(byte).unwrap();
+        self.states.push(State::bare()).unwrap();
         Ok(child)
     }
 
@@ -327,15 +309,14 @@ impl<E: Drop> Trie<E> {
         let end = in_32_bits(start.saturating_add(entries.len()))?;
         let start = start as u32;
         self.entries.append(entries)?;
-        let old = self.nodes[node as usize].span.replace(Span { start, end });
-        Ok(old.is_some())
+        Ok(self.states[node as usize].set_span(Span { start, end }))
     }
 }
 
 impl<E> fmt::Debug for Trie<E> {
     fn fmt<W: fmt::Write>(&self, f: &mut fmt::Formatter<W>) -> fmt::Result {
         f.debug_struct("Trie")
-            .field("nodes", &self.nodes.len())
+            .field("nodes", &self.states.len())
             .finish()
     }
 }

@@ -2,7 +2,6 @@
 use Rattle.std.specs.Prelude.{◌≡◌, ℕ, ◌<◌, List, [], ◌∷◌, ◌++◌, length, map, fold, Option, Some, None, slice_index_or, ◌≤◌, ◌⊎◌, slice_set}
 use Rattle.std.specs.Option.{option_map}
 use Rattle.std.specs.List.{slice_range}
-use Rattle.hyphenation_trie.specs.declared.Node.{Node}
 use Rattle.hyphenation_trie.specs.declared.Span.{Span}
 use Rattle.hyphenation_trie.specs.Trie.{Tree, node_text}
 
@@ -32,22 +31,22 @@ with_node_text texts from = texts ++ text_after texts from ∷ []
 abbrev pub texts_of : List (Option (ℕ × ℕ)) → List (List ℕ)
 texts_of froms = fold with_node_text [] froms
 
--- The entries of a node, among those of all nodes.
-abbrev pub entries_in : {E : Type 0} → List E → Node → Option (List E)
-entries_in es n = option_map (λ span. slice_range es span.start span.end) n.span
+-- The entries that stand there, among those of all nodes.
+abbrev pub entries_there : {E : Type 0} → List E → Option Span → Option (List E)
+entries_there es span = option_map (λ span. slice_range es span.start span.end) span
 
--- What a clause sees of the nodes and of all entries.
-abbrev pub tree_of : {E : Type 0} → List Node → List E → Tree E
-tree_of ns es = record { texts = texts_of (map (λ n. n.from) ns); entries = map (entries_in es) ns }
+-- What a clause sees of nodes: of the parent and the byte of each, of where its entries stand, and of all entries.
+abbrev pub tree_of : {E : Type 0} → List (Option (ℕ × ℕ)) → List (Option Span) → List E → Tree E
+tree_of froms spans es = record { texts = texts_of froms; entries = map (entries_there es) spans }
 
 -- The entries of each node stand among so many.
 abbrev pub IsWithin : ℕ → Option Span → Type 0
 IsWithin bound None = Unit {0}
 IsWithin bound (Some span) = (span.start ≤ span.end) × (span.end ≤ bound)
 
-abbrev pub AreWithin : ℕ → List Node → Type 0
+abbrev pub AreWithin : ℕ → List (Option Span) → Type 0
 AreWithin bound [] = Unit {0}
-AreWithin bound (n ∷ ns) = IsWithin bound n.span × AreWithin bound ns
+AreWithin bound (span ∷ spans) = IsWithin bound span × AreWithin bound spans
 
 -- Each node but the root is after a parent, which stands before it, and a byte.
 abbrev pub HasFroms : List (List ℕ) → List (Option (ℕ × ℕ)) → Type 0

@@ -1,5 +1,5 @@
-use Rattle.hyphenation_trie.proofs.TrieNodes.{IsTrie-seen}
+use Rattle.hyphenation_trie.proofs.HeldNodes.{trie_held}
 use Rattle.hyphenation_trie.proofs.Trie.root.Goals as goal
 
 pub returns-clause-trie : goal.returns-clause-trie
-returns-clause-trie g c = rw (← c.self.view_is) (IsTrie-seen c.self.inside.nodes.items c.self.inside.entries.items _ _ c.self.invariant.0)
+returns-clause-trie g c = rw (← c.self.view_is) (trie_held _ _ _ _ _ c.self.inside.entries.items c.self.invariant)

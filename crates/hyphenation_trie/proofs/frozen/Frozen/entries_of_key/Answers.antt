@@ -1,7 +1,7 @@
 use Rattle.std.proofs.Common.{◌∙◌, sym, ap, arith, subst, Some, length}
 use Rattle.std.specs.Prelude.{IsSome}
 use Rattle.std.specs.List.{slice_range}
-use Rattle.hyphenation_trie.specs.Private.States.{entries_there}
+use Rattle.hyphenation_trie.specs.Private.Trie.{entries_there}
 use Rattle.hyphenation_trie.proofs.States.{span_of_entries, key_within, entries_of_node}
 use Rattle.hyphenation_trie.proofs.frozen.Frozen.entries_of_key.Goals as goal
 
