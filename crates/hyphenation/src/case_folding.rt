@@ -113,8 +113,9 @@ pub(crate) fn are_small_letters(word: &str) -> bool
     ensures { result ≡ are_small_letters word.now }
 {
     let bytes = word.as_bytes();
+    let last = bytes.len().saturating_sub(1);
     let mut at = 0;
-    while at + 1 < bytes.len() {
+    while at < last {
         let first = bytes[at];
         if first < 0x80 {
             if !first.is_ascii_lowercase() {
