@@ -108,7 +108,7 @@ fn is_small_pair(first: u8, second: u8) -> bool
 
 /// Whether a word is made of such letters: then it folds to itself, and has no soft hyphen.
 ///
-/// The bytes are looked at as they stand, since to put characters together takes thrice as long.
+/// The bytes are looked at as they stand, since to put characters together takes more than twice as long.
 pub(crate) fn are_small_letters(word: &str) -> bool
     ensures { result ≡ are_small_letters word.now }
 {
