@@ -250,7 +250,7 @@ fn first_mismatch<K: Kind>(
 }
 
 /// Sets an exception, of which some places may have changes, or takes one out.
-fn edit<K: Kind>(
+fn make_edit<K: Kind>(
     alloc: Global,
     dice: &mut Dice,
     dictionary: &mut K,
@@ -294,7 +294,7 @@ fn round<K: Kind>(
     if let Some(word) = first_mismatch(alloc, dice, &dictionary, &book, compared)? {
         return Ok(Some((text, word)));
     }
-    let edit = edit(alloc, dice, &mut dictionary, &mut book)?;
+    let edit = make_edit(alloc, dice, &mut dictionary, &mut book)?;
     compared.note_edit(&edit);
     compared.note_word();
     if dictionary.is_as(alloc, &book, &edit.word)? {

@@ -108,13 +108,14 @@ fn is_small_pair(first: u8, second: u8) -> bool
 
 /// Whether a word is made of such letters: then it folds to itself, and has no soft hyphen.
 ///
-/// The bytes are looked at as they stand, since to put characters together takes thrice as long.
+/// The bytes are looked at as they stand, since to put characters together takes more than twice as long.
 pub(crate) fn are_small_letters(word: &str) -> bool
     ensures { result ≡ are_small_letters word.now }
 {
     let bytes = word.as_bytes();
+    let last = bytes.len().saturating_sub(1);
     let mut at = 0;
-    while at + 1 < bytes.len() {
+    while at < last {
         let first = bytes[at];
         if first < 0x80 {
             if !first.is_ascii_lowercase() {

@@ -47,8 +47,11 @@ fn odd_breaks<'h, F: Found<'h>>(
     let first = bounds.0.max(1);
     let end = values.len().min(bounds.1);
     let least = first_odd(values, first, end);
-    // Room for a few breaks is taken at once, where there is one.
-    let mut breaks = Vec::with_capacity(alloc, (end + 1).saturating_sub(least).min(8))?;
+    if end < least {
+        return Ok(Vec::new(alloc));
+    }
+    // Room for a few breaks is taken at once.
+    let mut breaks = Vec::with_capacity(alloc, (end + 1 - least).min(8))?;
     for place in least..end + 1 {
         if values[place - 1] % 2 == 1 {
             breaks.push(F::plain(place))?;

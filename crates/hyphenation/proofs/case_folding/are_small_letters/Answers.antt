@@ -1,4 +1,4 @@
-use Rattle.std.proofs.Common.{◌≡◌, true, false, ap, sym, ◌∙◌, arith, slice_index, not}
+use Rattle.std.proofs.Common.{◌≡◌, true, false, ap, sym, ◌∙◌, arith, slice_index}
 use Rattle.std.specs.Char.{is_ascii_lowercase}
 use Rattle.hyphenation.specs.Private.SmallLetters.{are_small_letters}
 use Rattle.hyphenation.proofs.SmallLetters.{after_lower, no_lower}
@@ -9,7 +9,7 @@ returns-then-not-is_ascii_lowercase c =
     let bytes = c.as_bytes-bytes.result.now in
     let at = c.loop-at.at in
     let other : is_ascii_lowercase (slice_index bytes at) ≡ false = sym c.is_ascii_lowercase.ensures.value ∙ c.if-not-is_ascii_lowercase.true in
-    sym (ap are_small_letters (sym c.as_bytes-bytes.ensures.value) ∙ c.loop-at.invariant.same ∙ no_lower bytes at c.loop-at-test.true c.if-first-lt128.true other)
+    sym (ap are_small_letters (sym c.as_bytes-bytes.ensures.value) ∙ c.loop-at.invariant.same ∙ no_lower bytes at (omega arith) c.if-first-lt128.true other)
 
 pub loop-at-preserved-then-first-lt128 : goal.loop-at-preserved-then-first-lt128
 loop-at-preserved-then-first-lt128 c =
@@ -17,6 +17,6 @@ loop-at-preserved-then-first-lt128 c =
     let at = c.loop-at.at in
     let lower : is_ascii_lowercase (slice_index bytes at) ≡ true = sym c.is_ascii_lowercase.ensures.value ∙ c.if-not-is_ascii_lowercase.false in
     record {
-      within = omega (arith, c.loop-at-test.true);
-      same = c.loop-at.invariant.same ∙ after_lower bytes at c.loop-at-test.true c.if-first-lt128.true lower;
+      within = omega arith;
+      same = c.loop-at.invariant.same ∙ after_lower bytes at (omega arith) c.if-first-lt128.true lower;
     }

@@ -35,3 +35,14 @@ returns g c =
     c.loop-place.invariant
     ∙ ap (map plain) (within_alone (test_of values c.args.bounds) first end c.loop-place.place (length values) (omega arith) (omega arith) (omega arith) (omega arith) (λ le. let high = c.first_odd-least.ensures.high le in c.loop-place.auto.place-end high)
     (λ p one out. outside values c.args.bounds first end p c.max-first.ensures c.min-end.ensures one out))
+
+pub returns-then-end-least : goal.returns-then-end-least
+returns-then-end-least g c =
+    let values = c.args.values.now in
+    let first = c.max-first.result in
+    let end = c.min-end.result in
+    let least = c.first_odd-least.result in
+    ap (map g.F.Break.meaning) c.new.ensures.items
+    ∙ ap (map plain) (even_none values c.args.bounds first least c.first_odd-least.ensures.even
+    ∙ within_alone (test_of values c.args.bounds) first end least (length values) (omega arith) (omega arith) (omega arith) (omega arith) c.first_odd-least.ensures.high
+    (λ p one out. outside values c.args.bounds first end p c.max-first.ensures c.min-end.ensures one out))

@@ -112,7 +112,8 @@ returns-clause-unchanged g c = λ no p.
     let framed : (length word + 1) + 1 ≡ length (frame word) = omega (arith, length-frame word) in
     let two : length word + 2 ≡ (length word + 1) + 1 = omega arith in
     let longest = subst (λ (k : ℕ). IsLongest tree.texts (take k (frame word)) c.read-met.result.0) two (all g c).longest in
-    let before = subst (λ (k : ℕ). NoneTo change_of tree word (k + 1)) (omega arith) (c.loop-at.invariant.unchanged parts.0) in
+    let ends : c.loop-at.at ≡ length word = omega arith in
+    let before = subst (λ (k : ℕ). NoneTo change_of tree word (k + 1)) ends (c.loop-at.invariant.unchanged parts.0) in
     let last = subst (λ (k : ℕ). (q : ℕ) → carry_change change_of (entries_of_ends (key_at tree) (node_text tree c.read-met.result.0) k q) ≡ false) two (c.read-met.ensures.unchanged parts.1) in
     none_bears change_of tree word
     (subst (λ (k : ℕ). NoneTo change_of tree word k) framed (none_to_more change_of tree word (length word + 1) c.read-met.result.0 (omega (arith, framed)) longest before last)) p
