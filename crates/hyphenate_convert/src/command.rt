@@ -6,7 +6,7 @@ mod tests;
 use crate::request::{Misfit, Request, Sort, form_of};
 use hyphenation::engine::Kind;
 use hyphenation::load::{Error, Load};
-use hyphenation_commons::dictionary::{Payload, Listing};
+use hyphenation_commons::dictionary::{Listing, Payload};
 use hyphenation_commons::extended::Subregion;
 use pattern_files::convert::{Converted, convert_with_notes};
 use pattern_files::fault::Refusal;
