@@ -79,12 +79,14 @@ fn mark(marks: &mut Vec<bool>, at: usize)
 }
 
 impl<B: Drop> Exceptions<B> {
-    /// No exceptions. The only error is memory.
-    pub(crate) fn new(alloc: Global) -> Result<Exceptions<B>, AllocError>
+    /// No exceptions, with room for so many. The only error is memory.
+    ///
+    /// Room that is not used costs little more than addresses. It saves the copies that growing makes.
+    pub(crate) fn with_room(alloc: Global, count: usize) -> Result<Exceptions<B>, AllocError>
         ensures { IfOk result (λ e. e ≡ finite.empty) }
     {
         let marks = no_marks(alloc, SPOTS)?;
-        let words = HashMap::new(alloc);
+        let words = HashMap::with_capacity(alloc, count)?;
         Ok(Exceptions { marks, words })
     }
 

@@ -79,7 +79,7 @@ fn map_of<B: Listing>(
 ) -> Result<Exceptions<B>, AllocError>
     ensures { IfOk result (λ words. words ≡ map_of_pairs (map pair_of exceptions.items)) }
 {
-    let mut words = Exceptions::new(alloc)?;
+    let mut words = Exceptions::with_room(alloc, exceptions.len())?;
     for (word, listed) in exceptions {
         words.insert(word, listed)?;
     }
