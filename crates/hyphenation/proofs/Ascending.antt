@@ -3,7 +3,7 @@ use Rattle.std.proofs.Common.{◌≡◌, ℕ, ◌+◌, ◌≤◌, List, [], ◌�
 use Rattle.std.proofs.lemmas.Bool.{and_from, and_parts, or_cases, le-leb, leb-true, ltb-true}
 use Rattle.std.proofs.Math.Nat.{sub-zero}
 use Rattle.hyphenation_commons.specs.Break.{plain, ascend_on, is_boundary}
-use Rattle.hyphenation_commons.proofs.LineInvariant.{boundary_test}
+use Rattle.dictionary_text.proofs.LineInvariant.{boundary_test}
 use Rattle.hyphenation.specs.Fits.{FitsFrom}
 
 -- From a least place on, by std's word for a boundary, which gives each place its facts.

@@ -5,7 +5,7 @@ use Rattle.std.specs.Cmp.Lexicographic.{slice_cmp, nat_list_cmp_total}
 use Rattle.std.specs.FinMap as finite
 use Rattle.std.specs.FinMap.{get-insert, get-remove, same_map, nat_cmp-IsAntisymmetric, slice_cmp-IsAntisymmetric}
 use Rattle.hyphenation_commons.specs.Dictionary.{TextMap}
-use Rattle.hyphenation_commons.proofs.ReadingOrder.{tie}
+use Rattle.dictionary_text.proofs.ReadingOrder.{tie}
 
 pub undone : {X : Type 0} (m : TextMap X) (word : List ℕ) (x : X) → finite.get m word ≡ None → finite.remove (finite.insert m word x) word ≡ m
 undone {X} m word x none =

@@ -3,14 +3,14 @@ use Rattle.std.specs.Prelude.{◌≡◌, ◌≢◌, ℕ, List, [], ◌∷◌, �
 use Rattle.std.specs.List.{join_with_byte}
 use Rattle.hyphenation_commons.specs.Break.{Break, plain}
 use Rattle.hyphenation_commons.specs.Dictionary.{keys_of}
-use Rattle.hyphenation_commons.specs.Edits.{after_edits, first_refused}
-use Rattle.hyphenation_commons.specs.Lines.{lines_of, language_of}
-use Rattle.hyphenation_commons.specs.Reading.{place_as_listing, break_as_listing, standard_contents, extended_contents}
-use Rattle.hyphenation_commons.specs.declared.grammar.form.Kind.{Kind}
-use Rattle.hyphenation_commons.specs.declared.grammar.form.Kind.TheVariants.{Standard, Extended}
-use Rattle.hyphenation_commons.specs.declared.grammar.Cause.{Cause}
-use Rattle.hyphenation_commons.specs.declared.grammar.Error.{Error}
-use Rattle.hyphenation_commons.specs.declared.grammar.Error.TheVariants.{Deserialization, IO, LanguageMismatch, Memory as NoMemory}
+use Rattle.dictionary_text.specs.Edits.{after_edits, first_refused}
+use Rattle.dictionary_text.specs.Lines.{lines_of, language_of}
+use Rattle.dictionary_text.specs.Reading.{place_as_listing, break_as_listing, standard_contents, extended_contents}
+use Rattle.dictionary_text.specs.declared.form.Kind.{Kind}
+use Rattle.dictionary_text.specs.declared.form.Kind.TheVariants.{Standard, Extended}
+use Rattle.dictionary_text.specs.declared.Cause.{Cause}
+use Rattle.dictionary_text.specs.declared.Error.{Error}
+use Rattle.dictionary_text.specs.declared.Error.TheVariants.{Deserialization, IO, LanguageMismatch, Memory as NoMemory}
 use Rattle.hyphenation.specs.declared.engine.RunError.{RunError}
 use Rattle.hyphenation.specs.declared.engine.RunError.TheVariants.{Dictionary, Edit, TextNotUtf8, Input, Output, Memory}
 use Rattle.std.specs.IoError.{error_kind}

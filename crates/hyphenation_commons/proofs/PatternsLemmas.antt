@@ -7,7 +7,7 @@ use Rattle.std.specs.Cmp.Lexicographic.{slice_cmp, pointwise, nat_list_cmp_total
 use Rattle.std.specs.FinMap as finite
 use Rattle.std.specs.FinMap.{find, get-from_entries, get-insert, same_map, contains_key-keys, slice_cmp-IsAntisymmetric, nat_cmp-IsAntisymmetric}
 use Rattle.hyphenation_commons.specs.Dictionary.{greatest}
-use Rattle.hyphenation_commons.specs.Private.Views.{patterns_of}
+use Rattle.hyphenation_commons.specs.Parts.{patterns_of}
 use Rattle.hyphenation_trie.specs.Keys.{pairs_of}
 use Rattle.hyphenation_trie.specs.Trie.{Tree, entries_at, key_at, IsTrie, EachBeginsKey}
 use Rattle.hyphenation_trie.proofs.KeyNodes.{node_of_key}

@@ -9,7 +9,7 @@ ghost use Rattle.std.specs.Option.{option_map};
 ghost use Rattle.std.specs.String.{string_bytes};
 ghost use Rattle.hyphenation_commons.specs.Dictionary.{TextMap};
 ghost use Rattle.hyphenation_commons.specs.Private.Views.{exceptions_of};
-ghost use Rattle.hyphenation_commons.specs.Private.Ordered.{pair_views};
+ghost use Rattle.hyphenation_commons.specs.Parts.{pair_views};
 ghost use Rattle.hyphenation_commons.specs.Private.Spots.{spots, spot, AreMarked};
 
 use std::alloc::{AllocError, Global};
@@ -18,7 +18,7 @@ use std::marker::Model;
 
 /// Words, each with a list.
 #[derive(Drop)]
-pub(crate) struct Exceptions<B> {
+pub struct Exceptions<B> {
     /// For each spot whether a word that falls on it is listed, or was.
     marks: Vec<bool>,
     words: HashMap<String, Vec<B>>,
@@ -82,7 +82,7 @@ impl<B: Drop> Exceptions<B> {
     /// No exceptions, with room for so many. The only error is memory.
     ///
     /// Room that is not used costs little more than addresses. It saves the copies that growing makes.
-    pub(crate) fn with_room(alloc: Global, count: usize) -> Result<Exceptions<B>, AllocError>
+    pub fn with_room(alloc: Global, count: usize) -> Result<Exceptions<B>, AllocError>
         ensures { IfOk result (λ e. e ≡ finite.empty) }
     {
         let marks = no_marks(alloc, SPOTS)?;
@@ -110,7 +110,7 @@ impl<B: Drop> Exceptions<B> {
     }
 
     /// Gives a word a list, and answers the one that it had. Nothing else changes; after an error nothing has.
-    pub(crate) fn insert(
+    pub fn insert(
         &mut self,
         word: String,
         listed: Vec<B>,

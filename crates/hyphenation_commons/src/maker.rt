@@ -5,7 +5,7 @@
 
 ghost use Rattle.std.specs.Prelude.{◌≡◌, ◌↔◌, IsTrue, IfOk, map, All};
 ghost use Rattle.std.specs.String.{string_bytes};
-ghost use Rattle.hyphenation_commons.specs.Private.Views.{patterns_of};
+ghost use Rattle.hyphenation_commons.specs.Parts.{patterns_of};
 ghost use Rattle.hyphenation_commons.specs.Invariant.{has_letter, are_entries, are_listed};
 ghost use Rattle.hyphenation_commons.specs.Maker.{map_of_pairs, pair_of, fits_key};
 ghost use Rattle.hyphenation_trie.specs.Trie.{EachBeginsKey};

@@ -1,7 +1,7 @@
 -- What a whole run writes.
 use Rattle.std.specs.Prelude.{ℕ, List}
 use Rattle.hyphenation_commons.specs.Break.{plain}
-use Rattle.hyphenation_commons.specs.Reading.{standard_contents}
+use Rattle.dictionary_text.specs.Reading.{standard_contents}
 use Rattle.hyphenation.specs.Opportunities.{no_change, rules_of, all_breaks_of}
 use Rattle.linefill.specs.Lines.{lines_by}
 

@@ -4,13 +4,13 @@ ghost use Rattle.std.specs.Prelude.{◌≡◌, OnOk, IfOk, IfErr, IfSome, map};
 ghost use Rattle.std.specs.String.{string_bytes};
 ghost use Rattle.std.specs.Io.KnownBytes.{Appends, Keeps};
 ghost use Rattle.hyphenation_commons.specs.Break.{plain};
-ghost use Rattle.hyphenation_commons.specs.Judging.{refusal_of};
+ghost use Rattle.dictionary_text.specs.Judging.{refusal_of};
 ghost use Rattle.hyphenation.specs.Engine.{JudgesDictionary, JudgesText, BeforeWriting, HoldsNoWant};
 ghost use Rattle.hyphenation.specs.Private.Engine.{IsUnwritten};
 ghost use Rattle.hyphenation.specs.Opportunities.{no_change, rules_of, all_breaks_of};
 ghost use Rattle.linefill.specs.Lines.{lines_by};
 ghost use Rattle.linefill.specs.Run.{filled_by};
-ghost use Rattle.hyphenation_commons.specs.Canonical.{with_line_feeds};
+ghost use Rattle.dictionary_text.specs.Canonical.{with_line_feeds};
 
 use crate::filling::fill;
 use hyphenation::engine::{Kind, RunError, read_input};

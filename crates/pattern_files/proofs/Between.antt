@@ -5,7 +5,7 @@ use Rattle.std.proofs.lemmas.List.Sums.{fold-append}
 use Rattle.std.specs.List.{slice_split, onto_first, count_by}
 use Rattle.std.specs.Prelude.{codes}
 use Rattle.pattern_files.specs.Groups.{Piece, GroupWord, Found, is_space, with_piece, nothing_found, groups, pieces_of}
-use Rattle.hyphenation_commons.specs.Tokens.{is_brace}
+use Rattle.dictionary_text.specs.Tokens.{is_brace}
 use Rattle.pattern_files.specs.declared.group.Group.{Group}
 use Rattle.pattern_files.specs.declared.group.Group.TheVariants.{Patterns, Exceptions}
 use Rattle.pattern_files.specs.declared.group.Place.TheVariants.{Outside, Within}

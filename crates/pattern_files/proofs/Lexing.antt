@@ -3,10 +3,10 @@ use Rattle.std.proofs.Common.{◌≡◌, ◌∙◌, ℕ, ◌+◌, ◌==◌, ◌|
 use Rattle.std.proofs.lemmas.List.{append-nil}
 use Rattle.std.proofs.lemmas.List.Sums.{fold-append}
 use Rattle.std.specs.Prelude.{codes}
-use Rattle.hyphenation_commons.specs.Lines.{same}
+use Rattle.dictionary_text.specs.Lines.{same}
 use Rattle.pattern_files.specs.Converting.{words_of, group_fault}
 use Rattle.pattern_files.specs.Groups.{groups, plain_words, Piece, Lexed, with_piece_ended, with_byte, nothing_lexed, pieces_of, is_space}
-use Rattle.hyphenation_commons.specs.Tokens.{is_brace}
+use Rattle.dictionary_text.specs.Tokens.{is_brace}
 use Rattle.pattern_files.specs.declared.group.Form.{Form}
 use Rattle.pattern_files.specs.declared.group.Form.TheVariants.{Tex, Plain}
 use Rattle.pattern_files.specs.TexFiles.{HasNo, line_feeds}

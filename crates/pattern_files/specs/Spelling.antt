@@ -6,7 +6,7 @@ use Rattle.std.specs.List.{list_any}
 use Rattle.std.specs.Str.{is_utf8}
 use Rattle.hyphenation.specs.Folding.{fold}
 use Rattle.hyphenation_commons.specs.Break.{Break, Change, plain}
-use Rattle.hyphenation_commons.specs.Lines.{is_digit}
+use Rattle.dictionary_text.specs.Lines.{is_digit}
 use Rattle.hyphenation_commons.specs.Invariant.{has_letter, are_entries, are_listed}
 use Rattle.hyphenation_commons.specs.declared.dictionary.Entry.{Entry}
 use Rattle.pattern_files.specs.declared.fault.Cause.{Cause}

@@ -8,7 +8,7 @@ use crate::notes::What;
 use crate::told::{minima_of, notes_of};
 use hyphenation_commons::dictionary::{Extended, Standard};
 use hyphenation_commons::extended::Subregion;
-use hyphenation_commons::grammar::writer::{write_extended, write_standard};
+use dictionary_text::writer::{write_extended, write_standard};
 use hyphenation_commons::language::Language;
 use std::alloc::Global;
 use std::test::Fail;

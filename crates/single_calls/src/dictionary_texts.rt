@@ -2,9 +2,9 @@
 
 use hyphenation_commons::dictionary::{Extended, Standard};
 use hyphenation_commons::extended::Subregion;
-use hyphenation_commons::grammar::Cause;
-use hyphenation_commons::grammar::reader::{Refusal, read_extended, read_standard};
-use hyphenation_commons::grammar::writer::{write_extended, write_standard};
+use dictionary_text::Cause;
+use dictionary_text::reader::{Refusal, read_extended, read_standard};
+use dictionary_text::writer::{write_extended, write_standard};
 use std::alloc::{AllocError, Global};
 use std::test::Fail;
 

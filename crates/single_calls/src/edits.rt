@@ -2,9 +2,9 @@
 
 use hyphenation_commons::dictionary::{Extended, Standard};
 use hyphenation_commons::extended::Subregion;
-use hyphenation_commons::grammar::edits::apply_edit;
-use hyphenation_commons::grammar::form::Kind;
-use hyphenation_commons::grammar::reader::{read_extended, read_standard};
+use dictionary_text::edits::apply_edit;
+use dictionary_text::form::Kind;
+use dictionary_text::reader::{read_extended, read_standard};
 use std::alloc::Global;
 use std::test::Fail;
 

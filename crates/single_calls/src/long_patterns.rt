@@ -3,8 +3,8 @@
 use hyphenation::score::Score;
 use hyphenation_commons::dictionary::Extended;
 use hyphenation_commons::extended::Subregion;
-use hyphenation_commons::grammar::Cause;
-use hyphenation_commons::grammar::reader::{Refusal, read_extended};
+use dictionary_text::Cause;
+use dictionary_text::reader::{Refusal, read_extended};
 use std::alloc::{AllocError, Global};
 use std::test::Fail;
 

@@ -4,7 +4,7 @@ ghost use Rattle.std.specs.Prelude.{◌≡◌, IfOk, IsTrue, not};
 ghost use Rattle.std.specs.FinMap as finite;
 ghost use Rattle.std.specs.Io.KnownBytes.{Appends, Keeps};
 ghost use Rattle.hyphenation_commons.specs.Break.{plain};
-ghost use Rattle.hyphenation_commons.specs.Canonical.{standard_text};
+ghost use Rattle.dictionary_text.specs.Canonical.{standard_text};
 ghost use Rattle.hyphenation_commons.specs.Invariant.{are_listed};
 
 use hyphenation::load::{Error, Result};

@@ -5,7 +5,7 @@ ghost use Rattle.std.specs.List.{flat_map};
 ghost use Rattle.std.specs.Str.Lines.{lines};
 ghost use Rattle.std.specs.String.{string_bytes};
 ghost use Rattle.linefill.specs.Lines.{lines_by};
-ghost use Rattle.hyphenation_commons.specs.Canonical.{with_line_feeds};
+ghost use Rattle.dictionary_text.specs.Canonical.{with_line_feeds};
 ghost use Rattle.uses.specs.Paragraphs.{paragraph_text};
 
 use hyphenation::Hyphenator;

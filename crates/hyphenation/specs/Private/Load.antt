@@ -3,10 +3,10 @@ use Rattle.std.specs.Prelude.{◌≡◌, ◌≢◌, ℕ, List, Result, Ok, Err, 
 use Rattle.std.specs.IoError.{error_kind}
 use Rattle.std.specs.declared.io.ErrorKind.TheVariants.{OutOfMemory}
 use Rattle.hyphenation_commons.specs.Dictionary.{Contents}
-use Rattle.hyphenation_commons.specs.declared.grammar.Error.{Error}
-use Rattle.hyphenation_commons.specs.declared.grammar.Error.TheVariants.{Deserialization, IO, LanguageMismatch, Memory}
-use Rattle.hyphenation_commons.specs.declared.grammar.reader.Refusal.{Refusal}
-use Rattle.hyphenation_commons.specs.declared.grammar.reader.Refusal.TheVariants.{Memory as Wanting, Fault}
+use Rattle.dictionary_text.specs.declared.Error.{Error}
+use Rattle.dictionary_text.specs.declared.Error.TheVariants.{Deserialization, IO, LanguageMismatch, Memory}
+use Rattle.dictionary_text.specs.declared.reader.Refusal.{Refusal}
+use Rattle.dictionary_text.specs.declared.reader.Refusal.TheVariants.{Memory as Wanting, Fault}
 
 -- The dictionary, exactly where its language is the asked one; else the asked and the found code.
 abbrev pub IsOfLanguage : {C B : Type 0} → List ℕ → Contents C B → Result (Contents C B) Error → Type 0

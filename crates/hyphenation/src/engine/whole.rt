@@ -4,8 +4,8 @@ ghost use Rattle.std.specs.Prelude.{◌≡◌, ◌≢◌, List, ℕ, IsTrue, IfE
 ghost use Rattle.std.specs.IoError.{error_kind};
 ghost use Rattle.std.specs.String.{string_bytes};
 ghost use Rattle.hyphenation_commons.specs.Break.{Break};
-ghost use Rattle.hyphenation_commons.specs.Edits.{is_good_edit};
-ghost use Rattle.hyphenation_commons.specs.Judging.{refusal_of};
+ghost use Rattle.dictionary_text.specs.Edits.{is_good_edit};
+ghost use Rattle.dictionary_text.specs.Judging.{refusal_of};
 ghost use Rattle.hyphenation.specs.Engine.{IsOfInput, IsOfText, JudgesDictionary, JudgesEdits, JudgesText, HoldsNoWant, language_in};
 ghost use Rattle.hyphenation.specs.Private.Engine.{IsOfEdits, IsUnwritten};
 ghost use Rattle.hyphenation.specs.Hyphenated.{hyphenated_text};
@@ -16,8 +16,8 @@ use crate::load;
 use crate::load::{Load, read_all};
 use crate::text::hyphenated_text;
 use hyphenation_commons::dictionary::{Extended, Standard};
-use hyphenation_commons::grammar::edits::apply_edit;
-use hyphenation_commons::grammar::form::Kind;
+use dictionary_text::edits::apply_edit;
+use dictionary_text::form::Kind;
 use hyphenation_commons::language::Language;
 use std::alloc::{AllocError, Global};
 use std::io;
@@ -29,7 +29,7 @@ use std::io::{ErrorKind, Read};
 /// the function lends it, so each kind says here what it does.
 pub(super) trait WholeTexts: Drop {
     ghost use Rattle.hyphenation_commons.specs.Break.{Break};
-    ghost use Rattle.hyphenation_commons.specs.declared.grammar.form.Kind.{Kind};
+    ghost use Rattle.dictionary_text.specs.declared.form.Kind.{Kind};
 
     /// The kind.
     ghost kind: { Kind };
@@ -61,10 +61,10 @@ pub(super) trait WholeTexts: Drop {
 }
 
 impl WholeTexts for Standard {
-    ghost use Rattle.hyphenation_commons.specs.declared.grammar.form.Kind.TheVariants.{Standard as OfStandard};
+    ghost use Rattle.dictionary_text.specs.declared.form.Kind.TheVariants.{Standard as OfStandard};
     ghost use Rattle.hyphenation_commons.specs.Break.{plain};
-    ghost use Rattle.hyphenation_commons.specs.Edits.{after_edit};
-    ghost use Rattle.hyphenation_commons.specs.Reading.{place_as_listing, standard_contents};
+    ghost use Rattle.dictionary_text.specs.Edits.{after_edit};
+    ghost use Rattle.dictionary_text.specs.Reading.{place_as_listing, standard_contents};
     ghost use Rattle.hyphenation.specs.Opportunities.{no_change, rules_of, all_breaks_of};
 
     ghost kind = { OfStandard };
@@ -89,9 +89,9 @@ impl WholeTexts for Standard {
 }
 
 impl WholeTexts for Extended {
-    ghost use Rattle.hyphenation_commons.specs.declared.grammar.form.Kind.TheVariants.{Extended as OfExtended};
-    ghost use Rattle.hyphenation_commons.specs.Edits.{after_edit};
-    ghost use Rattle.hyphenation_commons.specs.Reading.{break_as_listing, extended_contents};
+    ghost use Rattle.dictionary_text.specs.declared.form.Kind.TheVariants.{Extended as OfExtended};
+    ghost use Rattle.dictionary_text.specs.Edits.{after_edit};
+    ghost use Rattle.dictionary_text.specs.Reading.{break_as_listing, extended_contents};
     ghost use Rattle.hyphenation.specs.Fitting.{fitted_breaks_of};
     ghost use Rattle.hyphenation.specs.Opportunities.{own_change, own_break, rules_of};
 

@@ -7,8 +7,6 @@ use Rattle.std.specs.HashMap.{HashMap}
 use Rattle.std.specs.declared.string.String.{String}
 use Rattle.std.specs.declared.vec.Vec.{Vec}
 use Rattle.hyphenation_commons.specs.Dictionary.{Contents, TextMap}
-use Rattle.hyphenation_trie.specs.Keys.{pairs_of}
-use Rattle.hyphenation_trie.specs.Trie.{Tree}
 use Rattle.hyphenation_commons.specs.declared.dictionary.Entry.{Entry}
 
 -- An entry is coded as its place, its value and what it carries.
@@ -28,10 +26,6 @@ contents_code {C} {B} code listed =
     (λ v. (v.language, (v.left, (v.right, (v.patterns, v.exceptions)))))
     (λ p. record { language = p.0; left = p.1.0; right = p.1.1.0; patterns = p.1.1.1.0; exceptions = p.1.1.1.1 })
     (λ _. refl)
-
--- The keys of a trie, each with its entries.
-abbrev pub patterns_of : {E : Type 0} → Tree E → TextMap (List E)
-patterns_of t = finite.from_entries (pairs_of t.texts t.entries)
 
 -- The words of a map, each with its list.
 abbrev pub exceptions_of : {B Y Z S : Type 0} → HashMap (String Y) (Vec B Z) S → TextMap (List B)

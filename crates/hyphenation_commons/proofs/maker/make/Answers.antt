@@ -1,5 +1,5 @@
 use Rattle.std.proofs.Common.{◌≡◌, sym, subst, arith, map}
-use Rattle.hyphenation_commons.specs.Private.Views.{patterns_of}
+use Rattle.hyphenation_commons.specs.Parts.{patterns_of}
 use Rattle.hyphenation_commons.specs.Invariant.{IsPattern, IsException}
 use Rattle.hyphenation_commons.specs.Maker.{map_of_pairs, pair_of}
 use Rattle.hyphenation_commons.proofs.MakerInvariant.{Holds, keys_hold, words_hold}

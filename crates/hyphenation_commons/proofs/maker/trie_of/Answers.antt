@@ -1,6 +1,6 @@
 use Rattle.std.proofs.Common.{◌∙◌, ap}
 use Rattle.std.specs.FinMap as finite
-use Rattle.hyphenation_commons.specs.Private.Views.{patterns_of}
+use Rattle.hyphenation_commons.specs.Parts.{patterns_of}
 use Rattle.hyphenation_commons.proofs.MakerInvariant.{one_more}
 use Rattle.hyphenation_commons.proofs.PatternsLemmas.{patterns_of-insert}
 use Rattle.hyphenation_commons.proofs.maker.trie_of.Goals as goal

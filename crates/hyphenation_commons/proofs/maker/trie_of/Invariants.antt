@@ -1,6 +1,6 @@
 use Rattle.std.proofs.Common.{◌≡◌, map, fold}
 use Rattle.std.specs.Vec.Iter.{into_iter_items}
-use Rattle.hyphenation_commons.specs.Private.Views.{patterns_of}
+use Rattle.hyphenation_commons.specs.Parts.{patterns_of}
 use Rattle.hyphenation_commons.specs.Maker.{map_of_pairs, pair_of, with_pair}
 use Rattle.hyphenation_trie.specs.Trie.{EachBeginsKey}
 use Rattle.hyphenation_commons.proofs.maker.trie_of.Given as goal

@@ -1,5 +1,5 @@
 use Rattle.std.proofs.Common.{◌∙◌}
-use Rattle.hyphenation_commons.proofs.Utf8.{tells}
+use Rattle.dictionary_text.proofs.Utf8.{tells}
 use Rattle.pattern_files.proofs.spelling.is_utf8.Goals as goal
 
 pub returns : goal.returns

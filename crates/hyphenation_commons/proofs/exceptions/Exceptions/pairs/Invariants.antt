@@ -1,6 +1,6 @@
 use Rattle.std.proofs.Common.{◌≡◌, ◌++◌, map}
 use Rattle.std.specs.String.{string_bytes}
-use Rattle.hyphenation_commons.specs.Private.Ordered.{pair_views}
+use Rattle.hyphenation_commons.specs.Parts.{pair_views}
 use Rattle.hyphenation_commons.proofs.exceptions.Exceptions.pairs.Given as goal
 
 abbrev pub invariant-loop-word : goal.invariant-loop-word

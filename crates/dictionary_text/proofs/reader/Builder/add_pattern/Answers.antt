@@ -1,0 +1,10 @@
+use Rattle.std.proofs.Common.{◌∙◌, ap, sym}
+use Rattle.std.specs.Prelude.{is_some}
+use Rattle.hyphenation_commons.proofs.PatternsLemmas.{get-patterns_of, patterns_of-insert}
+use Rattle.dictionary_text.proofs.reader.Builder.add_pattern.Goals as goal
+
+pub returns-clause-had : goal.returns-clause-had
+returns-clause-had g c = c.in_ok-had.ensures.had ∙ ap is_some (sym (get-patterns_of c.args.self.now.patterns c.in_ok-had.ensures.trie.0 c.args.key.now))
+
+pub returns-clause-patterns : goal.returns-clause-patterns
+returns-clause-patterns g c = patterns_of-insert c.args.self.now.patterns c.insert.new.self c.args.key.now c.args.entries.now.items c.in_ok-had.ensures.trie.0 c.in_ok-had.ensures.trie.1 c.in_ok-had.ensures.ok

@@ -1,0 +1,12 @@
+pub mod Canonical
+pub mod Form
+pub mod Lines
+pub mod Tokens
+pub mod Items
+pub mod Judging
+pub mod Reading
+pub mod Refusals
+pub mod Edits
+pub mod Messages
+pub mod Laws
+pub mod Private

@@ -1,0 +1,13 @@
+-- What private functions and proofs are stated by. No contract of a public call cites it, so it is not for signing.
+pub mod Builder
+pub mod Edits
+pub mod Examples
+pub mod Judging
+pub mod Lines
+pub mod Matched
+pub mod Parsed
+pub mod Refusals
+pub mod LineAnswers
+pub mod Tokens
+pub mod Writing
+pub mod Ordered

@@ -1,0 +1,10 @@
+-- The tests of a line, the refusal of a text, and what an accepted text gives: what private functions and proofs need of it beside, and no public contract cites.
+use Rattle.std.specs.Prelude.{ℕ, List, [], ◌∷◌, Option, find}
+use Rattle.dictionary_text.specs.declared.form.Form.{Form}
+use Rattle.dictionary_text.specs.declared.Cause.{Cause}
+use Rattle.dictionary_text.specs.declared.Cause.TheVariants.{NotUtf8, Header, Language, Minima, UnknownLine}
+use Rattle.dictionary_text.specs.Judging.{fails}
+
+-- The first five of them.
+abbrev pub before_item : Form → ℕ → List ℕ → Option Cause
+before_item form number line = find (fails form number line) (NotUtf8 ∷ Header ∷ Language ∷ Minima ∷ UnknownLine ∷ [])

@@ -1,0 +1,85 @@
+-- What lines spell together, and the dictionary that an accepted text gives.
+use Rattle.std.specs.Prelude.{◌⊎◌, ◌≡◌, ℕ, List, [], ◌∷◌, map, Option, option_map, unwrap_or, slice_index_or}
+use Rattle.std.specs.List.{filter_map}
+use Rattle.std.specs.FinMap as finite
+use Rattle.hyphenation_commons.specs.Break.{Break, Change}
+use Rattle.hyphenation_commons.specs.Dictionary.{TextMap, Contents}
+use Rattle.dictionary_text.specs.Form.{version_of}
+use Rattle.dictionary_text.specs.declared.form.Kind.{Kind}
+use Rattle.dictionary_text.specs.declared.form.Kind.TheVariants.{Standard, Extended}
+use Rattle.dictionary_text.specs.declared.form.Version.{Version}
+use Rattle.dictionary_text.specs.Lines.{lines_of, language_of, minima_of}
+use Rattle.dictionary_text.specs.Items.{pattern_of_line, exception_of_line}
+use Rattle.hyphenation_commons.specs.declared.dictionary.Entry.{Entry}
+
+-- The texts that lines spell, each with what they say of it.
+abbrev pub map_of_lines : {X : Type 0} → (List ℕ → Option (List ℕ × X)) → List (List ℕ) → TextMap X
+map_of_lines spells lines = finite.from_entries (filter_map spells lines)
+
+-- The same said of each text in another way.
+abbrev pub spelt_as : {X Y : Type 0} → (X → Y) → (List ℕ → Option (List ℕ × List X)) → List ℕ → Option (List ℕ × List Y)
+spelt_as say spells line = option_map (λ x. (x.0, map say x.1)) (spells line)
+
+-- An entry as a dictionary of one kind holds it.
+abbrev pub entry_as : {C : Type 0} → (Option Change → C) → Entry (Option Change) → Entry C
+entry_as payload_of entry = record { place = entry.place; value = entry.value; change = payload_of entry.change }
+
+-- Keys with their entries, and words with their listed breaks.
+pub record SpeltItems (C B : Type 0) : Type 0 where
+  pub patterns : TextMap (List (Entry C))
+  pub exceptions : TextMap (List B)
+
+-- What lines spell, where a kind of dictionary holds a change by payload_of and a listed break by listing_of.
+abbrev pub items_of_lines : {C B : Type 0} → Version → (Option Change → C) → (Break → B) → List (List ℕ)
+    → SpeltItems C B
+items_of_lines version payload_of listing_of lines =
+    record {
+      patterns = map_of_lines (spelt_as (entry_as payload_of) (pattern_of_line version)) lines;
+      exceptions = map_of_lines
+          (spelt_as listing_of exception_of_line) lines;
+    }
+
+-- The dictionary that the lines of an accepted text of that version give.
+abbrev pub contents_in : {C B : Type 0} → Version → (Option Change → C) → (Break → B) → List (List ℕ) → Contents C B
+contents_in version payload_of listing_of lines =
+    let minima = unwrap_or (minima_of (slice_index_or lines 2 [])) (0, 0) in
+    record {
+      language = unwrap_or (language_of (slice_index_or lines 1 [])) [];
+      left = minima.0;
+      right = minima.1;
+      patterns = (items_of_lines version payload_of listing_of lines).patterns;
+      exceptions = (items_of_lines version payload_of listing_of lines).exceptions;
+    }
+
+-- The dictionary that the lines of an accepted text of that kind give.
+abbrev pub contents_of : {C B : Type 0} → Kind → (Option Change → C) → (Break → B) → List (List ℕ) → Contents C B
+contents_of kind payload_of listing_of lines = contents_in (version_of kind lines) payload_of listing_of lines
+
+-- A standard dictionary holds no change, and lists places.
+abbrev pub no_payload : Option Change → Unit {0}
+no_payload change = tt
+
+abbrev pub place_as_listing : Break → ℕ
+place_as_listing b = b.place
+
+abbrev pub standard_contents : List ℕ → Contents (Unit {0}) ℕ
+standard_contents bytes = contents_of Standard no_payload place_as_listing (lines_of bytes)
+
+-- An extended dictionary holds changes as they are.
+abbrev pub change_as_payload : Option Change → Option Change
+change_as_payload change = change
+
+abbrev pub break_as_listing : Break → ℕ × Option Change
+break_as_listing b = (b.place, b.change)
+
+abbrev pub extended_contents : List ℕ → Contents (Option Change) (ℕ × Option Change)
+extended_contents bytes = contents_of Extended change_as_payload break_as_listing (lines_of bytes)
+
+-- Some line is so.
+abbrev pub SomeLine : (List ℕ → Type 0) → List (List ℕ) → Type 0
+SomeLine P [] = ⊥
+SomeLine P (l ∷ ls) = P l ⊎ SomeLine P ls
+
+-- Each line of the first text stands in the second.
+abbrev pub AllAmong : List (List ℕ) → List (List ℕ) → Type 0
+AllAmong ls ms = (l : List ℕ) → SomeLine (λ m. m ≡ l) ls → SomeLine (λ m. m ≡ l) ms
