@@ -55,14 +55,14 @@ struct Builder<C: Payload, B: Listing> {
 
 impl<C: Payload, B: Listing> Builder<C, B> {
     /// Nothing yet, with room for a text of so many bytes: a text of patterns has six to eight bytes for each node,
-    /// and seldom more than one exception in 64 bytes.
+    /// and seldom more than one exception in 40 bytes.
     fn new(alloc: Global, bytes: usize) -> Result<Builder<C, B>, AllocError>
         ensures empty { IfOk result (λ builder. items_held builder ≡ no_items) }
         ensures begins { IfOk result (λ builder. EachBeginsKey builder.patterns) }
     {
         Ok(Builder {
             patterns: Trie::with_room(alloc, bytes / 6)?,
-            exceptions: Exceptions::with_room(alloc, bytes / 64)?,
+            exceptions: Exceptions::with_room(alloc, bytes / 40)?,
         })
     }
 

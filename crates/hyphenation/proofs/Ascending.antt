@@ -4,7 +4,7 @@ use Rattle.std.proofs.lemmas.Bool.{and_from, and_parts, or_cases, le-leb, leb-tr
 use Rattle.std.proofs.Math.Nat.{sub-zero}
 use Rattle.hyphenation_commons.specs.Break.{plain, ascend_on, is_boundary}
 use Rattle.dictionary_text.proofs.LineInvariant.{boundary_test}
-use Rattle.hyphenation.specs.Fits.{FitsFrom}
+use Rattle.hyphenation_segments.specs.Fits.{FitsFrom}
 
 -- From a least place on, by std's word for a boundary, which gives each place its facts.
 abbrev pub Ascend : List ℕ → ℕ → List ℕ → Type 0

@@ -3,10 +3,10 @@ use Rattle.std.proofs.Common.{◌≡◌, ℕ, List, [], ◌∷◌, ◌++◌, map
 use Rattle.std.specs.List.{concat}
 use Rattle.std.specs.Str.{IsUtf8}
 use Rattle.hyphenation_commons.specs.Break.{Break, plain}
-use Rattle.hyphenation.specs.Fits.{Fits}
-use Rattle.hyphenation.specs.Hyphenated.{marked_word, hyphenated_text}
-use Rattle.hyphenation.specs.Segments.{segments, marked_segments}
-use Rattle.hyphenation.proofs.SegmentsJoin as lemmas
+use Rattle.hyphenation_segments.specs.Fits.{Fits}
+use Rattle.hyphenation_segments.specs.Segments.{marked_word, segments, marked_segments}
+use Rattle.hyphenation.specs.Hyphenated.{hyphenated_text}
+use Rattle.hyphenation_segments.proofs.SegmentsJoin as lemmas
 use Rattle.hyphenation.proofs.PiecesJoin.{pieces_back}
 use Rattle.hyphenation.proofs.PlainBreaks.{ArePlain}
 

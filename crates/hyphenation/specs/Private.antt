@@ -1,11 +1,8 @@
 -- What private functions and proofs are stated by. No contract of a public call cites it, so it is not for signing.
-pub mod Remaining
 pub mod Engine
 pub mod Examples
-pub mod Fits
 pub mod Fitting
 pub mod Load
-pub mod ChangedSegments
 pub mod OnePass
 pub mod Opportunities
 pub mod Scoring

@@ -3,11 +3,12 @@
 ghost use Rattle.std.specs.Prelude.{◌≡◌, ◌++◌, List, [], ℕ, IfOk, OnOk, OnErr, IsUtf8};
 ghost use Rattle.std.specs.String.{string_bytes};
 ghost use Rattle.hyphenation_commons.specs.Break.{plain};
-ghost use Rattle.hyphenation.specs.Hyphenated.{hyphenated_text, marked_word};
+ghost use Rattle.hyphenation_segments.specs.Segments.{marked_word};
+ghost use Rattle.hyphenation.specs.Hyphenated.{hyphenated_text};
 ghost use Rattle.hyphenation.specs.Opportunities.{no_change, rules_of, all_breaks_of};
 
 use crate::hyphenator::Hyphenator;
-use crate::iter::push_marked;
+use hyphenation_segments::iter::push_marked;
 use hyphenation_commons::dictionary::Standard;
 use std::alloc::{AllocError, Global};
 use unicode_segmentation::UnicodeSegmentation;

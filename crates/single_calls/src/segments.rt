@@ -4,8 +4,8 @@ ghost use Rattle.std.specs.Prelude.{◌≡◌, ◌+◌, map, vec_len, IfOk, code
 ghost use Rattle.std.specs.List.{concat};
 ghost use Rattle.std.specs.String.{string_bytes};
 ghost use Rattle.hyphenation_commons.specs.Break.{plain};
-ghost use Rattle.hyphenation.specs.Fits.{Fits};
-ghost use Rattle.hyphenation.specs.Segments.{segments, marked_segments, with_marks};
+ghost use Rattle.hyphenation_segments.specs.Fits.{Fits};
+ghost use Rattle.hyphenation_segments.specs.Segments.{segments, marked_segments, with_marks};
 
 use hyphenation::Iter;
 use hyphenation::hyphenator::Word;

@@ -1,7 +1,7 @@
 -- Each of the breaks that fit a text stands in it.
 use Rattle.std.proofs.Common.{ℕ, ◌≡◌, ◌+◌, ◌<◌, List, [], ◌∷◌, map, length, refl, sym, ap, subst, arith, slice_index, get_or, IsCharBoundary, zero, suc}
 use Rattle.hyphenation_commons.specs.Break.{Break, plain, end_of}
-use Rattle.hyphenation.specs.Fits.{FitsFrom, Stands}
+use Rattle.hyphenation_segments.specs.Fits.{FitsFrom, Stands}
 use Rattle.uses.specs.Room.{places_of}
 
 pub on_boundaries : (text : List ℕ) (last_end least : ℕ) (places : List ℕ) → FitsFrom text last_end least (map plain places)

@@ -1,7 +1,7 @@
 -- A text with soft hyphens put in.
 use Rattle.std.specs.Prelude.{ℕ, List, [], ◌∷◌}
 use Rattle.hyphenation_commons.specs.Break.{Break}
-use Rattle.hyphenation.specs.Hyphenated.{marked_word}
+use Rattle.hyphenation_segments.specs.Segments.{marked_word}
 use Rattle.hyphenation.specs.SoftHyphens.{soft_hyphens}
 
 -- U+00AD in UTF-8.

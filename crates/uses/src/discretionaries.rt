@@ -2,7 +2,7 @@
 
 ghost use Rattle.std.specs.Prelude.{◌≡◌, ◌++◌, IfOk, map};
 ghost use Rattle.std.specs.String.{string_bytes};
-ghost use Rattle.hyphenation.specs.Fits.{Stands};
+ghost use Rattle.hyphenation_segments.specs.Fits.{Stands};
 ghost use Rattle.uses.specs.Discretionaries.{Parts, parts_at};
 
 use hyphenation::hyphenator::{Break, Word};

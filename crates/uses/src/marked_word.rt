@@ -2,7 +2,7 @@
 
 ghost use Rattle.std.specs.Prelude.{◌≡◌, IfOk};
 ghost use Rattle.std.specs.String.{string_bytes};
-ghost use Rattle.hyphenation.specs.Hyphenated.{marked_word};
+ghost use Rattle.hyphenation_segments.specs.Segments.{marked_word};
 
 use hyphenation::Hyphenator;
 use hyphenation::iter::push_marked;

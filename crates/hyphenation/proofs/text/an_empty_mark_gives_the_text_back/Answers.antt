@@ -1,6 +1,6 @@
 use Rattle.std.proofs.Common.{subst}
 use Rattle.hyphenation_commons.specs.Break.{plain}
-use Rattle.hyphenation.specs.Fits.{Fits}
+use Rattle.hyphenation_segments.specs.Fits.{Fits}
 use Rattle.hyphenation.specs.Opportunities.{no_change, rules_of, all_breaks_of}
 use Rattle.hyphenation.proofs.FittedBreaks.{breaks_fit}
 use Rattle.hyphenation.proofs.TextGivenBack.{given_back}

@@ -2,7 +2,8 @@ use Rattle.std.proofs.Common.{◌≡◌, ◌++◌}
 use Rattle.std.specs.List.{flat_map}
 use Rattle.std.specs.String.{string_bytes}
 use Rattle.unicode_segmentation.specs.Iter.{word_bounds_left}
-use Rattle.hyphenation.specs.Hyphenated.{hyphenated_text, marked_word}
+use Rattle.hyphenation_segments.specs.Segments.{marked_word}
+use Rattle.hyphenation.specs.Hyphenated.{hyphenated_text}
 use Rattle.hyphenation.proofs.text.hyphenated_text.Given as goal
 
 abbrev pub invariant-loop-piece : goal.invariant-loop-piece

@@ -1,7 +1,7 @@
 use Rattle.std.proofs.Common.{◌≡◌, ◌++◌, map, codes}
 use Rattle.std.specs.String.{string_bytes}
 use Rattle.hyphenation_commons.specs.Break.{plain}
-use Rattle.hyphenation.specs.Segments.{segments, marked_segments}
+use Rattle.hyphenation_segments.specs.Segments.{segments, marked_segments}
 use Rattle.single_calls.proofs.segments.all_marked.Given as goal
 
 abbrev pub invariant-loop-item : goal.invariant-loop-item

@@ -1,7 +1,7 @@
 use Rattle.std.proofs.Common.{◌≡◌, ◌++◌}
 use Rattle.std.specs.List.{concat}
 use Rattle.std.specs.String.{string_bytes}
-use Rattle.hyphenation.specs.Segments.{marked_segments}
+use Rattle.hyphenation_segments.specs.Segments.{marked_segments}
 use Rattle.single_calls.proofs.segments.marked_text.Given as goal
 
 abbrev pub invariant-loop-item : goal.invariant-loop-item

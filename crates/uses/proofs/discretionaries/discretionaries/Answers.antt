@@ -1,5 +1,5 @@
 use Rattle.std.proofs.Common.{map, sym, subst}
-use Rattle.hyphenation.specs.Fits.{Fits}
+use Rattle.hyphenation_segments.specs.Fits.{Fits}
 use Rattle.uses.proofs.PlacesOfBreaks.{each_stands}
 use Rattle.uses.proofs.discretionaries.discretionaries.Goals as goal
 

@@ -1,0 +1,3 @@
+pub mod SegmentSteps
+pub mod SegmentsJoin
+pub mod Pushing

@@ -1,0 +1,33 @@
+-- What is true of all segments.
+use Rattle.std.specs.Prelude.{◌≡◌, ℕ, ◌+◌, ◌≤◌, List, map, length, slice_get, Some}
+use Rattle.std.specs.List.{concat}
+use Rattle.hyphenation_commons.specs.Break.{Break, plain}
+use Rattle.hyphenation_segments.specs.Fits.{Fits}
+use Rattle.hyphenation_segments.specs.ChangedSegments.{made_segments}
+use Rattle.hyphenation_segments.specs.Segments.{segments, segment_between, with_ends, break_number, marked_segments, with_marks}
+
+-- A segment is given by its two neighbouring breaks alone, where the two ends of the text count as breaks.
+abbrev pub IsGivenByNeighbours : Type 0
+IsGivenByNeighbours = (text : List ℕ) (breaks : List Break) (number : ℕ) → number ≤ length breaks →
+    slice_get (segments text breaks) number
+    ≡ Some (segment_between text (break_number (with_ends text breaks) number)
+    (break_number (with_ends text breaks) (number + 1)))
+
+-- There is one more segment than there are breaks.
+abbrev pub IsOneMore : Type 0
+IsOneMore = (text : List ℕ) (breaks : List Break) → length (segments text breaks) ≡ length breaks + 1
+
+-- The segments at plain breaks join to the text.
+abbrev pub JoinsToText : Type 0
+JoinsToText = (text places : List ℕ) → Fits text (map plain places) → concat (segments text (map plain places)) ≡ text
+
+-- The marked segments at plain breaks join to the text with the mark at each break and nowhere else.
+abbrev pub JoinsToMarkedText : Type 0
+JoinsToMarkedText =
+    (mark text places : List ℕ) → Fits text (map plain places)
+    → concat (marked_segments mark (segments text (map plain places))) ≡ with_marks mark text places
+
+-- The segments that are made are the segments of the text.
+abbrev pub MadeAreSegments : Type 0
+MadeAreSegments =
+    (text : List ℕ) (breaks : List Break) → map (λ made. made.0) (made_segments text breaks) ≡ segments text breaks

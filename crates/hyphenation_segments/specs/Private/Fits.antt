@@ -1,0 +1,16 @@
+-- The breaks that fit a text: what private functions and proofs need of it beside, and no public contract cites.
+use Rattle.std.specs.Prelude.{ℕ, ◌+◌, List, [], ◌∷◌}
+use Rattle.std.specs.Coded.{×_prop, Unit-prop}
+use Rattle.std.proofs.Props.{props}
+use Rattle.hyphenation_commons.specs.Break.{Break, end_of}
+use Rattle.hyphenation_segments.specs.Fits.{Stands, FitsFrom}
+
+-- Any two proofs that a break stands in a text, or that breaks fit it, are equal.
+pub Stands-prop : (text : List ℕ) (last_end least : ℕ) (b : Break) → IsProp (Stands text last_end least b)
+Stands-prop text last_end least b = hlevel props
+
+pub FitsFrom-prop : (text : List ℕ) (last_end least : ℕ) (breaks : List Break)
+    → IsProp (FitsFrom text last_end least breaks)
+FitsFrom-prop text last_end least [] = Unit-prop
+FitsFrom-prop text last_end least (b ∷ bs) =
+    ×_prop (Stands-prop text last_end least b) (FitsFrom-prop text (end_of b) (b.place + 1) bs)

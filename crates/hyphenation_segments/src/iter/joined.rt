@@ -1,0 +1,67 @@
+//! The marked segments of a word, joined after a text, with no text of their own.
+
+ghost use Rattle.std.specs.Prelude.{◌≡◌, ◌++◌, map, slice_range, IfOk, OnOk};
+ghost use Rattle.std.specs.Str.{IsCharBoundary};
+ghost use Rattle.std.specs.String.{string_bytes};
+ghost use Rattle.hyphenation_commons.specs.Break.{begin_of, end_of, before_of, after_of};
+ghost use Rattle.hyphenation_segments.specs.Fits.{Fits, Stands};
+ghost use Rattle.hyphenation_segments.specs.Segments.{marked_word};
+
+use crate::words::Word;
+use hyphenation_commons::breaks::Break;
+use std::alloc::AllocError;
+
+/// Appends what stands between a place and the end of a break's range, with the mark at the break. Where the range ends.
+fn push_break<B: Break>(
+    output: &mut String,
+    text: &str,
+    start: usize,
+    b: &B,
+    mark: &str,
+) -> Result<usize, AllocError>
+    requires start { IsCharBoundary text.now start }
+    requires stands { Stands text.now start 0 (B.meaning b.now) }
+    ensures appended { OnOk result (string_bytes output.new ≡ string_bytes output.old ++ slice_range text.now start
+        (begin_of (B.meaning b.now)) ++ before_of (B.meaning b.now).change ++ mark.now ++ after_of (B.meaning
+        b.now).change) }
+    ensures end { IfOk result (λ end. end ≡ end_of (B.meaning b.now)) }
+{
+    let (begin, end) = b.range().unwrap();
+    output.push_str(&text[start..begin])?;
+    output.push_str(b.before())?;
+    output.push_str(mark)?;
+    output.push_str(b.after())?;
+    Ok(end)
+}
+
+/// Appends the segments of a text at breaks that fit it, each but the last with the mark after it.
+fn push_segments<B: Break>(
+    output: &mut String,
+    text: &str,
+    breaks: &[B],
+    mark: &str,
+) -> Result<(), AllocError>
+    requires { Fits text.now (map B.meaning breaks.now) }
+    ensures { OnOk result (string_bytes output.new ≡ string_bytes output.old ++ marked_word mark.now text.now
+        (map B.meaning breaks.now)) }
+{
+    let mut start = 0;
+    for b in breaks {
+        start = push_break(output, text, start, b, mark)?;
+    }
+    output.push_str(&text[start..])
+}
+
+/// Appends the segments of a word, each but the last with the mark after it.
+///
+/// The only error is memory, and then a beginning of them may stand after the text.
+pub fn push_marked<B: Break>(
+    output: &mut String,
+    word: &Word<'_, B>,
+    mark: &str,
+) -> Result<(), AllocError>
+    ensures { OnOk result (string_bytes output.new ≡ string_bytes output.old ++ marked_word mark.now word.now.text.now
+        (map B.meaning word.now.breaks.items)) }
+{
+    push_segments(output, word.text, &word.breaks, mark)
+}

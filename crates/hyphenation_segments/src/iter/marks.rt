@@ -1,0 +1,195 @@
+//! Segments with a mark after each but the last.
+
+ghost use Rattle.std.specs.Prelude.{◌≡◌, ℕ, ◌++◌, List, map, length, IfOk, Some, IfSome, ⊤, codes};
+ghost use Rattle.std.specs.Iterator.{item_count, UpTo, at_most};
+ghost use Rattle.std.specs.Iterator.SizeHint.{IsWithinCount};
+ghost use Rattle.std.specs.String.{string_bytes};
+ghost use Rattle.hyphenation_commons.specs.Break.{plain};
+ghost use Rattle.hyphenation_segments.specs.Segments.{marked_segments, mark_if_more, segments};
+ghost use Rattle.hyphenation_segments.specs.Remaining.{GivesMarked};
+ghost use Rattle.hyphenation_segments.specs.ChangedSegments.{made_segments};
+
+use crate::words::Word;
+use crate::iter::{SegmentText, Segments, SegmentsExt, Texts};
+use hyphenation_commons::extended::Subregion;
+use std::alloc::{AllocError, Global};
+use std::iter::Copied;
+use std::marker::Model;
+use std::{slice, vec};
+
+/// The texts of an iterator, each but the last with a mark after it: the mark that is set when the text is taken. To
+/// contracts it is the iterator and the mark.
+#[derive(Drop)]
+pub struct Hyphenating<'m, I> {
+    alloc: Global,
+    inner: I,
+    mark: &'m str,
+}
+
+impl<'m, I> Model for Hyphenating<'m, I> {
+    ghost use Rattle.std.specs.Prelude.{List, ℕ};
+
+    ghost Value = { I × List ℕ };
+
+    ghost view = { λ h. (h.inner, h.mark.now) };
+}
+
+impl<'m, I: Texts> Hyphenating<'m, I> {
+    /// The texts of an iterator with the mark `-`.
+    pub fn new(alloc: Global, iter: I) -> Hyphenating<'m, I>
+        ensures { result ≡ (iter, codes "-") }
+    {
+        Hyphenating {
+            alloc,
+            inner: iter,
+            mark: "-",
+        }
+    }
+
+    /// The iterator inside as it stands, which gives the texts to come without marks.
+    pub fn segments(self) -> I
+        ensures { result ≡ self.entry.0 }
+    {
+        let Hyphenating {
+            alloc: _,
+            inner,
+            mark: _,
+        } = self;
+        inner
+    }
+
+    /// Sets the mark for the texts that are still to come.
+    pub fn mark_with(&mut self, mark: &'m str)
+        ensures { self.new ≡ (self.old.0, mark.now) }
+    {
+        self.mark = mark;
+    }
+}
+
+// The mark, where more texts are to come.
+fn mark_after<'m, I: Texts>(texts: &I, mark: &'m str) -> &'m str
+    ensures { result.now ≡ mark_if_more mark.now (I.texts texts.now) }
+{
+    if texts.left() > 0 { mark } else { "" }
+}
+
+// A text with its mark.
+fn with_mark(alloc: Global, text: &str, mark: &str) -> Result<String, AllocError>
+    ensures { IfOk result (λ item. string_bytes item ≡ text.now ++ mark.now) }
+{
+    let mut item = String::from_str(alloc, text)?;
+    item.push_str(mark)?;
+    Ok(item)
+}
+
+impl<'m, I: Texts> Iterator for Hyphenating<'m, I> {
+    type Item = Result<String, AllocError>;
+
+    ghost next_gives = { λ s item t. GivesMarked (marked_segments s.1 (I.texts s.0)) item (marked_segments t.1 (I.texts t.0)) × (t.1 ≡ s.1) };
+
+    ghost remaining = { item_count (λ s. I.texts s.0) };
+
+    /// The next text with its mark, or an error in its place where the memory for it is refused, here or by the iterator
+    /// inside; the later ones are what they would have been. After the last one it gives `None`, as often as it is
+    /// asked, and takes nothing more from the iterator inside.
+    fn next(&mut self) -> Option<Result<String, AllocError>> {
+        let alloc = self.alloc;
+        if self.inner.left() == 0 {
+            return None;
+        }
+        let segment = self.inner.pull()?;
+        let mark = mark_after(&self.inner, self.mark);
+        match segment.text() {
+            Ok(text) => Some(with_mark(alloc, text, mark)),
+            Err(error) => Some(Err(error)),
+        }
+    }
+
+    /// The number of texts to come, as both bounds.
+    fn size_hint(&self) -> (usize, Option<usize>)
+        ensures lower { IsWithinCount result.0 (at_most (length (I.texts self.now.0))) }
+        ensures upper { IfSome result.1 (UpTo (at_most (length (I.texts self.now.0)))) }
+        ensures exact { result ≡ (length (I.texts self.now.0), Some (length (I.texts self.now.0))) }
+    {
+        let left = self.len();
+        (left, Some(left))
+    }
+}
+
+impl<'m, I: Texts> ExactSizeIterator for Hyphenating<'m, I> {
+    /// The number of texts to come.
+    fn len(&self) -> usize {
+        self.inner.left()
+    }
+}
+
+impl<'m, 't> Clone for Hyphenating<'m, Segments<'t, Copied<slice::Iter<'t, usize>>>> {
+    ghost is_clone = { λ s t. t ≡ s };
+
+    ghost is_infallible = { λ _. ⊤ };
+
+    /// The same texts to come, with the same mark.
+    fn clone(&self) -> Result<Self, AllocError> {
+        Ok(Hyphenating {
+            alloc: self.alloc,
+            inner: self.inner.clone()?,
+            mark: self.mark,
+        })
+    }
+}
+
+/// A word whose segments can be gone through while it is borrowed.
+pub trait Iter<'t> {
+    type Iter;
+
+    /// The segments of the word, and the mark.
+    ghost iter_gives: { Self → Self.Iter × List ℕ → Type 0 };
+
+    /// The segments of the word, each but the last with a mark after it, at first `-`.
+    fn iter(&'t self) -> Hyphenating<'t, Self::Iter>
+        ensures { iter_gives self.now result };
+}
+
+impl<'t> Iter<'t> for Word<'t, usize> {
+    type Iter = Segments<'t, Copied<slice::Iter<'t, usize>>>;
+
+    ghost iter_gives = { λ word result. result ≡ (segments word.text.now (map plain word.breaks.items), codes "-") };
+
+    fn iter(&'t self) -> Hyphenating<'t, Self::Iter> {
+        let alloc = *self.breaks.allocator();
+        Hyphenating::new(alloc, Segments::new(self.text, self.breaks.iter().copied()))
+    }
+}
+
+impl<'t> IntoIterator for Word<'t, usize> {
+    type Item = Result<String, AllocError>;
+
+    type IntoIter = Hyphenating<'t, Segments<'t, vec::IntoIter<usize>>>;
+
+    ghost into_iter_gives = { λ word result. result ≡ (segments word.text.now (map plain word.breaks.items), codes "-") };
+
+    /// The segments of the word, each but the last with a mark after it, at first `-`.
+    fn into_iter(self) -> Self::IntoIter {
+        let Word { text, breaks } = self;
+        let alloc = *breaks.allocator();
+        Hyphenating::new(alloc, Segments::new(text, breaks.into_iter()))
+    }
+}
+
+impl<'t> IntoIterator for Word<'t, (usize, Option<&'t Subregion>)> {
+    ghost use Rattle.std.specs.Option.{option_copied};
+    ghost use Rattle.hyphenation_commons.specs.Break.{changed_by};
+
+    type Item = Result<String, AllocError>;
+
+    type IntoIter = Hyphenating<'t, SegmentsExt<'t, vec::IntoIter<(usize, Option<&'t Subregion>)>>>;
+
+    ghost into_iter_gives = { λ word result. result ≡ (made_segments word.text.now (map (λ b. changed_by b.0 (option_copied b.1)) word.breaks.items), codes "-") };
+
+    /// The segments of the word, each but the last with a mark after it, at first `-`.
+    fn into_iter(self) -> Self::IntoIter {
+        let Word { text, breaks } = self;
+        let alloc = *breaks.allocator();
+        Hyphenating::new(alloc, SegmentsExt::new(alloc, text, breaks.into_iter()))
+    }
+}

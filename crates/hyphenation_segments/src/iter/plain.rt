@@ -1,0 +1,133 @@
+//! The segments of a text at plain breaks.
+
+ghost use Rattle.std.specs.Prelude.{◌≡◌, false, Some, IfSome, ⊤, length};
+ghost use Rattle.std.specs.Iterator.{YieldsFirstRef, item_count, UpTo, at_most};
+ghost use Rattle.std.specs.Iterator.SizeHint.{IsWithinCount};
+ghost use Rattle.hyphenation_segments.specs.Fits.{Fits};
+ghost use Rattle.hyphenation_segments.specs.Segments.{segments};
+ghost use Rattle.hyphenation_segments.specs.Remaining.{TakesFirstOrRefuses};
+
+use crate::iter::{Breaks, Texts};
+use std::alloc::AllocError;
+use std::iter::Copied;
+use std::marker::Model;
+use std::slice;
+
+/// The segments of a text at plain breaks, each borrowed from the text. To contracts it is the list of the segments to
+/// come.
+#[derive(Drop)]
+pub struct Segments<'t, I: Breaks<Item = usize>> {
+    text: &'t str,
+    breaks: I,
+    // The place of the last break, 0 before the first one, and nothing after the last segment.
+    start: Option<usize>,
+}
+
+impl<'t, I: Breaks<Item = usize>> Model for Segments<'t, I> {
+    ghost use Rattle.std.specs.Prelude.{List, ℕ};
+    ghost use Rattle.hyphenation_segments.specs.Private.Remaining.{segments_from, FitsAfter, MayAsk};
+
+    ghost Value = { List (List ℕ) };
+
+    ghost view = { λ s. segments_from s.text.now s.start (I.to_come s.breaks) };
+
+    ghost invariant = { λ s. FitsAfter s.text.now s.start (I.to_come s.breaks) × MayAsk s.start (I.is_over s.breaks) };
+}
+
+impl<'t, I: Breaks<Item = usize>> Segments<'t, I> {
+    /// All segments of the text, at breaks that fit it as `Word::fits` says, of a list that has not answered yet that it
+    /// is empty.
+    pub fn new(text: &'t str, breaks: I) -> Segments<'t, I>
+        requires fits { Fits text.now (I.to_come breaks) }
+        requires open { I.is_over breaks ≡ false }
+        ensures { result ≡ segments text.now (I.to_come breaks) }
+    {
+        Segments {
+            text,
+            breaks,
+            start: Some(0),
+        }
+    }
+}
+
+impl<'t, I: Breaks<Item = usize>> Iterator for Segments<'t, I> {
+    type Item = &'t str;
+
+    ghost next_gives = { YieldsFirstRef (λ s. s) };
+
+    ghost remaining = { item_count (λ s. s) };
+
+    /// The next segment; after the last one `None`, as often as it is asked, and the breaks are asked no more.
+    fn next(&mut self) -> Option<&'t str> {
+        let start = self.start?;
+        let text = self.text;
+        match self.breaks.pull() {
+            None => {
+                self.start = None;
+                Some(&text[start..])
+            }
+            Some(place) => {
+                self.start = Some(place);
+                Some(&text[start..place])
+            }
+        }
+    }
+
+    /// The number of segments to come, as both bounds.
+    fn size_hint(&self) -> (usize, Option<usize>)
+        ensures lower { IsWithinCount result.0 (at_most (length self.now)) }
+        ensures upper { IfSome result.1 (UpTo (at_most (length self.now))) }
+        ensures exact { result ≡ (length self.now, Some (length self.now)) }
+    {
+        let left = self.len();
+        (left, Some(left))
+    }
+}
+
+impl<'t, I: Breaks<Item = usize>> ExactSizeIterator for Segments<'t, I> {
+    /// The number of segments to come.
+    fn len(&self) -> usize {
+        match self.start {
+            None => 0,
+            Some(_) => {
+                // Breaks that fit are no more than the text's places, so that the sum stays in range.
+                let _text_len = self.text.len();
+                self.breaks.left() + 1
+            }
+        }
+    }
+}
+
+impl<'t, I: Breaks<Item = usize>> Texts for Segments<'t, I> {
+    type Item = &'t str;
+
+    ghost texts = { λ s. s };
+
+    /// What `next` gives.
+    fn pull(&mut self) -> Option<&'t str>
+        ensures first { TakesFirstOrRefuses (λ text. Some text.now) (λ s. s) self.old result self.new }
+        ensures as_next { YieldsFirstRef (λ s. s) self.old result self.new }
+    {
+        self.next()
+    }
+
+    /// What `len` gives.
+    fn left(&self) -> usize {
+        self.len()
+    }
+}
+
+impl<'t> Clone for Segments<'t, Copied<slice::Iter<'t, usize>>> {
+    ghost is_clone = { λ s t. t ≡ s };
+
+    ghost is_infallible = { λ _. ⊤ };
+
+    /// The same segments to come.
+    fn clone(&self) -> Result<Self, AllocError> {
+        Ok(Segments {
+            text: self.text,
+            breaks: self.breaks.clone()?,
+            start: self.start,
+        })
+    }
+}
