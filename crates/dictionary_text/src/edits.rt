@@ -15,9 +15,9 @@ ghost use Rattle.dictionary_text.specs.Edits.{FourTests, LastDecides, VersionsAg
 ghost use Rattle.dictionary_text.specs.Private.Edits.{ReadsException};
 ghost use Rattle.dictionary_text.specs.Edits.{as_line, after_edit, has_feed, is_good_edit, is_sound_line, is_word_alone, with_exception, without_exception};
 
-use hyphenation_commons::dictionary::{Dictionary, Listing, Payload};
 use crate::form::{Form, Kind, Version};
 use crate::items::{Fault, exception_of};
+use hyphenation_commons::dictionary::{Dictionary, Listing, Payload};
 use std::alloc::{AllocError, Global};
 
 /// Does what an edit says to a dictionary of that kind. Whether the edit is good: where it is not, the dictionary is

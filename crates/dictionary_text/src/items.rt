@@ -13,15 +13,13 @@ ghost use Rattle.dictionary_text.specs.Private.Matched.{ascend, cause_before_mat
 ghost use Rattle.dictionary_text.specs.Private.Parsed.{exception_parts, no_later, pattern_parts, read_later, pattern_view, later_view};
 ghost use Rattle.dictionary_text.specs.Private.LineAnswers.{Answers, IsFault, AnswersException, IsItemOf, breaks_listed, entries_of, exception_cause, suits_word, suits_form, places_cause};
 
-use hyphenation_commons::dictionary::{Entry, Listing, Payload};
-use hyphenation_commons::extended::Subregion;
 use crate::Cause;
 use crate::form::{Form, Kind, Version};
-use crate::lines::{
-    first_token, is_head, language_of, minima_of, starts_with, strip_prefix,
-};
+use crate::lines::{first_token, is_head, language_of, minima_of, starts_with, strip_prefix};
 use crate::pattern::{PatternRoom, PatternToken, pattern_of};
 use crate::tokens::{LaterToken, is_boundary, later_token, string_of};
+use hyphenation_commons::dictionary::{Entry, Listing, Payload};
+use hyphenation_commons::extended::Subregion;
 use std::alloc::{AllocError, Global};
 use std::mem;
 use std::vec::IntoIter;

@@ -15,12 +15,12 @@ ghost use Rattle.dictionary_text.specs.Private.Refusals.{at_number};
 ghost use Rattle.dictionary_text.specs.Private.LineAnswers.{IsItemOf};
 ghost use Rattle.hyphenation_trie.specs.Trie.{EachBeginsKey};
 
-use hyphenation_commons::dictionary::{Dictionary, Entry, Extended, Listing, Payload, Standard};
-use hyphenation_commons::exceptions::Exceptions;
 use crate::Cause;
 use crate::form::{Form, Kind, Version};
 use crate::items::{Fault, Item, Scratch, is_utf8, item_of};
 use crate::lines::{is_head, language_of, minima_of, next_line, version_by};
+use hyphenation_commons::dictionary::{Dictionary, Entry, Extended, Listing, Payload, Standard};
+use hyphenation_commons::exceptions::Exceptions;
 use hyphenation_commons::language::Language;
 use hyphenation_trie::Trie;
 use std::alloc::{AllocError, Global};

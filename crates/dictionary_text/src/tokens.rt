@@ -11,8 +11,8 @@ ghost use Rattle.dictionary_text.specs.Private.Parsed.{later_token, parted_token
 ghost use Rattle.dictionary_text.specs.Tokens.{bytes_added, escaped_also, element_of, meaning, parts_of, parts_within, escaped_bytes_of, text_spelt};
 ghost use Rattle.dictionary_text.specs.Private.Tokens.{is_itself};
 
-use hyphenation_commons::extended::Subregion;
 use crate::lines::number_of;
+use hyphenation_commons::extended::Subregion;
 use std::alloc::{AllocError, Global};
 
 /// Which letters may stand after a backslash.

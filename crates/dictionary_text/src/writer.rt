@@ -16,14 +16,14 @@ ghost use Rattle.dictionary_text.specs.declared.tokens.Escapes.TheVariants.{Plai
 ghost use Rattle.dictionary_text.specs.declared.tokens.PatternElement.TheVariants.{Value};
 ghost use Rattle.dictionary_text.specs.Tokens.{pattern_escapes};
 
-use hyphenation_commons::dictionary::{Dictionary, Entry, Extended, Listing, Payload, Standard};
-use hyphenation_commons::extended::Subregion;
 use crate::form::{Form, Kind, Version};
 use crate::laws::written_is_read_again;
 use crate::lines::head_of;
 use crate::order::in_order;
 use crate::pattern::pattern_escapes;
 use crate::tokens::{Escapes, escaped_also};
+use hyphenation_commons::dictionary::{Dictionary, Entry, Extended, Listing, Payload, Standard};
+use hyphenation_commons::extended::Subregion;
 use hyphenation_commons::language::Language;
 use std::alloc::{AllocError, Global};
 

@@ -12,10 +12,10 @@ mod whole;
 
 use crate::load::{Error, Load};
 use crate::score::Score;
-use hyphenation_commons::dictionary::{Extended, Standard};
-use hyphenation_commons::extended::Subregion;
 pub use dictionary_text::form::Kind;
 pub use dictionary_text::number_of;
+use hyphenation_commons::dictionary::{Extended, Standard};
+use hyphenation_commons::extended::Subregion;
 use hyphenation_commons::language::Language;
 use std::alloc::{AllocError, Global};
 use std::io;

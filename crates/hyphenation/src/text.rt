@@ -8,8 +8,8 @@ ghost use Rattle.hyphenation.specs.Hyphenated.{hyphenated_text};
 ghost use Rattle.hyphenation.specs.Opportunities.{no_change, rules_of, all_breaks_of};
 
 use crate::hyphenator::Hyphenator;
-use hyphenation_segments::iter::push_marked;
 use hyphenation_commons::dictionary::Standard;
+use hyphenation_segments::iter::push_marked;
 use std::alloc::{AllocError, Global};
 use unicode_segmentation::UnicodeSegmentation;
 

@@ -110,11 +110,7 @@ impl<B: Drop> Exceptions<B> {
     }
 
     /// Gives a word a list, and answers the one that it had. Nothing else changes; after an error nothing has.
-    pub fn insert(
-        &mut self,
-        word: String,
-        listed: Vec<B>,
-    ) -> Result<Option<Vec<B>>, AllocError>
+    pub fn insert(&mut self, word: String, listed: Vec<B>) -> Result<Option<Vec<B>>, AllocError>
         ensures ok { OnOk result (self.new ≡ finite.insert self.old (string_bytes word) listed.items) }
         ensures old { IfOk result (λ old. option_map (λ v. v.items) old ≡ finite.get self.old (string_bytes word)) }
         ensures err { OnErr result (self.new ≡ self.old) }

@@ -1,10 +1,10 @@
 //! Dictionary texts read, and written again.
 
-use hyphenation_commons::dictionary::{Extended, Standard};
-use hyphenation_commons::extended::Subregion;
 use dictionary_text::Cause;
 use dictionary_text::reader::{Refusal, read_extended, read_standard};
 use dictionary_text::writer::{write_extended, write_standard};
+use hyphenation_commons::dictionary::{Extended, Standard};
+use hyphenation_commons::extended::Subregion;
 use std::alloc::{AllocError, Global};
 use std::test::Fail;
 

@@ -1,10 +1,10 @@
 //! Edits of the exceptions of a dictionary, judged and done one by one.
 
-use hyphenation_commons::dictionary::{Extended, Standard};
-use hyphenation_commons::extended::Subregion;
 use dictionary_text::edits::apply_edit;
 use dictionary_text::form::Kind;
 use dictionary_text::reader::{read_extended, read_standard};
+use hyphenation_commons::dictionary::{Extended, Standard};
+use hyphenation_commons::extended::Subregion;
 use std::alloc::Global;
 use std::test::Fail;
 

@@ -1,10 +1,10 @@
 //! Patterns with a change at each of twenty thousand places.
 
+use dictionary_text::Cause;
+use dictionary_text::reader::{Refusal, read_extended};
 use hyphenation::score::Score;
 use hyphenation_commons::dictionary::Extended;
 use hyphenation_commons::extended::Subregion;
-use dictionary_text::Cause;
-use dictionary_text::reader::{Refusal, read_extended};
 use std::alloc::{AllocError, Global};
 use std::test::Fail;
 

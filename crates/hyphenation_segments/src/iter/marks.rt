@@ -9,8 +9,8 @@ ghost use Rattle.hyphenation_segments.specs.Segments.{marked_segments, mark_if_m
 ghost use Rattle.hyphenation_segments.specs.Remaining.{GivesMarked};
 ghost use Rattle.hyphenation_segments.specs.ChangedSegments.{made_segments};
 
-use crate::words::Word;
 use crate::iter::{SegmentText, Segments, SegmentsExt, Texts};
+use crate::words::Word;
 use hyphenation_commons::extended::Subregion;
 use std::alloc::{AllocError, Global};
 use std::iter::Copied;
