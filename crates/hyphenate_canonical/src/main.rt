@@ -25,7 +25,9 @@ fn put_in_order<D: Load + Drop, R: Read, W: Write>(
     output: &mut W,
 ) -> Result<()>
     ensures accepted { OnOk result (IfSome (R.remaining input.old) (λ bytes. D.refusal bytes ≡ None)) }
-    ensures written { OnOk result (IfSome (R.remaining input.old) (λ bytes. (dictionary : D) × D.is_given bytes dictionary × Appends (W.contents output.old) (W.contents output.new) (D.canonical dictionary))) }
+    ensures written { OnOk result (IfSome (R.remaining input.old) (λ bytes.
+        (dictionary : D) × D.is_given bytes dictionary
+        × Appends (W.contents output.old) (W.contents output.new) (D.canonical dictionary))) }
 {
     let dictionary = D::any_from_reader(alloc, input)?;
     dictionary.to_writer(alloc, output)

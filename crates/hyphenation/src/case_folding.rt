@@ -57,7 +57,9 @@ pub fn refold<'t>(alloc: Global, original: &'t str) -> Result<(CowStr<'t>, Vec<S
         return Ok((CowStr::Borrowed(original), shifts));
     };
     let (unchanged, rest) = original.split_at(start);
-    let mut folded = String::from_str(alloc, unchanged)?;
+    // Most words fold to as many bytes.
+    let mut folded = String::with_capacity(alloc, original.len())?;
+    folded.push_str(unchanged)?;
     let mut written = start;
     for c in rest.chars() {
         let index = folded.len();

@@ -33,9 +33,15 @@ impl<C: Payload, B: Listing> Model for Parts<C, B> {
 
     ghost Value = { Spelled C B };
 
-    ghost view = { λ p. record { patterns = map pair_of p.patterns.items; exceptions = map pair_of p.exceptions.items } };
+    ghost view = { λ p.
+        record {
+          patterns = map pair_of p.patterns.items;
+          exceptions = map pair_of p.exceptions.items;
+        } };
 
-    ghost invariant = { λ p. All (λ k. IsTrue (fits_key C.change_of (string_bytes k.0) k.1.items)) p.patterns.items × All (λ e. IsTrue (are_listed B.meaning (string_bytes e.0) e.1.items)) p.exceptions.items };
+    ghost invariant = { λ p.
+        All (λ k. IsTrue (fits_key C.change_of (string_bytes k.0) k.1.items)) p.patterns.items
+        × All (λ e. IsTrue (are_listed B.meaning (string_bytes e.0) e.1.items)) p.exceptions.items };
 }
 
 impl<C: Payload, B: Listing> Parts<C, B> {

@@ -51,7 +51,8 @@ fn joined_segments(alloc: Global, text: &str, breaks: &[usize]) -> Result<String
 }
 
 fn marked_text<I: Texts>(alloc: Global, items: Hyphenating<'_, I>) -> Result<String, AllocError>
-    ensures { IfOk result (λ joined. string_bytes joined ≡ concat (marked_segments items.entry.1 (I.texts items.entry.0))) }
+    ensures { IfOk result (λ joined.
+        string_bytes joined ≡ concat (marked_segments items.entry.1 (I.texts items.entry.0))) }
 {
     let mut joined = String::new(alloc);
     for item in items {

@@ -18,8 +18,8 @@ fn push_piece<'h, H: Hyphenator<'h>>(
     dictionary: &'h H,
     piece: &str,
 ) -> Result<(), AllocError>
-    ensures { OnOk result (string_bytes page.new ≡ string_bytes page.old ++ with_soft_hyphens (H.breaks_of dictionary.now)
-        piece.now) }
+    ensures { OnOk result (string_bytes page.new
+        ≡ string_bytes page.old ++ with_soft_hyphens (H.breaks_of dictionary.now) piece.now) }
 {
     let alloc = *page.allocator();
     match soft_hyphen_indices(alloc, piece)? {

@@ -40,7 +40,9 @@ impl<'t, I: Breaks> Model for SegmentsExt<'t, I> {
 
     ghost view = { λ s. made_from s.text.now s.start (option_map I.Item.meaning s.last) (I.to_come s.breaks) };
 
-    ghost invariant = { λ s. FitsAfterLast s.text.now s.start (option_map I.Item.meaning s.last) (I.to_come s.breaks) × MayAsk s.start (I.is_over s.breaks) };
+    ghost invariant = { λ s.
+        FitsAfterLast s.text.now s.start (option_map I.Item.meaning s.last) (I.to_come s.breaks)
+        × MayAsk s.start (I.is_over s.breaks) };
 }
 
 impl<'t, I: Breaks> SegmentsExt<'t, I> {

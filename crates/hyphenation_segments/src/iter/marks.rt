@@ -85,7 +85,8 @@ fn with_mark(alloc: Global, text: &str, mark: &str) -> Result<String, AllocError
 impl<'m, I: Texts> Iterator for Hyphenating<'m, I> {
     type Item = Result<String, AllocError>;
 
-    ghost next_gives = { λ s item t. GivesMarked (marked_segments s.1 (I.texts s.0)) item (marked_segments t.1 (I.texts t.0)) × (t.1 ≡ s.1) };
+    ghost next_gives = { λ s item t.
+        GivesMarked (marked_segments s.1 (I.texts s.0)) item (marked_segments t.1 (I.texts t.0)) × (t.1 ≡ s.1) };
 
     ghost remaining = { item_count (λ s. I.texts s.0) };
 
@@ -166,7 +167,8 @@ impl<'t> IntoIterator for Word<'t, usize> {
 
     type IntoIter = Hyphenating<'t, Segments<'t, vec::IntoIter<usize>>>;
 
-    ghost into_iter_gives = { λ word result. result ≡ (segments word.text.now (map plain word.breaks.items), codes "-") };
+    ghost into_iter_gives = { λ word result.
+        result ≡ (segments word.text.now (map plain word.breaks.items), codes "-") };
 
     /// The segments of the word, each but the last with a mark after it, at first `-`.
     fn into_iter(self) -> Self::IntoIter {
@@ -184,7 +186,9 @@ impl<'t> IntoIterator for Word<'t, (usize, Option<&'t Subregion>)> {
 
     type IntoIter = Hyphenating<'t, SegmentsExt<'t, vec::IntoIter<(usize, Option<&'t Subregion>)>>>;
 
-    ghost into_iter_gives = { λ word result. result ≡ (made_segments word.text.now (map (λ b. changed_by b.0 (option_copied b.1)) word.breaks.items), codes "-") };
+    ghost into_iter_gives = { λ word result.
+        result
+        ≡ (made_segments word.text.now (map (λ b. changed_by b.0 (option_copied b.1)) word.breaks.items), codes "-") };
 
     /// The segments of the word, each but the last with a mark after it, at first `-`.
     fn into_iter(self) -> Self::IntoIter {
