@@ -484,7 +484,7 @@ struct Later {
 }
 
 impl Later {
-    ghost use Rattle.std.specs.Prelude.{◌≡◌, OnOk};
+    ghost use Rattle.std.specs.Prelude.{◌≡◌, IfOk, OnOk};
     ghost use Rattle.dictionary_text.specs.Private.Parsed.{no_later, later_view, with_token};
 
     /// What no token says.
@@ -496,6 +496,17 @@ impl Later {
             are_numbers: true,
             are_sound: true,
         }
+    }
+
+    /// The same, with room for so many tokens.
+    fn with_room(alloc: Global, count: usize) -> Result<Self, AllocError>
+        ensures { IfOk result (λ later. later_view later ≡ no_later) }
+    {
+        Ok(Later {
+            listed: Vec::with_capacity(alloc, count)?,
+            are_numbers: true,
+            are_sound: true,
+        })
     }
 
     /// One token more.
@@ -521,7 +532,9 @@ fn later_of(alloc: Global, after: Option<&[u8]>) -> Result<Option<Later>, AllocE
     ensures { IfOk result (λ found.
         option_map later_view found ≡ read_later no_later (tokens_after (option_map (λ text. text.now) after.entry))) }
 {
-    let mut later = Later::none(alloc);
+    // Each token but the last takes two bytes or more, with the space after it.
+    let count = after.map_or(0, |text| (text.len() / 2 + 1).min(8));
+    let mut later = Later::with_room(alloc, count)?;
     let mut rest = after;
     while let Some(text) = rest {
         let (token, more) = first_token(text);
