@@ -1,15 +1,15 @@
 -- A trie that grows, as it is held: it is a trie.
-use Rattle.std.proofs.Common.{◌≡◌, ℕ, ◌<◌, ◌≤◌, List, [], ◌∷◌, ◌++◌, length, map, get_or, set, Option, Some, None, sym, ap, subst, ◌∙◌, arith}
+use Rattle.std.proofs.Common.{◌≡◌, ℕ, ◌<◌, ◌≤◌, List, [], ◌∷◌, ◌++◌, length, map, set, Option, Some, None, sym, ap, subst, ◌∙◌, arith}
 use Rattle.std.proofs.lemmas.List.{length-map, length-append, length-set, map_push, map-set}
 use Rattle.hyphenation_trie.specs.Private.Growing.{IsGrowing}
 use Rattle.hyphenation_trie.specs.Private.Links.{parent_of}
 use Rattle.hyphenation_trie.specs.Private.States.{IsHeld, froms_by, span_in}
-use Rattle.hyphenation_trie.specs.Private.Trie.{tree_of, texts_of, with_child, with_entries, AreWithin, IsWithin}
+use Rattle.hyphenation_trie.specs.Private.Trie.{tree_of, texts_of, with_child, AreWithin, IsWithin}
 use Rattle.hyphenation_trie.specs.Trie.{IsTrie}
 use Rattle.hyphenation_trie.specs.declared.Span.{Span}
 use Rattle.hyphenation_trie.specs.declared.frozen.State.{State}
 use Rattle.hyphenation_trie.proofs.FrozenTrie.{length-froms_by, froms_by-push, first-push}
-use Rattle.hyphenation_trie.proofs.TrieNodes.{IsTrie-seen, seen-grown, seen-with, length-texts_of, all_within-more, all_within-push, all_within-set}
+use Rattle.hyphenation_trie.proofs.TrieNodes.{IsTrie-seen, seen-grown, length-texts_of, all_within-more, all_within-push, all_within-set}
 
 pub trie_held : {E : Type 0} (parents bytes : List ℕ) (states : List State) (lasts befores : List ℕ) (es : List E) → IsHeld parents bytes states lasts befores (length es)
     → IsTrie (tree_of (froms_by parents bytes) (map span_in states) es)

@@ -2,14 +2,14 @@
 use Rattle.std.proofs.Common.{◌≡◌, ℕ, zero, suc, ◌+◌, ◌-◌, ◌<◌, ◌≤◌, drop, Bool, true, false, cond, ◌&&◌, nat_eq, eqb, List, [], ◌∷◌, ◌++◌, length, take, get_or, set, map, fold, Option, Some, None, refl, sym, ap, subst, ◌∙◌, arith, ◌⊎◌, inl, inr}
 use Rattle.std.specs.Prelude.{slice_get, IsSome, is_some}
 use Rattle.std.proofs.lemmas.Bool.{cases_lt, eqb-true, eq-eqb}
-use Rattle.std.proofs.lemmas.List.{length-append, map_push, length-map, map-set, take_more, length-take-le, get_or-map, drop-append-le, take-append-le, length-drop, get_or_append_left, get_or_push}
+use Rattle.std.proofs.lemmas.List.{length-append, map_push, length-map, map-set, take_more, length-take-le, drop-append-le, take-append-le, length-drop, get_or_append_left, get_or_push}
 use Rattle.std.proofs.lemmas.Grind.{fold-append}
 use Rattle.hyphenation_trie.specs.Private.Growing.{IsGrowing}
 use Rattle.hyphenation_trie.specs.Trie.{IsTrie, Tree, entries_at, key_at, node_text, AddsFront, KeepsNodes, EachBeginsKey}
 use Rattle.hyphenation_trie.specs.Private.Trie.{with_node_text, text_after, texts_of, IsWithin, AreWithin, entries_there, tree_of, with_child, Grows, with_entries}
 use Rattle.std.specs.Option.{option_map}
 use Rattle.std.specs.List.{slice_range}
-use Rattle.std.proofs.Math.Seq.{map-set_same, drop-append_seam, take-length}
+use Rattle.std.proofs.Math.Seq.{drop-append_seam, take-length}
 use Rattle.std.specs.Cmp.Lexicographic.{pointwise}
 use Rattle.hyphenation_trie.specs.declared.Span.{Span}
 

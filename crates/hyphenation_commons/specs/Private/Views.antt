@@ -1,5 +1,5 @@
 -- What a dictionary's parts hold. A code tells values apart.
-use Rattle.std.specs.Prelude.{ℕ, List, [], ◌∷◌, map, Option, Some, None, refl}
+use Rattle.std.specs.Prelude.{ℕ, List, map, refl}
 use Rattle.std.specs.Coded.{Coded, coded_ℕ, coded×, coded_list, code_by}
 use Rattle.std.specs.FinMap as finite
 use Rattle.std.specs.String.{string_bytes}

@@ -1,4 +1,4 @@
-use Rattle.std.proofs.Common.{◌≡◌, ◌≢◌, ◌<◌, ℕ, ◌∙◌, refl, sym, ap, arith, List, length, get_or, slice_index, Option, Some, None}
+use Rattle.std.proofs.Common.{◌≡◌, ◌≢◌, ◌<◌, ℕ, ◌∙◌, refl, sym, ap, arith, List, length, get_or, Some, None}
 use Rattle.std.proofs.lemmas.List.{length-map, get_or_default}
 use Rattle.hyphenation_trie.specs.Private.Growing.{IsSought}
 use Rattle.hyphenation_trie.specs.Private.Links.{parent_of, byte_of}

@@ -1,4 +1,4 @@
-use Rattle.std.proofs.Common.{◌≡◌, ℕ, length, sym, ap, ◌∙◌, arith}
+use Rattle.std.proofs.Common.{length, sym, ◌∙◌, arith}
 use Rattle.hyphenation_trie.specs.Private.States.{froms_by}
 use Rattle.hyphenation_trie.proofs.GrowingNodes.{held-grow}
 use Rattle.hyphenation_trie.proofs.HeldNodes.{count_is, held_more, tree_more}

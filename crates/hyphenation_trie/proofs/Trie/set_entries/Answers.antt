@@ -1,4 +1,4 @@
-use Rattle.std.proofs.Common.{◌≡◌, ◌∙◌, sym, ap, arith, length, map, get_or, set, ◌+◌, ◌++◌, subst, List, ℕ, Some, None, Option}
+use Rattle.std.proofs.Common.{◌≡◌, ◌∙◌, sym, ap, arith, length, map, get_or, set, ◌+◌, ◌++◌, subst, List, Some, None, Option}
 use Rattle.std.specs.Prelude.{is_some}
 use Rattle.std.proofs.lemmas.List.{length-append, length-map, get_or-map, map-set}
 use Rattle.hyphenation_trie.specs.Private.States.{froms_by, span_in}

@@ -1,8 +1,6 @@
-use Rattle.std.proofs.Common.{◌≡◌, ℕ, List, length, slice_index, sym, ap, subst, ◌∙◌, arith}
-use Rattle.std.proofs.lemmas.List.{length-map}
+use Rattle.std.proofs.Common.{ℕ, List, slice_index, ap, subst, ◌∙◌, arith}
 use Rattle.hyphenation_trie.specs.Private.Chains.{IsChained}
-use Rattle.hyphenation_trie.specs.Private.Links.{parent_of}
-use Rattle.hyphenation_trie.specs.Private.States.{froms_by, texts_by}
+use Rattle.hyphenation_trie.specs.Private.States.{texts_by}
 use Rattle.hyphenation_trie.proofs.FrozenTrie.{has_parents, parents_by, length-froms_by, apart_are}
 use Rattle.hyphenation_trie.proofs.frozen.children_of.Goals as goal
 

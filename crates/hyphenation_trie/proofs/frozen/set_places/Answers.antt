@@ -1,6 +1,6 @@
-use Rattle.std.proofs.Common.{◌≡◌, ◌∙◌, ℕ, ◌+◌, ◌<◌, sym, ap, arith, length, map, set, slice_index}
+use Rattle.std.proofs.Common.{◌≡◌, ◌∙◌, ℕ, ◌<◌, ap, arith, length, slice_index}
 use Rattle.std.proofs.Math.Seq.{map-set_same}
-use Rattle.std.proofs.lemmas.List.{length-set, get_or_default}
+use Rattle.std.proofs.lemmas.List.{length-set}
 use Rattle.hyphenation_trie.specs.Private.States.{no_links, span_in}
 use Rattle.hyphenation_trie.specs.declared.frozen.State.{State}
 use Rattle.hyphenation_trie.proofs.States.{one_more}
