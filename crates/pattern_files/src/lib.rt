@@ -31,7 +31,5 @@ pub mod libreoffice;
 pub mod notes;
 pub mod parts;
 pub mod spelling;
-#[cfg(test)]
-mod tests;
 pub mod tex;
 pub mod told;

@@ -56,7 +56,7 @@ fn take_comment(minima: &mut Minima, head: Head, comment: &str) -> Head {
 }
 
 /// The minima that a TeX file of hyph-utf8 tells in its head.
-pub(crate) fn minima_of(bytes: &[u8]) -> Minima {
+fn minima_of(bytes: &[u8]) -> Minima {
     let mut head = Head::Other;
     let mut minima = Minima {
         left: None,

@@ -7,6 +7,8 @@ mod dictionary_texts;
 #[cfg(test)]
 mod edits;
 #[cfg(test)]
+mod files_of_patterns;
+#[cfg(test)]
 mod folding;
 #[cfg(test)]
 mod lines;

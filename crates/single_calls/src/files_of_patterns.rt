@@ -1,15 +1,15 @@
 //! Small files, and the dictionary texts that they give.
 
-use crate::convert::convert;
-use crate::fault::{Cause, Refusal};
-use crate::group::{File, Form, Group};
-use crate::libreoffice::convert_dic;
-use crate::notes::What;
-use crate::told::{minima_of, notes_of};
 use dictionary_text::writer::{write_extended, write_standard};
 use hyphenation_commons::dictionary::{Extended, Standard};
 use hyphenation_commons::extended::Subregion;
 use hyphenation_commons::language::Language;
+use pattern_files::convert::{Converted, convert, convert_with_notes};
+use pattern_files::fault::{Cause, Refusal};
+use pattern_files::group::{File, Form, Group};
+use pattern_files::libreoffice::convert_dic;
+use pattern_files::notes::What;
+use pattern_files::told::minima_for;
 use std::alloc::Global;
 use std::test::Fail;
 
@@ -64,9 +64,18 @@ fn of_a_repeated_key_the_last_counts(rt: HostRuntime) -> Result<(), Fail> {
     let text = standard_text(rt.alloc(), &[patterns, exceptions])?;
     let wanted = format!(in rt.alloc(); "{HEAD}p a3b\np c1\ne table 3\ne über 2\n")?;
     assert_eq!(rt; text.as_slice(), wanted.as_bytes());
-    match notes_of(rt.alloc(), &[patterns, exceptions]) {
-        Ok(notes) => {
-            let whats: Vec<(What, usize, u64)> = notes
+    let files = [patterns, exceptions];
+    let converted: Result<Converted<(), usize>, Refusal> = convert_with_notes(
+        rt.alloc(),
+        Language::english_us(),
+        2,
+        3,
+        &files,
+    );
+    match converted {
+        Ok(converted) => {
+            let whats: Vec<(What, usize, u64)> = converted
+                .notes
                 .iter()
                 .map(|n| (n.what, n.first.line, n.times))
                 .collect(rt.alloc())?;
@@ -142,10 +151,11 @@ fn the_first_fault_is_told(rt: HostRuntime) {
 fn a_tex_file_tells_its_minima(rt: HostRuntime) {
     let head =
         b"% hyphenmins:\n%     generation:\n%         left: 1\n%         right: 1\n%     typesetting:\n%         left: 2\n%         right: 3\n% texlive:\n% left: 7\n";
-    let minima = minima_of(head);
-    assert_eq!(rt; minima.left, Some(2));
-    assert_eq!(rt; minima.right, Some(3));
-    assert_eq!(rt; minima_of(b"\\patterns{a1b}").left, None);
+    let form = Form::Tex;
+    let told = minima_for(None, None, &[File { form, bytes: head }]);
+    assert_eq!(rt; told, Some((2, 3)));
+    let bytes = b"\\patterns{a1b}";
+    assert_eq!(rt; minima_for(None, None, &[File { form, bytes }]), None);
 }
 
 #[test]
