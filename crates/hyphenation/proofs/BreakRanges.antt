@@ -11,12 +11,12 @@ use Rattle.hyphenation_commons.specs.Dictionary.{Contents, keys_of}
 use Rattle.hyphenation_commons.specs.Invariant.{IsDictionary, fits_usize, can_be_said, is_value, stays_within, lists_within}
 use Rattle.hyphenation_commons.specs.declared.dictionary.Entry.{Entry}
 use Rattle.hyphenation.specs.Opportunities.{rules_of, is_odd, within, breaks_within, winning_break, by_patterns, by_exception, opportunities_in, opportunities, boundaries_by}
-use Rattle.hyphenation.specs.Scoring.{frame, value_at, winner_at}
+use Rattle.hyphenation_score.specs.Scoring.{frame, value_at, winner_at}
 use Rattle.hyphenation.proofs.Ascending.{boundary_from_test}
 use Rattle.hyphenation.proofs.Fitting.{Ranged, AreRanged}
 use Rattle.hyphenation.proofs.Occurrences.{occurrence_boundary, frame_is_utf8, unframed_boundary, value_boundary}
 use Rattle.hyphenation.proofs.RulesAscend.{odd_is_some}
-use Rattle.hyphenation.proofs.WinnerPlaces.{winner_wins}
+use Rattle.hyphenation_score.proofs.WinnerPlaces.{winner_wins}
 
 -- ---- exceptions
 

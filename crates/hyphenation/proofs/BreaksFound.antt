@@ -17,8 +17,8 @@ use Rattle.hyphenation_commons.specs.declared.dictionary.Entry.{Entry}
 use Rattle.hyphenation.specs.Fitting.{keep, kept_breaks}
 use Rattle.hyphenation.specs.Opportunities.{within, breaks_within, is_odd, winning_break, allowed_by, rules_of, by_patterns, by_exception, Ascending}
 use Rattle.hyphenation.specs.Private.Opportunities.{won_at, won_break, is_won, won_within}
-use Rattle.hyphenation.specs.Scoring.{scored_by, frame, bearers, value_of, value_at, winner_at, winners}
-use Rattle.hyphenation.proofs.FirstGreatest.{value_of-first}
+use Rattle.hyphenation_score.specs.Scoring.{scored_by, frame, bearers, value_of, value_at, winner_at, winners}
+use Rattle.hyphenation_score.proofs.FirstGreatest.{value_of-first}
 use Rattle.hyphenation.proofs.Fitting.{EndsAt}
 use Rattle.hyphenation.proofs.NumberedCharacters.{picked_more}
 use Rattle.hyphenation.proofs.RulesAscend.{rules_are_sound, by_patterns_ascend, by_exception_ascends}
@@ -82,18 +82,6 @@ is_not_won change_of winners bounds i breaks winner at is e =
     let here : None ≡ cond (is_won winners bounds i) (Some (won_break change_of winners i)) None = e ∙ ap (λ w. won_at change_of (i + 1) w bounds) at in
     let no = none_if (is_won winners bounds i) (won_break change_of winners i) here in
     sym (won_more change_of winners bounds i breaks is ∙ ap (λ t. breaks ++ cond t (won_break change_of winners i ∷ []) []) no ∙ append-nil breaks)
-
--- One more is made.
-pub mapped_more : {X Y W : Type 0} (m : X → Y) (f : W → Y) (xs : List W) (i : ℕ) (x : W) (items new : List X) (made : X) → i < length xs → x ≡ get_or xs i x
-    → map m items ≡ map f (take i xs) → m made ≡ f x → new ≡ items ++ made ∷ [] → map m new ≡ map f (take (i + 1) xs)
-mapped_more {X} {Y} {W} m f xs i x items new made lt at is e n =
-    ap (map m) n ∙ map-append m items (made ∷ []) ∙ ap (λ ys. ys ++ m made ∷ []) is ∙ ap (λ (y : Y). map f (take i xs) ++ y ∷ []) (e ∙ ap f at)
-    ∙ sym (ap (map f) (take_more xs i x lt) ∙ map-append f (take i xs) (get_or xs i x ∷ []))
-
--- What winners that are lent score.
-pub scored_winners : {C : Type 0} (change_of : C → Option Change) (lent : List (Option (Bor (Entry C)))) → map (λ winner. scored_by change_of (option_copied winner)) lent ≡ map (scored_by change_of) (map option_copied lent)
-scored_winners change_of [] = refl
-scored_winners change_of (w ∷ ws) = ap (λ rest. scored_by change_of (option_copied w) ∷ rest) (scored_winners change_of ws)
 
 -- ---- what is found, by the rules of a dictionary
 

@@ -9,10 +9,10 @@ use Rattle.std.proofs.lemmas.List.FromFn.{get_or-map-range_with_len, length-map-
 use Rattle.hyphenation_commons.specs.Break.{Break, Change, plain, changed_by}
 use Rattle.hyphenation_commons.specs.Dictionary.{Patterns}
 use Rattle.hyphenation.specs.Opportunities.{is_odd, within, breaks_within, winning_break, allowed_by}
-use Rattle.hyphenation.specs.Private.OnePass.{carry_change}
-use Rattle.hyphenation.specs.Scoring.{frame, bearers, value_at, values}
-use Rattle.hyphenation.proofs.CarriedChanges.{none_wins}
-use Rattle.hyphenation.proofs.NumberRows.{range-append, range_more}
+use Rattle.hyphenation_score.specs.OnePass.{carry_change}
+use Rattle.hyphenation_score.specs.Scoring.{frame, bearers, value_at, values}
+use Rattle.hyphenation_score.proofs.CarriedChanges.{none_wins}
+use Rattle.hyphenation_score.proofs.NumberRows.{range-append, range_more}
 
 pub none_of : (test : ℕ → Bool) (a n : ℕ) → ((p : ℕ) → a ≤ p → p < a + n → test p ≡ false) → filter test (range_with_len a n) ≡ []
 none_of test a zero h = refl

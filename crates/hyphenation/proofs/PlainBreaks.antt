@@ -16,7 +16,7 @@ use Rattle.hyphenation.specs.Private.Opportunities.{lent_break}
 use Rattle.hyphenation.specs.Folding.{fold, carried_back, shifts_of}
 use Rattle.hyphenation.specs.Opportunities.{Rules, no_change, rules_of, within, breaks_within, winning_break, by_patterns, opportunities_in, opportunities, boundaries_by, all_breaks_of, breaks_as_written, break_carried_back, Ascending}
 use Rattle.hyphenation.specs.SoftHyphens.{soft_hyphens}
-use Rattle.hyphenation.specs.Scoring.{winner_at}
+use Rattle.hyphenation_score.specs.Scoring.{winner_at}
 use Rattle.hyphenation.proofs.Fitting.{kept_from, kept_is, fitted_by_shifts}
 use Rattle.hyphenation.proofs.Folds.{fold_is_utf8}
 use Rattle.hyphenation.proofs.RulesAscend.{AscendFrom, from_ascending, rules_are_sound, opportunities_ascend}

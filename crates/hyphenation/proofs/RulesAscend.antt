@@ -13,7 +13,7 @@ use Rattle.hyphenation_commons.specs.Dictionary.{Contents, keys_of}
 use Rattle.hyphenation_commons.specs.Invariant.{IsDictionary, are_listed}
 use Rattle.hyphenation_commons.proofs.PlacesInOrder.{map_twice}
 use Rattle.hyphenation_segments.specs.Fits.{Fits, FitsFrom}
-use Rattle.hyphenation.specs.Scoring.{value_at}
+use Rattle.hyphenation_score.specs.Scoring.{value_at}
 use Rattle.hyphenation.specs.Opportunities.{Rules, rules_of, is_odd, within, breaks_within, winning_break, by_patterns, by_exception, opportunities_in, opportunities, boundaries_by, exception_within_boundaries, Ascending}
 use Rattle.hyphenation.proofs.Ascending.{Ascend, ascend_from_test, ascend_fits, test_from_ascend}
 use Rattle.hyphenation.proofs.Occurrences.{value_boundary}

@@ -17,8 +17,8 @@ use Rattle.std.specs.IoError.{error_kind}
 use Rattle.std.specs.declared.io.ErrorKind.TheVariants.{OutOfMemory}
 use Rattle.hyphenation.specs.Fitting.{fitted_breaks_of}
 use Rattle.hyphenation.specs.Load.{TellsIn}
-use Rattle.hyphenation.specs.Opportunities.{no_change, own_change, own_break, rules_of, all_breaks_of}
-use Rattle.hyphenation.specs.Scoring.{values}
+use Rattle.hyphenation.specs.Opportunities.{no_change, own_break, rules_of, all_breaks_of}
+use Rattle.hyphenation_score.specs.Scoring.{own_change, values}
 
 -- Values in decimal, one space between, and a line feed.
 abbrev pub score_line : List ℕ → List ℕ

@@ -11,12 +11,12 @@ ghost use Rattle.hyphenation.specs.Hyphenated.{hyphenated_text};
 mod whole;
 
 use crate::load::{Error, Load};
-use crate::score::Score;
 pub use dictionary_text::form::Kind;
 pub use dictionary_text::number_of;
 use hyphenation_commons::dictionary::{Extended, Standard};
 use hyphenation_commons::extended::Subregion;
 use hyphenation_commons::language::Language;
+use hyphenation_score::Score;
 use std::alloc::{AllocError, Global};
 use std::io;
 use std::io::{Read, Write};

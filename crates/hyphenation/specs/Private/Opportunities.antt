@@ -8,7 +8,7 @@ use Rattle.hyphenation_commons.specs.Break.{Break, Change, changed_by}
 use Rattle.hyphenation_commons.specs.declared.dictionary.Entry.{Entry}
 use Rattle.hyphenation.specs.declared.case_folding.Shift.{Shift}
 use Rattle.hyphenation.specs.Folding.{delta_below}
-use Rattle.hyphenation.specs.Scoring.{value_of}
+use Rattle.hyphenation_score.specs.Scoring.{value_of}
 use Rattle.hyphenation.specs.Opportunities.{is_odd, within}
 
 -- The same, where the change is lent.

@@ -93,7 +93,8 @@ impl WholeTexts for Extended {
     ghost use Rattle.dictionary_text.specs.Edits.{after_edit};
     ghost use Rattle.dictionary_text.specs.Reading.{break_as_listing, extended_contents};
     ghost use Rattle.hyphenation.specs.Fitting.{fitted_breaks_of};
-    ghost use Rattle.hyphenation.specs.Opportunities.{own_change, own_break, rules_of};
+    ghost use Rattle.hyphenation.specs.Opportunities.{own_break, rules_of};
+    ghost use Rattle.hyphenation_score.specs.Scoring.{own_change};
 
     ghost kind = { OfExtended };
 

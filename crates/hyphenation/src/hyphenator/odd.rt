@@ -8,8 +8,8 @@ ghost use Rattle.hyphenation_commons.specs.Break.{plain};
 
 use super::found::Found;
 use super::won::won_breaks;
-use crate::score::{LookUps, raise_all};
 use hyphenation_commons::dictionary::Entry;
+use hyphenation_score::{LookUps, raise_all};
 use hyphenation_trie::Automaton;
 use std::alloc::{AllocError, Global};
 

@@ -7,8 +7,8 @@ ghost use Rattle.hyphenation.specs.Private.Opportunities.{won_at, won_within};
 ghost use Rattle.std.specs.Option.{option_map};
 
 use super::found::{Found, is_within};
-use crate::score::{LookUps, winners_in};
 use hyphenation_commons::dictionary::Entry;
+use hyphenation_score::{LookUps, winners_in};
 use hyphenation_trie::Automaton;
 use std::alloc::{AllocError, Global};
 

@@ -1,9 +1,8 @@
 use Rattle.std.proofs.Common.{◌∙◌, ap, map}
 use Rattle.std.proofs.lemmas.Option.{IfSome_then}
 use Rattle.hyphenation_commons.specs.Dictionary.{keys_of}
-use Rattle.hyphenation.specs.Opportunities.{own_change}
-use Rattle.hyphenation.specs.Scoring.{values}
-use Rattle.hyphenation.proofs.ValuesInOrder.{values-of-scores}
+use Rattle.hyphenation_score.specs.Scoring.{own_change, values}
+use Rattle.hyphenation_score.proofs.ValuesInOrder.{values-of-scores}
 use Rattle.hyphenation.proofs.engine.extended_values.Goals as goal
 
 pub returns-clause-values : goal.returns-clause-values

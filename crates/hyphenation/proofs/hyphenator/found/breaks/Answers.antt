@@ -1,7 +1,7 @@
 use Rattle.std.proofs.Common.{sym, subst}
 use Rattle.hyphenation_segments.specs.Fits.{Fits}
 use Rattle.hyphenation.proofs.FittedBreaks.{on_ok_always, breaks_fit, opportunities_keep}
-use Rattle.hyphenation.proofs.Standard.{ok_then}
+use Rattle.hyphenation_score.proofs.ValuesInOrder.{ok_then}
 use Rattle.hyphenation.proofs.hyphenator.found.breaks.Goals as goal
 
 pub returns-then-are_letters-clause-fits : goal.returns-then-are_letters-clause-fits

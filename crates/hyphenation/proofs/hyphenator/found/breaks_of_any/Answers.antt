@@ -10,7 +10,8 @@ use Rattle.hyphenation.specs.Private.Opportunities.{realigned_break}
 use Rattle.hyphenation.specs.SoftHyphens.{soft_hyphens}
 use Rattle.hyphenation.proofs.FittedBreaks.{whole_written, Carries, breaks_are, soft_breaks_are}
 use Rattle.hyphenation.proofs.ShiftOrder.{shifts_in_order}
-use Rattle.hyphenation.proofs.Standard.{ok_then, no_soft_hyphens, none_is_not_some}
+use Rattle.hyphenation.proofs.Standard.{no_soft_hyphens, none_is_not_some}
+use Rattle.hyphenation_score.proofs.ValuesInOrder.{ok_then}
 use Rattle.hyphenation.proofs.hyphenator.found.breaks_of_any.Goals as goal
 
 -- A word with soft hyphens.

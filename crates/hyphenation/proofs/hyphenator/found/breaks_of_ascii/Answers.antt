@@ -7,7 +7,7 @@ use Rattle.hyphenation.specs.Opportunities.{rules_of}
 use Rattle.hyphenation.proofs.AsciiWords.{ascii_fold, fold_is_ascii, ascii_breaks}
 use Rattle.hyphenation.proofs.Folds.{fold_is_utf8}
 use Rattle.hyphenation.proofs.RulesAscend.{rules_are_sound, opportunities_ascend}
-use Rattle.hyphenation.proofs.Standard.{ok_then}
+use Rattle.hyphenation_score.proofs.ValuesInOrder.{ok_then}
 use Rattle.hyphenation.proofs.hyphenator.found.breaks_of_ascii.Goals as goal
 
 reads : {X E : Type 0} (r : Result X E) (P : X → Type 0) (Q : E → Type 0) → ((e : E) → Q e → ⊥) → MatchResult r P Q → IsOk r

@@ -4,7 +4,7 @@ use Rattle.hyphenation.specs.Opportunities.{rules_of}
 use Rattle.hyphenation.proofs.AsciiWords.{letters_ascii, letters_fold, ascii_breaks}
 use Rattle.hyphenation.proofs.Folds.{fold_is_utf8}
 use Rattle.hyphenation.proofs.RulesAscend.{rules_are_sound, opportunities_ascend}
-use Rattle.hyphenation.proofs.Standard.{ok_then}
+use Rattle.hyphenation_score.proofs.ValuesInOrder.{ok_then}
 use Rattle.hyphenation.proofs.hyphenator.found.breaks_of_letters.Goals as goal
 
 pub unmoved_breaks-requires : goal.unmoved_breaks-requires

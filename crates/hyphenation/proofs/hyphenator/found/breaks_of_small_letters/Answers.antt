@@ -4,7 +4,7 @@ use Rattle.hyphenation.specs.Private.Fitting.{is_steady_by}
 use Rattle.hyphenation.specs.Folding.{fold}
 use Rattle.hyphenation.specs.Opportunities.{rules_of, opportunities, Ascending}
 use Rattle.hyphenation.proofs.SmallLetters.{small_fold, small_breaks}
-use Rattle.hyphenation.proofs.Standard.{ok_then}
+use Rattle.hyphenation_score.proofs.ValuesInOrder.{ok_then}
 use Rattle.hyphenation.proofs.hyphenator.found.breaks_of_small_letters.Goals as goal
 
 pub returns : goal.returns

@@ -2,10 +2,10 @@ use Rattle.std.proofs.Common.{◌≡◌, ℕ, false, filter, length, map, ap, su
 use Rattle.std.specs.List.{range_with_len}
 use Rattle.hyphenation_commons.specs.Break.{plain}
 use Rattle.hyphenation_trie.specs.Trie.{key_at}
-use Rattle.hyphenation.specs.Private.OnePass.{carry_change}
-use Rattle.hyphenation.specs.Scoring.{frame, bearers, values}
+use Rattle.hyphenation_score.specs.OnePass.{carry_change}
+use Rattle.hyphenation_score.specs.Scoring.{frame, bearers, values}
 use Rattle.hyphenation.proofs.OddPlaces.{places_allowed, test_of}
-use Rattle.hyphenation.proofs.Standard.{ok_then}
+use Rattle.hyphenation_score.proofs.ValuesInOrder.{ok_then}
 use Rattle.hyphenation.proofs.hyphenator.odd.allowed_in.Goals as goal
 
 pub returns : goal.returns

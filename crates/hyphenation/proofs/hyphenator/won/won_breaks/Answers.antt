@@ -1,8 +1,8 @@
 use Rattle.std.proofs.Common.{◌∙◌, ap, map, option_copied}
 use Rattle.hyphenation_trie.specs.Trie.{key_at}
-use Rattle.hyphenation.specs.Scoring.{winners}
+use Rattle.hyphenation_score.specs.Scoring.{winners}
 use Rattle.hyphenation.proofs.BreaksFound.{won_allowed}
-use Rattle.hyphenation.proofs.Standard.{ok_then}
+use Rattle.hyphenation_score.proofs.ValuesInOrder.{ok_then}
 use Rattle.hyphenation.proofs.hyphenator.won.won_breaks.Goals as goal
 
 pub returns : goal.returns

@@ -1,4 +1,5 @@
-use Rattle.hyphenation.specs.Opportunities.{own_change, own_break}
+use Rattle.hyphenation.specs.Opportunities.{own_break}
+use Rattle.hyphenation_score.specs.Scoring.{own_change}
 use Rattle.hyphenation.proofs.FittedBreaks.{breaks_fit, breaks_ascend}
 use Rattle.hyphenation.proofs.hyphenator.extended.ExtendedHyphenator.unbreakable_chars.Goals as goal
 

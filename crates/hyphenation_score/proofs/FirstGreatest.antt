@@ -1,0 +1,137 @@
+-- The first entry of the greatest value, and of two the greater.
+use Rattle.std.proofs.Common.{◌≡◌, ℕ, ◌<◌, ◌≤◌, max, Bool, true, false, cond, eqb, ltb, List, [], ◌∷◌, ◌++◌, map, Option, Some, None, refl, sym, ap, ◌∙◌, arith, inl, inr}
+use Rattle.std.specs.Option.{option_map_or}
+use Rattle.std.specs.List.{find}
+use Rattle.std.proofs.lemmas.Bool.{cases_lt, cases_eq, lt-ltb, le-ltb, eqb-true, eq-eqb}
+use Rattle.hyphenation_commons.specs.declared.dictionary.Entry.{Entry}
+use Rattle.hyphenation_score.specs.Scoring.{greatest_value, first_greatest, value_of}
+use Rattle.hyphenation_score.specs.Private.Scoring.{greater}
+use Rattle.hyphenation_score.proofs.Greatest.{greatest_from, greatest_value-append}
+
+cons_value : {C : Type 0} (e : Entry C) (es : List (Entry C)) → greatest_value (e ∷ es) ≡ max e.value (greatest_value es)
+cons_value e es = omega (arith, greatest_from (max 0 e.value) (map (λ x. x.value) es))
+
+-- no entry has a value above the greatest, so none is found there
+not_found : {C : Type 0} (es : List (Entry C)) (v : ℕ) → greatest_value es < v → find (λ e. eqb e.value v) es ≡ None
+not_found [] v lt = refl
+not_found {C} (e ∷ es) v lt =
+    let c = cons_value e es in
+    elim (eqb e.value v) as (λ b. eqb e.value v ≡ b → cond {A = Option (Entry C)} b (Some e) (find (λ e. eqb e.value v) es) ≡ None) [
+      | true ↦ λ is. absurd (omega (arith, eqb-true e.value v is))
+      | false ↦ λ is. not_found es v (omega arith)
+    ] refl
+
+not_equal : (v : ℕ) → 0 < v → eqb v 0 ≡ false
+not_equal v pos = elim (eqb v 0) as (λ b. eqb v 0 ≡ b → b ≡ false) [ true ↦ λ is. absurd (omega (arith, eqb-true v 0 is)) | false ↦ λ is. refl ] refl
+
+differ : (b : Bool) → b ≡ true → b ≡ false → ⊥
+differ true p q = cc
+differ false p q = cc
+
+rest_greatest : (a b v : ℕ) → v ≡ max a b → eqb a v ≡ false → v ≡ b
+rest_greatest a b v is other = elim (cases_eq a v) [
+  | inl same ↦ absurd (differ (eqb a v) (eq-eqb a v same) other)
+  | inr apart ↦ omega arith
+]
+
+-- the greatest value is found, unless it is 0
+is_found : {C : Type 0} (es : List (Entry C)) (v : ℕ) → v ≡ greatest_value es → 0 < v → (e : Entry C) × (find (λ e. eqb e.value v) es ≡ Some e)
+is_found [] v is pos = absurd (omega arith)
+is_found {C} (e ∷ es) v is pos =
+    let c = cons_value e es in
+    elim (eqb e.value v) as (λ b. eqb e.value v ≡ b → (x : Entry C) × (cond {A = Option (Entry C)} b (Some e) (find (λ e. eqb e.value v) es) ≡ Some x)) [
+      | true ↦ λ same. (e, refl)
+      | false ↦ λ other. is_found es v (rest_greatest e.value (greatest_value es) v (is ∙ c) other) pos
+    ] refl
+
+find-append : {C : Type 0} (p : Entry C → Bool) (xs ys : List (Entry C)) → find p (xs ++ ys) ≡ option_map_or (λ e. Some e) (find p xs) (find p ys)
+find-append p [] ys = refl
+find-append {C} p (x ∷ xs) ys = elim (p x) as (λ b. cond {A = Option (Entry C)} b (Some x) (find p (xs ++ ys)) ≡ option_map_or (λ e. Some e) (cond b (Some x) (find p xs)) (find p ys)) [ true ↦ refl | false ↦ find-append p xs ys ]
+
+abbrev won : {C : Type 0} → ℕ → List (Entry C) → Option (Entry C)
+won v es = cond (eqb v 0) None (find (λ e. eqb e.value v) es)
+
+first_stays : {C : Type 0} (v : ℕ) (xs ys : List (Entry C)) → v ≡ greatest_value xs → won v (xs ++ ys) ≡ won v xs
+first_stays {C} v xs ys is = elim (cases_eq v 0) [
+  | inl zero_is ↦ let t = eq-eqb v 0 zero_is in ap (λ b. cond {A = Option (Entry C)} b None (find (λ e. eqb e.value v) (xs ++ ys))) t ∙ sym (ap (λ b. cond {A = Option (Entry C)} b None (find (λ e. eqb e.value v) xs)) t)
+  | inr pos ↦
+      let f = is_found xs v is (omega arith) in
+      ap (cond (eqb v 0) None) (find-append (λ e. eqb e.value v) xs ys ∙ ap (λ (o : Option (Entry C)). option_map_or (λ e. Some e) o (find (λ e. eqb e.value v) ys)) f.1 ∙ sym f.1)
+]
+
+-- later entries win only by a greater value
+winner-append : {C : Type 0} (xs ys : List (Entry C)) → first_greatest (xs ++ ys) ≡ cond (ltb (greatest_value xs) (greatest_value ys)) (first_greatest ys) (first_greatest xs)
+winner-append {C} xs ys =
+    let a = greatest_value xs in
+    let b = greatest_value ys in
+    let all : greatest_value (xs ++ ys) ≡ max a b = greatest_value-append xs ys in
+    elim (cases_lt a b) [
+      | inl lt ↦
+          let G : greatest_value (xs ++ ys) ≡ b = omega (arith, all) in
+          ap (λ (v : ℕ). won v (xs ++ ys)) G
+          ∙ ap (cond (eqb b 0) None) (find-append (λ e. eqb e.value b) xs ys ∙ ap (λ (o : Option (Entry C)). option_map_or (λ e. Some e) o (find (λ e. eqb e.value b) ys)) (not_found xs b lt))
+          ∙ ap (λ t. cond t (first_greatest ys) (first_greatest xs)) (sym (lt-ltb a b lt))
+      | inr le ↦
+          let G : greatest_value (xs ++ ys) ≡ a = omega (arith, all) in
+          ap (λ (v : ℕ). won v (xs ++ ys)) G ∙ first_stays a xs ys refl
+          ∙ ap (λ t. cond t (first_greatest ys) (first_greatest xs)) (sym (le-ltb a b le))
+    ]
+
+-- what is found has the value that is sought
+found_value : {C : Type 0} (es : List (Entry C)) (v : ℕ) (e : Entry C) → find (λ x. eqb x.value v) es ≡ Some e → e.value ≡ v
+found_value [] v e is = absurd cc
+found_value {C} (x ∷ es) v e is =
+    elim (eqb x.value v) as (λ b. eqb x.value v ≡ b → cond {A = Option (Entry C)} b (Some x) (find (λ y. eqb y.value v) es) ≡ Some e → e.value ≡ v) [
+      | true ↦ λ same here. let one : x ≡ e = cc in ap (λ y. y.value) (sym one) ∙ eqb-true x.value v same
+      | false ↦ λ other rest. found_value es v e rest
+    ] refl is
+
+alone : {C : Type 0} (e : Entry C) → 0 < e.value → won e.value (e ∷ []) ≡ Some e
+alone {C} e pos =
+    let some : eqb e.value 0 ≡ false = not_equal e.value pos in
+    ap (λ b. cond {A = Option (Entry C)} b None (cond (eqb e.value e.value) (Some e) None)) some ∙ ap (λ b. cond {A = Option (Entry C)} b (Some e) None) (eq-eqb e.value e.value refl)
+
+-- where the greatest value is 0, there is no first
+pub first_none : {C : Type 0} (es : List (Entry C)) → greatest_value es ≡ 0 → first_greatest es ≡ None
+first_none {C} es nil = ap (λ b. cond {A = Option (Entry C)} b None (find (λ e. eqb e.value (greatest_value es)) es)) (eq-eqb (greatest_value es) 0 nil)
+
+-- and else there is one
+pub first_some : {C : Type 0} (es : List (Entry C)) → 0 < greatest_value es → (e : Entry C) × (first_greatest es ≡ Some e) × (find (λ x. eqb x.value (greatest_value es)) es ≡ Some e) × (e.value ≡ greatest_value es)
+first_some {C} es pos =
+    let f = is_found es (greatest_value es) refl pos in
+    let v = found_value es (greatest_value es) f.0 f.1 in
+    elim (eqb (greatest_value es) 0) as (λ b. eqb (greatest_value es) 0 ≡ b → (e : Entry C) × (cond {A = Option (Entry C)} b None (find (λ x. eqb x.value (greatest_value es)) es) ≡ Some e) × (find (λ x. eqb x.value (greatest_value es)) es ≡ Some e) × (e.value ≡ greatest_value es)) [
+      | true ↦ λ nil. absurd (omega (arith, eqb-true (greatest_value es) 0 nil))
+      | false ↦ λ some. (f.0, f.1, f.1, v)
+    ] refl
+
+-- the value of the first is the greatest
+pub value_of-first : {C : Type 0} (es : List (Entry C)) → value_of (first_greatest es) ≡ greatest_value es
+value_of-first es = elim (cases_eq (greatest_value es) 0) [
+  | inl nil ↦ ap value_of (first_none es nil) ∙ sym nil
+  | inr some ↦ let f = first_some es (omega arith) in ap value_of f.1 ∙ f.3
+]
+
+pub first-append : {C : Type 0} (xs ys : List (Entry C)) → first_greatest (xs ++ ys) ≡ greater (first_greatest xs) (first_greatest ys)
+first-append {C} xs ys =
+    winner-append xs ys ∙ ap (λ (v : ℕ). cond (ltb v (greatest_value ys)) (first_greatest ys) (first_greatest xs)) (sym (value_of-first xs))
+    ∙ ap (λ (v : ℕ). cond (ltb (value_of (first_greatest xs)) v) (first_greatest ys) (first_greatest xs)) (sym (value_of-first ys))
+
+pub greater_second : {C : Type 0} (a b : Option (Entry C)) → value_of a < value_of b → greater a b ≡ b
+greater_second a b lt = ap (λ t. cond t b a) (lt-ltb (value_of a) (value_of b) lt)
+
+pub greater_first : {C : Type 0} (a b : Option (Entry C)) → value_of b ≤ value_of a → greater a b ≡ a
+greater_first a b le = ap (λ t. cond t b a) (le-ltb (value_of a) (value_of b) le)
+
+pub greater_none : {C : Type 0} (a : Option (Entry C)) → greater a None ≡ a
+greater_none a = greater_first a None (omega arith)
+
+one_value : {C : Type 0} (e : Entry C) → greatest_value (e ∷ []) ≡ e.value
+one_value e = omega arith
+
+-- one entry more
+pub greater_one : {C : Type 0} (a : Option (Entry C)) (e : Entry C) → greater a (first_greatest (e ∷ [])) ≡ greater a (Some e)
+greater_one {C} a e = elim (cases_eq e.value 0) [
+  | inl nil ↦ ap (greater a) (first_none (e ∷ []) (one_value e ∙ nil)) ∙ greater_none a ∙ sym (greater_first a (Some e) (omega arith))
+  | inr some ↦ ap (greater a) (ap (λ (v : ℕ). won v (e ∷ [])) (one_value e) ∙ alone e (omega arith))
+]

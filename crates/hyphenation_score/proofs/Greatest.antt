@@ -1,0 +1,31 @@
+-- The greatest of numbers, and of the values of entries.
+use Rattle.std.proofs.Common.{◌≡◌, ℕ, zero, suc, ◌+◌, ◌<◌, ◌≤◌, max, Bool, true, false, cond, List, [], ◌∷◌, ◌++◌, map, filter, fold, refl, ap, ◌∙◌, arith}
+use Rattle.std.specs.List.{flat_map, range_with_len}
+use Rattle.std.proofs.lemmas.List.{map-append}
+use Rattle.std.proofs.lemmas.Grind.{fold-append}
+use Rattle.hyphenation_commons.specs.declared.dictionary.Entry.{Entry}
+use Rattle.hyphenation_commons.specs.Dictionary.{greatest}
+use Rattle.hyphenation_score.specs.Scoring.{greatest_value}
+
+pub greatest_from : (a : ℕ) (ns : List ℕ) → fold max a ns ≡ max a (greatest ns)
+greatest_from a [] = omega arith
+greatest_from a (n ∷ ns) = omega (arith, greatest_from (max a n) ns, greatest_from (max 0 n) ns)
+
+pub greatest-append : (xs ys : List ℕ) → greatest (xs ++ ys) ≡ max (greatest xs) (greatest ys)
+greatest-append xs ys = fold-append max 0 xs ys ∙ greatest_from (greatest xs) ys
+
+pub greatest_value-append : {C : Type 0} (xs ys : List (Entry C)) → greatest_value (xs ++ ys) ≡ max (greatest_value xs) (greatest_value ys)
+greatest_value-append xs ys = ap greatest (map-append (λ e. e.value) xs ys) ∙ greatest-append (map (λ e. e.value) xs) (map (λ e. e.value) ys)
+
+pub filter-append : {X : Type 0} (p : X → Bool) (xs ys : List X) → filter p (xs ++ ys) ≡ filter p xs ++ filter p ys
+filter-append p [] ys = refl
+filter-append {X} p (x ∷ xs) ys = elim (p x) as (λ b. cond {A = List X} b (x ∷ filter p (xs ++ ys)) (filter p (xs ++ ys)) ≡ cond b (x ∷ filter p xs) (filter p xs) ++ filter p ys) [
+  | true ↦ ap (λ (zs : List X). x ∷ zs) (filter-append p xs ys)
+  | false ↦ filter-append p xs ys
+]
+
+-- joined lists have no greater value than each of them
+pub greatest_value-within : {C : Type 0} (f : ℕ → List (Entry C)) (a n v : ℕ) → ((k : ℕ) → a ≤ k → k < a + n → greatest_value (f k) ≤ v) → greatest_value (flat_map f (range_with_len a n)) ≤ v
+greatest_value-within f a zero v h = omega arith
+greatest_value-within f a (suc n) v h =
+    omega (arith, greatest_value-append (f a) (flat_map f (range_with_len (a + 1) n)), h a (omega arith) (omega arith), greatest_value-within f (a + 1) n v (λ k low high. h k (omega arith) (omega arith)))

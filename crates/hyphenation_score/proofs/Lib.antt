@@ -1,0 +1,13 @@
+pub mod Greatest
+pub mod FirstGreatest
+pub mod NumberRows
+pub mod OnePass
+pub mod OnePassInvariant
+pub mod CarriedChanges
+pub mod Winners
+pub mod WinnerVisits
+pub mod NoKeys
+pub mod Longest
+pub mod WinnerPlaces
+pub mod ValuesInOrder
+pub mod ScoredWinners

@@ -1,0 +1,86 @@
+use Rattle.std.proofs.Common.{◌≡◌, ◌+◌, ◌-◌, ◌<◌, ℕ, length, take, ap, refl, sym, subst, arith, ◌∙◌}
+use Rattle.std.proofs.lemmas.List.{length-drop}
+use Rattle.hyphenation_trie.specs.Trie.{node_text, key_at}
+use Rattle.hyphenation_trie.specs.Private.Links.{keys_in}
+use Rattle.hyphenation_trie.proofs.Suffixes.{depth_pos, Ends-whole, Ends-trans}
+use Rattle.hyphenation_score.specs.Scoring.{frame}
+use Rattle.hyphenation_score.specs.Winners.{Holds}
+use Rattle.hyphenation_score.specs.Private.Winners.{best_of, Asked}
+use Rattle.hyphenation_score.proofs.OnePass.{none_next, counted_first, counted_more}
+use Rattle.hyphenation_score.proofs.Winners.{holds_sane}
+use Rattle.hyphenation_score.proofs.WinnerVisits.{met_first, met_next, met_all}
+use Rattle.hyphenation_score.proofs.contest.compete_reported.Goals as goal
+
+pub loop-node-init : goal.loop-node-init
+loop-node-init g c =
+    let tree = c.args.automaton.now in
+    let t = node_text tree c.args.from in
+    let report = c.report-node.ensures in
+    record {
+      within = report.within;
+      ends = report.ends;
+      key = report.key;
+      lengths = c.requires.lengths;
+      holds = λ i lt. met_first tree (frame c.args.word.now) c.args.end (i + 1) c.args.from c.report-node.result (best_of c.args.bests.now c.args.starts.now i) c.requires.end c.requires.longest report (c.requires.holds i lt);
+      reported = omega (arith, counted_first tree t _ report);
+      few = omega (arith, report.ends.0);
+      made = refl;
+    }
+
+pub loop-node-smaller : goal.loop-node-smaller
+loop-node-smaller g c =
+    let tree = c.args.automaton.now in
+    let at = c.loop-node.node in
+    let pos = depth_pos tree c.root-root.ensures.trie at (omega arith) c.loop-node.invariant.within in
+    let report = c.next_report-node.ensures in
+    omega (arith, report.ends.0, length-drop 1 (node_text tree at))
+
+pub compete-requires-clause-sane : goal.compete-requires-clause-sane
+compete-requires-clause-sane g c = λ i lt. holds_sane _ _ _ _ _ (c.loop-node.invariant.holds i lt)
+
+pub loop-node-preserved : goal.loop-node-preserved
+loop-node-preserved g c =
+    let tree = c.args.automaton.now in
+    let framed = frame c.args.word.now in
+    let t = node_text tree c.args.from in
+    let at = c.loop-node.node in
+    let inv = c.loop-node.invariant in
+    let to : ℕ = c.next_report-node.result in
+    let pos = depth_pos tree c.root-root.ensures.trie at (omega arith) inv.within in
+    let report = c.next_report-node.ensures in
+    let less : length (node_text tree to) < length (node_text tree at) = omega (arith, report.ends.0, length-drop 1 (node_text tree at)) in
+    let none = none_next tree t at to inv.ends report in
+    let more = counted_more tree t at to inv.ends less (inv.key (omega arith)) none in
+    let counted = ap (λ x. x.reported) c.entries-entries.ensures.counted in
+    let ends = Ends-trans (take c.args.end framed) t (node_text tree at) c.requires.longest.ends inv.ends in
+    let start : ℕ = c.args.end - c.depth.result in
+    let start_is : start ≡ c.args.end - length (node_text tree at) = ap (λ (x : ℕ). c.args.end - x) c.depth.ensures in
+    record {
+      within = report.within;
+      ends = Ends-trans t (node_text tree at) (node_text tree to) inv.ends (Ends-whole (node_text tree at) (node_text tree to) report.ends);
+      key = report.key;
+      lengths = c.compete.auto.starts ∙ inv.lengths ∙ sym c.compete.auto.bests;
+      holds = λ i lt.
+          let old = subst (λ (x : ℕ). Holds (key_at tree) framed (i + 1) (Asked framed c.args.end x) (best_of c.loop-node.bests c.loop-node.starts i)) (sym start_is) (inv.holds i (omega (arith, c.compete.auto.bests))) in
+          subst (λ n. Holds (key_at tree) framed (i + 1) (Asked framed c.args.end (c.args.end - length (node_text tree to))) n) (sym (c.compete.ensures i (omega (arith, c.compete.auto.bests))))
+          (met_next tree framed c.args.end (i + 1) at to start c.entries-entries.result.now (best_of c.loop-node.bests c.loop-node.starts i) c.requires.end ends pos report c.entries-entries.ensures.entries start_is old);
+      reported = omega (arith, counted, more, inv.reported);
+      few = omega (arith, counted, inv.few);
+      made = ap (λ x. x.made) c.entries-entries.ensures.counted ∙ inv.made;
+    }
+
+pub returns-clause-holds : goal.returns-clause-holds
+returns-clause-holds g c = λ i lt.
+    let tree = c.args.automaton.now in
+    let zero_is : c.loop-node.node ≡ 0 = omega arith in
+    let nil : length (node_text tree c.loop-node.node) ≡ 0 = ap (λ (k : ℕ). length (node_text tree k)) zero_is ∙ ap length c.root-root.ensures.trie.root in
+    met_all tree (frame c.args.word.now) c.args.end (i + 1) _ _ (omega arith) (c.loop-node.invariant.holds i (omega (arith, c.loop-node.auto.bests)))
+
+pub returns-clause-reported : goal.returns-clause-reported
+returns-clause-reported g c =
+    let tree = c.args.automaton.now in
+    let t = node_text tree c.args.from in
+    let zero_is : c.loop-node.node ≡ 0 = omega arith in
+    let nil : length (node_text tree c.loop-node.node) ≡ 0 = ap (λ (k : ℕ). length (node_text tree k)) zero_is ∙ ap length c.root-root.ensures.trie.root in
+    let whole : length t - length (node_text tree c.loop-node.node) ≡ length t = omega arith in
+    c.loop-node.invariant.reported ∙ ap (λ (k : ℕ). c.args.count.now.reported + keys_in tree t k) whole

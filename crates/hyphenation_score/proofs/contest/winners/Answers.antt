@@ -1,0 +1,60 @@
+use Rattle.std.proofs.Common.{◌≡◌, ◌+◌, ◌-◌, ℕ, length, map, sym, ap, ◌∙◌, arith, inl, inr}
+use Rattle.std.proofs.Math.Nat.{mul-le-mul_right}
+use Rattle.std.proofs.lemmas.Bool.{cases_eq}
+use Rattle.std.proofs.lemmas.List.{length-map}
+use Rattle.std.specs.Option.{option_copied}
+use Rattle.hyphenation_commons.specs.Dictionary.{keys_of, longest_key}
+use Rattle.hyphenation_trie.specs.Trie.{key_at}
+use Rattle.hyphenation_score.specs.Scoring.{frame, winners}
+use Rattle.hyphenation_score.specs.OnePass.{occurrences}
+use Rattle.hyphenation_score.proofs.NoKeys.{none_at_all}
+use Rattle.hyphenation_score.proofs.OnePass.{occurrences_same}
+use Rattle.hyphenation_score.proofs.ValuesInOrder.{length-winners, winners_same, ok_same, ok_then}
+use Rattle.hyphenation_score.proofs.contest.winners.Goals as goal
+
+pub returns-clause-winners : goal.returns-clause-winners
+returns-clause-winners g c =
+    let keys = keys_of c.args.dictionary.now in
+    let known = key_at c.patterns.result.now in
+    ok_same c.winners_in.result (λ v. map option_copied v.items) (winners known c.as_bytes.result.now) (winners keys c.args.word.now)
+    (ap (winners known) c.as_bytes.ensures.value ∙ winners_same known keys c.args.word.now (λ text. sym (c.patterns.ensures.known text))) c.winners_in.ensures.winners
+
+pub returns-clause-places : goal.returns-clause-places
+returns-clause-places g c =
+    let keys = keys_of c.args.dictionary.now in
+    ok_then c.winners_in.result (λ v. map option_copied v.items ≡ winners keys c.args.word.now) (λ v. length v.items ≡ length c.args.word.now - 1)
+    (λ v is. sym (length-map v.items option_copied) ∙ ap length is ∙ length-winners keys c.args.word.now) (returns-clause-winners g c)
+
+pub returns-clause-linear : goal.returns-clause-linear
+returns-clause-linear g c = rw (← c.as_bytes.ensures.value) c.winners_in.ensures.linear
+
+pub returns-clause-most : goal.returns-clause-most
+returns-clause-most g c =
+    let contents = c.args.dictionary.now in
+    let word : ℕ = length c.args.word.now in
+    let same = ap length c.as_bytes.ensures.value in
+    elim (cases_eq (longest_key contents) 0) [
+      | inl zero_is ↦
+          let none = none_at_all g.C.Payload.change_of g.B.Break.meaning contents c.minima-minima.ensures.kept zero_is in
+          let alone = c.winners_in.ensures.alone (λ q. sym (c.patterns.ensures.known q) ∙ none q) in
+          let times = mul-le-mul_right {m = 1} {n = longest_key contents + 1} (word + 2) (omega arith) in
+          omega arith
+      | inr apart ↦
+          let linear = c.winners_in.ensures.linear in
+          let times = mul-le-mul_right {m = 2} {n = longest_key contents + 1} (word + 2) (omega arith) in
+          omega arith
+    ]
+
+pub returns-clause-reported : goal.returns-clause-reported
+returns-clause-reported g c =
+    let keys = keys_of c.args.dictionary.now in
+    let known = key_at c.patterns.result.now in
+    let same = ap (λ w. occurrences known (frame w)) c.as_bytes.ensures.value ∙ occurrences_same known keys (frame c.args.word.now) (λ text. sym (c.patterns.ensures.known text)) in
+    rw (← same) c.winners_in.ensures.reported
+
+pub returns-clause-visited : goal.returns-clause-visited
+returns-clause-visited g c =
+    let keys = keys_of c.args.dictionary.now in
+    let known = key_at c.patterns.result.now in
+    let same = ap (λ w. occurrences known (frame w)) c.as_bytes.ensures.value ∙ occurrences_same known keys (frame c.args.word.now) (λ text. sym (c.patterns.ensures.known text)) in
+    rw (← same) c.winners_in.ensures.visited

@@ -1,0 +1,64 @@
+-- What is true of all values and winners, in terms of single keys.
+use Rattle.std.specs.Prelude.{◌≡◌, ℕ, ◌+◌, ◌-◌, ◌<◌, ◌≤◌, ◌⊎◌, ◌↔◌, List, length, slice_get, Some, None}
+use Rattle.hyphenation_commons.specs.Dictionary.{Patterns}
+use Rattle.hyphenation_commons.specs.declared.dictionary.Entry.{Entry}
+use Rattle.hyphenation_score.specs.Scoring.{Bears, Wins, frame, value_at, values, winner_at, winners}
+use Rattle.hyphenation_score.specs.Winners.{Best, IsPair, Holds}
+
+-- A place's value is at least each value that bears on it.
+abbrev pub ValueIsGreatest : Type 0 → Type 0
+ValueIsGreatest C =
+    (keys : Patterns C) (word : List ℕ) (p start end : ℕ) (entry : Entry C) → Bears keys word p start end entry
+    → entry.value ≤ value_at keys word p
+
+-- A place's value is 0, or one that bears on it.
+abbrev pub ValueIsBorne : Type 0 → Type 0
+ValueIsBorne C =
+    (keys : Patterns C) (word : List ℕ) (p : ℕ)
+    → (value_at keys word p ≡ 0)
+    ⊎ ((start : ℕ) × (end : ℕ) × (entry : Entry C) × (Bears keys word p start end entry)
+    × (entry.value ≡ value_at keys word p))
+
+-- A place has no winner exactly where its value is 0.
+abbrev pub WinnerIsMissing : Type 0 → Type 0
+WinnerIsMissing C =
+    (keys : Patterns C) (word : List ℕ) (p : ℕ) → winner_at keys word p ≡ None ↔ value_at keys word p ≡ 0
+
+-- A winner gives the place its value, and of all entries that give it the key starts first, and of those that start
+-- there ends first.
+abbrev pub WinnerIsFirst : Type 0 → Type 0
+WinnerIsFirst C =
+    (keys : Patterns C) (word : List ℕ) (p : ℕ) (entry : Entry C) → winner_at keys word p ≡ Some entry
+    → (start : ℕ) × (end : ℕ) × (Wins keys word p start end entry) × (entry.value ≡ value_at keys word p)
+
+-- An entry wins that has a value above 0, comes first among those that give it, and is the only one of its key at the
+-- place.
+abbrev pub FirstIsWinner : Type 0 → Type 0
+FirstIsWinner C =
+    (keys : Patterns C) (word : List ℕ) (p start end : ℕ) (entry : Entry C) → 0 < entry.value
+    → Wins keys word p start end entry → ((other : Entry C) → Bears keys word p start end other → other ≡ entry)
+    → winner_at keys word p ≡ Some entry
+
+-- The values of a word are one less than its bytes, and stand in the order of its places.
+abbrev pub ValuesAreOfPlaces : Type 0 → Type 0
+ValuesAreOfPlaces C =
+    (keys : Patterns C) (word : List ℕ) (i : ℕ) → i + 1 < length word
+    → slice_get (values keys word) i ≡ Some (value_at keys word (i + 1))
+
+abbrev pub ValuesAreOneLess : Type 0 → Type 0
+ValuesAreOneLess C = (keys : Patterns C) (word : List ℕ) → length (values keys word) ≡ length word - 1
+
+-- The same of its winners.
+abbrev pub WinnersAreOfPlaces : Type 0 → Type 0
+WinnersAreOfPlaces C =
+    (keys : Patterns C) (word : List ℕ) (i : ℕ) → i + 1 < length word
+    → slice_get (winners keys word) i ≡ Some (winner_at keys word (i + 1))
+
+abbrev pub WinnersAreOneLess : Type 0 → Type 0
+WinnersAreOneLess C = (keys : Patterns C) (word : List ℕ) → length (winners keys word) ≡ length word - 1
+
+-- What is best of all pairs of a start and an end gives the winner, though keys are met by their ends.
+abbrev pub BestOfAllWins : Type 0 → Type 0
+BestOfAllWins C =
+    (keys : Patterns C) (word : List ℕ) (p : ℕ) (now : Best C) → Holds keys (frame word) p (IsPair (frame word)) now
+    → now.0 ≡ winner_at keys word p

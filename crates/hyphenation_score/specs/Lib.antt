@@ -1,0 +1,5 @@
+pub mod Scoring
+pub mod OnePass
+pub mod Winners
+pub mod Laws
+pub mod Private

@@ -1,0 +1,29 @@
+-- The winner of a place, as one pass finds it: what private functions and proofs need of it beside, and no public contract cites.
+use Rattle.std.specs.Prelude.{◌≡◌, ℕ, ◌<◌, ◌⊎◌, ◌&&◌, ◌||◌, nat_lt, nat_eq, if◌then◌else◌, Bool, List, Option, Some, None, slice_index}
+use Rattle.hyphenation_commons.specs.declared.dictionary.Entry.{Entry}
+use Rattle.std.specs.Borrow.{Bor}
+use Rattle.hyphenation_score.specs.Scoring.{value_of}
+use Rattle.hyphenation_score.specs.Private.Scoring.{best_at}
+use Rattle.hyphenation_score.specs.Winners.{IsPair, Best}
+
+-- An entry of a key that starts there beats it: its value is greater, or the same and its start is less.
+abbrev pub beats : {C : Type 0} → Best C → ℕ → Entry C → Bool
+beats now start entry =
+    nat_lt (value_of now.0) entry.value || (nat_eq (value_of now.0) entry.value && nat_lt start now.1)
+
+-- What is best after such an entry, if there is one.
+abbrev pub meets : {C : Type 0} → Best C → ℕ → Option (Entry C) → Best C
+meets now start None = now
+meets now start (Some entry) = if beats now start entry then (Some entry, start) else now
+
+-- Without an entry there is no start.
+abbrev pub Sane : {C : Type 0} → Best C → Type 0
+Sane now = value_of now.0 ≡ 0 → now.1 ≡ 0
+
+-- What is best at an index of the places.
+abbrev pub best_of : {C : Type 0} → List (Option (Bor (Entry C))) → List ℕ → ℕ → Best C
+best_of bests starts i = (best_at bests i, slice_index starts i)
+
+-- The pairs up to an end, and of that end those whose start is below a bound.
+abbrev pub Asked : List ℕ → ℕ → ℕ → ℕ → ℕ → Type 0
+Asked framed end below s e = (IsPair framed s e) × ((e < end) ⊎ ((e ≡ end) × (s < below)))

@@ -1,0 +1,111 @@
+-- Which keys stand in a word, which values they give to its places, and which entry wins each place.
+-- Sources: F. M. Liang, Word Hy-phen-a-tion by Com-put-er (1983), for keys whose values compete;
+-- L. Németh, Automatic non-standard hyphenation in OpenOffice.org, TUGboat 27:1 (2006), for values that carry changes.
+use Rattle.std.specs.Prelude.{◌≡◌, ℕ, ◌+◌, ◌-◌, ◌<◌, ◌≤◌, ◌==◌, ◌⊎◌, if◌then◌else◌, List, [], ◌∷◌, ◌++◌, length, map, filter, Option, Some, None, unwrap_or, option_copied, slice_range}
+use Rattle.std.specs.List.{find, flat_map, range_with_len, IsAmong}
+use Rattle.std.specs.Borrow.{Bor}
+use Rattle.std.specs.Option.{option_and_then}
+use Rattle.hyphenation_commons.specs.Break.{Change}
+use Rattle.hyphenation_commons.specs.Dictionary.{Patterns, greatest}
+use Rattle.hyphenation_commons.specs.declared.dictionary.Entry.{Entry}
+
+-- A change or none, carried as it is: so it is in an extended dictionary.
+abbrev pub own_change : Option Change → Option Change
+own_change change = change
+
+-- The frame of a word: the word between two dots, so that a dot of a key may stand at the word's edge.
+abbrev pub frame : List ℕ → List ℕ
+frame word = 46 ∷ word ++ 46 ∷ []
+
+-- The places of a word: where it may be parted between two of its bytes. Place p of the word is place p + 1 of its frame.
+abbrev pub places : List ℕ → List ℕ
+places word = range_with_len 1 (length word - 1)
+
+-- An occurrence: of the key that stands in the frame from start to end, the entries that bear on the word's place p; none, if no key stands there.
+abbrev pub bearing : {C : Type 0} → Patterns C → List ℕ → ℕ → ℕ → ℕ → List (Entry C)
+bearing keys framed p start end =
+    filter (λ entry. start + entry.place == p + 1) (unwrap_or (keys (slice_range framed start end)) [])
+
+-- Those of the keys that stand from start on, the shorter key first.
+abbrev pub bearing_from : {C : Type 0} → Patterns C → List ℕ → ℕ → ℕ → List (Entry C)
+bearing_from keys framed p start =
+    flat_map (λ end. bearing keys framed p start end) (range_with_len (start + 1) (length framed - start))
+
+-- Those of all keys that stand in the frame, in the order of their starts.
+abbrev pub bearers : {C : Type 0} → Patterns C → List ℕ → ℕ → List (Entry C)
+bearers keys framed p = flat_map (λ start. bearing_from keys framed p start) (range_with_len 0 (length framed))
+
+-- The greatest of 0 and the values of the entries.
+abbrev pub greatest_value : {C : Type 0} → List (Entry C) → ℕ
+greatest_value entries = greatest (map (λ entry. entry.value) entries)
+
+-- The first entry that has the greatest value; none where that is 0.
+abbrev pub first_greatest : {C : Type 0} → List (Entry C) → Option (Entry C)
+first_greatest entries =
+    if greatest_value entries == 0 then None else find (λ entry. entry.value == greatest_value entries) entries
+
+-- The value of the word's place p: the greatest of 0 and of the values that bear on it.
+abbrev pub value_at : {C : Type 0} → Patterns C → List ℕ → ℕ → ℕ
+value_at keys word p = greatest_value (bearers keys (frame word) p)
+
+-- The entry that wins the word's place p: of those with its value the one whose key starts first, and then is shortest.
+abbrev pub winner_at : {C : Type 0} → Patterns C → List ℕ → ℕ → Option (Entry C)
+winner_at keys word p = first_greatest (bearers keys (frame word) p)
+
+-- The values of a word's places, from place 1 on.
+abbrev pub values : {C : Type 0} → Patterns C → List ℕ → List ℕ
+values keys word = map (λ p. value_at keys word p) (places word)
+
+-- The entries that win a word's places, from place 1 on.
+abbrev pub winners : {C : Type 0} → Patterns C → List ℕ → List (Option (Entry C))
+winners keys word = map (λ p. winner_at keys word p) (places word)
+
+-- The value that an entry gives; 0 without one.
+abbrev pub value_of : {C : Type 0} → Option (Entry C) → ℕ
+value_of None = 0
+value_of (Some entry) = entry.value
+
+-- A place's value with the change that its winner carries.
+pub record Scored : Type 0 where
+  pub value : ℕ
+  pub change : Option Change
+
+-- A value without a change, as each is in a standard dictionary.
+abbrev pub plain_value : ℕ → Scored
+plain_value value = record { value = value; change = None }
+
+-- A place's value with the change that its winner carries, where it is told which change an entry carries.
+abbrev pub scored_by : {C : Type 0} → (C → Option Change) → Option (Entry C) → Scored
+scored_by change_of winner =
+    record { value = value_of winner; change = option_and_then (λ entry. change_of entry.change) winner }
+
+-- The same of a word's places, from place 1 on.
+abbrev pub scores : {C : Type 0} → (C → Option Change) → Patterns C → List ℕ → List Scored
+scores change_of keys word = map (scored_by change_of) (winners keys word)
+
+-- A value with a change that is lent, or none.
+abbrev pub scored_pair : ℕ × Option (Bor Change) → Scored
+scored_pair pair = record { value = pair.0; change = option_copied pair.1 }
+
+-- ---- the same in terms of single keys
+
+-- The key that stands in the word's frame from start to end has this entry, and it bears on the word's place p.
+pub record Bears {C : Type 0} (keys : Patterns C) (word : List ℕ) (p start end : ℕ) (entry : Entry C) : Type 0 where
+  pub some : start < end
+  pub within : end ≤ length (frame word)
+  pub entries : List (Entry C)
+  pub key : keys (slice_range (frame word) start end) ≡ Some entries
+  pub among : IsAmong entries entry
+  pub place : start + entry.place ≡ p + 1
+
+-- The start is less, or the same and the end is no greater.
+abbrev pub Before : ℕ → ℕ → ℕ → ℕ → Type 0
+Before start end other_start other_end = (start < other_start) ⊎ ((start ≡ other_start) × (end ≤ other_end))
+
+-- The entry bears on the place, no entry that does has a greater value, and each that has the same starts no earlier, or at the same byte and ends no earlier.
+pub record Wins {C : Type 0} (keys : Patterns C) (word : List ℕ) (p start end : ℕ) (entry : Entry C) : Type 0 where
+  pub bears : Bears keys word p start end entry
+  pub most : (other_start other_end : ℕ) (other : Entry C) → Bears keys word p other_start other_end other
+      → other.value ≤ entry.value
+  pub before : (other_start other_end : ℕ) (other : Entry C) → Bears keys word p other_start other_end other
+      → other.value ≡ entry.value → Before start end other_start other_end

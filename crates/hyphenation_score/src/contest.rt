@@ -1,0 +1,188 @@
+//! The entries that win the places of a word, in one pass over its frame.
+//!
+//! Keys are met by their ends, and of equal values the one whose key starts first has to win: so each place keeps, with
+//! the best entry so far, where its key starts. Of two that start at one byte the shorter is met first.
+
+ghost use Rattle.std.specs.Prelude.{◌≡◌, ◌+◌, ◌-◌, ◌*◌, ◌<◌, ◌≤◌, ◌^◌, ◌==◌, if◌then◌else◌, ℕ, List, None, Some, length, filter, map, take, option_copied, IfOk, OnOk};
+ghost use Rattle.hyphenation_commons.specs.Dictionary.{keys_of, longest_key};
+ghost use Rattle.hyphenation_trie.specs.Links.{IsLongest};
+ghost use Rattle.hyphenation_trie.specs.Private.Links.{keys_in};
+ghost use Rattle.hyphenation_trie.specs.Trie.{node_text, key_at, EachBeginsKey};
+ghost use Rattle.hyphenation_score.specs.Scoring.{frame, first_greatest, winners};
+ghost use Rattle.hyphenation_score.specs.OnePass.{occurrences};
+ghost use Rattle.hyphenation_score.specs.Winners.{Holds};
+ghost use Rattle.hyphenation_score.specs.Private.Winners.{best_of, meets, Sane, Asked};
+
+use super::framed_at;
+use hyphenation_commons::breaks::Break;
+use hyphenation_commons::dictionary::{Dictionary, Entry, Payload};
+use hyphenation_trie::{Automaton, LookUps};
+use std::alloc::{AllocError, Global};
+
+/// The better of what is best so far, with where its key starts, and an entry of a key that starts there.
+fn better<'d, C>(
+    best: Option<&'d Entry<C>>,
+    from: usize,
+    entry: &'d Entry<C>,
+    start: usize,
+) -> (Option<&'d Entry<C>>, usize)
+    ensures { (option_copied result.0, result.1) ≡ meets (option_copied best.entry, from) start (Some entry.now) }
+{
+    let value = match best {
+        Some(best) => best.value,
+        None => 0,
+    };
+    if value < entry.value || (value == entry.value && start < from) {
+        (Some(entry), start)
+    } else {
+        (best, from)
+    }
+}
+
+/// Lets an entry of a key that stands at `start` compete for the place on which it bears, if that is within the word.
+fn compete_at<'d, C>(
+    bests: &mut [Option<&'d Entry<C>>],
+    starts: &mut [usize],
+    start: usize,
+    entry: &'d Entry<C>,
+)
+    requires { length starts.old ≡ length bests.old }
+    ensures { (i : ℕ) → i < length bests.old
+        → best_of bests.new starts.new i
+        ≡ (if start + entry.now.place == (i + 1) + 1
+        then meets (best_of bests.old starts.old i) start (Some entry.now)
+        else best_of bests.old starts.old i) }
+{
+    if let Some(place) = start.checked_add(entry.place) {
+        if 2 <= place && place - 2 < bests.len() {
+            let at = place - 2;
+            let (best, from) = better(bests[at], starts[at], entry, start);
+            bests[at] = best;
+            starts[at] = from;
+        }
+    }
+}
+
+/// Lets the entries of a key that stands at `start` compete.
+fn compete<'d, C>(
+    entries: &'d [Entry<C>],
+    start: usize,
+    bests: &mut [Option<&'d Entry<C>>],
+    starts: &mut [usize],
+)
+    requires lengths { length starts.old ≡ length bests.old }
+    requires sane { (i : ℕ) → i < length bests.old → Sane (best_of bests.old starts.old i) }
+    ensures { (i : ℕ) → i < length bests.old
+        → best_of bests.new starts.new i
+        ≡ meets (best_of bests.old starts.old i) start
+        (first_greatest (filter (λ entry. start + entry.place == (i + 1) + 1) entries.now)) }
+{
+    for entry in entries {
+        compete_at(bests, starts, start, entry);
+    }
+}
+
+/// Lets the keys that end the text of a node, which ends at `end`, compete, with one report for each.
+fn compete_reported<'d, C: Drop>(
+    automaton: &'d Automaton<Entry<C>>,
+    word: &[u8],
+    from: usize,
+    end: usize,
+    bests: &mut [Option<&'d Entry<C>>],
+    starts: &mut [usize],
+    count: &mut LookUps,
+)
+    requires end { end ≤ length (frame word.now) }
+    requires longest { IsLongest automaton.now.texts (take end (frame word.now)) from }
+    requires lengths { length starts.old ≡ length bests.old }
+    requires holds { (i : ℕ) → i < length bests.old
+        → Holds (key_at automaton.now) (frame word.now) (i + 1) (Asked (frame word.now) end 0)
+        (best_of bests.old starts.old i) }
+    requires room { count.old.reported + length (node_text automaton.now from) + 1 < 2 ^ 128 }
+    ensures holds { (i : ℕ) → i < length bests.old
+        → Holds (key_at automaton.now) (frame word.now) (i + 1) (Asked (frame word.now) (end + 1) 0)
+        (best_of bests.new starts.new i) }
+    ensures reported { count.new.reported
+        ≡ count.old.reported + keys_in automaton.now (node_text automaton.now from)
+        (length (node_text automaton.now from)) }
+    ensures made { count.new.made ≡ count.old.made }
+{
+    let _root = automaton.root();
+    let mut node = automaton.report(from);
+    while node != 0 {
+        let entries = automaton.entries(node, count);
+        compete(entries, end - automaton.depth(node), bests, starts);
+        node = automaton.next_report(node);
+    }
+}
+
+/// The entries that win the places of a word, from place 1 on, by the automaton of the keys.
+#[inline(always)]
+pub fn winners_in<'d, C: Drop>(
+    alloc: Global,
+    automaton: &'d Automaton<Entry<C>>,
+    word: &[u8],
+    count: &mut LookUps,
+) -> Result<Vec<Option<&'d Entry<C>>>, AllocError>
+    requires begins { EachBeginsKey automaton.now }
+    requires made { count.old.made ≤ 2 ^ 64 }
+    requires reported { count.old.reported ≤ 2 ^ 64 }
+    ensures winners { IfOk result (λ v. map option_copied v.items ≡ winners (key_at automaton.now) word.now) }
+    ensures linear { count.new.made ≤ count.old.made + 2 * (length word.now + 2) }
+    ensures alone { ((q : List ℕ) → key_at automaton.now q ≡ None)
+        → count.new.made ≤ count.old.made + (length word.now + 2) }
+    ensures least { OnOk result (count.old.made + (length word.now + 2) ≤ count.new.made) }
+    ensures kept { count.old.made ≤ count.new.made }
+    ensures counted { count.old.reported ≤ count.new.reported }
+    ensures reported { OnOk result (count.new.reported ≡ count.old.reported + occurrences (key_at automaton.now)
+        (frame word.now)) }
+    ensures visited { count.new.reported ≤ count.old.reported + occurrences (key_at automaton.now) (frame word.now) }
+{
+    let places = word.len().saturating_sub(1);
+    let mut bests: Vec<Option<&'d Entry<C>>> = vec![in alloc; None; places]?;
+    let mut starts = vec![in alloc; 0usize; places]?;
+    let mut node = automaton.root();
+    for at in 0..word.len() + 2 {
+        node = automaton.step(node, framed_at(word, at), count);
+        compete_reported(
+            automaton,
+            word,
+            node,
+            at + 1,
+            &mut bests,
+            &mut starts,
+            count,
+        );
+    }
+    Ok(bests)
+}
+
+/// The entries that win the places of a word, from place 1 on, a place being a number of bytes.
+///
+/// There is none where no key gives a value above 0. The hyphenator and the extended kind take
+/// from the winner what they need. The look-ups and the reports are counted, and the only error is
+/// memory.
+#[inline(always)]
+pub fn winners<'d, C: Payload, B: Break>(
+    alloc: Global,
+    dictionary: &'d Dictionary<C, B>,
+    word: &str,
+    count: &mut LookUps,
+) -> Result<Vec<Option<&'d Entry<C>>>, AllocError>
+    requires made { count.old.made ≤ 2 ^ 64 }
+    requires reported { count.old.reported ≤ 2 ^ 64 }
+    ensures places { IfOk result (λ v. length v.items ≡ length word.now - 1) }
+    ensures winners { IfOk result (λ v. map option_copied v.items ≡ winners (keys_of dictionary.now) word.now) }
+    ensures most { count.new.made ≤ count.old.made + (length word.now + 2) * (longest_key dictionary.now + 1) }
+    ensures linear { count.new.made ≤ count.old.made + 2 * (length word.now + 2) }
+    ensures least { OnOk result (count.old.made + (length word.now + 2) ≤ count.new.made) }
+    ensures kept { count.old.made ≤ count.new.made }
+    ensures counted { count.old.reported ≤ count.new.reported }
+    ensures reported { OnOk result (count.new.reported ≡ count.old.reported + occurrences (keys_of dictionary.now)
+        (frame word.now)) }
+    ensures visited { count.new.reported ≤ count.old.reported + occurrences (keys_of dictionary.now) (frame word.now) }
+{
+    // The call tells the proof what is true of each dictionary.
+    let _minima = dictionary.minima();
+    winners_in(alloc, dictionary.patterns(), word.as_bytes(), count)
+}

@@ -1,0 +1,222 @@
+//! The values of the places of a word, in one pass over its frame.
+//!
+//! Each place keeps the greatest value that a key has given it so far. In what order the keys are met makes no
+//! difference. Whether an entry that was met carries a change is told too: in most words none does, and then the
+//! values alone say where the word may be broken.
+
+ghost use Rattle.std.specs.Prelude.{◌≡◌, ◌+◌, ◌-◌, ◌*◌, ◌<◌, ◌≤◌, ◌^◌, ◌==◌, ◌++◌, ◌∷◌, [], if◌then◌else◌, max, ℕ, List, None, false, length, filter, slice_index, IfOk, OnOk};
+ghost use Rattle.hyphenation_commons.specs.Dictionary.{keys_of, longest_key};
+ghost use Rattle.hyphenation_trie.specs.Links.{IsLongest};
+ghost use Rattle.hyphenation_trie.specs.Private.Links.{keys_in};
+ghost use Rattle.hyphenation_trie.specs.Trie.{node_text, key_at, EachBeginsKey};
+ghost use Rattle.hyphenation_score.specs.OnePass.{occurrences, carry_change};
+ghost use Rattle.hyphenation_score.specs.Private.OnePass.{entries_of_ends};
+ghost use Rattle.hyphenation_score.specs.Scoring.{frame, bearers, greatest_value, values};
+
+use hyphenation_commons::breaks::Break;
+use hyphenation_commons::dictionary::{Dictionary, Entry, Payload};
+use hyphenation_trie::{Automaton, LookUps};
+use std::alloc::{AllocError, Global};
+
+/// Raises the value of the place for which `start + place` stands, if that is within the word.
+fn raise_at(values: &mut [u8], start: usize, place: usize, value: u8)
+    requires start { start ≤ length values.old + 2 }
+    requires room { length values.old + 1 < 2 ^ 63 }
+    ensures { (i : ℕ) → i < length values.old
+        → slice_index values.new i ≡ max (slice_index values.old i) (if start + place == (i + 1) + 1 then value
+        else 0) }
+{
+    // A place after the word is passed over first, so that no sum is too great.
+    if place <= values.len() + 1 {
+        // The frame has a dot before the word, and the first place stands after the word's first byte.
+        let at = (start + place).wrapping_sub(2);
+        if at < values.len() && values[at] < value {
+            values[at] = value;
+        }
+    }
+}
+
+/// Raises the values to those of the entries of a key that stands at `start`, and tells whether one carries a change.
+fn raise<C: Payload>(entries: &[Entry<C>], start: usize, values: &mut [u8]) -> bool
+    requires start { start ≤ length values.old + 2 }
+    requires room { length values.old + 1 < 2 ^ 63 }
+    ensures values { (i : ℕ) → i < length values.old
+        → slice_index values.new i
+        ≡ max (slice_index values.old i)
+        (greatest_value (filter (λ entry. start + entry.place == (i + 1) + 1) entries.now)) }
+    ensures changes { result ≡ carry_change C.change_of entries.now }
+{
+    let mut changes = false;
+    for entry in entries {
+        raise_at(values, start, entry.place, entry.value);
+        changes |= entry.change.as_change().is_some();
+    }
+    changes
+}
+
+/// Raises the values to those of the keys that end the text of a node, which ends at `end`, with one report for each.
+/// Where it says no, none of their entries carries a change.
+fn raise_reported<C: Payload>(
+    automaton: &Automaton<Entry<C>>,
+    from: usize,
+    end: usize,
+    values: &mut [u8],
+    count: &mut LookUps,
+) -> bool
+    requires from { from < length automaton.now.texts }
+    requires end { length (node_text automaton.now from) ≤ end }
+    requires within { end ≤ length values.old + 3 }
+    requires short { length values.old + 1 < 2 ^ 63 }
+    requires room { count.old.reported + length (node_text automaton.now from) + 1 < 2 ^ 128 }
+    ensures values { (i : ℕ) → i < length values.old
+        → slice_index values.new i
+        ≡ max (slice_index values.old i)
+        (greatest_value (entries_of_ends (key_at automaton.now) (node_text automaton.now from) end (i + 1))) }
+    ensures unchanged { result ≡ false → (p : ℕ)
+        → carry_change C.change_of (entries_of_ends (key_at automaton.now) (node_text automaton.now from) end p)
+        ≡ false }
+    ensures reported { count.new.reported
+        ≡ count.old.reported + keys_in automaton.now (node_text automaton.now from)
+        (length (node_text automaton.now from)) }
+    ensures made { count.new.made ≡ count.old.made }
+{
+    let _root = automaton.root();
+    let mut changes = false;
+    let mut node = automaton.report(from);
+    while node != 0 {
+        let entries = automaton.entries(node, count);
+        changes |= raise(entries, end - automaton.depth(node), values);
+        node = automaton.next_report(node);
+    }
+    changes
+}
+
+/// Reads one byte of a word's frame, and raises the values to those of the keys that end with it.
+///
+/// The node after it is told, and where the flag is unset, no entry of those keys carries a change.
+#[inline(always)]
+fn read<C: Payload>(
+    automaton: &Automaton<Entry<C>>,
+    from: usize,
+    byte: u8,
+    end: usize,
+    values: &mut [u8],
+    count: &mut LookUps,
+) -> (usize, bool)
+    requires from { from < length automaton.now.texts }
+    requires end { length (node_text automaton.now from) + 1 ≤ end }
+    requires within { end ≤ length values.old + 3 }
+    requires short { length values.old + 1 < 2 ^ 63 }
+    requires made { count.old.made ≤ 2 ^ 100 }
+    requires reported { count.old.reported ≤ 2 ^ 127 }
+    ensures longest { IsLongest automaton.now.texts (node_text automaton.now from ++ byte ∷ []) result.0 }
+    ensures values { (i : ℕ) → i < length values.old
+        → slice_index values.new i
+        ≡ max (slice_index values.old i)
+        (greatest_value (entries_of_ends (key_at automaton.now) (node_text automaton.now result.0) end (i + 1))) }
+    ensures unchanged { result.1 ≡ false → (p : ℕ)
+        → carry_change C.change_of (entries_of_ends (key_at automaton.now) (node_text automaton.now result.0) end p)
+        ≡ false }
+    ensures least { count.old.made + 1 ≤ count.new.made }
+    ensures most { count.new.made + length (node_text automaton.now result.0)
+        ≤ count.old.made + length (node_text automaton.now from) + 2 }
+    ensures alone { count.new.made ≤ count.old.made + length (node_text automaton.now from) + 1 }
+    ensures reported { count.new.reported
+        ≡ count.old.reported + keys_in automaton.now (node_text automaton.now result.0)
+        (length (node_text automaton.now result.0)) }
+{
+    let node = automaton.step(from, byte, count);
+    let changes = raise_reported(automaton, node, end, values, count);
+    (node, changes)
+}
+
+/// Raises values, which are 0, to those of a word's places, in one pass over its frame. Where it says no, no entry that
+/// bears on a place carries a change.
+#[inline(always)]
+pub fn raise_all<C: Payload>(
+    automaton: &Automaton<Entry<C>>,
+    word: &[u8],
+    scores: &mut [u8],
+    count: &mut LookUps,
+) -> bool
+    requires begins { EachBeginsKey automaton.now }
+    requires made { count.old.made ≤ 2 ^ 64 }
+    requires reported { count.old.reported ≤ 2 ^ 64 }
+    requires places { length scores.old ≡ length word.now - 1 }
+    requires zeros { (i : ℕ) → i < length scores.old → slice_index scores.old i ≡ 0 }
+    ensures values { scores.new ≡ values (key_at automaton.now) word.now }
+    ensures unchanged { result ≡ false → (p : ℕ)
+        → carry_change C.change_of (bearers (key_at automaton.now) (frame word.now) p) ≡ false }
+    ensures linear { count.new.made ≤ count.old.made + 2 * (length word.now + 2) }
+    ensures alone { ((q : List ℕ) → key_at automaton.now q ≡ None)
+        → count.new.made ≤ count.old.made + (length word.now + 2) }
+    ensures least { count.old.made + (length word.now + 2) ≤ count.new.made }
+    ensures reported { count.new.reported ≡ count.old.reported + occurrences (key_at automaton.now) (frame word.now) }
+{
+    // The dots of the frame are read before the word and after it.
+    let root = automaton.root();
+    let (mut node, mut changes) = read(automaton, root, b'.', 1, scores, count);
+    for at in 0..word.len() {
+        let (next, met) = read(automaton, node, word[at], at + 2, scores, count);
+        node = next;
+        changes |= met;
+    }
+    let (_, met) = read(automaton, node, b'.', word.len() + 2, scores, count);
+    changes | met
+}
+
+/// The values of a word's places, in one pass over its frame.
+#[inline(always)]
+pub(super) fn values_in<C: Payload>(
+    alloc: Global,
+    automaton: &Automaton<Entry<C>>,
+    word: &[u8],
+    count: &mut LookUps,
+) -> Result<Vec<u8>, AllocError>
+    requires begins { EachBeginsKey automaton.now }
+    requires made { count.old.made ≤ 2 ^ 64 }
+    requires reported { count.old.reported ≤ 2 ^ 64 }
+    ensures values { IfOk result (λ v. v.items ≡ values (key_at automaton.now) word.now) }
+    ensures linear { count.new.made ≤ count.old.made + 2 * (length word.now + 2) }
+    ensures alone { ((q : List ℕ) → key_at automaton.now q ≡ None)
+        → count.new.made ≤ count.old.made + (length word.now + 2) }
+    ensures least { OnOk result (count.old.made + (length word.now + 2) ≤ count.new.made) }
+    ensures kept { count.old.made ≤ count.new.made }
+    ensures counted { count.old.reported ≤ count.new.reported }
+    ensures reported { OnOk result (count.new.reported ≡ count.old.reported + occurrences (key_at automaton.now)
+        (frame word.now)) }
+    ensures visited { count.new.reported ≤ count.old.reported + occurrences (key_at automaton.now) (frame word.now) }
+{
+    let places = word.len().saturating_sub(1);
+    let mut values = vec![in alloc; 0u8; places]?;
+    let _changes = raise_all(automaton, word, &mut values, count);
+    Ok(values)
+}
+
+/// The values of the places of a word, from place 1 on, in one pass over the word.
+///
+/// The look-ups and the reports are counted, and the only error is memory.
+#[inline(always)]
+pub(super) fn values<C: Payload, B: Break>(
+    alloc: Global,
+    dictionary: &Dictionary<C, B>,
+    word: &str,
+    count: &mut LookUps,
+) -> Result<Vec<u8>, AllocError>
+    requires made { count.old.made ≤ 2 ^ 64 }
+    requires reported { count.old.reported ≤ 2 ^ 64 }
+    ensures places { IfOk result (λ v. length v.items ≡ length word.now - 1) }
+    ensures values { IfOk result (λ v. v.items ≡ values (keys_of dictionary.now) word.now) }
+    ensures most { count.new.made ≤ count.old.made + (length word.now + 2) * (longest_key dictionary.now + 1) }
+    ensures linear { count.new.made ≤ count.old.made + 2 * (length word.now + 2) }
+    ensures least { OnOk result (count.old.made + (length word.now + 2) ≤ count.new.made) }
+    ensures kept { count.old.made ≤ count.new.made }
+    ensures counted { count.old.reported ≤ count.new.reported }
+    ensures reported { OnOk result (count.new.reported ≡ count.old.reported + occurrences (keys_of dictionary.now)
+        (frame word.now)) }
+    ensures visited { count.new.reported ≤ count.old.reported + occurrences (keys_of dictionary.now) (frame word.now) }
+{
+    // The call tells the proof what is true of each dictionary.
+    let _minima = dictionary.minima();
+    values_in(alloc, dictionary.patterns(), word.as_bytes(), count)
+}
