@@ -6,7 +6,7 @@ use Rattle.std.proofs.lemmas.Bool.{cases_lt, cases_eq, lt-ltb, le-ltb, eqb-true,
 use Rattle.hyphenation_commons.specs.declared.dictionary.Entry.{Entry}
 use Rattle.hyphenation_score.specs.Scoring.{greatest_value, first_greatest, value_of}
 use Rattle.hyphenation_score.specs.Private.Scoring.{greater}
-use Rattle.hyphenation_score.proofs.Greatest.{greatest_from, greatest_value-append}
+use Rattle.hyphenation_score.proofs.GreatestValues.{greatest_from, greatest_value-append}
 
 cons_value : {C : Type 0} (e : Entry C) (es : List (Entry C)) → greatest_value (e ∷ es) ≡ max e.value (greatest_value es)
 cons_value e es = omega (arith, greatest_from (max 0 e.value) (map (λ x. x.value) es))

@@ -1,10 +1,10 @@
-pub mod Greatest
+pub mod GreatestValues
 pub mod FirstGreatest
 pub mod NumberRows
 pub mod OnePass
 pub mod OnePassInvariant
 pub mod CarriedChanges
-pub mod Winners
+pub mod WinnersMet
 pub mod WinnerVisits
 pub mod NoKeys
 pub mod Longest

@@ -7,7 +7,7 @@ use Rattle.std.specs.Cmp.Lexicographic.{slice_cmp, texts_ties}
 use Rattle.std.specs.FinMap as finite
 use Rattle.std.specs.FinMap.{contains_key-keys}
 use Rattle.hyphenation_commons.specs.Dictionary.{Contents, keys_of, greatest, longest_key}
-use Rattle.hyphenation_score.proofs.Greatest.{greatest_from}
+use Rattle.hyphenation_score.proofs.GreatestValues.{greatest_from}
 use Rattle.hyphenation_trie.proofs.TrieNodes.{same_text}
 
 either_true : (a b : Bool) → (a || b) ≡ true → a ≡ false → b ≡ true

@@ -15,7 +15,7 @@ use Rattle.hyphenation_trie.proofs.KeyNodes.{node_of_key}
 use Rattle.hyphenation_score.specs.Scoring.{frame, greatest_value, bearing, bearing_from, bearers, values}
 use Rattle.hyphenation_score.specs.OnePass.{keys_ending, occurrences}
 use Rattle.hyphenation_score.specs.Private.OnePass.{entries_of_end, entries_of_ends}
-use Rattle.hyphenation_score.proofs.Greatest.{greatest_value-append, greatest_value-within, filter-append}
+use Rattle.hyphenation_score.proofs.GreatestValues.{greatest_value-append, greatest_value-within, filter-append}
 use Rattle.hyphenation_score.proofs.NumberRows.{range-append, range_more, flat_map_none}
 
 -- one more piece of a list of entries

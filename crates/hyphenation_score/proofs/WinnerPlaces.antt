@@ -7,7 +7,7 @@ use Rattle.hyphenation_commons.specs.Dictionary.{Patterns}
 use Rattle.hyphenation_commons.specs.declared.dictionary.Entry.{Entry}
 use Rattle.hyphenation_score.specs.Scoring.{frame, bearing, bearing_from, bearers, greatest_value, first_greatest, value_of, value_at, winner_at, Bears, Before, Wins}
 use Rattle.hyphenation_score.specs.Private.Scoring.{greater}
-use Rattle.hyphenation_score.proofs.Greatest.{greatest_from, greatest_value-append}
+use Rattle.hyphenation_score.proofs.GreatestValues.{greatest_from, greatest_value-append}
 use Rattle.hyphenation_score.proofs.FirstGreatest.{first-append, first_none, first_some, value_of-first, greater_first, greater_second}
 
 -- ---- members of lists

@@ -11,7 +11,7 @@ use Rattle.hyphenation_score.specs.Scoring.{greatest_value, first_greatest, bear
 use Rattle.hyphenation_score.specs.Winners.{IsPair, Best, Holds}
 use Rattle.hyphenation_score.specs.Private.Winners.{meets, Asked}
 use Rattle.hyphenation_score.proofs.OnePass.{slice_is, none_next}
-use Rattle.hyphenation_score.proofs.Winners.{holds_skip, holds_visit, winner_is, winner_none}
+use Rattle.hyphenation_score.proofs.WinnersMet.{holds_skip, holds_visit, winner_is, winner_none}
 
 -- where no key stands, nothing bears
 nothing : {C : Type 0} (tree : Tree (Entry C)) (framed : List ℕ) (p s end : ℕ) → s ≤ end → key_at tree (drop s (take end framed)) ≡ None → greatest_value (bearing (key_at tree) framed p s end) ≡ 0

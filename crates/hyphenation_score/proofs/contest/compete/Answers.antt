@@ -2,7 +2,7 @@ use Rattle.std.proofs.Common.{◌≡◌, ◌+◌, ◌==◌, filter, take, arith,
 use Rattle.std.proofs.lemmas.List.{take_all}
 use Rattle.hyphenation_score.specs.Scoring.{first_greatest}
 use Rattle.hyphenation_score.specs.Private.Winners.{best_of, meets}
-use Rattle.hyphenation_score.proofs.Winners.{met_more}
+use Rattle.hyphenation_score.proofs.WinnersMet.{met_more}
 use Rattle.hyphenation_score.proofs.contest.compete.Goals as goal
 
 pub loop-entry-preserved : goal.loop-entry-preserved

@@ -7,7 +7,7 @@ use Rattle.hyphenation_score.specs.Scoring.{frame}
 use Rattle.hyphenation_score.specs.Winners.{Holds}
 use Rattle.hyphenation_score.specs.Private.Winners.{best_of, Asked}
 use Rattle.hyphenation_score.proofs.OnePass.{none_next, counted_first, counted_more}
-use Rattle.hyphenation_score.proofs.Winners.{holds_sane}
+use Rattle.hyphenation_score.proofs.WinnersMet.{holds_sane}
 use Rattle.hyphenation_score.proofs.WinnerVisits.{met_first, met_next, met_all}
 use Rattle.hyphenation_score.proofs.contest.compete_reported.Goals as goal
 

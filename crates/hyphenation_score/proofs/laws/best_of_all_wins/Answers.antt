@@ -2,7 +2,7 @@ use Rattle.std.proofs.Common.{◌≡◌, ℕ, List, sym, ◌∙◌, inl, inr}
 use Rattle.hyphenation_commons.specs.Dictionary.{Patterns}
 use Rattle.hyphenation_score.specs.Scoring.{frame, winner_at}
 use Rattle.hyphenation_score.specs.Winners.{Best, IsPair, Holds}
-use Rattle.hyphenation_score.proofs.Winners.{winner_is, winner_none}
+use Rattle.hyphenation_score.proofs.WinnersMet.{winner_is, winner_none}
 use Rattle.hyphenation_score.proofs.laws.best_of_all_wins.Goals as goal
 
 all_win : {C : Type 0} (keys : Patterns C) (word : List ℕ) (p : ℕ) (now : Best C) → Holds keys (frame word) p (IsPair (frame word)) now → now.0 ≡ winner_at keys word p

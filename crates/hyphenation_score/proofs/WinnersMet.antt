@@ -10,7 +10,7 @@ use Rattle.hyphenation_score.specs.Private.Scoring.{greater}
 use Rattle.hyphenation_score.specs.Winners.{IsPair, IsBest, Best, Holds}
 use Rattle.hyphenation_score.specs.Private.Winners.{meets, Sane}
 use Rattle.hyphenation_score.proofs.FirstGreatest.{first_none, value_of-first, first-append, greater_first, greater_second, greater_none, greater_one}
-use Rattle.hyphenation_score.proofs.Greatest.{greatest_value-within, filter-append}
+use Rattle.hyphenation_score.proofs.GreatestValues.{greatest_value-within, filter-append}
 
 -- the first of the greatest gives the greatest value, which is above 0
 pub first_value : {C : Type 0} (es : List (Entry C)) (e : Entry C) → first_greatest es ≡ Some e → (greatest_value es ≡ e.value) × (0 < e.value)
