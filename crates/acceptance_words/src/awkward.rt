@@ -45,7 +45,7 @@ pub fn placed(alloc: Global, minima: &str, lines: &str, words: &str) -> Result<S
     Ok(of_both(alloc, plain, changed)?)
 }
 
-// the value stands between `b` and the dot: within the first word, and at the end of the second, which is no place
+/// The value stands between `b` and the dot: within the first word, and at the end of the second, which is no place.
 #[test]
 fn a_dot_at_the_end_of_a_key_is_an_edge_or_a_dot(rt: HostRuntime) -> Result<(), Fail> {
     assert_eq!(rt;
@@ -55,7 +55,7 @@ fn a_dot_at_the_end_of_a_key_is_an_edge_or_a_dot(rt: HostRuntime) -> Result<(), 
     Ok(())
 }
 
-// the first letter's value stands at place 0, which is no place
+/// The first letter's value stands at place 0, which is no place.
 #[test]
 fn a_dot_at_the_head_of_a_key_is_an_edge_or_a_dot(rt: HostRuntime) -> Result<(), Fail> {
     assert_eq!(rt; scored(rt.alloc(), "p .1a", "a.a a")?.as_str(), "0 1 ,,");
@@ -84,7 +84,7 @@ fn dots_inside_a_key_are_dots_alone(rt: HostRuntime) -> Result<(), Fail> {
     Ok(())
 }
 
-// by the minima 0 and 0 the last place is that of the last letter, so that 2 is left out
+/// By the minima 0 and 0 the last place is that of the last letter, so that 2 is left out.
 #[test]
 fn a_word_is_broken_at_its_head_and_not_at_its_end(rt: HostRuntime) -> Result<(), Fail> {
     let lines = "e ab 0 1 2\ne a 0 1";
@@ -174,7 +174,7 @@ fn soft_hyphens_between_parts_are_the_breaks(rt: HostRuntime) -> Result<(), Fail
     Ok(())
 }
 
-// a soft hyphen has two bytes, so that the key's value stands at place 3
+/// A soft hyphen has two bytes, so that the key's value stands at place 3.
 #[test]
 fn a_soft_hyphen_of_a_key_is_a_letter_for_the_score_alone(rt: HostRuntime) -> Result<(), Fail> {
     let line = "p \u{ad}1b";
@@ -189,7 +189,7 @@ fn a_soft_hyphen_of_a_key_is_a_letter_for_the_score_alone(rt: HostRuntime) -> Re
 /// Three acute accents, with no letter below them; each has two bytes.
 const ACCENTS: &str = "\u{301}\u{301}\u{301}";
 
-// the key stands in the word twice, at its first and at its second accent
+/// The key stands in the word twice, at its first and at its second accent.
 #[test]
 fn combining_characters_alone_are_a_word(rt: HostRuntime) -> Result<(), Fail> {
     let line = "p \u{301}1\u{301}";
@@ -208,7 +208,7 @@ fn combining_characters_are_counted_by_the_minima(rt: HostRuntime) -> Result<(),
     Ok(())
 }
 
-// the second range begins in the first, which is kept
+/// The second range begins in the first, which is kept.
 #[test]
 fn combining_characters_are_changed(rt: HostRuntime) -> Result<(), Fail> {
     let line = "p \u{301}1\u{301} 2,2,2,1,xy";
@@ -220,7 +220,7 @@ fn combining_characters_are_changed(rt: HostRuntime) -> Result<(), Fail> {
 /// A man, a woman and a girl, joined: 4, 3, 4, 3 and 4 bytes.
 const FAMILY: &str = "\u{1f468}\u{200d}\u{1f469}\u{200d}\u{1f467}";
 
-// the joiner that is meant has seven bytes before its end
+/// The joiner that is meant has seven bytes before its end.
 #[test]
 fn joined_emoji_are_broken_after_a_joiner(rt: HostRuntime) -> Result<(), Fail> {
     let line = "p \u{200d}1\u{1f469}";
@@ -263,7 +263,7 @@ fn of_letters(alloc: Global, minima: &str, number: usize) -> Result<String, Fail
     placed(alloc, minima, "p a1a", &word)
 }
 
-// 255 letters before a break and 255 after it are 510
+/// 255 letters before a break and 255 after it are 510.
 #[test]
 fn the_greatest_minima_leave_510_letters_one_break(rt: HostRuntime) -> Result<(), Fail> {
     assert_eq!(rt; of_letters(rt.alloc(), "255 255", 509)?.as_str(), ",");
@@ -291,7 +291,7 @@ fn the_least_minima_leave_all_breaks(rt: HostRuntime) -> Result<(), Fail> {
     Ok(())
 }
 
-// the patterns would break each word at each place
+/// The patterns would break each word at each place.
 #[test]
 fn where_each_word_is_an_exception_no_pattern_is_seen(rt: HostRuntime) -> Result<(), Fail> {
     let lines = "p 1a1\np 1b1\ne ab\ne aab 2\ne b 0\ne aaa 1 2\ne \\e";

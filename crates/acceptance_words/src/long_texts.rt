@@ -70,7 +70,7 @@ fn is_changed(alloc: Global, line: &str, piece: &str) -> Result<bool, Fail> {
     Ok(found.as_str() == wanted.as_str())
 }
 
-// `aa` allows a break at each place, and each range of two letters that is kept bars the next place
+/// `aa` allows a break at each place, and each range of two letters that is kept bars the next place.
 #[test]
 fn a_word_of_10_000_bytes_is_fitted(rt: HostRuntime) -> Result<(), Fail> {
     assert!(rt; is_changed(rt.alloc(), "p a1b 1,1,1,1,xy", "ab")?);
@@ -91,7 +91,7 @@ fn by_one_key(alloc: Global, letters: usize, of_word: usize) -> Result<String, F
     placed(alloc, "1 1", &line, &word)
 }
 
-// in a word with one letter more the key stands twice
+/// In a word with one letter more the key stands twice.
 #[test]
 fn a_key_of_1_000_bytes_is_found(rt: HostRuntime) -> Result<(), Fail> {
     assert_eq!(rt; by_one_key(rt.alloc(), 1_000, 999)?.as_str(), ",");
@@ -149,7 +149,7 @@ fn looked_up(alloc: Global) -> Result<u128, Fail> {
     Ok(counted(alloc, DOTS, &word)?.made())
 }
 
-// twice the bytes of the frame
+/// Twice the bytes of the frame.
 #[test]
 fn a_word_of_100_000_dots_is_looked_up_in_one_pass(rt: HostRuntime) -> Result<(), Fail> {
     let made = looked_up(rt.alloc())?;
@@ -328,7 +328,7 @@ fn is_filled(alloc: Global) -> Result<bool, AllocError> {
     Ok(end.is_ok() && output.as_slice() == wanted.as_bytes())
 }
 
-// two words have eight characters with the space after the second
+/// Two words have eight characters with the space after the second.
 #[test]
 fn a_text_of_a_million_bytes_is_filled(rt: HostRuntime) -> Result<(), Fail> {
     assert!(rt; is_filled(rt.alloc())?);

@@ -27,7 +27,7 @@ fn assert_long_word<'h, H: Hyphenator<'h>>(
     Ok(())
 }
 
-// Steps in the square of the letters would show here by the time that the test takes.
+/// Steps in the square of the letters would show here by the time that the test takes.
 #[test]
 fn words_with_a_shift_at_each_letter_are_broken(rt: HostRuntime) -> Result<(), Fail> {
     let alloc = rt.alloc();

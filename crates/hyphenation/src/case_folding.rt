@@ -74,7 +74,7 @@ pub fn refold<'t>(alloc: Global, original: &'t str) -> Result<(CowStr<'t>, Vec<S
     Ok((CowStr::Owned(folded), shifts))
 }
 
-// The place of the first character that is Uppercase.
+/// The place of the first character that is Uppercase.
 fn first_uppercase(text: &str) -> Option<usize>
     ensures none { IsNone result ↔ (has_uppercase text.now ≡ false) }
     ensures place { IfSome result (λ place. IsCharBoundary text.now place) }
@@ -134,7 +134,7 @@ pub(crate) fn are_small_letters(word: &str) -> bool
     at == bytes.len() || bytes[at].is_ascii_lowercase()
 }
 
-// Whether a character has the property Uppercase, by short roads for ASCII and for the letters of which most words are.
+/// Whether a character has the property Uppercase, by short roads for ASCII and for the letters of which most words are.
 fn is_upper(c: char) -> bool
     ensures { result ≡ is_uppercase c }
 {
@@ -147,7 +147,7 @@ fn is_upper(c: char) -> bool
     }
 }
 
-// What a character becomes.
+/// What a character becomes.
 fn fold_char(c: char) -> char
     ensures { result ≡ fold_character c }
 {
@@ -160,7 +160,7 @@ fn fold_char(c: char) -> char
     }
 }
 
-// By how much the first number of bytes is above the second.
+/// By how much the first number of bytes is above the second.
 fn difference(a: usize, b: usize) -> isize
     requires first { a < 2 ^ 63 }
     requires second { b < 2 ^ 63 }
@@ -185,7 +185,7 @@ pub fn realign(i: usize, shifts: &[Shift]) -> usize
     carried_by(i, last_shift_below(i, shifts))
 }
 
-// The place less the delta of a shift, if there is one, held between 0 and the greatest `usize`.
+/// The place less the delta of a shift, if there is one, held between 0 and the greatest `usize`.
 fn carried_by(i: usize, shift: Option<&Shift>) -> usize
     ensures { result
         ≡ saturate_unsigned w64 (pos i -ℤ option_map_or (λ shift. shift.delta) (option_copied shift.entry) (pos 0)) }
@@ -203,7 +203,7 @@ pub(crate) fn realign_in_order(i: usize, shifts: &[Shift]) -> usize
     carried_by(i, last_in_order(i, shifts))
 }
 
-// The last shift whose index is below `i`, where they stand in order.
+/// The last shift whose index is below `i`, where they stand in order.
 fn last_in_order(i: usize, shifts: &[Shift]) -> Option<&Shift>
     requires { IsNonDecreasingBy (λ shift. shift.index) shifts.now }
     ensures { option_copied result ≡ find (λ shift. nat_lt shift.index i) (reverse shifts.now) }
@@ -212,7 +212,7 @@ fn last_in_order(i: usize, shifts: &[Shift]) -> Option<&Shift>
     shifts[..count].last()
 }
 
-// The last shift whose index is below `i`.
+/// The last shift whose index is below `i`.
 fn last_shift_below(i: usize, shifts: &[Shift]) -> Option<&Shift>
     ensures { option_copied result ≡ find (λ shift. nat_lt shift.index i) (reverse shifts.now) }
 {

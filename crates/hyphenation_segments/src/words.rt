@@ -61,8 +61,8 @@ impl<'t, B: Break + Copy> Word<'t, B> {
     }
 }
 
-// Where the range of a break ends, if the break stands in the text after the end of the last range and no earlier than
-// the least place.
+/// Where the range of a break ends, if the break stands in the text after the end of the last range and no earlier than
+/// the least place.
 fn end_in<B: Break>(text: &str, last_end: usize, least: usize, b: &B) -> Option<usize>
     ensures { MatchOption result (¬ (Stands text.now last_end least (B.meaning b.now)))
         (λ end. (end ≡ end_of (B.meaning b.now)) × Stands text.now last_end least (B.meaning b.now)) }

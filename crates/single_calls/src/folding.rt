@@ -94,10 +94,10 @@ fn all_characters(alloc: Global) -> Result<String, AllocError> {
     Ok(all)
 }
 
-// Python's tables, of Unicode 14.0, lower 1402 capitals to another character (the İ counted
-// as `i`), of which 25 change their number of bytes. Among the 1402 are 86 Cherokee capitals,
-// which are their own simple case folding. From 14.0 to 18.0 came 75 capitals more, of which
-// 4 change their number of bytes.
+/// Python's tables, of Unicode 14.0, lower 1402 capitals to another character (the İ counted
+/// as `i`), of which 25 change their number of bytes. Among the 1402 are 86 Cherokee capitals,
+/// which are their own simple case folding. From 14.0 to 18.0 came 75 capitals more, of which
+/// 4 change their number of bytes.
 #[test]
 fn all_characters_fold(rt: HostRuntime) -> Result<(), Fail> {
     let all = all_characters(rt.alloc())?;

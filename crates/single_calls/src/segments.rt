@@ -109,7 +109,7 @@ fn left_unmarked<'t>(alloc: Global, word: Word<'t, usize>) -> Result<Vec<&'t str
     word.into_iter().segments().collect(alloc)
 }
 
-// A text, or a refusal in its place.
+/// A text, or a refusal in its place.
 #[derive(Drop)]
 struct Given<'t>(Option<&'t str>);
 
@@ -126,7 +126,7 @@ impl<'t> SegmentText for Given<'t> {
     }
 }
 
-// Segments, of which the second from the end is refused.
+/// Segments, of which the second from the end is refused.
 #[derive(Drop)]
 struct Refusing<'t>(Segments<'t, Copied<slice::Iter<'t, usize>>>);
 
@@ -146,7 +146,7 @@ impl<'t> Texts for Refusing<'t> {
     }
 }
 
-// A break that comes again after the list has answered that it is empty.
+/// A break that comes again after the list has answered that it is empty.
 #[derive(Drop)]
 struct ComesAgain<B: Break + Copy> {
     place: B,

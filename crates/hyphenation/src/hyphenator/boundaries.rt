@@ -37,7 +37,7 @@ pub(super) fn boundaries_of_ascii(minima: (usize, usize), word: &str) -> Option<
     Some((left, bytes - right.max(1)))
 }
 
-// The place of a character by its number from 0, and the text's end where there are not so many.
+/// The place of a character by its number from 0, and the text's end where there are not so many.
 fn place_of(text: &str, number: usize) -> usize
     ensures value { result ≡ place_of_character text.now number }
     ensures boundary { IsCharBoundary text.now result }
@@ -48,7 +48,7 @@ fn place_of(text: &str, number: usize) -> usize
     }
 }
 
-// The place from which on the text has so many characters; `None` where it has fewer.
+/// The place from which on the text has so many characters; `None` where it has fewer.
 fn place_from_end(text: &str, number: usize) -> Option<usize>
     ensures enough { IfSome result (λ place. number ≤ length (chars text.now)) }
     ensures value { IfSome result (λ place. place ≡ place_of_character text.now (length (chars text.now) - number)) }

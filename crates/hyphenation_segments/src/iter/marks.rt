@@ -66,14 +66,14 @@ impl<'m, I: Texts> Hyphenating<'m, I> {
     }
 }
 
-// The mark, where more texts are to come.
+/// The mark, where more texts are to come.
 fn mark_after<'m, I: Texts>(texts: &I, mark: &'m str) -> &'m str
     ensures { result.now ≡ mark_if_more mark.now (I.texts texts.now) }
 {
     if texts.left() > 0 { mark } else { "" }
 }
 
-// A text with its mark.
+/// A text with its mark.
 fn with_mark(alloc: Global, text: &str, mark: &str) -> Result<String, AllocError>
     ensures { IfOk result (λ item. string_bytes item ≡ text.now ++ mark.now) }
 {
