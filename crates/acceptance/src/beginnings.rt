@@ -1,7 +1,7 @@
 //! Beginnings of a text, read whole or a byte at a time; and extended dictionaries of readers that fail.
 
 use crate::run_faults::{LEAST, is_torn, torn};
-use answers::{extended, values};
+use answers::{extended, gives, holds, values};
 use hyphenation::extended::Extended;
 use hyphenation::load::{Cause, Error, Load};
 use hyphenation::{Standard, hyphenate_text};
@@ -26,10 +26,11 @@ fn are_judged_alike(alloc: Global, length: usize) -> bool {
 }
 
 #[test]
-fn beginnings_read_a_byte_at_a_time_are_judged_alike(rt: HostRuntime) {
+fn beginnings_read_a_byte_at_a_time_are_judged_alike(rt: HostRuntime) -> Result<(), Fail> {
     for length in 0..=LEAST.len() {
-        assert!(rt; are_judged_alike(rt.alloc(), length), "{length}");
+        holds(are_judged_alike(rt.alloc(), length), length)?;
     }
+    Ok(())
 }
 
 /// The values of `ab` and `ac` by the dictionary of the first so many bytes.
@@ -42,12 +43,11 @@ fn values_of(alloc: Global, length: usize) -> Result<String, Fail> {
 
 #[test]
 fn accepted_beginnings_give_what_they_spell(rt: HostRuntime) -> Result<(), Fail> {
-    assert_eq!(rt; values_of(rt.alloc(), 48)?.as_str(), "0 ,0 ,");
-    assert_eq!(rt; values_of(rt.alloc(), 49)?.as_str(), "0 ,0 ,");
-    assert_eq!(rt; values_of(rt.alloc(), 52)?.as_str(), "0 ,0 ,");
-    assert_eq!(rt; values_of(rt.alloc(), 53)?.as_str(), "1 ,1 ,");
-    assert_eq!(rt; values_of(rt.alloc(), 54)?.as_str(), "1 ,0 ,");
-    Ok(())
+    gives(values_of(rt.alloc(), 48), "0 ,0 ,")?;
+    gives(values_of(rt.alloc(), 49), "0 ,0 ,")?;
+    gives(values_of(rt.alloc(), 52), "0 ,0 ,")?;
+    gives(values_of(rt.alloc(), 53), "1 ,1 ,")?;
+    gives(values_of(rt.alloc(), 54), "1 ,0 ,")
 }
 
 /// Whether an extended dictionary of a reader that fails at this read is refused for that fault.
@@ -57,13 +57,15 @@ fn is_refused(alloc: Global, text: &[u8], number: usize) -> bool {
 }
 
 #[test]
-fn a_torn_extended_dictionary_is_a_fault_of_reading_at_each_read(rt: HostRuntime) {
+fn a_torn_extended_dictionary_is_a_fault_of_reading_at_each_read(
+    rt: HostRuntime,
+) -> Result<(), Fail> {
     let text = b"hyphenation 1 extended\nlanguage hu\nminima 2 2\np a1b 1,1,0,1,x".as_slice();
     for number in 1..text.len() + 2 {
-        assert!(rt; is_refused(rt.alloc(), text, number), "{number}");
+        holds(is_refused(rt.alloc(), text, number), number)?;
     }
     let whole = Extended::any_from_reader(rt.alloc(), &mut torn(text, usize::MAX));
-    assert!(rt; whole.is_ok());
+    holds(whole.is_ok(), "it ends well")
 }
 
 /// A text after another, hyphenated by an extended dictionary.
@@ -77,9 +79,5 @@ fn appended(alloc: Global, dictionary: &Extended) -> Result<String, AllocError> 
 fn a_text_is_appended_by_an_extended_dictionary(rt: HostRuntime) -> Result<(), Fail> {
     let line = "e asszonnyal 2,1,2,2,szsz 6,1,2,2,nyny";
     let dictionary = extended(rt.alloc(), "2 2", line)?;
-    assert_eq!(rt;
-        appended(rt.alloc(), &dictionary)?.as_str(),
-        "(Az asz-szony-nyal."
-    );
-    Ok(())
+    gives(appended(rt.alloc(), &dictionary), "(Az asz-szony-nyal.")
 }

@@ -1,13 +1,13 @@
 //! Which extended texts are refused, with which line and cause, and which are accepted.
 
-use answers::{extended, extended_text};
+use answers::{extended, extended_text, holds, same};
 use hyphenation::extended::Extended;
 use hyphenation::load::{Cause, Error, Load};
 use hyphenation::{Language, Standard};
 use std::test::Fail;
 
 #[test]
-fn changes_that_do_not_fit_are_refused(rt: HostRuntime) {
+fn changes_that_do_not_fit_are_refused(rt: HostRuntime) -> Result<(), Fail> {
     let cases: [(&str, Cause); 14] = [
         ("p a1b 1", Cause::Change),
         ("p a1b 0,0,0,0,\\e", Cause::Change),
@@ -29,12 +29,13 @@ fn changes_that_do_not_fit_are_refused(rt: HostRuntime) {
             Err(Error::Deserialization { line, cause }) => Some((line, cause)),
             _ => None,
         };
-        assert_eq!(rt; fault, Some((4, cause)), "{line}");
+        same(&fault, &Some((4, cause)))?;
     }
+    Ok(())
 }
 
 #[test]
-fn changes_that_fit_are_accepted(rt: HostRuntime) {
+fn changes_that_fit_are_accepted(rt: HostRuntime) -> Result<(), Fail> {
     let cases: [&str; 10] = [
         "p a1b 1,1,1,0,\\e",
         "e ab 1,1,1,1,xy 2",
@@ -48,47 +49,52 @@ fn changes_that_fit_are_accepted(rt: HostRuntime) {
         "e abcdef 2,1,2,1,x 3,0,1,0,y 5,0,0,0,z",
     ];
     for line in cases {
-        assert!(rt; extended(rt.alloc(), "2 2", line).is_ok(), "{line}");
+        holds(extended(rt.alloc(), "2 2", line).is_ok(), line)?;
     }
+    Ok(())
 }
 
 #[test]
 fn a_text_of_the_other_kind_is_refused_at_its_head(rt: HostRuntime) -> Result<(), Fail> {
     let text = extended_text(rt.alloc(), "2 2", "e ab 1")?;
     let mut reader = text.as_bytes();
-    assert!(rt;
+    holds(
         matches!(
             Standard::any_from_reader(rt.alloc(), &mut reader),
             Err(Error::Deserialization {
                 line: 1,
                 cause: Cause::Header,
             })
-        )
-    );
+        ),
+        "the error",
+    )?;
     let mut reader = &b"hyphenation 1 standard\nlanguage hu\nminima 2 2\n"[..];
-    assert!(rt;
+    holds(
         matches!(
             Extended::any_from_reader(rt.alloc(), &mut reader),
             Err(Error::Deserialization {
                 line: 1,
                 cause: Cause::Header,
             })
-        )
-    );
-    Ok(())
+        ),
+        "the error",
+    )
 }
 
 #[test]
 fn another_language_is_a_mismatch_for_an_extended_text(rt: HostRuntime) -> Result<(), Fail> {
     let text = extended_text(rt.alloc(), "2 2", "e ab 1")?;
     let mut reader = text.as_bytes();
-    assert!(rt;
+    holds(
         matches!(
             Extended::from_reader(rt.alloc(), Language::turkish(), &mut reader),
             Err(Error::LanguageMismatch { .. })
-        )
-    );
+        ),
+        "the error",
+    )?;
     let mut reader = text.as_bytes();
-    assert!(rt; Extended::from_reader(rt.alloc(), Language::hungarian(), &mut reader).is_ok());
-    Ok(())
+    holds(
+        Extended::from_reader(rt.alloc(), Language::hungarian(), &mut reader).is_ok(),
+        "Extended",
+    )
 }

@@ -1,6 +1,6 @@
 //! Readers and writers that fail, and readers that give few bytes at a time.
 
-use answers::FIRKIN;
+use answers::{FIRKIN, holds, same};
 use hyphenation::engine::{Kind, RunError, run_score};
 use hyphenation::load::{Error, Load};
 use hyphenation::{Language, Standard};
@@ -63,22 +63,22 @@ fn a_reader_that_never_fails_meets_no_fault(rt: HostRuntime) -> Result<(), Fail>
         fault: None,
     };
     let dictionary = Standard::any_from_reader(rt.alloc(), &mut reader)?;
-    assert_eq!(rt; dictionary.language().code(), "en-gb");
+    same(&dictionary.language().code(), &"en-gb")?;
     let mut refused = Drip {
         left: &FIRKIN.as_bytes()[..40],
         fault: None,
     };
-    assert!(rt;
+    holds(
         matches!(
             Standard::any_from_reader(rt.alloc(), &mut refused),
             Err(Error::Deserialization { line: 3, .. })
-        )
-    );
-    Ok(())
+        ),
+        "the error",
+    )
 }
 
 #[test]
-fn a_fault_of_reading_is_answered_before_any_line_is_judged(rt: HostRuntime) {
+fn a_fault_of_reading_is_answered_before_any_line_is_judged(rt: HostRuntime) -> Result<(), Fail> {
     for length in [0, 3, 40, FIRKIN.len()] {
         if length <= FIRKIN.len() {
             let mut reader = Drip {
@@ -86,15 +86,16 @@ fn a_fault_of_reading_is_answered_before_any_line_is_judged(rt: HostRuntime) {
                 fault: Some(ErrorKind::ConnectionReset),
             };
             let answer = Standard::any_from_reader(rt.alloc(), &mut reader);
-            assert!(rt; matches!(answer, Err(Error::IO(_))), "{length}");
+            holds(matches!(answer, Err(Error::IO(_))), length)?;
             let mut reader = Drip {
                 left: &FIRKIN.as_bytes()[..length],
                 fault: Some(ErrorKind::OutOfMemory),
             };
             let answer = Standard::any_from_reader(rt.alloc(), &mut reader);
-            assert!(rt; matches!(answer, Err(Error::Memory(_))), "{length}");
+            holds(matches!(answer, Err(Error::Memory(_))), length)?;
         }
     }
+    Ok(())
 }
 
 /// What loading answers of bytes that a reading gave.
@@ -104,21 +105,27 @@ fn loaded(alloc: Global, bytes: &[u8]) -> Result<Standard, Error> {
 }
 
 #[test]
-fn what_a_reading_gave_is_judged(rt: HostRuntime) {
+fn what_a_reading_gave_is_judged(rt: HostRuntime) -> Result<(), Fail> {
     let answer = loaded(rt.alloc(), FIRKIN.as_bytes());
-    assert!(rt; answer.is_ok());
+    holds(answer.is_ok(), "it ends well")?;
     let answer = loaded(rt.alloc(), b"binary \0");
-    assert!(rt; matches!(answer, Err(Error::Deserialization { line: 1, .. })));
+    holds(
+        matches!(answer, Err(Error::Deserialization { line: 1, .. })),
+        "the error",
+    )
 }
 
 #[test]
-fn a_fault_that_a_reading_gave_is_passed_on(rt: HostRuntime) {
+fn a_fault_that_a_reading_gave_is_passed_on(rt: HostRuntime) -> Result<(), Fail> {
     let fault = io::Error::from(ErrorKind::PermissionDenied);
     let answer = Standard::from_read(rt.alloc(), Err(fault));
-    assert!(rt; matches!(answer, Err(Error::IO(e)) if e.kind() == ErrorKind::PermissionDenied));
+    holds(
+        matches!(answer, Err(Error::IO(e)) if e.kind() == ErrorKind::PermissionDenied),
+        "the error",
+    )?;
     let memory = io::Error::from(ErrorKind::OutOfMemory);
     let answer = Standard::from_read(rt.alloc(), Err(memory));
-    assert!(rt; matches!(answer, Err(Error::Memory(_))));
+    holds(matches!(answer, Err(Error::Memory(_))), "the error")
 }
 
 #[test]
@@ -135,24 +142,24 @@ fn a_writer_that_fails_is_a_fault_of_the_output(rt: HostRuntime) -> Result<(), F
             &mut reader,
             &mut writer,
         );
-        assert!(rt; matches!(answer, Err(RunError::Output(_))), "{room}");
-        assert_eq!(rt; writer.taken, room);
+        holds(matches!(answer, Err(RunError::Output(_))), room)?;
+        same(&writer.taken, &room)?;
     }
     let mut reader = FIRKIN.as_bytes();
     let mut writer = Narrow { room: 10, taken: 0 };
-    assert!(rt;
+    holds(
         run_score(
             rt.alloc(),
             Kind::Standard,
             language,
             "firkin",
             &mut reader,
-            &mut writer
+            &mut writer,
         )
-        .is_ok()
-    );
-    assert_eq!(rt; writer.taken, 10);
-    Ok(())
+        .is_ok(),
+        "nothing is written",
+    )?;
+    same(&writer.taken, &10)
 }
 
 #[test]
@@ -168,12 +175,12 @@ fn a_run_that_is_refused_writes_nothing(rt: HostRuntime) -> Result<(), Fail> {
         &mut reader,
         &mut writer,
     );
-    assert!(rt;
+    holds(
         matches!(
             answer,
             Err(RunError::Dictionary(Error::LanguageMismatch { .. }))
-        )
-    );
-    assert_eq!(rt; writer.taken, 0);
-    Ok(())
+        ),
+        "the error",
+    )?;
+    same(&writer.taken, &0)
 }

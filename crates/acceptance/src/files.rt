@@ -1,6 +1,6 @@
 //! Dictionaries in files, and files of one byte.
 
-use answers::{AMERICAN, changed, extended_text, places};
+use answers::{AMERICAN, changed, extended_text, gives, holds, places};
 use hyphenation::extended::Extended;
 use hyphenation::load::{Cause, Error, Load};
 use hyphenation::{Language, Standard};
@@ -30,9 +30,7 @@ fn standard_of(rt: &HostRuntime, name: &str, asked: Language) -> Result<Standard
 #[test]
 fn a_standard_dictionary_is_loaded_from_a_file(rt: HostRuntime) -> Result<(), Fail> {
     let dictionary = standard_of(&rt, "standard", Language::english_us())?;
-    let found = places(rt.alloc(), &dictionary, "firkin")?;
-    assert_eq!(rt; found.as_str(), "3 ,");
-    Ok(())
+    gives(places(rt.alloc(), &dictionary, "firkin"), "3 ,")
 }
 
 #[test]
@@ -40,8 +38,10 @@ fn a_file_of_another_language_is_a_mismatch(rt: HostRuntime) -> Result<(), Fail>
     let path = file(&rt, "other", AMERICAN.as_bytes())?;
     let answer = Standard::from_path(&rt, rt.alloc(), Language::turkish(), &path);
     fs::remove_file(&rt, path.as_str())?;
-    assert!(rt; matches!(answer, Err(Error::LanguageMismatch { .. })));
-    Ok(())
+    holds(
+        matches!(answer, Err(Error::LanguageMismatch { .. })),
+        "the error",
+    )
 }
 
 #[test]
@@ -49,16 +49,15 @@ fn a_missing_file_is_a_fault_of_opening(rt: HostRuntime) -> Result<(), Fail> {
     let path = file(&rt, "missing", b"")?;
     fs::remove_file(&rt, path.as_str())?;
     let answer = Standard::from_path(&rt, rt.alloc(), Language::english_us(), &path);
-    assert!(rt; matches!(answer, Err(Error::IO(_))));
+    holds(matches!(answer, Err(Error::IO(_))), "the error")?;
     let answer = Extended::from_path(&rt, rt.alloc(), Language::hungarian(), &path);
-    assert!(rt; matches!(answer, Err(Error::IO(_))));
-    Ok(())
+    holds(matches!(answer, Err(Error::IO(_))), "the error")
 }
 
 #[test]
-fn a_folder_is_no_dictionary(rt: HostRuntime) {
+fn a_folder_is_no_dictionary(rt: HostRuntime) -> Result<(), Fail> {
     let answer = Standard::from_path(&rt, rt.alloc(), Language::english_us(), ".");
-    assert!(rt; matches!(answer, Err(Error::IO(_))));
+    holds(matches!(answer, Err(Error::IO(_))), "the error")
 }
 
 /// The extended dictionary of a new file, which is taken away again.
@@ -73,13 +72,14 @@ fn extended_of(rt: &HostRuntime, name: &str, text: &str) -> Result<Extended, Fai
 fn an_extended_dictionary_is_loaded_from_a_file(rt: HostRuntime) -> Result<(), Fail> {
     let text = extended_text(rt.alloc(), "2 2", "e asszonnyal 2,1,2,2,szsz 6,1,2,2,nyny")?;
     let dictionary = extended_of(&rt, "extended", &text)?;
-    let found = changed(rt.alloc(), &dictionary, "asszonnyal")?;
-    assert_eq!(rt; found.as_str(), "asz=szony=nyal ");
-    Ok(())
+    gives(
+        changed(rt.alloc(), &dictionary, "asszonnyal"),
+        "asz=szony=nyal ",
+    )
 }
 
 #[test]
-fn a_text_of_one_byte_is_refused_at_its_first_line(rt: HostRuntime) {
+fn a_text_of_one_byte_is_refused_at_its_first_line(rt: HostRuntime) -> Result<(), Fail> {
     for byte in 0..=255u8 {
         let text = [byte];
         let wanted = if byte < 128 {
@@ -88,9 +88,10 @@ fn a_text_of_one_byte_is_refused_at_its_first_line(rt: HostRuntime) {
             Cause::NotUtf8
         };
         let answer = Standard::any_from_reader(rt.alloc(), &mut &text[..]);
-        assert!(rt;
+        holds(
             matches!(answer, Err(Error::Deserialization { line: 1, cause }) if cause == wanted),
-            "{byte}"
-        );
+            byte,
+        )?;
     }
+    Ok(())
 }

@@ -1,6 +1,7 @@
 //! Lines of a column width: worked examples, runs and their faults, and the number of lines beside all divisions.
 
 use crate::run_faults::{failing_once, is_torn, torn};
+use answers::{holds, same};
 use hyphenation::engine::RunError;
 use hyphenation::{Language, Load, Standard};
 use linefill::{fill, run_fill};
@@ -54,7 +55,7 @@ fn lines_end_at_the_greatest_cut_that_fits_or_at_the_least(rt: HostRuntime) -> R
     ];
     for (text, columns, wanted) in cases {
         let lines = barred(rt.alloc(), text, columns)?;
-        assert_eq!(rt; lines.as_str(), wanted, "{columns} columns");
+        same(&lines.as_str(), &wanted)?;
     }
     Ok(())
 }
@@ -144,7 +145,7 @@ fn no_division_that_fits_has_fewer_lines(rt: HostRuntime) -> Result<(), Fail> {
     ];
     for (text, cuts) in cases {
         let widths = compared(rt.alloc(), text, cuts)?;
-        assert!(rt; matches!(widths, Some(2..)), "{text}");
+        holds(matches!(widths, Some(2..)), text)?;
     }
     Ok(())
 }
@@ -184,8 +185,8 @@ fn lines_are_written_each_with_a_line_feed(rt: HostRuntime) -> Result<(), Fail> 
             &mut input,
             &mut output,
         );
-        assert!(rt; end.is_ok(), "{text}");
-        assert_eq!(rt; output.as_slice(), wanted.as_bytes(), "{text}");
+        holds(end.is_ok(), text)?;
+        same(&output.as_slice(), &wanted.as_bytes())?;
     }
     Ok(())
 }
@@ -208,48 +209,55 @@ fn run_to_end<D: Read, I: Read>(alloc: Global, dictionary: &mut D, input: &mut I
 }
 
 #[test]
-fn a_torn_dictionary_is_answered_before_a_torn_text(rt: HostRuntime) {
+fn a_torn_dictionary_is_answered_before_a_torn_text(rt: HostRuntime) -> Result<(), Fail> {
     let mut dictionary = torn(VERSE.as_bytes(), 60);
     let ran = run_to_end(rt.alloc(), &mut dictionary, &mut torn(b"", 1));
-    assert!(rt; matches!(&ran.end, Err(RunError::Dictionary(e)) if is_torn(e)));
-    assert_eq!(rt; ran.taken, 0);
+    holds(
+        matches!(&ran.end, Err(RunError::Dictionary(e)) if is_torn(e)),
+        "the error",
+    )?;
+    same(&ran.taken, &0)
 }
 
 #[test]
-fn a_refused_dictionary_is_answered_before_a_torn_text(rt: HostRuntime) {
+fn a_refused_dictionary_is_answered_before_a_torn_text(rt: HostRuntime) -> Result<(), Fail> {
     let mut dictionary = &b"hyphenation 1 extended\n"[..];
     let ran = run_to_end(rt.alloc(), &mut dictionary, &mut torn(b"", 1));
-    assert!(rt; matches!(&ran.end, Err(RunError::Dictionary(_))));
-    assert_eq!(rt; ran.taken, 0);
+    holds(
+        matches!(&ran.end, Err(RunError::Dictionary(_))),
+        "the error",
+    )?;
+    same(&ran.taken, &0)
 }
 
 #[test]
-fn a_torn_text_is_answered_before_its_bytes_are_judged(rt: HostRuntime) {
+fn a_torn_text_is_answered_before_its_bytes_are_judged(rt: HostRuntime) -> Result<(), Fail> {
     let mut input = torn(b"noble \xff", 4);
     let ran = run_to_end(rt.alloc(), &mut VERSE.as_bytes(), &mut input);
-    assert!(rt;
-        matches!(&ran.end, Err(RunError::Input(e)) if e.kind() == ErrorKind::ConnectionReset)
-    );
-    assert_eq!(rt; ran.taken, 0);
+    holds(
+        matches!(&ran.end, Err(RunError::Input(e)) if e.kind() == ErrorKind::ConnectionReset),
+        "the error",
+    )?;
+    same(&ran.taken, &0)
 }
 
 #[test]
-fn a_text_that_is_not_utf_8_is_not_filled(rt: HostRuntime) {
+fn a_text_that_is_not_utf_8_is_not_filled(rt: HostRuntime) -> Result<(), Fail> {
     let mut input = &b"noble \xff"[..];
     let ran = run_to_end(rt.alloc(), &mut VERSE.as_bytes(), &mut input);
-    assert!(rt; matches!(&ran.end, Err(RunError::TextNotUtf8)));
-    assert_eq!(rt; ran.taken, 0);
+    holds(matches!(&ran.end, Err(RunError::TextNotUtf8)), "the error")?;
+    same(&ran.taken, &0)
 }
 
 #[test]
-fn of_the_empty_text_nothing_is_written(rt: HostRuntime) {
+fn of_the_empty_text_nothing_is_written(rt: HostRuntime) -> Result<(), Fail> {
     let ran = run_to_end(rt.alloc(), &mut VERSE.as_bytes(), &mut &b""[..]);
-    assert!(rt; ran.end.is_ok());
-    assert_eq!(rt; ran.taken, 0);
+    holds(ran.end.is_ok(), "it ends well")?;
+    same(&ran.taken, &0)
 }
 
 #[test]
-fn a_writer_that_fails_once_has_a_beginning_of_the_lines(rt: HostRuntime) {
+fn a_writer_that_fails_once_has_a_beginning_of_the_lines(rt: HostRuntime) -> Result<(), Fail> {
     let lines = b"I know no-\nble ac-\ncents\n";
     for number in 1..=lines.len() {
         let mut output = failing_once(rt.alloc(), number);
@@ -260,10 +268,11 @@ fn a_writer_that_fails_once_has_a_beginning_of_the_lines(rt: HostRuntime) {
             &mut torn(b"I know noble accents", usize::MAX),
             &mut output,
         );
-        assert!(rt;
+        holds(
             matches!(&end, Err(RunError::Output(e)) if e.kind() == ErrorKind::BrokenPipe),
-            "{number}"
-        );
-        assert_eq!(rt; output.taken.as_slice(), &lines[..number - 1], "{number}");
+            number,
+        )?;
+        same(&output.taken.as_slice(), &&lines[..number - 1])?;
     }
+    Ok(())
 }

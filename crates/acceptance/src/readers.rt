@@ -1,7 +1,7 @@
 //! Readers that give their bytes in pieces, and readers and writers that fail once and then go on.
 
 use crate::run_faults::{LEAST, failing_once, is_torn};
-use answers::AMERICAN;
+use answers::{AMERICAN, holds, same};
 use hyphenation::engine::{Kind, RunError, run, run_score};
 use hyphenation::extended::Extended;
 use hyphenation::load::{Error, Load};
@@ -117,12 +117,13 @@ fn is_filled(alloc: Global, most: usize) -> bool {
 }
 
 #[test]
-fn the_sizes_of_the_reads_change_nothing(rt: HostRuntime) {
+fn the_sizes_of_the_reads_change_nothing(rt: HostRuntime) -> Result<(), Fail> {
     let whole = AMERICAN.len();
     for most in [1, 2, 3, whole - 1, whole, TEXT.len() - 1, TEXT.len()] {
-        assert!(rt; is_marked(rt.alloc(), most), "{most}");
-        assert!(rt; is_filled(rt.alloc(), most), "{most}");
+        holds(is_marked(rt.alloc(), most), most)?;
+        holds(is_filled(rt.alloc(), most), most)?;
     }
+    Ok(())
 }
 
 /// Loads from a reader of the least text whose read of this number fails so.
@@ -150,17 +151,17 @@ fn wants_memory(alloc: Global, number: usize) -> bool {
 }
 
 #[test]
-fn a_read_that_fails_once_ends_the_loading(rt: HostRuntime) {
+fn a_read_that_fails_once_ends_the_loading(rt: HostRuntime) -> Result<(), Fail> {
     // 54 bytes in pairs are 27 reads, and one more finds the end
     for number in 1..=28 {
-        assert!(rt; is_told(rt.alloc(), number), "{number}");
-        assert!(rt; is_told_extended(rt.alloc(), number), "{number}");
-        assert!(rt; wants_memory(rt.alloc(), number), "{number}");
+        holds(is_told(rt.alloc(), number), number)?;
+        holds(is_told_extended(rt.alloc(), number), number)?;
+        holds(wants_memory(rt.alloc(), number), number)?;
         let again = load_once(rt.alloc(), number, ErrorKind::Interrupted);
-        assert!(rt; again.is_ok(), "{number}");
+        holds(again.is_ok(), number)?;
     }
     let whole = load_once(rt.alloc(), 29, ErrorKind::ConnectionReset);
-    assert!(rt; whole.is_ok());
+    holds(whole.is_ok(), "it ends well")
 }
 
 /// Whether a run's end tells that a read of its dictionary failed so.
@@ -213,17 +214,18 @@ fn is_fault_told(alloc: Global, number: usize, kind: ErrorKind) -> bool {
 }
 
 #[test]
-fn a_read_that_fails_once_ends_a_run(rt: HostRuntime) {
+fn a_read_that_fails_once_ends_a_run(rt: HostRuntime) -> Result<(), Fail> {
     for number in 1..=9 {
-        assert!(rt;
+        holds(
             is_fault_told(rt.alloc(), number, ErrorKind::ConnectionReset),
-            "{number}"
-        );
-        assert!(rt;
+            number,
+        )?;
+        holds(
             is_fault_told(rt.alloc(), number, ErrorKind::OutOfMemory),
-            "{number}"
-        );
+            number,
+        )?;
     }
+    Ok(())
 }
 
 /// Whether a run whose reads of this number are interrupted writes the marked text.
@@ -240,10 +242,11 @@ fn is_made_again(alloc: Global, number: usize) -> bool {
 }
 
 #[test]
-fn a_read_that_is_interrupted_is_tried_again(rt: HostRuntime) {
+fn a_read_that_is_interrupted_is_tried_again(rt: HostRuntime) -> Result<(), Fail> {
     for number in 1..=9 {
-        assert!(rt; is_made_again(rt.alloc(), number), "{number}");
+        holds(is_made_again(rt.alloc(), number), number)?;
     }
+    Ok(())
 }
 
 /// Takes one byte a write. The write of a number, counted from 1, is interrupted, and the later ones go on.
@@ -297,15 +300,16 @@ fn fills_again(alloc: Global, until: usize) -> bool {
 }
 
 #[test]
-fn a_write_that_is_interrupted_is_tried_again(rt: HostRuntime) {
+fn a_write_that_is_interrupted_is_tried_again(rt: HostRuntime) -> Result<(), Fail> {
     for until in 1..=MARKED.len() {
-        assert!(rt; marks_again(rt.alloc(), until), "{until}");
-        assert!(rt; fills_again(rt.alloc(), until), "{until}");
+        holds(marks_again(rt.alloc(), until), until)?;
+        holds(fills_again(rt.alloc(), until), until)?;
     }
+    Ok(())
 }
 
 #[test]
-fn a_write_that_fails_once_ends_a_line_of_values(rt: HostRuntime) {
+fn a_write_that_fails_once_ends_a_line_of_values(rt: HostRuntime) -> Result<(), Fail> {
     let line = b"0 2 5 2 0\n";
     for number in 1..=line.len() {
         let mut output = failing_once(rt.alloc(), number);
@@ -317,9 +321,10 @@ fn a_write_that_fails_once_ends_a_line_of_values(rt: HostRuntime) {
             &mut AMERICAN.as_bytes(),
             &mut output,
         );
-        assert!(rt; matches!(end, Err(RunError::Output(_))), "{number}");
-        assert_eq!(rt; output.taken.as_slice(), &line[..number - 1], "{number}");
+        holds(matches!(end, Err(RunError::Output(_))), number)?;
+        same(&output.taken.as_slice(), &&line[..number - 1])?;
     }
+    Ok(())
 }
 
 /// Whether a dictionary's writing ends with the fault of the write of this number, after the bytes before it.
@@ -337,7 +342,7 @@ fn a_write_that_fails_once_ends_a_dictionary(rt: HostRuntime) -> Result<(), Fail
     let mut reader = text;
     let dictionary = Extended::any_from_reader(rt.alloc(), &mut reader)?;
     for number in 1..=text.len() {
-        assert!(rt; is_cut(rt.alloc(), &dictionary, text, number), "{number}");
+        holds(is_cut(rt.alloc(), &dictionary, text, number), number)?;
     }
     Ok(())
 }

@@ -1,6 +1,6 @@
 //! Runs over readers and writers that fail: each fault is told as it was, and nothing is written before it is known.
 
-use answers::AMERICAN;
+use answers::{AMERICAN, holds, same};
 use hyphenation::engine::{Kind, RunError, run, run_score};
 use hyphenation::load::{Error, Load};
 use hyphenation::{Language, Standard};
@@ -153,26 +153,26 @@ fn is_score_torn(alloc: Global, number: usize) -> bool {
 }
 
 #[test]
-fn a_torn_dictionary_is_a_fault_of_reading_at_each_read(rt: HostRuntime) {
+fn a_torn_dictionary_is_a_fault_of_reading_at_each_read(rt: HostRuntime) -> Result<(), Fail> {
     for number in 1..=55 {
-        assert!(rt; is_load_torn(rt.alloc(), number), "{number}");
-        assert!(rt; is_asked_torn(rt.alloc(), number), "{number}");
-        assert!(rt; is_run_torn(rt.alloc(), number), "{number}");
-        assert!(rt; is_score_torn(rt.alloc(), number), "{number}");
+        holds(is_load_torn(rt.alloc(), number), number)?;
+        holds(is_asked_torn(rt.alloc(), number), number)?;
+        holds(is_run_torn(rt.alloc(), number), number)?;
+        holds(is_score_torn(rt.alloc(), number), number)?;
     }
     let whole = Standard::any_from_reader(rt.alloc(), &mut torn(LEAST, 56));
-    assert!(rt; whole.is_ok());
+    holds(whole.is_ok(), "it ends well")
 }
 
 #[test]
-fn a_faulty_line_before_the_fault_is_not_judged(rt: HostRuntime) {
+fn a_faulty_line_before_the_fault_is_not_judged(rt: HostRuntime) -> Result<(), Fail> {
     let mut reader = torn(b"no head\n", 9);
     let answer = Standard::any_from_reader(rt.alloc(), &mut reader);
-    assert!(rt; matches!(&answer, Err(e) if is_torn(e)));
+    holds(matches!(&answer, Err(e) if is_torn(e)), "the error")
 }
 
 #[test]
-fn a_torn_input_is_told_at_each_read_and_nothing_is_written(rt: HostRuntime) {
+fn a_torn_input_is_told_at_each_read_and_nothing_is_written(rt: HostRuntime) -> Result<(), Fail> {
     for number in 1..=17 {
         let mut output = failing_once(rt.alloc(), usize::MAX);
         let end = run_with(
@@ -181,16 +181,17 @@ fn a_torn_input_is_told_at_each_read_and_nothing_is_written(rt: HostRuntime) {
             &mut torn(TEXT, number),
             &mut output,
         );
-        assert!(rt;
+        holds(
             matches!(&end, Err(RunError::Input(e)) if e.kind() == ErrorKind::ConnectionReset),
-            "{number}"
-        );
-        assert_eq!(rt; output.taken.len(), 0, "{number}");
+            number,
+        )?;
+        same(&output.taken.len(), &0)?;
     }
+    Ok(())
 }
 
 #[test]
-fn readers_of_one_byte_a_read_change_nothing(rt: HostRuntime) {
+fn readers_of_one_byte_a_read_change_nothing(rt: HostRuntime) -> Result<(), Fail> {
     let mut output = failing_once(rt.alloc(), usize::MAX);
     let end = run_with(
         rt.alloc(),
@@ -198,12 +199,12 @@ fn readers_of_one_byte_a_read_change_nothing(rt: HostRuntime) {
         &mut torn(TEXT, usize::MAX),
         &mut output,
     );
-    assert!(rt; end.is_ok());
-    assert_eq!(rt; output.taken.as_slice(), MARKED);
+    holds(end.is_ok(), "it ends well")?;
+    same(&output.taken.as_slice(), &MARKED)
 }
 
 #[test]
-fn an_input_that_wants_memory_is_want_of_memory(rt: HostRuntime) {
+fn an_input_that_wants_memory_is_want_of_memory(rt: HostRuntime) -> Result<(), Fail> {
     let mut input = Faulty {
         left: TEXT,
         until: 5,
@@ -216,12 +217,12 @@ fn an_input_that_wants_memory_is_want_of_memory(rt: HostRuntime) {
         &mut input,
         &mut output,
     );
-    assert!(rt; matches!(end, Err(RunError::Memory)));
-    assert_eq!(rt; output.taken.len(), 0);
+    holds(matches!(end, Err(RunError::Memory)), "the error")?;
+    same(&output.taken.len(), &0)
 }
 
 #[test]
-fn a_writer_that_fails_once_has_a_beginning_of_the_result(rt: HostRuntime) {
+fn a_writer_that_fails_once_has_a_beginning_of_the_result(rt: HostRuntime) -> Result<(), Fail> {
     for number in 1..=19 {
         let mut output = failing_once(rt.alloc(), number);
         let end = run_with(
@@ -230,10 +231,11 @@ fn a_writer_that_fails_once_has_a_beginning_of_the_result(rt: HostRuntime) {
             &mut &TEXT[..],
             &mut output,
         );
-        assert!(rt;
+        holds(
             matches!(&end, Err(RunError::Output(e)) if e.kind() == ErrorKind::BrokenPipe),
-            "{number}"
-        );
-        assert_eq!(rt; output.taken.as_slice(), &MARKED[..number - 1], "{number}");
+            number,
+        )?;
+        same(&output.taken.as_slice(), &&MARKED[..number - 1])?;
     }
+    Ok(())
 }

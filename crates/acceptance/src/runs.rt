@@ -1,6 +1,6 @@
 //! Whole texts: what a run writes, and why it writes nothing.
 
-use answers::{AMERICAN, DOUBLED};
+use answers::{AMERICAN, DOUBLED, gives, holds, same};
 use hyphenation::engine::{Kind, RunError, run};
 use hyphenation::load::{Cause, Error, Load};
 use hyphenation::{Language, Standard, hyphenate_text};
@@ -101,8 +101,8 @@ fn each_piece_between_word_bounds_is_hyphenated(rt: HostRuntime) -> Result<(), F
     ];
     for (dictionary, mark, text, wanted) in cases {
         let ran = run_by(rt.alloc(), dictionary, &[], mark, text.as_bytes())?;
-        assert!(rt; ran.end.is_ok(), "{text}");
-        assert_eq!(rt; ran.output.as_slice(), wanted.as_bytes(), "{text}");
+        holds(ran.end.is_ok(), text)?;
+        same(&ran.output.as_slice(), &wanted.as_bytes())?;
     }
     Ok(())
 }
@@ -123,8 +123,8 @@ fn edits_are_done_from_first_to_last(rt: HostRuntime) -> Result<(), Fail> {
     ];
     for (edits, wanted) in cases {
         let ran = run_by(rt.alloc(), AMERICAN, edits, "-", b"Firkin, firkins.")?;
-        assert!(rt; ran.end.is_ok(), "{edits:?}");
-        assert_eq!(rt; ran.output.as_slice(), wanted.as_bytes(), "{edits:?}");
+        holds(ran.end.is_ok(), format_args!("{edits:?}"))?;
+        same(&ran.output.as_slice(), &wanted.as_bytes())?;
     }
     Ok(())
 }
@@ -155,54 +155,52 @@ fn the_first_edit_that_is_refused_is_told(rt: HostRuntime) -> Result<(), Fail> {
     ];
     for (edits, number) in cases {
         let ran = run_by(rt.alloc(), AMERICAN, edits, "-", b"Firkin, firkins.")?;
-        assert!(rt;
+        holds(
             matches!(ran.end, Err(RunError::Edit(k)) if k == number),
-            "{edits:?}"
-        );
-        assert_eq!(rt; ran.output.len(), 0, "{edits:?}");
+            format_args!("{edits:?}"),
+        )?;
+        same(&ran.output.len(), &0)?;
     }
     let ran = run_by(rt.alloc(), AMERICAN, &["-\\e", "+a\\sb 1"], "-", b"")?;
-    assert!(rt; ran.end.is_ok());
-    Ok(())
+    holds(ran.end.is_ok(), "it ends well")
 }
 
 #[test]
 fn a_dictionary_is_judged_before_edits_and_text(rt: HostRuntime) -> Result<(), Fail> {
     let ran = run_by(rt.alloc(), "", &["+firkins 8"], "-", b"\xff")?;
-    assert!(rt;
+    holds(
         matches!(
             ran.end,
             Err(RunError::Dictionary(Error::Deserialization {
                 line: 1,
                 cause: Cause::Header
             }))
-        )
-    );
+        ),
+        "the error",
+    )?;
     let other = "hyphenation 1 standard\nlanguage hu\nminima 2 3\n";
     let ran = run_by(rt.alloc(), other, &["+firkins 8"], "-", b"\xff")?;
-    assert!(rt;
+    holds(
         matches!(
             ran.end,
             Err(RunError::Dictionary(Error::LanguageMismatch { .. }))
-        )
-    );
-    Ok(())
+        ),
+        "the error",
+    )
 }
 
 #[test]
 fn edits_are_judged_before_the_text(rt: HostRuntime) -> Result<(), Fail> {
     let ran = run_by(rt.alloc(), AMERICAN, &["+firkins 8"], "-", b"\xff")?;
-    assert!(rt; matches!(ran.end, Err(RunError::Edit(1))));
-    assert_eq!(rt; ran.output.len(), 0);
-    Ok(())
+    holds(matches!(ran.end, Err(RunError::Edit(1))), "the error")?;
+    same(&ran.output.len(), &0)
 }
 
 #[test]
 fn a_text_that_is_not_utf_8_is_refused(rt: HostRuntime) -> Result<(), Fail> {
     let ran = run_by(rt.alloc(), AMERICAN, &["-other"], "-", b"firkin \xff")?;
-    assert!(rt; matches!(ran.end, Err(RunError::TextNotUtf8)));
-    assert_eq!(rt; ran.output.len(), 0);
-    Ok(())
+    holds(matches!(ran.end, Err(RunError::TextNotUtf8)), "the error")?;
+    same(&ran.output.len(), &0)
 }
 
 #[test]
@@ -227,8 +225,8 @@ fn letters_are_changed_where_a_text_is_broken(rt: HostRuntime) -> Result<(), Fai
             "-",
             b"Az asszonnyal.",
         )?;
-        assert!(rt; ran.end.is_ok(), "{edits:?}");
-        assert_eq!(rt; ran.output.as_slice(), wanted.as_bytes(), "{edits:?}");
+        holds(ran.end.is_ok(), format_args!("{edits:?}"))?;
+        same(&ran.output.as_slice(), &wanted.as_bytes())?;
     }
     Ok(())
 }
@@ -251,11 +249,11 @@ fn edits_of_an_extended_dictionary_are_judged_by_its_kind(rt: HostRuntime) -> Re
             "-",
             b"Az asszonnyal.",
         )?;
-        assert!(rt;
+        holds(
             matches!(ran.end, Err(RunError::Edit(k)) if k == number),
-            "{edits:?}"
-        );
-        assert_eq!(rt; ran.output.len(), 0, "{edits:?}");
+            format_args!("{edits:?}"),
+        )?;
+        same(&ran.output.len(), &0)?;
     }
     Ok(())
 }
@@ -273,7 +271,8 @@ fn appended(alloc: Global, dictionary: &Standard) -> Result<String, AllocError> 
 fn a_text_is_appended_by_a_loaded_dictionary(rt: HostRuntime) -> Result<(), Fail> {
     let mut reader = AMERICAN.as_bytes();
     let dictionary = Standard::any_from_reader(rt.alloc(), &mut reader)?;
-    let page = appended(rt.alloc(), &dictionary)?;
-    assert_eq!(rt; page.as_str(), "Ale: Fir-kin, fir-k-ins. Firkin");
-    Ok(())
+    gives(
+        appended(rt.alloc(), &dictionary),
+        "Ale: Fir-kin, fir-k-ins. Firkin",
+    )
 }

@@ -1,5 +1,6 @@
 //! Which texts are refused, with which line and cause, and which are accepted.
 
+use answers::{gives, holds, same};
 use hyphenation::load::{Cause, Error, Load};
 use hyphenation::{Language, Standard};
 use std::alloc::{AllocError, Global};
@@ -23,7 +24,7 @@ fn refusal(alloc: Global, text: &[u8]) -> Option<(usize, Cause)> {
 }
 
 #[test]
-fn faulty_heads_are_refused_with_line_and_cause(rt: HostRuntime) {
+fn faulty_heads_are_refused_with_line_and_cause(rt: HostRuntime) -> Result<(), Fail> {
     let cases: [(&str, usize, Cause); 13] = [
         ("", 1, Cause::Header),
         ("\n", 1, Cause::Header),
@@ -77,8 +78,9 @@ fn faulty_heads_are_refused_with_line_and_cause(rt: HostRuntime) {
     ];
     for (text, line, cause) in cases {
         let found = refusal(rt.alloc(), text.as_bytes());
-        assert_eq!(rt; found, Some((line, cause)), "{text}");
+        same(&found, &Some((line, cause)))?;
     }
+    Ok(())
 }
 
 #[test]
@@ -119,7 +121,7 @@ fn faulty_lines_are_refused_with_line_and_cause(rt: HostRuntime) -> Result<(), F
     ];
     for (line, cause) in cases {
         let text = with_line(rt.alloc(), line)?;
-        assert_eq!(rt; refusal(rt.alloc(), &text), Some((4, cause)), "{line:?}");
+        same(&refusal(rt.alloc(), &text), &Some((4, cause)))?;
     }
     Ok(())
 }
@@ -135,11 +137,7 @@ fn changes_are_refused_in_a_standard_text(rt: HostRuntime) -> Result<(), Fail> {
     ];
     for line in cases {
         let text = with_line(rt.alloc(), line)?;
-        assert_eq!(rt;
-            refusal(rt.alloc(), &text),
-            Some((4, Cause::Change)),
-            "{line:?}"
-        );
+        same(&refusal(rt.alloc(), &text), &Some((4, Cause::Change)))?;
     }
     Ok(())
 }
@@ -159,11 +157,7 @@ fn repeated_items_are_refused_at_the_later_line(rt: HostRuntime) -> Result<(), F
     ];
     for (lines, number, cause) in cases {
         let text = with_line(rt.alloc(), lines)?;
-        assert_eq!(rt;
-            refusal(rt.alloc(), &text),
-            Some((number, cause)),
-            "{lines:?}"
-        );
+        same(&refusal(rt.alloc(), &text), &Some((number, cause)))?;
     }
     Ok(())
 }
@@ -190,7 +184,10 @@ fn these_lines_are_accepted(rt: HostRuntime) -> Result<(), Fail> {
     ];
     for line in cases {
         let text = with_line(rt.alloc(), line)?;
-        assert!(rt; accepted(rt.alloc(), &text).is_ok(), "{line:?}");
+        holds(
+            accepted(rt.alloc(), &text).is_ok(),
+            format_args!("{line:?}"),
+        )?;
     }
     Ok(())
 }
@@ -206,14 +203,13 @@ fn head_of(alloc: Global, text: &[u8]) -> Result<String, Fail> {
 #[test]
 fn a_last_line_feed_changes_nothing(rt: HostRuntime) -> Result<(), Fail> {
     let with = b"hyphenation 1 standard\nlanguage de-1996\nminima 0 255\np a1b\n";
-    assert_eq!(rt; head_of(rt.alloc(), with)?.as_str(), "de-1996 0 255");
+    gives(head_of(rt.alloc(), with), "de-1996 0 255")?;
     let without = b"hyphenation 1 standard\nlanguage de-1996\nminima 0 255\np a1b";
-    assert_eq!(rt; head_of(rt.alloc(), without)?.as_str(), "de-1996 0 255");
-    Ok(())
+    gives(head_of(rt.alloc(), without), "de-1996 0 255")
 }
 
 #[test]
-fn each_beginning_of_a_text_is_refused_where_it_ends(rt: HostRuntime) {
+fn each_beginning_of_a_text_is_refused_where_it_ends(rt: HostRuntime) -> Result<(), Fail> {
     let text = b"hyphenation 1 standard\nlanguage en-us\nminima 2 3\np a1b";
     for length in 0..text.len() + 1 {
         let expected = match length {
@@ -224,8 +220,9 @@ fn each_beginning_of_a_text_is_refused_where_it_ends(rt: HostRuntime) {
             50 => Some((4, Cause::UnknownLine)),
             _ => Some((4, Cause::Token)),
         };
-        assert_eq!(rt; refusal(rt.alloc(), &text[..length]), expected, "{length}");
+        same(&refusal(rt.alloc(), &text[..length]), &expected)?;
     }
+    Ok(())
 }
 
 #[test]
@@ -233,25 +230,22 @@ fn another_language_is_a_mismatch(rt: HostRuntime) -> Result<(), Fail> {
     let text = b"hyphenation 1 standard\nlanguage hu\nminima 2 2\n";
     let asked = Language::from_code("en-us").ok_or("a code")?;
     let mut reader = &text[..];
-    let message = message_of(
-        rt.alloc(),
-        &Standard::from_reader(rt.alloc(), asked, &mut reader),
-    )?;
-    assert_eq!(rt;
-        message.as_str(),
-        "Language mismatch: attempted to load a dictionary for `en-us`, but found\na dictionary for `hu` instead."
-    );
-    Ok(())
+    gives(
+        message_of(
+            rt.alloc(),
+            &Standard::from_reader(rt.alloc(), asked, &mut reader),
+        ),
+        "Language mismatch: attempted to load a dictionary for `en-us`, but found\na dictionary for `hu` instead.",
+    )
 }
 
 #[test]
 fn a_refusal_says_its_line_and_cause(rt: HostRuntime) -> Result<(), Fail> {
     let text = b"hyphenation 1 standard\nlanguage hu\nminima 2 2\np a12b";
     let message = message_of(rt.alloc(), &accepted(rt.alloc(), text))?;
-    assert_eq!(rt; message.as_str(), "line 4: two values in one place");
+    same(&message.as_str(), &"line 4: two values in one place")?;
     let message = message_of(rt.alloc(), &Err(Error::Memory(AllocError)))?;
-    assert_eq!(rt; message.as_str(), "no memory");
-    Ok(())
+    same(&message.as_str(), &"no memory")
 }
 
 /// What a refusal says; nothing of a dictionary.

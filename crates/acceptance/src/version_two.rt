@@ -1,6 +1,6 @@
 //! Texts of version 2, in which values from 10 to 255 stand in braces, and what version 1 says to braces.
 
-use answers::{places, values, values_by, winners};
+use answers::{gives, holds, places, same, values, values_by, winners};
 use hyphenation::extended::Extended;
 use hyphenation::load::{Cause, Error, Load};
 use hyphenation::{Language, Standard};
@@ -46,29 +46,21 @@ fn answers(alloc: Global, lines: &str, words: &str) -> Result<String, Fail> {
 
 #[test]
 fn a_number_in_braces_is_one_value(rt: HostRuntime) -> Result<(), Fail> {
-    assert_eq!(rt;
-        answers(rt.alloc(), "p a{11}b\np a5b.", "ab abc")?.as_str(),
-        "11 ,11 0 ,1 ,1 ,"
-    );
-    assert_eq!(rt;
-        answers(rt.alloc(), "p a{12}b\np .a{11}b", "ab")?.as_str(),
-        "12 ,,"
-    );
-    Ok(())
+    gives(
+        answers(rt.alloc(), "p a{11}b\np a5b.", "ab abc"),
+        "11 ,11 0 ,1 ,1 ,",
+    )?;
+    gives(answers(rt.alloc(), "p a{12}b\np .a{11}b", "ab"), "12 ,,")
 }
 
 #[test]
 fn the_greatest_and_the_least_value_are_read(rt: HostRuntime) -> Result<(), Fail> {
-    assert_eq!(rt;
-        answers(rt.alloc(), "p a{255}b", "ab")?.as_str(),
-        "255 ,1 ,"
-    );
-    assert_eq!(rt; answers(rt.alloc(), "p a1b", "ab")?.as_str(), "1 ,1 ,");
-    Ok(())
+    gives(answers(rt.alloc(), "p a{255}b", "ab"), "255 ,1 ,")?;
+    gives(answers(rt.alloc(), "p a1b", "ab"), "1 ,1 ,")
 }
 
 #[test]
-fn braces_that_write_no_value_are_told(rt: HostRuntime) {
+fn braces_that_write_no_value_are_told(rt: HostRuntime) -> Result<(), Fail> {
     let cases: [(&str, Cause); 15] = [
         ("p a{9}b", Cause::Value),
         ("p a{010}b", Cause::Value),
@@ -88,56 +80,55 @@ fn braces_that_write_no_value_are_told(rt: HostRuntime) {
     ];
     for (line, cause) in cases {
         let fault = fault_of(rt.alloc(), "hyphenation 2 standard", line);
-        assert_eq!(rt; fault, Some((4, cause)), "{line}");
+        same(&fault, &Some((4, cause)))?;
     }
+    Ok(())
 }
 
 #[test]
-fn in_version_1_braces_are_letters(rt: HostRuntime) {
+fn in_version_1_braces_are_letters(rt: HostRuntime) -> Result<(), Fail> {
     let alloc = rt.alloc();
     let head = "hyphenation 1 standard";
-    assert_eq!(rt;
-        fault_of(alloc, head, "p a{10}b"),
-        Some((4, Cause::Pattern))
-    );
-    assert_eq!(rt; fault_of(alloc, head, "p \\{1"), Some((4, Cause::Token)));
-    assert_eq!(rt; fault_of(alloc, head, "p {1}"), None);
-    assert_eq!(rt;
-        fault_of(alloc, "hyphenation 3 standard", "p a1b"),
-        Some((1, Cause::Header))
-    );
-    assert_eq!(rt;
-        fault_of(alloc, "hyphenation 2 extended", "p a1b"),
-        Some((1, Cause::Header))
-    );
+    same(
+        &fault_of(alloc, head, "p a{10}b"),
+        &Some((4, Cause::Pattern)),
+    )?;
+    same(&fault_of(alloc, head, "p \\{1"), &Some((4, Cause::Token)))?;
+    same(&fault_of(alloc, head, "p {1}"), &None)?;
+    same(
+        &fault_of(alloc, "hyphenation 3 standard", "p a1b"),
+        &Some((1, Cause::Header)),
+    )?;
+    same(
+        &fault_of(alloc, "hyphenation 2 extended", "p a1b"),
+        &Some((1, Cause::Header)),
+    )
 }
 
 #[test]
 fn a_key_of_braces_is_one_in_both_versions(rt: HostRuntime) -> Result<(), Fail> {
-    assert_eq!(rt; values_by(rt.alloc(), "p {1}", "{}")?.as_str(), "1 ,");
-    assert_eq!(rt; answers(rt.alloc(), "p \\{1\\}", "{}")?.as_str(), "1 ,1 ,");
-    Ok(())
+    gives(values_by(rt.alloc(), "p {1}", "{}"), "1 ,")?;
+    gives(answers(rt.alloc(), "p \\{1\\}", "{}"), "1 ,1 ,")
 }
 
 #[test]
 fn an_extended_text_has_changes_at_values_in_braces(rt: HostRuntime) -> Result<(), Fail> {
     let dictionary = second_extended(rt.alloc(), "p a{11}b 1,1,0,1,x\np a5bc")?;
-    assert!(rt; dictionary.language() == Language::english_us());
-    let found = winners(rt.alloc(), &dictionary, "ab")?;
-    assert_eq!(rt; found.as_str(), "11x ,");
-    Ok(())
+    holds(dictionary.language() == Language::english_us(), "language")?;
+    gives(winners(rt.alloc(), &dictionary, "ab"), "11x ,")
 }
 
 #[test]
-fn an_extended_text_has_a_key_once(rt: HostRuntime) {
+fn an_extended_text_has_a_key_once(rt: HostRuntime) -> Result<(), Fail> {
     let answer = second_extended(rt.alloc(), "p a{11}b\n\np a5b");
-    assert!(rt;
+    holds(
         matches!(
             answer,
             Err(Error::Deserialization {
                 line: 6,
                 cause: Cause::RepeatedPattern
             })
-        )
-    );
+        ),
+        "the error",
+    )
 }

@@ -1,6 +1,6 @@
 //! Dictionaries written again: the order of lines, escapes, and the choice of the version.
 
-use answers::{listing, places, rewritten, standard};
+use answers::{gives, holds, listing, places, rewritten, same, standard};
 use hyphenation::extended::Extended;
 use hyphenation::load::{Error, Load};
 use hyphenation::{Language, Standard};
@@ -21,10 +21,9 @@ fn lines_ascend_and_nothing_idle_is_written(rt: HostRuntime) -> Result<(), Fail>
     let wanted =
         "hyphenation 1 extended\nlanguage hu\nminima 2 2\np .fi2\np a1b 1,1,0,1,x\np s1szo\ne \\e\ne kilim 2\n";
     let written = rewritten::<Extended>(rt.alloc(), text.as_bytes())?;
-    assert_eq!(rt; written.as_slice(), wanted.as_bytes());
+    same(&written.as_slice(), &wanted.as_bytes())?;
     let again = rewritten::<Extended>(rt.alloc(), &written)?;
-    assert_eq!(rt; again.as_slice(), wanted.as_bytes());
-    Ok(())
+    same(&again.as_slice(), &wanted.as_bytes())
 }
 
 const FIRST: &str = "hyphenation 1 standard";
@@ -69,7 +68,7 @@ fn a_standard_text_is_written_as_is_canonical(rt: HostRuntime) -> Result<(), Fai
     ];
     for (lines, wanted) in cases {
         let is_so = is_written::<Standard>(rt.alloc(), FIRST, lines, FIRST, wanted)?;
-        assert!(rt; is_so, "{lines}");
+        holds(is_so, lines)?;
     }
     Ok(())
 }
@@ -85,7 +84,7 @@ fn a_text_is_written_in_the_least_version_that_says_it(rt: HostRuntime) -> Resul
     ];
     for (lines, head, wanted) in cases {
         let is_so = is_written::<Standard>(rt.alloc(), SECOND, lines, head, wanted)?;
-        assert!(rt; is_so, "{lines}");
+        holds(is_so, lines)?;
     }
     Ok(())
 }
@@ -104,11 +103,10 @@ fn an_extended_text_is_written_as_is_canonical(rt: HostRuntime) -> Result<(), Fa
         "p 1a3b 0,0,1,2,\\s\\n 1,1,0,2,é\\\\",
     ];
     for lines in lines {
-        assert!(rt; is_kept(rt.alloc(), FIRST_EXTENDED, lines)?, "{lines}");
+        holds(is_kept(rt.alloc(), FIRST_EXTENDED, lines)?, lines)?;
     }
     let second = "p \\{a{11}b 2,1,1,1,{1}";
-    assert!(rt; is_kept(rt.alloc(), SECOND_EXTENDED, second)?);
-    Ok(())
+    holds(is_kept(rt.alloc(), SECOND_EXTENDED, second)?, "it is kept")
 }
 
 #[test]
@@ -122,8 +120,7 @@ fn exceptions_of_an_extended_text_are_written_after_its_patterns(
         FIRST_EXTENDED,
         "p b1c\ne asszonnyal 2,1,2,2,szsz 3 6,1,2,2,nyny",
     )?;
-    assert!(rt; is_so);
-    Ok(())
+    holds(is_so, "it is kept")
 }
 
 /// Whether these lines are written in the order of the keys, also where the last line feed is wanting.
@@ -147,7 +144,7 @@ fn the_order_of_the_lines_read_is_not_seen(rt: HostRuntime) -> Result<(), Fail> 
         "p r2k\np i2r\np .fi2",
     ];
     for lines in orders {
-        assert!(rt; is_ordered(rt.alloc(), lines)?, "{lines}");
+        holds(is_ordered(rt.alloc(), lines)?, lines)?;
     }
     Ok(())
 }
@@ -165,8 +162,7 @@ fn an_edited_dictionary_is_written(rt: HostRuntime) -> Result<(), Fail> {
     let written = edited(rt.alloc())?;
     let wanted =
         b"hyphenation 1 standard\nlanguage en-gb\nminima 2 3\np .fi2\np i2r\np k1in\np k2in.\np r2k\np r5kin\ne firkins 3\n";
-    assert_eq!(rt; written.as_slice(), wanted.as_slice());
-    Ok(())
+    same(&written.as_slice(), &wanted.as_slice())
 }
 
 /// The breaks of words by the dictionary that is read from that text.
@@ -181,8 +177,7 @@ fn kept(alloc: Global, words: &str) -> Result<String, Fail> {
 
 #[test]
 fn an_edited_dictionary_is_kept_by_its_text(rt: HostRuntime) -> Result<(), Fail> {
-    assert_eq!(rt; kept(rt.alloc(), "firkins firkin")?.as_str(), "3 ,3 ,");
-    Ok(())
+    gives(kept(rt.alloc(), "firkins firkin"), "3 ,3 ,")
 }
 
 /// Takes a byte a write, and fails at the write of this number, counted from 1.
@@ -245,9 +240,14 @@ fn is_told_at_each(alloc: Global, kind: ErrorKind) -> Result<bool, Error> {
 
 #[test]
 fn a_fault_of_the_writer_is_told(rt: HostRuntime) -> Result<(), Fail> {
-    assert!(rt; is_told_at_each(rt.alloc(), ErrorKind::BrokenPipe)?);
-    assert!(rt; is_told_at_each(rt.alloc(), ErrorKind::OutOfMemory)?);
-    Ok(())
+    holds(
+        is_told_at_each(rt.alloc(), ErrorKind::BrokenPipe)?,
+        "each fault is told",
+    )?;
+    holds(
+        is_told_at_each(rt.alloc(), ErrorKind::OutOfMemory)?,
+        "each fault is told",
+    )
 }
 
 /// Whether a writer whose fault would come after the last byte gets the whole text.
@@ -265,6 +265,5 @@ fn is_taken(alloc: Global) -> Result<bool, Error> {
 
 #[test]
 fn a_writer_of_a_byte_a_write_gets_the_whole_text(rt: HostRuntime) -> Result<(), Fail> {
-    assert!(rt; is_taken(rt.alloc())?);
-    Ok(())
+    holds(is_taken(rt.alloc())?, "the whole text is taken")
 }

@@ -1,70 +1,83 @@
 //! The scores of words by extended dictionaries, and the values alone that a run writes.
 
-use answers::{FIRKIN, extended, extended_text, winners};
+use answers::{FIRKIN, Question, asked, extended, extended_text, gives, holds, same};
 use hyphenation::Language;
 use hyphenation::engine::{Kind, RunError, run_score};
+use hyphenation::extended::Extended;
 use hyphenation::load::{Cause, Error};
 use hyphenation::score::{LookUps, Score};
 use std::alloc::{AllocError, Global};
 use std::test::Fail;
 
 /// The values and changes of words by an extended dictionary of these lines.
-pub fn winners_by(alloc: Global, lines: &str, words: &str) -> Result<String, Fail> {
-    let dictionary = extended(alloc, "1 1", lines)?;
-    let found = winners(alloc, &dictionary, words)?;
-    Ok(found)
+fn winners_by(alloc: Global, lines: &str, words: &str) -> Result<String, Fail> {
+    asked(
+        alloc,
+        extended(alloc, "1 1", lines),
+        Question::Values(words),
+    )
 }
 
 #[test]
 fn of_equal_values_the_winner_is_the_key_that_starts_first(rt: HostRuntime) -> Result<(), Fail> {
-    assert_eq!(rt;
-        winners_by(rt.alloc(), "p a1b\np ca1bd 2,1,0,1,x", "cabd")?.as_str(),
-        "0 1x 0 ,"
-    );
-    assert_eq!(rt;
-        winners_by(rt.alloc(), "p a1b 1,1,0,1,x\np ca1bd", "cabd")?.as_str(),
-        "0 1 0 ,"
-    );
-    Ok(())
+    gives(
+        winners_by(rt.alloc(), "p a1b\np ca1bd 2,1,0,1,x", "cabd"),
+        "0 1x 0 ,",
+    )?;
+    gives(
+        winners_by(rt.alloc(), "p a1b 1,1,0,1,x\np ca1bd", "cabd"),
+        "0 1 0 ,",
+    )
 }
 
 #[test]
 fn of_keys_that_start_alike_the_winner_is_the_shortest(rt: HostRuntime) -> Result<(), Fail> {
-    assert_eq!(rt;
-        winners_by(rt.alloc(), "p a1b 1,1,0,1,x\np a1bd", "abd")?.as_str(),
-        "1x 0 ,"
-    );
-    Ok(())
+    gives(
+        winners_by(rt.alloc(), "p a1b 1,1,0,1,x\np a1bd", "abd"),
+        "1x 0 ,",
+    )
 }
 
 #[test]
 fn the_greatest_value_wins_wherever_its_key_starts(rt: HostRuntime) -> Result<(), Fail> {
-    assert_eq!(rt;
-        winners_by(rt.alloc(), "p a2b\np ca1bd 2,1,0,1,x", "cabd")?.as_str(),
-        "0 2 0 ,"
-    );
-    Ok(())
+    gives(
+        winners_by(rt.alloc(), "p a2b\np ca1bd 2,1,0,1,x", "cabd"),
+        "0 2 0 ,",
+    )
 }
 
 #[test]
 fn a_key_that_ends_last_wins_where_it_starts_first(rt: HostRuntime) -> Result<(), Fail> {
     let lines = "p b1c 1,1,0,1,x\np ab1cd\np zab1cde 3,1,0,1,y";
-    assert_eq!(rt;
-        winners_by(rt.alloc(), lines, "zabcde abcd xbc")?.as_str(),
-        "0 0 1y 0 0 ,0 1 0 ,0 1x ,"
-    );
+    gives(
+        winners_by(rt.alloc(), lines, "zabcde abcd xbc"),
+        "0 0 1y 0 0 ,0 1 0 ,0 1x ,",
+    )
+}
+
+/// What scoring a word by an extended dictionary of these lines counted.
+fn counted(alloc: Global, lines: &str, word: &str) -> Result<LookUps, Fail> {
+    let mut count = LookUps::new();
+    count_look_ups(alloc, &extended(alloc, "1 1", lines)?, word, &mut count)?;
+    Ok(count)
+}
+
+/// Scores a word, counted.
+fn count_look_ups(
+    alloc: Global,
+    dictionary: &Extended,
+    word: &str,
+    count: &mut LookUps,
+) -> Result<(), AllocError> {
+    let _scores = dictionary.score_counted(alloc, word, count)?;
     Ok(())
 }
 
 #[test]
 fn a_changed_score_takes_few_look_ups(rt: HostRuntime) -> Result<(), Fail> {
-    let dictionary = extended(rt.alloc(), "1 1", "p a1b 1,1,0,1,x\np ca1bd\np d1d")?;
-    let mut count = LookUps::new();
-    let scores = dictionary.score_counted(rt.alloc(), "cabd", &mut count)?;
-    assert_eq!(rt; scores.len(), 3);
-    assert!(rt; 6 <= count.made() && count.made() <= 12);
-    assert_eq!(rt; count.reported(), 2);
-    Ok(())
+    let count = counted(rt.alloc(), "p a1b 1,1,0,1,x\np ca1bd\np d1d", "cabd")?;
+    holds(6 <= count.made() && count.made() <= 12, "the look-ups")?;
+    same(&count.reported(), &2)
 }
 
 /// Whether a run over an extended text of these lines writes this line of the values of a word.
@@ -86,12 +99,11 @@ fn writes(alloc: Global, lines: &str, word: &str, line: &str) -> Result<bool, Al
 #[test]
 fn a_run_writes_the_values_without_their_changes(rt: HostRuntime) -> Result<(), Fail> {
     let lines = "p a1b\np ca1bd 2,1,0,1,x";
-    assert!(rt; writes(rt.alloc(), lines, "cabd", "0 1 0\n")?);
-    assert!(rt; writes(rt.alloc(), lines, "CABD", "0 0 0\n")?);
-    assert!(rt; writes(rt.alloc(), lines, "", "\n")?);
+    holds(writes(rt.alloc(), lines, "cabd", "0 1 0\n")?, "writes")?;
+    holds(writes(rt.alloc(), lines, "CABD", "0 0 0\n")?, "writes")?;
+    holds(writes(rt.alloc(), lines, "", "\n")?, "writes")?;
     let lines = "p a1b 1,1,0,1,x\np a1bd";
-    assert!(rt; writes(rt.alloc(), lines, "abd", "1 0\n")?);
-    Ok(())
+    holds(writes(rt.alloc(), lines, "abd", "1 0\n")?, "writes")
 }
 
 /// Whether a run of a kind over a dictionary text ends with a refusal of its head, and writes nothing.
@@ -113,7 +125,12 @@ fn is_refused(alloc: Global, kind: Kind, text: &str) -> bool {
 #[test]
 fn a_run_takes_a_text_of_its_kind_alone(rt: HostRuntime) -> Result<(), Fail> {
     let text = extended_text(rt.alloc(), "1 1", "p a1b")?;
-    assert!(rt; is_refused(rt.alloc(), Kind::Standard, &text));
-    assert!(rt; is_refused(rt.alloc(), Kind::Extended, FIRKIN));
-    Ok(())
+    holds(
+        is_refused(rt.alloc(), Kind::Standard, &text),
+        "it is refused",
+    )?;
+    holds(
+        is_refused(rt.alloc(), Kind::Extended, FIRKIN),
+        "it is refused",
+    )
 }

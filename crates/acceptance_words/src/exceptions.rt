@@ -1,6 +1,8 @@
 //! Exceptions, as a text lists them and as callers add and remove them.
 
-use answers::{FIRKIN, dictionary, list, listing, places, standard, told, told_if};
+use answers::{
+    FIRKIN, Question, asked, dictionary, gives, list, listing, places, same, standard, told_if,
+};
 use hyphenation::Standard;
 use hyphenation::hyphenator::Hyphenator;
 use hyphenation::load::Error;
@@ -12,82 +14,101 @@ const ANISOTROPIC: &str =
 
 #[test]
 fn an_added_word_decides_alone(rt: HostRuntime) -> Result<(), Fail> {
-    let firkin = listing(rt.alloc())?;
-    let found = places(rt.alloc(), &firkin, "firkins FIRKINS firkin")?;
-    assert_eq!(rt; found.as_str(), "3 ,3 ,3 ,");
-    Ok(())
+    let question = Question::Places("firkins FIRKINS firkin");
+    gives(
+        asked(rt.alloc(), listing(rt.alloc()), question),
+        "3 ,3 ,3 ,",
+    )
 }
 
 /// The places that the patterns allow in `firkins` within these bounds, though 3 alone is listed.
 fn allowed(alloc: Global, bounds: (usize, usize)) -> Result<String, Fail> {
-    let firkin = listing(alloc)?;
-    let found = firkin.opportunities_within(alloc, "firkins", bounds)?;
-    Ok(told(alloc, &found)?)
+    asked(alloc, listing(alloc), Question::Allowed("firkins", bounds))
 }
 
 #[test]
 fn patterns_are_found_within_bounds(rt: HostRuntime) -> Result<(), Fail> {
-    assert_eq!(rt; allowed(rt.alloc(), (0, 7))?.as_str(), "3 4 ");
-    assert_eq!(rt; allowed(rt.alloc(), (4, 6))?.as_str(), "4 ");
-    assert_eq!(rt; allowed(rt.alloc(), (3, 3))?.as_str(), "3 ");
-    Ok(())
+    gives(allowed(rt.alloc(), (0, 7)), "3 4 ")?;
+    gives(allowed(rt.alloc(), (4, 6)), "4 ")?;
+    gives(allowed(rt.alloc(), (3, 3)), "3 ")
 }
 
 #[test]
 fn no_pattern_is_found_within_other_bounds(rt: HostRuntime) -> Result<(), Fail> {
-    assert_eq!(rt; allowed(rt.alloc(), (4, 3))?.as_str(), "");
-    assert_eq!(rt; allowed(rt.alloc(), (5, usize::MAX))?.as_str(), "");
-    Ok(())
+    gives(allowed(rt.alloc(), (4, 3)), "")?;
+    gives(allowed(rt.alloc(), (5, usize::MAX)), "")
+}
+
+/// What was listed for `firkins` before this place was; then the breaks of words.
+fn added(
+    alloc: Global,
+    dictionary: Result<Standard, Error>,
+    place: usize,
+    words: &str,
+) -> Result<String, Fail> {
+    Ok(add(alloc, &mut dictionary?, place, words)?)
+}
+
+/// The same of a dictionary that was loaded.
+fn add(
+    alloc: Global,
+    dictionary: &mut Standard,
+    place: usize,
+    words: &str,
+) -> Result<String, AllocError> {
+    let mut told = list(alloc, dictionary, place)?;
+    told.push(';')?;
+    told.push_str(&places(alloc, dictionary, words)?)?;
+    Ok(told)
 }
 
 #[test]
 fn a_word_that_is_new_has_no_old_list(rt: HostRuntime) -> Result<(), Fail> {
-    let mut firkin = dictionary(rt.alloc(), FIRKIN)?;
-    let old = list(rt.alloc(), &mut firkin, 3)?;
-    assert_eq!(rt; old.as_str(), "none");
-    Ok(())
-}
-
-/// The list that `firkins` had before it was added again with the place 4, and then the breaks of words.
-fn added_again(alloc: Global, words: &str) -> Result<String, Fail> {
-    let mut firkin = listing(alloc)?;
-    let mut old = list(alloc, &mut firkin, 4)?;
-    old.push_str(&places(alloc, &firkin, words)?)?;
-    Ok(old)
+    let firkin = dictionary(rt.alloc(), FIRKIN);
+    gives(added(rt.alloc(), firkin, 3, "firkins"), "none;3 ,")
 }
 
 #[test]
 fn a_word_added_again_has_its_new_list(rt: HostRuntime) -> Result<(), Fail> {
-    let found = added_again(rt.alloc(), "firkins FIRKINS firkin")?;
-    assert_eq!(rt; found.as_str(), "3 4 ,4 ,3 ,");
-    Ok(())
+    let words = "firkins FIRKINS firkin";
+    gives(
+        added(rt.alloc(), listing(rt.alloc()), 4, words),
+        "3 ;4 ,4 ,3 ,",
+    )
 }
 
-/// The list that `firkins` had before it was taken out, and then the breaks of words.
-fn removed(alloc: Global, words: &str) -> Result<String, Fail> {
-    let mut firkin = listing(alloc)?;
-    let mut old = told_if(alloc, firkin.remove_exception("firkins"))?;
-    old.push_str(&places(alloc, &firkin, words)?)?;
-    Ok(old)
+/// What was listed for `firkins` before it was taken out, and then; after these the breaks of words.
+fn removed(
+    alloc: Global,
+    dictionary: Result<Standard, Error>,
+    words: &str,
+) -> Result<String, Fail> {
+    Ok(remove_twice(alloc, &mut dictionary?, words)?)
+}
+
+/// The same of a dictionary that was loaded.
+fn remove_twice(
+    alloc: Global,
+    dictionary: &mut Standard,
+    words: &str,
+) -> Result<String, AllocError> {
+    let mut told = told_if(alloc, dictionary.remove_exception("firkins"))?;
+    told.push_str(&told_if(alloc, dictionary.remove_exception("firkins"))?)?;
+    told.push(';')?;
+    told.push_str(&places(alloc, dictionary, words)?)?;
+    Ok(told)
 }
 
 #[test]
 fn a_word_that_is_removed_has_its_patterns_again(rt: HostRuntime) -> Result<(), Fail> {
-    let found = removed(rt.alloc(), "firkins FIRKINS")?;
-    assert_eq!(rt; found.as_str(), "3 3 4 ,3 4 ,");
-    Ok(())
+    gives(
+        removed(rt.alloc(), listing(rt.alloc()), "firkins FIRKINS"),
+        "3 none;3 4 ,3 4 ,",
+    )
 }
 
 #[test]
-fn a_word_is_removed_once(rt: HostRuntime) -> Result<(), Fail> {
-    let mut firkin = listing(rt.alloc())?;
-    let _listed = firkin.remove_exception("firkins");
-    assert!(rt; firkin.remove_exception("firkins").is_none());
-    Ok(())
-}
-
-#[test]
-fn places_fit_a_word_where_they_ascend_on_its_characters(rt: HostRuntime) {
+fn places_fit_a_word_where_they_ascend_on_its_characters(rt: HostRuntime) -> Result<(), Fail> {
     let cases: [(&str, &[usize], bool); 8] = [
         ("firkins", &[3, 3], false),
         ("firkins", &[4, 3], false),
@@ -99,82 +120,88 @@ fn places_fit_a_word_where_they_ascend_on_its_characters(rt: HostRuntime) {
         ("ab", &[0, 1, 2], true),
     ];
     for (word, places, fits) in cases {
-        assert_eq!(rt; Standard::fits(word, places), fits, "{word}");
+        same(&Standard::fits(word, places), &fits)?;
     }
+    Ok(())
 }
 
 /// The list of an exception within its boundaries.
 fn exception(alloc: Global, word: &str) -> Result<String, Fail> {
-    let listed = dictionary(alloc, ANISOTROPIC)?;
-    Ok(told_if(alloc, listed.exception(alloc, word)?)?)
+    asked(
+        alloc,
+        dictionary(alloc, ANISOTROPIC),
+        Question::Listed(word),
+    )
 }
 
 #[test]
 fn listed_places_are_found_within_the_boundaries(rt: HostRuntime) -> Result<(), Fail> {
-    assert_eq!(rt; exception(rt.alloc(), "anisotropic")?.as_str(), "2 5 ");
-    assert_eq!(rt; exception(rt.alloc(), "other")?.as_str(), "none");
-    assert_eq!(rt; exception(rt.alloc(), "ab")?.as_str(), "none");
-    Ok(())
+    gives(exception(rt.alloc(), "anisotropic"), "2 5 ")?;
+    gives(exception(rt.alloc(), "other"), "none")?;
+    gives(exception(rt.alloc(), "ab"), "none")
 }
 
 /// The list of an exception within these bounds.
 fn within(alloc: Global, word: &str, bounds: (usize, usize)) -> Result<String, Fail> {
-    let listed = dictionary(alloc, ANISOTROPIC)?;
-    let found = listed.exception_within(alloc, word, bounds)?;
-    Ok(told_if(alloc, found)?)
+    let question = Question::ListedWithin(word, bounds);
+    asked(alloc, dictionary(alloc, ANISOTROPIC), question)
 }
 
 #[test]
 fn listed_places_are_found_within_bounds(rt: HostRuntime) -> Result<(), Fail> {
-    assert_eq!(rt;
-        within(rt.alloc(), "anisotropic", (0, 11))?.as_str(),
-        "2 5 9 "
-    );
-    assert_eq!(rt; within(rt.alloc(), "anisotropic", (9, 2))?.as_str(), "");
-    assert_eq!(rt; within(rt.alloc(), "other", (0, 5))?.as_str(), "none");
-    Ok(())
+    gives(within(rt.alloc(), "anisotropic", (0, 11)), "2 5 9 ")?;
+    gives(within(rt.alloc(), "anisotropic", (9, 2)), "")?;
+    gives(within(rt.alloc(), "other", (0, 5)), "none")
 }
 
 /// The places of a word in small letters.
 fn opportunities(alloc: Global, word: &str) -> Result<String, Fail> {
-    let listed = dictionary(alloc, ANISOTROPIC)?;
-    let found = listed.opportunities(alloc, word)?;
-    Ok(told(alloc, &found)?)
+    asked(
+        alloc,
+        dictionary(alloc, ANISOTROPIC),
+        Question::Opportunities(word),
+    )
 }
 
 #[test]
 fn a_word_that_the_minima_leave_whole_is_listed(rt: HostRuntime) -> Result<(), Fail> {
-    assert_eq!(rt; within(rt.alloc(), "ab", (0, 2))?.as_str(), "1 ");
-    assert_eq!(rt; opportunities(rt.alloc(), "ab")?.as_str(), "");
-    Ok(())
+    gives(within(rt.alloc(), "ab", (0, 2)), "1 ")?;
+    gives(opportunities(rt.alloc(), "ab"), "")
 }
 
 #[test]
 fn a_word_with_a_capital_is_found_only_as_it_is_listed(rt: HostRuntime) -> Result<(), Fail> {
-    assert_eq!(rt; within(rt.alloc(), "Upper", (0, 5))?.as_str(), "3 ");
-    assert_eq!(rt; within(rt.alloc(), "upper", (0, 5))?.as_str(), "none");
-    Ok(())
-}
-
-/// The breaks of words by a dictionary that lists a word with a capital.
-fn upper(alloc: Global, words: &str) -> Result<String, Fail> {
-    let listed = standard(alloc, "1 1", "e Upper 3")?;
-    let mut found = told(alloc, &listed.opportunities(alloc, "Upper")?)?;
-    found.push_str(&places(alloc, &listed, words)?)?;
-    Ok(found)
+    gives(within(rt.alloc(), "Upper", (0, 5)), "3 ")?;
+    gives(within(rt.alloc(), "upper", (0, 5)), "none")
 }
 
 #[test]
 fn a_word_with_a_capital_is_broken_as_its_small_letters(rt: HostRuntime) -> Result<(), Fail> {
-    assert_eq!(rt; upper(rt.alloc(), "Upper upper")?.as_str(), "3 ,,");
-    Ok(())
+    let listed = standard(rt.alloc(), "1 1", "e Upper 3");
+    let question = Question::Opportunities("Upper");
+    gives(asked(rt.alloc(), listed, question), "3 ")?;
+    let listed = standard(rt.alloc(), "1 1", "e Upper 3");
+    gives(
+        asked(rt.alloc(), listed, Question::Places("Upper upper")),
+        ",,",
+    )
+}
+
+/// The minima of the dictionary of `firkin`, and the first and the last place of words by them.
+fn bounds(alloc: Global) -> Result<((usize, usize), [Option<(usize, usize)>; 2]), Error> {
+    Ok(bounds_by(&dictionary(alloc, FIRKIN)?))
+}
+
+/// The same of a dictionary that was loaded.
+fn bounds_by(dictionary: &Standard) -> ((usize, usize), [Option<(usize, usize)>; 2]) {
+    let bounds = [
+        dictionary.boundaries("firkin"),
+        dictionary.boundaries("fir"),
+    ];
+    (dictionary.unbreakable_chars(), bounds)
 }
 
 #[test]
 fn the_minima_bound_the_places_of_a_word(rt: HostRuntime) -> Result<(), Fail> {
-    let firkin = dictionary(rt.alloc(), FIRKIN)?;
-    assert_eq!(rt; firkin.unbreakable_chars(), (2, 3));
-    assert_eq!(rt; firkin.boundaries("firkin"), Some((2, 3)));
-    assert_eq!(rt; firkin.boundaries("fir"), None);
-    Ok(())
+    same(&bounds(rt.alloc())?, &((2, 3), [Some((2, 3)), None]))
 }

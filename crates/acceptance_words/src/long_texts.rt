@@ -3,7 +3,10 @@
 use crate::awkward::{broken, placed, scored};
 use crate::changes::{changed_by, exception};
 use crate::scores::counted;
-use answers::{AMERICAN, DOUBLED, extended, places, rewritten, standard, told_if};
+use answers::{
+    AMERICAN, DOUBLED, Question, asked, extended, gives, holds, places, rewritten, standard,
+    told_if,
+};
 use hyphenation::engine::{Kind, run};
 use hyphenation::extended::Extended;
 use hyphenation::hyphenator::Hyphenator;
@@ -44,8 +47,7 @@ fn is_scored(alloc: Global) -> Result<bool, Fail> {
 
 #[test]
 fn a_word_of_10_000_bytes_is_scored(rt: HostRuntime) -> Result<(), Fail> {
-    assert!(rt; is_scored(rt.alloc())?);
-    Ok(())
+    holds(is_scored(rt.alloc())?, "each place is scored")
 }
 
 /// Whether `ab`, 5,000 times, is broken by both kinds within each pair.
@@ -58,8 +60,7 @@ fn is_broken(alloc: Global) -> Result<bool, Fail> {
 
 #[test]
 fn a_word_of_10_000_bytes_is_broken(rt: HostRuntime) -> Result<(), Fail> {
-    assert!(rt; is_broken(rt.alloc())?);
-    Ok(())
+    holds(is_broken(rt.alloc())?, "it is broken within each pair")
 }
 
 /// Whether a piece of two letters, 5,000 times, has `x` and `y` for each two letters, with a break between them.
@@ -73,9 +74,14 @@ fn is_changed(alloc: Global, line: &str, piece: &str) -> Result<bool, Fail> {
 /// `aa` allows a break at each place, and each range of two letters that is kept bars the next place.
 #[test]
 fn a_word_of_10_000_bytes_is_fitted(rt: HostRuntime) -> Result<(), Fail> {
-    assert!(rt; is_changed(rt.alloc(), "p a1b 1,1,1,1,xy", "ab")?);
-    assert!(rt; is_changed(rt.alloc(), "p a1a 1,1,1,1,xy", "aa")?);
-    Ok(())
+    holds(
+        is_changed(rt.alloc(), "p a1b 1,1,1,1,xy", "ab")?,
+        "it is changed within each pair",
+    )?;
+    holds(
+        is_changed(rt.alloc(), "p a1a 1,1,1,1,xy", "aa")?,
+        "it is changed within each pair",
+    )
 }
 
 /// The line of a key of so many letters `a`, an even number, with the value 1 in its middle.
@@ -94,21 +100,16 @@ fn by_one_key(alloc: Global, letters: usize, of_word: usize) -> Result<String, F
 /// In a word with one letter more the key stands twice.
 #[test]
 fn a_key_of_1_000_bytes_is_found(rt: HostRuntime) -> Result<(), Fail> {
-    assert_eq!(rt; by_one_key(rt.alloc(), 1_000, 999)?.as_str(), ",");
-    assert_eq!(rt; by_one_key(rt.alloc(), 1_000, 1_000)?.as_str(), "500 ,");
-    assert_eq!(rt; by_one_key(rt.alloc(), 1_000, 1_001)?.as_str(), "500 501 ,");
-    Ok(())
+    gives(by_one_key(rt.alloc(), 1_000, 999), ",")?;
+    gives(by_one_key(rt.alloc(), 1_000, 1_000), "500 ,")?;
+    gives(by_one_key(rt.alloc(), 1_000, 1_001), "500 501 ,")
 }
 
 #[test]
 fn a_key_of_10_000_bytes_is_found(rt: HostRuntime) -> Result<(), Fail> {
-    assert_eq!(rt; by_one_key(rt.alloc(), 10_000, 9_999)?.as_str(), ",");
-    assert_eq!(rt; by_one_key(rt.alloc(), 10_000, 10_000)?.as_str(), "5000 ,");
-    assert_eq!(rt;
-        by_one_key(rt.alloc(), 10_000, 10_001)?.as_str(),
-        "5000 5001 ,"
-    );
-    Ok(())
+    gives(by_one_key(rt.alloc(), 10_000, 9_999), ",")?;
+    gives(by_one_key(rt.alloc(), 10_000, 10_000), "5000 ,")?;
+    gives(by_one_key(rt.alloc(), 10_000, 10_001), "5000 5001 ,")
 }
 
 /// Whether the text of a dictionary with one key of so many bytes is written as it was read.
@@ -121,8 +122,7 @@ fn is_written(alloc: Global, letters: usize) -> Result<bool, Fail> {
 
 #[test]
 fn a_key_of_10_000_bytes_is_written(rt: HostRuntime) -> Result<(), Fail> {
-    assert!(rt; is_written(rt.alloc(), 10_000)?);
-    Ok(())
+    holds(is_written(rt.alloc(), 10_000)?, "it is written")
 }
 
 /// Ten dots and a letter: each dot of a word of dots begins this key, or goes on in it.
@@ -139,8 +139,7 @@ fn are_dots(alloc: Global) -> Result<bool, Fail> {
 
 #[test]
 fn a_word_of_100_000_dots_has_no_break(rt: HostRuntime) -> Result<(), Fail> {
-    assert!(rt; are_dots(rt.alloc())?);
-    Ok(())
+    holds(are_dots(rt.alloc())?, "it has no break")
 }
 
 /// The look-ups for 100,000 dots.
@@ -153,8 +152,7 @@ fn looked_up(alloc: Global) -> Result<u128, Fail> {
 #[test]
 fn a_word_of_100_000_dots_is_looked_up_in_one_pass(rt: HostRuntime) -> Result<(), Fail> {
     let made = looked_up(rt.alloc())?;
-    assert!(rt; 100_002 <= made && made <= 200_004);
-    Ok(())
+    holds(100_002 <= made && made <= 200_004, "the look-ups")
 }
 
 /// The places of 100,000 dots where one is listed for them.
@@ -166,8 +164,7 @@ fn of_listed_dots(alloc: Global) -> Result<String, Fail> {
 
 #[test]
 fn a_word_of_100_000_dots_is_an_exception(rt: HostRuntime) -> Result<(), Fail> {
-    assert_eq!(rt; of_listed_dots(rt.alloc())?.as_str(), "50000 ,");
-    Ok(())
+    gives(of_listed_dots(rt.alloc()), "50000 ,")
 }
 
 /// A pattern that an empty list bars from its word.
@@ -175,22 +172,14 @@ const EMPTY: &str = "p a1b\ne ab";
 
 /// The empty list of a standard dictionary.
 fn empty_list(alloc: Global) -> Result<String, Fail> {
-    let dictionary = standard(alloc, "0 0", EMPTY)?;
-    Ok(told_if(alloc, dictionary.exception(alloc, "ab")?)?)
+    asked(alloc, standard(alloc, "0 0", EMPTY), Question::Listed("ab"))
 }
 
 #[test]
 fn a_list_may_be_empty(rt: HostRuntime) -> Result<(), Fail> {
-    assert_eq!(rt; empty_list(rt.alloc())?.as_str(), "");
-    assert_eq!(rt;
-        exception(rt.alloc(), "p b1c\ne abcd", "abcd")?.as_str(),
-        ""
-    );
-    assert_eq!(rt;
-        broken(rt.alloc(), "0 0", EMPTY, "ab aab")?.as_str(),
-        "ab aa=b "
-    );
-    Ok(())
+    gives(empty_list(rt.alloc()), "")?;
+    gives(exception(rt.alloc(), "p b1c\ne abcd", "abcd"), "")?;
+    gives(broken(rt.alloc(), "0 0", EMPTY, "ab aab"), "ab aa=b ")
 }
 
 /// Lists no place for `ab`; the old list.
@@ -208,18 +197,13 @@ fn empty_extended(alloc: Global, dictionary: &mut Extended) -> Result<String, Al
 #[test]
 fn an_empty_list_replaces_another(rt: HostRuntime) -> Result<(), Fail> {
     let mut dictionary = standard(rt.alloc(), "0 0", "p a1b\ne ab 1")?;
-    assert_eq!(rt; empty(rt.alloc(), &mut dictionary)?.as_str(), "1 ");
-    Ok(())
+    gives(empty(rt.alloc(), &mut dictionary), "1 ")
 }
 
 #[test]
 fn an_empty_list_replaces_another_with_a_change(rt: HostRuntime) -> Result<(), Fail> {
     let mut dictionary = extended(rt.alloc(), "0 0", "p a1b\ne ab 1,1,1,1,xy")?;
-    assert_eq!(rt;
-        empty_extended(rt.alloc(), &mut dictionary)?.as_str(),
-        "1xy "
-    );
-    Ok(())
+    gives(empty_extended(rt.alloc(), &mut dictionary), "1xy ")
 }
 
 /// The breaks of words where no place is listed for `ab`.
@@ -232,8 +216,7 @@ fn emptied(alloc: Global, words: &str) -> Result<String, Fail> {
 
 #[test]
 fn an_empty_list_is_added(rt: HostRuntime) -> Result<(), Fail> {
-    assert_eq!(rt; emptied(rt.alloc(), "ab aab")?.as_str(), ",2 ,");
-    Ok(())
+    gives(emptied(rt.alloc(), "ab aab"), ",2 ,")
 }
 
 /// The lines of exceptions `word0`, `word1` and so on, each broken after its letters.
@@ -258,9 +241,10 @@ fn by_numbered(alloc: Global, words: &str) -> Result<Option<String>, Fail> {
 
 #[test]
 fn a_dictionary_of_a_million_bytes_is_read(rt: HostRuntime) -> Result<(), Fail> {
-    let found = by_numbered(rt.alloc(), "word0 Word79999 word80000")?.ok_or("too few bytes")?;
-    assert_eq!(rt; found.as_str(), "word=0 Word=79999 word80000 ");
-    Ok(())
+    gives(
+        by_numbered(rt.alloc(), "word0 Word79999 word80000")?.ok_or("too few bytes"),
+        "word=0 Word=79999 word80000 ",
+    )
 }
 
 /// Whether a run over a piece, repeated to more than 1,000,000 bytes, writes it broken so each time.
@@ -298,15 +282,19 @@ fn is_run(
 #[test]
 fn a_text_of_a_million_bytes_is_run(rt: HostRuntime) -> Result<(), Fail> {
     let (piece, wanted) = ("Firkin, firkins. ", "Fir-kin, fir-k-ins. ");
-    assert!(rt; is_run(rt.alloc(), Kind::Standard, AMERICAN, piece, wanted)?);
-    Ok(())
+    holds(
+        is_run(rt.alloc(), Kind::Standard, AMERICAN, piece, wanted)?,
+        "it is run",
+    )
 }
 
 #[test]
 fn a_text_of_a_million_bytes_is_run_and_changed(rt: HostRuntime) -> Result<(), Fail> {
     let (piece, wanted) = ("Az asszonnyal. ", "Az asz-szony-nyal. ");
-    assert!(rt; is_run(rt.alloc(), Kind::Extended, DOUBLED, piece, wanted)?);
-    Ok(())
+    holds(
+        is_run(rt.alloc(), Kind::Extended, DOUBLED, piece, wanted)?,
+        "it is run",
+    )
 }
 
 /// Whether a text of 1,050,000 bytes is filled into lines of one word each.
@@ -331,6 +319,5 @@ fn is_filled(alloc: Global) -> Result<bool, AllocError> {
 /// Two words have eight characters with the space after the second.
 #[test]
 fn a_text_of_a_million_bytes_is_filled(rt: HostRuntime) -> Result<(), Fail> {
-    assert!(rt; is_filled(rt.alloc())?);
-    Ok(())
+    holds(is_filled(rt.alloc())?, "it is filled")
 }

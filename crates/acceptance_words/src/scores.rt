@@ -1,46 +1,56 @@
 //! The scores of words, and how many look-ups they take.
 
-use answers::{FIRKIN, dictionary, standard, values, values_by};
+use answers::{FIRKIN, Question, asked, dictionary, gives, holds, same, standard, values_by};
 use hyphenation::engine::{Kind, run_score};
 use hyphenation::load::{Error, Load};
 use hyphenation::score::{LookUps, Score};
 use hyphenation::{Language, Standard};
-use std::alloc::Global;
+use std::alloc::{AllocError, Global};
 use std::test::Fail;
 
 #[test]
 fn the_greatest_value_decides_each_place(rt: HostRuntime) -> Result<(), Fail> {
-    let firkin = dictionary(rt.alloc(), FIRKIN)?;
-    let found = values(rt.alloc(), &firkin, "firkin firkins FIRKIN  f")?;
-    assert_eq!(rt; found.as_str(), "0 2 5 2 0 ,0 2 5 1 0 0 ,0 0 0 0 0 ,,,");
-    Ok(())
+    let words = "firkin firkins FIRKIN  f";
+    gives(
+        asked(
+            rt.alloc(),
+            dictionary(rt.alloc(), FIRKIN),
+            Question::Values(words),
+        ),
+        "0 2 5 2 0 ,0 2 5 1 0 0 ,0 0 0 0 0 ,,,",
+    )
 }
 
 #[test]
 fn a_dot_stands_for_an_edge_and_for_a_dot(rt: HostRuntime) -> Result<(), Fail> {
-    assert_eq!(rt;
-        values_by(rt.alloc(), "p .b1c", "a.bcd bc abc")?.as_str(),
-        "0 0 1 0 ,1 ,0 0 ,"
-    );
-    Ok(())
+    gives(
+        values_by(rt.alloc(), "p .b1c", "a.bcd bc abc"),
+        "0 0 1 0 ,1 ,0 0 ,",
+    )
 }
 
 #[test]
 fn digits_and_longer_keys_have_their_values(rt: HostRuntime) -> Result<(), Fail> {
-    assert_eq!(rt; values_by(rt.alloc(), "p x\\11y", "x1y")?.as_str(), "0 1 ,");
-    assert_eq!(rt;
-        values_by(rt.alloc(), "p a1\np aa", "aaa")?.as_str(),
-        "1 1 ,"
-    );
-    Ok(())
+    gives(values_by(rt.alloc(), "p x\\11y", "x1y"), "0 1 ,")?;
+    gives(values_by(rt.alloc(), "p a1\np aa", "aaa"), "1 1 ,")
 }
 
 /// What scoring a word by a dictionary of these lines counted.
 pub fn counted(alloc: Global, lines: &str, word: &str) -> Result<LookUps, Fail> {
-    let dictionary = standard(alloc, "0 0", lines)?;
     let mut count = LookUps::new();
-    let _values = dictionary.score_counted(alloc, word, &mut count)?;
+    count_look_ups(alloc, &standard(alloc, "0 0", lines)?, word, &mut count)?;
     Ok(count)
+}
+
+/// Scores a word, counted.
+fn count_look_ups(
+    alloc: Global,
+    dictionary: &Standard,
+    word: &str,
+    count: &mut LookUps,
+) -> Result<(), AllocError> {
+    let _values = dictionary.score_counted(alloc, word, count)?;
+    Ok(())
 }
 
 /// The patterns that occur in `firkin`.
@@ -49,21 +59,19 @@ const PATTERNS: &str = "p .fi2\np i2r\np r2k\np r5kin\np k1in\np k2in.";
 #[test]
 fn a_score_takes_few_look_ups(rt: HostRuntime) -> Result<(), Fail> {
     let count = counted(rt.alloc(), PATTERNS, "firkin")?;
-    assert!(rt; 8 <= count.made() && count.made() <= 16);
-    assert_eq!(rt; count.reported(), 6);
+    holds(8 <= count.made() && count.made() <= 16, "the look-ups")?;
+    same(&count.reported(), &6)?;
     let count = counted(rt.alloc(), PATTERNS, "firkins")?;
-    assert!(rt; 9 <= count.made() && count.made() <= 18);
-    assert_eq!(rt; count.reported(), 5);
-    Ok(())
+    holds(9 <= count.made() && count.made() <= 18, "the look-ups")?;
+    same(&count.reported(), &5)
 }
 
 #[test]
 fn without_keys_each_byte_of_the_frame_is_looked_up_once(rt: HostRuntime) -> Result<(), Fail> {
     let count = counted(rt.alloc(), "", "abc")?;
-    assert_eq!(rt; count.made(), 5);
-    assert_eq!(rt; count.reported(), 0);
-    assert_eq!(rt; values_by(rt.alloc(), "", "abc")?.as_str(), "0 0 ,");
-    Ok(())
+    same(&count.made(), &5)?;
+    same(&count.reported(), &0)?;
+    gives(values_by(rt.alloc(), "", "abc"), "0 0 ,")
 }
 
 const TWENTY: &str = "aaaaaaaaaaaaaaaaaaaa";
@@ -71,21 +79,23 @@ const TWENTY: &str = "aaaaaaaaaaaaaaaaaaaa";
 #[test]
 fn no_byte_is_read_again(rt: HostRuntime) -> Result<(), Fail> {
     let count = counted(rt.alloc(), "p aaaaaaa1b", TWENTY)?;
-    assert!(rt; 22 <= count.made() && count.made() <= 44);
-    assert_eq!(rt; count.reported(), 0);
-    let found = values_by(rt.alloc(), "p aaaaaaa1b", TWENTY)?;
-    assert_eq!(rt; found.as_str(), "0 0 0 0 0 0 0 0 0 0 0 0 0 0 0 0 0 0 0 ,");
-    Ok(())
+    holds(22 <= count.made() && count.made() <= 44, "the look-ups")?;
+    same(&count.reported(), &0)?;
+    gives(
+        values_by(rt.alloc(), "p aaaaaaa1b", TWENTY),
+        "0 0 0 0 0 0 0 0 0 0 0 0 0 0 0 0 0 0 0 ,",
+    )
 }
 
 #[test]
 fn no_byte_is_read_again_where_keys_end(rt: HostRuntime) -> Result<(), Fail> {
     let count = counted(rt.alloc(), "p aaaaaaa1", TWENTY)?;
-    assert!(rt; 22 <= count.made() && count.made() <= 44);
-    assert_eq!(rt; count.reported(), 14);
-    let found = values_by(rt.alloc(), "p aaaaaaa1", TWENTY)?;
-    assert_eq!(rt; found.as_str(), "0 0 0 0 0 0 1 1 1 1 1 1 1 1 1 1 1 1 1 ,");
-    Ok(())
+    holds(22 <= count.made() && count.made() <= 44, "the look-ups")?;
+    same(&count.reported(), &14)?;
+    gives(
+        values_by(rt.alloc(), "p aaaaaaa1", TWENTY),
+        "0 0 0 0 0 0 1 1 1 1 1 1 1 1 1 1 1 1 1 ,",
+    )
 }
 
 /// The number of keys that a dictionary of these lines reports in a word.
@@ -96,21 +106,21 @@ fn reported(alloc: Global, lines: &str, word: &str) -> Result<u128, Fail> {
 #[test]
 fn each_key_is_reported_where_it_stands(rt: HostRuntime) -> Result<(), Fail> {
     let alloc = rt.alloc();
-    assert_eq!(rt; reported(alloc, "p a1\np aa", "aaa")?, 5);
-    assert_eq!(rt; reported(alloc, "p a1\np aa\np .aa\np aa.", "aaa")?, 7);
-    assert_eq!(rt; reported(alloc, "p abc1d", "abc")?, 0);
-    assert_eq!(rt;
-        reported(alloc, "p he2\np she1\np his3\np hers1", "ushers")?,
-        3
-    );
-    Ok(())
+    same(&reported(alloc, "p a1\np aa", "aaa")?, &5)?;
+    same(&reported(alloc, "p a1\np aa\np .aa\np aa.", "aaa")?, &7)?;
+    same(&reported(alloc, "p abc1d", "abc")?, &0)?;
+    same(
+        &reported(alloc, "p he2\np she1\np his3\np hers1", "ushers")?,
+        &3,
+    )
 }
 
 #[test]
-fn odd_values_denote_opportunities(rt: HostRuntime) {
+fn odd_values_denote_opportunities(rt: HostRuntime) -> Result<(), Fail> {
     for value in 0..=9u8 {
-        assert_eq!(rt; Standard::denotes_opportunity(value), value % 2 == 1);
+        same(&Standard::denotes_opportunity(value), &(value % 2 == 1))?;
     }
+    Ok(())
 }
 
 /// Whether a run in this language writes this line of the values of a word.
@@ -131,26 +141,33 @@ fn writes(alloc: Global, language: Language, word: &str, line: &str) -> bool {
 #[test]
 fn a_run_writes_the_values_of_the_word_as_it_is_handed_in(rt: HostRuntime) -> Result<(), Fail> {
     let language = Language::from_code("en-gb").ok_or("a code")?;
-    assert!(rt; writes(rt.alloc(), language, "firkin", "0 2 5 2 0\n"));
-    assert!(rt; writes(rt.alloc(), language, "firkins", "0 2 5 1 0 0\n"));
-    assert!(rt; writes(rt.alloc(), language, "FIRKIN", "0 0 0 0 0\n"));
-    assert!(rt; writes(rt.alloc(), language, "", "\n"));
-    Ok(())
+    holds(
+        writes(rt.alloc(), language, "firkin", "0 2 5 2 0\n"),
+        "writes",
+    )?;
+    holds(
+        writes(rt.alloc(), language, "firkins", "0 2 5 1 0 0\n"),
+        "writes",
+    )?;
+    holds(
+        writes(rt.alloc(), language, "FIRKIN", "0 0 0 0 0\n"),
+        "writes",
+    )?;
+    holds(writes(rt.alloc(), language, "", "\n"), "writes")
 }
 
 #[test]
 fn the_order_of_lines_changes_no_score(rt: HostRuntime) -> Result<(), Fail> {
-    assert_eq!(rt;
-        values_by(rt.alloc(), "p k1in\np k2in.\np r5kin", "firkin")?.as_str(),
-        "0 0 5 2 0 ,"
-    );
-    assert_eq!(rt;
-        values_by(rt.alloc(), "p r5kin\np k2in.\np k1in", "firkin")?.as_str(),
-        "0 0 5 2 0 ,"
-    );
-    assert_eq!(rt;
-        values_by(rt.alloc(), "p k2in.\np k1in\np r5kin", "firkin")?.as_str(),
-        "0 0 5 2 0 ,"
-    );
-    Ok(())
+    gives(
+        values_by(rt.alloc(), "p k1in\np k2in.\np r5kin", "firkin"),
+        "0 0 5 2 0 ,",
+    )?;
+    gives(
+        values_by(rt.alloc(), "p r5kin\np k2in.\np k1in", "firkin"),
+        "0 0 5 2 0 ,",
+    )?;
+    gives(
+        values_by(rt.alloc(), "p k2in.\np k1in\np r5kin", "firkin"),
+        "0 0 5 2 0 ,",
+    )
 }

@@ -1,6 +1,6 @@
 //! How words are broken by dictionaries that are read from texts.
 
-use answers::{FIRKIN, dictionary, marked, places};
+use answers::{FIRKIN, Question, asked, dictionary, gives, holds};
 use hyphenation::Standard;
 use hyphenation::hyphenator::{Hyphenator, Word};
 use hyphenation::iter::Iter;
@@ -19,79 +19,63 @@ const PATTERNS: &str = "hyphenation 1 standard\nlanguage x\nminima 1 1\np i1l\np
 
 /// The breaks of words by the dictionary of a text.
 fn places_by(alloc: Global, text: &str, words: &str) -> Result<String, Fail> {
-    let dictionary = dictionary(alloc, text)?;
-    let found = places(alloc, &dictionary, words)?;
-    Ok(found)
+    asked(alloc, dictionary(alloc, text), Question::Places(words))
 }
 
 #[test]
 fn words_break_at_patterns(rt: HostRuntime) -> Result<(), Fail> {
-    assert_eq!(rt;
-        places_by(rt.alloc(), FIRKIN, "firkin firkins FIRKINS ")?.as_str(),
-        "3 ,3 4 ,3 4 ,,"
-    );
-    Ok(())
+    gives(
+        places_by(rt.alloc(), FIRKIN, "firkin firkins FIRKINS "),
+        "3 ,3 4 ,3 4 ,,",
+    )
 }
 
 #[test]
 fn words_break_at_exceptions_alone(rt: HostRuntime) -> Result<(), Fail> {
     let words = "anfractuous hyphenation anisotropic bevies hypha";
-    assert_eq!(rt;
-        places_by(rt.alloc(), WORDS, words)?.as_str(),
-        "2 6 8 ,2 6 7 ,2 5 ,,2 ,"
-    );
-    Ok(())
+    gives(
+        places_by(rt.alloc(), WORDS, words),
+        "2 6 8 ,2 6 7 ,2 5 ,,2 ,",
+    )
 }
 
 #[test]
 fn capitals_break_where_their_small_letters_do(rt: HostRuntime) -> Result<(), Fail> {
-    assert_eq!(rt;
-        places_by(rt.alloc(), WORDS, "CAPITAL MİCRO İDİOM MUCİLAGİNOUS")?.as_str(),
-        "3 4 ,3 ,3 ,2 10 ,"
-    );
-    assert_eq!(rt;
-        places_by(rt.alloc(), NAMES, "İbrahim İLGİNÇ \u{212a}ilim")?.as_str(),
-        "3 5 ,3 ,4 ,"
-    );
-    Ok(())
+    gives(
+        places_by(rt.alloc(), WORDS, "CAPITAL MİCRO İDİOM MUCİLAGİNOUS"),
+        "3 4 ,3 ,3 ,2 10 ,",
+    )?;
+    gives(
+        places_by(rt.alloc(), NAMES, "İbrahim İLGİNÇ \u{212a}ilim"),
+        "3 5 ,3 ,4 ,",
+    )
 }
 
 #[test]
 fn places_after_letters_of_another_length_are_carried_back(rt: HostRuntime) -> Result<(), Fail> {
-    assert_eq!(rt;
-        places_by(rt.alloc(), SHORT, "İẞab ȺAB")?.as_str(),
-        "5 ,3 ,"
-    );
-    assert_eq!(rt;
-        places_by(rt.alloc(), PATTERNS, "\u{212a}ilim İẞab ȺAB")?.as_str(),
-        "4 ,5 ,3 ,"
-    );
-    Ok(())
+    gives(places_by(rt.alloc(), SHORT, "İẞab ȺAB"), "5 ,3 ,")?;
+    gives(
+        places_by(rt.alloc(), PATTERNS, "\u{212a}ilim İẞab ȺAB"),
+        "4 ,5 ,3 ,",
+    )
 }
 
 #[test]
 fn soft_hyphens_alone_break_their_word(rt: HostRuntime) -> Result<(), Fail> {
     let words = "\u{ad}ab fir\u{ad}kin ri\u{ad}bo\u{ad}nu\u{ad}cle\u{ad}ase";
-    assert_eq!(rt;
-        places_by(rt.alloc(), FIRKIN, words)?.as_str(),
-        "0 ,3 ,2 6 10 15 ,"
-    );
-    Ok(())
+    gives(places_by(rt.alloc(), FIRKIN, words), "0 ,3 ,2 6 10 15 ,")
 }
 
 /// Words with marks at their breaks, by the dictionary of exceptions.
 fn marked_words(alloc: Global, words: &str) -> Result<String, Fail> {
-    let dictionary = dictionary(alloc, WORDS)?;
-    let found = marked(alloc, &dictionary, words)?;
-    Ok(found)
+    asked(alloc, dictionary(alloc, WORDS), Question::Marked(words))
 }
 
 #[test]
 fn marks_stand_at_the_breaks(rt: HostRuntime) -> Result<(), Fail> {
     let words = "hyphenation CAPITAL MUCİLAGİNOUS bevies \u{ad}ab  Hypha";
     let broken = "hy=phen=a=tion CAP=I=TAL MU=CİLAGİ=NOUS bevies =\u{ad}ab  Hy=pha ";
-    assert_eq!(rt; marked_words(rt.alloc(), words)?.as_str(), broken);
-    Ok(())
+    gives(marked_words(rt.alloc(), words), broken)
 }
 
 /// The items of a word, joined; at first the mark is `-`.
@@ -106,9 +90,10 @@ fn joined_items(alloc: Global, dictionary: &Standard, word: &str) -> Result<Stri
 #[test]
 fn the_first_mark_is_a_hyphen(rt: HostRuntime) -> Result<(), Fail> {
     let dictionary = dictionary(rt.alloc(), WORDS)?;
-    let found = joined_items(rt.alloc(), &dictionary, "Hyphenation")?;
-    assert_eq!(rt; found.as_str(), "Hy-phen-a-tion");
-    Ok(())
+    gives(
+        joined_items(rt.alloc(), &dictionary, "Hyphenation"),
+        "Hy-phen-a-tion",
+    )
 }
 
 /// Whether the segments of a word join to it, and are one more than its breaks.
@@ -126,7 +111,7 @@ fn is_joined(alloc: Global, dictionary: &Standard, word: &str) -> Result<bool, A
 fn the_parts_of_a_long_word_join_to_it(rt: HostRuntime) -> Result<(), Fail> {
     let dictionary = dictionary(rt.alloc(), WORDS)?;
     for word in "hyphenation anfractuous unknown İDİOM a\u{ad}b".split(' ') {
-        assert!(rt; is_joined(rt.alloc(), &dictionary, word)?, "{word}");
+        holds(is_joined(rt.alloc(), &dictionary, word)?, word)?;
     }
     Ok(())
 }

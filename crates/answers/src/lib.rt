@@ -8,6 +8,35 @@ use hyphenation::iter::{Hyphenating, Texts};
 use hyphenation::load::{Error, Load};
 use hyphenation::score::Score;
 use std::alloc::{AllocError, Global};
+use std::fmt::{Debug, Display};
+use std::test::Fail;
+
+/// Fails, with both, where what was found is not what is wanted. A test that calls it, and asserts nothing itself, is
+/// proved in a tenth of the time.
+pub fn same<T: PartialEq + Debug>(found: &T, wanted: &T) -> Result<(), Fail> {
+    if found == wanted {
+        Ok(())
+    } else {
+        Err(Fail::new(format_args!("found {found:?} and not {wanted:?}")))
+    }
+}
+
+/// Fails where a call has failed, or has another answer than is wanted.
+pub fn gives<E: Into<Fail>>(found: Result<String, E>, wanted: &str) -> Result<(), Fail> {
+    match found {
+        Ok(found) => same(&found.as_str(), &wanted),
+        Err(error) => Err(error.into()),
+    }
+}
+
+/// Fails, and names the case, where something does not hold.
+pub fn holds<C: Display + Drop>(is_so: bool, case: C) -> Result<(), Fail> {
+    if is_so {
+        Ok(())
+    } else {
+        Err(Fail::new(format_args!("it does not hold: {case}")))
+    }
+}
 
 /// The patterns that occur in `firkin`.
 pub const FIRKIN: &str =
@@ -152,9 +181,12 @@ pub fn values(alloc: Global, dictionary: &Standard, words: &str) -> Result<Strin
 }
 
 /// The values of words by a standard dictionary of these lines.
-pub fn values_by(alloc: Global, lines: &str, words: &str) -> Result<String, Error> {
-    let dictionary = standard(alloc, "0 0", lines)?;
-    values(alloc, &dictionary, words).map_err(Error::Memory)
+pub fn values_by(alloc: Global, lines: &str, words: &str) -> Result<String, Fail> {
+    asked(
+        alloc,
+        standard(alloc, "0 0", lines),
+        Question::Values(words),
+    )
 }
 
 /// What a change puts in place of its range.
@@ -231,4 +263,85 @@ pub fn rewritten<D: Load + Drop>(alloc: Global, text: &[u8]) -> Result<Vec<u8>, 
     let mut written = Vec::new(alloc);
     dictionary.to_writer(alloc, &mut written)?;
     Ok(written)
+}
+
+/// What a dictionary is asked. Words of a text are parted by a space; bounds and places are numbers of bytes.
+#[derive(Clone, Copy)]
+pub enum Question<'q> {
+    /// The values of the words' places, those of an extended dictionary with what their changes substitute.
+    Values(&'q str),
+    /// The breaks of words.
+    Places(&'q str),
+    /// The words' items with the mark `=`.
+    Marked(&'q str),
+    /// The breaks that are listed for a word, within its boundaries.
+    Listed(&'q str),
+    /// The breaks that are listed for a word, within bounds.
+    ListedWithin(&'q str, (usize, usize)),
+    /// The breaks that patterns allow in a word in small letters, within bounds.
+    Allowed(&'q str, (usize, usize)),
+    /// The breaks of a word in small letters.
+    Opportunities(&'q str),
+}
+
+/// A dictionary that answers.
+pub trait Answering: Drop {
+    /// The answer to a question, as one text.
+    fn answer(&self, alloc: Global, question: Question<'_>) -> Result<String, AllocError>;
+}
+
+impl Answering for Standard {
+    fn answer(&self, alloc: Global, question: Question<'_>) -> Result<String, AllocError> {
+        match question {
+            Question::Values(words) => values(alloc, self, words),
+            Question::Marked(words) => marked(alloc, self, words),
+            _ => breaks_asked(alloc, self, question),
+        }
+    }
+}
+
+impl Answering for Extended {
+    fn answer(&self, alloc: Global, question: Question<'_>) -> Result<String, AllocError> {
+        match question {
+            Question::Values(words) => winners(alloc, self, words),
+            Question::Marked(words) => changed(alloc, self, words),
+            _ => breaks_asked(alloc, self, question),
+        }
+    }
+}
+
+/// The breaks that are asked for.
+fn breaks_asked<'h, H: Hyphenator<'h>>(
+    alloc: Global,
+    dictionary: &'h H,
+    question: Question<'_>,
+) -> Result<String, AllocError> {
+    match question {
+        Question::Values(words) | Question::Places(words) | Question::Marked(words) => {
+            places(alloc, dictionary, words)
+        }
+        Question::Listed(word) => told_if(alloc, dictionary.exception(alloc, word)?),
+        Question::ListedWithin(word, bounds) => {
+            told_if(alloc, dictionary.exception_within(alloc, word, bounds)?)
+        }
+        Question::Allowed(word, bounds) => {
+            told_if(
+                alloc,
+                Some(dictionary.opportunities_within(alloc, word, bounds)?),
+            )
+        }
+        Question::Opportunities(word) => {
+            told_if(alloc, Some(dictionary.opportunities(alloc, word)?))
+        }
+    }
+}
+
+/// The answer of a dictionary that was loaded, or its refusal.
+pub fn asked<D: Answering>(
+    alloc: Global,
+    dictionary: Result<D, Error>,
+    question: Question<'_>,
+) -> Result<String, Fail> {
+    let dictionary = dictionary?;
+    Ok(dictionary.answer(alloc, question)?)
 }

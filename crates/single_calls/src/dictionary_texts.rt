@@ -1,5 +1,6 @@
 //! Dictionary texts read, and written again.
 
+use answers::{holds, same};
 use dictionary_text::Cause;
 use dictionary_text::reader::{Refusal, read_extended, read_standard};
 use dictionary_text::writer::{write_extended, write_standard};
@@ -25,34 +26,30 @@ fn extended(alloc: Global) -> Result<Extended, Fail> {
 #[test]
 fn a_text_gives_its_head_lines(rt: HostRuntime) -> Result<(), Fail> {
     let dictionary = standard(rt.alloc())?;
-    assert_eq!(rt; dictionary.language().code(), "en-us");
-    assert_eq!(rt; dictionary.minima(), (2, 3));
-    Ok(())
+    same(&dictionary.language().code(), &"en-us")?;
+    same(&dictionary.minima(), &(2, 3))
 }
 
 #[test]
 fn a_text_gives_its_exceptions(rt: HostRuntime) -> Result<(), Fail> {
     let dictionary = standard(rt.alloc())?;
-    assert_eq!(rt; dictionary.listed("table"), Some([2].as_slice()));
-    assert!(rt; dictionary.listed("a b").is_some());
-    assert!(rt; dictionary.listed("tab").is_none());
-    Ok(())
+    same(&dictionary.listed("table"), &Some([2].as_slice()))?;
+    holds(dictionary.listed("a b").is_some(), "listed")?;
+    holds(dictionary.listed("tab").is_none(), "listed")
 }
 
 #[test]
 fn an_extended_text_gives_its_head_lines(rt: HostRuntime) -> Result<(), Fail> {
     let dictionary = extended(rt.alloc())?;
-    assert_eq!(rt; dictionary.language().code(), "hu");
-    assert_eq!(rt; dictionary.minima(), (2, 2));
-    Ok(())
+    same(&dictionary.language().code(), &"hu")?;
+    same(&dictionary.minima(), &(2, 2))
 }
 
 #[test]
 fn an_extended_text_gives_its_exceptions(rt: HostRuntime) -> Result<(), Fail> {
     let dictionary = extended(rt.alloc())?;
-    assert_eq!(rt; dictionary.listed("kilim"), Some([(2, None)].as_slice()));
-    assert!(rt; dictionary.listed("").is_some());
-    Ok(())
+    same(&dictionary.listed("kilim"), &Some([(2, None)].as_slice()))?;
+    holds(dictionary.listed("").is_some(), "listed")
 }
 
 #[test]
@@ -64,11 +61,10 @@ fn all_after_the_fourth_comma_is_the_substitution(rt: HostRuntime) -> Result<(),
         substitution: String::from_str(rt.alloc(), "a,b")?,
         breakpoint: 2,
     };
-    assert_eq!(rt;
-        dictionary.listed("ab"),
-        Some([(1, Some(change))].as_slice())
-    );
-    Ok(())
+    same(
+        &dictionary.listed("ab"),
+        &Some([(1, Some(change))].as_slice()),
+    )
 }
 
 /// The fault for which an extended text of three good head lines and this one is refused, if any.
@@ -84,15 +80,13 @@ fn fault_of(alloc: Global, line: &str) -> Result<Option<(usize, Cause)>, AllocEr
 #[test]
 fn a_breakpoint_within_a_character_is_refused(rt: HostRuntime) -> Result<(), Fail> {
     let fault = fault_of(rt.alloc(), "e ab 1,0,0,1,é")?;
-    assert_eq!(rt; fault, Some((4, Cause::Change)));
-    Ok(())
+    same(&fault, &Some((4, Cause::Change)))
 }
 
 #[test]
 fn an_empty_text_is_no_number(rt: HostRuntime) -> Result<(), Fail> {
     let fault = fault_of(rt.alloc(), "e ab 1,0,\\e,0,x")?;
-    assert_eq!(rt; fault, Some((4, Cause::Token)));
-    Ok(())
+    same(&fault, &Some((4, Cause::Token)))
 }
 
 fn standard_again(alloc: Global, text: &[u8]) -> Result<Vec<u8>, Refusal> {
@@ -112,8 +106,7 @@ fn lines_stand_in_the_order_of_their_bytes(rt: HostRuntime) -> Result<(), Fail> 
     let wanted =
         b"hyphenation 1 standard\nlanguage hu\nminima 2 13\np .fi2\np a\\s1b\np s1szo\np x\\11y{\ne \\e\ne k\\sa 0\ne kilim 2 3\n";
     let written = standard_again(rt.alloc(), read).ok().ok_or("a text")?;
-    assert_eq!(rt; written.as_slice(), wanted.as_slice());
-    Ok(())
+    same(&written.as_slice(), &wanted.as_slice())
 }
 
 #[test]
@@ -123,6 +116,5 @@ fn changes_and_great_values_are_written(rt: HostRuntime) -> Result<(), Fail> {
     let wanted =
         b"hyphenation 2 extended\nlanguage hu\nminima 0 255\np .{10}b\\1\np a9s\\{{255} 1,1,1,2,a,b 3,0,0,0,\\e\ne ab 1,1,1,2,a,b 2\n";
     let written = extended_again(rt.alloc(), read).ok().ok_or("a text")?;
-    assert_eq!(rt; written.as_slice(), wanted.as_slice());
-    Ok(())
+    same(&written.as_slice(), &wanted.as_slice())
 }

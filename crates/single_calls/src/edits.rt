@@ -1,5 +1,6 @@
 //! Edits of the exceptions of a dictionary, judged and done one by one.
 
+use answers::{holds, same};
 use dictionary_text::edits::apply_edit;
 use dictionary_text::form::Kind;
 use dictionary_text::reader::{read_extended, read_standard};
@@ -47,7 +48,7 @@ fn some_edits_are_good_for_both_kinds(rt: HostRuntime) -> Result<(), Fail> {
         "-a\\sb",
     ];
     for edit in edits {
-        assert_eq!(rt; judged(rt.alloc(), edit)?, (true, true), "{edit}");
+        same(&judged(rt.alloc(), edit)?, &(true, true))?;
     }
     Ok(())
 }
@@ -80,7 +81,7 @@ fn some_edits_are_refused_by_both_kinds(rt: HostRuntime) -> Result<(), Fail> {
         "-ab 1,1,1,1,xy",
     ];
     for edit in edits {
-        assert_eq!(rt; judged(rt.alloc(), edit)?, (false, false), "{edit}");
+        same(&judged(rt.alloc(), edit)?, &(false, false))?;
     }
     Ok(())
 }
@@ -93,7 +94,7 @@ fn changes_are_for_extended_dictionaries_alone(rt: HostRuntime) -> Result<(), Fa
         "+ab 1,1,1,1,xy 2",
     ];
     for edit in edits {
-        assert_eq!(rt; judged(rt.alloc(), edit)?, (false, true), "{edit}");
+        same(&judged(rt.alloc(), edit)?, &(false, true))?;
     }
     Ok(())
 }
@@ -120,10 +121,9 @@ fn the_last_edit_of_a_word_decides(rt: HostRuntime) -> Result<(), Fail> {
     let mut dictionary = standard(rt.alloc())?;
     edited(rt.alloc(), &mut dictionary, "+firkins 3", true)?;
     edited(rt.alloc(), &mut dictionary, "+firkins 4", true)?;
-    assert_eq!(rt; place_of(&dictionary, "firkins"), Some(4));
+    same(&place_of(&dictionary, "firkins"), &Some(4))?;
     edited(rt.alloc(), &mut dictionary, "+firkins 8", false)?;
-    assert_eq!(rt; place_of(&dictionary, "firkins"), Some(4));
-    Ok(())
+    same(&place_of(&dictionary, "firkins"), &Some(4))
 }
 
 #[test]
@@ -132,21 +132,22 @@ fn a_removed_word_is_listed_no_more(rt: HostRuntime) -> Result<(), Fail> {
     edited(rt.alloc(), &mut dictionary, "+firkins 3", true)?;
     edited(rt.alloc(), &mut dictionary, "-firkins", true)?;
     edited(rt.alloc(), &mut dictionary, "-\\e", true)?;
-    assert!(rt; dictionary.listed("firkins").is_none());
-    assert!(rt; dictionary.listed("").is_none());
-    assert_eq!(rt; dictionary.listed("other"), Some([2].as_slice()));
-    Ok(())
+    holds(dictionary.listed("firkins").is_none(), "listed")?;
+    holds(dictionary.listed("").is_none(), "listed")?;
+    same(&dictionary.listed("other"), &Some([2].as_slice()))
 }
 
 #[test]
 fn a_change_is_listed_as_it_is_written(rt: HostRuntime) -> Result<(), Fail> {
     let mut dictionary = extended(rt.alloc())?;
     let edit = "+asszonnyal 2,1,2,2,szsz 8";
-    assert!(rt; apply_edit(rt.alloc(), Kind::Extended, &mut dictionary, edit)?);
+    holds(
+        apply_edit(rt.alloc(), Kind::Extended, &mut dictionary, edit)?,
+        edit,
+    )?;
     let change = Subregion::new(1, 2, String::from_str(rt.alloc(), "szsz")?, 2);
-    assert_eq!(rt;
-        dictionary.listed("asszonnyal"),
-        Some([(2, Some(change)), (8, None)].as_slice())
-    );
-    Ok(())
+    same(
+        &dictionary.listed("asszonnyal"),
+        &Some([(2, Some(change)), (8, None)].as_slice()),
+    )
 }

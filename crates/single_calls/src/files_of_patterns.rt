@@ -1,5 +1,6 @@
 //! Small files, and the dictionary texts that they give.
 
+use answers::{holds, same};
 use dictionary_text::writer::{write_extended, write_standard};
 use hyphenation_commons::dictionary::{Extended, Standard};
 use hyphenation_commons::extended::Subregion;
@@ -47,8 +48,7 @@ fn groups_of_a_tex_file_give_their_patterns_and_exceptions(rt: HostRuntime) -> R
     let wanted = format!(in rt.alloc();
         "{HEAD}p .b2\np a1b\np de4\np 2ü3x\ne associate 2 4\ne naïveté 2 6\n"
     )?;
-    assert_eq!(rt; text.as_slice(), wanted.as_bytes());
-    Ok(())
+    same(&text.as_slice(), &wanted.as_bytes())
 }
 
 #[test]
@@ -63,7 +63,7 @@ fn of_a_repeated_key_the_last_counts(rt: HostRuntime) -> Result<(), Fail> {
     };
     let text = standard_text(rt.alloc(), &[patterns, exceptions])?;
     let wanted = format!(in rt.alloc(); "{HEAD}p a3b\np c1\ne table 3\ne über 2\n")?;
-    assert_eq!(rt; text.as_slice(), wanted.as_bytes());
+    same(&text.as_slice(), &wanted.as_bytes())?;
     let files = [patterns, exceptions];
     let converted: Result<Converted<(), usize>, Refusal> = convert_with_notes(
         rt.alloc(),
@@ -84,7 +84,7 @@ fn of_a_repeated_key_the_last_counts(rt: HostRuntime) -> Result<(), Fail> {
                 (What::Capital, 2, 1),
                 (What::ExceptionRepeated, 3, 1),
             ];
-            assert_eq!(rt; whats.as_slice(), wanted.as_slice());
+            same(&whats.as_slice(), &wanted.as_slice())?;
         }
         Err(_) => assert!(rt; false),
     }
@@ -92,7 +92,7 @@ fn of_a_repeated_key_the_last_counts(rt: HostRuntime) -> Result<(), Fail> {
 }
 
 #[test]
-fn the_first_fault_is_told(rt: HostRuntime) {
+fn the_first_fault_is_told(rt: HostRuntime) -> Result<(), Fail> {
     let cases: [(Form, &[u8], usize, Cause); 12] = [
         (Form::Tex, b"\\patterns{\na1b\n", 1, Cause::Unclosed),
         (Form::Tex, b"\n\\input other.tex\n", 2, Cause::Input),
@@ -143,19 +143,20 @@ fn the_first_fault_is_told(rt: HostRuntime) {
             line,
             cause,
         });
-        assert_eq!(rt; refusal(rt.alloc(), &[File { form, bytes }]), wanted);
+        same(&refusal(rt.alloc(), &[File { form, bytes }]), &wanted)?;
     }
+    Ok(())
 }
 
 #[test]
-fn a_tex_file_tells_its_minima(rt: HostRuntime) {
+fn a_tex_file_tells_its_minima(rt: HostRuntime) -> Result<(), Fail> {
     let head =
         b"% hyphenmins:\n%     generation:\n%         left: 1\n%         right: 1\n%     typesetting:\n%         left: 2\n%         right: 3\n% texlive:\n% left: 7\n";
     let form = Form::Tex;
     let told = minima_for(None, None, &[File { form, bytes: head }]);
-    assert_eq!(rt; told, Some((2, 3)));
+    same(&told, &Some((2, 3)))?;
     let bytes = b"\\patterns{a1b}";
-    assert_eq!(rt; minima_for(None, None, &[File { form, bytes }]), None);
+    same(&minima_for(None, None, &[File { form, bytes }]), &None)
 }
 
 #[test]
@@ -176,7 +177,7 @@ fn a_dic_gives_its_changes_to_an_extended_dictionary(rt: HostRuntime) -> Result<
             let text = write_extended(rt.alloc(), &dictionary)?;
             let wanted =
                 "hyphenation 1 extended\nlanguage hu\nminima 1 3\np .schif1fahrt 6,1,1,2,fff\np a1atje. 1,1,2,1,at\np l·1l 3,3,1,1,ll\np l·9m 3,2,0,0,\\e\np n1nyal. 1,1,0,2,ny\n";
-            assert_eq!(rt; text.as_slice(), wanted.as_bytes());
+            same(&text.as_slice(), &wanted.as_bytes())?;
         }
         Err(_) => assert!(rt; false),
     }
@@ -198,7 +199,7 @@ fn a_dic_of_a_legacy_charset_takes_the_last_of_repeated_lines(rt: HostRuntime) -
         Ok(converted) => {
             let text = write_standard(rt.alloc(), &converted.dictionary)?;
             let wanted = format!(in rt.alloc(); "{HEAD}p 8'8\np 8-8\np a2šb\n")?;
-            assert_eq!(rt; text.as_slice(), wanted.as_bytes());
+            same(&text.as_slice(), &wanted.as_bytes())?;
         }
         Err(_) => assert!(rt; false),
     }
@@ -206,7 +207,7 @@ fn a_dic_of_a_legacy_charset_takes_the_last_of_repeated_lines(rt: HostRuntime) -
 }
 
 #[test]
-fn a_faulty_dic_is_refused(rt: HostRuntime) {
+fn a_faulty_dic_is_refused(rt: HostRuntime) -> Result<(), Fail> {
     let cases: [(&[u8], usize, Cause); 5] = [
         (b"EBCDIC\na1b\n", 1, Cause::Charset),
         (b"ISO8859-7\na1b\nx\xffy\n", 3, Cause::NotInCharset),
@@ -232,6 +233,7 @@ fn a_faulty_dic_is_refused(rt: HostRuntime) {
                     cause,
                 },
         };
-        assert!(rt; refused);
+        holds(refused, "refused")?;
     }
+    Ok(())
 }

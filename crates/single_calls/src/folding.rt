@@ -1,5 +1,6 @@
 //! Words in small letters, with the way back to the word as written.
 
+use answers::{holds, same};
 use hyphenation::case_folding::{Shift, realign, refold};
 use std::alloc::{AllocError, Global};
 use std::borrow::CowStr;
@@ -31,26 +32,33 @@ fn is_lent(alloc: Global, word: &str) -> Result<bool, AllocError> {
 
 #[test]
 fn words_fold_with_their_shifts(rt: HostRuntime) -> Result<(), Fail> {
-    assert!(rt; folds(rt.alloc(), "İẞab", "ißab", &[(0, -1), (1, -2)])?);
-    assert!(rt; folds(rt.alloc(), "\u{212a}ilim", "kilim", &[(0, -2)])?);
-    assert!(rt; folds(rt.alloc(), "ȺAB", "ⱥab", &[(0, 1)])?);
-    assert!(rt; folds(rt.alloc(), "aȺİb", "aⱥib", &[(1, 1), (4, 0)])?);
-    Ok(())
+    holds(
+        folds(rt.alloc(), "İẞab", "ißab", &[(0, -1), (1, -2)])?,
+        "folds",
+    )?;
+    holds(
+        folds(rt.alloc(), "\u{212a}ilim", "kilim", &[(0, -2)])?,
+        "folds",
+    )?;
+    holds(folds(rt.alloc(), "ȺAB", "ⱥab", &[(0, 1)])?, "folds")?;
+    holds(
+        folds(rt.alloc(), "aȺİb", "aⱥib", &[(1, 1), (4, 0)])?,
+        "folds",
+    )
 }
 
 #[test]
 fn words_of_as_many_bytes_fold_without_shifts(rt: HostRuntime) -> Result<(), Fail> {
-    assert!(rt; folds(rt.alloc(), "ΑΣ", "ασ", &[])?);
-    assert!(rt; folds(rt.alloc(), "I\u{307}", "i\u{307}", &[])?);
-    Ok(())
+    holds(folds(rt.alloc(), "ΑΣ", "ασ", &[])?, "folds")?;
+    holds(folds(rt.alloc(), "I\u{307}", "i\u{307}", &[])?, "folds")
 }
 
 #[test]
 fn words_without_uppercase_are_lent(rt: HostRuntime) -> Result<(), Fail> {
     // U+01C5 is titlecase, so it is not Uppercase.
     for word in ["", "kilim", "i\u{307}", "\u{1c5}", "ß"] {
-        assert!(rt; folds(rt.alloc(), word, word, &[])?);
-        assert!(rt; is_lent(rt.alloc(), word)?);
+        holds(folds(rt.alloc(), word, word, &[])?, "folds")?;
+        holds(is_lent(rt.alloc(), word)?, word)?;
     }
     Ok(())
 }
@@ -58,7 +66,7 @@ fn words_without_uppercase_are_lent(rt: HostRuntime) -> Result<(), Fail> {
 #[test]
 fn words_with_uppercase_are_owned(rt: HostRuntime) -> Result<(), Fail> {
     for word in ["I\u{307}", "ΑΣ", "\u{13a0}"] {
-        assert!(rt; !is_lent(rt.alloc(), word)?);
+        holds(!is_lent(rt.alloc(), word)?, word)?;
     }
     Ok(())
 }
@@ -68,21 +76,21 @@ fn places_are_carried_back(rt: HostRuntime) -> Result<(), Fail> {
     // The bytes of `İẞab` end at 2, 5, 6 and 7, those of `ißab` at 1, 3, 4 and 5.
     let (_, shifts) = refold(rt.alloc(), "İẞab")?;
     for (folded, written) in [(0, 0), (1, 2), (3, 5), (4, 6), (5, 7)] {
-        assert_eq!(rt; realign(folded, &shifts), written);
+        same(&realign(folded, &shifts), &written)?;
     }
     Ok(())
 }
 
 #[test]
-fn realigned_places_are_held_at_the_ends(rt: HostRuntime) {
+fn realigned_places_are_held_at_the_ends(rt: HostRuntime) -> Result<(), Fail> {
     let grown = [Shift { index: 0, delta: 2 }];
     let shrunk = [Shift {
         index: 0,
         delta: -2,
     }];
-    assert_eq!(rt; realign(1, &grown), 0);
-    assert_eq!(rt; realign(usize::MAX, &shrunk), usize::MAX);
-    assert_eq!(rt; realign(1, &[]), 1);
+    same(&realign(1, &grown), &0)?;
+    same(&realign(usize::MAX, &shrunk), &usize::MAX)?;
+    same(&realign(1, &[]), &1)
 }
 
 /// All characters, one after the other.
@@ -104,7 +112,6 @@ fn all_characters_fold(rt: HostRuntime) -> Result<(), Fail> {
     let (folded, shifts) = refold(rt.alloc(), &all)?;
     let pairs = all.chars().zip(folded.as_str().chars());
     let changed = pairs.filter(|(c, d)| c != d).count();
-    assert_eq!(rt; changed, 1402 - 86 + 75);
-    assert_eq!(rt; shifts.len(), 25 + 4);
-    Ok(())
+    same(&changed, &(1402 - 86 + 75))?;
+    same(&shifts.len(), &(25 + 4))
 }

@@ -1,5 +1,6 @@
 //! Lines of a column width.
 
+use answers::{gives, holds, same};
 use hyphenation::engine::RunError;
 use hyphenation::{Language, Load, Standard};
 use linefill::{fill, run_fill};
@@ -37,7 +38,7 @@ fn lines_of_the_examples(rt: HostRuntime) -> Result<(), Fail> {
         ("", 5, ""),
     ];
     for (text, columns, wanted) in rows {
-        assert_eq!(rt; barred(rt.alloc(), text, columns)?.as_str(), wanted);
+        gives(barred(rt.alloc(), text, columns), wanted)?;
     }
     Ok(())
 }
@@ -57,26 +58,26 @@ fn run(
 #[test]
 fn lines_are_written_with_line_feeds(rt: HostRuntime) -> Result<(), Fail> {
     let (refused, output) = run(rt.alloc(), VERSE, b"I know noble accents")?;
-    assert!(rt; refused.is_none());
-    assert_eq!(rt;
-        output.as_slice(),
-        b"I know no-\nble ac-\ncents\n".as_slice()
-    );
-    Ok(())
+    holds(refused.is_none(), "no error")?;
+    same(
+        &output.as_slice(),
+        &b"I know no-\nble ac-\ncents\n".as_slice(),
+    )
 }
 
 #[test]
 fn a_text_that_is_not_utf8_is_refused(rt: HostRuntime) -> Result<(), Fail> {
     let (refused, output) = run(rt.alloc(), VERSE, b"\xff")?;
-    assert!(rt; matches!(refused, Some(RunError::TextNotUtf8)));
-    assert!(rt; output.is_empty());
-    Ok(())
+    holds(matches!(refused, Some(RunError::TextNotUtf8)), "the error")?;
+    holds(output.is_empty(), "nothing is written")
 }
 
 #[test]
 fn the_dictionary_is_refused_before_the_text(rt: HostRuntime) -> Result<(), Fail> {
     let (refused, output) = run(rt.alloc(), b"", b"\xff")?;
-    assert!(rt; matches!(refused, Some(RunError::Dictionary(_))));
-    assert!(rt; output.is_empty());
-    Ok(())
+    holds(
+        matches!(refused, Some(RunError::Dictionary(_))),
+        "the error",
+    )?;
+    holds(output.is_empty(), "nothing is written")
 }

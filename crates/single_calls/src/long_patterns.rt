@@ -1,5 +1,6 @@
 //! Patterns with a change at each of twenty thousand places.
 
+use answers::{holds, same};
 use dictionary_text::Cause;
 use dictionary_text::reader::{Refusal, read_extended};
 use hyphenation::score::Score;
@@ -68,9 +69,8 @@ fn many_values_take_their_changes(rt: HostRuntime) -> Result<(), Fail> {
     let dictionary = dictionary(rt.alloc())?;
     let word = word_of(rt.alloc(), LETTERS)?;
     let values = dictionary.score(rt.alloc(), &word)?;
-    assert_eq!(rt; values.len(), LETTERS - 1);
-    assert!(rt; values.iter().all(|found| is_changed(found)));
-    Ok(())
+    same(&values.len(), &(LETTERS - 1))?;
+    holds(values.iter().all(|found| is_changed(found)), "iter")
 }
 
 fn fault_of(alloc: Global, text: &str) -> Result<Option<(usize, Cause)>, AllocError> {
@@ -84,6 +84,5 @@ fn fault_of(alloc: Global, text: &str) -> Result<Option<(usize, Cause)>, AllocEr
 #[test]
 fn a_change_after_many_values_has_none(rt: HostRuntime) -> Result<(), Fail> {
     let text = text_of(rt.alloc(), "a", " 20001,0,0,1,b\n")?;
-    assert_eq!(rt; fault_of(rt.alloc(), &text)?, Some((4, Cause::Change)));
-    Ok(())
+    same(&fault_of(rt.alloc(), &text)?, &Some((4, Cause::Change)))
 }

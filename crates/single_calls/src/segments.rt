@@ -7,6 +7,7 @@ ghost use Rattle.hyphenation_commons.specs.Break.{plain};
 ghost use Rattle.hyphenation_segments.specs.Fits.{Fits};
 ghost use Rattle.hyphenation_segments.specs.Segments.{segments, marked_segments, with_marks};
 
+use answers::{gives, holds};
 use hyphenation::Iter;
 use hyphenation::hyphenator::Word;
 use hyphenation::iter::{Breaks, Hyphenating, SegmentText, Segments, SegmentsExt, Texts, laws};
@@ -210,13 +211,12 @@ fn barred(alloc: Global, text: &str, breaks: &[usize]) -> Result<String, Fail> {
 
 #[test]
 fn a_word_is_cut_at_its_breaks(rt: HostRuntime) -> Result<(), Fail> {
-    assert_eq!(rt;
-        barred(rt.alloc(), "hyphenation", &[2, 6, 7])?.as_str(),
-        "hy|phen|a|tion"
-    );
-    assert_eq!(rt; barred(rt.alloc(), "ab", &[0, 2])?.as_str(), "|ab|");
-    assert_eq!(rt; barred(rt.alloc(), "", &[])?.as_str(), "");
-    Ok(())
+    gives(
+        barred(rt.alloc(), "hyphenation", &[2, 6, 7]),
+        "hy|phen|a|tion",
+    )?;
+    gives(barred(rt.alloc(), "ab", &[0, 2]), "|ab|")?;
+    gives(barred(rt.alloc(), "", &[]), "")
 }
 
 /// The segments of a word with their marks, and a space between each two.
@@ -234,11 +234,12 @@ fn spaced(alloc: Global, text: &str, breaks: &[usize]) -> Result<String, Fail> {
 
 #[test]
 fn a_mark_stands_after_each_segment_but_the_last(rt: HostRuntime) -> Result<(), Fail> {
-    let long = spaced(rt.alloc(), "hyphenation", &[2, 6, 7])?;
-    assert_eq!(rt; long.as_str(), "hy- phen- a- tion");
-    assert_eq!(rt; spaced(rt.alloc(), "firkin", &[3])?.as_str(), "fir- kin");
-    assert_eq!(rt; spaced(rt.alloc(), "bevies", &[])?.as_str(), "bevies");
-    Ok(())
+    gives(
+        spaced(rt.alloc(), "hyphenation", &[2, 6, 7]),
+        "hy- phen- a- tion",
+    )?;
+    gives(spaced(rt.alloc(), "firkin", &[3]), "fir- kin")?;
+    gives(spaced(rt.alloc(), "bevies", &[]), "bevies")
 }
 
 /// The next segment with its mark.
@@ -246,126 +247,239 @@ fn next<I: Texts>(items: &mut Hyphenating<'_, I>) -> Result<String, Fail> {
     Ok(items.next().ok_or("none")??)
 }
 
+/// The first item of a word, the second one with a new mark, and the segment after it.
+fn marked_anew(alloc: Global) -> Result<String, Fail> {
+    let word = word_of(alloc, "hyphenation", &[2, 6, 7])?;
+    let mut items = word.iter();
+    let first = next(&mut items)?;
+    items.mark_with("=");
+    let second = next(&mut items)?;
+    let third = items.segments().next().unwrap_or("none");
+    Ok(format!(in alloc; "{first} {second} {third}")?)
+}
+
 #[test]
 fn a_new_mark_holds_for_the_segments_to_come(rt: HostRuntime) -> Result<(), Fail> {
-    let word = word_of(rt.alloc(), "hyphenation", &[2, 6, 7])?;
+    gives(marked_anew(rt.alloc()), "hy- phen= a")
+}
+
+/// The first item of a word, and of a copy that is made then how many items are left, and what they join to.
+fn copied(alloc: Global) -> Result<String, Fail> {
+    let word = word_of(alloc, "hyphenation", &[2, 6, 7])?;
     let mut items = word.iter();
-    assert_eq!(rt; next(&mut items)?.as_str(), "hy-");
-    items.mark_with("=");
-    assert_eq!(rt; next(&mut items)?.as_str(), "phen=");
-    assert_eq!(rt; items.segments().next(), Some("a"));
-    Ok(())
+    let first = next(&mut items)?;
+    let copy = items.clone()?;
+    let left = copy.len();
+    let joined = marked_text(alloc, copy)?;
+    Ok(format!(in alloc; "{first} {left} {joined}")?)
 }
 
 #[test]
 fn a_copy_has_the_segments_to_come(rt: HostRuntime) -> Result<(), Fail> {
-    let word = word_of(rt.alloc(), "hyphenation", &[2, 6, 7])?;
-    let mut items = word.iter();
-    assert_eq!(rt; next(&mut items)?.as_str(), "hy-");
-    let copy = items.clone()?;
-    assert_eq!(rt; copy.len(), 3);
-    assert_eq!(rt; marked_text(rt.alloc(), copy)?.as_str(), "phen-a-tion");
-    Ok(())
+    gives(copied(rt.alloc()), "hy- 3 phen-a-tion")
 }
 
-#[test]
-fn a_refusal_stands_in_its_place(rt: HostRuntime) -> Result<(), Fail> {
-    let word = word_of(rt.alloc(), "hyphenation", &[2, 6, 7])?;
-    let mut items = Hyphenating::new(rt.alloc(), Refusing(word.iter().segments()));
-    assert_eq!(rt; next(&mut items)?.as_str(), "hy-");
-    assert_eq!(rt; next(&mut items)?.as_str(), "phen-");
-    assert!(rt; items.next().ok_or("none")?.is_err());
-    assert_eq!(rt; items.len(), 1);
-    assert_eq!(rt; next(&mut items)?.as_str(), "tion");
-    assert!(rt; items.next().is_none());
-    Ok(())
+/// Writes what was handed out, and the number of those that are left.
+fn push_answer(
+    output: &mut String,
+    alloc: Global,
+    answer: Option<&str>,
+    left: usize,
+) -> Result<(), AllocError> {
+    let one = format!(in alloc; "{} {left},", answer.unwrap_or("none"))?;
+    output.push_str(&one)
+}
+
+/// What segments hand out when they are asked so many times, each with the number of those that are left after it.
+fn handed_out<B: Breaks<Item = usize>>(
+    alloc: Global,
+    mut segments: Segments<'_, B>,
+    times: usize,
+) -> Result<String, AllocError> {
+    let mut output = String::new(alloc);
+    for _ in 0..times {
+        let answer = segments.next();
+        push_answer(&mut output, alloc, answer, segments.len())?;
+    }
+    Ok(output)
+}
+
+/// The same of the segments of a word.
+fn handed_out_of(
+    alloc: Global,
+    text: &str,
+    breaks: &[usize],
+    times: usize,
+) -> Result<String, Fail> {
+    let word = word_of(alloc, text, breaks)?;
+    Ok(handed_out(alloc, word.iter().segments(), times)?)
 }
 
 #[test]
 fn a_word_without_breaks_is_one_segment(rt: HostRuntime) -> Result<(), Fail> {
-    let whole = word_of(rt.alloc(), "bevies", &[])?;
-    let mut segments = whole.iter().segments();
-    assert_eq!(rt; segments.size_hint(), (1, Some(1)));
-    assert_eq!(rt; segments.next(), Some("bevies"));
-    assert_eq!(rt; segments.size_hint(), (0, Some(0)));
-    assert_eq!(rt; segments.next(), None);
-    assert_eq!(rt; segments.next(), None);
-    Ok(())
+    gives(
+        handed_out_of(rt.alloc(), "bevies", &[], 3),
+        "bevies 0,none 0,none 0,",
+    )
+}
+
+#[test]
+fn each_segment_leaves_one_less(rt: HostRuntime) -> Result<(), Fail> {
+    gives(
+        handed_out_of(rt.alloc(), "hypha", &[2], 3),
+        "hy 1,pha 0,none 0,",
+    )
+}
+
+/// Whether the hints of a word with one break, before its first segment and after each, are the numbers of its segments
+/// to come.
+fn are_hints_exact(alloc: Global) -> Result<bool, Fail> {
+    let word = word_of(alloc, "hypha", &[2])?;
+    let mut segments = word.iter().segments();
+    let first = segments.size_hint();
+    let _hy = segments.next();
+    let second = segments.size_hint();
+    let _pha = segments.next();
+    let third = segments.size_hint();
+    Ok([first, second, third] == [(2, Some(2)), (1, Some(1)), (0, Some(0))])
 }
 
 #[test]
 fn hints_count_the_segments_to_come(rt: HostRuntime) -> Result<(), Fail> {
-    let broken = word_of(rt.alloc(), "hypha", &[2])?;
-    let mut segments = broken.iter().segments();
-    assert_eq!(rt; segments.size_hint(), (2, Some(2)));
-    assert_eq!(rt; segments.next(), Some("hy"));
-    assert_eq!(rt; segments.size_hint(), (1, Some(1)));
-    assert_eq!(rt; segments.next(), Some("pha"));
-    assert_eq!(rt; segments.size_hint(), (0, Some(0)));
-    Ok(())
+    holds(are_hints_exact(rt.alloc())?, "2, 1, 0")
+}
+
+/// What the segments of `ab` hand out whose break at 1 comes again.
+fn handed_out_again(alloc: Global) -> Result<String, Fail> {
+    if Word::fits("ab", &[1]) {
+        Ok(handed_out(alloc, Segments::new("ab", coming_again(1)), 7)?)
+    } else {
+        Err(Fail::from("the break does not fit"))
+    }
 }
 
 #[test]
 fn breaks_are_asked_nothing_after_their_end(rt: HostRuntime) -> Result<(), Fail> {
-    if Word::fits("ab", &[1]) {
-        let mut segments = Segments::new("ab", coming_again(1));
-        assert_eq!(rt; segments.next(), Some("a"));
-        assert_eq!(rt; segments.next(), Some("b"));
-        for _ in 0..5 {
-            assert_eq!(rt; segments.next(), None);
-            assert_eq!(rt; segments.len(), 0);
+    gives(
+        handed_out_again(rt.alloc()),
+        "a 1,b 0,none 0,none 0,none 0,none 0,none 0,",
+    )
+}
+
+/// What changed segments hand out when they are asked seven times, each with the number of those that are left.
+fn handed_out_changed<B: Breaks>(
+    alloc: Global,
+    mut segments: SegmentsExt<'_, B>,
+) -> Result<String, AllocError> {
+    let mut output = String::new(alloc);
+    for _ in 0..7 {
+        match segments.next() {
+            Some(segment) => {
+                push_answer(&mut output, alloc, Some(segment?.as_str()), segments.len())?;
+            }
+            None => push_answer(&mut output, alloc, None, segments.len())?,
         }
     }
-    Ok(())
+    Ok(output)
+}
+
+/// What the changed segments of `ab` hand out whose break at 1 comes again.
+fn handed_out_changed_again(alloc: Global) -> Result<String, Fail> {
+    let pair: (usize, Option<&Subregion>) = (1, None);
+    if Word::fits("ab", &[pair]) {
+        let segments = SegmentsExt::new(alloc, "ab", coming_again(pair));
+        Ok(handed_out_changed(alloc, segments)?)
+    } else {
+        Err(Fail::from("the break does not fit"))
+    }
 }
 
 #[test]
 fn changed_breaks_are_asked_nothing_after_their_end(rt: HostRuntime) -> Result<(), Fail> {
-    let pair: (usize, Option<&Subregion>) = (1, None);
-    if Word::fits("ab", &[pair]) {
-        let mut segments = SegmentsExt::new(rt.alloc(), "ab", coming_again(pair));
-        assert_eq!(rt; segments.next().ok_or("none")??.as_str(), "a");
-        assert_eq!(rt; segments.next().ok_or("none")??.as_str(), "b");
-        for _ in 0..5 {
-            assert!(rt; segments.next().is_none());
-            assert_eq!(rt; segments.len(), 0);
+    gives(
+        handed_out_changed_again(rt.alloc()),
+        "a 1,b 0,none 0,none 0,none 0,none 0,none 0,",
+    )
+}
+
+/// What marked segments hand out when they are asked so many times, each with the number of those that are left.
+fn handed_out_marked<I: Texts>(
+    alloc: Global,
+    mut items: Hyphenating<'_, I>,
+    times: usize,
+) -> Result<String, AllocError> {
+    let mut output = String::new(alloc);
+    for _ in 0..times {
+        match items.next() {
+            Some(Ok(item)) => push_answer(&mut output, alloc, Some(&item), items.len())?,
+            Some(Err(_)) => push_answer(&mut output, alloc, Some("refused"), items.len())?,
+            None => push_answer(&mut output, alloc, None, items.len())?,
         }
     }
-    Ok(())
+    Ok(output)
+}
+
+/// What the marked segments of `ab` hand out whose break at 1 comes again.
+fn handed_out_marked_again(alloc: Global) -> Result<String, Fail> {
+    if Word::fits("ab", &[1]) {
+        let items = Hyphenating::new(alloc, Segments::new("ab", coming_again(1)));
+        Ok(handed_out_marked(alloc, items, 7)?)
+    } else {
+        Err(Fail::from("the break does not fit"))
+    }
 }
 
 #[test]
 fn marked_segments_ask_nothing_after_their_end(rt: HostRuntime) -> Result<(), Fail> {
-    if Word::fits("ab", &[1]) {
-        let mut items = Hyphenating::new(rt.alloc(), Segments::new("ab", coming_again(1)));
-        assert_eq!(rt; next(&mut items)?.as_str(), "a-");
-        assert_eq!(rt; next(&mut items)?.as_str(), "b");
-        for _ in 0..5 {
-            assert!(rt; items.next().is_none());
-            assert_eq!(rt; items.len(), 0);
-        }
+    gives(
+        handed_out_marked_again(rt.alloc()),
+        "a- 1,b 0,none 0,none 0,none 0,none 0,none 0,",
+    )
+}
+
+/// What the marked segments of `hyphenation` hand out, of which the second from the end is refused.
+fn handed_out_refusing(alloc: Global) -> Result<String, Fail> {
+    let word = word_of(alloc, "hyphenation", &[2, 6, 7])?;
+    let items = Hyphenating::new(alloc, Refusing(word.iter().segments()));
+    Ok(handed_out_marked(alloc, items, 5)?)
+}
+
+#[test]
+fn a_refusal_stands_in_its_place(rt: HostRuntime) -> Result<(), Fail> {
+    gives(
+        handed_out_refusing(rt.alloc()),
+        "hy- 3,phen- 2,refused 1,tion 0,none 0,",
+    )
+}
+
+/// What the segments of `hyphenation` join to, how many there are, and how many are promised.
+fn joined_and_counted(alloc: Global) -> Result<String, Fail> {
+    let breaks = vec![in alloc; 2, 6, 7]?;
+    if Word::fits("hyphenation", &breaks) {
+        let joined = joined_segments(alloc, "hyphenation", &breaks)?;
+        let all = all_segments(alloc, "hyphenation", &breaks)?.len();
+        let number = number_of_segments("hyphenation", breaks);
+        Ok(format!(in alloc; "{joined} {all} {number}")?)
+    } else {
+        Err(Fail::from("the breaks do not fit"))
     }
-    Ok(())
 }
 
 #[test]
 fn callers_count_and_join(rt: HostRuntime) -> Result<(), Fail> {
-    let breaks = vec![in rt.alloc(); 2, 6, 7]?;
-    if Word::fits("hyphenation", &breaks) {
-        let joined = joined_segments(rt.alloc(), "hyphenation", &breaks)?;
-        assert_eq!(rt; joined.as_str(), "hyphenation");
-        assert_eq!(rt; all_segments(rt.alloc(), "hyphenation", &breaks)?.len(), 4);
-        assert_eq!(rt; number_of_segments("hyphenation", breaks), 4);
-    }
-    Ok(())
+    gives(joined_and_counted(rt.alloc()), "hyphenation 4 4")
+}
+
+/// The same of `firkin` with a mark.
+fn marked_and_counted(alloc: Global) -> Result<String, Fail> {
+    let word = word_of(alloc, "firkin", &[3])?;
+    let number = number_of_marked_segments(&word);
+    let joined = marked_word(alloc, word.try_clone(alloc)?, "=")?;
+    let all = all_items(alloc, word)?.len();
+    Ok(format!(in alloc; "{joined} {all} {number}")?)
 }
 
 #[test]
 fn callers_count_and_join_with_marks(rt: HostRuntime) -> Result<(), Fail> {
-    let word = word_of(rt.alloc(), "firkin", &[3])?;
-    assert_eq!(rt; number_of_marked_segments(&word), 2);
-    let joined = marked_word(rt.alloc(), word.try_clone(rt.alloc())?, "=")?;
-    assert_eq!(rt; joined.as_str(), "fir=kin");
-    assert_eq!(rt; all_items(rt.alloc(), word)?.len(), 2);
-    Ok(())
+    gives(marked_and_counted(rt.alloc()), "fir=kin 2 2")
 }

@@ -1,5 +1,6 @@
 //! The soft hyphens of a word.
 
+use answers::{holds, same};
 use hyphenation::hyphenator::soft_hyphen_indices;
 use std::test::Fail;
 
@@ -7,21 +8,19 @@ use std::test::Fail;
 fn each_soft_hyphen_is_found(rt: HostRuntime) -> Result<(), Fail> {
     let word = "ri\u{ad}bo\u{ad}nu\u{ad}cle\u{ad}ase";
     let found = soft_hyphen_indices(rt.alloc(), word)?.ok_or("none")?;
-    assert_eq!(rt; found.as_slice(), [2, 6, 10, 15].as_slice());
-    Ok(())
+    same(&found.as_slice(), &[2, 6, 10, 15].as_slice())
 }
 
 #[test]
 fn a_soft_hyphen_may_stand_first(rt: HostRuntime) -> Result<(), Fail> {
     let found = soft_hyphen_indices(rt.alloc(), "\u{ad}ab")?.ok_or("none")?;
-    assert_eq!(rt; found.as_slice(), [0].as_slice());
-    Ok(())
+    same(&found.as_slice(), &[0].as_slice())
 }
 
 #[test]
 fn words_without_soft_hyphens_have_none(rt: HostRuntime) -> Result<(), Fail> {
     for word in ["", "ribonuclease", "\u{a0}\u{ac}", "ri-bo"] {
-        assert!(rt; soft_hyphen_indices(rt.alloc(), word)?.is_none());
+        holds(soft_hyphen_indices(rt.alloc(), word)?.is_none(), word)?;
     }
     Ok(())
 }

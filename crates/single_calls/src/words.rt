@@ -1,36 +1,39 @@
 //! Words with breaks that fit them, and the bounds of a word.
 
+use answers::{holds, same};
 use hyphenation::hyphenator::{Word, boundaries_of};
 use std::test::Fail;
 
 #[test]
-fn boundaries_count_characters(rt: HostRuntime) {
-    assert_eq!(rt; boundaries_of((2, 3), "firkin"), Some((2, 3)));
-    assert_eq!(rt; boundaries_of((2, 2), "éééé"), Some((4, 4)));
-    assert_eq!(rt; boundaries_of((2, 3), "éééé"), None);
+fn boundaries_count_characters(rt: HostRuntime) -> Result<(), Fail> {
+    same(&boundaries_of((2, 3), "firkin"), &Some((2, 3)))?;
+    same(&boundaries_of((2, 2), "éééé"), &Some((4, 4)))?;
+    same(&boundaries_of((2, 3), "éééé"), &None)
 }
 
 #[test]
-fn a_word_of_as_many_characters_as_its_minima_has_no_boundaries(rt: HostRuntime) {
-    assert_eq!(rt; boundaries_of((3, 0), "abc"), None);
-    assert_eq!(rt; boundaries_of((3, 0), "abcd"), Some((3, 3)));
-    assert_eq!(rt; boundaries_of((0, 0), ""), None);
+fn a_word_of_as_many_characters_as_its_minima_has_no_boundaries(
+    rt: HostRuntime,
+) -> Result<(), Fail> {
+    same(&boundaries_of((3, 0), "abc"), &None)?;
+    same(&boundaries_of((3, 0), "abcd"), &Some((3, 3)))?;
+    same(&boundaries_of((0, 0), ""), &None)
 }
 
 #[test]
-fn breaks_fit_a_text_where_they_ascend_on_its_characters(rt: HostRuntime) {
-    assert!(rt; Word::fits("hyphenation", &[2, 6, 7]));
-    assert!(rt; Word::fits("ab", &[0, 1, 2]));
+fn breaks_fit_a_text_where_they_ascend_on_its_characters(rt: HostRuntime) -> Result<(), Fail> {
+    holds(Word::fits("hyphenation", &[2, 6, 7]), "Word")?;
+    holds(Word::fits("ab", &[0, 1, 2]), "Word")?;
     let none: [usize; 0] = [];
-    assert!(rt; Word::fits("", &none));
+    holds(Word::fits("", &none), "Word")
 }
 
 #[test]
-fn breaks_that_repeat_or_cut_a_character_fit_no_text(rt: HostRuntime) {
-    assert!(rt; !Word::fits("é", &[1]));
-    assert!(rt; !Word::fits("ab", &[1, 1]));
-    assert!(rt; !Word::fits("ab", &[2, 1]));
-    assert!(rt; !Word::fits("ab", &[3]));
+fn breaks_that_repeat_or_cut_a_character_fit_no_text(rt: HostRuntime) -> Result<(), Fail> {
+    holds(!Word::fits("é", &[1]), "Word")?;
+    holds(!Word::fits("ab", &[1, 1]), "Word")?;
+    holds(!Word::fits("ab", &[2, 1]), "Word")?;
+    holds(!Word::fits("ab", &[3]), "Word")
 }
 
 #[test]
@@ -38,7 +41,6 @@ fn a_copy_of_a_word_equals_it(rt: HostRuntime) -> Result<(), Fail> {
     let breaks = vec![in rt.alloc(); 2, 6, 7]?;
     let word = Word::new("hyphenation", breaks);
     let copy = word.try_clone(rt.alloc())?;
-    assert!(rt; copy == word);
-    assert_eq!(rt; copy.breaks.len(), 3);
-    Ok(())
+    holds(copy == word, "copy")?;
+    same(&copy.breaks.len(), &3)
 }
