@@ -1,7 +1,7 @@
 //! Beginnings of a text, read whole or a byte at a time; and extended dictionaries of readers that fail.
 
 use crate::run_faults::{LEAST, is_torn, torn};
-use answers::{extended, gives, holds, values};
+use answers::{Question, asked, ends, extended, gives, holds};
 use hyphenation::extended::Extended;
 use hyphenation::load::{Cause, Error, Load};
 use hyphenation::{Standard, hyphenate_text};
@@ -36,9 +36,8 @@ fn beginnings_read_a_byte_at_a_time_are_judged_alike(rt: HostRuntime) -> Result<
 /// The values of `ab` and `ac` by the dictionary of the first so many bytes.
 fn values_of(alloc: Global, length: usize) -> Result<String, Fail> {
     let (mut reader, _) = LEAST.split_at(length.min(LEAST.len()));
-    let dictionary = Standard::any_from_reader(alloc, &mut reader)?;
-    let found = values(alloc, &dictionary, "ab ac")?;
-    Ok(found)
+    let dictionary = Standard::any_from_reader(alloc, &mut reader);
+    asked(alloc, dictionary, Question::Values("ab ac"))
 }
 
 #[test]
@@ -65,7 +64,7 @@ fn a_torn_extended_dictionary_is_a_fault_of_reading_at_each_read(
         holds(is_refused(rt.alloc(), text, number), number)?;
     }
     let whole = Extended::any_from_reader(rt.alloc(), &mut torn(text, usize::MAX));
-    holds(whole.is_ok(), "it ends well")
+    ends(rt.alloc(), whole, "loaded")
 }
 
 /// A text after another, hyphenated by an extended dictionary.
@@ -75,9 +74,14 @@ fn appended(alloc: Global, dictionary: &Extended) -> Result<String, AllocError> 
     Ok(page)
 }
 
+/// The same where the dictionary was loaded.
+fn appended_by(alloc: Global, dictionary: Result<Extended, Error>) -> Result<String, Fail> {
+    Ok(appended(alloc, &dictionary?)?)
+}
+
 #[test]
 fn a_text_is_appended_by_an_extended_dictionary(rt: HostRuntime) -> Result<(), Fail> {
     let line = "e asszonnyal 2,1,2,2,szsz 6,1,2,2,nyny";
-    let dictionary = extended(rt.alloc(), "2 2", line)?;
-    gives(appended(rt.alloc(), &dictionary), "(Az asz-szony-nyal.")
+    let dictionary = extended(rt.alloc(), "2 2", line);
+    gives(appended_by(rt.alloc(), dictionary), "(Az asz-szony-nyal.")
 }

@@ -1,10 +1,20 @@
 //! Which extended texts are refused, with which line and cause, and which are accepted.
 
-use answers::{extended, extended_text, holds, same};
+use answers::{ends, extended};
 use hyphenation::extended::Extended;
-use hyphenation::load::{Cause, Error, Load};
+use hyphenation::load::{Cause, Load};
 use hyphenation::{Language, Standard};
+use std::alloc::Global;
 use std::test::Fail;
+
+/// Fails where one of these lines is not refused for its cause, at line 4.
+fn refused(alloc: Global, cases: &[(&str, Cause)]) -> Result<(), Fail> {
+    for (line, cause) in cases {
+        let wanted = format!(in alloc; "4 {cause:?}")?;
+        ends(alloc, extended(alloc, "2 2", line), &wanted)?;
+    }
+    Ok(())
+}
 
 #[test]
 fn changes_that_do_not_fit_are_refused(rt: HostRuntime) -> Result<(), Fail> {
@@ -24,12 +34,13 @@ fn changes_that_do_not_fit_are_refused(rt: HostRuntime) -> Result<(), Fail> {
         ("e ab 1,1,1,0,x 1", Cause::Place),
         ("p a12b 1", Cause::Pattern),
     ];
-    for (line, cause) in cases {
-        let fault = match extended(rt.alloc(), "2 2", line) {
-            Err(Error::Deserialization { line, cause }) => Some((line, cause)),
-            _ => None,
-        };
-        same(&fault, &Some((4, cause)))?;
+    refused(rt.alloc(), &cases)
+}
+
+/// Fails where one of these lines is refused.
+fn accepted(alloc: Global, lines: &[&str]) -> Result<(), Fail> {
+    for line in lines {
+        ends(alloc, extended(alloc, "2 2", line), "loaded")?;
     }
     Ok(())
 }
@@ -48,53 +59,28 @@ fn changes_that_fit_are_accepted(rt: HostRuntime) -> Result<(), Fail> {
         "e esszé 2,1,2,2,szsz",
         "e abcdef 2,1,2,1,x 3,0,1,0,y 5,0,0,0,z",
     ];
-    for line in cases {
-        holds(extended(rt.alloc(), "2 2", line).is_ok(), line)?;
-    }
-    Ok(())
+    accepted(rt.alloc(), &cases)
 }
+
+/// Three head lines and an exception.
+const EXTENDED: &[u8] = b"hyphenation 1 extended\nlanguage hu\nminima 2 2\ne ab 1\n";
 
 #[test]
 fn a_text_of_the_other_kind_is_refused_at_its_head(rt: HostRuntime) -> Result<(), Fail> {
-    let text = extended_text(rt.alloc(), "2 2", "e ab 1")?;
-    let mut reader = text.as_bytes();
-    holds(
-        matches!(
-            Standard::any_from_reader(rt.alloc(), &mut reader),
-            Err(Error::Deserialization {
-                line: 1,
-                cause: Cause::Header,
-            })
-        ),
-        "the error",
-    )?;
+    let mut reader = EXTENDED;
+    let standard = Standard::any_from_reader(rt.alloc(), &mut reader);
+    ends(rt.alloc(), standard, "1 Header")?;
     let mut reader = &b"hyphenation 1 standard\nlanguage hu\nminima 2 2\n"[..];
-    holds(
-        matches!(
-            Extended::any_from_reader(rt.alloc(), &mut reader),
-            Err(Error::Deserialization {
-                line: 1,
-                cause: Cause::Header,
-            })
-        ),
-        "the error",
-    )
+    let extended = Extended::any_from_reader(rt.alloc(), &mut reader);
+    ends(rt.alloc(), extended, "1 Header")
 }
 
 #[test]
 fn another_language_is_a_mismatch_for_an_extended_text(rt: HostRuntime) -> Result<(), Fail> {
-    let text = extended_text(rt.alloc(), "2 2", "e ab 1")?;
-    let mut reader = text.as_bytes();
-    holds(
-        matches!(
-            Extended::from_reader(rt.alloc(), Language::turkish(), &mut reader),
-            Err(Error::LanguageMismatch { .. })
-        ),
-        "the error",
-    )?;
-    let mut reader = text.as_bytes();
-    holds(
-        Extended::from_reader(rt.alloc(), Language::hungarian(), &mut reader).is_ok(),
-        "Extended",
-    )
+    let mut reader = EXTENDED;
+    let turkish = Extended::from_reader(rt.alloc(), Language::turkish(), &mut reader);
+    ends(rt.alloc(), turkish, "another language")?;
+    let mut reader = EXTENDED;
+    let hungarian = Extended::from_reader(rt.alloc(), Language::hungarian(), &mut reader);
+    ends(rt.alloc(), hungarian, "loaded")
 }

@@ -1,6 +1,6 @@
 //! Readers and writers that fail, and readers that give few bytes at a time.
 
-use answers::{FIRKIN, holds, same};
+use answers::{FIRKIN, ends, holds, same};
 use hyphenation::engine::{Kind, RunError, run_score};
 use hyphenation::load::{Error, Load};
 use hyphenation::{Language, Standard};
@@ -56,44 +56,36 @@ impl Write for Narrow {
     }
 }
 
+/// A reader of the first so many bytes of the dictionary of `firkin`, a byte a read, with a fault after them or none.
+fn dripping(length: usize, fault: Option<ErrorKind>) -> Drip<'static> {
+    let (left, _) = FIRKIN.as_bytes().split_at(length.min(FIRKIN.len()));
+    Drip { left, fault }
+}
+
+/// Fails where loading from such a reader does not end so.
+fn drip_ends(
+    alloc: Global,
+    length: usize,
+    fault: Option<ErrorKind>,
+    wanted: &str,
+) -> Result<(), Fail> {
+    let mut reader = dripping(length, fault);
+    ends(alloc, Standard::any_from_reader(alloc, &mut reader), wanted)
+}
+
 #[test]
 fn a_reader_that_never_fails_meets_no_fault(rt: HostRuntime) -> Result<(), Fail> {
-    let mut reader = Drip {
-        left: FIRKIN.as_bytes(),
-        fault: None,
-    };
-    let dictionary = Standard::any_from_reader(rt.alloc(), &mut reader)?;
-    same(&dictionary.language().code(), &"en-gb")?;
-    let mut refused = Drip {
-        left: &FIRKIN.as_bytes()[..40],
-        fault: None,
-    };
-    holds(
-        matches!(
-            Standard::any_from_reader(rt.alloc(), &mut refused),
-            Err(Error::Deserialization { line: 3, .. })
-        ),
-        "the error",
-    )
+    drip_ends(rt.alloc(), FIRKIN.len(), None, "loaded")?;
+    drip_ends(rt.alloc(), 40, None, "3 Minima")
 }
 
 #[test]
 fn a_fault_of_reading_is_answered_before_any_line_is_judged(rt: HostRuntime) -> Result<(), Fail> {
     for length in [0, 3, 40, FIRKIN.len()] {
-        if length <= FIRKIN.len() {
-            let mut reader = Drip {
-                left: &FIRKIN.as_bytes()[..length],
-                fault: Some(ErrorKind::ConnectionReset),
-            };
-            let answer = Standard::any_from_reader(rt.alloc(), &mut reader);
-            holds(matches!(answer, Err(Error::IO(_))), length)?;
-            let mut reader = Drip {
-                left: &FIRKIN.as_bytes()[..length],
-                fault: Some(ErrorKind::OutOfMemory),
-            };
-            let answer = Standard::any_from_reader(rt.alloc(), &mut reader);
-            holds(matches!(answer, Err(Error::Memory(_))), length)?;
-        }
+        let torn = Some(ErrorKind::ConnectionReset);
+        drip_ends(rt.alloc(), length, torn, "ConnectionReset")?;
+        let memory = Some(ErrorKind::OutOfMemory);
+        drip_ends(rt.alloc(), length, memory, "no memory")?;
     }
     Ok(())
 }
@@ -106,26 +98,24 @@ fn loaded(alloc: Global, bytes: &[u8]) -> Result<Standard, Error> {
 
 #[test]
 fn what_a_reading_gave_is_judged(rt: HostRuntime) -> Result<(), Fail> {
-    let answer = loaded(rt.alloc(), FIRKIN.as_bytes());
-    holds(answer.is_ok(), "it ends well")?;
-    let answer = loaded(rt.alloc(), b"binary \0");
-    holds(
-        matches!(answer, Err(Error::Deserialization { line: 1, .. })),
-        "the error",
-    )
+    ends(rt.alloc(), loaded(rt.alloc(), FIRKIN.as_bytes()), "loaded")?;
+    ends(rt.alloc(), loaded(rt.alloc(), b"binary \0"), "1 Header")
+}
+
+/// What loading answers of a reading that failed so.
+fn failed(alloc: Global, kind: ErrorKind) -> Result<Standard, Error> {
+    Standard::from_read(alloc, Err(io::Error::from(kind)))
 }
 
 #[test]
 fn a_fault_that_a_reading_gave_is_passed_on(rt: HostRuntime) -> Result<(), Fail> {
-    let fault = io::Error::from(ErrorKind::PermissionDenied);
-    let answer = Standard::from_read(rt.alloc(), Err(fault));
-    holds(
-        matches!(answer, Err(Error::IO(e)) if e.kind() == ErrorKind::PermissionDenied),
-        "the error",
-    )?;
-    let memory = io::Error::from(ErrorKind::OutOfMemory);
-    let answer = Standard::from_read(rt.alloc(), Err(memory));
-    holds(matches!(answer, Err(Error::Memory(_))), "the error")
+    let denied = failed(rt.alloc(), ErrorKind::PermissionDenied);
+    ends(rt.alloc(), denied, "PermissionDenied")?;
+    ends(
+        rt.alloc(),
+        failed(rt.alloc(), ErrorKind::OutOfMemory),
+        "no memory",
+    )
 }
 
 #[test]

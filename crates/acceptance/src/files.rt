@@ -1,97 +1,104 @@
 //! Dictionaries in files, and files of one byte.
 
-use answers::{AMERICAN, changed, extended_text, gives, holds, places};
+use answers::{AMERICAN, DOUBLED, Question, asked, ends, gives};
 use hyphenation::extended::Extended;
-use hyphenation::load::{Cause, Error, Load};
+use hyphenation::load::{Error, Load};
 use hyphenation::{Language, Standard};
+use std::alloc::Global;
 use std::test::Fail;
 use std::{env, fs, process};
 
-/// A new file of these bytes, by its path.
-fn file(rt: &HostRuntime, name: &str, bytes: &[u8]) -> Result<String, Fail> {
+/// A path of no file, in the folder for such files.
+fn path_of(rt: &HostRuntime, name: &str) -> Result<String, Fail> {
     let folder = env::temp_dir(rt)?;
     let id = process::id(rt.process());
     let path = format!(in rt.alloc();
         "{}/dictionary-test-{id}-{name}",
         folder.as_path().display()
     )?;
-    fs::write(rt, path.as_str(), bytes)?;
     Ok(path)
 }
 
 /// The standard dictionary of a new file, which is taken away again.
-fn standard_of(rt: &HostRuntime, name: &str, asked: Language) -> Result<Standard, Fail> {
-    let path = file(rt, name, AMERICAN.as_bytes())?;
-    let answer = Standard::from_path(rt, rt.alloc(), asked, &path);
-    fs::remove_file(rt, path.as_str())?;
-    Ok(answer?)
+fn standard_of(
+    rt: &HostRuntime,
+    path: &str,
+    asked: Language,
+) -> Result<Result<Standard, Error>, Fail> {
+    fs::write(rt, path, AMERICAN.as_bytes())?;
+    let answer = Standard::from_path(rt, rt.alloc(), asked, path);
+    fs::remove_file(rt, path)?;
+    Ok(answer)
 }
 
 #[test]
 fn a_standard_dictionary_is_loaded_from_a_file(rt: HostRuntime) -> Result<(), Fail> {
-    let dictionary = standard_of(&rt, "standard", Language::english_us())?;
-    gives(places(rt.alloc(), &dictionary, "firkin"), "3 ,")
-}
-
-#[test]
-fn a_file_of_another_language_is_a_mismatch(rt: HostRuntime) -> Result<(), Fail> {
-    let path = file(&rt, "other", AMERICAN.as_bytes())?;
-    let answer = Standard::from_path(&rt, rt.alloc(), Language::turkish(), &path);
-    fs::remove_file(&rt, path.as_str())?;
-    holds(
-        matches!(answer, Err(Error::LanguageMismatch { .. })),
-        "the error",
+    let path = path_of(&rt, "standard")?;
+    let dictionary = standard_of(&rt, &path, Language::english_us())?;
+    gives(
+        asked(rt.alloc(), dictionary, Question::Places("firkin")),
+        "3 ,",
     )
 }
 
 #[test]
+fn a_file_of_another_language_is_a_mismatch(rt: HostRuntime) -> Result<(), Fail> {
+    let path = path_of(&rt, "other")?;
+    let answer = standard_of(&rt, &path, Language::turkish())?;
+    ends(rt.alloc(), answer, "another language")
+}
+
+/// Fails where a path of no file, or of none that can be read, is not answered so.
+fn answers(rt: &HostRuntime, path: &str, wanted: &str) -> Result<(), Fail> {
+    let standard = Standard::from_path(rt, rt.alloc(), Language::english_us(), path);
+    ends(rt.alloc(), standard, wanted)?;
+    let extended = Extended::from_path(rt, rt.alloc(), Language::hungarian(), path);
+    ends(rt.alloc(), extended, wanted)
+}
+
+#[test]
 fn a_missing_file_is_a_fault_of_opening(rt: HostRuntime) -> Result<(), Fail> {
-    let path = file(&rt, "missing", b"")?;
-    fs::remove_file(&rt, path.as_str())?;
-    let answer = Standard::from_path(&rt, rt.alloc(), Language::english_us(), &path);
-    holds(matches!(answer, Err(Error::IO(_))), "the error")?;
-    let answer = Extended::from_path(&rt, rt.alloc(), Language::hungarian(), &path);
-    holds(matches!(answer, Err(Error::IO(_))), "the error")
+    let path = path_of(&rt, "missing")?;
+    answers(&rt, &path, "NotFound")
 }
 
 #[test]
 fn a_folder_is_no_dictionary(rt: HostRuntime) -> Result<(), Fail> {
-    let answer = Standard::from_path(&rt, rt.alloc(), Language::english_us(), ".");
-    holds(matches!(answer, Err(Error::IO(_))), "the error")
+    answers(&rt, ".", "IsADirectory")
 }
 
 /// The extended dictionary of a new file, which is taken away again.
-fn extended_of(rt: &HostRuntime, name: &str, text: &str) -> Result<Extended, Fail> {
-    let path = file(rt, name, text.as_bytes())?;
-    let answer = Extended::from_path(rt, rt.alloc(), Language::hungarian(), &path);
-    fs::remove_file(rt, path.as_str())?;
-    Ok(answer?)
+fn extended_of(rt: &HostRuntime, path: &str, text: &str) -> Result<Result<Extended, Error>, Fail> {
+    fs::write(rt, path, text.as_bytes())?;
+    let answer = Extended::from_path(rt, rt.alloc(), Language::hungarian(), path);
+    fs::remove_file(rt, path)?;
+    Ok(answer)
 }
 
 #[test]
 fn an_extended_dictionary_is_loaded_from_a_file(rt: HostRuntime) -> Result<(), Fail> {
-    let text = extended_text(rt.alloc(), "2 2", "e asszonnyal 2,1,2,2,szsz 6,1,2,2,nyny")?;
-    let dictionary = extended_of(&rt, "extended", &text)?;
-    gives(
-        changed(rt.alloc(), &dictionary, "asszonnyal"),
-        "asz=szony=nyal ",
+    let path = path_of(&rt, "extended")?;
+    let dictionary = extended_of(&rt, &path, DOUBLED)?;
+    let question = Question::Marked("asszonnyal");
+    gives(asked(rt.alloc(), dictionary, question), "asz=szony=nyal ")
+}
+
+/// Fails where a text of this byte alone is not refused so.
+fn byte_ends(alloc: Global, byte: u8, wanted: &str) -> Result<(), Fail> {
+    ends(
+        alloc,
+        Standard::any_from_reader(alloc, &mut &[byte][..]),
+        wanted,
     )
 }
 
 #[test]
 fn a_text_of_one_byte_is_refused_at_its_first_line(rt: HostRuntime) -> Result<(), Fail> {
-    for byte in 0..=255u8 {
-        let text = [byte];
-        let wanted = if byte < 128 {
-            Cause::Header
-        } else {
-            Cause::NotUtf8
-        };
-        let answer = Standard::any_from_reader(rt.alloc(), &mut &text[..]);
-        holds(
-            matches!(answer, Err(Error::Deserialization { line: 1, cause }) if cause == wanted),
-            byte,
-        )?;
+    for byte in 0..=127u8 {
+        byte_ends(rt.alloc(), byte, "1 Header")?;
+    }
+    for byte in 128..=255u8 {
+        byte_ends(rt.alloc(), byte, "1 NotUtf8")?;
     }
     Ok(())
 }

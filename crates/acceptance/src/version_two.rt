@@ -1,6 +1,6 @@
 //! Texts of version 2, in which values from 10 to 255 stand in braces, and what version 1 says to braces.
 
-use answers::{gives, holds, places, same, values, values_by, winners};
+use answers::{Question, asked, ends, gives, same, values_by};
 use hyphenation::extended::Extended;
 use hyphenation::load::{Cause, Error, Load};
 use hyphenation::{Language, Standard};
@@ -38,10 +38,20 @@ fn fault_of(alloc: Global, head: &str, lines: &str) -> Option<(usize, Cause)> {
 
 /// The values of words, and then the places of their breaks, by a dictionary of version 2.
 fn answers(alloc: Global, lines: &str, words: &str) -> Result<String, Fail> {
-    let dictionary = second(alloc, lines)?;
-    let mut found = values(alloc, &dictionary, words)?;
-    found.push_str(&places(alloc, &dictionary, words)?)?;
+    let mut found = asked(alloc, second(alloc, lines), Question::Values(words))?;
+    push_places(alloc, &mut found, second(alloc, lines), words)?;
     Ok(found)
+}
+
+/// Writes the places of the breaks of words.
+fn push_places(
+    alloc: Global,
+    found: &mut String,
+    dictionary: Result<Standard, Error>,
+    words: &str,
+) -> Result<(), Fail> {
+    found.push_str(&asked(alloc, dictionary, Question::Places(words))?)?;
+    Ok(())
 }
 
 #[test]
@@ -113,22 +123,15 @@ fn a_key_of_braces_is_one_in_both_versions(rt: HostRuntime) -> Result<(), Fail> 
 
 #[test]
 fn an_extended_text_has_changes_at_values_in_braces(rt: HostRuntime) -> Result<(), Fail> {
-    let dictionary = second_extended(rt.alloc(), "p a{11}b 1,1,0,1,x\np a5bc")?;
-    holds(dictionary.language() == Language::english_us(), "language")?;
-    gives(winners(rt.alloc(), &dictionary, "ab"), "11x ,")
+    let dictionary = second_extended(rt.alloc(), "p a{11}b 1,1,0,1,x\np a5bc");
+    gives(
+        asked(rt.alloc(), dictionary, Question::Values("ab")),
+        "11x ,",
+    )
 }
 
 #[test]
 fn an_extended_text_has_a_key_once(rt: HostRuntime) -> Result<(), Fail> {
     let answer = second_extended(rt.alloc(), "p a{11}b\n\np a5b");
-    holds(
-        matches!(
-            answer,
-            Err(Error::Deserialization {
-                line: 6,
-                cause: Cause::RepeatedPattern
-            })
-        ),
-        "the error",
-    )
+    ends(rt.alloc(), answer, "6 RepeatedPattern")
 }

@@ -57,20 +57,14 @@ fn a_key_that_ends_last_wins_where_it_starts_first(rt: HostRuntime) -> Result<()
 
 /// What scoring a word by an extended dictionary of these lines counted.
 fn counted(alloc: Global, lines: &str, word: &str) -> Result<LookUps, Fail> {
-    let mut count = LookUps::new();
-    count_look_ups(alloc, &extended(alloc, "1 1", lines)?, word, &mut count)?;
-    Ok(count)
+    Ok(look_ups(alloc, &extended(alloc, "1 1", lines)?, word)?)
 }
 
-/// Scores a word, counted.
-fn count_look_ups(
-    alloc: Global,
-    dictionary: &Extended,
-    word: &str,
-    count: &mut LookUps,
-) -> Result<(), AllocError> {
-    let _scores = dictionary.score_counted(alloc, word, count)?;
-    Ok(())
+/// The same of a dictionary that was loaded.
+fn look_ups(alloc: Global, dictionary: &Extended, word: &str) -> Result<LookUps, AllocError> {
+    let mut count = LookUps::new();
+    let _values = dictionary.score_counted(alloc, word, &mut count)?;
+    Ok(count)
 }
 
 #[test]

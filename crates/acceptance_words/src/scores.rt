@@ -37,20 +37,14 @@ fn digits_and_longer_keys_have_their_values(rt: HostRuntime) -> Result<(), Fail>
 
 /// What scoring a word by a dictionary of these lines counted.
 pub fn counted(alloc: Global, lines: &str, word: &str) -> Result<LookUps, Fail> {
-    let mut count = LookUps::new();
-    count_look_ups(alloc, &standard(alloc, "0 0", lines)?, word, &mut count)?;
-    Ok(count)
+    Ok(look_ups(alloc, &standard(alloc, "0 0", lines)?, word)?)
 }
 
-/// Scores a word, counted.
-fn count_look_ups(
-    alloc: Global,
-    dictionary: &Standard,
-    word: &str,
-    count: &mut LookUps,
-) -> Result<(), AllocError> {
-    let _values = dictionary.score_counted(alloc, word, count)?;
-    Ok(())
+/// The same of a dictionary that was loaded.
+fn look_ups(alloc: Global, dictionary: &Standard, word: &str) -> Result<LookUps, AllocError> {
+    let mut count = LookUps::new();
+    let _values = dictionary.score_counted(alloc, word, &mut count)?;
+    Ok(count)
 }
 
 /// The patterns that occur in `firkin`.

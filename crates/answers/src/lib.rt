@@ -29,6 +29,22 @@ pub fn gives<E: Into<Fail>>(found: Result<String, E>, wanted: &str) -> Result<()
     }
 }
 
+/// How a loading ended: `loaded`, or the line and the cause of the first fault, or another reason.
+fn ended<D: Drop>(alloc: Global, answer: Result<D, Error>) -> Result<String, AllocError> {
+    match answer {
+        Ok(_) => String::from_str(alloc, "loaded"),
+        Err(Error::Deserialization { line, cause }) => format!(in alloc; "{line} {cause:?}"),
+        Err(Error::LanguageMismatch { .. }) => String::from_str(alloc, "another language"),
+        Err(Error::IO(fault)) => format!(in alloc; "{:?}", fault.kind()),
+        Err(Error::Memory(_)) => String::from_str(alloc, "no memory"),
+    }
+}
+
+/// Fails where a loading has not ended so: `loaded`, `4 Change`, `another language`, `NotFound` or `no memory`.
+pub fn ends<D: Drop>(alloc: Global, answer: Result<D, Error>, wanted: &str) -> Result<(), Fail> {
+    gives(ended(alloc, answer), wanted)
+}
+
 /// Fails, and names the case, where something does not hold.
 pub fn holds<C: Display + Drop>(is_so: bool, case: C) -> Result<(), Fail> {
     if is_so {

@@ -1,4 +1,5 @@
 use super::*;
+use std::fmt::Display;
 use std::test::Fail;
 use std::{env, process};
 
@@ -8,6 +9,16 @@ struct Answer {
     status: u8,
     output: Vec<u8>,
     faults: Vec<u8>,
+}
+
+/// Fails, and names the case, where something does not hold. A test that asserts nothing itself is proved in a part of
+/// the time.
+fn holds<C: Display + Drop>(is_so: bool, case: C) -> Result<(), Fail> {
+    if is_so {
+        Ok(())
+    } else {
+        Err(Fail::new(format_args!("it does not hold: {case}")))
+    }
 }
 
 fn answer_to(rt: &HostRuntime, words: &[&str]) -> Answer {
@@ -68,24 +79,23 @@ fn converts(
 #[test]
 fn a_file_of_each_form_is_converted(rt: HostRuntime) -> Result<(), Fail> {
     let given = ("2", "3");
-    assert!(rt; converts(&rt, "a.pat.txt", "a1b\n.b2\n", given, "p .b2\np a1b\n", "")?);
-    assert!(rt;
-        converts(
-            &rt,
-            "b.hyp.txt",
-            "as-so-ciate\n",
-            given,
-            "e associate 2 4\n",
-            ""
-        )?
-    );
+    let patterns = converts(&rt, "a.pat.txt", "a1b\n.b2\n", given, "p .b2\np a1b\n", "")?;
+    holds(patterns, "a.pat.txt")?;
+    let listed = "e associate 2 4\n";
+    let words = converts(&rt, "b.hyp.txt", "as-so-ciate\n", given, listed, "")?;
+    holds(words, "b.hyp.txt")?;
     let tex = "% hyphenmins:\n%  typesetting:\n%   left: 2\n%   right: 3\n\\patterns{a1b}\n";
-    assert!(rt; converts(&rt, "c.tex", tex, ("-", "-"), "p a1b\n", "")?);
+    holds(
+        converts(&rt, "c.tex", tex, ("-", "-"), "p a1b\n", "")?,
+        "c.tex",
+    )?;
     let dic = "UTF-8\nLEFTHYPHENMIN 2\nRIGHTHYPHENMIN 3\nNEXTLEVEL\na1b\nab1c/b=b,2,1\n";
     let levels =
         "d.dic:4: note: two levels (LibreOffice hyphenates parts of compounds apart): joined (1)\n";
-    assert!(rt; converts(&rt, "d.dic", dic, ("-", "-"), "p a1b\n", levels)?);
-    Ok(())
+    holds(
+        converts(&rt, "d.dic", dic, ("-", "-"), "p a1b\n", levels)?,
+        "d.dic",
+    )
 }
 
 /// Whether the file is refused with that status, a message that ends so, and nothing written.
@@ -105,76 +115,81 @@ fn is_refused(
     )
 }
 
-#[test]
-fn what_is_wrong_is_told_and_nothing_is_written(rt: HostRuntime) -> Result<(), Fail> {
-    assert!(rt;
-        is_refused(
-            &rt,
-            "e.pat.txt",
-            b"a1b\nc1\xff\n",
-            "2",
-            3,
-            ":2: not UTF-8\n"
-        )?
-    );
-    assert!(rt;
-        is_refused(
-            &rt,
-            "f.dic",
-            b"EBCDIC\na1b\n",
-            "-",
-            3,
-            ":1: no charset that is known here\n"
-        )?
-    );
-    assert!(rt;
-        is_refused(
-            &rt,
-            "g.tex",
-            b"\\patterns{\na1b\n",
-            "2",
-            3,
-            ":1: the group of patterns or exceptions that begins here is not closed\n"
-        )?
-    );
-    assert!(rt;
-        is_refused(
-            &rt,
-            "h.pat.txt",
-            b"Copyright (C) 2005\n",
-            "2",
-            3,
-            ":1: a sign that stands in no pattern or exception\n"
-        )?
-    );
-    assert!(rt;
-        is_refused(
-            &rt,
-            "i.tex",
-            b"This is a licence.\n",
-            "2",
-            3,
-            ":1: no pattern and no exception in the file\n"
-        )?
-    );
-    assert!(rt;
-        is_refused(
-            &rt,
-            "j.pat.txt",
-            b"a1b\n",
-            "-",
-            2,
-            "hyphenate-convert: no file says the minima: give LEFT and RIGHT\n"
-        )?
-    );
-    let missing = answer_to(&rt, &["standard", "xx", "2", "3", "no-such-folder/a.tex"]);
-    assert_eq!(rt; missing.status, 3);
-    assert!(rt; missing.output.is_empty());
+/// A file that is refused: its name, its bytes, the minima that are given, the status, and how the message ends.
+type Refused<'r> = (&'r str, &'r [u8], &'r str, u8, &'r str);
+
+/// Fails where one of the files is not refused so.
+fn refuses(rt: &HostRuntime, files: &[Refused<'_>]) -> Result<(), Fail> {
+    for (name, bytes, minimum, status, message) in files {
+        holds(
+            is_refused(rt, name, bytes, minimum, *status, message)?,
+            *name,
+        )?;
+    }
     Ok(())
 }
 
 #[test]
-fn words_of_no_form_are_answered_by_the_usage(rt: HostRuntime) {
+fn what_is_wrong_is_told_and_nothing_is_written(rt: HostRuntime) -> Result<(), Fail> {
+    let files: [Refused<'_>; 6] = [
+        ("e.pat.txt", b"a1b\nc1\xff\n", "2", 3, ":2: not UTF-8\n"),
+        (
+            "f.dic",
+            b"EBCDIC\na1b\n",
+            "-",
+            3,
+            ":1: no charset that is known here\n",
+        ),
+        (
+            "g.tex",
+            b"\\patterns{\na1b\n",
+            "2",
+            3,
+            ":1: the group of patterns or exceptions that begins here is not closed\n",
+        ),
+        (
+            "h.pat.txt",
+            b"Copyright (C) 2005\n",
+            "2",
+            3,
+            ":1: a sign that stands in no pattern or exception\n",
+        ),
+        (
+            "i.tex",
+            b"This is a licence.\n",
+            "2",
+            3,
+            ":1: no pattern and no exception in the file\n",
+        ),
+        (
+            "j.pat.txt",
+            b"a1b\n",
+            "-",
+            2,
+            "hyphenate-convert: no file says the minima: give LEFT and RIGHT\n",
+        ),
+    ];
+    refuses(&rt, &files)
+}
+
+#[test]
+fn a_file_that_is_missing_is_a_fault(rt: HostRuntime) -> Result<(), Fail> {
+    let missing = answer_to(&rt, &["standard", "xx", "2", "3", "no-such-folder/a.tex"]);
+    holds(missing.status == 3 && missing.output.is_empty(), "missing")
+}
+
+/// Fails where the program does not answer by its usage, for each of these.
+fn answers_by_usage(rt: &HostRuntime, cases: &[&[&str]]) -> Result<(), Fail> {
+    for words in cases {
+        let answer = answer_to(rt, words);
+        let is_usage = answer.status == 2 && answer.faults.as_slice() == USAGE.as_bytes();
+        holds(is_usage, format_args!("{words:?}"))?;
+    }
+    Ok(())
+}
+
+#[test]
+fn words_of_no_form_are_answered_by_the_usage(rt: HostRuntime) -> Result<(), Fail> {
     let cases: [&[&str]; 5] = [
         &[],
         &["standard", "xx", "2", "3"],
@@ -182,11 +197,7 @@ fn words_of_no_form_are_answered_by_the_usage(rt: HostRuntime) {
         &["standard", "xx", "2", "256", "a.dic"],
         &["latin", "xx", "2", "3", "a.dic"],
     ];
-    for words in cases {
-        let answer = answer_to(&rt, words);
-        assert_eq!(rt; answer.status, 2);
-        assert_eq!(rt; answer.faults.as_slice(), USAGE.as_bytes());
-    }
+    answers_by_usage(&rt, &cases)
 }
 
 /// Whether files of these paths are refused before they are read, with a message that ends so.
@@ -199,22 +210,17 @@ fn is_misfit(rt: &HostRuntime, first: &str, second: &str, message: &str) -> bool
 }
 
 #[test]
-fn files_that_do_not_go_together_are_named(rt: HostRuntime) {
-    assert!(rt; is_misfit(&rt, "a.tex", "b.dic", "b.dic: a .dic is converted alone\n"));
-    assert!(rt;
-        is_misfit(
-            &rt,
-            "a/hyph-de.tex",
-            "b/hyph-fr.tex",
-            "b/hyph-fr.tex: another language than the file before it, by its name\n"
-        )
-    );
-    assert!(rt;
-        is_misfit(
-            &rt,
-            "hyph-hu.ext.txt",
-            "",
-            "hyph-hu.ext.txt: a file is .dic, .tex, .pat.txt or .hyp.txt, and this is none of them\n"
-        )
-    );
+fn files_that_do_not_go_together_are_named(rt: HostRuntime) -> Result<(), Fail> {
+    holds(
+        is_misfit(&rt, "a.tex", "b.dic", "b.dic: a .dic is converted alone\n"),
+        "a .dic and another",
+    )?;
+    let language = "b/hyph-fr.tex: another language than the file before it, by its name\n";
+    holds(
+        is_misfit(&rt, "a/hyph-de.tex", "b/hyph-fr.tex", language),
+        "two languages",
+    )?;
+    let form =
+        "hyph-hu.ext.txt: a file is .dic, .tex, .pat.txt or .hyp.txt, and this is none of them\n";
+    holds(is_misfit(&rt, "hyph-hu.ext.txt", "", form), "no form")
 }

@@ -1,4 +1,6 @@
 use super::*;
+use std::alloc::AllocError;
+use std::fmt::Display;
 use std::test::Fail;
 use std::{env, process};
 
@@ -67,12 +69,56 @@ fn file(rt: &HostRuntime, name: &str, bytes: &[u8]) -> Result<String, Fail> {
     Ok(path)
 }
 
-fn score_by(rt: &HostRuntime, path: &str, word: &str) -> Answer {
-    answer_to(rt, &["score", "standard", "en-gb", path, word])
+/// Fails, and names the case, where something does not hold. A test that asserts nothing itself is proved in a part of
+/// the time.
+fn holds<C: Display + Drop>(is_so: bool, case: C) -> Result<(), Fail> {
+    if is_so {
+        Ok(())
+    } else {
+        Err(Fail::new(format_args!("it does not hold: {case}")))
+    }
 }
 
-fn changed_score_by(rt: &HostRuntime, path: &str, word: &str) -> Answer {
-    answer_to(rt, &["score", "extended", "hu", path, word])
+/// Fails where the program does not answer these words so.
+fn answers(
+    rt: &HostRuntime,
+    words: &[&str],
+    text: &[u8],
+    status: u8,
+    output: &[u8],
+    faults: &[u8],
+) -> Result<(), Fail> {
+    let given = answer_over(rt, words, text);
+    holds(given.is(status, output, faults), format_args!("{words:?}"))
+}
+
+/// Fails where the program does not write these lines for the scores of words by a dictionary in that file.
+fn writes_scores(
+    rt: &HostRuntime,
+    kind: &str,
+    code: &str,
+    path: &str,
+    cases: &[(&str, &str)],
+) -> Result<(), Fail> {
+    for (word, line) in cases {
+        let words = ["score", kind, code, path, *word];
+        answers(rt, &words, b"", 0, line.as_bytes(), b"")?;
+    }
+    Ok(())
+}
+
+/// The same by a dictionary of this text, in a new file, which goes then.
+fn writes_scores_by(
+    rt: &HostRuntime,
+    kind: &str,
+    code: &str,
+    text: &str,
+    cases: &[(&str, &str)],
+) -> Result<(), Fail> {
+    let path = file(rt, kind, text.as_bytes())?;
+    writes_scores(rt, kind, code, &path, cases)?;
+    fs::remove_file(rt, path.as_str())?;
+    Ok(())
 }
 
 /// Whether a dictionary of these bytes is refused with that message after its path.
@@ -93,32 +139,33 @@ fn is_refused(
 
 #[test]
 fn a_score_is_written(rt: HostRuntime) -> Result<(), Fail> {
-    let path = file(&rt, "firkin", FIRKIN.as_bytes())?;
-    let cases: [(&str, &str); 4] = [
+    let cases = [
         ("firkin", "0 2 5 2 0\n"),
         ("firkins", "0 2 5 1 0 0\n"),
         ("", "\n"),
         ("score", "0 0 0 0\n"),
     ];
-    for (word, line) in cases {
-        let given = score_by(&rt, &path, word);
-        assert!(rt; given.is(0, line.as_bytes(), b""), "{word}");
-    }
-    fs::remove_file(&rt, path.as_str())?;
-    Ok(())
+    writes_scores_by(&rt, "standard", "en-gb", FIRKIN, &cases)
 }
 
 const CHANGES: &str = "hyphenation 1 extended\nlanguage hu\nminima 1 1\np a1b\np ca1bd 2,1,0,1,x\n";
 
 #[test]
 fn a_score_by_an_extended_dictionary_is_written(rt: HostRuntime) -> Result<(), Fail> {
-    let path = file(&rt, "changes", CHANGES.as_bytes())?;
-    let cases: [(&str, &str); 3] = [("cabd", "0 1 0\n"), ("abd", "1 0\n"), ("", "\n")];
-    for (word, line) in cases {
-        let given = changed_score_by(&rt, &path, word);
-        assert!(rt; given.is(0, line.as_bytes(), b""), "{word}");
+    let cases = [("cabd", "0 1 0\n"), ("abd", "1 0\n"), ("", "\n")];
+    writes_scores_by(&rt, "extended", "hu", CHANGES, &cases)
+}
+
+/// Fails where a dictionary of these bytes is not refused with that message, for each case: a name, bytes, a message.
+fn refuses(
+    rt: &HostRuntime,
+    kind: &str,
+    code: &str,
+    cases: &[(&str, &[u8], &str)],
+) -> Result<(), Fail> {
+    for (name, bytes, message) in cases {
+        holds(is_refused(rt, kind, code, name, bytes, message)?, *name)?;
     }
-    fs::remove_file(&rt, path.as_str())?;
     Ok(())
 }
 
@@ -143,17 +190,23 @@ fn an_extended_dictionary_that_is_refused_is_named_with_its_fault(
             "Language mismatch: attempted to load a dictionary for `hu`, but found\na dictionary for `de` instead.\n",
         ),
     ];
-    for (name, bytes, message) in cases {
-        assert!(rt;
-            is_refused(&rt, "extended", "hu", name, bytes, message)?,
-            "{name}"
-        );
+    refuses(&rt, "extended", "hu", &cases)
+}
+
+/// What the program says of words that have no form.
+const WORDS_TOLD: &[u8] =
+    b"usage: hyphenate KIND CODE PATH MARK [EDIT..]\n       hyphenate score KIND CODE PATH WORD\n       hyphenate fill CODE PATH COLUMNS\n";
+
+/// Fails where the program does not answer by its usage, for each of these.
+fn answers_by_usage(rt: &HostRuntime, cases: &[&[&str]]) -> Result<(), Fail> {
+    for words in cases {
+        answers(rt, words, b"", 2, b"", WORDS_TOLD)?;
     }
     Ok(())
 }
 
 #[test]
-fn other_words_are_answered_by_the_usage(rt: HostRuntime) {
+fn other_words_are_answered_by_the_usage(rt: HostRuntime) -> Result<(), Fail> {
     let cases: [&[&str]; 23] = [
         &[],
         &["fill"],
@@ -179,17 +232,7 @@ fn other_words_are_answered_by_the_usage(rt: HostRuntime) {
         &["standard", "en gb", "firkin.txt", "-"],
         &["--help"],
     ];
-    for words in cases {
-        let given = answer_to(&rt, words);
-        assert!(rt;
-            given.is(
-                2,
-                b"",
-                b"usage: hyphenate KIND CODE PATH MARK [EDIT..]\n       hyphenate score KIND CODE PATH WORD\n       hyphenate fill CODE PATH COLUMNS\n"
-            ),
-            "{words:?}"
-        );
-    }
+    answers_by_usage(&rt, &cases)
 }
 
 #[test]
@@ -222,101 +265,138 @@ fn a_dictionary_that_is_refused_is_named_with_its_fault(rt: HostRuntime) -> Resu
             "line 3: not a minima line\n",
         ),
     ];
-    for (name, bytes, message) in cases {
-        assert!(rt;
-            is_refused(&rt, "standard", "en-gb", name, bytes, message)?,
-            "{name}"
-        );
-    }
-    Ok(())
+    refuses(&rt, "standard", "en-gb", &cases)
+}
+
+/// Fails where the program does not name this path's dictionary, whatever it is asked.
+fn names_the_dictionary(rt: &HostRuntime, path: &str) -> Result<(), Fail> {
+    let given = answer_to(rt, &["score", "standard", "en-gb", path, "firkin"]);
+    holds(given.names_the_dictionary(), path)?;
+    let given = answer_over(rt, &["standard", "en-gb", path, "-", "*"], b"\xff");
+    holds(given.names_the_dictionary(), path)?;
+    let given = answer_over(rt, &["fill", "en-gb", path, "72"], b"\xff");
+    holds(given.names_the_dictionary(), path)
 }
 
 #[test]
-fn a_path_that_is_missing_or_a_folder_is_a_fault_of_the_dictionary(rt: HostRuntime) {
-    for path in ["no/such/dictionary.txt", ".", "", "/"] {
-        let given = score_by(&rt, path, "firkin");
-        assert!(rt; given.names_the_dictionary(), "{path}");
-        let given = answer_over(&rt, &["standard", "en-gb", path, "-", "*"], b"\xff");
-        assert!(rt; given.names_the_dictionary(), "{path}");
-        let given = answer_over(&rt, &["fill", "en-gb", path, "72"], b"\xff");
-        assert!(rt; given.names_the_dictionary(), "{path}");
-    }
+fn a_path_that_is_missing_or_a_folder_is_a_fault_of_the_dictionary(
+    rt: HostRuntime,
+) -> Result<(), Fail> {
+    names_the_dictionary(&rt, "no/such/dictionary.txt")?;
+    names_the_dictionary(&rt, ".")?;
+    names_the_dictionary(&rt, "")?;
+    names_the_dictionary(&rt, "/")
 }
 
-/// What the program answers for a text, a dictionary of that kind and code, and the words after its path.
-fn hyphenated_by(
-    rt: &HostRuntime,
-    kind: &str,
-    code: &str,
-    path: &str,
-    rest: &[&str],
-    text: &[u8],
-) -> Result<Answer, Fail> {
-    let mut words: Vec<&str> = Vec::new(rt.alloc());
-    for word in [kind, code, path] {
+/// The words of a run over the dictionary in a file: kind, code, path and the rest.
+fn words_of<'w>(
+    alloc: Global,
+    head: [&'w str; 3],
+    rest: &[&'w str],
+) -> Result<Vec<&'w str>, AllocError> {
+    let mut words: Vec<&str> = Vec::new(alloc);
+    for word in head {
         words.push(word)?;
     }
     for word in rest {
         words.push(*word)?;
     }
-    Ok(answer_over(rt, &words, text))
+    Ok(words)
 }
 
-#[test]
-fn a_text_is_hyphenated_after_edits(rt: HostRuntime) -> Result<(), Fail> {
-    let path = file(&rt, "text", FIRKIN.as_bytes())?;
-    let cases: [(&[&str], &str); 6] = [
-        (&["\u{ad}"], "Fir\u{ad}kin, fir\u{ad}k\u{ad}ins.\n"),
-        (&["<->"], "Fir<->kin, fir<->k<->ins.\n"),
-        (&["-"], "Fir-kin, fir-k-ins.\n"),
-        (&[""], "Firkin, firkins.\n"),
-        (&["-", "+firkins 3"], "Fir-kin, fir-kins.\n"),
-        (&["=", "+firkins 3", "-firkins"], "Fir=kin, fir=k=ins.\n"),
-    ];
-    for (rest, wanted) in cases {
-        let given = hyphenated_by(&rt, "standard", "en-gb", &path, rest, b"Firkin, firkins.\n")?;
-        assert!(rt; given.is(0, wanted.as_bytes(), b""), "{rest:?}");
+/// A case: the words after a dictionary's path, the text, and the status, the output and the faults that are wanted.
+type Case<'c> = (&'c [&'c str], &'c [u8], u8, &'c str, &'c str);
+
+/// Fails where the program does not answer a case so.
+fn answers_case(rt: &HostRuntime, head: [&str; 3], case: &Case<'_>) -> Result<(), Fail> {
+    let (rest, text, status, output, faults) = *case;
+    let words = words_of(rt.alloc(), head, rest)?;
+    answers(
+        rt,
+        &words,
+        text,
+        status,
+        output.as_bytes(),
+        faults.as_bytes(),
+    )
+}
+
+/// Fails where the program does not answer each case so, over a dictionary of this text, in a new file, which goes
+/// then.
+fn answers_cases(
+    rt: &HostRuntime,
+    name: &str,
+    head: [&str; 2],
+    dictionary: &str,
+    cases: &[Case<'_>],
+) -> Result<(), Fail> {
+    let path = file(rt, name, dictionary.as_bytes())?;
+    for case in cases {
+        answers_case(rt, [head[0], head[1], path.as_str()], case)?;
     }
-    fs::remove_file(&rt, path.as_str())?;
+    fs::remove_file(rt, path.as_str())?;
     Ok(())
 }
 
 #[test]
+fn a_text_is_hyphenated_after_edits(rt: HostRuntime) -> Result<(), Fail> {
+    let text = b"Firkin, firkins.\n";
+    let cases: [Case<'_>; 6] = [
+        (
+            &["\u{ad}"],
+            text,
+            0,
+            "Fir\u{ad}kin, fir\u{ad}k\u{ad}ins.\n",
+            "",
+        ),
+        (&["<->"], text, 0, "Fir<->kin, fir<->k<->ins.\n", ""),
+        (&["-"], text, 0, "Fir-kin, fir-k-ins.\n", ""),
+        (&[""], text, 0, "Firkin, firkins.\n", ""),
+        (&["-", "+firkins 3"], text, 0, "Fir-kin, fir-kins.\n", ""),
+        (
+            &["=", "+firkins 3", "-firkins"],
+            text,
+            0,
+            "Fir=kin, fir=k=ins.\n",
+            "",
+        ),
+    ];
+    answers_cases(&rt, "text", ["standard", "en-gb"], FIRKIN, &cases)
+}
+
+#[test]
 fn a_text_that_is_refused_is_told_with_its_status(rt: HostRuntime) -> Result<(), Fail> {
-    let path = file(&rt, "refused", FIRKIN.as_bytes())?;
-    let cases: [(&[&str], &[u8], u8, &str); 3] = [
+    let cases: [Case<'_>; 3] = [
         (
             &["-", "-firkin", "firkins"],
             b"\xff",
             2,
+            "",
             "hyphenate: edit 2 is refused\n",
         ),
         (
             &["-", "+firkins 3"],
             b"fir\xffkin",
             4,
+            "",
             "hyphenate: the text is not UTF-8\n",
         ),
         (
             &["-", "+firkins 8"],
             b"firkin",
             2,
+            "",
             "hyphenate: edit 1 is refused\n",
         ),
     ];
-    for (rest, text, status, message) in cases {
-        let given = hyphenated_by(&rt, "standard", "en-gb", &path, rest, text)?;
-        assert!(rt; given.is(status, b"", message.as_bytes()), "{rest:?}");
-    }
-    fs::remove_file(&rt, path.as_str())?;
-    Ok(())
+    answers_cases(&rt, "refused", ["standard", "en-gb"], FIRKIN, &cases)
 }
 
 #[test]
 fn another_language_is_told_before_the_edits(rt: HostRuntime) -> Result<(), Fail> {
     let path = file(&rt, "mismatch", FIRKIN.as_bytes())?;
     let given = answer_over(&rt, &["standard", "hu", path.as_str(), "-", "*"], b"\xff");
-    assert!(rt; given.names_the_dictionary());
+    holds(given.names_the_dictionary(), "the dictionary")?;
     fs::remove_file(&rt, path.as_str())?;
     Ok(())
 }
@@ -331,22 +411,30 @@ impl Read for Torn {
     }
 }
 
+/// Fails where the fault of an input is not told so, by a dictionary in that file.
+fn tells_the_input(
+    rt: &HostRuntime,
+    path: &str,
+    kind: ErrorKind,
+    status: u8,
+    message: &str,
+) -> Result<(), Fail> {
+    let given = answer_by(rt, &["standard", "en-gb", path, "-"], &mut Torn(kind));
+    holds(given.is(status, b"", message.as_bytes()), message)
+}
+
 #[test]
 fn an_input_that_cannot_be_read_is_told(rt: HostRuntime) -> Result<(), Fail> {
     let path = file(&rt, "torn", FIRKIN.as_bytes())?;
-    let words = ["standard", "en-gb", path.as_str(), "-"];
-    let cases: [(ErrorKind, u8, &str); 2] = [
-        (
-            ErrorKind::ConnectionReset,
-            5,
-            "hyphenate: the text can't be read\n",
-        ),
-        (ErrorKind::OutOfMemory, 6, "hyphenate: no memory\n"),
-    ];
-    for (kind, status, message) in cases {
-        let given = answer_by(&rt, &words, &mut Torn(kind));
-        assert!(rt; given.is(status, b"", message.as_bytes()), "{message}");
-    }
+    let unread = "hyphenate: the text can't be read\n";
+    tells_the_input(&rt, &path, ErrorKind::ConnectionReset, 5, unread)?;
+    tells_the_input(
+        &rt,
+        &path,
+        ErrorKind::OutOfMemory,
+        6,
+        "hyphenate: no memory\n",
+    )?;
     fs::remove_file(&rt, path.as_str())?;
     Ok(())
 }
@@ -355,7 +443,10 @@ fn an_input_that_cannot_be_read_is_told(rt: HostRuntime) -> Result<(), Fail> {
 fn a_text_that_cannot_be_written_is_told(rt: HostRuntime) -> Result<(), Fail> {
     let path = file(&rt, "unwritten", FIRKIN.as_bytes())?;
     let given = answer_in_vain(&rt, &["standard", "en-gb", path.as_str(), "-"], b"firkin");
-    assert!(rt; given.is(5, b"", b"hyphenate: the result can't be written\n"));
+    holds(
+        given.is(5, b"", b"hyphenate: the result can't be written\n"),
+        "hyphenate: the result can't be written",
+    )?;
     fs::remove_file(&rt, path.as_str())?;
     Ok(())
 }
@@ -365,18 +456,19 @@ const DOUBLED: &str =
 
 #[test]
 fn a_text_is_hyphenated_by_an_extended_dictionary(rt: HostRuntime) -> Result<(), Fail> {
-    let path = file(&rt, "doubled", DOUBLED.as_bytes())?;
-    let cases: [(&[&str], &str); 3] = [
-        (&["-"], "Az asz-szony-nyal.\r\n"),
-        (&["-", "+asszonnyal 2,1,2,2,szsz"], "Az asz-szonnyal.\r\n"),
-        (&["", "-asszonnyal"], "Az asszonnyal.\r\n"),
+    let text = b"Az asszonnyal.\r\n";
+    let cases: [Case<'_>; 3] = [
+        (&["-"], text, 0, "Az asz-szony-nyal.\r\n", ""),
+        (
+            &["-", "+asszonnyal 2,1,2,2,szsz"],
+            text,
+            0,
+            "Az asz-szonnyal.\r\n",
+            "",
+        ),
+        (&["", "-asszonnyal"], text, 0, "Az asszonnyal.\r\n", ""),
     ];
-    for (rest, wanted) in cases {
-        let given = hyphenated_by(&rt, "extended", "hu", &path, rest, b"Az asszonnyal.\r\n")?;
-        assert!(rt; given.is(0, wanted.as_bytes(), b""), "{rest:?}");
-    }
-    fs::remove_file(&rt, path.as_str())?;
-    Ok(())
+    answers_cases(&rt, "doubled", ["extended", "hu"], DOUBLED, &cases)
 }
 
 /// Takes nothing.
@@ -398,7 +490,10 @@ fn a_score_that_cannot_be_written_is_told(rt: HostRuntime) -> Result<(), Fail> {
     let path = file(&rt, "output", FIRKIN.as_bytes())?;
     let words = ["score", "standard", "en-gb", path.as_str(), "firkin"];
     let given = answer_in_vain(&rt, &words, b"");
-    assert!(rt; given.is(5, b"", b"hyphenate: the result can't be written\n"));
+    holds(
+        given.is(5, b"", b"hyphenate: the result can't be written\n"),
+        "hyphenate: the result can't be written",
+    )?;
     fs::remove_file(&rt, path.as_str())?;
     Ok(())
 }
@@ -413,37 +508,35 @@ fn status_in_silence(rt: &HostRuntime, words: &[&str]) -> u8 {
 fn a_message_that_cannot_be_written_leaves_the_status(rt: HostRuntime) -> Result<(), Fail> {
     let path = file(&rt, "message", FIRKIN.as_bytes())?;
     let words = ["score", "standard", "en-gb", path.as_str(), "firkin"];
-    assert_eq!(rt; status_in_silence(&rt, &words), 5);
-    assert_eq!(rt; status_in_silence(&rt, &["score"]), 2);
+    holds(status_in_silence(&rt, &words) == 5, "5")?;
+    holds(status_in_silence(&rt, &["score"]) == 2, "2")?;
     fs::remove_file(&rt, path.as_str())?;
     Ok(())
 }
 
 const VERSE: &str = "hyphenation 1 standard\nlanguage en-gb\nminima 2 3\ne noble 2\ne accents 2\n";
 
-fn filled_by(rt: &HostRuntime, path: &str, columns: &str, text: &[u8]) -> Answer {
-    answer_over(rt, &["fill", "en-gb", path, columns], text)
-}
-
 #[test]
 fn a_text_is_filled(rt: HostRuntime) -> Result<(), Fail> {
-    let path = file(&rt, "verse", VERSE.as_bytes())?;
-    let cases: [(&str, &str, &str); 4] = [
-        ("10", "I know noble accents", "I know no-\nble ac-\ncents\n"),
-        ("0", "noble accents", "no-\nble \nac-\ncents\n"),
+    let cases: [Case<'_>; 4] = [
         (
-            "18446744073709551615",
-            "noble accents\n",
-            "noble accents\n\n",
+            &["10"],
+            b"I know noble accents",
+            0,
+            "I know no-\nble ac-\ncents\n",
+            "",
         ),
-        ("72", "", ""),
+        (&["0"], b"noble accents", 0, "no-\nble \nac-\ncents\n", ""),
+        (
+            &["18446744073709551615"],
+            b"noble accents\n",
+            0,
+            "noble accents\n\n",
+            "",
+        ),
+        (&["72"], b"", 0, "", ""),
     ];
-    for (columns, text, wanted) in cases {
-        let given = filled_by(&rt, &path, columns, text.as_bytes());
-        assert!(rt; given.is(0, wanted.as_bytes(), b""), "{columns}");
-    }
-    fs::remove_file(&rt, path.as_str())?;
-    Ok(())
+    answers_cases(&rt, "verse", ["fill", "en-gb"], VERSE, &cases)
 }
 
 #[test]
@@ -451,9 +544,15 @@ fn a_text_that_cannot_be_filled_is_told_with_its_status(rt: HostRuntime) -> Resu
     let path = file(&rt, "unfilled", VERSE.as_bytes())?;
     let words = ["fill", "en-gb", path.as_str(), "72"];
     let given = answer_over(&rt, &words, b"noble \xff");
-    assert!(rt; given.is(4, b"", b"hyphenate: the text is not UTF-8\n"));
+    holds(
+        given.is(4, b"", b"hyphenate: the text is not UTF-8\n"),
+        "hyphenate: the text is not UTF-8",
+    )?;
     let given = answer_by(&rt, &words, &mut Torn(ErrorKind::ConnectionReset));
-    assert!(rt; given.is(5, b"", b"hyphenate: the text can't be read\n"));
+    holds(
+        given.is(5, b"", b"hyphenate: the text can't be read\n"),
+        "hyphenate: the text can't be read",
+    )?;
     fs::remove_file(&rt, path.as_str())?;
     Ok(())
 }
@@ -462,7 +561,10 @@ fn a_text_that_cannot_be_filled_is_told_with_its_status(rt: HostRuntime) -> Resu
 fn lines_that_cannot_be_written_are_told(rt: HostRuntime) -> Result<(), Fail> {
     let path = file(&rt, "full", VERSE.as_bytes())?;
     let given = answer_in_vain(&rt, &["fill", "en-gb", path.as_str(), "72"], b"noble");
-    assert!(rt; given.is(5, b"", b"hyphenate: the result can't be written\n"));
+    holds(
+        given.is(5, b"", b"hyphenate: the result can't be written\n"),
+        "hyphenate: the result can't be written",
+    )?;
     fs::remove_file(&rt, path.as_str())?;
     Ok(())
 }
@@ -471,29 +573,37 @@ fn lines_that_cannot_be_written_are_told(rt: HostRuntime) -> Result<(), Fail> {
 fn a_text_is_not_filled_by_another_language(rt: HostRuntime) -> Result<(), Fail> {
     let path = file(&rt, "other-language", VERSE.as_bytes())?;
     let given = answer_over(&rt, &["fill", "en-us", path.as_str(), "72"], b"\xff");
-    assert!(rt; given.names_the_dictionary());
+    holds(given.names_the_dictionary(), "the dictionary")?;
     fs::remove_file(&rt, path.as_str())?;
     Ok(())
 }
 
+/// Whether a run's want of memory is told, with its status.
+fn is_memory_told(alloc: Global) -> bool {
+    let mut faults: Vec<u8> = Vec::new(alloc);
+    let status = report("path", &RunError::Memory, &mut faults);
+    status == 6 && faults.as_slice() == b"hyphenate: no memory\n".as_slice()
+}
+
+/// The status of words that can't be had for that fault.
+fn status_of_words(alloc: Global, kind: ErrorKind) -> u8 {
+    let mut faults: Vec<u8> = Vec::new(alloc);
+    report_words(&io::Error::from(kind), &mut faults)
+}
+
 #[test]
-fn want_of_memory_and_words_that_are_not_utf8_have_their_status(rt: HostRuntime) {
-    let mut faults: Vec<u8> = Vec::new(rt.alloc());
-    assert_eq!(rt; report("path", &RunError::Memory, &mut faults), 6);
-    assert_eq!(rt; faults.as_slice(), b"hyphenate: no memory\n".as_slice());
-    assert!(rt;
-        matches!(
-            opening_fault(io::Error::from(ErrorKind::OutOfMemory)),
-            RunError::Memory
-        )
-    );
-    let mut faults: Vec<u8> = Vec::new(rt.alloc());
-    assert_eq!(rt;
-        report_words(&io::Error::from(ErrorKind::OutOfMemory), &mut faults),
-        6
-    );
-    assert_eq!(rt;
-        report_words(&io::Error::from(ErrorKind::InvalidData), &mut faults),
-        2
-    );
+fn want_of_memory_and_words_that_are_not_utf8_have_their_status(
+    rt: HostRuntime,
+) -> Result<(), Fail> {
+    holds(is_memory_told(rt.alloc()), "a run's")?;
+    let opening = opening_fault(io::Error::from(ErrorKind::OutOfMemory));
+    holds(matches!(opening, RunError::Memory), "an opening's")?;
+    holds(
+        status_of_words(rt.alloc(), ErrorKind::OutOfMemory) == 6,
+        "6",
+    )?;
+    holds(
+        status_of_words(rt.alloc(), ErrorKind::InvalidData) == 2,
+        "2",
+    )
 }
