@@ -308,7 +308,7 @@ fn words_of<'w>(
 type Case<'c> = (&'c [&'c str], &'c [u8], u8, &'c str, &'c str);
 
 /// Fails where the program does not answer a case so.
-fn answers_case(rt: &HostRuntime, head: [&str; 3], case: &Case<'_>) -> Result<(), Fail> {
+fn answers_case<'c>(rt: &HostRuntime, head: [&'c str; 3], case: &Case<'c>) -> Result<(), Fail> {
     let (rest, text, status, output, faults) = *case;
     let words = words_of(rt.alloc(), head, rest)?;
     answers(
@@ -323,12 +323,12 @@ fn answers_case(rt: &HostRuntime, head: [&str; 3], case: &Case<'_>) -> Result<()
 
 /// Fails where the program does not answer each case so, over a dictionary of this text, in a new file, which goes
 /// then.
-fn answers_cases(
+fn answers_cases<'c>(
     rt: &HostRuntime,
     name: &str,
-    head: [&str; 2],
+    head: [&'c str; 2],
     dictionary: &str,
-    cases: &[Case<'_>],
+    cases: &[Case<'c>],
 ) -> Result<(), Fail> {
     let path = file(rt, name, dictionary.as_bytes())?;
     for case in cases {
