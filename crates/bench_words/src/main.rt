@@ -1,7 +1,8 @@
 //! Work to be measured: loads a dictionary, and scores or hyphenates each word of a list.
 //!
 //! It has no clock: `bench/measure` runs it and counts its instructions. Each task does all that the one before it in
-//! `Task` does, but that scoring and hyphenating stand side by side, so what a task takes is the difference of two runs.
+//! `Task` does, but that scoring and hyphenating stand side by side, so what a task takes is the difference of two
+//! runs.
 #![tactic(auto)]
 
 use hyphenation::engine::Kind;

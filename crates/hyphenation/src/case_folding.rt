@@ -134,7 +134,8 @@ pub(crate) fn are_small_letters(word: &str) -> bool
     at == bytes.len() || bytes[at].is_ascii_lowercase()
 }
 
-/// Whether a character has the property Uppercase, by short roads for ASCII and for the letters of which most words are.
+/// Whether a character has the property Uppercase, by short roads for ASCII and for the letters of which most words
+/// are.
 fn is_upper(c: char) -> bool
     ensures { result ≡ is_uppercase c }
 {

@@ -1,8 +1,8 @@
 //! Iterators over the segments of a word, with a mark after each but the last or without marks.
 //!
-//! A word's breaks come one after another (`Breaks`); `Segments` takes them, and gives the text between each two of them,
-//! and `SegmentsExt` does so where breaks may change it; `Hyphenating` takes such texts (`Texts`), and gives each with its
-//! mark. [`joined`] writes them all into a text at once.
+//! A word's breaks come one after another (`Breaks`); `Segments` takes them, and gives the text between each two of
+//! them, and `SegmentsExt` does so where breaks may change it; `Hyphenating` takes such texts (`Texts`), and gives each
+//! with its mark. [`joined`] writes them all into a text at once.
 
 ghost use Rattle.std.specs.Prelude.{◌≡◌, ℕ, List, Bool, false, Option, Some, None, length, IsSome, MatchResult};
 ghost use Rattle.hyphenation_commons.specs.Break.{Break};
@@ -34,8 +34,8 @@ pub trait Breaks: Drop {
     /// It has answered that it is empty.
     ghost is_over: { Self → Bool };
 
-    /// The next break, taken from the list, or `None` where the list is empty. After a `None` it may not be asked again:
-    /// what comes then is open.
+    /// The next break, taken from the list, or `None` where the list is empty. After a `None` it may not be asked
+    /// again: what comes then is open.
     fn pull(&mut self) -> Option<Self::Item>
         requires { is_over self.old ≡ false }
         ensures first { TakesFirst Self.Item.meaning to_come self.old result self.new }
@@ -149,8 +149,8 @@ pub trait Texts: Drop {
     /// The texts to come.
     ghost texts: { Self → List (List ℕ) };
 
-    /// An item for the next text, which is taken from the list: the item holds it, or a refusal in its place. It is `None`
-    /// where the list is empty; what comes after that is open.
+    /// An item for the next text, which is taken from the list: the item holds it, or a refusal in its place. It is
+    /// `None` where the list is empty; what comes after that is open.
     fn pull(&mut self) -> Option<Self::Item>
         ensures { TakesFirstOrRefuses Self.Item.held texts self.old result self.new };
 

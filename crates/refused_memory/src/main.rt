@@ -1,8 +1,9 @@
-//! One call of the library, chosen by its name, whose requests for memory are those between two reads of standard input.
+//! One call of the library, chosen by its name, whose requests for memory are those between two reads of standard
+//! input.
 //!
-//! It is for the script `tests/refused-memory`, which has each of these requests refused in turn. The dictionary and all
-//! else that the call needs is there before the first read; what the call answered, and what it left, is written after
-//! the second one, on one line, which begins with `no memory` where the call said so.
+//! It is for the script `tests/refused-memory`, which has each of these requests refused in turn. The dictionary and
+//! all else that the call needs is there before the first read; what the call answered, and what it left, is written
+//! after the second one, on one line, which begins with `no memory` where the call said so.
 #![tactic(auto)]
 
 mod asked;

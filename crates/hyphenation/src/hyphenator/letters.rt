@@ -4,7 +4,8 @@ ghost use Rattle.std.specs.Prelude.{◌≡◌};
 ghost use Rattle.std.specs.Char.{is_ascii_lowercase};
 ghost use Rattle.std.specs.List.{list_all};
 
-/// Whether all of so many bytes are letters. Each is tested, whatever the others are, so that they can be tested at once.
+/// Whether all of so many bytes are letters. Each is tested, whatever the others are, so that they can be tested at
+/// once.
 #[inline(always)]
 fn are_letters_at_once<const N: usize>(bytes: &[u8; N]) -> bool
     ensures { result ≡ list_all is_ascii_lowercase bytes.now }

@@ -46,8 +46,8 @@ impl<'t, I: Breaks> Model for SegmentsExt<'t, I> {
 }
 
 impl<'t, I: Breaks> SegmentsExt<'t, I> {
-    /// All segments of the text, at breaks that fit it as `Word::fits` says, of a list that has not answered yet that it
-    /// is empty.
+    /// All segments of the text, at breaks that fit it as `Word::fits` says, of a list that has not answered yet that
+    /// it is empty.
     pub fn new(alloc: Global, text: &'t str, breaks: I) -> SegmentsExt<'t, I>
         requires fits { Fits text.now (I.to_come breaks) }
         requires open { I.is_over breaks ≡ false }
@@ -106,8 +106,8 @@ impl<'t, I: Breaks> Iterator for SegmentsExt<'t, I> {
 
     ghost remaining = { item_count (λ s. s) };
 
-    /// The next segment, or an error in its place where the memory for it is refused; the later ones are what they would
-    /// have been. After the last one it gives `None`, as often as it is asked, and the breaks are asked no more.
+    /// The next segment, or an error in its place where the memory for it is refused; the later ones are what they
+    /// would have been. After the last one it gives `None`, as often as it is asked, and the breaks are asked no more.
     fn next(&mut self) -> Option<Result<CowStr<'t>, AllocError>> {
         let start = self.start?;
         let text = self.text;

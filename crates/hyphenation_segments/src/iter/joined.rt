@@ -11,7 +11,8 @@ use crate::words::Word;
 use hyphenation_commons::breaks::Break;
 use std::alloc::AllocError;
 
-/// Appends what stands between a place and the end of a break's range, with the mark at the break. Where the range ends.
+/// Appends what stands between a place and the end of a break's range, with the mark at the break. Where the range
+/// ends.
 fn push_break<B: Break>(
     output: &mut String,
     text: &str,

@@ -90,9 +90,9 @@ impl<'m, I: Texts> Iterator for Hyphenating<'m, I> {
 
     ghost remaining = { item_count (λ s. I.texts s.0) };
 
-    /// The next text with its mark, or an error in its place where the memory for it is refused, here or by the iterator
-    /// inside; the later ones are what they would have been. After the last one it gives `None`, as often as it is
-    /// asked, and takes nothing more from the iterator inside.
+    /// The next text with its mark, or an error in its place where the memory for it is refused, here or by the
+    /// iterator inside; the later ones are what they would have been. After the last one it gives `None`, as often as
+    /// it is asked, and takes nothing more from the iterator inside.
     fn next(&mut self) -> Option<Result<String, AllocError>> {
         let alloc = self.alloc;
         if self.inner.left() == 0 {

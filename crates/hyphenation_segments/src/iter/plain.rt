@@ -35,8 +35,8 @@ impl<'t, I: Breaks<Item = usize>> Model for Segments<'t, I> {
 }
 
 impl<'t, I: Breaks<Item = usize>> Segments<'t, I> {
-    /// All segments of the text, at breaks that fit it as `Word::fits` says, of a list that has not answered yet that it
-    /// is empty.
+    /// All segments of the text, at breaks that fit it as `Word::fits` says, of a list that has not answered yet that
+    /// it is empty.
     pub fn new(text: &'t str, breaks: I) -> Segments<'t, I>
         requires fits { Fits text.now (I.to_come breaks) }
         requires open { I.is_over breaks ≡ false }
