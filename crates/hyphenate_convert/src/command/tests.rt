@@ -11,8 +11,8 @@ struct Answer {
     faults: Vec<u8>,
 }
 
-/// Fails, and names the case, where something does not hold. A test that asserts nothing itself is proved in a part of
-/// the time.
+/// Fails, and names the case, where something does not hold. A test that ends so is proved sooner than one with an
+/// assertion of the kit's.
 fn holds<C: Display + Drop>(is_so: bool, case: C) -> Result<(), Fail> {
     if is_so {
         Ok(())
