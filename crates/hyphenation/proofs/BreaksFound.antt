@@ -128,6 +128,12 @@ pub found_ascend : {C B : Type 0} (change_of : C → Option Change) (break_of : 
 found_ascend change_of break_of contents word bounds found kept u is =
     subst (λ o. IfSome o (λ listed. Ascending word listed)) (sym is) (by_exception_ascends (rules_of change_of break_of contents) word bounds (rules_are_sound change_of break_of contents word kept u))
 
+-- Listed breaks within bounds ascend.
+pub listed_ascend : {C B : Type 0} (change_of : C → Option Change) (break_of : B → Break) (contents : Contents C B) (word : List ℕ) (listed : List B) (bounds : ℕ × ℕ) (found : List Break) → IsDictionary change_of break_of contents → IsUtf8 word
+    → finite.get contents.exceptions word ≡ Some listed → found ≡ breaks_within (map break_of listed) bounds → Ascending word found
+listed_ascend change_of break_of contents word listed bounds found kept u is e =
+    found_ascend change_of break_of contents word bounds found kept u (exception_is change_of break_of contents word listed found bounds is e)
+
 pub won_ascend : {C B : Type 0} (change_of : C → Option Change) (break_of : B → Break) (contents : Contents C B) (word : List ℕ) (bounds : ℕ × ℕ) (found : List Break) → IsDictionary change_of break_of contents → IsUtf8 word
     → found ≡ by_patterns (rules_of change_of break_of contents) word bounds → Ascending word found
 won_ascend change_of break_of contents word bounds found kept u is =
