@@ -1,17 +1,24 @@
 //! Which extended texts are refused, with which line and cause, and which are accepted.
 
-use answers::{ends, extended};
+use answers::{ended, ends, extended, gives_in, same_in};
 use hyphenation::extended::Extended;
-use hyphenation::load::{Cause, Load};
+use hyphenation::load::{Cause, Error, Load};
 use hyphenation::{Language, Standard};
 use std::alloc::Global;
 use std::test::Fail;
 
+/// The line and the cause for which a text of this line is refused, if it is.
+fn fault_of(alloc: Global, line: &str) -> Option<(usize, Cause)> {
+    match extended(alloc, "2 2", line) {
+        Err(Error::Deserialization { line, cause }) => Some((line, cause)),
+        _ => None,
+    }
+}
+
 /// Fails where one of these lines is not refused for its cause, at line 4.
 fn refused(alloc: Global, cases: &[(&str, Cause)]) -> Result<(), Fail> {
     for (line, cause) in cases {
-        let wanted = format!(in alloc; "4 {cause:?}")?;
-        ends(alloc, extended(alloc, "2 2", line), &wanted)?;
+        same_in(*line, &fault_of(alloc, line), &Some((4, *cause)))?;
     }
     Ok(())
 }
@@ -40,7 +47,7 @@ fn changes_that_do_not_fit_are_refused(rt: HostRuntime) -> Result<(), Fail> {
 /// Fails where one of these lines is refused.
 fn accepted(alloc: Global, lines: &[&str]) -> Result<(), Fail> {
     for line in lines {
-        ends(alloc, extended(alloc, "2 2", line), "loaded")?;
+        gives_in(*line, ended(alloc, extended(alloc, "2 2", line)), "loaded")?;
     }
     Ok(())
 }

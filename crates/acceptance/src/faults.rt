@@ -1,6 +1,6 @@
 //! Readers and writers that fail, and readers that give few bytes at a time.
 
-use answers::{FIRKIN, ends, holds, same};
+use answers::{FIRKIN, ended, ends, gives_in, holds, same, same_in};
 use hyphenation::engine::{Kind, RunError, run_score};
 use hyphenation::load::{Error, Load};
 use hyphenation::{Language, Standard};
@@ -70,12 +70,23 @@ fn drip_ends(
     wanted: &str,
 ) -> Result<(), Fail> {
     let mut reader = dripping(length, fault);
-    ends(alloc, Standard::any_from_reader(alloc, &mut reader), wanted)
+    gives_in(
+        format_args!("{length} bytes"),
+        ended(alloc, Standard::any_from_reader(alloc, &mut reader)),
+        wanted,
+    )
+}
+
+/// Whether loading from a reader of the whole dictionary, which never fails, gives one of this language.
+fn is_of_language(alloc: Global, code: &str) -> bool {
+    let answer = Standard::any_from_reader(alloc, &mut dripping(FIRKIN.len(), None));
+    matches!(&answer, Ok(dictionary) if dictionary.language().code() == code)
 }
 
 #[test]
 fn a_reader_that_never_fails_meets_no_fault(rt: HostRuntime) -> Result<(), Fail> {
     drip_ends(rt.alloc(), FIRKIN.len(), None, "loaded")?;
+    holds(is_of_language(rt.alloc(), "en-gb"), "the language is en-gb")?;
     drip_ends(rt.alloc(), 40, None, "3 Minima")
 }
 
@@ -133,7 +144,7 @@ fn a_writer_that_fails_is_a_fault_of_the_output(rt: HostRuntime) -> Result<(), F
             &mut writer,
         );
         holds(matches!(answer, Err(RunError::Output(_))), room)?;
-        same(&writer.taken, &room)?;
+        same_in(format_args!("room {room}"), &writer.taken, &room)?;
     }
     let mut reader = FIRKIN.as_bytes();
     let mut writer = Narrow { room: 10, taken: 0 };
@@ -147,7 +158,7 @@ fn a_writer_that_fails_is_a_fault_of_the_output(rt: HostRuntime) -> Result<(), F
             &mut writer,
         )
         .is_ok(),
-        "nothing is written",
+        "the line has room in ten bytes",
     )?;
     same(&writer.taken, &10)
 }
@@ -170,7 +181,7 @@ fn a_run_that_is_refused_writes_nothing(rt: HostRuntime) -> Result<(), Fail> {
             answer,
             Err(RunError::Dictionary(Error::LanguageMismatch { .. }))
         ),
-        "the error",
+        "another language is told",
     )?;
     same(&writer.taken, &0)
 }

@@ -1,6 +1,6 @@
 //! Dictionaries in files, and files of one byte.
 
-use answers::{AMERICAN, DOUBLED, Question, asked, ends, gives};
+use answers::{AMERICAN, DOUBLED, Question, asked, ended, ends, gives, gives_in};
 use hyphenation::extended::Extended;
 use hyphenation::load::{Error, Load};
 use hyphenation::{Language, Standard};
@@ -85,9 +85,9 @@ fn an_extended_dictionary_is_loaded_from_a_file(rt: HostRuntime) -> Result<(), F
 
 /// Fails where a text of this byte alone is not refused so.
 fn byte_ends(alloc: Global, byte: u8, wanted: &str) -> Result<(), Fail> {
-    ends(
-        alloc,
-        Standard::any_from_reader(alloc, &mut &[byte][..]),
+    gives_in(
+        format_args!("byte {byte}"),
+        ended(alloc, Standard::any_from_reader(alloc, &mut &[byte][..])),
         wanted,
     )
 }

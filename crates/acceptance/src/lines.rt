@@ -1,7 +1,7 @@
 //! Lines of a column width: worked examples, runs and their faults, and the number of lines beside all divisions.
 
 use crate::run_faults::{failing_once, is_torn, torn};
-use answers::{holds, same};
+use answers::{gives_in, holds, same, same_bytes, wrote};
 use hyphenation::engine::RunError;
 use hyphenation::{Language, Load, Standard};
 use linefill::{fill, run_fill};
@@ -54,8 +54,11 @@ fn lines_end_at_the_greatest_cut_that_fits_or_at_the_least(rt: HostRuntime) -> R
         ("", 5, ""),
     ];
     for (text, columns, wanted) in cases {
-        let lines = barred(rt.alloc(), text, columns)?;
-        same(&lines.as_str(), &wanted)?;
+        gives_in(
+            format_args!("{text:?} in {columns}"),
+            barred(rt.alloc(), text, columns),
+            wanted,
+        )?;
     }
     Ok(())
 }
@@ -168,6 +171,14 @@ fn run_in<D: Read, I: Read, O: Write>(
     )
 }
 
+/// Fails where a run over a text does not write these lines of ten columns.
+fn writes(alloc: Global, text: &str, lines: &str) -> Result<(), Fail> {
+    let mut output: Vec<u8> = Vec::new(alloc);
+    let mut input = text.as_bytes();
+    let end = run_in(alloc, 10, &mut VERSE.as_bytes(), &mut input, &mut output);
+    wrote(format_args!("{text:?}"), end, &output, lines.as_bytes())
+}
+
 #[test]
 fn lines_are_written_each_with_a_line_feed(rt: HostRuntime) -> Result<(), Fail> {
     let cases: [(&str, &str); 3] = [
@@ -175,18 +186,8 @@ fn lines_are_written_each_with_a_line_feed(rt: HostRuntime) -> Result<(), Fail> 
         ("noble\n", "noble\n\n"),
         ("", ""),
     ];
-    for (text, wanted) in cases {
-        let mut output: Vec<u8> = Vec::new(rt.alloc());
-        let mut input = text.as_bytes();
-        let end = run_in(
-            rt.alloc(),
-            10,
-            &mut VERSE.as_bytes(),
-            &mut input,
-            &mut output,
-        );
-        holds(end.is_ok(), text)?;
-        same(&output.as_slice(), &wanted.as_bytes())?;
+    for (text, lines) in cases {
+        writes(rt.alloc(), text, lines)?;
     }
     Ok(())
 }
@@ -214,7 +215,7 @@ fn a_torn_dictionary_is_answered_before_a_torn_text(rt: HostRuntime) -> Result<(
     let ran = run_to_end(rt.alloc(), &mut dictionary, &mut torn(b"", 1));
     holds(
         matches!(&ran.end, Err(RunError::Dictionary(e)) if is_torn(e)),
-        "the error",
+        "the dictionary is torn",
     )?;
     same(&ran.taken, &0)
 }
@@ -225,7 +226,7 @@ fn a_refused_dictionary_is_answered_before_a_torn_text(rt: HostRuntime) -> Resul
     let ran = run_to_end(rt.alloc(), &mut dictionary, &mut torn(b"", 1));
     holds(
         matches!(&ran.end, Err(RunError::Dictionary(_))),
-        "the error",
+        "the dictionary is refused",
     )?;
     same(&ran.taken, &0)
 }
@@ -236,7 +237,7 @@ fn a_torn_text_is_answered_before_its_bytes_are_judged(rt: HostRuntime) -> Resul
     let ran = run_to_end(rt.alloc(), &mut VERSE.as_bytes(), &mut input);
     holds(
         matches!(&ran.end, Err(RunError::Input(e)) if e.kind() == ErrorKind::ConnectionReset),
-        "the error",
+        "the text is torn",
     )?;
     same(&ran.taken, &0)
 }
@@ -245,7 +246,10 @@ fn a_torn_text_is_answered_before_its_bytes_are_judged(rt: HostRuntime) -> Resul
 fn a_text_that_is_not_utf_8_is_not_filled(rt: HostRuntime) -> Result<(), Fail> {
     let mut input = &b"noble \xff"[..];
     let ran = run_to_end(rt.alloc(), &mut VERSE.as_bytes(), &mut input);
-    holds(matches!(&ran.end, Err(RunError::TextNotUtf8)), "the error")?;
+    holds(
+        matches!(&ran.end, Err(RunError::TextNotUtf8)),
+        "the text is not UTF-8",
+    )?;
     same(&ran.taken, &0)
 }
 
@@ -272,7 +276,7 @@ fn a_writer_that_fails_once_has_a_beginning_of_the_lines(rt: HostRuntime) -> Res
             matches!(&end, Err(RunError::Output(e)) if e.kind() == ErrorKind::BrokenPipe),
             number,
         )?;
-        same(&output.taken.as_slice(), &&lines[..number - 1])?;
+        same_bytes(number, &output.taken, &lines[..number - 1])?;
     }
     Ok(())
 }

@@ -1,7 +1,7 @@
 //! Readers that give their bytes in pieces, and readers and writers that fail once and then go on.
 
 use crate::run_faults::{LEAST, failing_once, is_torn};
-use answers::{AMERICAN, holds, same};
+use answers::{AMERICAN, holds, same_bytes};
 use hyphenation::engine::{Kind, RunError, run, run_score};
 use hyphenation::extended::Extended;
 use hyphenation::load::{Error, Load};
@@ -322,7 +322,7 @@ fn a_write_that_fails_once_ends_a_line_of_values(rt: HostRuntime) -> Result<(), 
             &mut output,
         );
         holds(matches!(end, Err(RunError::Output(_))), number)?;
-        same(&output.taken.as_slice(), &&line[..number - 1])?;
+        same_bytes(number, &output.taken, &line[..number - 1])?;
     }
     Ok(())
 }

@@ -1,6 +1,6 @@
 //! Runs over readers and writers that fail: each fault is told as it was, and nothing is written before it is known.
 
-use answers::{AMERICAN, holds, same};
+use answers::{AMERICAN, holds, same, same_bytes, same_in, wrote};
 use hyphenation::engine::{Kind, RunError, run, run_score};
 use hyphenation::load::{Error, Load};
 use hyphenation::{Language, Standard};
@@ -168,7 +168,10 @@ fn a_torn_dictionary_is_a_fault_of_reading_at_each_read(rt: HostRuntime) -> Resu
 fn a_faulty_line_before_the_fault_is_not_judged(rt: HostRuntime) -> Result<(), Fail> {
     let mut reader = torn(b"no head\n", 9);
     let answer = Standard::any_from_reader(rt.alloc(), &mut reader);
-    holds(matches!(&answer, Err(e) if is_torn(e)), "the error")
+    holds(
+        matches!(&answer, Err(e) if is_torn(e)),
+        "a torn dictionary is told",
+    )
 }
 
 #[test]
@@ -185,7 +188,7 @@ fn a_torn_input_is_told_at_each_read_and_nothing_is_written(rt: HostRuntime) -> 
             matches!(&end, Err(RunError::Input(e)) if e.kind() == ErrorKind::ConnectionReset),
             number,
         )?;
-        same(&output.taken.len(), &0)?;
+        same_in(number, &output.taken.len(), &0)?;
     }
     Ok(())
 }
@@ -199,8 +202,7 @@ fn readers_of_one_byte_a_read_change_nothing(rt: HostRuntime) -> Result<(), Fail
         &mut torn(TEXT, usize::MAX),
         &mut output,
     );
-    holds(end.is_ok(), "it ends well")?;
-    same(&output.taken.as_slice(), &MARKED)
+    wrote("one byte a read", end, &output.taken, MARKED)
 }
 
 #[test]
@@ -217,7 +219,10 @@ fn an_input_that_wants_memory_is_want_of_memory(rt: HostRuntime) -> Result<(), F
         &mut input,
         &mut output,
     );
-    holds(matches!(end, Err(RunError::Memory)), "the error")?;
+    holds(
+        matches!(end, Err(RunError::Memory)),
+        "want of memory is told",
+    )?;
     same(&output.taken.len(), &0)
 }
 
@@ -235,7 +240,7 @@ fn a_writer_that_fails_once_has_a_beginning_of_the_result(rt: HostRuntime) -> Re
             matches!(&end, Err(RunError::Output(e)) if e.kind() == ErrorKind::BrokenPipe),
             number,
         )?;
-        same(&output.taken.as_slice(), &&MARKED[..number - 1])?;
+        same_bytes(number, &output.taken, &MARKED[..number - 1])?;
     }
     Ok(())
 }

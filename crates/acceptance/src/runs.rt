@@ -1,10 +1,11 @@
 //! Whole texts: what a run writes, and why it writes nothing.
 
-use answers::{AMERICAN, DOUBLED, gives, holds, same};
+use answers::{AMERICAN, DOUBLED, gives, holds, same, wrote};
 use hyphenation::engine::{Kind, RunError, run};
 use hyphenation::load::{Cause, Error, Load};
 use hyphenation::{Language, Standard, hyphenate_text};
 use std::alloc::{AllocError, Global};
+use std::fmt::Display;
 use std::test::Fail;
 
 /// What a run wrote, and how it ended.
@@ -14,34 +15,32 @@ struct Run {
     output: Vec<u8>,
 }
 
-/// A run by a standard dictionary of American English.
-fn run_by(
-    alloc: Global,
-    dictionary: &str,
-    edits: &[&str],
-    mark: &str,
-    text: &[u8],
-) -> Result<Run, Fail> {
-    run_of(
-        alloc,
-        Kind::Standard,
-        Language::english_us(),
-        dictionary,
-        edits,
-        mark,
-        text,
-    )
+impl Run {
+    /// Fails, and names the case, where the run has failed or has not written this text.
+    fn has_written<C: Display + Drop>(self, case: C, text: &str) -> Result<(), Fail> {
+        let Run { end, output } = self;
+        wrote(case, end, &output, text.as_bytes())
+    }
+
+    /// Whether the edit of this number is refused, and nothing is written.
+    fn is_refused_at(self, number: usize) -> bool {
+        matches!(self.end, Err(RunError::Edit(k)) if k == number) && self.output.is_empty()
+    }
 }
 
-fn run_of(
+/// A run by a dictionary: a standard one of American English, or an extended one of Hungarian.
+fn run_by(
     alloc: Global,
     kind: Kind,
-    language: Language,
     dictionary: &str,
     edits: &[&str],
     mark: &str,
     text: &[u8],
-) -> Result<Run, Fail> {
+) -> Run {
+    let language = match kind {
+        Kind::Standard => Language::english_us(),
+        Kind::Extended => Language::hungarian(),
+    };
     let mut dictionary = dictionary.as_bytes();
     let mut input = text;
     let mut output: Vec<u8> = Vec::new(alloc);
@@ -55,7 +54,35 @@ fn run_of(
         &mut input,
         &mut output,
     );
-    Ok(Run { end, output })
+    Run { end, output }
+}
+
+/// A run after edits: by a standard dictionary over `Firkin, firkins.`, or by an extended one over `Az asszonnyal.`.
+fn run_after(alloc: Global, kind: Kind, edits: &[&str]) -> Run {
+    let (dictionary, text) = match kind {
+        Kind::Standard => (AMERICAN, "Firkin, firkins."),
+        Kind::Extended => (DOUBLED, "Az asszonnyal."),
+    };
+    run_by(alloc, kind, dictionary, edits, "-", text.as_bytes())
+}
+
+/// Fails where a run after edits does not write this text, for each case.
+fn writes_after(alloc: Global, kind: Kind, cases: &[(&[&str], &str)]) -> Result<(), Fail> {
+    for (edits, text) in cases {
+        run_after(alloc, kind, edits).has_written(format_args!("{edits:?}"), text)?;
+    }
+    Ok(())
+}
+
+/// Fails where a run after edits is not refused at the edit of this number, for each case.
+fn refuses_after(alloc: Global, kind: Kind, cases: &[(&[&str], usize)]) -> Result<(), Fail> {
+    for (edits, number) in cases {
+        holds(
+            run_after(alloc, kind, edits).is_refused_at(*number),
+            format_args!("{edits:?}: edit {number} is refused"),
+        )?;
+    }
+    Ok(())
 }
 
 #[test]
@@ -100,9 +127,15 @@ fn each_piece_between_word_bounds_is_hyphenated(rt: HostRuntime) -> Result<(), F
         ),
     ];
     for (dictionary, mark, text, wanted) in cases {
-        let ran = run_by(rt.alloc(), dictionary, &[], mark, text.as_bytes())?;
-        holds(ran.end.is_ok(), text)?;
-        same(&ran.output.as_slice(), &wanted.as_bytes())?;
+        let ran = run_by(
+            rt.alloc(),
+            Kind::Standard,
+            dictionary,
+            &[],
+            mark,
+            text.as_bytes(),
+        );
+        ran.has_written(format_args!("{text:?} with {mark:?}"), wanted)?;
     }
     Ok(())
 }
@@ -121,12 +154,7 @@ fn edits_are_done_from_first_to_last(rt: HostRuntime) -> Result<(), Fail> {
             "Firkin, firk-ins.",
         ),
     ];
-    for (edits, wanted) in cases {
-        let ran = run_by(rt.alloc(), AMERICAN, edits, "-", b"Firkin, firkins.")?;
-        holds(ran.end.is_ok(), format_args!("{edits:?}"))?;
-        same(&ran.output.as_slice(), &wanted.as_bytes())?;
-    }
-    Ok(())
+    writes_after(rt.alloc(), Kind::Standard, &cases)
 }
 
 #[test]
@@ -153,21 +181,22 @@ fn the_first_edit_that_is_refused_is_told(rt: HostRuntime) -> Result<(), Fail> {
         (&["+firkins 3", "-a", "+a\r"], 3),
         (&["+a", "+b 2", "+c 2"], 2),
     ];
-    for (edits, number) in cases {
-        let ran = run_by(rt.alloc(), AMERICAN, edits, "-", b"Firkin, firkins.")?;
-        holds(
-            matches!(ran.end, Err(RunError::Edit(k)) if k == number),
-            format_args!("{edits:?}"),
-        )?;
-        same(&ran.output.len(), &0)?;
-    }
-    let ran = run_by(rt.alloc(), AMERICAN, &["-\\e", "+a\\sb 1"], "-", b"")?;
-    holds(ran.end.is_ok(), "it ends well")
+    refuses_after(rt.alloc(), Kind::Standard, &cases)?;
+    let edits = ["-\\e", "+a\\sb 1"];
+    let ran = run_by(rt.alloc(), Kind::Standard, AMERICAN, &edits, "-", b"");
+    ran.has_written(format_args!("{edits:?}"), "")
 }
 
 #[test]
 fn a_dictionary_is_judged_before_edits_and_text(rt: HostRuntime) -> Result<(), Fail> {
-    let ran = run_by(rt.alloc(), "", &["+firkins 8"], "-", b"\xff")?;
+    let ran = run_by(
+        rt.alloc(),
+        Kind::Standard,
+        "",
+        &["+firkins 8"],
+        "-",
+        b"\xff",
+    );
     holds(
         matches!(
             ran.end,
@@ -176,30 +205,53 @@ fn a_dictionary_is_judged_before_edits_and_text(rt: HostRuntime) -> Result<(), F
                 cause: Cause::Header
             }))
         ),
-        "the error",
+        "a fault of the head is told",
     )?;
     let other = "hyphenation 1 standard\nlanguage hu\nminima 2 3\n";
-    let ran = run_by(rt.alloc(), other, &["+firkins 8"], "-", b"\xff")?;
+    let ran = run_by(
+        rt.alloc(),
+        Kind::Standard,
+        other,
+        &["+firkins 8"],
+        "-",
+        b"\xff",
+    );
     holds(
         matches!(
             ran.end,
             Err(RunError::Dictionary(Error::LanguageMismatch { .. }))
         ),
-        "the error",
+        "another language is told",
     )
 }
 
 #[test]
 fn edits_are_judged_before_the_text(rt: HostRuntime) -> Result<(), Fail> {
-    let ran = run_by(rt.alloc(), AMERICAN, &["+firkins 8"], "-", b"\xff")?;
-    holds(matches!(ran.end, Err(RunError::Edit(1))), "the error")?;
-    same(&ran.output.len(), &0)
+    let ran = run_by(
+        rt.alloc(),
+        Kind::Standard,
+        AMERICAN,
+        &["+firkins 8"],
+        "-",
+        b"\xff",
+    );
+    holds(ran.is_refused_at(1), "edit 1 is refused")
 }
 
 #[test]
 fn a_text_that_is_not_utf_8_is_refused(rt: HostRuntime) -> Result<(), Fail> {
-    let ran = run_by(rt.alloc(), AMERICAN, &["-other"], "-", b"firkin \xff")?;
-    holds(matches!(ran.end, Err(RunError::TextNotUtf8)), "the error")?;
+    let ran = run_by(
+        rt.alloc(),
+        Kind::Standard,
+        AMERICAN,
+        &["-other"],
+        "-",
+        b"firkin \xff",
+    );
+    holds(
+        matches!(ran.end, Err(RunError::TextNotUtf8)),
+        "the text is not UTF-8",
+    )?;
     same(&ran.output.len(), &0)
 }
 
@@ -215,20 +267,7 @@ fn letters_are_changed_where_a_text_is_broken(rt: HostRuntime) -> Result<(), Fai
             "Az asszony-nyal.",
         ),
     ];
-    for (edits, wanted) in cases {
-        let ran = run_of(
-            rt.alloc(),
-            Kind::Extended,
-            Language::hungarian(),
-            DOUBLED,
-            edits,
-            "-",
-            b"Az asszonnyal.",
-        )?;
-        holds(ran.end.is_ok(), format_args!("{edits:?}"))?;
-        same(&ran.output.as_slice(), &wanted.as_bytes())?;
-    }
-    Ok(())
+    writes_after(rt.alloc(), Kind::Extended, &cases)
 }
 
 #[test]
@@ -239,23 +278,7 @@ fn edits_of_an_extended_dictionary_are_judged_by_its_kind(rt: HostRuntime) -> Re
         (&["-asszonnyal 2"], 1),
         (&["+asszonnyal 2,1,2,2,szsz", "+a 2"], 2),
     ];
-    for (edits, number) in cases {
-        let ran = run_of(
-            rt.alloc(),
-            Kind::Extended,
-            Language::hungarian(),
-            DOUBLED,
-            edits,
-            "-",
-            b"Az asszonnyal.",
-        )?;
-        holds(
-            matches!(ran.end, Err(RunError::Edit(k)) if k == number),
-            format_args!("{edits:?}"),
-        )?;
-        same(&ran.output.len(), &0)?;
-    }
-    Ok(())
+    refuses_after(rt.alloc(), Kind::Extended, &cases)
 }
 
 /// Three texts after another, hyphenated by a dictionary.

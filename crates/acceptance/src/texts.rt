@@ -1,6 +1,6 @@
 //! Which texts are refused, with which line and cause, and which are accepted.
 
-use answers::{gives, holds, same};
+use answers::{gives, holds, same_in};
 use hyphenation::load::{Cause, Error, Load};
 use hyphenation::{Language, Standard};
 use std::alloc::{AllocError, Global};
@@ -21,6 +21,25 @@ fn refusal(alloc: Global, text: &[u8]) -> Option<(usize, Cause)> {
         Err(Error::Deserialization { line, cause }) => Some((line, cause)),
         _ => None,
     }
+}
+
+/// The head and then these bytes.
+fn with_line(alloc: Global, line: &[u8]) -> Result<Vec<u8>, AllocError> {
+    let mut text = Vec::from_slice(alloc, HEAD.as_bytes())?;
+    text.extend_from_slice(line)?;
+    Ok(text)
+}
+
+/// The line and cause for which a text of the head and then these bytes is refused.
+fn refusal_after_head(alloc: Global, line: &[u8]) -> Result<Option<(usize, Cause)>, AllocError> {
+    let text = with_line(alloc, line)?;
+    Ok(refusal(alloc, &text))
+}
+
+/// Whether a text of the head and then these bytes is accepted.
+fn is_accepted_after_head(alloc: Global, line: &[u8]) -> Result<bool, AllocError> {
+    let text = with_line(alloc, line)?;
+    Ok(accepted(alloc, &text).is_ok())
 }
 
 #[test]
@@ -77,8 +96,11 @@ fn faulty_heads_are_refused_with_line_and_cause(rt: HostRuntime) -> Result<(), F
         ),
     ];
     for (text, line, cause) in cases {
-        let found = refusal(rt.alloc(), text.as_bytes());
-        same(&found, &Some((line, cause)))?;
+        same_in(
+            format_args!("{text:?}"),
+            &refusal(rt.alloc(), text.as_bytes()),
+            &Some((line, cause)),
+        )?;
     }
     Ok(())
 }
@@ -120,8 +142,8 @@ fn faulty_lines_are_refused_with_line_and_cause(rt: HostRuntime) -> Result<(), F
         (b"p a1b 9", Cause::Place),
     ];
     for (line, cause) in cases {
-        let text = with_line(rt.alloc(), line)?;
-        same(&refusal(rt.alloc(), &text), &Some((4, cause)))?;
+        let found = refusal_after_head(rt.alloc(), line)?;
+        same_in(line.escape_ascii(), &found, &Some((4, cause)))?;
     }
     Ok(())
 }
@@ -136,8 +158,8 @@ fn changes_are_refused_in_a_standard_text(rt: HostRuntime) -> Result<(), Fail> {
         b"e ab 1,0",
     ];
     for line in cases {
-        let text = with_line(rt.alloc(), line)?;
-        same(&refusal(rt.alloc(), &text), &Some((4, Cause::Change)))?;
+        let found = refusal_after_head(rt.alloc(), line)?;
+        same_in(line.escape_ascii(), &found, &Some((4, Cause::Change)))?;
     }
     Ok(())
 }
@@ -156,8 +178,8 @@ fn repeated_items_are_refused_at_the_later_line(rt: HostRuntime) -> Result<(), F
         (b"p a1b\nx\np a1b", 5, Cause::UnknownLine),
     ];
     for (lines, number, cause) in cases {
-        let text = with_line(rt.alloc(), lines)?;
-        same(&refusal(rt.alloc(), &text), &Some((number, cause)))?;
+        let found = refusal_after_head(rt.alloc(), lines)?;
+        same_in(lines.escape_ascii(), &found, &Some((number, cause)))?;
     }
     Ok(())
 }
@@ -183,10 +205,9 @@ fn these_lines_are_accepted(rt: HostRuntime) -> Result<(), Fail> {
         b"e \xc3\xa9 0 2",
     ];
     for line in cases {
-        let text = with_line(rt.alloc(), line)?;
         holds(
-            accepted(rt.alloc(), &text).is_ok(),
-            format_args!("{line:?}"),
+            is_accepted_after_head(rt.alloc(), line)?,
+            line.escape_ascii(),
         )?;
     }
     Ok(())
@@ -220,7 +241,7 @@ fn each_beginning_of_a_text_is_refused_where_it_ends(rt: HostRuntime) -> Result<
             50 => Some((4, Cause::UnknownLine)),
             _ => Some((4, Cause::Token)),
         };
-        same(&refusal(rt.alloc(), &text[..length]), &expected)?;
+        same_in(length, &refusal(rt.alloc(), &text[..length]), &expected)?;
     }
     Ok(())
 }
@@ -242,10 +263,14 @@ fn another_language_is_a_mismatch(rt: HostRuntime) -> Result<(), Fail> {
 #[test]
 fn a_refusal_says_its_line_and_cause(rt: HostRuntime) -> Result<(), Fail> {
     let text = b"hyphenation 1 standard\nlanguage hu\nminima 2 2\np a12b";
-    let message = message_of(rt.alloc(), &accepted(rt.alloc(), text))?;
-    same(&message.as_str(), &"line 4: two values in one place")?;
-    let message = message_of(rt.alloc(), &Err(Error::Memory(AllocError)))?;
-    same(&message.as_str(), &"no memory")
+    gives(
+        message_of(rt.alloc(), &accepted(rt.alloc(), text)),
+        "line 4: two values in one place",
+    )?;
+    gives(
+        message_of(rt.alloc(), &Err(Error::Memory(AllocError))),
+        "no memory",
+    )
 }
 
 /// What a refusal says; nothing of a dictionary.
@@ -254,11 +279,4 @@ fn message_of(alloc: Global, answer: &Result<Standard, Error>) -> Result<String,
         Ok(_) => Ok(String::new(alloc)),
         Err(error) => format!(in alloc; "{error}"),
     }
-}
-
-/// The head and then these bytes.
-fn with_line(alloc: Global, line: &[u8]) -> Result<Vec<u8>, AllocError> {
-    let mut text = Vec::from_slice(alloc, HEAD.as_bytes())?;
-    text.extend_from_slice(line)?;
-    Ok(text)
 }

@@ -1,6 +1,6 @@
 //! Texts of version 2, in which values from 10 to 255 stand in braces, and what version 1 says to braces.
 
-use answers::{Question, asked, ends, gives, same, values_by};
+use answers::{Question, asked, ends, gives, same_in, values_by};
 use hyphenation::extended::Extended;
 use hyphenation::load::{Cause, Error, Load};
 use hyphenation::{Language, Standard};
@@ -90,29 +90,32 @@ fn braces_that_write_no_value_are_told(rt: HostRuntime) -> Result<(), Fail> {
     ];
     for (line, cause) in cases {
         let fault = fault_of(rt.alloc(), "hyphenation 2 standard", line);
-        same(&fault, &Some((4, cause)))?;
+        same_in(line, &fault, &Some((4, cause)))?;
     }
     Ok(())
 }
 
 #[test]
 fn in_version_1_braces_are_letters(rt: HostRuntime) -> Result<(), Fail> {
-    let alloc = rt.alloc();
-    let head = "hyphenation 1 standard";
-    same(
-        &fault_of(alloc, head, "p a{10}b"),
-        &Some((4, Cause::Pattern)),
-    )?;
-    same(&fault_of(alloc, head, "p \\{1"), &Some((4, Cause::Token)))?;
-    same(&fault_of(alloc, head, "p {1}"), &None)?;
-    same(
-        &fault_of(alloc, "hyphenation 3 standard", "p a1b"),
-        &Some((1, Cause::Header)),
-    )?;
-    same(
-        &fault_of(alloc, "hyphenation 2 extended", "p a1b"),
-        &Some((1, Cause::Header)),
-    )
+    let cases: [(&str, &str, Option<(usize, Cause)>); 5] = [
+        (
+            "hyphenation 1 standard",
+            "p a{10}b",
+            Some((4, Cause::Pattern)),
+        ),
+        ("hyphenation 1 standard", "p \\{1", Some((4, Cause::Token))),
+        ("hyphenation 1 standard", "p {1}", None),
+        ("hyphenation 3 standard", "p a1b", Some((1, Cause::Header))),
+        ("hyphenation 2 extended", "p a1b", Some((1, Cause::Header))),
+    ];
+    for (head, line, wanted) in cases {
+        same_in(
+            format_args!("{head}: {line}"),
+            &fault_of(rt.alloc(), head, line),
+            &wanted,
+        )?;
+    }
+    Ok(())
 }
 
 #[test]

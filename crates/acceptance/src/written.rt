@@ -1,6 +1,6 @@
 //! Dictionaries written again: the order of lines, escapes, and the choice of the version.
 
-use answers::{gives, holds, listing, places, rewritten, same, standard};
+use answers::{gives, holds, listing, places, rewritten, same_bytes, standard};
 use hyphenation::extended::Extended;
 use hyphenation::load::{Error, Load};
 use hyphenation::{Language, Standard};
@@ -21,9 +21,9 @@ fn lines_ascend_and_nothing_idle_is_written(rt: HostRuntime) -> Result<(), Fail>
     let wanted =
         "hyphenation 1 extended\nlanguage hu\nminima 2 2\np .fi2\np a1b 1,1,0,1,x\np s1szo\ne \\e\ne kilim 2\n";
     let written = rewritten::<Extended>(rt.alloc(), text.as_bytes())?;
-    same(&written.as_slice(), &wanted.as_bytes())?;
+    same_bytes("once", &written, wanted.as_bytes())?;
     let again = rewritten::<Extended>(rt.alloc(), &written)?;
-    same(&again.as_slice(), &wanted.as_bytes())
+    same_bytes("again", &again, wanted.as_bytes())
 }
 
 const FIRST: &str = "hyphenation 1 standard";
@@ -106,7 +106,7 @@ fn an_extended_text_is_written_as_is_canonical(rt: HostRuntime) -> Result<(), Fa
         holds(is_kept(rt.alloc(), FIRST_EXTENDED, lines)?, lines)?;
     }
     let second = "p \\{a{11}b 2,1,1,1,{1}";
-    holds(is_kept(rt.alloc(), SECOND_EXTENDED, second)?, "it is kept")
+    holds(is_kept(rt.alloc(), SECOND_EXTENDED, second)?, second)
 }
 
 #[test]
@@ -162,7 +162,7 @@ fn an_edited_dictionary_is_written(rt: HostRuntime) -> Result<(), Fail> {
     let written = edited(rt.alloc())?;
     let wanted =
         b"hyphenation 1 standard\nlanguage en-gb\nminima 2 3\np .fi2\np i2r\np k1in\np k2in.\np r2k\np r5kin\ne firkins 3\n";
-    same(&written.as_slice(), &wanted.as_slice())
+    same_bytes("after an edit", &written, wanted)
 }
 
 /// The breaks of words by the dictionary that is read from that text.
@@ -242,11 +242,11 @@ fn is_told_at_each(alloc: Global, kind: ErrorKind) -> Result<bool, Error> {
 fn a_fault_of_the_writer_is_told(rt: HostRuntime) -> Result<(), Fail> {
     holds(
         is_told_at_each(rt.alloc(), ErrorKind::BrokenPipe)?,
-        "each fault is told",
+        "each broken pipe is told",
     )?;
     holds(
         is_told_at_each(rt.alloc(), ErrorKind::OutOfMemory)?,
-        "each fault is told",
+        "each want of memory is told",
     )
 }
 

@@ -1,10 +1,9 @@
 //! Awkward words: dots, edges, soft hyphens, NUL, combining characters, joined emoji, and the least and the greatest
 //! minima. Each is asked of dictionaries of both kinds.
 
-use crate::changes;
 use crate::changes::changed_by;
 use crate::long_texts::repeated;
-use answers::{Question, asked, extended, gives, push_next, same, standard};
+use answers::{Question, asked, extended, gives, same_in, standard};
 use hyphenation::Standard;
 use hyphenation::hyphenator::Hyphenator;
 use hyphenation::load::Error;
@@ -120,7 +119,8 @@ fn bounded(
     word: &str,
     wanted: Option<(usize, usize)>,
 ) -> Result<(), Fail> {
-    same(&boundaries(alloc, minima, word)?, &[wanted; 2])
+    let found = boundaries(alloc, minima, word)?;
+    same_in(format_args!("{word:?} by {minima}"), &found, &[wanted; 2])
 }
 
 #[test]
@@ -292,33 +292,11 @@ fn capitals_are_broken_alike_by_both_kinds(rt: HostRuntime) -> Result<(), Fail> 
     gives(placed(rt.alloc(), "1 1", lines, "İẞab ȺAB"), "5 ,3 ,")
 }
 
-/// The items of a word, the second and later ones with another mark, each after the number of those that are left.
-fn marked_anew(
-    alloc: Global,
-    dictionary: Result<Standard, Error>,
-    word: &str,
-) -> Result<String, Fail> {
-    Ok(anew(alloc, &dictionary?, word)?)
-}
-
-/// The same of a dictionary that was loaded.
-fn anew(alloc: Global, dictionary: &Standard, word: &str) -> Result<String, AllocError> {
-    let found = dictionary.hyphenate(alloc, word)?;
-    let number = found.breaks.len().saturating_add(3);
-    let mut items = found.into_iter();
-    let mut output = String::new(alloc);
-    for _ in 0..number {
-        push_next(&mut output, alloc, &mut items)?;
-        items.mark_with("=");
-    }
-    Ok(output)
-}
-
 #[test]
 fn a_new_mark_holds_for_the_items_to_come(rt: HostRuntime) -> Result<(), Fail> {
     let dictionary = standard(rt.alloc(), "2 3", "e hyphenation 2 6 7");
     gives(
-        marked_anew(rt.alloc(), dictionary, "hyphenation"),
+        asked(rt.alloc(), dictionary, Question::Anew("hyphenation")),
         "4 hy-,3 phen=,2 a=,1 tion,0 none,0 none,",
     )
 }
@@ -326,14 +304,17 @@ fn a_new_mark_holds_for_the_items_to_come(rt: HostRuntime) -> Result<(), Fail> {
 #[test]
 fn the_empty_word_is_one_item(rt: HostRuntime) -> Result<(), Fail> {
     let dictionary = standard(rt.alloc(), "0 0", "e \\e 0");
-    gives(marked_anew(rt.alloc(), dictionary, ""), "1 ,0 none,0 none,")
+    gives(
+        asked(rt.alloc(), dictionary, Question::Anew("")),
+        "1 ,0 none,0 none,",
+    )
 }
 
 #[test]
 fn the_empty_word_is_one_item_of_an_extended_dictionary(rt: HostRuntime) -> Result<(), Fail> {
     let dictionary = extended(rt.alloc(), "0 0", "e \\e 0");
     gives(
-        changes::marked_anew(rt.alloc(), dictionary, ""),
+        asked(rt.alloc(), dictionary, Question::Anew("")),
         "1 ,0 none,0 none,",
     )
 }

@@ -1,12 +1,12 @@
 //! The scores of words by extended dictionaries, and the values alone that a run writes.
 
-use answers::{FIRKIN, Question, asked, extended, extended_text, gives, holds, same};
+use crate::scores::look_ups;
+use answers::{FIRKIN, Question, asked, extended, extended_text, gives, holds, same, wrote};
 use hyphenation::Language;
 use hyphenation::engine::{Kind, RunError, run_score};
-use hyphenation::extended::Extended;
 use hyphenation::load::{Cause, Error};
-use hyphenation::score::{LookUps, Score};
-use std::alloc::{AllocError, Global};
+use hyphenation::score::LookUps;
+use std::alloc::Global;
 use std::test::Fail;
 
 /// The values and changes of words by an extended dictionary of these lines.
@@ -60,22 +60,17 @@ fn counted(alloc: Global, lines: &str, word: &str) -> Result<LookUps, Fail> {
     Ok(look_ups(alloc, &extended(alloc, "1 1", lines)?, word)?)
 }
 
-/// The same of a dictionary that was loaded.
-fn look_ups(alloc: Global, dictionary: &Extended, word: &str) -> Result<LookUps, AllocError> {
-    let mut count = LookUps::new();
-    let _values = dictionary.score_counted(alloc, word, &mut count)?;
-    Ok(count)
-}
-
 #[test]
 fn a_changed_score_takes_few_look_ups(rt: HostRuntime) -> Result<(), Fail> {
-    let count = counted(rt.alloc(), "p a1b 1,1,0,1,x\np ca1bd\np d1d", "cabd")?;
-    holds(6 <= count.made() && count.made() <= 12, "the look-ups")?;
-    same(&count.reported(), &2)
+    let lines = "p a1b 1,1,0,1,x\np ca1bd\np d1d";
+    let count = counted(rt.alloc(), lines, "cabd")?;
+    holds(6 <= count.made() && count.made() <= 12, "6 to 12 look-ups")?;
+    same(&count.reported(), &2)?;
+    gives(winners_by(rt.alloc(), lines, "cabd"), "0 1 0 ,")
 }
 
-/// Whether a run over an extended text of these lines writes this line of the values of a word.
-fn writes(alloc: Global, lines: &str, word: &str, line: &str) -> Result<bool, AllocError> {
+/// Fails where a run over an extended text of these lines does not write this line of the values of a word.
+fn writes(alloc: Global, lines: &str, word: &str, line: &str) -> Result<(), Fail> {
     let text = extended_text(alloc, "1 1", lines)?;
     let mut reader = text.as_bytes();
     let mut written: Vec<u8> = Vec::new(alloc);
@@ -87,17 +82,17 @@ fn writes(alloc: Global, lines: &str, word: &str, line: &str) -> Result<bool, Al
         &mut reader,
         &mut written,
     );
-    Ok(end.is_ok() && written.as_slice() == line.as_bytes())
+    wrote(format_args!("{word:?}"), end, &written, line.as_bytes())
 }
 
 #[test]
 fn a_run_writes_the_values_without_their_changes(rt: HostRuntime) -> Result<(), Fail> {
     let lines = "p a1b\np ca1bd 2,1,0,1,x";
-    holds(writes(rt.alloc(), lines, "cabd", "0 1 0\n")?, "writes")?;
-    holds(writes(rt.alloc(), lines, "CABD", "0 0 0\n")?, "writes")?;
-    holds(writes(rt.alloc(), lines, "", "\n")?, "writes")?;
+    writes(rt.alloc(), lines, "cabd", "0 1 0\n")?;
+    writes(rt.alloc(), lines, "CABD", "0 0 0\n")?;
+    writes(rt.alloc(), lines, "", "\n")?;
     let lines = "p a1b 1,1,0,1,x\np a1bd";
-    holds(writes(rt.alloc(), lines, "abd", "1 0\n")?, "writes")
+    writes(rt.alloc(), lines, "abd", "1 0\n")
 }
 
 /// Whether a run of a kind over a dictionary text ends with a refusal of its head, and writes nothing.
@@ -121,10 +116,10 @@ fn a_run_takes_a_text_of_its_kind_alone(rt: HostRuntime) -> Result<(), Fail> {
     let text = extended_text(rt.alloc(), "1 1", "p a1b")?;
     holds(
         is_refused(rt.alloc(), Kind::Standard, &text),
-        "it is refused",
+        "an extended text is no standard one",
     )?;
     holds(
         is_refused(rt.alloc(), Kind::Extended, FIRKIN),
-        "it is refused",
+        "a standard text is no extended one",
     )
 }

@@ -1,6 +1,6 @@
 //! How words are broken by extended dictionaries, whose breaks may change the letters around them.
 
-use answers::{Question, asked, extended, gives, holds, push_next, told_if};
+use answers::{Question, asked, extended, gives, holds, told_if};
 use hyphenation::Load;
 use hyphenation::extended::{Extended, Subregion};
 use hyphenation::hyphenator::{Hyphenator, Word};
@@ -158,8 +158,8 @@ fn others_fit(alloc: Global, place: usize) -> Result<bool, Fail> {
 
 #[test]
 fn breaks_fit_where_no_range_begins_before_the_end_of_another(rt: HostRuntime) -> Result<(), Fail> {
-    holds(!others_fit(rt.alloc(), 0)?, "all")?;
-    holds(others_fit(rt.alloc(), 3)?, "those but 3")
+    holds(!others_fit(rt.alloc(), 0)?, "all breaks do not fit")?;
+    holds(others_fit(rt.alloc(), 3)?, "those but 3 fit")
 }
 
 /// How a word has each of its segments: lent or made.
@@ -196,34 +196,11 @@ fn segments_beside_no_change_are_lent(rt: HostRuntime) -> Result<(), Fail> {
     )
 }
 
-/// The items of a word, the second and later ones with the mark `=`, each after the number of those that are left; two
-/// more are asked for than there are.
-pub fn marked_anew(
-    alloc: Global,
-    dictionary: Result<Extended, Error>,
-    word: &str,
-) -> Result<String, Fail> {
-    Ok(anew(alloc, &dictionary?, word)?)
-}
-
-/// The same of a dictionary that was loaded.
-fn anew(alloc: Global, dictionary: &Extended, word: &str) -> Result<String, AllocError> {
-    let found = dictionary.hyphenate(alloc, word)?;
-    let number = found.breaks.len().saturating_add(3);
-    let mut items = found.into_iter();
-    let mut output = String::new(alloc);
-    for _ in 0..number {
-        push_next(&mut output, alloc, &mut items)?;
-        items.mark_with("=");
-    }
-    Ok(output)
-}
-
 #[test]
 fn a_new_mark_holds_for_the_changed_segments_to_come(rt: HostRuntime) -> Result<(), Fail> {
     let dictionary = extended(rt.alloc(), "2 2", DOUBLED);
     gives(
-        marked_anew(rt.alloc(), dictionary, "asszonnyal"),
+        asked(rt.alloc(), dictionary, Question::Anew("asszonnyal")),
         "3 asz-,2 szony=,1 nyal,0 none,0 none,",
     )
 }

@@ -1,7 +1,8 @@
 //! Exceptions, as a text lists them and as callers add and remove them.
 
 use answers::{
-    FIRKIN, Question, asked, dictionary, gives, list, listing, places, same, standard, told_if,
+    FIRKIN, Question, asked, dictionary, gives, list, listing, places, same, same_in, standard,
+    told_if,
 };
 use hyphenation::Standard;
 use hyphenation::hyphenator::Hyphenator;
@@ -120,7 +121,11 @@ fn places_fit_a_word_where_they_ascend_on_its_characters(rt: HostRuntime) -> Res
         ("ab", &[0, 1, 2], true),
     ];
     for (word, places, fits) in cases {
-        same(&Standard::fits(word, places), &fits)?;
+        same_in(
+            format_args!("{word:?} {places:?}"),
+            &Standard::fits(word, places),
+            &fits,
+        )?;
     }
     Ok(())
 }

@@ -76,11 +76,11 @@ fn is_changed(alloc: Global, line: &str, piece: &str) -> Result<bool, Fail> {
 fn a_word_of_10_000_bytes_is_fitted(rt: HostRuntime) -> Result<(), Fail> {
     holds(
         is_changed(rt.alloc(), "p a1b 1,1,1,1,xy", "ab")?,
-        "it is changed within each pair",
+        "ab is changed within each pair",
     )?;
     holds(
         is_changed(rt.alloc(), "p a1a 1,1,1,1,xy", "aa")?,
-        "it is changed within each pair",
+        "aa is changed within each pair",
     )
 }
 
@@ -152,7 +152,10 @@ fn looked_up(alloc: Global) -> Result<u128, Fail> {
 #[test]
 fn a_word_of_100_000_dots_is_looked_up_in_one_pass(rt: HostRuntime) -> Result<(), Fail> {
     let made = looked_up(rt.alloc())?;
-    holds(100_002 <= made && made <= 200_004, "the look-ups")
+    holds(
+        100_002 <= made && made <= 200_004,
+        "100,002 to 200,004 look-ups",
+    )
 }
 
 /// The places of 100,000 dots where one is listed for them.

@@ -1,6 +1,8 @@
 //! The scores of words, and how many look-ups they take.
 
-use answers::{FIRKIN, Question, asked, dictionary, gives, holds, same, standard, values_by};
+use answers::{
+    FIRKIN, Question, asked, dictionary, gives, holds, same, same_in, standard, values_by, wrote,
+};
 use hyphenation::engine::{Kind, run_score};
 use hyphenation::load::{Error, Load};
 use hyphenation::score::{LookUps, Score};
@@ -40,8 +42,12 @@ pub fn counted(alloc: Global, lines: &str, word: &str) -> Result<LookUps, Fail> 
     Ok(look_ups(alloc, &standard(alloc, "0 0", lines)?, word)?)
 }
 
-/// The same of a dictionary that was loaded.
-fn look_ups(alloc: Global, dictionary: &Standard, word: &str) -> Result<LookUps, AllocError> {
+/// The same of a dictionary of either kind that was loaded.
+pub fn look_ups<'d, D: Score<'d>>(
+    alloc: Global,
+    dictionary: &'d D,
+    word: &str,
+) -> Result<LookUps, AllocError> {
     let mut count = LookUps::new();
     let _values = dictionary.score_counted(alloc, word, &mut count)?;
     Ok(count)
@@ -53,10 +59,16 @@ const PATTERNS: &str = "p .fi2\np i2r\np r2k\np r5kin\np k1in\np k2in.";
 #[test]
 fn a_score_takes_few_look_ups(rt: HostRuntime) -> Result<(), Fail> {
     let count = counted(rt.alloc(), PATTERNS, "firkin")?;
-    holds(8 <= count.made() && count.made() <= 16, "the look-ups")?;
+    holds(
+        8 <= count.made() && count.made() <= 16,
+        "firkin: 8 to 16 look-ups",
+    )?;
     same(&count.reported(), &6)?;
     let count = counted(rt.alloc(), PATTERNS, "firkins")?;
-    holds(9 <= count.made() && count.made() <= 18, "the look-ups")?;
+    holds(
+        9 <= count.made() && count.made() <= 18,
+        "firkins: 9 to 18 look-ups",
+    )?;
     same(&count.reported(), &5)
 }
 
@@ -73,7 +85,10 @@ const TWENTY: &str = "aaaaaaaaaaaaaaaaaaaa";
 #[test]
 fn no_byte_is_read_again(rt: HostRuntime) -> Result<(), Fail> {
     let count = counted(rt.alloc(), "p aaaaaaa1b", TWENTY)?;
-    holds(22 <= count.made() && count.made() <= 44, "the look-ups")?;
+    holds(
+        22 <= count.made() && count.made() <= 44,
+        "22 to 44 look-ups",
+    )?;
     same(&count.reported(), &0)?;
     gives(
         values_by(rt.alloc(), "p aaaaaaa1b", TWENTY),
@@ -84,7 +99,10 @@ fn no_byte_is_read_again(rt: HostRuntime) -> Result<(), Fail> {
 #[test]
 fn no_byte_is_read_again_where_keys_end(rt: HostRuntime) -> Result<(), Fail> {
     let count = counted(rt.alloc(), "p aaaaaaa1", TWENTY)?;
-    holds(22 <= count.made() && count.made() <= 44, "the look-ups")?;
+    holds(
+        22 <= count.made() && count.made() <= 44,
+        "22 to 44 look-ups",
+    )?;
     same(&count.reported(), &14)?;
     gives(
         values_by(rt.alloc(), "p aaaaaaa1", TWENTY),
@@ -112,13 +130,17 @@ fn each_key_is_reported_where_it_stands(rt: HostRuntime) -> Result<(), Fail> {
 #[test]
 fn odd_values_denote_opportunities(rt: HostRuntime) -> Result<(), Fail> {
     for value in 0..=9u8 {
-        same(&Standard::denotes_opportunity(value), &(value % 2 == 1))?;
+        same_in(
+            value,
+            &Standard::denotes_opportunity(value),
+            &(value % 2 == 1),
+        )?;
     }
     Ok(())
 }
 
-/// Whether a run in this language writes this line of the values of a word.
-fn writes(alloc: Global, language: Language, word: &str, line: &str) -> bool {
+/// Fails where a run in this language does not write this line of the values of a word.
+fn writes(alloc: Global, language: Language, word: &str, line: &str) -> Result<(), Fail> {
     let mut reader = FIRKIN.as_bytes();
     let mut written: Vec<u8> = Vec::new(alloc);
     let end = run_score(
@@ -129,25 +151,16 @@ fn writes(alloc: Global, language: Language, word: &str, line: &str) -> bool {
         &mut reader,
         &mut written,
     );
-    end.is_ok() && written.as_slice() == line.as_bytes()
+    wrote(format_args!("{word:?}"), end, &written, line.as_bytes())
 }
 
 #[test]
 fn a_run_writes_the_values_of_the_word_as_it_is_handed_in(rt: HostRuntime) -> Result<(), Fail> {
     let language = Language::from_code("en-gb").ok_or("a code")?;
-    holds(
-        writes(rt.alloc(), language, "firkin", "0 2 5 2 0\n"),
-        "writes",
-    )?;
-    holds(
-        writes(rt.alloc(), language, "firkins", "0 2 5 1 0 0\n"),
-        "writes",
-    )?;
-    holds(
-        writes(rt.alloc(), language, "FIRKIN", "0 0 0 0 0\n"),
-        "writes",
-    )?;
-    holds(writes(rt.alloc(), language, "", "\n"), "writes")
+    writes(rt.alloc(), language, "firkin", "0 2 5 2 0\n")?;
+    writes(rt.alloc(), language, "firkins", "0 2 5 1 0 0\n")?;
+    writes(rt.alloc(), language, "FIRKIN", "0 0 0 0 0\n")?;
+    writes(rt.alloc(), language, "", "\n")
 }
 
 #[test]

@@ -21,6 +21,29 @@ pub fn same<T: PartialEq + Debug>(found: &T, wanted: &T) -> Result<(), Fail> {
     }
 }
 
+/// The same of one of several cases, which is named.
+pub fn same_in<C: Display + Drop, T: PartialEq + Debug>(
+    case: C,
+    found: &T,
+    wanted: &T,
+) -> Result<(), Fail> {
+    if found == wanted {
+        Ok(())
+    } else {
+        Err(Fail::new(format_args!("{case}: found {found:?} and not {wanted:?}")))
+    }
+}
+
+/// The same of bytes, which are told as text.
+pub fn same_bytes<C: Display + Drop>(case: C, found: &[u8], wanted: &[u8]) -> Result<(), Fail> {
+    if found == wanted {
+        Ok(())
+    } else {
+        let (found, wanted) = (found.escape_ascii(), wanted.escape_ascii());
+        Err(Fail::new(format_args!("{case}: found {found} and not {wanted}")))
+    }
+}
+
 /// Fails where a call has failed, or has another answer than is wanted.
 pub fn gives<E: Into<Fail>>(found: Result<String, E>, wanted: &str) -> Result<(), Fail> {
     match found {
@@ -29,8 +52,33 @@ pub fn gives<E: Into<Fail>>(found: Result<String, E>, wanted: &str) -> Result<()
     }
 }
 
+/// The same of one of several cases, which is named where the answer is another.
+pub fn gives_in<C: Display + Drop, E: Into<Fail>>(
+    case: C,
+    found: Result<String, E>,
+    wanted: &str,
+) -> Result<(), Fail> {
+    match found {
+        Ok(found) => same_in(case, &found.as_str(), &wanted),
+        Err(error) => Err(error.into()),
+    }
+}
+
+/// Fails, and names the case, where a run has failed, or has written other bytes than are wanted.
+pub fn wrote<C: Display + Drop, E: Debug + Drop>(
+    case: C,
+    end: Result<(), E>,
+    output: &[u8],
+    wanted: &[u8],
+) -> Result<(), Fail> {
+    match end {
+        Ok(()) => same_bytes(case, output, wanted),
+        Err(error) => Err(Fail::new(format_args!("{case}: {error:?}"))),
+    }
+}
+
 /// How a loading ended: `loaded`, or the line and the cause of the first fault, or another reason.
-fn ended<D: Drop>(alloc: Global, answer: Result<D, Error>) -> Result<String, AllocError> {
+pub fn ended<D: Drop>(alloc: Global, answer: Result<D, Error>) -> Result<String, AllocError> {
     match answer {
         Ok(_) => String::from_str(alloc, "loaded"),
         Err(Error::Deserialization { line, cause }) => format!(in alloc; "{line} {cause:?}"),
@@ -239,7 +287,7 @@ pub fn winners(alloc: Global, dictionary: &Extended, words: &str) -> Result<Stri
 }
 
 /// Writes the number of items that are left, and the next one.
-pub fn push_next<I: Texts>(
+fn push_next<I: Texts>(
     output: &mut String,
     alloc: Global,
     items: &mut Hyphenating<'_, I>,
@@ -252,6 +300,18 @@ pub fn push_next<I: Texts>(
         None => output.push_str("none")?,
     }
     output.push(',')
+}
+
+/// A word's items, the second and later ones with the mark `=`, each after the number of those that are left; two more
+/// are asked for than there are.
+fn anew<I: Texts>(alloc: Global, mut items: Hyphenating<'_, I>) -> Result<String, AllocError> {
+    let (number, _) = items.size_hint();
+    let mut output = String::new(alloc);
+    for _ in 0..number.saturating_add(2) {
+        push_next(&mut output, alloc, &mut items)?;
+        items.mark_with("=");
+    }
+    Ok(output)
 }
 
 /// Lists one place for `firkins`, where it fits; the old list.
@@ -290,6 +350,9 @@ pub enum Question<'q> {
     Places(&'q str),
     /// The words' items with the mark `=`.
     Marked(&'q str),
+    /// A word's items, the second and later ones with the mark `=`, each after the number of those that are left; two
+    /// more are asked for than there are.
+    Anew(&'q str),
     /// The breaks that are listed for a word, within its boundaries.
     Listed(&'q str),
     /// The breaks that are listed for a word, within bounds.
@@ -311,6 +374,7 @@ impl Answering for Standard {
         match question {
             Question::Values(words) => values(alloc, self, words),
             Question::Marked(words) => marked(alloc, self, words),
+            Question::Anew(word) => anew(alloc, self.hyphenate(alloc, word)?.into_iter()),
             _ => breaks_asked(alloc, self, question),
         }
     }
@@ -321,21 +385,20 @@ impl Answering for Extended {
         match question {
             Question::Values(words) => winners(alloc, self, words),
             Question::Marked(words) => changed(alloc, self, words),
+            Question::Anew(word) => anew(alloc, self.hyphenate(alloc, word)?.into_iter()),
             _ => breaks_asked(alloc, self, question),
         }
     }
 }
 
-/// The breaks that are asked for.
+/// The breaks that are asked for; of another question, that it is none of breaks.
 fn breaks_asked<'h, H: Hyphenator<'h>>(
     alloc: Global,
     dictionary: &'h H,
     question: Question<'_>,
 ) -> Result<String, AllocError> {
     match question {
-        Question::Values(words) | Question::Places(words) | Question::Marked(words) => {
-            places(alloc, dictionary, words)
-        }
+        Question::Places(words) => places(alloc, dictionary, words),
         Question::Listed(word) => told_if(alloc, dictionary.exception(alloc, word)?),
         Question::ListedWithin(word, bounds) => {
             told_if(alloc, dictionary.exception_within(alloc, word, bounds)?)
@@ -348,6 +411,9 @@ fn breaks_asked<'h, H: Hyphenator<'h>>(
         }
         Question::Opportunities(word) => {
             told_if(alloc, Some(dictionary.opportunities(alloc, word)?))
+        }
+        Question::Values(_) | Question::Marked(_) | Question::Anew(_) => {
+            String::from_str(alloc, "no question of breaks")
         }
     }
 }

@@ -152,11 +152,12 @@ mod tests {
         Ok(answers(alloc, case, text.as_bytes(), ordered))
     }
 
-    /// Fails, and names the lines, where one of the cases is answered otherwise.
+    /// Fails, and names the words and the lines, where one of the cases is answered otherwise.
     fn answers_all(alloc: Global, cases: &[Case<'_>]) -> Result<(), Fail> {
         for case in cases {
             if !answers_with_head(alloc, case)? {
-                return Err(Fail::new(format_args!("it answers otherwise: {}", case.lines)));
+                let (words, lines) = (case.words, case.lines);
+                return Err(Fail::new(format_args!("it answers otherwise: {words:?} {lines:?}")));
             }
         }
         Ok(())

@@ -1,6 +1,6 @@
 //! Dictionary texts read, and written again.
 
-use answers::{holds, same};
+use answers::{holds, same, same_bytes};
 use dictionary_text::Cause;
 use dictionary_text::reader::{Refusal, read_extended, read_standard};
 use dictionary_text::writer::{write_extended, write_standard};
@@ -34,8 +34,8 @@ fn a_text_gives_its_head_lines(rt: HostRuntime) -> Result<(), Fail> {
 fn a_text_gives_its_exceptions(rt: HostRuntime) -> Result<(), Fail> {
     let dictionary = standard(rt.alloc())?;
     same(&dictionary.listed("table"), &Some([2].as_slice()))?;
-    holds(dictionary.listed("a b").is_some(), "listed")?;
-    holds(dictionary.listed("tab").is_none(), "listed")
+    holds(dictionary.listed("a b").is_some(), "a b is listed")?;
+    holds(dictionary.listed("tab").is_none(), "tab is not listed")
 }
 
 #[test]
@@ -49,7 +49,7 @@ fn an_extended_text_gives_its_head_lines(rt: HostRuntime) -> Result<(), Fail> {
 fn an_extended_text_gives_its_exceptions(rt: HostRuntime) -> Result<(), Fail> {
     let dictionary = extended(rt.alloc())?;
     same(&dictionary.listed("kilim"), &Some([(2, None)].as_slice()))?;
-    holds(dictionary.listed("").is_some(), "listed")
+    holds(dictionary.listed("").is_some(), "the empty word is listed")
 }
 
 #[test]
@@ -106,7 +106,7 @@ fn lines_stand_in_the_order_of_their_bytes(rt: HostRuntime) -> Result<(), Fail> 
     let wanted =
         b"hyphenation 1 standard\nlanguage hu\nminima 2 13\np .fi2\np a\\s1b\np s1szo\np x\\11y{\ne \\e\ne k\\sa 0\ne kilim 2 3\n";
     let written = standard_again(rt.alloc(), read).ok().ok_or("a text")?;
-    same(&written.as_slice(), &wanted.as_slice())
+    same_bytes("a standard text", &written, wanted)
 }
 
 #[test]
@@ -116,5 +116,5 @@ fn changes_and_great_values_are_written(rt: HostRuntime) -> Result<(), Fail> {
     let wanted =
         b"hyphenation 2 extended\nlanguage hu\nminima 0 255\np .{10}b\\1\np a9s\\{{255} 1,1,1,2,a,b 3,0,0,0,\\e\ne ab 1,1,1,2,a,b 2\n";
     let written = extended_again(rt.alloc(), read).ok().ok_or("a text")?;
-    same(&written.as_slice(), &wanted.as_slice())
+    same_bytes("an extended text", &written, wanted)
 }

@@ -1,6 +1,6 @@
 //! Edits of the exceptions of a dictionary, judged and done one by one.
 
-use answers::{holds, same};
+use answers::{holds, same, same_in};
 use dictionary_text::edits::apply_edit;
 use dictionary_text::form::Kind;
 use dictionary_text::reader::{read_extended, read_standard};
@@ -48,7 +48,11 @@ fn some_edits_are_good_for_both_kinds(rt: HostRuntime) -> Result<(), Fail> {
         "-a\\sb",
     ];
     for edit in edits {
-        same(&judged(rt.alloc(), edit)?, &(true, true))?;
+        same_in(
+            format_args!("{edit:?}"),
+            &judged(rt.alloc(), edit)?,
+            &(true, true),
+        )?;
     }
     Ok(())
 }
@@ -81,7 +85,11 @@ fn some_edits_are_refused_by_both_kinds(rt: HostRuntime) -> Result<(), Fail> {
         "-ab 1,1,1,1,xy",
     ];
     for edit in edits {
-        same(&judged(rt.alloc(), edit)?, &(false, false))?;
+        same_in(
+            format_args!("{edit:?}"),
+            &judged(rt.alloc(), edit)?,
+            &(false, false),
+        )?;
     }
     Ok(())
 }
@@ -94,18 +102,19 @@ fn changes_are_for_extended_dictionaries_alone(rt: HostRuntime) -> Result<(), Fa
         "+ab 1,1,1,1,xy 2",
     ];
     for edit in edits {
-        same(&judged(rt.alloc(), edit)?, &(false, true))?;
+        same_in(
+            format_args!("{edit:?}"),
+            &judged(rt.alloc(), edit)?,
+            &(false, true),
+        )?;
     }
     Ok(())
 }
 
 /// Does an edit, which is to be good or not.
 fn edited(alloc: Global, dictionary: &mut Standard, edit: &str, is_good: bool) -> Result<(), Fail> {
-    if apply_edit(alloc, Kind::Standard, dictionary, edit)? == is_good {
-        Ok(())
-    } else {
-        Err(Fail::from("an edit is judged otherwise"))
-    }
+    let found = apply_edit(alloc, Kind::Standard, dictionary, edit)?;
+    same_in(edit, &found, &is_good)
 }
 
 /// The one place that is listed for a word, where there is just one.
@@ -132,8 +141,14 @@ fn a_removed_word_is_listed_no_more(rt: HostRuntime) -> Result<(), Fail> {
     edited(rt.alloc(), &mut dictionary, "+firkins 3", true)?;
     edited(rt.alloc(), &mut dictionary, "-firkins", true)?;
     edited(rt.alloc(), &mut dictionary, "-\\e", true)?;
-    holds(dictionary.listed("firkins").is_none(), "listed")?;
-    holds(dictionary.listed("").is_none(), "listed")?;
+    holds(
+        dictionary.listed("firkins").is_none(),
+        "firkins is not listed",
+    )?;
+    holds(
+        dictionary.listed("").is_none(),
+        "the empty word is not listed",
+    )?;
     same(&dictionary.listed("other"), &Some([2].as_slice()))
 }
 

@@ -1,6 +1,6 @@
 //! Small files, and the dictionary texts that they give.
 
-use answers::{holds, same};
+use answers::{same, same_bytes, same_in};
 use dictionary_text::writer::{write_extended, write_standard};
 use hyphenation_commons::dictionary::{Extended, Standard};
 use hyphenation_commons::extended::Subregion;
@@ -48,7 +48,24 @@ fn groups_of_a_tex_file_give_their_patterns_and_exceptions(rt: HostRuntime) -> R
     let wanted = format!(in rt.alloc();
         "{HEAD}p .b2\np a1b\np de4\np 2ü3x\ne associate 2 4\ne naïveté 2 6\n"
     )?;
-    same(&text.as_slice(), &wanted.as_bytes())
+    same_bytes("a TeX file", &text, wanted.as_bytes())
+}
+
+/// What is noted of files, each with the line of its first occurrence and the number of them.
+fn noted(alloc: Global, files: &[File<'_>]) -> Result<Vec<(What, usize, u64)>, Fail> {
+    let converted: Result<Converted<(), usize>, Refusal> = convert_with_notes(
+        alloc,
+        Language::english_us(),
+        2,
+        3,
+        files,
+    );
+    let noted = converted?
+        .notes
+        .iter()
+        .map(|n| (n.what, n.first.line, n.times))
+        .collect(alloc)?;
+    Ok(noted)
 }
 
 #[test]
@@ -61,34 +78,16 @@ fn of_a_repeated_key_the_last_counts(rt: HostRuntime) -> Result<(), Fail> {
         form: Form::Plain(Group::Exceptions),
         bytes: "ta-ble\nÜ-ber\ntab-le\n".as_bytes(),
     };
-    let text = standard_text(rt.alloc(), &[patterns, exceptions])?;
-    let wanted = format!(in rt.alloc(); "{HEAD}p a3b\np c1\ne table 3\ne über 2\n")?;
-    same(&text.as_slice(), &wanted.as_bytes())?;
     let files = [patterns, exceptions];
-    let converted: Result<Converted<(), usize>, Refusal> = convert_with_notes(
-        rt.alloc(),
-        Language::english_us(),
-        2,
-        3,
-        &files,
-    );
-    match converted {
-        Ok(converted) => {
-            let whats: Vec<(What, usize, u64)> = converted
-                .notes
-                .iter()
-                .map(|n| (n.what, n.first.line, n.times))
-                .collect(rt.alloc())?;
-            let wanted = [
-                (What::Repeated, 3, 1),
-                (What::Capital, 2, 1),
-                (What::ExceptionRepeated, 3, 1),
-            ];
-            same(&whats.as_slice(), &wanted.as_slice())?;
-        }
-        Err(_) => assert!(rt; false),
-    }
-    Ok(())
+    let text = standard_text(rt.alloc(), &files)?;
+    let wanted = format!(in rt.alloc(); "{HEAD}p a3b\np c1\ne table 3\ne über 2\n")?;
+    same_bytes("plain files", &text, wanted.as_bytes())?;
+    let wanted = [
+        (What::Repeated, 3, 1),
+        (What::Capital, 2, 1),
+        (What::ExceptionRepeated, 3, 1),
+    ];
+    same(&noted(rt.alloc(), &files)?.as_slice(), &wanted.as_slice())
 }
 
 #[test]
@@ -143,7 +142,11 @@ fn the_first_fault_is_told(rt: HostRuntime) -> Result<(), Fail> {
             line,
             cause,
         });
-        same(&refusal(rt.alloc(), &[File { form, bytes }]), &wanted)?;
+        same_in(
+            bytes.escape_ascii(),
+            &refusal(rt.alloc(), &[File { form, bytes }]),
+            &wanted,
+        )?;
     }
     Ok(())
 }
@@ -177,11 +180,10 @@ fn a_dic_gives_its_changes_to_an_extended_dictionary(rt: HostRuntime) -> Result<
             let text = write_extended(rt.alloc(), &dictionary)?;
             let wanted =
                 "hyphenation 1 extended\nlanguage hu\nminima 1 3\np .schif1fahrt 6,1,1,2,fff\np a1atje. 1,1,2,1,at\np l·1l 3,3,1,1,ll\np l·9m 3,2,0,0,\\e\np n1nyal. 1,1,0,2,ny\n";
-            same(&text.as_slice(), &wanted.as_bytes())?;
+            same_bytes("an extended text", &text, wanted.as_bytes())
         }
-        Err(_) => assert!(rt; false),
+        Err(refusal) => Err(refusal.into()),
     }
-    Ok(())
 }
 
 #[test]
@@ -199,11 +201,16 @@ fn a_dic_of_a_legacy_charset_takes_the_last_of_repeated_lines(rt: HostRuntime) -
         Ok(converted) => {
             let text = write_standard(rt.alloc(), &converted.dictionary)?;
             let wanted = format!(in rt.alloc(); "{HEAD}p 8'8\np 8-8\np a2šb\n")?;
-            same(&text.as_slice(), &wanted.as_bytes())?;
+            same_bytes("a standard text", &text, wanted.as_bytes())
         }
-        Err(_) => assert!(rt; false),
+        Err(refusal) => Err(refusal.into()),
     }
-    Ok(())
+}
+
+/// Why a .dic is refused.
+fn refusal_of_dic(alloc: Global, bytes: &[u8]) -> Option<Refusal> {
+    let language = Language::english_us();
+    convert_dic::<(), usize>(alloc, language, false, None, None, bytes).err()
 }
 
 #[test]
@@ -216,24 +223,16 @@ fn a_faulty_dic_is_refused(rt: HostRuntime) -> Result<(), Fail> {
         (b"UTF-8\n% nothing\n", 1, Cause::Nothing),
     ];
     for (bytes, line, cause) in cases {
-        let converted = convert_dic::<(), usize>(
-            rt.alloc(),
-            Language::english_us(),
-            false,
-            None,
-            None,
-            bytes,
-        );
-        let refused = match converted {
-            Ok(_) => false,
-            Err(refusal) => refusal
-                == Refusal::Fault {
-                    file: 0,
-                    line,
-                    cause,
-                },
-        };
-        holds(refused, "refused")?;
+        let wanted = Some(Refusal::Fault {
+            file: 0,
+            line,
+            cause,
+        });
+        same_in(
+            bytes.escape_ascii(),
+            &refusal_of_dic(rt.alloc(), bytes),
+            &wanted,
+        )?;
     }
     Ok(())
 }

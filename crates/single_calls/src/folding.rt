@@ -1,6 +1,6 @@
 //! Words in small letters, with the way back to the word as written.
 
-use answers::{holds, same};
+use answers::{holds, same, same_in};
 use hyphenation::case_folding::{Shift, realign, refold};
 use std::alloc::{AllocError, Global};
 use std::borrow::CowStr;
@@ -34,31 +34,40 @@ fn is_lent(alloc: Global, word: &str) -> Result<bool, AllocError> {
 fn words_fold_with_their_shifts(rt: HostRuntime) -> Result<(), Fail> {
     holds(
         folds(rt.alloc(), "İẞab", "ißab", &[(0, -1), (1, -2)])?,
-        "folds",
+        "İẞab folds to ißab",
     )?;
     holds(
         folds(rt.alloc(), "\u{212a}ilim", "kilim", &[(0, -2)])?,
-        "folds",
+        "\u{212a}ilim folds to kilim",
     )?;
-    holds(folds(rt.alloc(), "ȺAB", "ⱥab", &[(0, 1)])?, "folds")?;
+    holds(
+        folds(rt.alloc(), "ȺAB", "ⱥab", &[(0, 1)])?,
+        "ȺAB folds to ⱥab",
+    )?;
     holds(
         folds(rt.alloc(), "aȺİb", "aⱥib", &[(1, 1), (4, 0)])?,
-        "folds",
+        "aȺİb folds to aⱥib",
     )
 }
 
 #[test]
 fn words_of_as_many_bytes_fold_without_shifts(rt: HostRuntime) -> Result<(), Fail> {
-    holds(folds(rt.alloc(), "ΑΣ", "ασ", &[])?, "folds")?;
-    holds(folds(rt.alloc(), "I\u{307}", "i\u{307}", &[])?, "folds")
+    holds(folds(rt.alloc(), "ΑΣ", "ασ", &[])?, "ΑΣ folds to ασ")?;
+    holds(
+        folds(rt.alloc(), "I\u{307}", "i\u{307}", &[])?,
+        "I\u{307} folds to i\u{307}",
+    )
 }
 
 #[test]
 fn words_without_uppercase_are_lent(rt: HostRuntime) -> Result<(), Fail> {
     // U+01C5 is titlecase, so it is not Uppercase.
     for word in ["", "kilim", "i\u{307}", "\u{1c5}", "ß"] {
-        holds(folds(rt.alloc(), word, word, &[])?, "folds")?;
-        holds(is_lent(rt.alloc(), word)?, word)?;
+        holds(
+            folds(rt.alloc(), word, word, &[])?,
+            format_args!("{word:?} folds to itself"),
+        )?;
+        holds(is_lent(rt.alloc(), word)?, format_args!("{word:?} is lent"))?;
     }
     Ok(())
 }
@@ -66,7 +75,10 @@ fn words_without_uppercase_are_lent(rt: HostRuntime) -> Result<(), Fail> {
 #[test]
 fn words_with_uppercase_are_owned(rt: HostRuntime) -> Result<(), Fail> {
     for word in ["I\u{307}", "ΑΣ", "\u{13a0}"] {
-        holds(!is_lent(rt.alloc(), word)?, word)?;
+        holds(
+            !is_lent(rt.alloc(), word)?,
+            format_args!("{word:?} is not lent"),
+        )?;
     }
     Ok(())
 }
@@ -76,7 +88,11 @@ fn places_are_carried_back(rt: HostRuntime) -> Result<(), Fail> {
     // The bytes of `İẞab` end at 2, 5, 6 and 7, those of `ißab` at 1, 3, 4 and 5.
     let (_, shifts) = refold(rt.alloc(), "İẞab")?;
     for (folded, written) in [(0, 0), (1, 2), (3, 5), (4, 6), (5, 7)] {
-        same(&realign(folded, &shifts), &written)?;
+        same_in(
+            format_args!("place {folded}"),
+            &realign(folded, &shifts),
+            &written,
+        )?;
     }
     Ok(())
 }

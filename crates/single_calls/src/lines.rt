@@ -1,6 +1,6 @@
 //! Lines of a column width.
 
-use answers::{gives, holds, same};
+use answers::{gives_in, holds, same_bytes};
 use hyphenation::engine::RunError;
 use hyphenation::{Language, Load, Standard};
 use linefill::{fill, run_fill};
@@ -38,7 +38,11 @@ fn lines_of_the_examples(rt: HostRuntime) -> Result<(), Fail> {
         ("", 5, ""),
     ];
     for (text, columns, wanted) in rows {
-        gives(barred(rt.alloc(), text, columns), wanted)?;
+        gives_in(
+            format_args!("{text:?} in {columns}"),
+            barred(rt.alloc(), text, columns),
+            wanted,
+        )?;
     }
     Ok(())
 }
@@ -59,16 +63,16 @@ fn run(
 fn lines_are_written_with_line_feeds(rt: HostRuntime) -> Result<(), Fail> {
     let (refused, output) = run(rt.alloc(), VERSE, b"I know noble accents")?;
     holds(refused.is_none(), "no error")?;
-    same(
-        &output.as_slice(),
-        &b"I know no-\nble ac-\ncents\n".as_slice(),
-    )
+    same_bytes("three lines", &output, b"I know no-\nble ac-\ncents\n")
 }
 
 #[test]
 fn a_text_that_is_not_utf8_is_refused(rt: HostRuntime) -> Result<(), Fail> {
     let (refused, output) = run(rt.alloc(), VERSE, b"\xff")?;
-    holds(matches!(refused, Some(RunError::TextNotUtf8)), "the error")?;
+    holds(
+        matches!(refused, Some(RunError::TextNotUtf8)),
+        "the text is not UTF-8",
+    )?;
     holds(output.is_empty(), "nothing is written")
 }
 
@@ -77,7 +81,7 @@ fn the_dictionary_is_refused_before_the_text(rt: HostRuntime) -> Result<(), Fail
     let (refused, output) = run(rt.alloc(), b"", b"\xff")?;
     holds(
         matches!(refused, Some(RunError::Dictionary(_))),
-        "the error",
+        "the dictionary is refused",
     )?;
     holds(output.is_empty(), "nothing is written")
 }

@@ -70,7 +70,10 @@ fn many_values_take_their_changes(rt: HostRuntime) -> Result<(), Fail> {
     let word = word_of(rt.alloc(), LETTERS)?;
     let values = dictionary.score(rt.alloc(), &word)?;
     same(&values.len(), &(LETTERS - 1))?;
-    holds(values.iter().all(|found| is_changed(found)), "iter")
+    holds(
+        values.iter().all(|found| is_changed(found)),
+        "each value is 1 with a change",
+    )
 }
 
 fn fault_of(alloc: Global, text: &str) -> Result<Option<(usize, Cause)>, AllocError> {

@@ -346,7 +346,7 @@ fn are_hints_exact(alloc: Global) -> Result<bool, Fail> {
 
 #[test]
 fn hints_count_the_segments_to_come(rt: HostRuntime) -> Result<(), Fail> {
-    holds(are_hints_exact(rt.alloc())?, "2, 1, 0")
+    holds(are_hints_exact(rt.alloc())?, "the hints are 2, 1 and 0")
 }
 
 /// What the segments of `ab` hand out whose break at 1 comes again.

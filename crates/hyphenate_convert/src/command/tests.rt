@@ -175,7 +175,10 @@ fn what_is_wrong_is_told_and_nothing_is_written(rt: HostRuntime) -> Result<(), F
 #[test]
 fn a_file_that_is_missing_is_a_fault(rt: HostRuntime) -> Result<(), Fail> {
     let missing = answer_to(&rt, &["standard", "xx", "2", "3", "no-such-folder/a.tex"]);
-    holds(missing.status == 3 && missing.output.is_empty(), "missing")
+    holds(
+        missing.status == 3 && missing.output.is_empty(),
+        "a missing file has the status 3",
+    )
 }
 
 /// Fails where the program does not answer by its usage, for each of these.

@@ -107,15 +107,16 @@ fn writes_scores(
     Ok(())
 }
 
-/// The same by a dictionary of this text, in a new file, which goes then.
+/// The same by a dictionary of this text, in a new file of that name, which goes then.
 fn writes_scores_by(
     rt: &HostRuntime,
+    name: &str,
     kind: &str,
     code: &str,
     text: &str,
     cases: &[(&str, &str)],
 ) -> Result<(), Fail> {
-    let path = file(rt, kind, text.as_bytes())?;
+    let path = file(rt, name, text.as_bytes())?;
     writes_scores(rt, kind, code, &path, cases)?;
     fs::remove_file(rt, path.as_str())?;
     Ok(())
@@ -145,7 +146,7 @@ fn a_score_is_written(rt: HostRuntime) -> Result<(), Fail> {
         ("", "\n"),
         ("score", "0 0 0 0\n"),
     ];
-    writes_scores_by(&rt, "standard", "en-gb", FIRKIN, &cases)
+    writes_scores_by(&rt, "scores", "standard", "en-gb", FIRKIN, &cases)
 }
 
 const CHANGES: &str = "hyphenation 1 extended\nlanguage hu\nminima 1 1\np a1b\np ca1bd 2,1,0,1,x\n";
@@ -153,7 +154,7 @@ const CHANGES: &str = "hyphenation 1 extended\nlanguage hu\nminima 1 1\np a1b\np
 #[test]
 fn a_score_by_an_extended_dictionary_is_written(rt: HostRuntime) -> Result<(), Fail> {
     let cases = [("cabd", "0 1 0\n"), ("abd", "1 0\n"), ("", "\n")];
-    writes_scores_by(&rt, "extended", "hu", CHANGES, &cases)
+    writes_scores_by(&rt, "changed-scores", "extended", "hu", CHANGES, &cases)
 }
 
 /// Fails where a dictionary of these bytes is not refused with that message, for each case: a name, bytes, a message.
@@ -271,11 +272,20 @@ fn a_dictionary_that_is_refused_is_named_with_its_fault(rt: HostRuntime) -> Resu
 /// Fails where the program does not name this path's dictionary, whatever it is asked.
 fn names_the_dictionary(rt: &HostRuntime, path: &str) -> Result<(), Fail> {
     let given = answer_to(rt, &["score", "standard", "en-gb", path, "firkin"]);
-    holds(given.names_the_dictionary(), path)?;
+    holds(
+        given.names_the_dictionary(),
+        format_args!("a score names {path:?}"),
+    )?;
     let given = answer_over(rt, &["standard", "en-gb", path, "-", "*"], b"\xff");
-    holds(given.names_the_dictionary(), path)?;
+    holds(
+        given.names_the_dictionary(),
+        format_args!("a mark names {path:?}"),
+    )?;
     let given = answer_over(rt, &["fill", "en-gb", path, "72"], b"\xff");
-    holds(given.names_the_dictionary(), path)
+    holds(
+        given.names_the_dictionary(),
+        format_args!("a width names {path:?}"),
+    )
 }
 
 #[test]
@@ -288,17 +298,19 @@ fn a_path_that_is_missing_or_a_folder_is_a_fault_of_the_dictionary(
     names_the_dictionary(&rt, "/")
 }
 
-/// The words of a run over the dictionary in a file: kind, code, path and the rest.
+/// The words of a run over the dictionary in a file: those before its path, the path, and those after it.
 fn words_of<'w>(
     alloc: Global,
-    head: [&'w str; 3],
-    rest: &[&'w str],
+    before: &[&'w str],
+    path: &'w str,
+    after: &[&'w str],
 ) -> Result<Vec<&'w str>, AllocError> {
     let mut words: Vec<&str> = Vec::new(alloc);
-    for word in head {
-        words.push(word)?;
+    for word in before {
+        words.push(*word)?;
     }
-    for word in rest {
+    words.push(path)?;
+    for word in after {
         words.push(*word)?;
     }
     Ok(words)
@@ -307,10 +319,15 @@ fn words_of<'w>(
 /// A case: the words after a dictionary's path, the text, and the status, the output and the faults that are wanted.
 type Case<'c> = (&'c [&'c str], &'c [u8], u8, &'c str, &'c str);
 
-/// Fails where the program does not answer a case so.
-fn answers_case<'c>(rt: &HostRuntime, head: [&'c str; 3], case: &Case<'c>) -> Result<(), Fail> {
+/// Fails where the program does not answer a case so, over a dictionary in that file.
+fn answers_case<'c>(
+    rt: &HostRuntime,
+    head: &[&'c str],
+    path: &'c str,
+    case: &Case<'c>,
+) -> Result<(), Fail> {
     let (rest, text, status, output, faults) = *case;
-    let words = words_of(rt.alloc(), head, rest)?;
+    let words = words_of(rt.alloc(), head, path, rest)?;
     answers(
         rt,
         &words,
@@ -326,13 +343,13 @@ fn answers_case<'c>(rt: &HostRuntime, head: [&'c str; 3], case: &Case<'c>) -> Re
 fn answers_cases<'c>(
     rt: &HostRuntime,
     name: &str,
-    head: [&'c str; 2],
+    head: &[&'c str],
     dictionary: &str,
     cases: &[Case<'c>],
 ) -> Result<(), Fail> {
     let path = file(rt, name, dictionary.as_bytes())?;
     for case in cases {
-        answers_case(rt, [head[0], head[1], path.as_str()], case)?;
+        answers_case(rt, head, &path, case)?;
     }
     fs::remove_file(rt, path.as_str())?;
     Ok(())
@@ -361,7 +378,7 @@ fn a_text_is_hyphenated_after_edits(rt: HostRuntime) -> Result<(), Fail> {
             "",
         ),
     ];
-    answers_cases(&rt, "text", ["standard", "en-gb"], FIRKIN, &cases)
+    answers_cases(&rt, "text", &["standard", "en-gb"], FIRKIN, &cases)
 }
 
 #[test]
@@ -389,14 +406,14 @@ fn a_text_that_is_refused_is_told_with_its_status(rt: HostRuntime) -> Result<(),
             "hyphenate: edit 1 is refused\n",
         ),
     ];
-    answers_cases(&rt, "refused", ["standard", "en-gb"], FIRKIN, &cases)
+    answers_cases(&rt, "refused", &["standard", "en-gb"], FIRKIN, &cases)
 }
 
 #[test]
 fn another_language_is_told_before_the_edits(rt: HostRuntime) -> Result<(), Fail> {
     let path = file(&rt, "mismatch", FIRKIN.as_bytes())?;
     let given = answer_over(&rt, &["standard", "hu", path.as_str(), "-", "*"], b"\xff");
-    holds(given.names_the_dictionary(), "the dictionary")?;
+    holds(given.names_the_dictionary(), "the dictionary is named")?;
     fs::remove_file(&rt, path.as_str())?;
     Ok(())
 }
@@ -439,16 +456,42 @@ fn an_input_that_cannot_be_read_is_told(rt: HostRuntime) -> Result<(), Fail> {
     Ok(())
 }
 
+/// Whether the program tells that its result can't be written, over the dictionary in a file whose path stands between
+/// these words.
+fn is_output_told(
+    rt: &HostRuntime,
+    before: &[&str],
+    path: &str,
+    after: &[&str],
+    text: &[u8],
+) -> Result<bool, AllocError> {
+    let words = words_of(rt.alloc(), before, path, after)?;
+    let given = answer_in_vain(rt, &words, text);
+    Ok(given.is(5, b"", b"hyphenate: the result can't be written\n"))
+}
+
+/// Fails where the program does not tell so, over a dictionary of this text, in a new file, which goes then.
+fn tells_the_output(
+    rt: &HostRuntime,
+    name: &str,
+    dictionary: &str,
+    before: &[&str],
+    after: &[&str],
+    text: &[u8],
+) -> Result<(), Fail> {
+    let path = file(rt, name, dictionary.as_bytes())?;
+    let is_told = is_output_told(rt, before, &path, after, text)?;
+    fs::remove_file(rt, path.as_str())?;
+    holds(
+        is_told,
+        format_args!("{before:?}: the result can't be written"),
+    )
+}
+
 #[test]
 fn a_text_that_cannot_be_written_is_told(rt: HostRuntime) -> Result<(), Fail> {
-    let path = file(&rt, "unwritten", FIRKIN.as_bytes())?;
-    let given = answer_in_vain(&rt, &["standard", "en-gb", path.as_str(), "-"], b"firkin");
-    holds(
-        given.is(5, b"", b"hyphenate: the result can't be written\n"),
-        "hyphenate: the result can't be written",
-    )?;
-    fs::remove_file(&rt, path.as_str())?;
-    Ok(())
+    let before = ["standard", "en-gb"];
+    tells_the_output(&rt, "unwritten", FIRKIN, &before, &["-"], b"firkin")
 }
 
 const DOUBLED: &str =
@@ -468,7 +511,7 @@ fn a_text_is_hyphenated_by_an_extended_dictionary(rt: HostRuntime) -> Result<(),
         ),
         (&["", "-asszonnyal"], text, 0, "Az asszonnyal.\r\n", ""),
     ];
-    answers_cases(&rt, "doubled", ["extended", "hu"], DOUBLED, &cases)
+    answers_cases(&rt, "doubled", &["extended", "hu"], DOUBLED, &cases)
 }
 
 /// Takes nothing.
@@ -487,15 +530,8 @@ impl Write for Full {
 
 #[test]
 fn a_score_that_cannot_be_written_is_told(rt: HostRuntime) -> Result<(), Fail> {
-    let path = file(&rt, "output", FIRKIN.as_bytes())?;
-    let words = ["score", "standard", "en-gb", path.as_str(), "firkin"];
-    let given = answer_in_vain(&rt, &words, b"");
-    holds(
-        given.is(5, b"", b"hyphenate: the result can't be written\n"),
-        "hyphenate: the result can't be written",
-    )?;
-    fs::remove_file(&rt, path.as_str())?;
-    Ok(())
+    let before = ["score", "standard", "en-gb"];
+    tells_the_output(&rt, "output", FIRKIN, &before, &["firkin"], b"")
 }
 
 /// The status where neither a result nor a message can be written.
@@ -508,8 +544,14 @@ fn status_in_silence(rt: &HostRuntime, words: &[&str]) -> u8 {
 fn a_message_that_cannot_be_written_leaves_the_status(rt: HostRuntime) -> Result<(), Fail> {
     let path = file(&rt, "message", FIRKIN.as_bytes())?;
     let words = ["score", "standard", "en-gb", path.as_str(), "firkin"];
-    holds(status_in_silence(&rt, &words) == 5, "5")?;
-    holds(status_in_silence(&rt, &["score"]) == 2, "2")?;
+    holds(
+        status_in_silence(&rt, &words) == 5,
+        "a score ends with the status 5",
+    )?;
+    holds(
+        status_in_silence(&rt, &["score"]) == 2,
+        "other words end with the status 2",
+    )?;
     fs::remove_file(&rt, path.as_str())?;
     Ok(())
 }
@@ -536,7 +578,7 @@ fn a_text_is_filled(rt: HostRuntime) -> Result<(), Fail> {
         ),
         (&["72"], b"", 0, "", ""),
     ];
-    answers_cases(&rt, "verse", ["fill", "en-gb"], VERSE, &cases)
+    answers_cases(&rt, "verse", &["fill", "en-gb"], VERSE, &cases)
 }
 
 #[test]
@@ -559,21 +601,15 @@ fn a_text_that_cannot_be_filled_is_told_with_its_status(rt: HostRuntime) -> Resu
 
 #[test]
 fn lines_that_cannot_be_written_are_told(rt: HostRuntime) -> Result<(), Fail> {
-    let path = file(&rt, "full", VERSE.as_bytes())?;
-    let given = answer_in_vain(&rt, &["fill", "en-gb", path.as_str(), "72"], b"noble");
-    holds(
-        given.is(5, b"", b"hyphenate: the result can't be written\n"),
-        "hyphenate: the result can't be written",
-    )?;
-    fs::remove_file(&rt, path.as_str())?;
-    Ok(())
+    let before = ["fill", "en-gb"];
+    tells_the_output(&rt, "full", VERSE, &before, &["72"], b"noble")
 }
 
 #[test]
 fn a_text_is_not_filled_by_another_language(rt: HostRuntime) -> Result<(), Fail> {
     let path = file(&rt, "other-language", VERSE.as_bytes())?;
     let given = answer_over(&rt, &["fill", "en-us", path.as_str(), "72"], b"\xff");
-    holds(given.names_the_dictionary(), "the dictionary")?;
+    holds(given.names_the_dictionary(), "the dictionary is named")?;
     fs::remove_file(&rt, path.as_str())?;
     Ok(())
 }
@@ -595,15 +631,18 @@ fn status_of_words(alloc: Global, kind: ErrorKind) -> u8 {
 fn want_of_memory_and_words_that_are_not_utf8_have_their_status(
     rt: HostRuntime,
 ) -> Result<(), Fail> {
-    holds(is_memory_told(rt.alloc()), "a run's")?;
+    holds(is_memory_told(rt.alloc()), "a run's want of memory is told")?;
     let opening = opening_fault(io::Error::from(ErrorKind::OutOfMemory));
-    holds(matches!(opening, RunError::Memory), "an opening's")?;
+    holds(
+        matches!(opening, RunError::Memory),
+        "an opening's want of memory is a run's",
+    )?;
     holds(
         status_of_words(rt.alloc(), ErrorKind::OutOfMemory) == 6,
-        "6",
+        "words that want memory have the status 6",
     )?;
     holds(
         status_of_words(rt.alloc(), ErrorKind::InvalidData) == 2,
-        "2",
+        "words that are not UTF-8 have the status 2",
     )
 }
