@@ -9,7 +9,7 @@ use std::alloc::{AllocError, Global};
 use std::test::Fail;
 
 /// The line and the cause for which a text is refused, if it is.
-fn fault_in(answer: &Result<Standard, Error>) -> Option<(usize, Cause)> {
+pub fn fault_in<D>(answer: &Result<D, Error>) -> Option<(usize, Cause)> {
     match answer {
         Err(Error::Deserialization { line, cause }) => Some((*line, *cause)),
         _ => None,

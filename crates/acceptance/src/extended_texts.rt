@@ -1,24 +1,18 @@
 //! Which extended texts are refused, with which line and cause, and which are accepted.
 
+use crate::beginnings::fault_in;
 use answers::{ended, ends, extended, gives_in, same_in};
 use hyphenation::extended::Extended;
-use hyphenation::load::{Cause, Error, Load};
+use hyphenation::load::{Cause, Load};
 use hyphenation::{Language, Standard};
 use std::alloc::Global;
 use std::test::Fail;
 
-/// The line and the cause for which a text of this line is refused, if it is.
-fn fault_of(alloc: Global, line: &str) -> Option<(usize, Cause)> {
-    match extended(alloc, "2 2", line) {
-        Err(Error::Deserialization { line, cause }) => Some((line, cause)),
-        _ => None,
-    }
-}
-
 /// Fails where one of these lines is not refused for its cause, at line 4.
 fn refused(alloc: Global, cases: &[(&str, Cause)]) -> Result<(), Fail> {
     for (line, cause) in cases {
-        same_in(*line, &fault_of(alloc, line), &Some((4, *cause)))?;
+        let fault = fault_in(&extended(alloc, "2 2", line));
+        same_in(*line, &fault, &Some((4, *cause)))?;
     }
     Ok(())
 }

@@ -120,8 +120,14 @@ fn is_filled(alloc: Global, most: usize) -> bool {
 fn the_sizes_of_the_reads_change_nothing(rt: HostRuntime) -> Result<(), Fail> {
     let whole = AMERICAN.len();
     for most in [1, 2, 3, whole - 1, whole, TEXT.len() - 1, TEXT.len()] {
-        holds(is_marked(rt.alloc(), most), most)?;
-        holds(is_filled(rt.alloc(), most), most)?;
+        holds(
+            is_marked(rt.alloc(), most),
+            format_args!("marked, {most} bytes a read"),
+        )?;
+        holds(
+            is_filled(rt.alloc(), most),
+            format_args!("filled, {most} bytes a read"),
+        )?;
     }
     Ok(())
 }
@@ -154,11 +160,20 @@ fn wants_memory(alloc: Global, number: usize) -> bool {
 fn a_read_that_fails_once_ends_the_loading(rt: HostRuntime) -> Result<(), Fail> {
     // 54 bytes in pairs are 27 reads, and one more finds the end
     for number in 1..=28 {
-        holds(is_told(rt.alloc(), number), number)?;
-        holds(is_told_extended(rt.alloc(), number), number)?;
-        holds(wants_memory(rt.alloc(), number), number)?;
+        holds(
+            is_told(rt.alloc(), number),
+            format_args!("torn at read {number}"),
+        )?;
+        holds(
+            is_told_extended(rt.alloc(), number),
+            format_args!("extended, torn at read {number}"),
+        )?;
+        holds(
+            wants_memory(rt.alloc(), number),
+            format_args!("no memory at read {number}"),
+        )?;
         let again = load_once(rt.alloc(), number, ErrorKind::Interrupted);
-        holds(again.is_ok(), number)?;
+        holds(again.is_ok(), format_args!("interrupted at read {number}"))?;
     }
     let whole = load_once(rt.alloc(), 29, ErrorKind::ConnectionReset);
     holds(whole.is_ok(), "it ends well")
@@ -218,11 +233,11 @@ fn a_read_that_fails_once_ends_a_run(rt: HostRuntime) -> Result<(), Fail> {
     for number in 1..=9 {
         holds(
             is_fault_told(rt.alloc(), number, ErrorKind::ConnectionReset),
-            number,
+            format_args!("torn at read {number}"),
         )?;
         holds(
             is_fault_told(rt.alloc(), number, ErrorKind::OutOfMemory),
-            number,
+            format_args!("no memory at read {number}"),
         )?;
     }
     Ok(())
@@ -302,8 +317,14 @@ fn fills_again(alloc: Global, until: usize) -> bool {
 #[test]
 fn a_write_that_is_interrupted_is_tried_again(rt: HostRuntime) -> Result<(), Fail> {
     for until in 1..=MARKED.len() {
-        holds(marks_again(rt.alloc(), until), until)?;
-        holds(fills_again(rt.alloc(), until), until)?;
+        holds(
+            marks_again(rt.alloc(), until),
+            format_args!("marked, interrupted at write {until}"),
+        )?;
+        holds(
+            fills_again(rt.alloc(), until),
+            format_args!("filled, interrupted at write {until}"),
+        )?;
     }
     Ok(())
 }

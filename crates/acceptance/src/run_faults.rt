@@ -155,10 +155,22 @@ fn is_score_torn(alloc: Global, number: usize) -> bool {
 #[test]
 fn a_torn_dictionary_is_a_fault_of_reading_at_each_read(rt: HostRuntime) -> Result<(), Fail> {
     for number in 1..=55 {
-        holds(is_load_torn(rt.alloc(), number), number)?;
-        holds(is_asked_torn(rt.alloc(), number), number)?;
-        holds(is_run_torn(rt.alloc(), number), number)?;
-        holds(is_score_torn(rt.alloc(), number), number)?;
+        holds(
+            is_load_torn(rt.alloc(), number),
+            format_args!("loading, read {number}"),
+        )?;
+        holds(
+            is_asked_torn(rt.alloc(), number),
+            format_args!("loading in a language, read {number}"),
+        )?;
+        holds(
+            is_run_torn(rt.alloc(), number),
+            format_args!("a run, read {number}"),
+        )?;
+        holds(
+            is_score_torn(rt.alloc(), number),
+            format_args!("a run of values, read {number}"),
+        )?;
     }
     let whole = Standard::any_from_reader(rt.alloc(), &mut torn(LEAST, 56));
     holds(whole.is_ok(), "it ends well")

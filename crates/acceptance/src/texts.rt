@@ -1,5 +1,6 @@
 //! Which texts are refused, with which line and cause, and which are accepted.
 
+use crate::beginnings::fault_in;
 use answers::{gives, holds, same_in};
 use hyphenation::load::{Cause, Error, Load};
 use hyphenation::{Language, Standard};
@@ -17,10 +18,7 @@ fn accepted(alloc: Global, text: &[u8]) -> Result<Standard, Error> {
 
 /// The line and cause for which a text is refused.
 fn refusal(alloc: Global, text: &[u8]) -> Option<(usize, Cause)> {
-    match accepted(alloc, text) {
-        Err(Error::Deserialization { line, cause }) => Some((line, cause)),
-        _ => None,
-    }
+    fault_in(&accepted(alloc, text))
 }
 
 /// The head and then these bytes.

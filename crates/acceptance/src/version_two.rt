@@ -1,5 +1,6 @@
 //! Texts of version 2, in which values from 10 to 255 stand in braces, and what version 1 says to braces.
 
+use crate::beginnings::fault_in;
 use answers::{Question, asked, ends, gives, same_in, values_by};
 use hyphenation::extended::Extended;
 use hyphenation::load::{Cause, Error, Load};
@@ -30,10 +31,7 @@ fn second_extended(alloc: Global, lines: &str) -> Result<Extended, Error> {
 fn fault_of(alloc: Global, head: &str, lines: &str) -> Option<(usize, Cause)> {
     let text = text_of(alloc, head, lines).ok()?;
     let mut reader = text.as_bytes();
-    match Standard::any_from_reader(alloc, &mut reader) {
-        Err(Error::Deserialization { line, cause }) => Some((line, cause)),
-        _ => None,
-    }
+    fault_in(&Standard::any_from_reader(alloc, &mut reader))
 }
 
 /// The values of words, and then the places of their breaks, by a dictionary of version 2.
