@@ -274,17 +274,17 @@ fn names_the_dictionary(rt: &HostRuntime, path: &str) -> Result<(), Fail> {
     let given = answer_to(rt, &["score", "standard", "en-gb", path, "firkin"]);
     holds(
         given.names_the_dictionary(),
-        format_args!("a score names {path:?}"),
+        format_args!("score: {path:?} is named"),
     )?;
     let given = answer_over(rt, &["standard", "en-gb", path, "-", "*"], b"\xff");
     holds(
         given.names_the_dictionary(),
-        format_args!("a mark names {path:?}"),
+        format_args!("standard: {path:?} is named"),
     )?;
     let given = answer_over(rt, &["fill", "en-gb", path, "72"], b"\xff");
     holds(
         given.names_the_dictionary(),
-        format_args!("a width names {path:?}"),
+        format_args!("fill: {path:?} is named"),
     )
 }
 
