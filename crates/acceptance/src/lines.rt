@@ -176,7 +176,7 @@ fn writes(alloc: Global, text: &str, lines: &str) -> Result<(), Fail> {
     let mut output: Vec<u8> = Vec::new(alloc);
     let mut input = text.as_bytes();
     let end = run_in(alloc, 10, &mut VERSE.as_bytes(), &mut input, &mut output);
-    wrote(format_args!("{text:?}"), end, &output, lines.as_bytes())
+    wrote(format_args!("{text:?}"), &end, &output, lines.as_bytes())
 }
 
 #[test]

@@ -214,7 +214,7 @@ fn readers_of_one_byte_a_read_change_nothing(rt: HostRuntime) -> Result<(), Fail
         &mut torn(TEXT, usize::MAX),
         &mut output,
     );
-    wrote("one byte a read", end, &output.taken, MARKED)
+    wrote("one byte a read", &end, &output.taken, MARKED)
 }
 
 #[test]

@@ -18,8 +18,7 @@ struct Run {
 impl Run {
     /// Fails, and names the case, where the run has failed or has not written this text.
     fn has_written<C: Display + Drop>(self, case: C, text: &str) -> Result<(), Fail> {
-        let Run { end, output } = self;
-        wrote(case, end, &output, text.as_bytes())
+        wrote(case, &self.end, &self.output, text.as_bytes())
     }
 
     /// Whether the edit of this number is refused, and nothing is written.

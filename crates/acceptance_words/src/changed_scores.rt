@@ -82,7 +82,7 @@ fn writes(alloc: Global, lines: &str, word: &str, line: &str) -> Result<(), Fail
         &mut reader,
         &mut written,
     );
-    wrote(format_args!("{word:?}"), end, &written, line.as_bytes())
+    wrote(format_args!("{word:?}"), &end, &written, line.as_bytes())
 }
 
 #[test]

@@ -151,7 +151,7 @@ fn writes(alloc: Global, language: Language, word: &str, line: &str) -> Result<(
         &mut reader,
         &mut written,
     );
-    wrote(format_args!("{word:?}"), end, &written, line.as_bytes())
+    wrote(format_args!("{word:?}"), &end, &written, line.as_bytes())
 }
 
 #[test]

@@ -2,6 +2,7 @@
 #![tactic(auto)]
 
 use hyphenation::Standard;
+use hyphenation::engine::RunError;
 use hyphenation::extended::{Extended, Subregion};
 use hyphenation::hyphenator::{Break, Hyphenator};
 use hyphenation::iter::{Hyphenating, Texts};
@@ -65,9 +66,9 @@ pub fn gives_in<C: Display + Drop, E: Into<Fail>>(
 }
 
 /// Fails, and names the case, where a run has failed, or has written other bytes than are wanted.
-pub fn wrote<C: Display + Drop, E: Debug + Drop>(
+pub fn wrote<C: Display + Drop>(
     case: C,
-    end: Result<(), E>,
+    end: &Result<(), RunError>,
     output: &[u8],
     wanted: &[u8],
 ) -> Result<(), Fail> {
