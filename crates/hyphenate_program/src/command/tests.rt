@@ -320,12 +320,7 @@ fn words_of<'w>(
 type Case<'c> = (&'c [&'c str], &'c [u8], u8, &'c str, &'c str);
 
 /// Fails where the program does not answer a case so, over a dictionary in that file.
-fn answers_case<'c>(
-    rt: &HostRuntime,
-    head: &[&'c str],
-    path: &'c str,
-    case: &Case<'c>,
-) -> Result<(), Fail> {
+fn answers_case(rt: &HostRuntime, head: &[&str], path: &str, case: &Case<'_>) -> Result<(), Fail> {
     let (rest, text, status, output, faults) = *case;
     let words = words_of(rt.alloc(), head, path, rest)?;
     answers(
@@ -340,12 +335,12 @@ fn answers_case<'c>(
 
 /// Fails where the program does not answer each case so, over a dictionary of this text, in a new file, which goes
 /// then.
-fn answers_cases<'c>(
+fn answers_cases(
     rt: &HostRuntime,
     name: &str,
-    head: &[&'c str],
+    head: &[&str],
     dictionary: &str,
-    cases: &[Case<'c>],
+    cases: &[Case<'_>],
 ) -> Result<(), Fail> {
     let path = file(rt, name, dictionary.as_bytes())?;
     for case in cases {
