@@ -40,8 +40,8 @@ fn carried()
         ≡ Some (
           codes "ab",
           record
-            { place = 1; change = Some (record { left = 1; right = 1; substitution = codes "a,b"; breakpoint = 2 }) } ∷
-            [],
+              { place = 1; change = Some (record { left = 1; right = 1; substitution = codes "a,b"; breakpoint = 2 }) } ∷
+              [],
         ) }
     ensures plain { pattern_of_line First (codes "p s1szo0")
         ≡ Some (codes "sszo", record { place = 1; value = 1; change = None } ∷ []) }

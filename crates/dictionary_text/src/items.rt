@@ -20,6 +20,7 @@ use crate::pattern::{PatternRoom, PatternToken, pattern_of};
 use crate::tokens::{LaterToken, is_boundary, later_token, string_of};
 use hyphenation_commons::dictionary::{Entry, Listing, Payload};
 use hyphenation_commons::extended::Subregion;
+use hyphenation_trie::in_32_bits;
 use std::alloc::{AllocError, Global};
 use std::mem;
 use std::vec::IntoIter;
@@ -335,8 +336,9 @@ fn matched<C: Payload>(
     let mut next = rest.next();
     for value in values {
         let change = taken_at(value.0, &mut next, &mut rest);
+        let place = in_32_bits(value.0)?;
         entries.push(Entry {
-            place: value.0,
+            place,
             value: value.1,
             change: C::from_change(change),
         })?;

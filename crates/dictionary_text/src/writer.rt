@@ -151,7 +151,7 @@ fn push_value_at<'a, C: Payload>(
     ensures later { IfOk result (λ later. later.now ≡ entries_after at entries.now) }
 {
     match entries.split_first() {
-        Some((first, later)) if first.place == at => {
+        Some((first, later)) if first.place as usize == at => {
             push_value(text, version, first.value)?;
             Ok(later)
         }
@@ -189,7 +189,7 @@ fn push_changes<C: Payload>(text: &mut Vec<u8>, entries: &[Entry<C>]) -> Result<
     for entry in entries {
         if let Some(change) = entry.change.as_change() {
             text.push(b' ')?;
-            push_change(text, entry.place, change)?;
+            push_change(text, entry.place as usize, change)?;
         }
     }
     Ok(())

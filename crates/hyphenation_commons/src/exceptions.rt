@@ -57,7 +57,8 @@ fn spot(word: &[u8]) -> usize
     let middle = word[count / 2] as usize;
     let quarter = word[count / 4] as usize;
     let last = word[count - 1] as usize;
-    (count % 64 + first * 31 + middle * 961 + quarter * 29791 + last * 7) % SPOTS
+    // Each step is one addition to eight times what was there.
+    ((((last * 8 + quarter) * 8 + middle) * 8 + first) * 8 + count % 64) % SPOTS
 }
 
 /// So many spots without a mark.

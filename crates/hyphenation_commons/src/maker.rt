@@ -35,13 +35,14 @@ fn are_entries<C: Payload>(key: &str, entries: &[Entry<C>]) -> bool
 {
     let mut least = 0;
     for entry in entries {
-        if entry.place < least || entry.value == 0 {
+        let place = entry.place as usize;
+        if place < least || entry.value == 0 {
             return false;
         }
-        if !stands_in(key, &(entry.place, entry.change.as_change())) {
+        if !stands_in(key, &(place, entry.change.as_change())) {
             return false;
         }
-        least = entry.place + 1;
+        least = place + 1;
     }
     true
 }

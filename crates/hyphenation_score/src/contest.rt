@@ -53,7 +53,7 @@ fn compete_at<'d, C>(
         then meets (best_of bests.old starts.old i) start (Some entry.now)
         else best_of bests.old starts.old i) }
 {
-    if let Some(place) = start.checked_add(entry.place) {
+    if let Some(place) = start.checked_add(entry.place as usize) {
         if 2 <= place && place - 2 < bests.len() {
             let at = place - 2;
             let (best, from) = better(bests[at], starts[at], entry, start);

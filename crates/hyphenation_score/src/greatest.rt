@@ -19,36 +19,77 @@ use hyphenation_trie::{Automaton, LookUps};
 use std::alloc::{AllocError, Global};
 
 /// Raises the value of the place for which `start + place` stands, if that is within the word.
-fn raise_at(values: &mut [u8], start: usize, place: usize, value: u8)
+fn raise_at(values: &mut [u8], start: usize, place: u32, value: u8)
     requires start { start ≤ length values.old + 2 }
     requires room { length values.old + 1 < 2 ^ 63 }
     ensures { (i : ℕ) → i < length values.old
         → slice_index values.new i ≡ max (slice_index values.old i) (if start + place == (i + 1) + 1 then value
         else 0) }
 {
-    // A place after the word is passed over first, so that no sum is too great.
-    if place <= values.len() + 1 {
-        // The frame has a dot before the word, and the first place stands after the word's first byte.
-        let at = (start + place).wrapping_sub(2);
-        if at < values.len() && values[at] < value {
-            values[at] = value;
-        }
+    // The frame has a dot before the word, and the first place stands after the word's first byte.
+    let at = (start + place as usize).wrapping_sub(2);
+    if at < values.len() && values[at] < value {
+        values[at] = value;
     }
 }
 
-/// Raises the values to those of the entries of a key that stands at `start`, and tells whether one carries a change.
-fn raise<C: Payload>(entries: &[Entry<C>], start: usize, values: &mut [u8]) -> bool
+/// Raises the values to those of many entries of a key that stands at `start`, in a function of its own: few keys have
+/// so many, and a loop in the midst of the pass would take registers from it.
+#[cold]
+#[inline(never)]
+fn raise_by_many<C: Payload>(entries: &[Entry<C>], start: usize, values: &mut [u8])
     requires start { start ≤ length values.old + 2 }
     requires room { length values.old + 1 < 2 ^ 63 }
-    ensures values { (i : ℕ) → i < length values.old
+    ensures { (i : ℕ) → i < length values.old
         → slice_index values.new i
         ≡ max (slice_index values.old i)
         (greatest_value (filter (λ entry. start + entry.place == (i + 1) + 1) entries.now)) }
-    ensures changes { result ≡ carry_change C.change_of entries.now }
+{
+    for entry in entries {
+        raise_at(values, start, entry.place, entry.value);
+    }
+}
+
+/// The same of the entries after the first, mostly none or one.
+#[inline(always)]
+fn raise_by_later<C: Payload>(entries: &[Entry<C>], start: usize, values: &mut [u8])
+    requires start { start ≤ length values.old + 2 }
+    requires room { length values.old + 1 < 2 ^ 63 }
+    ensures { (i : ℕ) → i < length values.old
+        → slice_index values.new i
+        ≡ max (slice_index values.old i)
+        (greatest_value (filter (λ entry. start + entry.place == (i + 1) + 1) entries.now)) }
+{
+    match entries.split_first() {
+        None => {}
+        Some((only, [])) => raise_at(values, start, only.place, only.value),
+        Some(_) => raise_by_many(entries, start, values),
+    }
+}
+
+/// Raises the values to those of the entries of a key that stands at `start`.
+#[inline(always)]
+fn raise<C: Payload>(entries: &[Entry<C>], start: usize, values: &mut [u8])
+    requires start { start ≤ length values.old + 2 }
+    requires room { length values.old + 1 < 2 ^ 63 }
+    ensures { (i : ℕ) → i < length values.old
+        → slice_index values.new i
+        ≡ max (slice_index values.old i)
+        (greatest_value (filter (λ entry. start + entry.place == (i + 1) + 1) entries.now)) }
+{
+    if let Some((first, later)) = entries.split_first() {
+        raise_at(values, start, first.place, first.value);
+        raise_by_later(later, start, values);
+    }
+}
+
+/// Whether one of the entries carries a change.
+#[inline(always)]
+fn carry_change<C: Payload>(entries: &[Entry<C>]) -> bool
+    ensures { result ≡ carry_change C.change_of entries.now }
 {
     let mut changes = false;
     for entry in entries {
-        raise_at(values, start, entry.place, entry.value);
         changes |= entry.change.as_change().is_some();
     }
     changes
@@ -85,7 +126,8 @@ fn raise_reported<C: Payload>(
     let mut node = automaton.report(from);
     while node != 0 {
         let entries = automaton.entries(node, count);
-        changes |= raise(entries, end - automaton.depth(node), values);
+        raise(entries, end - automaton.depth(node), values);
+        changes |= carry_change(entries);
         node = automaton.next_report(node);
     }
     changes

@@ -102,7 +102,7 @@ impl LookUps {
 
 /// A number in 32 bits, as a dictionary holds all its numbers. One that needs more is refused as if memory were: the
 /// dictionary would take more than 2^32 nodes, cells or entries.
-fn in_32_bits(number: usize) -> Result<u32, AllocError>
+pub fn in_32_bits(number: usize) -> Result<u32, AllocError>
     ensures { IfOk result (λ held. held ≡ number) }
 {
     if number <= u32::MAX as usize {

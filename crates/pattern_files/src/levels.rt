@@ -7,6 +7,7 @@ use crate::parts::Parts;
 use hyphenation_commons::dictionary::{Entry, Listing, Payload};
 use hyphenation_commons::extended::Subregion;
 use hyphenation_commons::maker::fits_key;
+use hyphenation_trie::in_32_bits;
 use std::alloc::{AllocError, Global};
 use std::collections::BTreeMap;
 
@@ -241,7 +242,7 @@ fn entries_of<C: Payload>(alloc: Global, pattern: &Pattern) -> Result<Vec<Entry<
     let mut entries = Vec::new(alloc);
     for value in pattern.values.iter() {
         entries.push(Entry {
-            place: value.place,
+            place: in_32_bits(value.place)?,
             value: value.value,
             change: C::from_change(change_at(alloc, &pattern.change, value.place)?),
         })?;

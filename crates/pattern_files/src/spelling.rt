@@ -16,6 +16,7 @@ use crate::group::Group;
 use hyphenation::case_folding::refold;
 use hyphenation_commons::dictionary::{Dictionary, Entry, Listing, Payload};
 use hyphenation_commons::maker::fits_key;
+use hyphenation_trie::in_32_bits;
 use std::alloc::{AllocError, Global};
 
 /// Whether a backslash or a brace stands in a text.
@@ -121,7 +122,7 @@ fn push_value<C: Payload>(
         return Ok(());
     }
     entries.push(Entry {
-        place,
+        place: in_32_bits(place)?,
         value: digit - b'0',
         change: C::from_change(None),
     })?;

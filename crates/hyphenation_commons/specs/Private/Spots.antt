@@ -10,8 +10,8 @@ spots = 16384
 -- The spot of a word, by its length and its first byte, two in the midst and the last.
 abbrev pub spot : List ℕ → ℕ
 spot word =
-    (length word % 64 + slice_index word 0 * 31 + slice_index word (length word / 2) * 961 + slice_index word
-    (length word / 4) * 29791 + slice_index word (length word - 1) * 7) % spots
+    ((((slice_index word (length word - 1) * 8 + slice_index word (length word / 4)) * 8 + slice_index word
+    (length word / 2)) * 8 + slice_index word 0) * 8 + length word % 64) % spots
 
 -- There is a mark for each spot, and those of listed words are set.
 pub record AreMarked {X : Type 0} (marks : List Bool) (words : TextMap X) : Type 0 where
