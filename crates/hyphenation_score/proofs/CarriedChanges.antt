@@ -1,10 +1,10 @@
 -- Whether entries carry a change: of keys by their ends, and of all that bear on a place.
-use Rattle.std.proofs.Common.{◌≡◌, ℕ, zero, suc, ◌+◌, ◌-◌, ◌<◌, ◌≤◌, ◌||◌, ◌==◌, Bool, true, false, cond, List, [], ◌∷◌, ◌++◌, length, take, drop, get_or, filter, Option, Some, None, Bor, option_copied, refl, sym, ap, ◌∙◌, arith, inl, inr}
+use Rattle.std.proofs.Common.{◌≡◌, ℕ, zero, suc, ◌+◌, ◌-◌, ◌<◌, ◌≤◌, ◌==◌, Bool, true, false, cond, List, [], ◌∷◌, ◌++◌, length, take, drop, filter, Option, Some, None, refl, sym, ap, ◌∙◌, arith, inl, inr}
 use Rattle.std.specs.Prelude.{is_some}
 use Rattle.std.specs.List.{find, flat_map, range_with_len}
 use Rattle.std.specs.Option.{option_and_then}
 use Rattle.std.proofs.lemmas.Bool.{cases_eq, or_from, or_parts}
-use Rattle.std.proofs.lemmas.List.Folds.{list_any-append, list_any_more}
+use Rattle.std.proofs.lemmas.List.Folds.{list_any-append}
 use Rattle.std.proofs.lemmas.Grind.{flat_map-append}
 use Rattle.std.proofs.lemmas.List.{append-nil}
 use Rattle.hyphenation_commons.specs.Break.{Change}
@@ -18,18 +18,7 @@ use Rattle.hyphenation_score.specs.Scoring.{frame, bearing, bearing_from, bearer
 use Rattle.hyphenation_score.proofs.NumberRows.{range_more}
 use Rattle.hyphenation_score.proofs.OnePass.{ending_at, ending_is, visited_more, visited_first}
 
-pub some_copied : {X : Type 0} (o : Option (Bor X)) → is_some (option_copied o) ≡ is_some o
-some_copied None = refl
-some_copied (Some x) = refl
-
 module _ {C : Type 0} (change_of : C → Option Change) where
-  -- One more entry.
-  pub carried_more : (es : List (Entry C)) (i : ℕ) (e : Entry C) → i < length es → e ≡ get_or es i e → (so_far : Bool) → so_far ≡ carry_change change_of (take i es)
-      → (so_far || is_some (change_of e.change)) ≡ carry_change change_of (take (i + 1) es)
-  carried_more es i e lt at so_far is =
-      ap (λ b. b || is_some (change_of e.change)) is ∙ ap (λ (x : Entry C). carry_change change_of (take i es) || is_some (change_of x.change)) at
-      ∙ sym (list_any_more (λ (x : Entry C). is_some (change_of x.change)) es i e lt)
-
   -- Those that pass a test carry none where all carry none.
   pub none_filtered : (test : Entry C → Bool) (es : List (Entry C)) → carry_change change_of es ≡ false → carry_change change_of (filter test es) ≡ false
   none_filtered test [] none = refl

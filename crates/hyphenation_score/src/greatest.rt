@@ -4,7 +4,7 @@
 //! difference. Whether an entry that was met carries a change is told too: in most words none does, and then the
 //! values alone say where the word may be broken.
 
-ghost use Rattle.std.specs.Prelude.{◌≡◌, ◌+◌, ◌-◌, ◌*◌, ◌<◌, ◌≤◌, ◌^◌, ◌==◌, ◌++◌, ◌∷◌, [], if◌then◌else◌, max, ℕ, List, None, false, length, filter, slice_index, IfOk, OnOk};
+ghost use Rattle.std.specs.Prelude.{◌≡◌, ◌+◌, ◌-◌, ◌*◌, ◌<◌, ◌≤◌, ◌^◌, ◌==◌, ◌++◌, ◌∷◌, [], if◌then◌else◌, max, ℕ, List, None, false, length, filter, slice_index, is_some, IfOk, OnOk};
 ghost use Rattle.hyphenation_commons.specs.Dictionary.{keys_of, longest_key};
 ghost use Rattle.hyphenation_trie.specs.Links.{IsLongest};
 ghost use Rattle.hyphenation_trie.specs.Private.Links.{keys_in};
@@ -33,6 +33,22 @@ fn raise_at(values: &mut [u8], start: usize, place: u32, value: u8)
     }
 }
 
+/// Raises the value of the place of an entry of a key that stands at `start`, and tells whether the entry carries a
+/// change.
+#[inline(always)]
+fn raise_by<C: Payload>(entry: &Entry<C>, start: usize, values: &mut [u8]) -> bool
+    requires start { start ≤ length values.old + 2 }
+    requires room { length values.old + 1 < 2 ^ 63 }
+    ensures values { (i : ℕ) → i < length values.old
+        → slice_index values.new i ≡ max (slice_index values.old i) (if start + entry.now.place == (i + 1) + 1
+        then entry.now.value
+        else 0) }
+    ensures change { result ≡ is_some (C.change_of entry.now.change) }
+{
+    raise_at(values, start, entry.place, entry.value);
+    entry.change.as_change().is_some()
+}
+
 /// Raises the values to those of many entries of a key that stands at `start`, in a function of its own: few keys have
 /// so many, and a loop in the midst of the pass would take registers from it.
 #[cold]
@@ -50,53 +66,61 @@ fn raise_by_many<C: Payload>(entries: &[Entry<C>], start: usize, values: &mut [u
     }
 }
 
-/// The same of the entries after the first, mostly none or one.
-#[inline(always)]
-fn raise_by_later<C: Payload>(entries: &[Entry<C>], start: usize, values: &mut [u8])
-    requires start { start ≤ length values.old + 2 }
-    requires room { length values.old + 1 < 2 ^ 63 }
-    ensures { (i : ℕ) → i < length values.old
-        → slice_index values.new i
-        ≡ max (slice_index values.old i)
-        (greatest_value (filter (λ entry. start + entry.place == (i + 1) + 1) entries.now)) }
-{
-    match entries.split_first() {
-        None => {}
-        Some((only, [])) => raise_at(values, start, only.place, only.value),
-        Some(_) => raise_by_many(entries, start, values),
-    }
-}
-
-/// Raises the values to those of the entries of a key that stands at `start`.
-#[inline(always)]
-fn raise<C: Payload>(entries: &[Entry<C>], start: usize, values: &mut [u8])
-    requires start { start ≤ length values.old + 2 }
-    requires room { length values.old + 1 < 2 ^ 63 }
-    ensures { (i : ℕ) → i < length values.old
-        → slice_index values.new i
-        ≡ max (slice_index values.old i)
-        (greatest_value (filter (λ entry. start + entry.place == (i + 1) + 1) entries.now)) }
-{
-    if let Some((first, later)) = entries.split_first() {
-        raise_at(values, start, first.place, first.value);
-        raise_by_later(later, start, values);
-    }
-}
-
 /// Whether one of the entries carries a change.
-#[inline(always)]
 fn carry_change<C: Payload>(entries: &[Entry<C>]) -> bool
     ensures { result ≡ carry_change C.change_of entries.now }
 {
-    let mut changes = false;
-    for entry in entries {
-        changes |= entry.change.as_change().is_some();
+    entries
+        .iter()
+        .any(|entry| entry.change.as_change().is_some())
+}
+
+/// Raises the values to those of the entries of a key after its first, mostly none or one, and tells whether one of
+/// them carries a change.
+#[inline(always)]
+fn raise_by_later<C: Payload>(entries: &[Entry<C>], start: usize, values: &mut [u8]) -> bool
+    requires start { start ≤ length values.old + 2 }
+    requires room { length values.old + 1 < 2 ^ 63 }
+    ensures values { (i : ℕ) → i < length values.old
+        → slice_index values.new i
+        ≡ max (slice_index values.old i)
+        (greatest_value (filter (λ entry. start + entry.place == (i + 1) + 1) entries.now)) }
+    ensures changes { result ≡ carry_change C.change_of entries.now }
+{
+    match entries.split_first() {
+        None => false,
+        Some((only, [])) => raise_by(only, start, values),
+        Some(_) => {
+            raise_by_many(entries, start, values);
+            carry_change(entries)
+        }
     }
-    changes
+}
+
+/// Raises the values to those of the entries of a key that stands at `start`, and tells whether one of them carries a
+/// change.
+#[inline(always)]
+fn raise<C: Payload>(entries: &[Entry<C>], start: usize, values: &mut [u8]) -> bool
+    requires start { start ≤ length values.old + 2 }
+    requires room { length values.old + 1 < 2 ^ 63 }
+    ensures values { (i : ℕ) → i < length values.old
+        → slice_index values.new i
+        ≡ max (slice_index values.old i)
+        (greatest_value (filter (λ entry. start + entry.place == (i + 1) + 1) entries.now)) }
+    ensures changes { result ≡ carry_change C.change_of entries.now }
+{
+    match entries.split_first() {
+        None => false,
+        Some((first, later)) => {
+            let changes = raise_by(first, start, values);
+            changes | raise_by_later(later, start, values)
+        }
+    }
 }
 
 /// Raises the values to those of the keys that end the text of a node, which ends at `end`, with one report for each.
 /// Where it says no, none of their entries carries a change.
+#[inline(always)]
 fn raise_reported<C: Payload>(
     automaton: &Automaton<Entry<C>>,
     from: usize,
@@ -126,8 +150,7 @@ fn raise_reported<C: Payload>(
     let mut node = automaton.report(from);
     while node != 0 {
         let entries = automaton.entries(node, count);
-        raise(entries, end - automaton.depth(node), values);
-        changes |= carry_change(entries);
+        changes |= raise(entries, end - automaton.depth(node), values);
         node = automaton.next_report(node);
     }
     changes

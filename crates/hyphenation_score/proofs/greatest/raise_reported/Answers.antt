@@ -53,16 +53,16 @@ loop-node-preserved g c =
       within = report.within;
       ends = Ends-trans t (node_text tree at) (node_text tree to) inv.ends (Ends-whole (node_text tree at) (node_text tree to) report.ends);
       key = report.key;
-      values = λ i lt. visit_more tree t c.args.end (i + 1) at to (slice_index c.args.values.now i) (slice_index c.loop-node.values i) (slice_index c.raise.new.values i)
+      values = λ i lt. visit_more tree t c.args.end (i + 1) at to (slice_index c.args.values.now i) (slice_index c.loop-node.values i) (slice_index c.raise-changes.new.values i)
           inv.ends less none (inv.values i (omega arith))
-          (c.raise.ensures i (omega arith)
+          (c.raise-changes.ensures.values i (omega arith)
           ∙ ap (λ es. max (slice_index c.loop-node.values i) (greatest_value es))
           (sym (piece_is tree t c.args.end (i + 1) at c.depth.result (Some c.entries-entries.result.now) inv.ends c.requires.end c.depth.ensures c.entries-entries.ensures.entries)));
       unchanged = λ no p.
-          let parts = or_parts c.loop-node.changes c.carry_change-changes.result no in
+          let parts = or_parts c.loop-node.changes c.raise-changes.result no in
           none_reported g.C.Payload.change_of tree t c.args.end p at to inv.ends less none (inv.unchanged parts.0 p)
           (ap (carry_change g.C.Payload.change_of) (piece_is tree t c.args.end p at c.depth.result (Some c.entries-entries.result.now) inv.ends c.requires.end c.depth.ensures c.entries-entries.ensures.entries)
-          ∙ none_filtered g.C.Payload.change_of _ c.entries-entries.result.now (sym c.carry_change-changes.ensures ∙ parts.1));
+          ∙ none_filtered g.C.Payload.change_of _ c.entries-entries.result.now (sym c.raise-changes.ensures.changes ∙ parts.1));
       reported = omega (arith, counted, more, inv.reported);
       few = omega (arith, counted, inv.few);
       made = ap (λ x. x.made) c.entries-entries.ensures.counted ∙ inv.made;
