@@ -22,7 +22,7 @@ message Change = codes "bad change"
 message RepeatedPattern = codes "repeated pattern"
 message RepeatedException = codes "repeated exception"
 
--- What an error says; that of reading says what it says itself.
+-- What an error says; a fault of reading says it itself, and of another language nothing is said here.
 abbrev pub error_text : Error → Option (List ℕ)
 error_text (Deserialization line cause) = Some (codes "line " ++ decimal line ++ codes ": " ++ message cause)
 error_text (IO error) = None

@@ -100,8 +100,8 @@ impl LookUps {
     }
 }
 
-/// A number in 32 bits, as a dictionary holds all its numbers. One that needs more is refused as if memory were: the
-/// dictionary would take more than 2^32 nodes, cells or entries.
+/// A number in 32 bits, as a dictionary holds those of its nodes, cells and entries, and the places of its keys. One
+/// that needs more is refused as if memory were.
 pub fn in_32_bits(number: usize) -> Result<u32, AllocError>
     ensures { IfOk result (λ held. held ≡ number) }
 {

@@ -113,7 +113,7 @@ fn fits(cells: &[Cell], free: u32, base: usize, node: u32, children: &Children) 
 }
 
 /// How many places are tried for a row, and how far after the last cell in use the first of them lies. More of them
-/// pack the rows closer and take longer; there are so few that freezing takes time in the number of nodes alone.
+/// pack the rows closer and take longer; there are so few that placing takes time in the number of nodes alone.
 const TRIES: usize = 16;
 
 const BACK: usize = 64;

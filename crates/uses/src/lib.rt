@@ -1,5 +1,5 @@
-//! What people write over these libraries: callers of some thirty lines, each with a contract of its own, which cites
-//! what the libraries promise and nothing of how they keep it.
+//! What people write over these libraries: callers of some thirty to sixty lines, each with a contract of its own,
+//! which cites what the libraries promise and nothing of how they keep it.
 #![tactic(auto)]
 
 pub mod discretionaries;

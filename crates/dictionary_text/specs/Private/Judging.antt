@@ -1,4 +1,4 @@
--- The tests of a line, the refusal of a text, and what an accepted text gives: what private functions and proofs need of it beside, and no public contract cites.
+-- The tests of a line, and the refusal of a text: what private functions and proofs need of it beside, and no public contract cites.
 use Rattle.std.specs.Prelude.{ℕ, List, [], ◌∷◌, Option, find}
 use Rattle.dictionary_text.specs.declared.form.Form.{Form}
 use Rattle.dictionary_text.specs.declared.Cause.{Cause}

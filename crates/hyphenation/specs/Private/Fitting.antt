@@ -1,4 +1,4 @@
--- Which breaks of a folded word are kept, so that they fit the word as written: a change is written for the letters of: what private functions and proofs need of it beside, and no public contract cites.
+-- Which breaks of a folded word are kept, so that they fit the word as written: what private functions and proofs need of it beside, and no public contract cites.
 use Rattle.std.specs.Prelude.{ℕ, ◌&&◌, not, nat_le, nat_lt, Bool, List}
 use Rattle.std.specs.List.{list_any}
 use Rattle.hyphenation_commons.specs.Break.{Break, left_of, begin_of, end_of}
