@@ -4,7 +4,7 @@ use Rattle.std.proofs.lemmas.List.{append-nil, map-append}
 use Rattle.std.specs.Prelude.{codes, option_map}
 use Rattle.dictionary_text.specs.Lines.{same}
 use Rattle.hyphenation_trie.proofs.TrieNodes.{same_text}
-use Rattle.pattern_files.specs.Groups.{Piece, GroupWord, Found, place_after, with_piece, with_piece_at, closed_at, groups, nothing_found, with_plain, plain_words}
+use Rattle.pattern_files.specs.Groups.{Piece, GroupWord, Found, place_after, with_piece, with_piece_outside, with_piece_at, closed_at, groups, nothing_found, with_plain, plain_words}
 use Rattle.pattern_files.specs.declared.fault.Cause.{Cause}
 use Rattle.pattern_files.specs.declared.fault.Cause.TheVariants.{Input, Unclosed}
 use Rattle.pattern_files.specs.declared.group.Group.{Group}
@@ -96,18 +96,20 @@ chosen_later : (n : ℕ) (front : List GroupWord) (t : Bool) (f g h k : Found) �
 chosen_later n front true f g h k e d = e
 chosen_later n front false f g h k e d = d
 
-at_later : (n : ℕ) (front : List GroupWord) (place : Place) (f : Found) (p : Piece) → with_piece_at (place_later n place) (found_later n front f) (piece_later n p) ≡ found_later n front (with_piece_at place f p)
-at_later n front Outside f p =
+outside_later : (n : ℕ) (front : List GroupWord) (f : Found) (p : Piece) → with_piece_outside (found_later n front f) (piece_later n p) ≡ found_later n front (with_piece_outside f p)
+outside_later n front f p =
     chosen_later n front (same p.text (codes "\\input")) (record f { at_end = true; fault = Some (p.line, Input) }) (if same p.text (codes "\\endinput") then record f { at_end = true } else record f { place = place_after p.text })
     (record (found_later n front f) { at_end = true; fault = Some (n + p.line, Input) }) (if same p.text (codes "\\endinput") then record (found_later n front f) { at_end = true } else record (found_later n front f) { place = place_after p.text })
     refl
     (chosen_later n front (same p.text (codes "\\endinput")) (record f { at_end = true }) (record f { place = place_after p.text }) (record (found_later n front f) { at_end = true }) (record (found_later n front f) { place = place_after p.text })
     refl (ap (λ (q : Place). record (found_later n front f) { place = q }) (sym (after_later n p.text))))
-at_later n front (Before group) f p = by (same p.text (codes "{"))
-  where
-    by : (t : Bool) → record (found_later n front f) { place = if t then Within group (n + p.line) else place_after p.text } ≡ found_later n front (record f { place = if t then Within group p.line else place_after p.text })
-    by true = refl
-    by false = ap (λ (q : Place). record (found_later n front f) { place = q }) (sym (after_later n p.text))
+
+at_later : (n : ℕ) (front : List GroupWord) (place : Place) (f : Found) (p : Piece) → with_piece_at (place_later n place) (found_later n front f) (piece_later n p) ≡ found_later n front (with_piece_at place f p)
+at_later n front Outside f p = outside_later n front f p
+at_later n front (Before group) f p =
+    chosen_later n front (same p.text (codes "{")) (record f { place = Within group p.line }) (with_piece_outside f p)
+    (record (found_later n front f) { place = Within group (n + p.line) }) (with_piece_outside (found_later n front f) (piece_later n p))
+    refl (outside_later n front f p)
 at_later n front (Within group opened) f p =
     chosen_later n front (same p.text (codes "}")) (record f { place = Outside }) (record f { words = f.words ++ word group p ∷ [] })
     (record (found_later n front f) { place = Outside }) (record (found_later n front f) { words = (front ++ words_later n f.words) ++ word group (piece_later n p) ∷ [] })

@@ -82,15 +82,20 @@ place_after piece =
     if same piece (codes "\\patterns") then Before Patterns
     else (if same piece (codes "\\hyphenation") then Before Exceptions else Outside)
 
--- A piece that stands there. A group is what stands in braces after its command. A file ends at `\endinput` outside of
--- groups.
-abbrev pub with_piece_at : Place → Found → Piece → Found
-with_piece_at Outside found piece =
+-- A piece outside of groups. At `\input` and `\endinput` the file ends.
+abbrev pub with_piece_outside : Found → Piece → Found
+with_piece_outside found piece =
     if same piece.text (codes "\\input") then record found { at_end = true; fault = Some (piece.line, Input) }
     else (if same piece.text (codes "\\endinput") then record found { at_end = true }
     else record found { place = place_after piece.text })
+
+-- A piece that stands there. A group is what stands in braces after its command; where no brace is after it, what is
+-- there stands outside of groups.
+abbrev pub with_piece_at : Place → Found → Piece → Found
+with_piece_at Outside found piece = with_piece_outside found piece
 with_piece_at (Before group) found piece =
-    record found { place = if same piece.text (codes "{") then Within group piece.line else place_after piece.text }
+    if same piece.text (codes "{") then record found { place = Within group piece.line }
+    else with_piece_outside found piece
 with_piece_at (Within group opened) found piece =
     if same piece.text (codes "}") then record found { place = Outside }
     else record found { words = found.words ++ (record { line = piece.line; group = group; text = piece.text }) ∷ [] }

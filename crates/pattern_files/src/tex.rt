@@ -3,9 +3,8 @@
 ghost use Rattle.std.specs.Prelude.{◌≡◌, ◌+◌, ◌<◌, ◌^◌, IfOk, OnOk, map, fold};
 ghost use Rattle.dictionary_text.specs.Lines.{same};
 ghost use Rattle.pattern_files.specs.Converting.{words_of, group_fault};
-ghost use Rattle.pattern_files.specs.Groups.{is_space, with_piece_at, closed_at, with_read_byte, with_piece_ended, with_byte, pieces_of, place_after, with_piece, with_plain, nothing_found, nothing_lexed, groups, plain_words, word_view};
+ghost use Rattle.pattern_files.specs.Groups.{is_space, with_piece_outside, closed_at, with_read_byte, with_piece_ended, with_byte, pieces_of, place_after, with_piece, with_plain, nothing_found, nothing_lexed, groups, plain_words, word_view};
 ghost use Rattle.dictionary_text.specs.Tokens.{is_brace};
-ghost use Rattle.pattern_files.specs.declared.group.Place.TheVariants.{Outside};
 ghost use Rattle.pattern_files.specs.Private.Read.{piece_view, lexer_view, scan_view};
 
 use crate::fault::Cause;
@@ -160,7 +159,7 @@ impl Scan {
     /// Takes in a piece outside of groups.
     fn take_outside(&mut self, line: usize, text: &[u8])
         ensures { scan_view self.new
-            ≡ with_piece_at Outside (scan_view self.old) (record { line = line; text = text.now }) }
+            ≡ with_piece_outside (scan_view self.old) (record { line = line; text = text.now }) }
     {
         if is(text, "\\input") {
             self.at_end = true;
@@ -189,9 +188,9 @@ impl Scan {
             Place::Before(group) => {
                 if is(&piece.text, "{") {
                     self.place = Place::Within(group, piece.line);
-                    return Ok(());
+                } else {
+                    self.take_outside(piece.line, &piece.text);
                 }
-                self.place = place_after(&piece.text);
                 Ok(())
             }
             Place::Within(group, _) => {

@@ -92,9 +92,15 @@ fn of_a_repeated_key_the_last_counts(rt: HostRuntime) -> Result<(), Fail> {
 
 #[test]
 fn the_first_fault_is_told(rt: HostRuntime) -> Result<(), Fail> {
-    let cases: [(Form, &[u8], usize, Cause); 12] = [
+    let cases: [(Form, &[u8], usize, Cause); 13] = [
         (Form::Tex, b"\\patterns{\na1b\n", 1, Cause::Unclosed),
         (Form::Tex, b"\n\\input other.tex\n", 2, Cause::Input),
+        (
+            Form::Tex,
+            b"\\patterns\n\\input other.tex\n",
+            2,
+            Cause::Input,
+        ),
         (Form::Tex, b"\\patterns{ \\nom{1a} }", 1, Cause::Command),
         (Form::Tex, b"\\patterns{\n^^e41b }", 2, Cause::EightBit),
         (Form::Tex, b"\\patterns{a1b\n\n\xe41b }", 3, Cause::NotUtf8),
