@@ -4,10 +4,11 @@ use Rattle.std.proofs.lemmas.Bool.{cases_eq, cases_lt}
 use Rattle.std.proofs.lemmas.List.{length-append, length-drop, length-map, map_push, get_or-map, get_or_append_left, get_or_push}
 use Rattle.hyphenation_trie.specs.Trie.{Tree, node_text, IsTrie}
 use Rattle.hyphenation_trie.specs.Private.Trie.{texts_of, HasFroms}
-use Rattle.hyphenation_trie.specs.Private.Rows.{child_in, edge_in, HasRow}
-use Rattle.hyphenation_trie.specs.Private.Links.{HasParents, parent_of, byte_of, IsDepths, IsFrozen, HasDepths}
+use Rattle.hyphenation_trie.specs.Private.Rows.{child_in, edge_in, HasRow, IsFullRow}
+use Rattle.hyphenation_trie.specs.Private.Links.{HasNoChild, HasParents, parent_of, byte_of, IsDepths, IsFrozen, HasDepths}
 use Rattle.hyphenation_trie.specs.declared.rows.Cell.{Cell}
 use Rattle.std.specs.List.{zip}
+use Rattle.std.specs.Prelude.{IfSome, IfNone}
 use Rattle.hyphenation_trie.specs.Private.States.{froms_by, texts_by}
 use Rattle.std.proofs.lemmas.Simd.{map-map}
 use Rattle.hyphenation_trie.proofs.TrieNodes.{length-texts_of, last_same, not_empty}
@@ -71,14 +72,14 @@ depth_is texts parents bytes depths root has deep (suc fuel) j lt lj = elim (cas
 -- ---- rows
 
 pub frozen_is : {E : Type 0} (tree : Tree E) (parents bytes bases : List ℕ) (cells : List Cell) → IsTrie tree → HasParents tree.texts parents bytes → length bases ≡ length parents
-    → ((i : ℕ) → i < length parents → HasRow parents bytes cells (slice_index bases i) i) → IsFrozen tree bases cells
-frozen_is tree parents bytes bases cells trie has len rows = record {
+    → ((i : ℕ) → i < length parents → HasRow parents bytes cells (slice_index bases i) i) → IsFullRow cells (slice_index bases 0) 0 → IsFrozen tree bases cells
+frozen_is tree parents bytes bases cells trie has len rows full = record {
   trie = trie;
   lengths = len ∙ has.nodes;
   room = λ i li. (rows i (omega (arith, has.nodes))).room;
-  sound = λ i b j li e.
+  sound = λ i b j li e pos.
       let row = rows i (omega (arith, has.nodes)) in
-      let w = row.only (slice_index bases i + b) j e in
+      let w = row.only (slice_index bases i + b) j e pos in
       let byte : slice_index bytes j ≡ b = omega (arith, w.3) in
       let h = has.each j w.0 (omega (arith, w.1, has.nodes)) in (
         omega (arith, w.1, has.nodes),
@@ -93,17 +94,47 @@ frozen_is tree parents bytes bases cells trie has len rows = record {
         let row = rows i (omega (arith, has.nodes)) in
         ap (λ (x : ℕ). child_in cells i (slice_index bases i + x)) (sym parts.1) ∙ row.mine j (omega arith) (omega (arith, has.nodes)) up
   ];
+  full = full;
 }
 
--- What a look-up finds: the child, or that there is none.
-abbrev pub Found : {E : Type 0} → Tree E → ℕ → ℕ → Option ℕ → Type 0
-Found tree i b None = (j : ℕ) → j < length tree.texts → node_text tree j ≢ node_text tree i ++ b ∷ []
-Found tree i b (Some j) = (j < length tree.texts) × (node_text tree j ≡ node_text tree i ++ b ∷ [])
+same_some : (a b : ℕ) → Some a ≡ Some b → a ≡ b
+same_some a b e = cc
 
-pub found_is : {E : Type 0} (tree : Tree E) (bases : List ℕ) (cells : List Cell) (i b : ℕ) (o : Option ℕ) → IsFrozen tree bases cells → i < length tree.texts → o ≡ edge_in bases cells i b
+-- What a look-up finds: the child, or that there is none. The root finds itself where it has none.
+abbrev pub Found : {E : Type 0} → Tree E → ℕ → ℕ → Option ℕ → Type 0
+Found tree i b None = (0 < i) × HasNoChild tree i b
+Found tree i b (Some j) =
+    (j < length tree.texts) × (0 < i + j → node_text tree j ≡ node_text tree i ++ b ∷ []) × (i + j ≡ 0 → HasNoChild tree i b)
+
+pub found_is : {E : Type 0} (tree : Tree E) (bases : List ℕ) (cells : List Cell) (i b : ℕ) (o : Option ℕ) → IsFrozen tree bases cells → i < length tree.texts → b < 256 → o ≡ edge_in bases cells i b
     → Found tree i b o
-found_is tree bases cells i b None frozen li e = λ j lj is. let bad : None ≡ Some j = e ∙ frozen.complete i b j li lj is in absurd cc
-found_is tree bases cells i b (Some j) frozen li e = frozen.sound i b j li (sym e)
+found_is tree bases cells i b None frozen li small e = elim (cases_eq i 0) [
+  | inl is ↦ absurd (frozen.full b small (ap (λ (x : ℕ). edge_in bases cells x b) (sym is) ∙ sym e))
+  | inr apart ↦ (omega arith, λ j lj is. let bad : None ≡ Some j = e ∙ frozen.complete i b j li lj is in absurd cc)
+]
+found_is tree bases cells i b (Some j) frozen li small e = elim (cases_eq (i + j) 0) [
+  | inl is ↦ (
+    omega arith,
+    λ pos. absurd (omega arith),
+    λ zero k lk text.
+        let two : Some j ≡ Some k = e ∙ frozen.complete i b k li lk text in
+        let same : k ≡ 0 = omega (arith, same_some j k two) in
+        absurd (not_empty (node_text tree i) b (sym frozen.trie.root ∙ ap (λ (x : ℕ). node_text tree x) (sym same) ∙ text)),
+  )
+  | inr apart ↦ let found = frozen.sound i b j li (sym e) (omega arith) in (found.0, λ pos. found.1, λ zero. absurd (omega arith))
+]
+
+pub found_within : {E : Type 0} (tree : Tree E) (i b : ℕ) (o : Option ℕ) → Found tree i b o → IfSome o (λ j. j < length tree.texts)
+found_within tree i b None found = tt
+found_within tree i b (Some j) found = found.0
+
+pub found_root : {E : Type 0} (tree : Tree E) (i b : ℕ) (o : Option ℕ) → Found tree i b o → IfSome o (λ j. i + j ≡ 0 → HasNoChild tree i b)
+found_root tree i b None found = tt
+found_root tree i b (Some j) found = found.2
+
+pub found_none : {E : Type 0} (tree : Tree E) (i b : ℕ) (o : Option ℕ) → Found tree i b o → IfNone o ((0 < i) × HasNoChild tree i b)
+found_none tree i b None found = found
+found_none tree i b (Some j) found = tt
 
 -- one depth more
 pub depths_more : (parents depths : List ℕ) (node depth : ℕ) → length depths ≡ node → ((j : ℕ) → 0 < j → j < node + 1 → slice_index parents j < j)

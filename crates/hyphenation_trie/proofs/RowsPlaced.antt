@@ -1,5 +1,5 @@
 -- Rows, one more.
-use Rattle.std.proofs.Common.{◌≡◌, ◌≢◌, ℕ, ◌+◌, ◌<◌, ◌≤◌, List, [], ◌∷◌, ◌++◌, length, slice_index, None, Result, Ok, Err, sym, subst, ◌∙◌, arith, inl, inr}
+use Rattle.std.proofs.Common.{◌≡◌, ◌≢◌, ℕ, ◌+◌, ◌<◌, ◌≤◌, List, [], ◌∷◌, ◌++◌, length, slice_index, Option, Some, None, Result, Ok, Err, sym, subst, ◌∙◌, arith, inl, inr}
 use Rattle.std.proofs.lemmas.Bool.{cases_eq}
 use Rattle.std.proofs.lemmas.List.{get_or_append_left, get_or_push}
 use Rattle.std.specs.Prelude.{IfOk}
@@ -12,7 +12,7 @@ pub row_kept : (parents bytes : List ℕ) (old new : List Cell) (base node : ℕ
 row_kept parents bytes old new base node row le same = record {
   room = omega (arith, row.room);
   mine = λ j pos lj is. same (base + slice_index bytes j) ∙ row.mine j pos lj is;
-  only = λ c j is. row.only c j (sym (same c) ∙ is);
+  only = λ c j is pos. row.only c j (sym (same c) ∙ is) pos;
 }
 
 -- one row more
@@ -34,6 +34,9 @@ if_ok P Q (Ok x) f h = f x h
 if_ok P Q (Err e) f h = tt
 
 -- a row fits where all cells are new
-pub fresh_fits : (parents bytes : List ℕ) (cells : List Cell) (free node len base : ℕ) → ((k : ℕ) → slice_index bytes k < 256) → ((c : ℕ) → len ≤ c → c < length cells → child_in cells free c ≢ None)
+pub fresh_fits : (parents bytes : List ℕ) (cells : List Cell) (free node len base : ℕ) → ((k : ℕ) → slice_index bytes k < 256) → ((c : ℕ) → len ≤ c → c < length cells → child_in cells free c ≡ Some 0)
     → (base ≡ len) × (base + 255 < length cells) → IsFreeRow parents bytes cells free base node
-fresh_fits parents bytes cells free node len base small fresh h j pos lj is = fresh (base + slice_index bytes j) (omega (arith, h.0)) (omega (arith, h.1, small j))
+fresh_fits parents bytes cells free node len base small fresh h j pos lj is e =
+    let at = fresh (base + slice_index bytes j) (omega (arith, h.0)) (omega (arith, h.1, small j)) in
+    let bad : ◌≡◌ {A = Option ℕ} None (Some 0) = sym e ∙ at in
+    absurd cc

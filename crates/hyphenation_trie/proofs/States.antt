@@ -1,32 +1,36 @@
 -- What is read of the states of nodes, and what stays when links are set.
 use Rattle.std.proofs.Common.{◌≡◌, ◌≢◌, ℕ, zero, suc, ◌+◌, ◌<◌, ◌≤◌, true, false, cond, List, [], ◌∷◌, length, map, get_or, set, slice_index, Option, Some, None, refl, sym, ap, subst, ◌∙◌, arith, inl, inr}
-use Rattle.std.specs.Prelude.{IsSome}
+use Rattle.std.specs.Prelude.{IsSome, replicate}
 use Rattle.std.proofs.Math.Seq.{map-set_same}
-use Rattle.std.proofs.lemmas.Bool.{cases_eq, cases_lt, cond-true, cond-false}
-use Rattle.std.proofs.lemmas.List.{length-map, get_or-map, map-set, get_or-set_same, get_or-set_other, get_or_past}
-use Rattle.hyphenation_trie.specs.Private.Links.{HasDepths, IsFrozen}
-use Rattle.hyphenation_trie.specs.Private.States.{no_links, texts_by, span_in, linked_tree, HasStates}
+use Rattle.std.proofs.lemmas.Bool.{cases_eq, cond-true, cond-false}
+use Rattle.std.proofs.lemmas.List.{length-map, length-set, get_or-map, map-set, get_or-set_same, get_or-set_other}
+use Rattle.hyphenation_trie.specs.Private.Links.{IsFrozen}
+use Rattle.hyphenation_trie.specs.Private.States.{no_reports, links_with, froms_by, texts_by, span_in, unlinked, HasStates}
 use Rattle.hyphenation_trie.specs.Trie.{Tree, node_text, key_at}
-use Rattle.hyphenation_trie.specs.Private.Trie.{entries_there, IsWithin, AreWithin}
+use Rattle.hyphenation_trie.specs.Private.Trie.{tree_of, entries_there, IsWithin, AreWithin}
 use Rattle.hyphenation_trie.specs.declared.Span.{Span}
-use Rattle.hyphenation_trie.specs.declared.frozen.Links.{Links}
+use Rattle.hyphenation_trie.specs.declared.frozen.Moves.{Moves}
+use Rattle.hyphenation_trie.specs.declared.frozen.Reports.{Reports}
 use Rattle.hyphenation_trie.specs.declared.frozen.State.{State}
 use Rattle.hyphenation_trie.specs.declared.rows.Cell.{Cell}
 use Rattle.hyphenation_trie.proofs.TrieNodes.{entries_at-here}
 
 -- ---- what is read of a state
 
-pub states_within : {E : Type 0} (tree : Tree E) (parents bytes : List ℕ) (states : List State) (cells : List Cell) (bound node : ℕ) → HasStates tree parents bytes states cells bound → node < length tree.texts → node < length states
-states_within tree parents bytes states cells bound node has lt = omega (arith, has.frozen.lengths, length-map states (λ s. s.base))
+pub states_within : {E : Type 0} (tree : Tree E) (parents bytes : List ℕ) (states : List State) (moves : List Moves) (reports : List Reports) (cells : List Cell) (bound node : ℕ) → HasStates tree parents bytes states moves reports cells bound → node < length tree.texts → node < length states
+states_within tree parents bytes states moves reports cells bound node has lt = omega (arith, has.depths_of.lengths, length-map states (λ s. s.depth))
 
-pub base_is : (states : List State) (node : ℕ) (s : State) → node < length states → s ≡ get_or states node s → slice_index (map (λ s. s.base) states) node ≡ s.base
-base_is states node s lt read = get_or-map (λ s. s.base) states node s 0 lt ∙ ap (λ s. s.base) (sym read)
+pub moves_within : {E : Type 0} (tree : Tree E) (parents bytes : List ℕ) (states : List State) (moves : List Moves) (reports : List Reports) (cells : List Cell) (bound node : ℕ) → HasStates tree parents bytes states moves reports cells bound → node < length tree.texts → node < length moves
+moves_within tree parents bytes states moves reports cells bound node has lt = omega (arith, has.frozen.lengths, length-map moves (λ m. m.base))
+
+pub base_is : (moves : List Moves) (node : ℕ) (m : Moves) → node < length moves → m ≡ get_or moves node m → slice_index (map (λ m. m.base) moves) node ≡ m.base
+base_is moves node m lt read = get_or-map (λ m. m.base) moves node m 0 lt ∙ ap (λ m. m.base) (sym read)
 
 pub depth_of_state : (states : List State) (node : ℕ) (s : State) → node < length states → s ≡ get_or states node s → slice_index (map (λ s. s.depth) states) node ≡ s.depth
 depth_of_state states node s lt read = get_or-map (λ s. s.depth) states node s 0 lt ∙ ap (λ s. s.depth) (sym read)
 
-pub links_of_state : (states : List State) (node : ℕ) (s : State) → node < length states → s ≡ get_or states node s → get_or (map (λ s. s.links) states) node no_links ≡ s.links
-links_of_state states node s lt read = get_or-map (λ s. s.links) states node s no_links lt ∙ ap (λ s. s.links) (sym read)
+pub link_is : (moves : List Moves) (node : ℕ) (m : Moves) → node < length moves → m ≡ get_or moves node m → slice_index (map (λ m. m.link) moves) node ≡ m.link
+link_is moves node m lt read = get_or-map (λ m. m.link) moves node m 0 lt ∙ ap (λ m. m.link) (sym read)
 
 pub span_of_state : (states : List State) (node : ℕ) (s : State) → node < length states → s ≡ get_or states node s → get_or (map span_in states) node None ≡ span_in s
 span_of_state states node s lt read = get_or-map span_in states node s None lt ∙ ap span_in (sym read)
@@ -49,20 +53,20 @@ span_of_entries es s some =
     ] some
 
 -- where the entries of a key stand is within those of all
-pub key_within : {E : Type 0} (tree : Tree E) (parents bytes : List ℕ) (states : List State) (cells : List Cell) (bound node : ℕ) (s : State) → HasStates tree parents bytes states cells bound → node < length tree.texts
-    → s ≡ get_or states node s → span_in s ≡ Some s.span → (s.span.start ≤ s.span.end) × (s.span.end ≤ bound)
-key_within tree parents bytes states cells bound node s has lt read is =
-    let within = states_within tree parents bytes states cells bound node has lt in
+pub key_within : {E : Type 0} (tree : Tree E) (parents bytes : List ℕ) (states : List State) (moves : List Moves) (reports : List Reports) (cells : List Cell) (bound node : ℕ) (s : State) → HasStates tree parents bytes states moves reports cells bound → node < length tree.texts
+    → s ≡ get_or states node s → span_in s ≡ Some s.span → s.span.start + s.span.count ≤ bound
+key_within tree parents bytes states moves reports cells bound node s has lt read is =
+    let within = states_within tree parents bytes states moves reports cells bound node has lt in
     subst (λ (x : Option Span). IsWithin bound x) (span_of_state states node s within read ∙ is) (has.within node)
 
 -- the entries of a state are those of the key that its node's text is
-pub entries_of_node : {E : Type 0} (es : List E) (parents bytes : List ℕ) (states : List State) (cells : List Cell) (bound node : ℕ) (s : State)
-    → HasStates (linked_tree parents bytes states es).tree parents bytes states cells bound → node < length (linked_tree parents bytes states es).tree.texts → s ≡ get_or states node s
-    → entries_there es (span_in s) ≡ key_at (linked_tree parents bytes states es).tree (node_text (linked_tree parents bytes states es).tree node)
-entries_of_node es parents bytes states cells bound node s has lt read =
-    let tree = (linked_tree parents bytes states es).tree in
+pub entries_of_node : {E : Type 0} (es : List E) (parents bytes : List ℕ) (states : List State) (moves : List Moves) (reports : List Reports) (cells : List Cell) (bound node : ℕ) (s : State)
+    → HasStates (tree_of (froms_by parents bytes) (map span_in states) es) parents bytes states moves reports cells bound → node < length (texts_by parents bytes) → s ≡ get_or states node s
+    → entries_there es (span_in s) ≡ key_at (tree_of (froms_by parents bytes) (map span_in states) es) (node_text (tree_of (froms_by parents bytes) (map span_in states) es) node)
+entries_of_node es parents bytes states moves reports cells bound node s has lt read =
+    let tree = tree_of (froms_by parents bytes) (map span_in states) es in
     let trie = has.frozen.trie in
-    sym (entries_of_state es states node s (states_within tree parents bytes states cells bound node has lt) read)
+    sym (entries_of_state es states node s (states_within tree parents bytes states moves reports cells bound node has lt) read)
     ∙ sym (entries_at-here tree.texts tree.entries node trie.distinct trie.lengths lt)
 
 -- ---- as made
@@ -73,7 +77,7 @@ spans_within bound (n ∷ ns) h zero = h.0
 spans_within bound (n ∷ ns) h (suc i) = spans_within bound ns h.1 i
 
 pub tree_same : {E : Type 0} (es : List E) (old new : List State) (parents bytes : List ℕ) → map span_in new ≡ map span_in old
-    → (linked_tree parents bytes new es).tree ≡ (linked_tree parents bytes old es).tree
+    → tree_of (froms_by parents bytes) (map span_in new) es ≡ tree_of (froms_by parents bytes) (map span_in old) es
 tree_same es old new parents bytes spans = λ k. record { texts = texts_by parents bytes; entries = map (entries_there es) (spans k) }
 
 -- what is true of the states before a node, and of the one that is set there, is true of one more
@@ -92,38 +96,46 @@ one_more {X} f d states node s asked lt here before j lj = elim (cases_eq j node
       ∙ before j (omega arith)
 ]
 
-pub none_linked : (states : List State) → ((j : ℕ) → j < length states → get_or (map (λ s. s.links) states) j no_links ≡ no_links) → (j : ℕ) → get_or (map (λ s. s.links) states) j no_links ≡ no_links
-none_linked states none j = elim (cases_lt j (length states)) [
-  | inl lt ↦ none j lt
-  | inr ge ↦ get_or_past (map (λ s. s.links) states) j no_links (omega (arith, length-map states (λ s. s.links)))
-]
+-- moves as they are made have the bases, and no links
+pub bases_unlinked : (bases : List ℕ) → map (λ m. m.base) (map unlinked bases) ≡ bases
+bases_unlinked [] = refl
+bases_unlinked (base ∷ bases) = ap (λ (xs : List ℕ). base ∷ xs) (bases_unlinked bases)
+
+pub links_unlinked : (bases : List ℕ) (j : ℕ) → slice_index (map (λ m. m.link) (map unlinked bases)) j ≡ 0
+links_unlinked [] j = refl
+links_unlinked (base ∷ bases) zero = refl
+links_unlinked (base ∷ bases) (suc j) = links_unlinked bases j
+
+pub reports_none : (n j : ℕ) → get_or (replicate n no_reports) j no_reports ≡ no_reports
+reports_none zero j = refl
+reports_none (suc n) zero = refl
+reports_none (suc n) (suc j) = reports_none n j
 
 -- ---- links are set
 
-pub tree_kept : {E : Type 0} (es : List E) (states : List State) (parents bytes : List ℕ) (node : ℕ) (s x : State) → s ≡ get_or states node s → span_in x ≡ span_in s
-    → (linked_tree parents bytes (set states node x) es).tree ≡ (linked_tree parents bytes states es).tree
-tree_kept es states parents bytes node s x read same =
-    tree_same es states (set states node x) parents bytes (map-set_same span_in states node x s (same ∙ ap span_in read))
-
-pub states_kept : {E : Type 0} (es : List E) (states : List State) (parents bytes : List ℕ) (cells : List Cell) (bound node : ℕ) (s x : State) → s ≡ get_or states node s → span_in x ≡ span_in s → x.base ≡ s.base → x.depth ≡ s.depth
-    → HasStates (linked_tree parents bytes states es).tree parents bytes states cells bound
-    → HasStates (linked_tree parents bytes (set states node x) es).tree parents bytes (set states node x) cells bound
-states_kept es states parents bytes cells bound node s x read span base depth has =
-    let tree = tree_kept es states parents bytes node s x read span in
-    let bases : map (λ s. s.base) (set states node x) ≡ map (λ s. s.base) states = map-set_same (λ s. s.base) states node x s (base ∙ ap (λ s. s.base) read) in
-    let depths : map (λ s. s.depth) (set states node x) ≡ map (λ s. s.depth) states = map-set_same (λ s. s.depth) states node x s (depth ∙ ap (λ s. s.depth) read) in
-    let spans : map span_in (set states node x) ≡ map span_in states = map-set_same span_in states node x s (span ∙ ap span_in read) in
-    subst (λ (t : Tree _). HasStates t parents bytes (set states node x) cells bound) (sym tree) (record {
-      frozen = subst (λ (xs : List ℕ). IsFrozen (linked_tree parents bytes states es).tree xs cells) (sym bases) has.frozen;
-      depths_of = subst (λ (xs : List ℕ). HasDepths (linked_tree parents bytes states es).tree.texts xs) (sym depths) has.depths_of;
+pub states_kept : {E : Type 0} (tree : Tree E) (states : List State) (moves : List Moves) (reports : List Reports) (parents bytes : List ℕ) (cells : List Cell) (bound node : ℕ) (m x : Moves) (r : Reports) → m ≡ get_or moves node m → x.base ≡ m.base
+    → HasStates tree parents bytes states moves reports cells bound
+    → HasStates tree parents bytes states (set moves node x) (set reports node r) cells bound
+states_kept tree states moves reports parents bytes cells bound node m x r read base has =
+    let bases : map (λ m. m.base) (set moves node x) ≡ map (λ m. m.base) moves = map-set_same (λ m. m.base) moves node x m (base ∙ ap (λ m. m.base) read) in
+    record {
+      frozen = subst (λ (xs : List ℕ). IsFrozen tree xs cells) (sym bases) has.frozen;
+      reports_of = length-set reports node r ∙ has.reports_of;
+      depths_of = has.depths_of;
       parents_of = has.parents_of;
-      within = λ i. subst (λ (xs : List (Option Span)). IsWithin bound (get_or xs i None)) (sym spans) (has.within i);
-    })
+      within = has.within;
+    }
 
-pub links_set : (states : List State) (node : ℕ) (x : State) → node < length states → get_or (map (λ s. s.links) (set states node x)) node no_links ≡ x.links
-links_set states node x lt =
-    ap (λ (xs : List Links). get_or xs node no_links) (map-set (λ s. s.links) states node x) ∙ get_or-set_same (map (λ s. s.links) states) node x.links no_links (omega (arith, length-map states (λ s. s.links)))
+pub links_set : (moves : List Moves) (reports : List Reports) (node : ℕ) (x : Moves) (r : Reports) → node < length moves → node < length reports
+    → links_with (slice_index (map (λ m. m.link) (set moves node x)) node) (get_or (set reports node r) node no_reports) ≡ links_with x.link r
+links_set moves reports node x r lt within =
+    let link : slice_index (map (λ m. m.link) (set moves node x)) node ≡ x.link =
+    ap (λ (xs : List ℕ). slice_index xs node) (map-set (λ m. m.link) moves node x) ∙ get_or-set_same (map (λ m. m.link) moves) node x.link 0 (omega (arith, length-map moves (λ m. m.link))) in
+    ap (λ (l : ℕ). links_with l (get_or (set reports node r) node no_reports)) link ∙ ap (links_with x.link) (get_or-set_same reports node r no_reports within)
 
-pub links_kept : (states : List State) (node j : ℕ) (x : State) → j ≢ node → get_or (map (λ s. s.links) (set states node x)) j no_links ≡ get_or (map (λ s. s.links) states) j no_links
-links_kept states node j x apart =
-    ap (λ (xs : List Links). get_or xs j no_links) (map-set (λ s. s.links) states node x) ∙ get_or-set_other (map (λ s. s.links) states) node j x.links no_links apart
+pub links_kept : (moves : List Moves) (reports : List Reports) (node j : ℕ) (x : Moves) (r : Reports) → j ≢ node
+    → links_with (slice_index (map (λ m. m.link) (set moves node x)) j) (get_or (set reports node r) j no_reports) ≡ links_with (slice_index (map (λ m. m.link) moves) j) (get_or reports j no_reports)
+links_kept moves reports node j x r apart =
+    let link : slice_index (map (λ m. m.link) (set moves node x)) j ≡ slice_index (map (λ m. m.link) moves) j =
+    ap (λ (xs : List ℕ). slice_index xs j) (map-set (λ m. m.link) moves node x) ∙ get_or-set_other (map (λ m. m.link) moves) node j x.link 0 apart in
+    ap (λ (l : ℕ). links_with l (get_or (set reports node r) j no_reports)) link ∙ ap (links_with (slice_index (map (λ m. m.link) moves) j)) (get_or-set_other reports node j r no_reports apart)

@@ -4,6 +4,7 @@ use Rattle.std.proofs.lemmas.Bool.{cases_eq, cases_lt}
 use Rattle.std.proofs.lemmas.List.{length-append, length-drop, drop-drop, drop-append-le, drop_all}
 use Rattle.hyphenation_trie.specs.Trie.{Tree, node_text, IsTrie}
 use Rattle.hyphenation_trie.specs.Links.{Ends, IsLongest}
+use Rattle.hyphenation_trie.specs.Private.Links.{HasNoChild}
 use Rattle.hyphenation_trie.proofs.TrieNodes.{last_same}
 
 pub Ends-refl : (t : List ℕ) → Ends t t
@@ -95,7 +96,7 @@ pub record IsSought {E : Type 0} (tree : Tree E) (t : List ℕ) (b at : ℕ) : T
   pub most : (k : ℕ) → k < length tree.texts → Ends (t ++ b ∷ []) (node_text tree k) → length (node_text tree k) ≤ length (node_text tree at) + 1
 
 -- where a child is there, it is the longest
-pub sought_here : {E : Type 0} (tree : Tree E) (t : List ℕ) (b at child : ℕ) → IsSought tree t b at → child < length tree.texts → node_text tree child ≡ node_text tree at ++ b ∷ [] → IsLongest tree.texts (t ++ b ∷ []) child
+sought_here : {E : Type 0} (tree : Tree E) (t : List ℕ) (b at child : ℕ) → IsSought tree t b at → child < length tree.texts → node_text tree child ≡ node_text tree at ++ b ∷ [] → IsLongest tree.texts (t ++ b ∷ []) child
 sought_here tree t b at child s lt is = record {
   within = lt;
   ends = subst (λ (x : List ℕ). Ends (t ++ b ∷ []) x) (sym is) (Ends-push t (node_text tree at) b s.ends);
@@ -131,6 +132,26 @@ sought_up tree trie t b at up s pos link none =
       },
       less,
     )
+
+-- where the root has no child, it is the longest itself
+sought_root : {E : Type 0} (tree : Tree E) → IsTrie tree → (t : List ℕ) (b : ℕ) → IsSought tree t b 0 → HasNoChild tree 0 b → IsLongest tree.texts (t ++ b ∷ []) 0
+sought_root tree trie t b s none = record {
+  within = s.within;
+  ends = subst (λ (x : List ℕ). Ends (t ++ b ∷ []) x) (sym trie.root) (Ends-nil (t ++ b ∷ []));
+  most = shorter tree trie t b 0 s none;
+}
+
+-- what a look-up finds is the longest
+pub sought_next : {E : Type 0} (tree : Tree E) → IsTrie tree → (t : List ℕ) (b at next : ℕ) → IsSought tree t b at → next < length tree.texts → (0 < at + next → node_text tree next ≡ node_text tree at ++ b ∷ [])
+    → (at + next ≡ 0 → HasNoChild tree at b) → IsLongest tree.texts (t ++ b ∷ []) next
+sought_next tree trie t b at next s lt child none = elim (cases_eq (at + next) 0) [
+  | inl is ↦
+      let at_root : at ≡ 0 = omega arith in
+      let next_root : next ≡ 0 = omega arith in
+      subst (λ (x : ℕ). IsLongest tree.texts (t ++ b ∷ []) x) (sym next_root)
+      (sought_root tree trie t b (subst (λ (x : ℕ). IsSought tree t b x) at_root s) (subst (λ (x : ℕ). HasNoChild tree x b) at_root (none is)))
+  | inr apart ↦ sought_here tree t b at next s lt (child (omega arith))
+]
 
 -- only the root has an empty text
 pub depth_pos : {E : Type 0} (tree : Tree E) → IsTrie tree → (j : ℕ) → 0 < j → j < length tree.texts → 0 < length (node_text tree j)

@@ -74,7 +74,7 @@ IsTrie-seen froms spans es lasts befores len held =
 
 within-more : (n m : ℕ) (span : Option Span) → n ≤ m → IsWithin n span → IsWithin m span
 within-more n m None le h = tt
-within-more n m (Some span) le h = (h.0, omega (arith, h.1))
+within-more n m (Some span) le h = omega (arith, h)
 
 pub all_within-more : (n m : ℕ) (ns : List (Option Span)) → n ≤ m → AreWithin n ns → AreWithin m ns
 all_within-more n m [] le h = h
@@ -96,9 +96,9 @@ has_entries es (Some span) = refl
 range_kept : {E : Type 0} (es xs : List E) (a b : ℕ) → a ≤ b → b ≤ length es → slice_range (es ++ xs) a b ≡ slice_range es a b
 range_kept es xs a b ab be = ap (take (b - a)) (drop-append-le a es xs (omega arith)) ∙ take-append-le (b - a) (drop a es) xs (omega (arith, length-drop a es))
 
-kept : {E : Type 0} (es xs : List E) (span : Option Span) → IsWithin (length es) span → option_map (λ s. slice_range (es ++ xs) s.start s.end) span ≡ option_map (λ s. slice_range es s.start s.end) span
+kept : {E : Type 0} (es xs : List E) (span : Option Span) → IsWithin (length es) span → option_map (λ s. slice_range (es ++ xs) s.start (s.start + s.count)) span ≡ option_map (λ s. slice_range es s.start (s.start + s.count)) span
 kept es xs None h = refl
-kept es xs (Some span) h = ap (λ (ys : List _). Some ys) (range_kept es xs span.start span.end h.0 h.1)
+kept es xs (Some span) h = ap (λ (ys : List _). Some ys) (range_kept es xs span.start (span.start + span.count) (omega arith) h)
 
 -- entries put after the others change no node's
 all_kept : {E : Type 0} (es xs : List E) (ns : List (Option Span)) → AreWithin (length es) ns → map (entries_there (es ++ xs)) ns ≡ map (entries_there es) ns
@@ -216,10 +216,10 @@ entries_at-here (t ∷ ts) (e ∷ es) (suc i) apart len lt =
     ap (λ b. cond b e (entries_at ts es (get_or ts i []))) (other_text t (get_or ts i []) (λ same. apart_first t ts i apart (omega arith) same))
     ∙ entries_at-here ts es i (apart_rest t ts apart) (omega arith) (omega arith)
 
-pub seen-with : {E : Type 0} (froms : List (Option (ℕ × ℕ))) (spans : List (Option Span)) (es xs : List E) (i start end : ℕ) (now : Option Span) → now ≡ Some (record { start = start; end = end })
-    → AreWithin (length es) spans → start ≡ length es → end ≡ length (es ++ xs) → tree_of froms (set spans i now) (es ++ xs) ≡ with_entries (tree_of froms spans es) i xs
-seen-with {E} froms spans es xs i start end now is within begin stop =
-    let mine : entries_there (es ++ xs) now ≡ Some xs = ap (entries_there (es ++ xs)) is ∙ ap (λ (ys : List E). Some ys) (range_new es xs start end begin stop) in
+pub seen-with : {E : Type 0} (froms : List (Option (ℕ × ℕ))) (spans : List (Option Span)) (es xs : List E) (i start count : ℕ) (now : Option Span) → now ≡ Some (record { start = start; count = count })
+    → AreWithin (length es) spans → start ≡ length es → count ≡ length xs → tree_of froms (set spans i now) (es ++ xs) ≡ with_entries (tree_of froms spans es) i xs
+seen-with {E} froms spans es xs i start count now is within begin stop =
+    let mine : entries_there (es ++ xs) now ≡ Some xs = ap (entries_there (es ++ xs)) is ∙ ap (λ (ys : List E). Some ys) (range_new es xs start (start + count) begin (omega (arith, begin, stop, length-append es xs))) in
     let news : map (entries_there (es ++ xs)) (set spans i now) ≡ set (map (entries_there es) spans) i (Some xs) =
     map-set (entries_there (es ++ xs)) spans i now ∙ ap (λ (o : Option (List E)). set (map (entries_there (es ++ xs)) spans) i o) mine ∙ ap (λ (os : List (Option (List E))). set os i (Some xs)) (all_kept es xs spans within) in
     λ k. record { texts = texts_of froms; entries = news k }

@@ -116,16 +116,16 @@ pub fn in_32_bits(number: usize) -> Result<u32, AllocError>
 #[derive(Clone, Copy, Debug)]
 struct Span {
     start: u32,
-    end: u32,
+    count: u32,
 }
 
 /// The entries that stand there.
 fn part<E>(entries: &[E], span: Span) -> &[E]
-    requires ordered { span.start ≤ span.end }
-    requires within { span.end ≤ length entries.now }
-    ensures { result.now ≡ slice_range entries.now span.start span.end }
+    requires { span.start + span.count ≤ length entries.now }
+    ensures { result.now ≡ slice_range entries.now span.start (span.start + span.count) }
 {
-    &entries[span.start as usize..span.end as usize]
+    let start = span.start as usize;
+    &entries[start..start + span.count as usize]
 }
 
 /// Keys, each with its entries.
@@ -305,11 +305,10 @@ impl<E: Drop> Trie<E> {
         ensures err { OnErr result (self.new ≡ self.old) }
         ensures trie { IsTrie self.old × IsTrie self.new }
     {
-        let start = self.entries.len();
-        let end = in_32_bits(start.saturating_add(entries.len()))?;
-        let start = start as u32;
+        let start = in_32_bits(self.entries.len())?;
+        let count = in_32_bits(entries.len())?;
         self.entries.append(entries)?;
-        Ok(self.states[node as usize].set_span(Span { start, end }))
+        Ok(self.states[node as usize].set_span(Span { start, count }))
     }
 }
 

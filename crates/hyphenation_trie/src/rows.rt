@@ -1,15 +1,16 @@
 //! The rows of the nodes, one over another in one list of cells.
 //!
 //! A row is 256 cells long, one for each byte, and most of it is empty: so the rows lie over one another, and each cell
-//! says whose it is. A look-up reads one cell.
+//! says whose it is. A look-up reads one cell. The root's row alone is full: where it has no child, its cell leads back
+//! to it, so that a search that comes to the root ends there without a test.
 
 ghost use Rattle.std.specs.Prelude.{◌≡◌, ◌+◌, ◌<◌, ◌≤◌, ◌≢◌, ℕ, true, false, OnOk, IfOk, IfSome, length, slice_index, Some, None};
-ghost use Rattle.hyphenation_trie.specs.Private.Rows.{child_in, AreChildren, OwnsNone, IsFreeRow, HasRow};
+ghost use Rattle.hyphenation_trie.specs.Private.Rows.{child_in, AreChildren, OwnsNoChild, IsFreeRow, IsFullRow, HasRow};
 
 use super::in_32_bits;
 use std::alloc::{AllocError, Global};
 
-/// A child of a node, and the node. A free cell's owner is no node.
+/// A child of a node, and the node. A free cell's owner is no node, and the root stands for the children that it lacks.
 #[derive(Clone, Copy)]
 pub(crate) struct Cell {
     pub(crate) owner: u32,
@@ -44,7 +45,6 @@ pub(crate) fn find(cells: &[Cell], base: usize, node: usize, byte: u8) -> Option
 fn put(cells: &mut [Cell], free: u32, at: usize, node: u32, child: u32)
     requires at { at < length cells.old }
     requires free { child_in cells.old free at ≢ None }
-    requires node { node ≢ free }
     ensures mine { child_in cells.new node at ≡ Some child }
     ensures rest { (i c : ℕ) → c ≢ at → child_in cells.new i c ≡ child_in cells.old i c }
     ensures apart { (i : ℕ) → i ≢ free → i ≢ node → child_in cells.new i at ≡ child_in cells.old i at }
@@ -78,11 +78,11 @@ fn write_row(cells: &mut [Cell], free: u32, base: usize, node: u32, children: &C
     requires children { AreChildren children.now.parents.items children.now.bytes.items children.now.last.items
         children.now.before.items }
     requires node { node < length children.now.parents.items }
-    requires free { node ≢ free }
     requires room { base + 255 < length cells.old }
-    requires none { OwnsNone cells.old node }
+    requires none { OwnsNoChild cells.old node }
     requires fits { IsFreeRow children.now.parents.items children.now.bytes.items cells.old free base node }
     ensures row { HasRow children.now.parents.items children.now.bytes.items cells.new base node }
+    ensures kept { (c : ℕ) → child_in cells.old node c ≢ None → child_in cells.new node c ≢ None }
     ensures others { (i c : ℕ) → i ≢ free → i ≢ node → child_in cells.new i c ≡ child_in cells.old i c }
 {
     let mut child = children.last[node as usize];
@@ -229,21 +229,18 @@ fn place_of(
     first_fit(cells, free, last, last.saturating_add(1), node, children)
 }
 
-/// Grows by one row of free cells, and answers where it begins.
-fn add_row(cells: &mut Vec<Cell>, free: u32) -> Result<usize, AllocError>
+/// Grows by one row of cells of an owner, and answers where it begins.
+fn add_row(cells: &mut Vec<Cell>, owner: u32) -> Result<usize, AllocError>
     ensures base { IfOk result (λ base. (base ≡ length cells.old.items) × (base + 255 < length cells.new.items)) }
     ensures room { OnOk result (length cells.old.items + 255 < length cells.new.items) }
     ensures longer { length cells.old.items ≤ length cells.new.items }
-    ensures same { (i c : ℕ) → i ≢ free → child_in cells.new.items i c ≡ child_in cells.old.items i c }
+    ensures same { (i c : ℕ) → i ≢ owner → child_in cells.new.items i c ≡ child_in cells.old.items i c }
     ensures fresh { (c : ℕ) → length cells.old.items ≤ c → c < length cells.new.items
-        → child_in cells.new.items free c ≢ None }
+        → child_in cells.new.items owner c ≡ Some 0 }
 {
     let base = cells.len();
     for count in 0..256usize {
-        cells.push(Cell {
-            owner: free,
-            child: 0,
-        })?;
+        cells.push(Cell { owner, child: 0 })?;
     }
     Ok(base)
 }
@@ -285,7 +282,7 @@ fn place_row(
     requires node { node < length children.now.parents.items }
     requires free { node ≢ free }
     requires room { 255 < length cells.old.items }
-    requires none { OwnsNone cells.old.items node }
+    requires none { OwnsNoChild cells.old.items node }
     ensures row { IfOk result (λ base.
         HasRow children.now.parents.items children.now.bytes.items cells.new.items base node) }
     ensures longer { length cells.old.items ≤ length cells.new.items }
@@ -299,6 +296,23 @@ fn place_row(
     Ok(base)
 }
 
+/// Cells that begin with the root's row, which is full. There is room for the rows of all nodes, as a rule.
+fn root_row(alloc: Global, children: &Children) -> Result<Vec<Cell>, AllocError>
+    requires children { AreChildren children.now.parents.items children.now.bytes.items children.now.last.items
+        children.now.before.items }
+    requires root { 0 < length children.now.parents.items }
+    ensures row { IfOk result (λ cells.
+        HasRow children.now.parents.items children.now.bytes.items cells.items 0 0) }
+    ensures full { IfOk result (λ cells. IsFullRow cells.items 0 0) }
+    ensures others { IfOk result (λ cells. (i c : ℕ) → 0 < i → child_in cells.items i c ≡ None) }
+{
+    // Some two cells for each node are enough. Room that is not used costs addresses and no memory.
+    let mut cells = Vec::with_capacity(alloc, children.parents.len().saturating_mul(5) / 2)?;
+    let base = add_row(&mut cells, 0)?;
+    write_row(&mut cells, 0, base, 0, children);
+    Ok(cells)
+}
+
 /// Where the row of each node begins, and the cells of all rows.
 #[derive(Drop)]
 pub(crate) struct Rows {
@@ -310,20 +324,23 @@ pub(crate) struct Rows {
 pub(crate) fn rows_of(alloc: Global, children: &Children) -> Result<Rows, AllocError>
     requires children { AreChildren children.now.parents.items children.now.bytes.items children.now.last.items
         children.now.before.items }
+    requires root { 0 < length children.now.parents.items }
     ensures nodes { IfOk result (λ rows. length rows.bases.items ≡ length children.now.parents.items) }
     ensures rows { IfOk result (λ rows.
         (i : ℕ) → i < length children.now.parents.items
         → HasRow children.now.parents.items children.now.bytes.items rows.cells.items
         (slice_index rows.bases.items i) i) }
+    ensures full { IfOk result (λ rows. IsFullRow rows.cells.items (slice_index rows.bases.items 0) 0) }
 {
-    let nodes = children.parents.len();
-    let free = in_32_bits(nodes)?;
-    let mut gaps = Gaps { low: 0, top: 0 };
-    // Some two cells for each node are enough as a rule. Room that is not used costs addresses and no memory.
-    let mut cells = Vec::with_capacity(alloc, nodes.saturating_mul(5) / 2)?;
-    add_row(&mut cells, free)?;
-    let mut bases = Vec::with_capacity(alloc, nodes)?;
-    for node in 0..free {
+    let free = in_32_bits(children.parents.len())?;
+    let mut cells = root_row(alloc, children)?;
+    let mut bases = Vec::with_capacity(alloc, children.parents.len())?;
+    bases.push(0)?;
+    let mut gaps = Gaps {
+        low: cells.len(),
+        top: cells.len(),
+    };
+    for node in 1..free {
         let place = place_row(&mut cells, free, &mut gaps, node, children)?;
         let base = in_32_bits(place)?;
         bases.push(base)?;

@@ -1,5 +1,5 @@
 -- Links between the nodes of a trie: from a node to one whose text ends the node's: what private functions and proofs need of it beside, and no public contract cites.
-use Rattle.std.specs.Prelude.{◌≡◌, ℕ, ◌+◌, ◌<◌, ◌≤◌, List, [], ◌∷◌, ◌++◌, length, drop, slice_index, slice_index_or, Option, is_some, Some, None, count_by}
+use Rattle.std.specs.Prelude.{◌≡◌, ◌≢◌, ℕ, ◌+◌, ◌<◌, ◌≤◌, List, [], ◌∷◌, ◌++◌, length, drop, slice_index, slice_index_or, Option, is_some, Some, None, count_by}
 use Rattle.std.specs.List.{range_with_len}
 use Rattle.hyphenation_trie.specs.Trie.{Tree, node_text, key_at, IsTrie}
 use Rattle.hyphenation_trie.specs.declared.rows.Cell.{Cell}
@@ -39,13 +39,18 @@ pub record IsDepths (parents depths : List ℕ) : Type 0 where
       → slice_index depths j ≡ slice_index depths (slice_index parents j) + 1
   pub low : (j : ℕ) → j < length parents → slice_index depths j ≤ j
 
--- The rows show the edges of the trie: the child of a node at a byte is the node of the text with that byte more.
+-- No node's text is that of a node with a byte more.
+abbrev pub HasNoChild : {E : Type 0} → Tree E → ℕ → ℕ → Type 0
+HasNoChild tree node b = (j : ℕ) → j < length tree.texts → node_text tree j ≢ node_text tree node ++ b ∷ []
+
+-- The rows show the edges of the trie: the child of a node at a byte is the node of the text with that byte more. Where the root has no child, its edge leads back to it.
 pub record IsFrozen {E : Type 0} (tree : Tree E) (bases : List ℕ) (cells : List Cell) : Type 0 where
   pub trie : IsTrie tree
   pub lengths : length bases ≡ length tree.texts
   pub room : (i : ℕ) → i < length tree.texts → slice_index bases i + 255 < length cells
-  pub sound : (i b j : ℕ) → i < length tree.texts → edge_in bases cells i b ≡ Some j
+  pub sound : (i b j : ℕ) → i < length tree.texts → edge_in bases cells i b ≡ Some j → 0 < i + j
       → (j < length tree.texts) × (node_text tree j ≡ node_text tree i ++ b ∷ [])
   pub complete : (i b j : ℕ) → i < length tree.texts → j < length tree.texts
       → node_text tree j ≡ node_text tree i ++ b ∷ []
       → edge_in bases cells i b ≡ Some j
+  pub full : (b : ℕ) → b < 256 → edge_in bases cells 0 b ≢ None

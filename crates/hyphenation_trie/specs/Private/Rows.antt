@@ -23,9 +23,9 @@ pub record AreChildren (parents bytes last before : List ℕ) : Type 0 where
   pub apart : (j k : ℕ) → 0 < j → j < k → k < length parents → slice_index parents j ≡ slice_index parents k
       → slice_index bytes j ≢ slice_index bytes k
 
--- The node owns no cell.
-abbrev pub OwnsNone : List Cell → ℕ → Type 0
-OwnsNone cells node = (c : ℕ) → child_in cells node c ≡ None
+-- The node owns no cell but, as the root may, cells of no child: those hold the root.
+abbrev pub OwnsNoChild : List Cell → ℕ → Type 0
+OwnsNoChild cells node = (c j : ℕ) → child_in cells node c ≡ Some j → (node ≡ 0) × (j ≡ 0)
 
 -- All cells in which the node's children would stand, if its row began there, are free.
 abbrev pub IsFreeRow : List ℕ → List ℕ → List Cell → ℕ → ℕ → ℕ → Type 0
@@ -33,10 +33,14 @@ IsFreeRow parents bytes cells free base node =
     (j : ℕ) → 0 < j → j < length parents → slice_index parents j ≡ node
     → child_in cells free (base + slice_index bytes j) ≢ None
 
--- The node's row begins there: each child stands in the cell of its byte, and the node owns no other cell.
+-- The node's row begins there: each child stands in the cell of its byte, and the node owns no other cell but, as the root may, cells that hold the root.
 pub record HasRow (parents bytes : List ℕ) (cells : List Cell) (base node : ℕ) : Type 0 where
   pub room : base + 255 < length cells
   pub mine : (j : ℕ) → 0 < j → j < length parents → slice_index parents j ≡ node
       → child_in cells node (base + slice_index bytes j) ≡ Some j
-  pub only : (c j : ℕ) → child_in cells node c ≡ Some j
+  pub only : (c j : ℕ) → child_in cells node c ≡ Some j → 0 < node + j
       → (0 < j) × (j < length parents) × (slice_index parents j ≡ node) × (c ≡ base + slice_index bytes j)
+
+-- The node owns each cell of its row. The root does: where it has no child, its cell holds the root.
+abbrev pub IsFullRow : List Cell → ℕ → ℕ → Type 0
+IsFullRow cells base node = (b : ℕ) → b < 256 → child_in cells node (base + b) ≢ None

@@ -1,5 +1,5 @@
 -- Tries, as the texts that their nodes stand for: what private functions and proofs need of it beside, and no public contract cites.
-use Rattle.std.specs.Prelude.{◌≡◌, ℕ, ◌<◌, List, [], ◌∷◌, ◌++◌, length, map, fold, Option, Some, None, slice_index_or, ◌≤◌, ◌⊎◌, slice_set}
+use Rattle.std.specs.Prelude.{◌≡◌, ℕ, ◌+◌, ◌<◌, List, [], ◌∷◌, ◌++◌, length, map, fold, Option, Some, None, slice_index_or, ◌≤◌, ◌⊎◌, slice_set}
 use Rattle.std.specs.Option.{option_map}
 use Rattle.std.specs.List.{slice_range}
 use Rattle.hyphenation_trie.specs.declared.Span.{Span}
@@ -33,7 +33,7 @@ texts_of froms = fold with_node_text [] froms
 
 -- The entries that stand there, among those of all nodes.
 abbrev pub entries_there : {E : Type 0} → List E → Option Span → Option (List E)
-entries_there es span = option_map (λ span. slice_range es span.start span.end) span
+entries_there es span = option_map (λ span. slice_range es span.start (span.start + span.count)) span
 
 -- What a clause sees of nodes: of the parent and the byte of each, of where its entries stand, and of all entries.
 abbrev pub tree_of : {E : Type 0} → List (Option (ℕ × ℕ)) → List (Option Span) → List E → Tree E
@@ -42,7 +42,7 @@ tree_of froms spans es = record { texts = texts_of froms; entries = map (entries
 -- The entries of each node stand among so many.
 abbrev pub IsWithin : ℕ → Option Span → Type 0
 IsWithin bound None = Unit {0}
-IsWithin bound (Some span) = (span.start ≤ span.end) × (span.end ≤ bound)
+IsWithin bound (Some span) = span.start + span.count ≤ bound
 
 abbrev pub AreWithin : ℕ → List (Option Span) → Type 0
 AreWithin bound [] = Unit {0}

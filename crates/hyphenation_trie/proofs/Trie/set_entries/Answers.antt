@@ -9,8 +9,13 @@ use Rattle.hyphenation_trie.proofs.HeldNodes.{trie_held, node_held, held_set}
 use Rattle.hyphenation_trie.proofs.TrieNodes.{entries_at-here, seen-with, has_entries}
 use Rattle.hyphenation_trie.proofs.Trie.set_entries.Goals as goal
 
-pub returns-in_err-end-clause-trie : goal.returns-in_err-end-clause-trie
-returns-in_err-end-clause-trie g c =
+pub returns-in_err-start-clause-trie : goal.returns-in_err-start-clause-trie
+returns-in_err-start-clause-trie g c =
+    let now = trie_held _ _ _ _ _ c.self.inside.entries.items c.self.invariant in
+    (rw (← c.self.view_is) now, rw (← c.self.view_is) now)
+
+pub returns-in_err-count-clause-trie : goal.returns-in_err-count-clause-trie
+returns-in_err-count-clause-trie g c =
     let now = trie_held _ _ _ _ _ c.self.inside.entries.items c.self.invariant in
     (rw (← c.self.view_is) now, rw (← c.self.view_is) now)
 
@@ -30,9 +35,9 @@ invariant_of-self-2 g c =
     let xs = c.args.entries.now.items in
     let bound = length c.append.new.self.items in
     let grown : bound ≡ length es + length xs = ap length c.in_ok-append.ensures.items ∙ length-append es xs in
-    let start : c.len-start.result ≡ length es = c.len-start.ensures ∙ c.self.inside.entries.ok.0 in
-    let end : c.in_ok-end.end ≡ length es + length xs = omega (arith, c.in_ok-end.ensures, c.saturating_add.ensures, c.len-start.ensures, c.len.ensures, c.self.inside.entries.ok.0, c.args.entries.now.ok.0) in
-    let span : IsWithin bound (Some (record { start = c.len-start.result; end = c.in_ok-end.end })) = (omega (arith, start, end), omega (arith, end, grown)) in
+    let start : c.in_ok-start.start ≡ length es = omega (arith, c.in_ok-start.ensures, c.len.ensures, c.self.inside.entries.ok.0) in
+    let count : c.in_ok-count.count ≡ length xs = omega (arith, c.in_ok-count.ensures, c.len-2.ensures, c.args.entries.now.ok.0) in
+    let span : IsWithin bound (Some (record { start = c.in_ok-start.start; count = c.in_ok-count.count })) = omega (arith, start, count, grown) in
     held_set _ _ c.self.inside.states.items _ _ (length es) bound c.args.node c.set_span.new.self (omega (arith, grown)) c.self.invariant (subst (λ (s : Option Span). IsWithin bound s) (sym c.set_span.ensures.set) span)
 
 pub returns-clause-set : goal.returns-clause-set
@@ -42,11 +47,11 @@ returns-clause-set g c =
     let es = c.self.inside.entries.items in
     let xs = c.args.entries.now.items in
     let x : State = c.set_span.new.self in
-    let start : c.len-start.result ≡ length es = c.len-start.ensures ∙ c.self.inside.entries.ok.0 in
-    let end : c.in_ok-end.end ≡ length (es ++ xs) = omega (arith, c.in_ok-end.ensures, c.saturating_add.ensures, c.len-start.ensures, c.len.ensures, c.self.inside.entries.ok.0, c.args.entries.now.ok.0, length-append es xs) in
+    let start : c.in_ok-start.start ≡ length es = omega (arith, c.in_ok-start.ensures, c.len.ensures, c.self.inside.entries.ok.0) in
+    let count : c.in_ok-count.count ≡ length xs = omega (arith, c.in_ok-count.ensures, c.len-2.ensures, c.args.entries.now.ok.0) in
     ap (λ ys. tree_of froms (map span_in (set states c.args.node x)) ys) c.in_ok-append.ensures.items
     ∙ ap (λ (ss : List (Option Span)). tree_of froms ss (es ++ xs)) (map-set span_in states c.args.node x)
-    ∙ seen-with froms (map span_in states) es xs c.args.node c.len-start.result c.in_ok-end.end (span_in x) c.set_span.ensures.set c.self.invariant.within start end
+    ∙ seen-with froms (map span_in states) es xs c.args.node c.in_ok-start.start c.in_ok-count.count (span_in x) c.set_span.ensures.set c.self.invariant.within start count
     ∙ ap (λ t. with_entries t c.args.node xs) c.self.view_is
 
 pub returns-clause-had : goal.returns-clause-had

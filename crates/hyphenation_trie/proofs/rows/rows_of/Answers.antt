@@ -1,6 +1,6 @@
 use Rattle.std.proofs.Common.{◌≡◌, ◌+◌, ◌++◌, [], ◌∷◌, ℕ, List, length, slice_index, sym, ap, subst, ◌∙◌, arith}
-use Rattle.std.proofs.lemmas.List.{length-append}
-use Rattle.hyphenation_trie.specs.Private.Rows.{HasRow}
+use Rattle.std.proofs.lemmas.List.{length-append, get_or_append_left}
+use Rattle.hyphenation_trie.specs.Private.Rows.{child_in, HasRow}
 use Rattle.hyphenation_trie.proofs.RowsPlaced.{placed_more}
 use Rattle.hyphenation_trie.proofs.rows.rows_of.Goals as goal
 
@@ -14,11 +14,17 @@ loop-node-preserved c =
     let base : ℕ = c.in_ok-base.base in
     let cells = c.place_row.new.cells.items in
     let row : HasRow parents bytes cells base node = subst (λ (x : ℕ). HasRow parents bytes cells x node) (sym c.in_ok-base.ensures) c.in_ok-place.ensures.row in
-    let pushed : c.push.new.self.items ≡ old ++ base ∷ [] = c.in_ok-push.ensures.items in
+    let pushed : c.push-in-loop-node.new.self.items ≡ old ++ base ∷ [] = c.in_ok-push-2.ensures.items in
     record {
+      some = omega (arith, inv.some);
       bases = ap length pushed ∙ length-append old (base ∷ []) ∙ ap (λ (x : ℕ). x + 1) inv.bases;
       room = omega (arith, inv.room, c.place_row.ensures.longer);
       placed = λ i li. subst (λ (xs : List ℕ). HasRow parents bytes cells (slice_index xs i) i) (sym pushed)
           (placed_more parents bytes old c.loop-node.cells.items cells c.in_ok-free.free node base inv.bases (omega arith) (omega (arith, c.in_ok-free.ensures)) c.place_row.ensures.longer row c.place_row.ensures.others inv.placed i li);
-      left = λ i low lt k. c.place_row.ensures.others i k (λ e. absurd (omega (arith, c.in_ok-free.ensures))) (λ e. absurd (omega arith)) ∙ inv.left i (omega arith) lt k;
+      left = λ i low lt k j is.
+          inv.left i (omega arith) lt k j (sym (c.place_row.ensures.others i k (λ e. absurd (omega (arith, c.in_ok-free.ensures))) (λ e. absurd (omega arith))) ∙ is);
+      full = λ b small e.
+          let first : slice_index (old ++ base ∷ []) 0 ≡ slice_index old 0 = get_or_append_left old (base ∷ []) 0 0 (omega (arith, inv.bases, inv.some)) in
+          let at : slice_index c.push-in-loop-node.new.self.items 0 ≡ slice_index old 0 = ap (λ (xs : List ℕ). slice_index xs 0) pushed ∙ first in
+          inv.full b small (sym (c.place_row.ensures.others 0 (slice_index old 0 + b) (λ e. absurd (omega (arith, c.in_ok-free.ensures))) (λ e. absurd (omega (arith, inv.some)))) ∙ ap (λ (x : ℕ). child_in cells 0 (x + b)) (sym at) ∙ e);
     }

@@ -1,4 +1,4 @@
-use Rattle.std.proofs.Common.{◌≡◌, ℕ, ◌+◌, ◌<◌, slice_index, Some, sym, ap, subst, ◌∙◌, arith, inl, inr}
+use Rattle.std.proofs.Common.{◌≡◌, ℕ, ◌+◌, ◌<◌, slice_index, Some, None, sym, ap, subst, ◌∙◌, arith, inl, inr}
 use Rattle.std.proofs.lemmas.Bool.{cases_eq, cases_lt}
 use Rattle.std.proofs.lemmas.List.{get_or_default}
 use Rattle.hyphenation_trie.specs.Private.Chains.{IsLastBelow}
@@ -41,14 +41,20 @@ loop-child-preserved c =
           | inr below ↦ absurd (chain.none j low (omega arith) is)
         ]
       ];
-      only = λ c' j is. elim (cases_eq c' at) [
+      only = λ c' j is pos. elim (cases_eq c' at) [
         | inl same ↦
             let e : Some child ≡ Some j = sym c.put.ensures.mine ∙ ap (λ (x : ℕ). child_in new node x) (sym same) ∙ is in
             let cj : child ≡ j = same_some child j e in
             (omega arith, omega (arith, here.0), ap (λ (x : ℕ). slice_index parents x) (sym cj) ∙ here.1, same ∙ at_is ∙ ap (λ (x : ℕ). base + slice_index bytes x) cj)
         | inr other ↦
-            let was = inv.only c' j (sym (c.put.ensures.rest node c' other) ∙ is) in
+            let was = inv.only c' j (sym (c.put.ensures.rest node c' other) ∙ is) pos in
             (omega (arith, was.0), was.1, was.2, was.3)
+      ];
+      kept = λ c' had e. elim (cases_eq c' at) [
+        | inl same ↦
+            let bad : None ≡ Some child = sym e ∙ ap (λ (x : ℕ). child_in new node x) same ∙ c.put.ensures.mine in
+            absurd cc
+        | inr other ↦ absurd (inv.kept c' had (sym (c.put.ensures.rest node c' other) ∙ e))
       ];
       others = λ i c' nf nn. elim (cases_eq c' at) [
         | inl same ↦ ap (λ (x : ℕ). child_in new i x) same ∙ c.put.ensures.apart i nf nn ∙ ap (λ (x : ℕ). child_in c.loop-child.cells i x) (sym same) ∙ inv.others i c' nf nn
@@ -65,5 +71,5 @@ returns-clause-row c =
     record {
       room = omega (arith, c.requires.room, c.loop-child.auto.cells);
       mine = λ j pos lj is. inv.mine j (omega arith) lj is;
-      only = λ c' j is. let w = inv.only c' j is in (omega (arith, w.0), w.1, w.2, w.3);
+      only = λ c' j is pos. let w = inv.only c' j is pos in (omega (arith, w.0), w.1, w.2, w.3);
     }

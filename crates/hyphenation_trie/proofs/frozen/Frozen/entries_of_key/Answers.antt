@@ -1,4 +1,4 @@
-use Rattle.std.proofs.Common.{◌∙◌, sym, ap, arith, subst, Some, length}
+use Rattle.std.proofs.Common.{◌∙◌, ◌+◌, sym, ap, arith, subst, Some, length}
 use Rattle.std.specs.Prelude.{IsSome}
 use Rattle.std.specs.List.{slice_range}
 use Rattle.hyphenation_trie.specs.Private.Trie.{entries_there}
@@ -10,20 +10,20 @@ part-requires g c =
     let asked = rw (← c.self.view_is) at c.requires in
     let state = c.index.result.now in
     let es = c.self.inside.entries.items in
-    let here = entries_of_node es _ _ c.self.inside.states.items _ _ c.args.node state c.self.invariant asked.node c.index.ensures in
+    let here = entries_of_node es _ _ c.self.inside.states.items _ _ _ _ c.args.node state c.self.invariant asked.node c.index.ensures in
     let is = span_of_entries es state (subst (λ x. IsSome x) (sym here) asked.key) in
-    let span = key_within _ _ _ c.self.inside.states.items _ _ c.args.node state c.self.invariant asked.node c.index.ensures is in
-    record { ordered = span.0; within = omega (arith, span.1, ap length c.deref.ensures.value) }
+    let span = key_within _ _ _ c.self.inside.states.items _ _ _ _ c.args.node state c.self.invariant asked.node c.index.ensures is in
+    omega (arith, span, ap length c.deref.ensures.value)
 
 pub returns : goal.returns
 returns g c =
     let asked = rw (← c.self.view_is) at c.requires in
     let state = c.index.result.now in
     let es = c.self.inside.entries.items in
-    let here = entries_of_node es _ _ c.self.inside.states.items _ _ c.args.node state c.self.invariant asked.node c.index.ensures in
+    let here = entries_of_node es _ _ c.self.inside.states.items _ _ _ _ c.args.node state c.self.invariant asked.node c.index.ensures in
     let is = span_of_entries es state (subst (λ x. IsSome x) (sym here) asked.key) in
     rw (← c.self.view_is) (
     ap (λ xs. Some xs) c.part.ensures
-    ∙ ap (λ xs. Some (slice_range xs state.span.start state.span.end)) c.deref.ensures.value
+    ∙ ap (λ xs. Some (slice_range xs state.span.start (state.span.start + state.span.count))) c.deref.ensures.value
     ∙ ap (entries_there es) (sym is)
     ∙ here)
