@@ -3,7 +3,9 @@
 ghost use Rattle.std.specs.Prelude.{◌≡◌, ◌++◌, OnOk, IfOk, IfErr, IfSome, decimal, map};
 ghost use Rattle.std.specs.String.{string_bytes};
 ghost use Rattle.std.specs.Io.KnownBytes.{Appends, Keeps};
+ghost use Rattle.hyphenation_commons.specs.Dictionary.{keys_of};
 ghost use Rattle.dictionary_text.specs.Judging.{refusal_of};
+ghost use Rattle.hyphenation_score.specs.Scoring.{values};
 ghost use Rattle.hyphenation.specs.Engine.{score_line, language_in, values_by, breaks_by, Runs, JudgesDictionary, JudgesEdits, JudgesText, BeforeWriting, HoldsNoWant};
 ghost use Rattle.hyphenation.specs.Private.Engine.{space_before, IsUnwritten};
 ghost use Rattle.hyphenation.specs.Hyphenated.{hyphenated_text};
@@ -95,6 +97,15 @@ fn values_alone(alloc: Global, scores: &[(u8, Option<&Subregion>)]) -> Result<Ve
     scores.iter().map(|score| score.0).collect(alloc)
 }
 
+/// The values of a word by an extended dictionary, without the changes.
+fn values_of(alloc: Global, dictionary: &Extended, word: &str) -> Result<Vec<u8>, AllocError>
+    ensures { IfOk result (λ found. found.items ≡ values (keys_of dictionary.now) word.now) }
+{
+    let scores = dictionary.score(alloc, word)?;
+    let found = values_alone(alloc, &scores)?;
+    Ok(found)
+}
+
 /// The values of a word by the standard dictionary of that language that a reader's bytes give.
 fn standard_values<D: Read>(
     alloc: Global,
@@ -128,8 +139,7 @@ fn extended_values<D: Read>(
     ensures kind { IfErr result HoldsNoWant }
 {
     let dictionary = Extended::from_reader(alloc, lang, reader)?;
-    let scores = dictionary.score(alloc, word)?;
-    Ok(values_alone(alloc, &scores)?)
+    Ok(values_of(alloc, &dictionary, word)?)
 }
 
 /// The line of a word's values by the dictionary of that kind and language that a reader's bytes give.
