@@ -1,5 +1,5 @@
 -- The steps of finding, carrying and keeping breaks.
-use Rattle.std.proofs.Common.{◌≡◌, ℕ, zero, suc, ◌+◌, ◌-◌, ◌<◌, ◌≤◌, ◌&&◌, Bool, true, false, cond, nat_le, List, [], ◌∷◌, ◌++◌, length, map, filter, take, drop, get_or, Option, Some, None, Bor, option_copied, refl, sym, ap, subst, ◌∙◌, arith}
+use Rattle.std.proofs.Common.{◌≡◌, ℕ, zero, suc, ◌+◌, ◌-◌, ◌<◌, ◌≤◌, ◌&&◌, Bool, true, false, cond, nat_le, List, [], ◌∷◌, ◌++◌, length, map, filter, take, drop, get_or, Option, Some, None, refl, sym, ap, subst, ◌∙◌, arith}
 use Rattle.std.specs.List.{slice_index_or, range_with_len}
 use Rattle.std.specs.FinMap as finite
 use Rattle.std.specs.Option.{IfSome, option_map, option_and_then}
@@ -17,7 +17,7 @@ use Rattle.hyphenation_commons.specs.declared.dictionary.Entry.{Entry}
 use Rattle.hyphenation.specs.Fitting.{keep, kept_breaks}
 use Rattle.hyphenation.specs.Opportunities.{within, breaks_within, is_odd, winning_break, allowed_by, rules_of, by_patterns, by_exception, Ascending}
 use Rattle.hyphenation.specs.Private.Opportunities.{won_at, won_break, is_won, won_within}
-use Rattle.hyphenation_score.specs.Scoring.{scored_by, frame, bearers, value_of, value_at, winner_at, winners}
+use Rattle.hyphenation_score.specs.Scoring.{frame, bearers, value_of, value_at, winner_at, winners}
 use Rattle.hyphenation_score.proofs.FirstGreatest.{value_of-first}
 use Rattle.hyphenation.proofs.Fitting.{EndsAt}
 use Rattle.hyphenation.proofs.NumberedCharacters.{picked_more}

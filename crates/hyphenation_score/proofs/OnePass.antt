@@ -42,14 +42,6 @@ pub raised_more : {C : Type 0} (p : Entry C → Bool) (es : List (Entry C)) (k :
 raised_more p es k e first now next lt read a b =
     b ∙ ap (λ x. max x (cond (p e) e.value 0)) a ∙ max_assoc first (greatest_value (filter p (take k es))) (cond (p e) e.value 0) ∙ ap (max first) (sym (filtered_more p es k e lt read))
 
--- the first entry, and then the later ones
-pub raised_first : {C : Type 0} (p : Entry C → Bool) (e : Entry C) (later : List (Entry C)) (first now next : ℕ) → now ≡ max first (cond (p e) e.value 0)
-    → next ≡ max now (greatest_value (filter p later)) → next ≡ max first (greatest_value (filter p (e ∷ later)))
-raised_first p e later first now next a b =
-    b ∙ ap (λ x. max x (greatest_value (filter p later))) a ∙ max_assoc first (cond (p e) e.value 0) (greatest_value (filter p later))
-    ∙ ap (max first)
-    (ap (λ x. max x (greatest_value (filter p later))) (sym (one_value p e)) ∙ sym (greatest_value-append (filter p (e ∷ [])) (filter p later)) ∙ ap greatest_value (sym (filter-append p (e ∷ []) later)))
-
 -- what is left of a text ends it
 pub Ends-drop : (t : List ℕ) (k : ℕ) → k ≤ length t → Ends t (drop k t)
 Ends-drop t k le =

@@ -75,30 +75,8 @@ fn carry_change<C: Payload>(entries: &[Entry<C>]) -> bool
         .any(|entry| entry.change.as_change().is_some())
 }
 
-/// Raises the values to those of the entries of a key after its first, mostly none or one, and tells whether one of
-/// them carries a change.
-#[inline(always)]
-fn raise_by_later<C: Payload>(entries: &[Entry<C>], start: usize, values: &mut [u8]) -> bool
-    requires start { start ≤ length values.old + 2 }
-    requires room { length values.old + 1 < 2 ^ 63 }
-    ensures values { (i : ℕ) → i < length values.old
-        → slice_index values.new i
-        ≡ max (slice_index values.old i)
-        (greatest_value (filter (λ entry. start + entry.place == (i + 1) + 1) entries.now)) }
-    ensures changes { result ≡ carry_change C.change_of entries.now }
-{
-    match entries.split_first() {
-        None => false,
-        Some((only, [])) => raise_by(only, start, values),
-        Some(_) => {
-            raise_by_many(entries, start, values);
-            carry_change(entries)
-        }
-    }
-}
-
 /// Raises the values to those of the entries of a key that stands at `start`, and tells whether one of them carries a
-/// change.
+/// change. Most keys have one entry.
 #[inline(always)]
 fn raise<C: Payload>(entries: &[Entry<C>], start: usize, values: &mut [u8]) -> bool
     requires start { start ≤ length values.old + 2 }
@@ -109,11 +87,15 @@ fn raise<C: Payload>(entries: &[Entry<C>], start: usize, values: &mut [u8]) -> b
         (greatest_value (filter (λ entry. start + entry.place == (i + 1) + 1) entries.now)) }
     ensures changes { result ≡ carry_change C.change_of entries.now }
 {
-    match entries.split_first() {
-        None => false,
-        Some((first, later)) => {
+    match entries {
+        [only] => raise_by(only, start, values),
+        [first, second] => {
             let changes = raise_by(first, start, values);
-            changes | raise_by_later(later, start, values)
+            changes | raise_by(second, start, values)
+        }
+        _ => {
+            raise_by_many(entries, start, values);
+            carry_change(entries)
         }
     }
 }
