@@ -30,18 +30,18 @@ fn joined(alloc: Global, lines: &[String]) -> Result<String, AllocError>
     Ok(text)
 }
 
-/// The lines of a text, each with a line feed after it. The dictionary is needed no more then.
+/// The lines of a text, each with a line feed after it.
 fn filled(
     alloc: Global,
-    dictionary: Standard,
+    dictionary: &Standard,
     columns: usize,
     text: &str,
 ) -> Result<String, AllocError>
     ensures { IfOk result (λ filled.
         string_bytes filled
-        ≡ with_line_feeds (lines_by (all_breaks_of (rules_of no_change plain dictionary)) text.now columns)) }
+        ≡ with_line_feeds (lines_by (all_breaks_of (rules_of no_change plain dictionary.now)) text.now columns)) }
 {
-    let lines = fill(alloc, &dictionary, text, columns)?;
+    let lines = fill(alloc, dictionary, text, columns)?;
     joined(alloc, &lines)
 }
 
@@ -65,7 +65,7 @@ fn filled_input<D: Read, I: Read>(
 {
     let dictionary = Standard::from_reader(alloc, lang, reader)?;
     let text = read_input(alloc, input)?;
-    Ok(filled(alloc, dictionary, columns, &text)?)
+    Ok(filled(alloc, &dictionary, columns, &text)?)
 }
 
 /// Loads a standard dictionary of a language, and writes the lines of the input, as [`fill`] has them, each with a line
