@@ -13,6 +13,7 @@ pub mod MatchedEntries
 pub mod Numbers
 pub mod JudgingLine
 pub mod ReadingOrder
+pub mod SomeLine
 pub mod TextMapOrder
 pub mod TokenParts
 pub mod LineInvariant

@@ -14,9 +14,10 @@ use Rattle.hyphenation_commons.specs.Language.{IsCode, is_code}
 use Rattle.dictionary_text.specs.Lines.{strip_prefix, language_of, minima_of, small_of, two_small, is_small, is_number, number}
 use Rattle.dictionary_text.specs.Items.{is_pattern, is_exception, key_of_line, word_of_line, breaks_of_line, entries_of_line, pattern_of_line, exception_of_line}
 use Rattle.dictionary_text.specs.Judging.{fault_after, own_cause, repetition}
-use Rattle.dictionary_text.specs.Reading.{spelt_as, entry_as, SpeltItems, items_of_lines, contents_in, SomeLine}
+use Rattle.dictionary_text.specs.Reading.{spelt_as, entry_as, SpeltItems, items_of_lines, contents_in}
 use Rattle.hyphenation_commons.specs.declared.dictionary.Entry.{Entry}
 use Rattle.hyphenation_commons.proofs.PlacesInOrder.{is_entry, map_twice}
+use Rattle.dictionary_text.proofs.SomeLine.{SomeLine}
 use Rattle.dictionary_text.proofs.ReadingOrder.{no_fault, patterns-told, exceptions-told}
 use Rattle.dictionary_text.proofs.LineInvariant.{both_left, both_right, passes, pattern-kept, exception-kept}
 

@@ -15,8 +15,9 @@ use Rattle.dictionary_text.specs.declared.form.Form.{Form}
 use Rattle.dictionary_text.specs.Items.{pattern_of_line, exception_of_line}
 use Rattle.dictionary_text.specs.Lines.{language_of, minima_of}
 use Rattle.dictionary_text.specs.Judging.{fault_after, own_cause, repetition}
-use Rattle.dictionary_text.specs.Reading.{map_of_lines, spelt_as, entry_as, items_of_lines, contents_in, SomeLine, AllAmong}
+use Rattle.dictionary_text.specs.Reading.{map_of_lines, spelt_as, entry_as, items_of_lines, contents_in}
 use Rattle.dictionary_text.specs.declared.Cause.{Cause}
+use Rattle.dictionary_text.proofs.SomeLine.{SomeLine, AllAmong}
 use Rattle.dictionary_text.proofs.ItemsOfLines.{has, with_spelt, gathered-more, new_key, new_word}
 
 some_end : (P : List ℕ → Type 0) (ls : List (List ℕ)) (l : List ℕ) → P l → SomeLine P (ls ++ l ∷ [])

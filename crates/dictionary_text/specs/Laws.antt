@@ -1,7 +1,7 @@
 -- What is true of all texts and all dictionaries, of either kind and in either version.
 -- In each law payload_of and listing_of say what a kind of dictionary holds of a change and of a listed break, and
 -- change_of and break_of say what that means; so one law is of all kinds.
-use Rattle.std.specs.Prelude.{◌≡◌, ℕ, ◌≤◌, ◌↔◌, All, List, [], ◌∷◌, Option, Some, None, slice_index_or}
+use Rattle.std.specs.Prelude.{◌≡◌, ℕ, ◌≤◌, ◌↔◌, All, Any, Contains, List, [], ◌∷◌, Option, Some, None, slice_index_or}
 use Rattle.std.specs.List.Sorted.{IsPermutation}
 use Rattle.std.specs.FinMap as finite
 use Rattle.hyphenation_commons.specs.Break.{Break, Change}
@@ -12,7 +12,7 @@ use Rattle.hyphenation_commons.specs.Invariant.{IsDictionary}
 use Rattle.dictionary_text.specs.Items.{pattern_of_line, exception_of_line}
 use Rattle.dictionary_text.specs.Judging.{fault_of, refusal_of}
 use Rattle.dictionary_text.specs.Lines.{lines_of}
-use Rattle.dictionary_text.specs.Reading.{contents_of, spelt_as, entry_as, SomeLine, AllAmong}
+use Rattle.dictionary_text.specs.Reading.{contents_of, spelt_as, entry_as}
 use Rattle.hyphenation_commons.specs.declared.dictionary.Entry.{Entry}
 use Rattle.dictionary_text.specs.declared.form.Kind.{Kind}
 use Rattle.dictionary_text.specs.declared.form.Version.TheVariants.{First}
@@ -23,8 +23,8 @@ KeysAreSpelt C B =
     (kind : Kind) (payload_of : Option Change → C) (listing_of : Break → B) (lines : List (List ℕ)) (key : List ℕ)
     (entries : List (Entry C)) → fault_of kind lines ≡ None
     → (finite.get (contents_of kind payload_of listing_of lines).patterns key ≡ Some entries)
-    ↔ SomeLine (λ line.
-    spelt_as (entry_as payload_of) (pattern_of_line (version_of kind lines)) line ≡ Some (key, entries)) lines
+    ↔ Any (λ line. spelt_as (entry_as payload_of) (pattern_of_line (version_of kind lines)) line ≡ Some (key, entries))
+    lines
 
 -- A word has exactly the list that some `e` line spells for it.
 abbrev pub WordsAreSpelt : Type 0 → Type 0 → Type 0
@@ -32,7 +32,7 @@ WordsAreSpelt C B =
     (kind : Kind) (payload_of : Option Change → C) (listing_of : Break → B) (lines : List (List ℕ)) (word : List ℕ)
     (listed : List B) → fault_of kind lines ≡ None
     → (finite.get (contents_of kind payload_of listing_of lines).exceptions word ≡ Some listed)
-    ↔ SomeLine (λ line. spelt_as listing_of exception_of_line line ≡ Some (word, listed)) lines
+    ↔ Any (λ line. spelt_as listing_of exception_of_line line ≡ Some (word, listed)) lines
 
 -- Two accepted texts of the same lines after the third, in whatever order, give the same dictionary.
 abbrev pub OrderMeansNothing : Type 0 → Type 0 → Type 0
@@ -40,7 +40,7 @@ OrderMeansNothing C B =
     (kind : Kind) (payload_of : Option Change → C) (listing_of : Break → B) (first second third : List ℕ)
     (ls ms : List (List ℕ))
     → fault_of kind (first ∷ second ∷ third ∷ ls) ≡ None → fault_of kind (first ∷ second ∷ third ∷ ms) ≡ None
-    → AllAmong ls ms → AllAmong ms ls
+    → ((line : List ℕ) → Contains ls line ↔ Contains ms line)
     → contents_of kind payload_of listing_of (first ∷ second ∷ third ∷ ls)
     ≡ contents_of kind payload_of listing_of (first ∷ second ∷ third ∷ ms)
 

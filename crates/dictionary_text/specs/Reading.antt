@@ -1,5 +1,5 @@
 -- What lines spell together, and the dictionary that an accepted text gives.
-use Rattle.std.specs.Prelude.{◌⊎◌, ◌≡◌, ℕ, List, [], ◌∷◌, map, Option, option_map, unwrap_or, slice_index_or}
+use Rattle.std.specs.Prelude.{ℕ, List, [], map, Option, option_map, unwrap_or, slice_index_or}
 use Rattle.std.specs.List.{filter_map}
 use Rattle.std.specs.FinMap as finite
 use Rattle.hyphenation_commons.specs.Break.{Break, Change}
@@ -74,12 +74,3 @@ break_as_listing b = (b.place, b.change)
 
 abbrev pub extended_contents : List ℕ → Contents (Option Change) (ℕ × Option Change)
 extended_contents bytes = contents_of Extended change_as_payload break_as_listing (lines_of bytes)
-
--- Some line is so.
-abbrev pub SomeLine : (List ℕ → Type 0) → List (List ℕ) → Type 0
-SomeLine P [] = ⊥
-SomeLine P (l ∷ ls) = P l ⊎ SomeLine P ls
-
--- Each line of the first text stands in the second.
-abbrev pub AllAmong : List (List ℕ) → List (List ℕ) → Type 0
-AllAmong ls ms = (l : List ℕ) → SomeLine (λ m. m ≡ l) ls → SomeLine (λ m. m ≡ l) ms

@@ -311,6 +311,7 @@ fn is_extended(form: Form) -> bool
 fn keeps_within(text: &[u8], place: usize, change: &Subregion) -> bool
     ensures { result ≡ keeps_within text.now place change.now }
 {
+    change.invariant();
     match change.range_at(place) {
         None => false,
         Some((begin, end)) => is_boundary(text, begin) && is_boundary(text, end),

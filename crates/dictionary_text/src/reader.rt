@@ -75,7 +75,9 @@ impl<C: Payload, B: Listing> Builder<C, B> {
         ensures exceptions { self.new.exceptions ≡ self.old.exceptions }
         ensures begins { OnOk result (EachBeginsKey self.old.patterns → EachBeginsKey self.new.patterns) }
     {
+        self.patterns.invariant();
         let had = self.patterns.insert(key, entries)?;
+        self.patterns.invariant();
         Ok(had)
     }
 

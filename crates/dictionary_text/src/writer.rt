@@ -361,12 +361,12 @@ pub fn write_text<C: Payload, B: Listing>(
 /// The canonical text of a standard dictionary, as `write_text` has it. It is accepted, and gives that very dictionary.
 pub fn write_standard(alloc: Global, dictionary: &Standard) -> Result<Vec<u8>, AllocError>
     ensures text { IfOk result (λ text. text.items ≡ standard_text dictionary.now) }
-    ensures accepted { refusal_of OfStandard (standard_text dictionary.now) ≡ None }
-    ensures given { dictionary.now ≡ standard_contents (standard_text dictionary.now) }
+    ensures accepted { IfOk result (λ text. refusal_of OfStandard text.items ≡ None) }
+    ensures given { IfOk result (λ text. dictionary.now ≡ standard_contents text.items) }
 {
-    // These calls tell the proof what is true of each text that was written, and of each dictionary.
+    // The law of all texts that are written.
     written_is_read_again::<(), usize>();
-    let _minima = dictionary.minima();
+    dictionary.invariant();
     write_text(alloc, Kind::Standard, dictionary)
 }
 
@@ -374,11 +374,11 @@ pub fn write_standard(alloc: Global, dictionary: &Standard) -> Result<Vec<u8>, A
 /// dictionary.
 pub fn write_extended(alloc: Global, dictionary: &Extended) -> Result<Vec<u8>, AllocError>
     ensures text { IfOk result (λ text. text.items ≡ extended_text dictionary.now) }
-    ensures accepted { refusal_of OfExtended (extended_text dictionary.now) ≡ None }
-    ensures given { dictionary.now ≡ extended_contents (extended_text dictionary.now) }
+    ensures accepted { IfOk result (λ text. refusal_of OfExtended text.items ≡ None) }
+    ensures given { IfOk result (λ text. dictionary.now ≡ extended_contents text.items) }
 {
-    // These calls tell the proof what is true of each text that was written, and of each dictionary.
+    // The law of all texts that are written.
     written_is_read_again::<Option<Subregion>, (usize, Option<Subregion>)>();
-    let _minima = dictionary.minima();
+    dictionary.invariant();
     write_text(alloc, Kind::Extended, dictionary)
 }

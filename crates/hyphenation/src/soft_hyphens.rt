@@ -16,8 +16,9 @@ pub fn soft_hyphen_indices(alloc: Global, word: &str) -> Result<Option<Vec<usize
     ensures found { IfOk result (λ found. IfSome found (λ places. places.items ≡ soft_hyphens word.now)) }
     ensures some { IfOk result (λ found. IsSome found ↔ (soft_hyphens word.now ≢ [])) }
     ensures none { soft_hyphens word.now ≡ [] → result ≡ Ok None }
-    ensures ascending { IsStrictlyIncreasing (soft_hyphens word.now) }
-    ensures within { All (λ place. IsCharBoundary word.now place × (place < length word.now)) (soft_hyphens word.now) }
+    ensures ascending { IfOk result (λ found. IfSome found (λ places. IsStrictlyIncreasing places.items)) }
+    ensures within { IfOk result (λ found. IfSome found (λ places.
+        All (λ place. IsCharBoundary word.now place × (place < length word.now)) places.items)) }
 {
     // A short road, since most words are ASCII.
     if word.is_ascii() {

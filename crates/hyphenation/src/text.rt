@@ -78,6 +78,5 @@ pub fn an_empty_mark_gives_the_text_back(dictionary: &Standard)
     ensures { (text : List ℕ) → IsUtf8 text
         → hyphenated_text (all_breaks_of (rules_of no_change plain dictionary.now)) [] text ≡ text }
 {
-    // The call tells the proof what is true of each dictionary.
-    let _minima = dictionary.minima();
+    dictionary.invariant();
 }

@@ -92,10 +92,17 @@ impl Language {
         Language::from_code("tr").unwrap()
     }
 
+    /// What is true of each language, for a proof. The call does nothing.
+    pub fn invariant(&self)
+        ensures { IsCode self.now }
+    {
+        // The look at a field opens what the type holds.
+        let _len = self.len;
+    }
+
     /// The code.
     pub fn code(&self) -> &str
-        ensures value { result.now ≡ self.now }
-        ensures code { IsCode self.now }
+        ensures { result.now ≡ self.now }
     {
         let Language { bytes, len } = self;
         std::str::from_utf8(&bytes[..*len]).unwrap()

@@ -68,7 +68,9 @@ fn trie_of<C: Payload>(
 {
     let mut trie = Trie::new(alloc)?;
     for (key, mut entries) in patterns {
+        trie.invariant();
         trie.insert(key.as_bytes(), &mut entries)?;
+        trie.invariant();
     }
     Ok(trie)
 }
@@ -113,8 +115,7 @@ pub fn make<C: Payload, B: Listing>(
           exceptions = map_of_pairs (map pair_of exceptions.items);
         }) }
 {
-    // The call tells the proof what is true of each language.
-    let _code = language.code();
+    language.invariant();
     let trie = trie_of(alloc, patterns)?.freeze(alloc)?;
     let words = map_of(alloc, exceptions)?;
     Ok(Dictionary::new(language, left, right, trie, words))

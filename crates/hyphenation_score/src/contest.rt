@@ -107,7 +107,7 @@ fn compete_reported<'d, C: Drop>(
         (length (node_text automaton.now from)) }
     ensures made { count.new.made ≡ count.old.made }
 {
-    let _root = automaton.root();
+    automaton.invariant();
     let mut node = automaton.report(from);
     while node != 0 {
         let entries = automaton.entries(node, count);
@@ -141,6 +141,7 @@ pub fn winners_in<'d, C: Drop>(
     let places = word.len().saturating_sub(1);
     let mut bests: Vec<Option<&'d Entry<C>>> = vec![in alloc; None; places]?;
     let mut starts = vec![in alloc; 0usize; places]?;
+    automaton.invariant();
     let mut node = automaton.root();
     for at in 0..word.len() + 2 {
         node = automaton.step(node, framed_at(word, at), count);
@@ -182,7 +183,6 @@ pub fn winners<'d, C: Payload, B: Break>(
         (frame word.now)) }
     ensures visited { count.new.reported ≤ count.old.reported + occurrences (keys_of dictionary.now) (frame word.now) }
 {
-    // The call tells the proof what is true of each dictionary.
-    let _minima = dictionary.minima();
+    dictionary.invariant();
     winners_in(alloc, dictionary.patterns(), word.as_bytes(), count)
 }

@@ -127,7 +127,7 @@ fn raise_reported<C: Payload>(
         (length (node_text automaton.now from)) }
     ensures made { count.new.made ≡ count.old.made }
 {
-    let _root = automaton.root();
+    automaton.invariant();
     let mut changes = false;
     let mut node = automaton.report(from);
     while node != 0 {
@@ -200,6 +200,7 @@ pub fn raise_all<C: Payload>(
     ensures least { count.old.made + (length word.now + 2) ≤ count.new.made }
     ensures reported { count.new.reported ≡ count.old.reported + occurrences (key_at automaton.now) (frame word.now) }
 {
+    automaton.invariant();
     // The dots of the frame are read before the word and after it.
     let root = automaton.root();
     let (mut node, mut changes) = read(automaton, root, b'.', 1, scores, count);
@@ -263,7 +264,6 @@ pub(super) fn values<C: Payload, B: Break>(
         (frame word.now)) }
     ensures visited { count.new.reported ≤ count.old.reported + occurrences (keys_of dictionary.now) (frame word.now) }
 {
-    // The call tells the proof what is true of each dictionary.
-    let _minima = dictionary.minima();
+    dictionary.invariant();
     values_in(alloc, dictionary.patterns(), word.as_bytes(), count)
 }

@@ -202,13 +202,21 @@ impl<E: Drop> Trie<E> {
         ensures moved { OnOk result (entries.new.items ≡ []) }
         ensures begins { OnOk result (EachBeginsKey self.old → EachBeginsKey self.new) }
         ensures err { OnErr result ((q : List ℕ) → key_at self.new q ≡ key_at self.old q) }
-        ensures trie { OnOk result (IsTrie self.old × IsTrie self.new) }
         ensures adds { AddsFront self.old self.new key.now }
         ensures nodes { KeepsNodes self.old self.new }
     {
         let node = self.path(key)?;
+        self.invariant();
         let had = self.set_entries(node, entries)?;
         Ok(had)
+    }
+
+    /// What is true of each trie, for a proof. The call does nothing.
+    pub fn invariant(&self)
+        ensures { IsTrie self.now }
+    {
+        // The look at a field opens what the type holds.
+        let _nodes = &self.states;
     }
 
     /// The root: the node of the empty text.
@@ -216,10 +224,8 @@ impl<E: Drop> Trie<E> {
         ensures root { result ≡ 0 }
         ensures node { result < length self.now.texts }
         ensures text { node_text self.now result ≡ [] }
-        ensures trie { IsTrie self.now }
     {
-        // The look at a field tells the proof what is true of each trie.
-        let _nodes = &self.states;
+        self.invariant();
         0
     }
 
@@ -231,7 +237,6 @@ impl<E: Drop> Trie<E> {
         ensures none { IfNone result ((j : ℕ) → j < length self.now.texts
             → node_text self.now j ≢ node_text self.now node
             ++ byte ∷ []) }
-        ensures trie { IsTrie self.now }
     {
         let mut child = self.children.last[node as usize];
         while child != 0 {
@@ -273,7 +278,6 @@ impl<E: Drop> Trie<E> {
         ensures ok { IfOk result (λ j.
             (j < length self.new.texts) × (node_text self.new j ≡ node_text self.old node ++ byte ∷ [])) }
         ensures grows { Grows self.old self.new (node_text self.old node ++ byte ∷ []) }
-        ensures trie { IsTrie self.old }
     {
         match self.child_of(node, byte) {
             Some(child) => Ok(child),
@@ -287,10 +291,10 @@ impl<E: Drop> Trie<E> {
         ensures keys { (q : List ℕ) → key_at self.new q ≡ key_at self.old q }
         ensures adds { AddsFront self.old self.new text.now }
         ensures nodes { KeepsNodes self.old self.new }
-        ensures trie { IsTrie self.old }
     {
         let mut node = self.root();
         for byte in text {
+            self.invariant();
             node = self.step(node, *byte)?;
         }
         Ok(node)
@@ -303,7 +307,6 @@ impl<E: Drop> Trie<E> {
         ensures had { IfOk result (λ had. had ≡ is_some (key_at self.old (node_text self.old node))) }
         ensures moved { OnOk result (entries.new.items ≡ []) }
         ensures err { OnErr result (self.new ≡ self.old) }
-        ensures trie { IsTrie self.old × IsTrie self.new }
     {
         let start = in_32_bits(self.entries.len())?;
         let count = in_32_bits(entries.len())?;

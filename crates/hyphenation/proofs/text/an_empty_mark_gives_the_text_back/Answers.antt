@@ -10,7 +10,7 @@ use Rattle.hyphenation.proofs.text.an_empty_mark_gives_the_text_back.Goals as go
 pub returns : goal.returns
 returns c = λ text u.
     let dictionary = c.args.dictionary.now in
-    let kept = c.minima-minima.ensures.kept in
+    let kept = c.invariant.ensures in
     given_back (all_breaks_of (rules_of no_change plain dictionary))
     (λ word v. subst (Fits word) (fitted_alike dictionary word kept v) (breaks_fit no_change plain dictionary word kept v))
     (breaks_plain dictionary) text u

@@ -9,7 +9,7 @@ pub new-requires-clause-kept : goal.new-requires-clause-kept
 new-requires-clause-kept g c =
     let keys : patterns_of c.in_ok-trie.trie ≡ map_of_pairs (map pair_of c.args.patterns.items) = rw c.in_ok-trie.ensures c.in_ok-trie_of.ensures.keys in
     record {
-      code = c.code-code.ensures.code;
+      code = c.invariant.ensures;
       left = omega (arith, c.ranges.left.fits);
       right = omega (arith, c.ranges.right.fits);
       patterns = subst (Holds (IsPattern g.C.Payload.change_of)) (sym keys) (keys_hold g.C.Payload.change_of c.args.patterns.items c.requires.keys);

@@ -31,7 +31,7 @@ pub loop-node-smaller : goal.loop-node-smaller
 loop-node-smaller g c =
     let tree = c.args.automaton.now in
     let at = c.loop-node.node in
-    let pos = depth_pos tree c.root-root.ensures.trie at (omega arith) c.loop-node.invariant.within in
+    let pos = depth_pos tree c.invariant.ensures at (omega arith) c.loop-node.invariant.within in
     let report = c.next_report-node.ensures in
     omega (arith, report.ends.0, length-drop 1 (node_text tree at))
 
@@ -46,7 +46,7 @@ loop-node-preserved g c =
     let at = c.loop-node.node in
     let inv = c.loop-node.invariant in
     let to : ℕ = c.next_report-node.result in
-    let pos = depth_pos tree c.root-root.ensures.trie at (omega arith) inv.within in
+    let pos = depth_pos tree c.invariant.ensures at (omega arith) inv.within in
     let report = c.next_report-node.ensures in
     let less : length (node_text tree to) < length (node_text tree at) = omega (arith, report.ends.0, length-drop 1 (node_text tree at)) in
     let none = none_next tree t at to inv.ends report in
@@ -73,7 +73,7 @@ pub returns-clause-holds : goal.returns-clause-holds
 returns-clause-holds g c = λ i lt.
     let tree = c.args.automaton.now in
     let zero_is : c.loop-node.node ≡ 0 = omega arith in
-    let nil : length (node_text tree c.loop-node.node) ≡ 0 = ap (λ (k : ℕ). length (node_text tree k)) zero_is ∙ ap length c.root-root.ensures.trie.root in
+    let nil : length (node_text tree c.loop-node.node) ≡ 0 = ap (λ (k : ℕ). length (node_text tree k)) zero_is ∙ ap length c.invariant.ensures.root in
     met_all tree (frame c.args.word.now) c.args.end (i + 1) _ _ (omega arith) (c.loop-node.invariant.holds i (omega (arith, c.loop-node.auto.bests)))
 
 pub returns-clause-reported : goal.returns-clause-reported
@@ -81,6 +81,6 @@ returns-clause-reported g c =
     let tree = c.args.automaton.now in
     let t = node_text tree c.args.from in
     let zero_is : c.loop-node.node ≡ 0 = omega arith in
-    let nil : length (node_text tree c.loop-node.node) ≡ 0 = ap (λ (k : ℕ). length (node_text tree k)) zero_is ∙ ap length c.root-root.ensures.trie.root in
+    let nil : length (node_text tree c.loop-node.node) ≡ 0 = ap (λ (k : ℕ). length (node_text tree k)) zero_is ∙ ap length c.invariant.ensures.root in
     let whole : length t - length (node_text tree c.loop-node.node) ≡ length t = omega arith in
     c.loop-node.invariant.reported ∙ ap (λ (k : ℕ). c.args.count.now.reported + keys_in tree t k) whole

@@ -35,7 +35,7 @@ returns-clause-most g c =
     let same = ap length c.as_bytes.ensures.value in
     elim (cases_eq (longest_key contents) 0) [
       | inl zero_is ↦
-          let none = none_at_all g.C.Payload.change_of g.B.Break.meaning contents c.minima-minima.ensures.kept zero_is in
+          let none = none_at_all g.C.Payload.change_of g.B.Break.meaning contents c.invariant.ensures zero_is in
           let alone = c.winners_in.ensures.alone (λ q. sym (c.patterns.ensures.known q) ∙ none q) in
           let times = mul-le-mul_right {m = 1} {n = longest_key contents + 1} (word + 2) (omega arith) in
           omega arith

@@ -19,7 +19,7 @@ compete_reported-requires-clause-longest g c =
     let tree = c.args.automaton.now in
     let framed = frame c.args.word.now in
     let lt : c.loop-at.at < length framed = omega (arith, length-frame c.args.word.now) in
-    let next = longest_more tree c.root-node.ensures.trie (take c.loop-at.at framed) c.framed_at.result c.loop-at.node c.step-node.result c.loop-at.invariant.longest c.step-node.ensures.longest in
+    let next = longest_more tree c.invariant.ensures (take c.loop-at.at framed) c.framed_at.result c.loop-at.node c.step-node.result c.loop-at.invariant.longest c.step-node.ensures.longest in
     read_more tree.texts framed (take c.loop-at.at framed) c.loop-at.at c.framed_at.result c.step-node.result lt c.framed_at.ensures refl next
 
 pub compete_reported-requires-clause-end : goal.compete_reported-requires-clause-end
@@ -48,7 +48,7 @@ loop-at-preserved g c =
     let keys = key_at tree in
     let framed = frame c.args.word.now in
     let lt : c.loop-at.at < length framed = omega (arith, length-frame c.args.word.now) in
-    let next = longest_more tree c.root-node.ensures.trie (take c.loop-at.at framed) c.framed_at.result c.loop-at.node c.step-node.result c.loop-at.invariant.longest c.step-node.ensures.longest in
+    let next = longest_more tree c.invariant.ensures (take c.loop-at.at framed) c.framed_at.result c.loop-at.node c.step-node.result c.loop-at.invariant.longest c.step-node.ensures.longest in
     let longest = read_more tree.texts framed (take c.loop-at.at framed) c.loop-at.at c.framed_at.result c.step-node.result lt c.framed_at.ensures refl next in
     let bests = c.compete_reported.new.bests in
     let starts = c.compete_reported.new.starts in
@@ -72,7 +72,7 @@ loop-at-preserved g c =
           let h = c.step-node.ensures.alone in
           let made = c.compete_reported.ensures.made in
           let zero_is = alone_is tree c.requires.begins none c.loop-at.node c.loop-at.invariant.longest.within in
-          let nil = ap (λ (k : ℕ). length (node_text tree k)) zero_is ∙ ap length c.root-node.ensures.trie.root in
+          let nil = ap (λ (k : ℕ). length (node_text tree k)) zero_is ∙ ap length c.invariant.ensures.root in
           omega arith;
       least = let h = c.step-node.ensures.least in let was = c.loop-at.invariant.least in let made = c.compete_reported.ensures.made in omega arith;
       reported =

@@ -22,7 +22,7 @@ pub loop-at-init : goal.loop-at-init
 loop-at-init g c =
     let tree = c.args.automaton.now in
     let word = c.args.word.now in
-    let trie = c.root-root.ensures.trie in
+    let trie = c.invariant.ensures in
     let none = subst (λ k. Passed tree word 0 k c.args.scores.now c.args.count.now.made c.args.count.now.reported c.args.count.now.made c.args.count.now.reported) (sym c.root-root.ensures.root)
     (passed_none tree word trie c.args.scores.now c.args.count.now.made c.args.count.now.reported c.requires.zeros) in
     let r = c.read-node.ensures in
@@ -38,19 +38,19 @@ read-next-requires-clause-from g c = c.loop-at.invariant.passed.longest.within
 
 pub read-next-requires-clause-end : goal.read-next-requires-clause-end
 read-next-requires-clause-end g c =
-    omega (arith, passed_short c.args.automaton.now c.args.word.now c.root-root.ensures.trie (c.loop-at.at + 1) c.loop-at.node _ _ _ _ _ (omega arith) c.loop-at.invariant.passed)
+    omega (arith, passed_short c.args.automaton.now c.args.word.now c.invariant.ensures (c.loop-at.at + 1) c.loop-at.node _ _ _ _ _ (omega arith) c.loop-at.invariant.passed)
 
 pub read-next-requires-clause-made : goal.read-next-requires-clause-made
-read-next-requires-clause-made g c = (passed_room c.args.automaton.now c.args.word.now c.root-root.ensures.trie (c.loop-at.at + 1) c.loop-at.node _ _ _ _ _ (omega arith) (omega arith) c.requires.made c.requires.reported c.loop-at.invariant.passed).0
+read-next-requires-clause-made g c = (passed_room c.args.automaton.now c.args.word.now c.invariant.ensures (c.loop-at.at + 1) c.loop-at.node _ _ _ _ _ (omega arith) (omega arith) c.requires.made c.requires.reported c.loop-at.invariant.passed).0
 
 pub read-next-requires-clause-reported : goal.read-next-requires-clause-reported
-read-next-requires-clause-reported g c = (passed_room c.args.automaton.now c.args.word.now c.root-root.ensures.trie (c.loop-at.at + 1) c.loop-at.node _ _ _ _ _ (omega arith) (omega arith) c.requires.made c.requires.reported c.loop-at.invariant.passed).1
+read-next-requires-clause-reported g c = (passed_room c.args.automaton.now c.args.word.now c.invariant.ensures (c.loop-at.at + 1) c.loop-at.node _ _ _ _ _ (omega arith) (omega arith) c.requires.made c.requires.reported c.loop-at.invariant.passed).1
 
 pub loop-at-preserved : goal.loop-at-preserved
 loop-at-preserved g c =
     let tree = c.args.automaton.now in
     let word = c.args.word.now in
-    let trie = c.root-root.ensures.trie in
+    let trie = c.invariant.ensures in
     let r = c.read-next.ensures in
     let two : c.loop-at.at + 2 ≡ (c.loop-at.at + 1) + 1 = omega arith in
     let raised = subst (λ k. (i : ℕ) → i < length c.loop-at.scores → slice_index c.read-next.new.values i ≡ max (slice_index c.loop-at.scores i) (greatest_value (entries_of_ends (key_at tree) (node_text tree c.read-next.result.0) k (i + 1)))) two r.values in
@@ -69,13 +69,13 @@ read-met-requires-clause-from g c = c.loop-at.invariant.passed.longest.within
 
 pub read-met-requires-clause-end : goal.read-met-requires-clause-end
 read-met-requires-clause-end g c =
-    omega (arith, passed_short c.args.automaton.now c.args.word.now c.root-root.ensures.trie (c.loop-at.at + 1) c.loop-at.node _ _ _ _ _ (omega arith) c.loop-at.invariant.passed)
+    omega (arith, passed_short c.args.automaton.now c.args.word.now c.invariant.ensures (c.loop-at.at + 1) c.loop-at.node _ _ _ _ _ (omega arith) c.loop-at.invariant.passed)
 
 pub read-met-requires-clause-made : goal.read-met-requires-clause-made
-read-met-requires-clause-made g c = (passed_room c.args.automaton.now c.args.word.now c.root-root.ensures.trie (c.loop-at.at + 1) c.loop-at.node _ _ _ _ _ (omega arith) (omega arith) c.requires.made c.requires.reported c.loop-at.invariant.passed).0
+read-met-requires-clause-made g c = (passed_room c.args.automaton.now c.args.word.now c.invariant.ensures (c.loop-at.at + 1) c.loop-at.node _ _ _ _ _ (omega arith) (omega arith) c.requires.made c.requires.reported c.loop-at.invariant.passed).0
 
 pub read-met-requires-clause-reported : goal.read-met-requires-clause-reported
-read-met-requires-clause-reported g c = (passed_room c.args.automaton.now c.args.word.now c.root-root.ensures.trie (c.loop-at.at + 1) c.loop-at.node _ _ _ _ _ (omega arith) (omega arith) c.requires.made c.requires.reported c.loop-at.invariant.passed).1
+read-met-requires-clause-reported g c = (passed_room c.args.automaton.now c.args.word.now c.invariant.ensures (c.loop-at.at + 1) c.loop-at.node _ _ _ _ _ (omega arith) (omega arith) c.requires.made c.requires.reported c.loop-at.invariant.passed).1
 
 all : (g : _) (c : goal.After-slice_known-3-1 g) → Passed c.args.automaton.now c.args.word.now (length c.args.word.now + 2) c.read-met.result.0 c.read-met.new.values c.args.count.now.made c.args.count.now.reported c.read-met.new.count.made c.read-met.new.count.reported
 all g c =
@@ -87,10 +87,10 @@ all g c =
     let last = subst (λ k. Passed tree word (k + 1) c.loop-at.node c.loop-at.scores c.args.count.now.made c.args.count.now.reported c.loop-at.count.made c.loop-at.count.reported) ends c.loop-at.invariant.passed in
     let raised = subst (λ k. (i : ℕ) → i < length c.loop-at.scores → slice_index c.read-met.new.values i ≡ max (slice_index c.loop-at.scores i) (greatest_value (entries_of_ends (key_at tree) (node_text tree c.read-met.result.0) k (i + 1)))) (sym two) r.values in
     subst (λ k. Passed tree word k c.read-met.result.0 c.read-met.new.values c.args.count.now.made c.args.count.now.reported c.read-met.new.count.made c.read-met.new.count.reported) two
-    (passed_more tree word c.root-root.ensures.trie c.requires.begins (length word + 1) c.loop-at.node 46 c.read-met.result.0 c.loop-at.scores c.read-met.new.values _ _ _ _ c.read-met.new.count.made c.read-met.new.count.reported (omega arith) (last_byte word) last r.longest c.read-met.auto.values raised r.least r.most r.alone r.reported)
+    (passed_more tree word c.invariant.ensures c.requires.begins (length word + 1) c.loop-at.node 46 c.read-met.result.0 c.loop-at.scores c.read-met.new.values _ _ _ _ c.read-met.new.count.made c.read-met.new.count.reported (omega arith) (last_byte word) last r.longest c.read-met.auto.values raised r.least r.most r.alone r.reported)
 
 pub returns-clause-values : goal.returns-clause-values
-returns-clause-values g c = passed_values c.args.automaton.now c.args.word.now c.root-root.ensures.trie c.read-met.result.0 c.read-met.new.values _ _ _ _ (c.read-met.auto.values ∙ c.loop-at.invariant.len ∙ c.requires.places) (all g c)
+returns-clause-values g c = passed_values c.args.automaton.now c.args.word.now c.invariant.ensures c.read-met.result.0 c.read-met.new.values _ _ _ _ (c.read-met.auto.values ∙ c.loop-at.invariant.len ∙ c.requires.places) (all g c)
 
 pub returns-clause-linear : goal.returns-clause-linear
 returns-clause-linear g c = let p = all g c in omega (arith, p.most)
@@ -102,7 +102,7 @@ pub returns-clause-least : goal.returns-clause-least
 returns-clause-least g c = (all g c).least
 
 pub returns-clause-reported : goal.returns-clause-reported
-returns-clause-reported g c = passed_reported c.args.automaton.now c.args.word.now c.root-root.ensures.trie c.read-met.result.0 c.read-met.new.values _ _ _ _ (all g c)
+returns-clause-reported g c = passed_reported c.args.automaton.now c.args.word.now c.invariant.ensures c.read-met.result.0 c.read-met.new.values _ _ _ _ (all g c)
 
 pub returns-clause-unchanged : goal.returns-clause-unchanged
 returns-clause-unchanged g c = λ no p.

@@ -32,7 +32,7 @@ pub loop-node-smaller : goal.loop-node-smaller
 loop-node-smaller g c =
     let tree = c.args.automaton.now in
     let at = c.loop-node.node in
-    let pos = depth_pos tree c.root-root.ensures.trie at (omega arith) c.loop-node.invariant.within in
+    let pos = depth_pos tree c.invariant.ensures at (omega arith) c.loop-node.invariant.within in
     let report = c.next_report-node.ensures in
     omega (arith, report.ends.0, length-drop 1 (node_text tree at))
 
@@ -43,7 +43,7 @@ loop-node-preserved g c =
     let at = c.loop-node.node in
     let inv = c.loop-node.invariant in
     let to : ℕ = c.next_report-node.result in
-    let pos = depth_pos tree c.root-root.ensures.trie at (omega arith) inv.within in
+    let pos = depth_pos tree c.invariant.ensures at (omega arith) inv.within in
     let report = c.next_report-node.ensures in
     let less : length (node_text tree to) < length (node_text tree at) = omega (arith, report.ends.0, length-drop 1 (node_text tree at)) in
     let none = none_next tree t at to inv.ends report in
@@ -73,7 +73,7 @@ returns-clause-values g c = λ i lt.
     let tree = c.args.automaton.now in
     let t = node_text tree c.args.from in
     let zero_is : c.loop-node.node ≡ 0 = omega arith in
-    let nil : length (node_text tree c.loop-node.node) ≡ 0 = ap (λ (k : ℕ). length (node_text tree k)) zero_is ∙ ap length c.root-root.ensures.trie.root in
+    let nil : length (node_text tree c.loop-node.node) ≡ 0 = ap (λ (k : ℕ). length (node_text tree k)) zero_is ∙ ap length c.invariant.ensures.root in
     let whole : length t - length (node_text tree c.loop-node.node) ≡ length t = omega arith in
     c.loop-node.invariant.values i (omega arith) ∙ ap (λ (k : ℕ). max (slice_index c.args.values.now i) (greatest_value (flat_map (λ d. entries_of_end (key_at tree) t c.args.end (i + 1) d) (range_with_len 0 k)))) whole
 
@@ -82,7 +82,7 @@ returns-clause-reported g c =
     let tree = c.args.automaton.now in
     let t = node_text tree c.args.from in
     let zero_is : c.loop-node.node ≡ 0 = omega arith in
-    let nil : length (node_text tree c.loop-node.node) ≡ 0 = ap (λ (k : ℕ). length (node_text tree k)) zero_is ∙ ap length c.root-root.ensures.trie.root in
+    let nil : length (node_text tree c.loop-node.node) ≡ 0 = ap (λ (k : ℕ). length (node_text tree k)) zero_is ∙ ap length c.invariant.ensures.root in
     let whole : length t - length (node_text tree c.loop-node.node) ≡ length t = omega arith in
     c.loop-node.invariant.reported ∙ ap (λ (k : ℕ). c.args.count.now.reported + keys_in tree t k) whole
 
@@ -91,6 +91,6 @@ returns-clause-unchanged g c = λ no p.
     let tree = c.args.automaton.now in
     let t = node_text tree c.args.from in
     let zero_is : c.loop-node.node ≡ 0 = omega arith in
-    let nil : length (node_text tree c.loop-node.node) ≡ 0 = ap (λ (k : ℕ). length (node_text tree k)) zero_is ∙ ap length c.root-root.ensures.trie.root in
+    let nil : length (node_text tree c.loop-node.node) ≡ 0 = ap (λ (k : ℕ). length (node_text tree k)) zero_is ∙ ap length c.invariant.ensures.root in
     let whole : length t - length (node_text tree c.loop-node.node) ≡ length t = omega arith in
     ap (λ (k : ℕ). carry_change g.C.Payload.change_of (flat_map (λ d. entries_of_end (key_at tree) t c.args.end p d) (range_with_len 0 k))) (sym whole) ∙ c.loop-node.invariant.unchanged no p

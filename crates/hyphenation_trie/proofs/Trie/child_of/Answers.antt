@@ -6,7 +6,7 @@ use Rattle.hyphenation_trie.specs.Private.States.{IsHeld, froms_by}
 use Rattle.hyphenation_trie.specs.declared.frozen.State.{State}
 use Rattle.hyphenation_trie.proofs.FrozenTrie.{byte_here}
 use Rattle.hyphenation_trie.proofs.GrowingNodes.{sought-start, sought-next, sought-found, sought-none, sought-byte, other_byte}
-use Rattle.hyphenation_trie.proofs.HeldNodes.{trie_held, node_held}
+use Rattle.hyphenation_trie.proofs.HeldNodes.{node_held}
 use Rattle.hyphenation_trie.proofs.TrieNodes.{length-texts_of}
 use Rattle.hyphenation_trie.proofs.Trie.child_of.Goals as goal
 
@@ -50,9 +50,6 @@ returns-then-index-byte-clause-found g c =
     sought-found _ _ _ c.args.node c.args.byte c.loop-child.child c.self.invariant.growing c.loop-child.invariant pos
     (at_byte _ _ _ _ _ _ c.args.node c.args.byte c.loop-child.child c.index.result.now c.self.invariant c.loop-child.invariant pos c.index.ensures ∙ ap (λ (x : ℕ). Some (c.args.node, x)) c.if-index-byte.true))
 
-pub returns-then-index-byte-clause-trie : goal.returns-then-index-byte-clause-trie
-returns-then-index-byte-clause-trie g c = rw (← c.self.view_is) (trie_held _ _ _ _ _ c.self.inside.entries.items c.self.invariant)
-
 pub loop-child-preserved : goal.loop-child-preserved
 loop-child-preserved g c =
     let pos = some c.loop-child.child c.loop-child-test.true in
@@ -66,6 +63,3 @@ pub returns-clause-none : goal.returns-clause-none
 returns-clause-none g c =
     let asked = rw (← c.self.view_is) at c.requires in
     rw (← c.self.view_is) (sought-none _ _ _ c.args.node c.args.byte c.loop-child.child c.self.invariant.growing c.loop-child.invariant c.loop-child-test.false asked)
-
-pub returns-clause-trie : goal.returns-clause-trie
-returns-clause-trie g c = rw (← c.self.view_is) (trie_held _ _ _ _ _ c.self.inside.entries.items c.self.invariant)

@@ -4,7 +4,7 @@ use Rattle.hyphenation_trie.proofs.TrieNodes.{key_at-grows, adds-grows, keeps-gr
 use Rattle.hyphenation_trie.proofs.Trie.path.Goals as goal
 
 pub returns-in_err-node-clause-keys : goal.returns-in_err-node-clause-keys
-returns-in_err-node-clause-keys g c = λ q. key_at-grows c.loop-byte.self c.step.new.self _ c.in_err-node.ensures.trie c.in_err-node.ensures.grows q ∙ c.loop-byte.invariant.keys q
+returns-in_err-node-clause-keys g c = λ q. key_at-grows c.loop-byte.self c.step.new.self _ c.invariant.ensures c.in_err-node.ensures.grows q ∙ c.loop-byte.invariant.keys q
 
 pub returns-in_err-node-clause-adds : goal.returns-in_err-node-clause-adds
 returns-in_err-node-clause-adds g c =
@@ -20,7 +20,7 @@ loop-byte-preserved g c =
     record {
       within = c.in_ok-node.ensures.ok.0;
       text = c.in_ok-node.ensures.ok.1 ∙ f.0;
-      keys = λ q. key_at-grows c.loop-byte.self c.step.new.self _ c.in_ok-node.ensures.trie c.in_ok-node.ensures.grows q ∙ c.loop-byte.invariant.keys q;
+      keys = λ q. key_at-grows c.loop-byte.self c.step.new.self _ c.invariant.ensures c.in_ok-node.ensures.grows q ∙ c.loop-byte.invariant.keys q;
       adds = adds-grows c.args.self.now c.loop-byte.self c.step.new.self _ c.args.text.now c.loop-byte.invariant.adds c.in_ok-node.ensures.grows f.1;
       nodes = keeps-grows c.args.self.now c.loop-byte.self c.step.new.self _ c.loop-byte.invariant.nodes c.in_ok-node.ensures.grows;
     }

@@ -9,21 +9,6 @@ use Rattle.hyphenation_trie.proofs.HeldNodes.{trie_held, node_held, held_set}
 use Rattle.hyphenation_trie.proofs.TrieNodes.{entries_at-here, seen-with, has_entries}
 use Rattle.hyphenation_trie.proofs.Trie.set_entries.Goals as goal
 
-pub returns-in_err-start-clause-trie : goal.returns-in_err-start-clause-trie
-returns-in_err-start-clause-trie g c =
-    let now = trie_held _ _ _ _ _ c.self.inside.entries.items c.self.invariant in
-    (rw (← c.self.view_is) now, rw (← c.self.view_is) now)
-
-pub returns-in_err-count-clause-trie : goal.returns-in_err-count-clause-trie
-returns-in_err-count-clause-trie g c =
-    let now = trie_held _ _ _ _ _ c.self.inside.entries.items c.self.invariant in
-    (rw (← c.self.view_is) now, rw (← c.self.view_is) now)
-
-pub returns-in_err-append-clause-trie : goal.returns-in_err-append-clause-trie
-returns-in_err-append-clause-trie g c =
-    let now = trie_held _ _ _ _ _ c.self.inside.entries.items c.self.invariant in
-    (rw (← c.self.view_is) now, rw (c.in_err-append.ensures.items) now)
-
 pub index_mut-requires : goal.index_mut-requires
 index_mut-requires g c =
     let asked = rw (← c.self.view_is) at c.requires in
@@ -69,8 +54,3 @@ returns-clause-had g c =
     rw (← c.self.view_is) (
     c.set_span.ensures.had ∙ has_entries es (span_in s)
     ∙ ap is_some (sym mine ∙ sym (entries_at-here (tree_of froms (map span_in states) es).texts (tree_of froms (map span_in states) es).entries c.args.node trie.distinct trie.lengths asked)))
-
-pub returns-clause-trie : goal.returns-clause-trie
-returns-clause-trie g c =
-    let now = trie_held _ _ _ _ _ _ (invariant_of-self-2 g c) in
-    (rw (← c.self.view_is) (trie_held _ _ _ _ _ c.self.inside.entries.items c.self.invariant), now)

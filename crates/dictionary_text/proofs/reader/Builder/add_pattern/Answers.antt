@@ -4,7 +4,7 @@ use Rattle.hyphenation_commons.proofs.PatternsLemmas.{get-patterns_of, patterns_
 use Rattle.dictionary_text.proofs.reader.Builder.add_pattern.Goals as goal
 
 pub returns-clause-had : goal.returns-clause-had
-returns-clause-had g c = c.in_ok-had.ensures.had ∙ ap is_some (sym (get-patterns_of c.args.self.now.patterns c.in_ok-had.ensures.trie.0 c.args.key.now))
+returns-clause-had g c = c.in_ok-had.ensures.had ∙ ap is_some (sym (get-patterns_of c.args.self.now.patterns c.invariant.ensures c.args.key.now))
 
 pub returns-clause-patterns : goal.returns-clause-patterns
-returns-clause-patterns g c = patterns_of-insert c.args.self.now.patterns c.insert.new.self c.args.key.now c.args.entries.now.items c.in_ok-had.ensures.trie.0 c.in_ok-had.ensures.trie.1 c.in_ok-had.ensures.ok
+returns-clause-patterns g c = patterns_of-insert c.args.self.now.patterns c.insert.new.self c.args.key.now c.args.entries.now.items c.invariant.ensures c.invariant-2.ensures c.in_ok-had.ensures.ok

@@ -39,5 +39,5 @@ returns g c =
     let break_of = g.F.Listing.Break.meaning in
     let rules = rules_of change_of break_of c.args.dictionary.now in
     let text = (read_is c.from_utf8.result _ _ c.unwrap-text.result c.unwrap-text.ensures c.from_utf8.ensures.cases).0 in
-    let ascend = opportunities_ascend rules (fold word) (rules_are_sound change_of break_of c.args.dictionary.now (fold word) c.minima-minima.ensures.kept (fold_is_utf8 word c.utf8.word)) in
+    let ascend = opportunities_ascend rules (fold word) (rules_are_sound change_of break_of c.args.dictionary.now (fold word) c.invariant.ensures (fold_is_utf8 word c.utf8.word)) in
     ok_then c.unmoved_breaks.result _ _ (λ v is. ascii_breaks rules word c.unwrap-text.result.now (map g.F.Break.meaning v.items) c.requires.ascii (text ∙ small word _ _ _ c.requires.ascii c.make_ascii_lowercase.ensures.after c.copy_from_slice.ensures.after c.as_bytes.ensures.value) ascend is) c.unmoved_breaks.ensures

@@ -4,14 +4,14 @@ use Rattle.hyphenation_segments.specs.Fits.{Fits}
 use Rattle.hyphenation.specs.Opportunities.{no_change, Ascending}
 use Rattle.hyphenation.proofs.FittedBreaks.{breaks_fit, breaks_ascend}
 use Rattle.hyphenation.proofs.PlainBreaks.{fitted_alike}
-use Rattle.hyphenation.proofs.hyphenator.standard.StandardHyphenator.unbreakable_chars.Goals as goal
+use Rattle.hyphenation.proofs.hyphenator.standard.StandardHyphenator.breaks_fit.Goals as goal
 
 pub returns-clause-fit : goal.returns-clause-fit
 returns-clause-fit c = λ word u.
-    let kept = c.minima.ensures.kept in
+    let kept = c.invariant.ensures in
     subst (Fits word) (fitted_alike c.args.self.now word kept u) (breaks_fit no_change plain c.args.self.now word kept u)
 
 pub returns-clause-ascend : goal.returns-clause-ascend
 returns-clause-ascend c = λ word u.
-    let kept = c.minima.ensures.kept in
+    let kept = c.invariant.ensures in
     subst (Ascending word) (fitted_alike c.args.self.now word kept u) (breaks_ascend no_change plain c.args.self.now word kept u)
