@@ -102,10 +102,11 @@ abbrev pub spells_letters : Group → List ℕ → Bool
 spells_letters Patterns text = has_letter (letters text)
 spells_letters Exceptions text = true
 
--- The letters are UTF-8, and no digit or hyphen cuts a character.
+-- No change is carried.
 abbrev pub carries_nothing : Option Change → Option Change
 carries_nothing change = None
 
+-- The letters are UTF-8, and no digit or hyphen cuts a character.
 abbrev pub keeps_characters : Group → List ℕ → Bool
 keeps_characters Patterns text =
     is_utf8 (letters text) && are_entries (λ change. change) (letters text) (entries_of_digits carries_nothing text)
