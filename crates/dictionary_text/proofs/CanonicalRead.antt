@@ -22,7 +22,8 @@ use Rattle.hyphenation_commons.specs.Invariant.{IsDictionary, IsPattern, IsExcep
 use Rattle.hyphenation_commons.specs.Language.{is_code_byte, IsCode}
 use Rattle.dictionary_text.specs.Lines.{language_of, minima_of, small_of, two_small, lines_of}
 use Rattle.dictionary_text.specs.Reading.{map_of_lines, spelt_as, entry_as, contents_in, contents_of}
-use Rattle.dictionary_text.specs.Canonical.{entry_as_said, pattern_line, exception_line, minima_line, language_line, canonical_lines, canonical_text_of, are_digits, version_for, HoldsExactly}
+use Rattle.dictionary_text.specs.Canonical.{entry_as_said, pattern_line, exception_line, minima_line, language_line, canonical_lines, canonical_text_of, are_digits, version_for}
+use Rattle.dictionary_text.specs.Laws.{HoldsExactly}
 use Rattle.hyphenation_commons.specs.declared.dictionary.Entry.{Entry}
 use Rattle.dictionary_text.specs.declared.Cause.{Cause}
 use Rattle.dictionary_text.specs.declared.Cause.TheVariants.{RepeatedPattern, RepeatedException}

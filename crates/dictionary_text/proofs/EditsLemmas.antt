@@ -12,7 +12,8 @@ use Rattle.std.specs.declared.vec.Vec.{Vec}
 use Rattle.std.proofs.lemmas.Str.{IsUtf8-append, is_utf8-from_IsUtf8}
 use Rattle.hyphenation_commons.specs.Break.{Break, Change, plain}
 use Rattle.hyphenation_commons.specs.Dictionary.{Contents}
-use Rattle.dictionary_text.specs.Edits.{as_line, form_in, is_addition, is_sound_line, edit_line, said_of_word, word_named, after_edit, after_edits, last_said_of}
+use Rattle.dictionary_text.specs.Edits.{as_line, form_in, is_addition, is_sound_line, edit_line, after_edit, after_edits}
+use Rattle.dictionary_text.specs.Laws.{said_of_word, word_named, last_said_of}
 use Rattle.dictionary_text.specs.Private.Edits.{ReadsException}
 use Rattle.dictionary_text.specs.Items.{breaks_of_line}
 use Rattle.dictionary_text.specs.Judging.{own_cause, is_known}

@@ -1,7 +1,7 @@
 -- Each kind of dictionary holds exactly what its texts say.
 use Rattle.std.proofs.Common.{◌≡◌, ℕ, Option, None, refl}
 use Rattle.hyphenation_commons.specs.Break.{Change, plain, changed_by}
-use Rattle.dictionary_text.specs.Canonical.{HoldsExactly}
+use Rattle.dictionary_text.specs.Laws.{HoldsExactly}
 use Rattle.dictionary_text.specs.Reading.{no_payload, place_as_listing, change_as_payload, break_as_listing}
 use Rattle.dictionary_text.specs.declared.form.Kind.TheVariants.{Standard, Extended}
 

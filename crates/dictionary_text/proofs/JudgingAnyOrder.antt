@@ -12,7 +12,7 @@ use native.Mathlib.Decide.{dec_lt, ℕ_discrete}
 use Rattle.dictionary_text.specs.declared.form.Form.{Form}
 use Rattle.dictionary_text.specs.declared.form.Version.{Version}
 use Rattle.dictionary_text.specs.Lines.{same}
-use Rattle.dictionary_text.specs.Items.{is_pattern, is_exception, key_of_line, word_of_line, key_spelt, word_spelt}
+use Rattle.dictionary_text.specs.Items.{is_pattern_line, is_exception_line, key_of_line, word_of_line, key_spelt, word_spelt}
 use Rattle.dictionary_text.specs.Judging.{fault_after, own_cause, missing_head, repetition, stands_in}
 use Rattle.dictionary_text.specs.declared.Cause.{Cause}
 use Rattle.dictionary_text.specs.declared.Cause.TheVariants.{RepeatedPattern, RepeatedException}
@@ -25,7 +25,7 @@ abbrev spells_same : (List ℕ → Option (List ℕ)) → List ℕ → List ℕ 
 spells_same spells text other = option_map_or (λ t. same t text) (spells other) false
 
 abbrev clash : Version → List ℕ → List ℕ → Bool
-clash version e l = (is_pattern l && spells_same (key_spelt version) (key_of_line version l) e) || (is_exception l && spells_same word_spelt (word_of_line l) e)
+clash version e l = (is_pattern_line l && spells_same (key_spelt version) (key_of_line version l) e) || (is_exception_line l && spells_same word_spelt (word_of_line l) e)
 
 half : (a b : Bool) (k m : List ℕ) → (b && option_map_or (λ t. same t m) (cond {A = Option (List ℕ)} a (Some k) None) false) ≡ (a && option_map_or (λ t. same t k) (cond {A = Option (List ℕ)} b (Some m) None) false)
 half true true k m = nat_list_eq_equiv.symm k m
@@ -34,7 +34,7 @@ half false true k m = refl
 half false false k m = refl
 
 clash-sym : (version : Version) (e l : List ℕ) → clash version e l ≡ clash version l e
-clash-sym version e l = λ i. half (is_pattern e) (is_pattern l) (key_of_line version e) (key_of_line version l) i || half (is_exception e) (is_exception l) (word_of_line e) (word_of_line l) i
+clash-sym version e l = λ i. half (is_pattern_line e) (is_pattern_line l) (key_of_line version e) (key_of_line version l) i || half (is_exception_line e) (is_exception_line l) (word_of_line e) (word_of_line l) i
 
 -- the tests of repetition, by that
 gather : (p q : Bool) (f g : List ℕ → Bool) (ls : List (List ℕ)) → ((p && list_any f ls) || (q && list_any g ls)) ≡ list_any (λ e. (p && f e) || (q && g e)) ls
@@ -73,14 +73,14 @@ none_again false false e = refl
 
 no_clash : (version : Version) (earlier : List (List ℕ)) (l : List ℕ) → None ≡ repetition version earlier l → list_any (λ e. clash version e l) earlier ≡ false
 no_clash version earlier l none =
-    let off = neither (is_pattern l && stands_in (key_spelt version) earlier (key_of_line version l)) (is_exception l && stands_in word_spelt earlier (word_of_line l)) none in
-    sym (gather (is_pattern l) (is_exception l) (spells_same (key_spelt version) (key_of_line version l)) (spells_same word_spelt (word_of_line l)) earlier)
-    ∙ both_false (is_pattern l && stands_in (key_spelt version) earlier (key_of_line version l)) (is_exception l && stands_in word_spelt earlier (word_of_line l)) off.0 off.1
+    let off = neither (is_pattern_line l && stands_in (key_spelt version) earlier (key_of_line version l)) (is_exception_line l && stands_in word_spelt earlier (word_of_line l)) none in
+    sym (gather (is_pattern_line l) (is_exception_line l) (spells_same (key_spelt version) (key_of_line version l)) (spells_same word_spelt (word_of_line l)) earlier)
+    ∙ both_false (is_pattern_line l && stands_in (key_spelt version) earlier (key_of_line version l)) (is_exception_line l && stands_in word_spelt earlier (word_of_line l)) off.0 off.1
 
 no_repetition : (version : Version) (earlier : List (List ℕ)) (l : List ℕ) → list_any (λ e. clash version e l) earlier ≡ false → None ≡ repetition version earlier l
 no_repetition version earlier l none =
-    none_again (is_pattern l && stands_in (key_spelt version) earlier (key_of_line version l)) (is_exception l && stands_in word_spelt earlier (word_of_line l))
-    (gather (is_pattern l) (is_exception l) (spells_same (key_spelt version) (key_of_line version l)) (spells_same word_spelt (word_of_line l)) earlier ∙ none)
+    none_again (is_pattern_line l && stands_in (key_spelt version) earlier (key_of_line version l)) (is_exception_line l && stands_in word_spelt earlier (word_of_line l))
+    (gather (is_pattern_line l) (is_exception_line l) (spells_same (key_spelt version) (key_of_line version l)) (spells_same word_spelt (word_of_line l)) earlier ∙ none)
 
 -- none among the first i, place by place
 each_of : (p : List ℕ → Bool) (xs : List (List ℕ)) (i : ℕ) → list_any p (take i xs) ≡ false → (k : ℕ) → k < i → k < length xs → p (get_or xs k []) ≡ false

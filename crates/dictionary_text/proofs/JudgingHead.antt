@@ -7,8 +7,8 @@ use Rattle.std.specs.FinMap as finite
 use Rattle.std.proofs.lemmas.Bool.Decides.{nat_tests}
 use Rattle.hyphenation_commons.specs.Break.{Break, Change}
 use Rattle.dictionary_text.specs.Private.Builder.{HasHead, are_idle}
-use Rattle.dictionary_text.specs.Items.{is_pattern, is_exception, tokens_of, pattern_of_line, exception_of_line, key_of_line, entries_of_line, word_of_line, breaks_of_line, key_spelt, word_spelt}
-use Rattle.dictionary_text.specs.Judging.{is_item, fails, own_cause, repetition, stands_in, fault_after}
+use Rattle.dictionary_text.specs.Items.{is_pattern_line, is_exception_line, tokens_of, pattern_of_line, exception_of_line, key_of_line, entries_of_line, word_of_line, breaks_of_line, key_spelt, word_spelt}
+use Rattle.dictionary_text.specs.Judging.{is_item_line, fails, own_cause, repetition, stands_in, fault_after}
 use Rattle.dictionary_text.specs.Private.Judging.{before_item}
 use Rattle.hyphenation_commons.specs.Language.{is_code}
 use Rattle.dictionary_text.specs.Form.{head_line, head_of}
@@ -34,8 +34,8 @@ use Rattle.hyphenation_trie.proofs.TrieNodes.{same_text}
 
 -- a line of neither sort
 pub record IsIdle (line : List ℕ) : Type 0 where
-  pub pattern : is_pattern line ≡ false
-  pub exception : is_exception line ≡ false
+  pub pattern : is_pattern_line line ≡ false
+  pub exception : is_exception_line line ≡ false
 
 other : (b c x : ℕ) → eqb b c ≡ true → eqb c x ≡ false → eqb b x ≡ false
 other b c x e f = grind (arith, nat_tests)
@@ -147,10 +147,10 @@ pub first_refused : (form : Form) (a : List ℕ) (rest : List (List ℕ)) (refus
 first_refused form a rest refusal h = refused_at form [] a rest refusal h
 
 -- lines that spell no item spell nothing together
-unspelt : {X : Type 0} (spells : List ℕ → Option (List ℕ × X)) (ls : List (List ℕ)) → ((l : List ℕ) → not (is_item l) ≡ true → spells l ≡ None) → are_idle ls ≡ true → filter_map spells ls ≡ []
+unspelt : {X : Type 0} (spells : List ℕ → Option (List ℕ × X)) (ls : List (List ℕ)) → ((l : List ℕ) → not (is_item_line l) ≡ true → spells l ≡ None) → are_idle ls ≡ true → filter_map spells ls ≡ []
 unspelt spells [] none e = refl
 unspelt {X} spells (l ∷ ls) none e =
-    (λ i. cons_option (none l (both_left (not (is_item l)) (are_idle ls) e) i) (filter_map spells ls)) ∙ unspelt spells ls none (both_right (not (is_item l)) (are_idle ls) e)
+    (λ i. cons_option (none l (both_left (not (is_item_line l)) (are_idle ls) e) i) (filter_map spells ls)) ∙ unspelt spells ls none (both_right (not (is_item_line l)) (are_idle ls) e)
 
 neither : (p x : Bool) → not (p || x) ≡ true → (p ≡ false) × (x ≡ false)
 neither true x e = absurd cc
@@ -159,6 +159,6 @@ neither false false e = (refl, refl)
 
 pub idle-spelt : {C B : Type 0} (version : Version) (payload_of : Option Change → C) (listing_of : Break → B) (ls : List (List ℕ)) → are_idle ls ≡ true → items_of_lines version payload_of listing_of ls ≡ items_of_lines version payload_of listing_of []
 idle-spelt {C} {B} version payload_of listing_of ls e =
-    let keys = unspelt (spelt_as (entry_as payload_of) (pattern_of_line version)) ls (λ l h. ap (λ (b : Bool). option_map {U = List ℕ × List (Entry C)} (λ (x : List ℕ × List (Entry (Option Change))). (x.0, map (entry_as payload_of) x.1)) (cond b (Some (key_of_line version l, entries_of_line version l)) None)) (neither (is_pattern l) (is_exception l) h).0) e in
-    let words = unspelt (spelt_as listing_of exception_of_line) ls (λ l h. ap (λ (b : Bool). option_map {U = List ℕ × List B} (λ (x : List ℕ × List Break). (x.0, map listing_of x.1)) (cond b (Some (word_of_line l, breaks_of_line l)) None)) (neither (is_pattern l) (is_exception l) h).1) e in
+    let keys = unspelt (spelt_as (entry_as payload_of) (pattern_of_line version)) ls (λ l h. ap (λ (b : Bool). option_map {U = List ℕ × List (Entry C)} (λ (x : List ℕ × List (Entry (Option Change))). (x.0, map (entry_as payload_of) x.1)) (cond b (Some (key_of_line version l, entries_of_line version l)) None)) (neither (is_pattern_line l) (is_exception_line l) h).0) e in
+    let words = unspelt (spelt_as listing_of exception_of_line) ls (λ l h. ap (λ (b : Bool). option_map {U = List ℕ × List B} (λ (x : List ℕ × List Break). (x.0, map listing_of x.1)) (cond b (Some (word_of_line l, breaks_of_line l)) None)) (neither (is_pattern_line l) (is_exception_line l) h).1) e in
     λ i. record { patterns = finite.from_entries (keys i); exceptions = finite.from_entries (words i) }

@@ -6,7 +6,7 @@ use Rattle.std.specs.List.{list_all, slice_split}
 use Rattle.std.proofs.lemmas.Bool.Decides.{nat_tests}
 use Rattle.hyphenation_commons.specs.Break.{Break, Change as Changed, ascend_on, is_boundary}
 use Rattle.dictionary_text.specs.declared.form.Form.{Form}
-use Rattle.dictionary_text.specs.Items.{is_pattern, is_exception, tokens_of, pattern_of_line, exception_of_line, break_of_token, change_at, entries_of_line, breaks_of_line, key_of_line, word_of_line}
+use Rattle.dictionary_text.specs.Items.{is_pattern_line, is_exception_line, tokens_of, pattern_of_line, exception_of_line, break_of_token, change_at, entries_of_line, breaks_of_line, key_of_line, word_of_line}
 use Rattle.dictionary_text.specs.Judging.{is_extended, is_good_later_token, has_value_at, has_bad_number, has_bad_place, has_bad_change}
 use Rattle.dictionary_text.specs.Lines.{strip_prefix, is_number, number, number_of, same}
 use Rattle.dictionary_text.specs.Private.Parsed.{ReadPattern, ReadLater, nothing_read, is_bad, with_spelt, read_pattern, no_later, read_later, first_token, pattern_parts, exception_parts, part_at, change_with, sound_change}
@@ -42,14 +42,14 @@ pub off : (a b : Bool) (d : List ℕ) → a ≡ false → is_some (cond (a && b)
 off true b d e = absurd cc
 off false b d e = refl
 
-pub one_sort : (line : List ℕ) → is_pattern line ≡ true → is_exception line ≡ false
+pub one_sort : (line : List ℕ) → is_pattern_line line ≡ true → is_exception_line line ≡ false
 one_sort [] e = absurd cc
 one_sort (b ∷ line) e = off (eqb b 101) (same (take 1 line) (32 ∷ [])) (drop 1 line) (apart b (front (eqb b 112) (same (take 1 line) (32 ∷ [])) (drop 1 line) e))
 
-pub other_sort : (line : List ℕ) → is_exception line ≡ true → is_pattern line ≡ false
-other_sort line e = by (is_pattern line) (λ h. one_sort line h)
+pub other_sort : (line : List ℕ) → is_exception_line line ≡ true → is_pattern_line line ≡ false
+other_sort line e = by (is_pattern_line line) (λ h. one_sort line h)
   where
-    by : (t : Bool) → (t ≡ true → is_exception line ≡ false) → t ≡ false
+    by : (t : Bool) → (t ≡ true → is_exception_line line ≡ false) → t ≡ false
     by true f = absurd (no (sym e ∙ f refl))
       where
         no : true ≡ false → ⊥
@@ -67,7 +67,7 @@ by_tokens form a x tokens =
     (cond ((a || x) && has_bad_place (cond a (key_of (unwrap_or (elements_of form.version (first_token tokens)) [])) (unwrap_or (text_spelt (first_token tokens)) [])) (drop 1 tokens)) (Some Place)
     (cond ((a || x) && has_bad_change form a (unwrap_or (elements_of form.version (first_token tokens)) []) (cond a (key_of (unwrap_or (elements_of form.version (first_token tokens)) [])) (unwrap_or (text_spelt (first_token tokens)) [])) (drop 1 tokens)) (Some Change) None))))))
 
-pub causes : (form : Form) (line : List ℕ) → item_cause form line ≡ by_tokens form (is_pattern line) (is_exception line) (tokens_of line)
+pub causes : (form : Form) (line : List ℕ) → item_cause form line ≡ by_tokens form (is_pattern_line line) (is_exception_line line) (tokens_of line)
 causes form line = refl
 
 unreadable : (r : Bool) (rest : Option Cause) → r ≡ false → cond (not r) (Some Token) rest ≡ Some Token
@@ -463,20 +463,20 @@ abbrev pub spaced : List ℕ → List (List ℕ)
 spaced text = slice_split (λ b. eqb b 32) text
 
 module _ (form : Form) (line text : List ℕ) (start : Some text ≡ strip_prefix (codes "p ") line) where
-  sort : is_pattern line ≡ true
+  sort : is_pattern_line line ≡ true
   sort = (begun (codes "p ") line text start).0
 
   tokens : tokens_of line ≡ spaced text
   tokens = ap spaced (begun (codes "p ") line text start).1
 
-  as_pattern : item_cause form line ≡ by_tokens form true (is_exception line) (spaced text)
-  as_pattern = ap (λ (a : Bool). by_tokens form a (is_exception line) (tokens_of line)) sort ∙ ap (λ (ts : List (List ℕ)). by_tokens form true (is_exception line) ts) tokens
+  as_pattern : item_cause form line ≡ by_tokens form true (is_exception_line line) (spaced text)
+  as_pattern = ap (λ (a : Bool). by_tokens form a (is_exception_line line) (tokens_of line)) sort ∙ ap (λ (ts : List (List ℕ)). by_tokens form true (is_exception_line line) ts) tokens
 
   pub pattern_unread : pattern_parts form.version (spaced text) ≡ None → item_cause form line ≡ Some Token
-  pattern_unread e = as_pattern ∙ pattern_none form (is_exception line) (spaced text) e
+  pattern_unread e = as_pattern ∙ pattern_none form (is_exception_line line) (spaced text) e
 
   pub pattern_caused : (r : ReadPattern) (l : ReadLater) → pattern_parts form.version (spaced text) ≡ Some (r, l) → item_cause form line ≡ pattern_cause form r l
-  pattern_caused r l e = as_pattern ∙ pattern_some form (is_exception line) (spaced text) r l e
+  pattern_caused r l e = as_pattern ∙ pattern_some form (is_exception_line line) (spaced text) r l e
 
   pub pattern_says : {C : Type 0} (payload_of : Option Changed → C) (r : ReadPattern) (l : ReadLater) → pattern_parts form.version (spaced text) ≡ Some (r, l) → pattern_cause form r l ≡ None
       → (spelt_as (entry_as payload_of) (pattern_of_line form.version) line ≡ Some (r.key, entries_of payload_of r.values l.listed)) × (exception_of_line line ≡ None)
@@ -484,7 +484,7 @@ module _ (form : Form) (line text : List ℕ) (start : Some text ≡ strip_prefi
       (ap (λ (a : Bool). pattern_by form.version payload_of a (tokens_of line)) sort ∙ ap (pattern_by form.version payload_of true) tokens ∙ pattern_spelt payload_of form (spaced text) r l e none, ap (λ (x : Bool). cond x (Some (word_of_line line, breaks_of_line line)) None) (one_sort line sort))
 
 module _ (form : Form) (line text : List ℕ) (start : Some text ≡ strip_prefix (codes "e ") line) where
-  sort_e : is_exception line ≡ true
+  sort_e : is_exception_line line ≡ true
   sort_e = (begun (codes "e ") line text start).0
 
   tokens_e : tokens_of line ≡ spaced text
@@ -492,7 +492,7 @@ module _ (form : Form) (line text : List ℕ) (start : Some text ≡ strip_prefi
 
   as_exception : item_cause form line ≡ by_tokens form false true (spaced text)
   as_exception =
-      ap (λ (a : Bool). by_tokens form a (is_exception line) (tokens_of line)) (other_sort line sort_e) ∙ ap (λ (x : Bool). by_tokens form false x (tokens_of line)) sort_e
+      ap (λ (a : Bool). by_tokens form a (is_exception_line line) (tokens_of line)) (other_sort line sort_e) ∙ ap (λ (x : Bool). by_tokens form false x (tokens_of line)) sort_e
       ∙ ap (λ (ts : List (List ℕ)). by_tokens form false true ts) tokens_e
 
   pub exception_unread : exception_parts (spaced text) ≡ None → item_cause form line ≡ Some Token

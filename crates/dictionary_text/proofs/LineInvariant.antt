@@ -13,8 +13,8 @@ use Rattle.dictionary_text.specs.declared.form.Form.{Form}
 use Rattle.hyphenation_commons.specs.Invariant.{fits_usize, can_be_said, is_value, stays_within, lists_within, are_listed, IsPattern, IsException}
 use Rattle.dictionary_text.specs.Lines.{same, starts_with, is_digit, has_no_leading_zero, is_number, is_small, number}
 use Rattle.dictionary_text.specs.Tokens.{escaped_bytes_of, bytes_of, element_of, is_raw, is_raw_digit, braced_value, step_outside, step_inside, elements_from, elements_of, pattern_bytes, text_spelt, key_of, values_from, two_values, has_comma, parts_of, numerals_of, place_of, change_of, is_whole}
-use Rattle.dictionary_text.specs.Items.{is_pattern, is_exception, tokens_of, first_token_of, later_tokens_of, pattern_elements, key_of_line, word_of_line, counted_text, break_of_token, breaks_of_line, change_at, entries_of_line}
-use Rattle.dictionary_text.specs.Judging.{is_item, is_extended, has_value_at, is_good_later_token, fails, own_cause}
+use Rattle.dictionary_text.specs.Items.{is_pattern_line, is_exception_line, tokens_of, first_token_of, later_tokens_of, pattern_elements, key_of_line, word_of_line, counted_text, break_of_token, breaks_of_line, change_at, entries_of_line}
+use Rattle.dictionary_text.specs.Judging.{is_item_line, is_extended, has_value_at, is_good_later_token, fails, own_cause}
 use Rattle.hyphenation_commons.specs.declared.dictionary.Entry.{Entry}
 use Rattle.dictionary_text.specs.declared.Cause.TheVariants.{NotUtf8, Header, Language, Minima, UnknownLine, Token, Value as BadValue, Pattern, NoLetters, Number, Place, Change as BadChange}
 use Rattle.dictionary_text.specs.declared.form.Version.{Version}
@@ -110,7 +110,7 @@ after_two a b sa sb (x ∷ y ∷ rest) e u = by (nat_eq x a) (nat_eq y b) refl r
     by false t es et h = absurd cc
 
 -- no line is of both sorts
-apart : (line : List ℕ) → is_exception line ≡ true → is_pattern line ≡ false
+apart : (line : List ℕ) → is_exception_line line ≡ true → is_pattern_line line ≡ false
 apart [] e = absurd cc
 apart (x ∷ []) e = by (nat_eq x 112) (nat_eq x 101) e
   where
@@ -381,36 +381,36 @@ module _ (form : Form) (number : ℕ) (line : List ℕ) (none : own_cause form n
       after_first [] h = tt
       after_first (t ∷ ts) h = h.1
 
-  item_test : (bad : Bool) → (is_item line && not bad) ≡ false → is_item line ≡ true → bad ≡ true
-  item_test bad e item = on_from_not bad (off_right (is_item line) (not bad) e item)
+  item_test : (bad : Bool) → (is_item_line line && not bad) ≡ false → is_item_line line ≡ true → bad ≡ true
+  item_test bad e item = on_from_not bad (off_right (is_item_line line) (not bad) e item)
 
-  pub pattern-kept : is_pattern line ≡ true → IsPattern (λ c. c) (key_of_line form.version line) (entries_of_line form.version line)
+  pub pattern-kept : is_pattern_line line ≡ true → IsPattern (λ c. c) (key_of_line form.version line) (entries_of_line form.version line)
   pattern-kept sort =
-      let item : is_item line ≡ true = either_left (is_pattern line) (is_exception line) sort in
-      let marks : is_none (elements_of form.version (first_token_of line)) ≡ false = off_right (is_pattern line) (is_none (elements_of form.version (first_token_of line))) passed.value sort in
+      let item : is_item_line line ≡ true = either_left (is_pattern_line line) (is_exception_line line) sort in
+      let marks : is_none (elements_of form.version (first_token_of line)) ≡ false = off_right (is_pattern_line line) (is_none (elements_of form.version (first_token_of line))) passed.value sort in
       let rest : IsUtf8 (drop 2 line) = after_two 112 32 (omega arith) (omega arith) line sort line-utf8 in
       let seams : AreSeams [] (pattern_elements form.version line) = marks_read form.version (first_token_of line) (first-token-utf8 rest) marks in
       let numbers : list_all has_numbers (later_tokens_of line) ≡ true = item_test (list_all has_numbers (later_tokens_of line)) passed.numbers item in
-      let good : list_all (is_good_later_token form (is_pattern line) (pattern_elements form.version line) (counted_text form.version line)) (later_tokens_of line) ≡ true = item_test (list_all (is_good_later_token form (is_pattern line) (pattern_elements form.version line) (counted_text form.version line)) (later_tokens_of line)) passed.change item in
-      let by_key : list_all (is_good_later_token form (is_pattern line) (pattern_elements form.version line) (key_of_line form.version line)) (later_tokens_of line) ≡ true = subst (λ (t : Bool). list_all (is_good_later_token form (is_pattern line) (pattern_elements form.version line) (cond t (key_of_line form.version line) (word_of_line line))) (later_tokens_of line) ≡ true) sort good in
+      let good : list_all (is_good_later_token form (is_pattern_line line) (pattern_elements form.version line) (counted_text form.version line)) (later_tokens_of line) ≡ true = item_test (list_all (is_good_later_token form (is_pattern_line line) (pattern_elements form.version line) (counted_text form.version line)) (later_tokens_of line)) passed.change item in
+      let by_key : list_all (is_good_later_token form (is_pattern_line line) (pattern_elements form.version line) (key_of_line form.version line)) (later_tokens_of line) ≡ true = subst (λ (t : Bool). list_all (is_good_later_token form (is_pattern_line line) (pattern_elements form.version line) (cond t (key_of_line form.version line) (word_of_line line))) (later_tokens_of line) ≡ true) sort good in
       record {
         utf8 = seams-utf8 [] (pattern_elements form.version line) seams;
-        letter = not_off (list_all (λ b. b == 46) (key_of_line form.version line)) (off_right (is_pattern line) (list_all (λ b. b == 46) (key_of_line form.version line)) passed.letters sort);
+        letter = not_off (list_all (λ b. b == 46) (key_of_line form.version line)) (off_right (is_pattern_line line) (list_all (λ b. b == 46) (key_of_line form.version line)) passed.letters sort);
         ascend = entries_in_order (λ c. c) (key_of_line form.version line) 0 (entries_of_line form.version line)
-            ∙ values-stand (key_of_line form.version line) (breaks_of_line line) (changes-stay form (is_pattern line) (pattern_elements form.version line) (key_of_line form.version line) (later_tokens_of line) (later-utf8 rest) numbers by_key) [] [] (pattern_elements form.version line) 0 0 false refl refl seams (values-small form.version (first_token_of line))
-            (off_right (is_pattern line) (two_values false (pattern_elements form.version line)) passed.pattern sort) (omega arith);
+            ∙ values-stand (key_of_line form.version line) (breaks_of_line line) (changes-stay form (is_pattern_line line) (pattern_elements form.version line) (key_of_line form.version line) (later_tokens_of line) (later-utf8 rest) numbers by_key) [] [] (pattern_elements form.version line) 0 0 false refl refl seams (values-small form.version (first_token_of line))
+            (off_right (is_pattern_line line) (two_values false (pattern_elements form.version line)) passed.pattern sort) (omega arith);
       }
 
-  pub exception-kept : is_exception line ≡ true → IsException (λ b. b) (word_of_line line) (breaks_of_line line)
+  pub exception-kept : is_exception_line line ≡ true → IsException (λ b. b) (word_of_line line) (breaks_of_line line)
   exception-kept sort =
-      let item : is_item line ≡ true = either_right (is_pattern line) (is_exception line) sort in
-      let off : is_pattern line ≡ false = apart line sort in
+      let item : is_item_line line ≡ true = either_right (is_pattern_line line) (is_exception_line line) sort in
+      let off : is_pattern_line line ≡ false = apart line sort in
       let places : ascend_on (counted_text form.version line) 0 (map place_of (later_tokens_of line)) ≡ true = item_test (ascend_on (counted_text form.version line) 0 (map place_of (later_tokens_of line))) passed.place item in
-      let good : list_all (is_good_later_token form (is_pattern line) (pattern_elements form.version line) (counted_text form.version line)) (later_tokens_of line) ≡ true = item_test (list_all (is_good_later_token form (is_pattern line) (pattern_elements form.version line) (counted_text form.version line)) (later_tokens_of line)) passed.change item in
+      let good : list_all (is_good_later_token form (is_pattern_line line) (pattern_elements form.version line) (counted_text form.version line)) (later_tokens_of line) ≡ true = item_test (list_all (is_good_later_token form (is_pattern_line line) (pattern_elements form.version line) (counted_text form.version line)) (later_tokens_of line)) passed.change item in
       let rest : IsUtf8 (drop 2 line) = after_two 101 32 (omega arith) (omega arith) line sort line-utf8 in
       let numbers : list_all has_numbers (later_tokens_of line) ≡ true = item_test (list_all has_numbers (later_tokens_of line)) passed.numbers item in
       let is : counted_text form.version line ≡ word_of_line line = ap (λ (t : Bool). cond t (key_of_line form.version line) (word_of_line line)) off in
       record {
         utf8 = text_read (first_token_of line) (first-token-utf8 rest);
-        ascend = subst (λ (text : List ℕ). are_listed (λ b. b) text (breaks_of_line line) ≡ true) is (listed-stand form (is_pattern line) (pattern_elements form.version line) (counted_text form.version line) (later_tokens_of line) (later-utf8 rest) numbers places good);
+        ascend = subst (λ (text : List ℕ). are_listed (λ b. b) text (breaks_of_line line) ≡ true) is (listed-stand form (is_pattern_line line) (pattern_elements form.version line) (counted_text form.version line) (later_tokens_of line) (later-utf8 rest) numbers places good);
       }

@@ -12,7 +12,7 @@ use Rattle.dictionary_text.specs.declared.form.Version.{Version}
 use Rattle.hyphenation_commons.specs.Invariant.{fits_usize, is_value, stays_within, lists_within, are_entries, are_listed, IsPattern, IsException, IsDictionary}
 use Rattle.hyphenation_commons.specs.Language.{IsCode, is_code}
 use Rattle.dictionary_text.specs.Lines.{strip_prefix, language_of, minima_of, small_of, two_small, is_small, is_number, number}
-use Rattle.dictionary_text.specs.Items.{is_pattern, is_exception, key_of_line, word_of_line, breaks_of_line, entries_of_line, pattern_of_line, exception_of_line}
+use Rattle.dictionary_text.specs.Items.{is_pattern_line, is_exception_line, key_of_line, word_of_line, breaks_of_line, entries_of_line, pattern_of_line, exception_of_line}
 use Rattle.dictionary_text.specs.Judging.{fault_after, own_cause, repetition}
 use Rattle.dictionary_text.specs.Reading.{spelt_as, entry_as, SpeltItems, items_of_lines, contents_in}
 use Rattle.hyphenation_commons.specs.declared.dictionary.Entry.{Entry}
@@ -174,7 +174,7 @@ module _ {C B : Type 0} (payload_of : Option Change → C) (listing_of : Break �
   pattern_held : (form : Form) (n : ℕ) (line k : List ℕ) (es : List (Entry C)) → own_cause form n line ≡ None → spelt_as (entry_as payload_of) (pattern_of_line form.version) line ≡ Some (k, es) → IsPattern change_of k es
   pattern_held form n line k es own e =
       let t = told_from (entry_as payload_of) (pattern_of_line form.version) line k es e in
-      let s = spelt_from (is_pattern line) (key_of_line form.version line) (entries_of_line form.version line) k t.0 t.1 in
+      let s = spelt_from (is_pattern_line line) (key_of_line form.version line) (entries_of_line form.version line) k t.0 t.1 in
       let kept = pattern-kept form n line own s.0 in
       subst (λ (q : List ℕ). IsPattern change_of q es) s.1
       (record {
@@ -186,7 +186,7 @@ module _ {C B : Type 0} (payload_of : Option Change → C) (listing_of : Break �
   pub exception_held : (form : Form) (n : ℕ) (line w : List ℕ) (bs : List B) → own_cause form n line ≡ None → spelt_as listing_of exception_of_line line ≡ Some (w, bs) → IsException break_of w bs
   exception_held form n line w bs own e =
       let t = told_from listing_of exception_of_line line w bs e in
-      let s = spelt_from (is_exception line) (word_of_line line) (breaks_of_line line) w t.0 t.1 in
+      let s = spelt_from (is_exception_line line) (word_of_line line) (breaks_of_line line) w t.0 t.1 in
       let kept = exception-kept form n line own s.0 in
       subst (λ (q : List ℕ). IsException break_of q bs) s.1
       (record {

@@ -1,5 +1,5 @@
 -- The canonical text of a dictionary: what `to_writer` writes.
-use Rattle.std.specs.Prelude.{◌≡◌, ℕ, ◌+◌, ◌==◌, nat_le, Bool, if◌then◌else◌, List, [], ◌∷◌, ◌++◌, map, codes, Option, Some, None, decimal, flat_map}
+use Rattle.std.specs.Prelude.{ℕ, ◌+◌, ◌==◌, nat_le, Bool, if◌then◌else◌, List, [], ◌∷◌, ◌++◌, map, codes, Option, Some, None, decimal, flat_map}
 use Rattle.std.specs.List.{list_all}
 use Rattle.std.specs.FinMap as finite
 use Rattle.hyphenation_commons.specs.Break.{Break, Change, changed_by, plain}
@@ -31,7 +31,8 @@ abbrev pub text_token : List ℕ → List ℕ
 text_token [] = codes "\\e"
 text_token (b ∷ text) = flat_map (byte_spelling Plain) (b ∷ text)
 
--- A key from a place on, with the values of its entries at their places.
+-- A key from a place on, with the values of its entries at their places. The entries ascend by place, from there on to
+-- the key's end.
 abbrev pub elements_for : ℕ → List ℕ → List (Entry (Option Change)) → List PatternElement
 elements_for at [] [] = []
 elements_for at [] (e ∷ es) = Value e.value ∷ []
@@ -45,6 +46,7 @@ abbrev pub element_spelling : Version → PatternElement → List ℕ
 element_spelling version (Letter b) = byte_spelling (pattern_escapes version) b
 element_spelling version (Value v) = if nat_le v 9 then (48 + v) ∷ [] else 123 ∷ (decimal v ++ 125 ∷ [])
 
+-- The token of a key with its values.
 abbrev pub pattern_token : Version → List ℕ → List (Entry (Option Change)) → List ℕ
 pattern_token version key entries = flat_map (element_spelling version) (elements_for 0 key entries)
 
@@ -73,18 +75,20 @@ abbrev pub changes_of : List (Entry (Option Change)) → List Break
 changes_of [] = []
 changes_of (e ∷ es) = onto_changes e.place e.change (changes_of es)
 
--- The line of a key with its entries, and that of a word with its listed breaks.
+-- The line of a key with its entries.
 abbrev pub pattern_line : Version → List ℕ → List (Entry (Option Change)) → List ℕ
 pattern_line version key entries =
     codes "p " ++ (pattern_token version key entries ++ later_tokens (changes_of entries))
 
+-- The line of a word with its listed breaks.
 abbrev pub exception_line : List ℕ → List Break → List ℕ
 exception_line word breaks = codes "e " ++ (text_token word ++ later_tokens breaks)
 
--- Lines 2 and 3.
+-- Line 2.
 abbrev pub language_line : List ℕ → List ℕ
 language_line language = codes "language " ++ language
 
+-- Line 3.
 abbrev pub minima_line : ℕ → ℕ → List ℕ
 minima_line left right = codes "minima " ++ (decimal left ++ 32 ∷ decimal right)
 
@@ -92,24 +96,27 @@ minima_line left right = codes "minima " ++ (decimal left ++ 32 ∷ decimal righ
 abbrev pub entry_as_said : {C : Type 0} → (C → Option Change) → Entry C → Entry (Option Change)
 entry_as_said change_of entry = record { place = entry.place; value = entry.value; change = change_of entry.change }
 
--- The lines of all keys and of all words, ascending by their bytes, as the maps hold them.
+-- The lines of all keys, ascending by their bytes, as the map holds them.
 abbrev pub pattern_lines : {C B : Type 0} → Version → (C → Option Change) → Contents C B → List (List ℕ)
 pattern_lines version change_of contents =
     map (λ x. pattern_line version x.0 (map (entry_as_said change_of) x.1)) (finite.entries contents.patterns)
 
+-- The lines of all words, in the same way.
 abbrev pub exception_lines : {C B : Type 0} → (B → Break) → Contents C B → List (List ℕ)
 exception_lines break_of contents =
     map (λ x. exception_line x.0 (map break_of x.1)) (finite.entries contents.exceptions)
 
+-- All lines: the head, then those of the keys, then those of the words.
 abbrev pub canonical_lines : {C B : Type 0} → Form → (C → Option Change) → (B → Break) → Contents C B → List (List ℕ)
 canonical_lines form change_of break_of contents =
     head_line form ∷ language_line contents.language ∷ minima_line contents.left contents.right
     ∷ (pattern_lines form.version change_of contents ++ exception_lines break_of contents)
 
--- The first version where it can say each value, else the second.
+-- Each value is at most 9.
 abbrev pub are_digits : {C : Type 0} → List (Entry C) → Bool
 are_digits entries = list_all (λ e. nat_le e.value 9) entries
 
+-- The first version where it can say each value, else the second.
 abbrev pub version_for : {C B : Type 0} → Contents C B → Version
 version_for contents = if list_all (λ x. are_digits x.1) (finite.entries contents.patterns) then First else Second
 
@@ -123,18 +130,10 @@ canonical_text_of kind change_of break_of contents =
     with_line_feeds
     (canonical_lines (record { kind = kind; version = version_for contents }) change_of break_of contents)
 
--- The canonical text of a standard dictionary, which holds no change, and that of an extended one, which holds each as it is.
+-- The canonical text of a standard dictionary, which holds no change.
 abbrev pub standard_text : Contents (Unit {0}) ℕ → List ℕ
 standard_text contents = canonical_text_of Standard (λ _. None) plain contents
 
+-- That of an extended dictionary, which holds a change or none as it is.
 abbrev pub extended_text : Contents (Option Change) (ℕ × Option Change) → List ℕ
 extended_text contents = canonical_text_of Extended (λ change. change) (λ b. changed_by b.0 b.1) contents
-
--- A kind of dictionary holds exactly what its texts say: what it holds of a change or a listed break says
--- that again, and a standard one holds no change.
-pub record HoldsExactly {C B : Type 0} (kind : Kind) (payload_of : Option Change → C) (listing_of : Break → B)
-    (change_of : C → Option Change) (break_of : B → Break) : Type 0 where
-  pub changes : (c : C) → payload_of (change_of c) ≡ c
-  pub breaks : (b : B) → listing_of (break_of b) ≡ b
-  pub no_change : kind ≡ Standard → (c : C) → change_of c ≡ None
-  pub no_listed_change : kind ≡ Standard → (b : B) → (break_of b).change ≡ None

@@ -1,53 +1,51 @@
 -- Edits of the exceptions: which are good, and what they do.
-use Rattle.std.specs.Prelude.{◌≡◌, ℕ, ◌+◌, ◌==◌, ◌&&◌, ◌||◌, Bool, false, not, if◌then◌else◌, List, [], ◌∷◌, ◌++◌, length, map, drop, fold, codes, Option, Some, None, is_none, unwrap_or, find, IsUtf8}
+use Rattle.std.specs.Prelude.{ℕ, ◌+◌, ◌==◌, ◌&&◌, ◌||◌, Bool, false, not, if◌then◌else◌, List, [], ◌∷◌, ◌++◌, length, map, drop, fold, codes, Option, Some, None, is_none}
 use Rattle.std.specs.List.{list_any}
-use Rattle.std.specs.Option.{option_or}
 use Rattle.std.specs.FinMap as finite
 use Rattle.hyphenation_commons.specs.Break.{Break}
 use Rattle.hyphenation_commons.specs.Dictionary.{Contents}
 use Rattle.dictionary_text.specs.Items.{word_of_line, breaks_of_line, later_tokens_of}
-use Rattle.dictionary_text.specs.Judging.{fails, own_cause}
-use Rattle.dictionary_text.specs.Lines.{same}
+use Rattle.dictionary_text.specs.Judging.{own_cause}
 use Rattle.dictionary_text.specs.declared.form.Form.{Form}
 use Rattle.dictionary_text.specs.declared.form.Kind.{Kind}
 use Rattle.dictionary_text.specs.declared.form.Version.{Version}
 use Rattle.dictionary_text.specs.declared.form.Version.TheVariants.{First}
 use Rattle.dictionary_text.specs.declared.Cause.{Cause}
-use Rattle.dictionary_text.specs.declared.Cause.TheVariants.{Token, Number, Place, Change}
 
 -- ---- an edit, and the line of a dictionary text that says the same of its word
 
+-- A text begins with that byte.
 abbrev pub begins_with : ℕ → List ℕ → Bool
 begins_with sign [] = false
 begins_with sign (b ∷ bs) = b == sign
 
--- With `+` it lists breaks for a word, with `-` it takes a word out.
+-- With `+` it lists breaks for a word.
 abbrev pub is_addition : List ℕ → Bool
 is_addition edit = begins_with 43 edit
 
+-- With `-` it takes a word out of the exceptions.
 abbrev pub is_removal : List ℕ → Bool
 is_removal edit = begins_with 45 edit
 
--- An exception as a line, and that which stands after the sign.
+-- An exception as the line of a dictionary text.
 abbrev pub as_line : List ℕ → List ℕ
 as_line exception = codes "e " ++ exception
 
+-- The line that says the same of its word: what stands after the sign, as an exception.
 abbrev pub edit_line : List ℕ → List ℕ
 edit_line edit = as_line (drop 1 edit)
 
--- The word that it names.
-abbrev pub word_named : List ℕ → List ℕ
-word_named edit = word_of_line (edit_line edit)
-
 -- ---- which edits are good
 
+-- It holds a line feed.
 abbrev pub has_feed : List ℕ → Bool
 has_feed edit = list_any (λ b. b == 10) edit
 
--- The first test that a later line fails by itself, in a text of that kind and version.
+-- The form of that kind and that version.
 abbrev pub form_in : Kind → Version → Form
 form_in kind version = record { kind = kind; version = version }
 
+-- The first test that a later line fails by itself, in a text of that kind and version.
 abbrev pub cause_in : Kind → Version → List ℕ → Option Cause
 cause_in kind version line = own_cause (form_in kind version) 4 line
 
@@ -59,10 +57,11 @@ is_sound_line kind line = is_none (cause_in kind First line)
 abbrev pub is_word_alone : Kind → List ℕ → Bool
 is_word_alone kind line = is_sound_line kind line && length (later_tokens_of line) == 0
 
--- After a `+` stands an exception, and after a `-` a word alone.
+-- After a `+` stands an exception.
 abbrev pub is_good_addition : Kind → List ℕ → Bool
 is_good_addition kind edit = is_addition edit && is_sound_line kind (edit_line edit)
 
+-- After a `-` stands a word alone.
 abbrev pub is_good_removal : Kind → List ℕ → Bool
 is_good_removal kind edit = is_removal edit && is_word_alone kind (edit_line edit)
 
@@ -76,17 +75,13 @@ refused_from kind number [] = None
 refused_from kind number (edit ∷ edits) =
     if is_good_edit kind edit then refused_from kind (number + 1) edits else Some number
 
+-- The number, from one on, of the first edit that is not good.
 abbrev pub first_refused : Kind → List (List ℕ) → Option ℕ
 first_refused kind edits = refused_from kind 1 edits
 
 -- ---- what they do, in a dictionary that lists a break by listing_of
 
--- What an edit says of its word: the breaks that are listed for it, or that it is no exception.
-abbrev pub said_of_word : {B : Type 0} → (Break → B) → List ℕ → Option (List B)
-said_of_word listing_of edit =
-    if is_addition edit then Some (map listing_of (breaks_of_line (edit_line edit))) else None
-
--- The dictionary in which the breaks of a line are listed for its word, or its word is no exception.
+-- The dictionary in which the breaks of a line are listed for its word.
 abbrev pub with_exception : {C B : Type 0} → (Break → B) → Contents C B → List ℕ → Contents C B
 with_exception listing_of contents line =
     record contents {
@@ -94,41 +89,16 @@ with_exception listing_of contents line =
           (map listing_of (breaks_of_line line));
     }
 
+-- The dictionary in which the word of a line is no exception.
 abbrev pub without_exception : {C B : Type 0} → Contents C B → List ℕ → Contents C B
 without_exception contents line = record contents { exceptions = finite.remove contents.exceptions (word_of_line line) }
 
--- The dictionary after an edit, and after edits from first to last.
+-- The dictionary after an edit: an addition lists its word, and any other edit, be it good or not, takes its word out.
 abbrev pub after_edit : {C B : Type 0} → (Break → B) → Contents C B → List ℕ → Contents C B
 after_edit listing_of contents edit =
     if is_addition edit then with_exception listing_of contents (edit_line edit)
     else without_exception contents (edit_line edit)
 
+-- The dictionary after edits, from first to last.
 abbrev pub after_edits : {C B : Type 0} → (Break → B) → Contents C B → List (List ℕ) → Contents C B
 after_edits listing_of contents edits = fold (after_edit listing_of) contents edits
-
--- ---- the laws of them
-
--- What the last edit that names a word says of it; none, where no edit names it.
-abbrev pub last_said_of : {B : Type 0} → (Break → B) → List ℕ → List (List ℕ) → Option (Option (List B))
-last_said_of listing_of word [] = None
-last_said_of listing_of word (edit ∷ edits) =
-    option_or (last_said_of listing_of word edits)
-    (if same (word_named edit) word then Some (said_of_word listing_of edit) else None)
-
--- Of the edits that name a word the last one decides, and where there is none, the dictionary before them.
-abbrev pub LastDecides : Type 0 → Type 0 → Type 0
-LastDecides C B = (listing_of : Break → B) (dictionary : Contents C B) (edits : List (List ℕ)) (word : List ℕ) →
-    finite.get (after_edits listing_of dictionary edits).exceptions word
-    ≡ unwrap_or (last_said_of listing_of word edits) (finite.get dictionary.exceptions word)
-
--- Both versions judge the line of an edit alike.
-abbrev pub VersionsAgree : Type 0
-VersionsAgree =
-    (kind : Kind) (version : Version) (edit : List ℕ)
-    → cause_in kind version (edit_line edit) ≡ cause_in kind First (edit_line edit)
-
--- Of all tests the line of an exception can fail these by itself.
-abbrev pub FourTests : Type 0
-FourTests = (kind : Kind) (version : Version) (exception : List ℕ) → IsUtf8 exception →
-    cause_in kind version (as_line exception)
-    ≡ find (fails (form_in kind version) 4 (as_line exception)) (Token ∷ Number ∷ Place ∷ Change ∷ [])

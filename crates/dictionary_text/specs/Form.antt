@@ -20,6 +20,7 @@ head_of Standard Second = codes "hyphenation 2 standard"
 head_of Extended First = codes "hyphenation 1 extended"
 head_of Extended Second = codes "hyphenation 2 extended"
 
+-- Line 1 of a text of that form.
 abbrev pub head_line : Form → List ℕ
 head_line form = head_of form.kind form.version
 
@@ -27,6 +28,7 @@ head_line form = head_of form.kind form.version
 abbrev pub version_by : Kind → List ℕ → Version
 version_by kind line = if same line (head_of kind Second) then Second else First
 
+-- The version that the first of the lines names; the first version where there are no lines.
 abbrev pub version_of : Kind → List (List ℕ) → Version
 version_of kind lines = version_by kind (slice_index_or lines 0 [])
 

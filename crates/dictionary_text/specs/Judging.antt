@@ -7,7 +7,7 @@ use Rattle.hyphenation_commons.specs.Break.{ascend_on, keeps_within}
 use Rattle.dictionary_text.specs.Form.{head_line, form_of}
 use Rattle.dictionary_text.specs.Lines.{same, starts_with, language_of, minima_of, is_number, lines_of}
 use Rattle.dictionary_text.specs.Tokens.{elements_of, pattern_bytes, text_spelt, two_values, has_comma, numerals_of, is_readable, place_of, is_whole, change_of, values_from}
-use Rattle.dictionary_text.specs.Items.{is_pattern, is_exception, first_token_of, later_tokens_of, pattern_elements, key_of_line, word_of_line, counted_text, key_spelt, word_spelt}
+use Rattle.dictionary_text.specs.Items.{is_pattern_line, is_exception_line, first_token_of, later_tokens_of, pattern_elements, key_of_line, word_of_line, counted_text, key_spelt, word_spelt}
 use Rattle.dictionary_text.specs.declared.tokens.PatternElement.{PatternElement}
 use Rattle.dictionary_text.specs.declared.form.Form.{Form}
 use Rattle.dictionary_text.specs.declared.form.Kind.{Kind}
@@ -16,28 +16,32 @@ use Rattle.dictionary_text.specs.declared.form.Version.{Version}
 use Rattle.dictionary_text.specs.declared.Cause.{Cause}
 use Rattle.dictionary_text.specs.declared.Cause.TheVariants.{NotUtf8, Header, Language, Minima, UnknownLine, Token, Value, Pattern, NoLetters, Number, Place, Change, RepeatedPattern, RepeatedException}
 
-abbrev pub is_item : List ℕ → Bool
-is_item line = is_pattern line || is_exception line
+-- The line is a `p` or an `e` line.
+abbrev pub is_item_line : List ℕ → Bool
+is_item_line line = is_pattern_line line || is_exception_line line
 
 -- The four sorts of later lines.
 abbrev pub is_known : List ℕ → Bool
-is_known line = length line == 0 || starts_with (codes "#") line || is_item line
+is_known line = length line == 0 || starts_with (codes "#") line || is_item_line line
 
+-- Its first token is not empty, and can be read.
 abbrev pub is_readable_first : Version → List ℕ → Bool
 is_readable_first version line =
     nat_lt 0 (length (first_token_of line))
-    && (if is_pattern line then is_some (pattern_bytes version (first_token_of line))
+    && (if is_pattern_line line then is_some (pattern_bytes version (first_token_of line))
     else is_some (text_spelt (first_token_of line)))
 
+-- The kind is extended.
 abbrev pub is_extended : Kind → Bool
 is_extended Standard = false
 is_extended Extended = true
 
+-- A value other than 0 stands at the place.
 abbrev pub has_value_at : List PatternElement → ℕ → Bool
 has_value_at elements place = list_any (λ v. v.0 == place) (values_from 0 elements)
 
--- Without a comma a later token belongs in an `e` line; with one it is a change, of an extended text.
--- A change in a `p` line belongs to a value.
+-- Without a comma a later token belongs in an `e` line; with one it is a whole change, of an extended text, that keeps
+-- within the key or word, and in a `p` line a value other than 0 stands at its place.
 abbrev pub is_good_later_token : Form → Bool → List PatternElement → List ℕ → List ℕ → Bool
 is_good_later_token form in_pattern elements text token =
     if has_comma token then is_extended form.kind && is_whole token
@@ -45,13 +49,15 @@ is_good_later_token form in_pattern elements text token =
     && (not in_pattern || has_value_at elements (place_of token))
     else not in_pattern
 
--- What is wrong with the later tokens of a line whose places count in the text.
+-- Of a later token, a part that has to be a number is none.
 abbrev pub has_bad_number : List (List ℕ) → Bool
 has_bad_number later = not (list_all (λ token. list_all is_number (numerals_of token)) later)
 
+-- The places do not ascend on the character boundaries of the text that they count in.
 abbrev pub has_bad_place : List ℕ → List (List ℕ) → Bool
 has_bad_place text later = not (ascend_on text 0 (map place_of later))
 
+-- A later token does not belong in such a line.
 abbrev pub has_bad_change : Form → Bool → List PatternElement → List ℕ → List (List ℕ) → Bool
 has_bad_change form in_pattern elements text later =
     not (list_all (is_good_later_token form in_pattern elements text) later)
@@ -64,15 +70,15 @@ fails form number line Language = number == 2 && is_none (language_of line)
 fails form number line Minima = number == 3 && is_none (minima_of line)
 fails form number line UnknownLine = nat_lt 3 number && not (is_known line)
 fails form number line Token =
-    is_item line && not (is_readable_first form.version line && list_all is_readable (later_tokens_of line))
-fails form number line Value = is_pattern line && is_none (elements_of form.version (first_token_of line))
-fails form number line Pattern = is_pattern line && two_values false (pattern_elements form.version line)
-fails form number line NoLetters = is_pattern line && list_all (λ b. b == 46) (key_of_line form.version line)
-fails form number line Number = is_item line && has_bad_number (later_tokens_of line)
-fails form number line Place = is_item line && has_bad_place (counted_text form.version line) (later_tokens_of line)
+    is_item_line line && not (is_readable_first form.version line && list_all is_readable (later_tokens_of line))
+fails form number line Value = is_pattern_line line && is_none (elements_of form.version (first_token_of line))
+fails form number line Pattern = is_pattern_line line && two_values false (pattern_elements form.version line)
+fails form number line NoLetters = is_pattern_line line && list_all (λ b. b == 46) (key_of_line form.version line)
+fails form number line Number = is_item_line line && has_bad_number (later_tokens_of line)
+fails form number line Place = is_item_line line && has_bad_place (counted_text form.version line) (later_tokens_of line)
 fails form number line Change =
-    is_item line
-    && has_bad_change form (is_pattern line) (pattern_elements form.version line) (counted_text form.version line)
+    is_item_line line
+    && has_bad_change form (is_pattern_line line) (pattern_elements form.version line) (counted_text form.version line)
     (later_tokens_of line)
 fails form number line RepeatedPattern = false
 fails form number line RepeatedException = false
@@ -84,14 +90,15 @@ own_cause form number line =
     (NotUtf8 ∷ Header ∷ Language ∷ Minima ∷ UnknownLine ∷ Token ∷ Value ∷ Pattern ∷ NoLetters ∷ Number ∷ Place
     ∷ Change ∷ [])
 
--- The last two tests: what stands in an earlier line.
+-- An earlier line spells the text.
 abbrev pub stands_in : (List ℕ → Option (List ℕ)) → List (List ℕ) → List ℕ → Bool
 stands_in spells earlier text = list_any (λ line. option_map_or (λ other. same other text) (spells line) false) earlier
 
+-- The last two tests: the key or the word stands in an earlier line.
 abbrev pub repetition : Version → List (List ℕ) → List ℕ → Option Cause
 repetition version earlier line =
-    if is_pattern line && stands_in (key_spelt version) earlier (key_of_line version line) then Some RepeatedPattern
-    else (if is_exception line && stands_in word_spelt earlier (word_of_line line)
+    if is_pattern_line line && stands_in (key_spelt version) earlier (key_of_line version line) then Some RepeatedPattern
+    else (if is_exception_line line && stands_in word_spelt earlier (word_of_line line)
     then Some RepeatedException
     else None)
 

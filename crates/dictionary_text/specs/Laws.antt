@@ -1,21 +1,35 @@
 -- What is true of all texts and all dictionaries, of either kind and in either version.
 -- In each law payload_of and listing_of say what a kind of dictionary holds of a change and of a listed break, and
 -- change_of and break_of say what that means; so one law is of all kinds.
-use Rattle.std.specs.Prelude.{◌≡◌, ℕ, ◌≤◌, ◌↔◌, All, Any, Contains, List, [], ◌∷◌, Option, Some, None, slice_index_or}
+use Rattle.std.specs.Prelude.{◌≡◌, ℕ, ◌≤◌, ◌↔◌, All, Any, Contains, List, [], ◌∷◌, Option, Some, None, slice_index_or, IsUtf8, find, if◌then◌else◌, map, unwrap_or}
 use Rattle.std.specs.List.Sorted.{IsPermutation}
 use Rattle.std.specs.FinMap as finite
 use Rattle.hyphenation_commons.specs.Break.{Break, Change}
-use Rattle.dictionary_text.specs.Canonical.{canonical_text_of, HoldsExactly}
+use Rattle.dictionary_text.specs.Canonical.{canonical_text_of}
 use Rattle.hyphenation_commons.specs.Dictionary.{Contents}
 use Rattle.dictionary_text.specs.Form.{head_of, version_of}
 use Rattle.hyphenation_commons.specs.Invariant.{IsDictionary}
-use Rattle.dictionary_text.specs.Items.{pattern_of_line, exception_of_line}
-use Rattle.dictionary_text.specs.Judging.{fault_of, refusal_of}
-use Rattle.dictionary_text.specs.Lines.{lines_of}
+use Rattle.dictionary_text.specs.Items.{pattern_of_line, exception_of_line, breaks_of_line, word_of_line}
+use Rattle.dictionary_text.specs.Judging.{fault_of, refusal_of, fails}
+use Rattle.dictionary_text.specs.Lines.{lines_of, same}
 use Rattle.dictionary_text.specs.Reading.{contents_of, spelt_as, entry_as}
 use Rattle.hyphenation_commons.specs.declared.dictionary.Entry.{Entry}
 use Rattle.dictionary_text.specs.declared.form.Kind.{Kind}
 use Rattle.dictionary_text.specs.declared.form.Version.TheVariants.{First}
+use Rattle.dictionary_text.specs.declared.form.Kind.TheVariants.{Standard}
+use Rattle.dictionary_text.specs.declared.Cause.TheVariants.{Token, Number, Place, Change as BadChange}
+use Rattle.dictionary_text.specs.declared.form.Version.{Version}
+use Rattle.dictionary_text.specs.Edits.{after_edits, as_line, cause_in, edit_line, form_in, is_addition}
+use Rattle.std.specs.Option.{option_or}
+
+-- A kind of dictionary holds exactly what its texts say: what it holds of a change or a listed break says
+-- that again, and a standard one holds no change.
+pub record HoldsExactly {C B : Type 0} (kind : Kind) (payload_of : Option Change → C) (listing_of : Break → B)
+    (change_of : C → Option Change) (break_of : B → Break) : Type 0 where
+  pub changes : (c : C) → payload_of (change_of c) ≡ c
+  pub breaks : (b : B) → listing_of (break_of b) ≡ b
+  pub no_change : kind ≡ Standard → (c : C) → change_of c ≡ None
+  pub no_listed_change : kind ≡ Standard → (b : B) → (break_of b).change ≡ None
 
 -- A key has exactly the entries that some `p` line spells for it.
 abbrev pub KeysAreSpelt : Type 0 → Type 0 → Type 0
@@ -93,3 +107,37 @@ VersionIsLeast C B =
     → (slice_index_or (lines_of (canonical_text_of kind change_of break_of contents)) 0 [] ≡ head_of kind First)
     ↔ ((key : List ℕ) (entries : List (Entry C)) → finite.get contents.patterns key ≡ Some entries
     → All (λ e. e.value ≤ 9) entries)
+
+-- The word that an edit names.
+abbrev pub word_named : List ℕ → List ℕ
+word_named edit = word_of_line (edit_line edit)
+
+-- What an edit says of its word: the breaks that are listed for it, or that it is no exception.
+abbrev pub said_of_word : {B : Type 0} → (Break → B) → List ℕ → Option (List B)
+said_of_word listing_of edit =
+    if is_addition edit then Some (map listing_of (breaks_of_line (edit_line edit))) else None
+
+-- What the last edit that names a word says of it; none, where no edit names it.
+abbrev pub last_said_of : {B : Type 0} → (Break → B) → List ℕ → List (List ℕ) → Option (Option (List B))
+last_said_of listing_of word [] = None
+last_said_of listing_of word (edit ∷ edits) =
+    option_or (last_said_of listing_of word edits)
+    (if same (word_named edit) word then Some (said_of_word listing_of edit) else None)
+
+-- Of the edits that name a word the last one decides, and where there is none, the dictionary before them.
+abbrev pub LastDecides : Type 0 → Type 0 → Type 0
+LastDecides C B = (listing_of : Break → B) (dictionary : Contents C B) (edits : List (List ℕ)) (word : List ℕ) →
+    finite.get (after_edits listing_of dictionary edits).exceptions word
+    ≡ unwrap_or (last_said_of listing_of word edits) (finite.get dictionary.exceptions word)
+
+-- Both versions judge the line of an edit alike.
+abbrev pub VersionsAgree : Type 0
+VersionsAgree =
+    (kind : Kind) (version : Version) (edit : List ℕ)
+    → cause_in kind version (edit_line edit) ≡ cause_in kind First (edit_line edit)
+
+-- Of all tests the line of an exception can fail these by itself.
+abbrev pub FourTests : Type 0
+FourTests = (kind : Kind) (version : Version) (exception : List ℕ) → IsUtf8 exception →
+    cause_in kind version (as_line exception)
+    ≡ find (fails (form_in kind version) 4 (as_line exception)) (Token ∷ Number ∷ Place ∷ BadChange ∷ [])

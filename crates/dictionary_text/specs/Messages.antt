@@ -6,6 +6,7 @@ use Rattle.dictionary_text.specs.declared.Cause.TheVariants.{NotUtf8, Header, La
 use Rattle.dictionary_text.specs.declared.Error.{Error}
 use Rattle.dictionary_text.specs.declared.Error.TheVariants.{Deserialization, IO, LanguageMismatch, Memory}
 
+-- The message of each cause.
 abbrev pub message : Cause → List ℕ
 message NotUtf8 = codes "not UTF-8"
 message Header = codes "not the head of this kind of dictionary"
@@ -22,9 +23,11 @@ message Change = codes "bad change"
 message RepeatedPattern = codes "repeated pattern"
 message RepeatedException = codes "repeated exception"
 
--- What an error says; a fault of reading says it itself, and of another language nothing is said here.
+-- What an error says; a fault of reading or writing says it itself.
 abbrev pub error_text : Error → Option (List ℕ)
 error_text (Deserialization line cause) = Some (codes "line " ++ decimal line ++ codes ": " ++ message cause)
 error_text (IO error) = None
-error_text (LanguageMismatch expected found) = None
+error_text (LanguageMismatch expected found) =
+    Some (codes "Language mismatch: attempted to load a dictionary for `" ++ expected
+    ++ codes "`, but found\na dictionary for `" ++ found ++ codes "` instead.")
 error_text (Memory error) = Some (codes "no memory")

@@ -55,22 +55,26 @@ contents_in version payload_of listing_of lines =
 abbrev pub contents_of : {C B : Type 0} → Kind → (Option Change → C) → (Break → B) → List (List ℕ) → Contents C B
 contents_of kind payload_of listing_of lines = contents_in (version_of kind lines) payload_of listing_of lines
 
--- A standard dictionary holds no change, and lists places.
+-- A standard dictionary holds no change.
 abbrev pub no_payload : Option Change → Unit {0}
 no_payload change = tt
 
+-- It lists the place of a break.
 abbrev pub place_as_listing : Break → ℕ
 place_as_listing b = b.place
 
+-- The standard dictionary of an accepted text.
 abbrev pub standard_contents : List ℕ → Contents (Unit {0}) ℕ
 standard_contents bytes = contents_of Standard no_payload place_as_listing (lines_of bytes)
 
--- An extended dictionary holds changes as they are.
+-- An extended dictionary holds a change or none as it is.
 abbrev pub change_as_payload : Option Change → Option Change
 change_as_payload change = change
 
+-- It lists a break as it is.
 abbrev pub break_as_listing : Break → ℕ × Option Change
 break_as_listing b = (b.place, b.change)
 
+-- The extended dictionary of an accepted text.
 abbrev pub extended_contents : List ℕ → Contents (Option Change) (ℕ × Option Change)
 extended_contents bytes = contents_of Extended change_as_payload break_as_listing (lines_of bytes)

@@ -16,15 +16,17 @@ abbrev pub pattern_escapes : Version → Escapes
 pattern_escapes First = Digits
 pattern_escapes Second = DigitsAndBraces
 
+-- A brace.
 abbrev pub is_brace : ℕ → Bool
 is_brace b = b == 123 || b == 125
 
--- The byte that a letter after a backslash means.
+-- A letter that stands for itself after a backslash, beside those that mean something in each token.
 abbrev pub escaped_also : Escapes → ℕ → Bool
 escaped_also Plain c = false
 escaped_also Digits c = is_digit c
 escaped_also DigitsAndBraces c = is_digit c || is_brace c
 
+-- The byte that a letter after a backslash means; none where it begins no escape.
 abbrev pub meaning : Escapes → ℕ → Option ℕ
 meaning escapes c =
     if c == 92 then Some 92
@@ -32,29 +34,35 @@ meaning escapes c =
     else (if c == 110 then Some 10
     else (if c == 114 then Some 13 else (if escaped_also escapes c then Some c else None))))
 
--- What a byte adds to what was read; a backslash adds nothing, a raw carriage return cannot be read.
+-- What a byte adds to what was read, after a backslash or not: after one what it means, else itself, and a backslash
+-- nothing. None where it can't stand there, as a carriage return.
 abbrev pub bytes_added : Escapes → Bool → ℕ → Option (List EscapedByte)
 bytes_added escapes true c = option_map (λ byte. record { byte = byte; escaped = true } ∷ []) (meaning escapes c)
 bytes_added escapes false b =
     if b == 92 then Some [] else (if b == 13 then None else Some (record { byte = b; escaped = false } ∷ []))
 
+-- One after the other; none where one of them is none.
 abbrev pub both_joined : Option (List EscapedByte) → Option (List EscapedByte) → Option (List EscapedByte)
 both_joined front rest = option_and_then (λ xs. option_map (λ ys. xs ++ ys) rest) front
 
--- The bytes of a token, from left to right, after a backslash or not; none where an escape is bad or unfinished.
+-- The bytes of a token, from left to right, after a backslash or not; none where an escape is bad or unfinished, or a
+-- carriage return stands as it is.
 abbrev pub escaped_bytes_after : Escapes → Bool → List ℕ → Option (List EscapedByte)
 escaped_bytes_after escapes true [] = None
 escaped_bytes_after escapes false [] = Some []
 escaped_bytes_after escapes after (b ∷ rest) =
     both_joined (bytes_added escapes after b) (escaped_bytes_after escapes (not after && b == 92) rest)
 
+-- The bytes of a whole token, in the same way.
 abbrev pub escaped_bytes_of : Escapes → List ℕ → Option (List EscapedByte)
 escaped_bytes_of escapes token = escaped_bytes_after escapes false token
 
+-- The bytes, whether they were escaped or not.
 abbrev pub bytes_of : List EscapedByte → List ℕ
 bytes_of bytes = map (λ spelt. spelt.byte) bytes
 
--- A word or a substitution as it is written: `\e` is the empty text.
+-- The text that a word or a substitution spells as it is written, where `\e` is the empty text; none where it can't be
+-- read. What is empty as written fails other tests.
 abbrev pub text_spelt : List ℕ → Option (List ℕ)
 text_spelt written =
     if same written (codes "\\e") then Some [] else option_map bytes_of (escaped_bytes_of Plain written)
@@ -67,6 +75,7 @@ element_of spelt = if not spelt.escaped && is_digit spelt.byte then Value (spelt
 abbrev pub is_raw : ℕ → EscapedByte → Bool
 is_raw b spelt = not spelt.escaped && spelt.byte == b
 
+-- An unescaped digit.
 abbrev pub is_raw_digit : EscapedByte → Bool
 is_raw_digit spelt = not spelt.escaped && is_digit spelt.byte
 
@@ -86,7 +95,7 @@ step_inside digits spelt =
     if is_raw 125 spelt then option_map (λ value. (None, Value value ∷ [])) (braced_value digits)
     else (if is_raw_digit spelt then Some (Some (digits ++ spelt.byte ∷ []), []) else None)
 
--- In the first version braces are letters.
+-- The next byte: in the first version braces are letters; in the second it stands outside braces, or in them.
 abbrev pub step_at : Version → Option (List ℕ) → EscapedByte → Option (Option (List ℕ) × List PatternElement)
 step_at First digits spelt = Some (digits, element_of spelt ∷ [])
 step_at Second None spelt = step_outside spelt
@@ -100,10 +109,11 @@ elements_from version digits (spelt ∷ bytes) =
     option_and_then (λ step. option_map (λ elements. step.1 ++ elements) (elements_from version step.0 bytes))
     (step_at version digits spelt)
 
--- The bytes of a pattern's token, and its elements: each value with its braces is one.
+-- The bytes of a pattern's token.
 abbrev pub pattern_bytes : Version → List ℕ → Option (List EscapedByte)
 pattern_bytes version token = escaped_bytes_of (pattern_escapes version) token
 
+-- Its elements, where each value with its braces is one; none where an escape or a brace is bad.
 abbrev pub elements_of : Version → List ℕ → Option (List PatternElement)
 elements_of version token = option_and_then (elements_from version None) (pattern_bytes version token)
 
@@ -119,6 +129,7 @@ values_from at [] = []
 values_from at (Letter b ∷ elements) = values_from (at + 1) elements
 values_from at (Value v ∷ elements) = if v == 0 then values_from at elements else (at, v) ∷ values_from at elements
 
+-- The element is a value.
 abbrev pub is_value_element : PatternElement → Bool
 is_value_element (Letter b) = false
 is_value_element (Value v) = true
@@ -129,22 +140,27 @@ two_values after [] = false
 two_values after (element ∷ elements) =
     (after && is_value_element element) || two_values (is_value_element element) elements
 
--- A later token is parted by its first four commas.
+-- A byte before parts: at the beginning of the first one, or, where it is a comma that parts, an empty part in its
+-- place.
 abbrev pub put_byte : Bool → ℕ → List (List ℕ) → List (List ℕ)
 put_byte true b parts = [] ∷ parts
 put_byte false b parts = onto_first b parts
 
+-- The parts of a text at its first so many commas.
 abbrev pub parts_within : ℕ → List ℕ → List (List ℕ)
 parts_within commas [] = [] ∷ []
 parts_within commas (b ∷ rest) =
     let cuts = b == 44 && nat_lt 0 commas in put_byte cuts b (parts_within (if cuts then commas - 1 else commas) rest)
 
+-- A later token is parted by its first four commas.
 abbrev pub parts_of : List ℕ → List (List ℕ)
 parts_of token = parts_within 4 token
 
+-- Part number i, counted from 0; empty where there is none.
 abbrev pub part : ℕ → List ℕ → List ℕ
 part i token = slice_index_or (parts_of token) i []
 
+-- The token has a comma.
 abbrev pub has_comma : List ℕ → Bool
 has_comma token = nat_lt 1 (length (parts_of token))
 
@@ -152,12 +168,13 @@ has_comma token = nat_lt 1 (length (parts_of token))
 abbrev pub numerals_of : List ℕ → List (List ℕ)
 numerals_of token = if has_comma token then take (length (parts_of token) - 1) (parts_of token) else parts_of token
 
--- Each part is readable; `\e` may stand after the fourth comma alone.
+-- A later token is not empty, and each part is readable; `\e` may stand after the fourth comma alone.
 abbrev pub is_readable : List ℕ → Bool
 is_readable token =
     nat_lt 0 (length token) && list_all (λ written. is_some (escaped_bytes_of Plain written)) (take 4 (parts_of token))
     && list_all (λ written. is_some (text_spelt written)) (drop 4 (parts_of token))
 
+-- Its first part, as a number.
 abbrev pub place_of : List ℕ → ℕ
 place_of token = number (part 0 token)
 
@@ -165,6 +182,7 @@ place_of token = number (part 0 token)
 abbrev pub is_whole : List ℕ → Bool
 is_whole token = length (parts_of token) == 5 && nat_lt 0 (length (part 4 token))
 
+-- Its change, by the parts after the first one.
 abbrev pub change_of : List ℕ → Change
 change_of token =
     record {

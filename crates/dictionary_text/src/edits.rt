@@ -11,7 +11,7 @@
 //! may be an exception already.
 
 ghost use Rattle.std.specs.Prelude.{◌≡◌, IfOk, IsTrue, IsUtf8, OnErr, not};
-ghost use Rattle.dictionary_text.specs.Edits.{FourTests, LastDecides, VersionsAgree};
+ghost use Rattle.dictionary_text.specs.Laws.{FourTests, LastDecides, VersionsAgree};
 ghost use Rattle.dictionary_text.specs.Private.Edits.{ReadsException};
 ghost use Rattle.dictionary_text.specs.Edits.{as_line, after_edit, has_feed, is_good_edit, is_sound_line, is_word_alone, with_exception, without_exception};
 

@@ -163,6 +163,7 @@ fn is_utf8_line(line: &[u8], known: bool) -> bool
     known || is_utf8(line)
 }
 
+/// Whether a text is UTF-8.
 pub(crate) fn is_utf8(text: &[u8]) -> bool
     ensures { result ≡ is_utf8 text.now }
 {
@@ -262,6 +263,7 @@ fn pattern_cause(form: Form, pattern: &PatternToken, later: &Later) -> Option<Ca
     None
 }
 
+/// Whether a key is dots alone.
 fn is_dots(key: &[u8]) -> bool
     ensures { result ≡ list_all (λ b. b == 46) key.now }
 {
@@ -298,6 +300,7 @@ fn suits_form(form: Form, text: &[u8], place: usize, change: &Subregion) -> bool
     is_extended(form) && keeps_within(text, place, change)
 }
 
+/// Whether a text of that form may have changes.
 fn is_extended(form: Form) -> bool
     ensures { result ≡ is_extended form.kind }
 {
@@ -451,6 +454,7 @@ fn all_fit_word(form: Form, word: &[u8], listed: &[(usize, Option<Subregion>)]) 
     true
 }
 
+/// Whether the change of a break, where there is one, may be listed for a word.
 fn fits_word(form: Form, word: &[u8], b: &(usize, Option<Subregion>)) -> bool
     ensures { result ≡ suits_word form word.now b.now }
 {

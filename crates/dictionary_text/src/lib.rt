@@ -83,12 +83,13 @@ impl fmt::Display for Cause {
     }
 }
 
-/// Why no dictionary was loaded.
+/// Why a dictionary was not loaded, or not written.
 #[derive(Debug, Drop, Error)]
 pub enum Error {
     /// The text was read and is refused: the first faulty line, counted from 1, and the first test that it fails.
     Deserialization { line: usize, cause: Cause },
-    /// Opening or reading failed. Loading never makes it of the kind `OutOfMemory`; `From<io::Error>` does.
+    /// Opening, reading or writing failed. Loading never makes it of the kind `OutOfMemory`; writing and
+    /// `From<io::Error>` may.
     IO(#[source] io::Error),
     /// The text is accepted, and is of another language than the one asked for.
     LanguageMismatch { expected: Language, found: Language },

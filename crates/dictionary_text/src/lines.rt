@@ -129,6 +129,7 @@ pub(crate) fn minima_of(alloc: Global, line: &[u8]) -> Result<Option<(u8, u8)>, 
     }
 }
 
+/// Two numbers from 0 to 255, where there are exactly two parts.
 fn two_small(parts: &[&[u8]]) -> Option<(u8, u8)>
     ensures { result ≡ two_small (map (λ part. part.now) parts.now) }
 {
@@ -159,18 +160,21 @@ pub fn number_of(text: &[u8]) -> Option<usize>
     digits_value(text)
 }
 
+/// Whether a byte is a digit of ASCII.
 fn is_digit(byte: u8) -> bool
     ensures { result ≡ is_digit byte }
 {
     byte.is_ascii_digit()
 }
 
+/// Whether all bytes are digits.
 fn are_digits(text: &[u8]) -> bool
     ensures { result ≡ list_all is_digit text.now }
 {
     text.iter().all(|byte| is_digit(*byte))
 }
 
+/// Whether a text is not empty, and begins with no zero unless that stands alone.
 fn has_no_leading_zero(text: &[u8]) -> bool
     ensures { result ≡ has_no_leading_zero text.now }
 {
@@ -195,6 +199,7 @@ fn digits_value(text: &[u8]) -> Option<usize>
     Some(value)
 }
 
+/// The value with one digit more at its end, where it is below 2^64.
 fn with_digit(value: usize, digit: u8) -> Option<usize>
     requires { is_digit digit ≡ true }
     ensures { result ≡ (if nat_lt (with_digit value digit) (2 ^ 64) then Some (with_digit value digit) else None) }

@@ -109,12 +109,14 @@ fn is_itself(byte: u8) -> bool
     byte != b'\\' && byte != b'\r'
 }
 
+/// Whether all bytes stand for themselves in a token.
 fn are_themselves(text: &[u8]) -> bool
     ensures { result ≡ list_all is_itself text.now }
 {
     text.iter().all(|byte| is_itself(*byte))
 }
 
+/// A copy of a text.
 fn copied(alloc: Global, text: &[u8]) -> Result<Vec<u8>, AllocError>
     ensures { IfOk result (λ v. v.items ≡ text.now) }
 {
@@ -168,6 +170,7 @@ pub(crate) fn is_boundary(text: &[u8], at: usize) -> bool
     }
 }
 
+/// Where the first comma stands.
 fn comma(text: &[u8]) -> Option<usize>
     ensures { result ≡ position (λ b. b == 44) text.now }
 {
@@ -335,6 +338,7 @@ fn are_readable(parts: &[&[u8]]) -> bool
     have_good_escapes(&parts[..commas]) && are_texts(&parts[commas..])
 }
 
+/// Whether each part can be read.
 fn have_good_escapes(parts: &[&[u8]]) -> bool
     ensures { result
         ≡ list_all (λ written. is_some (escaped_bytes_of Plain written)) (map (λ part. part.now) parts.now) }
@@ -347,6 +351,7 @@ fn have_good_escapes(parts: &[&[u8]]) -> bool
     true
 }
 
+/// Whether each part spells a text.
 fn are_texts(parts: &[&[u8]]) -> bool
     ensures { result ≡ list_all (λ written. is_some (text_spelt written)) (map (λ part. part.now) parts.now) }
 {
@@ -358,6 +363,7 @@ fn are_texts(parts: &[&[u8]]) -> bool
     true
 }
 
+/// Whether what is written spells a text, as `\e` does.
 fn is_text(written: &[u8]) -> bool
     ensures { result ≡ is_some (text_spelt written.now) }
 {
@@ -378,6 +384,7 @@ fn first_number(parts: &[&[u8]]) -> Option<usize>
     number_of(parts[0])
 }
 
+/// Whether each part is a number.
 fn are_numbers(parts: &[&[u8]]) -> bool
     ensures { result ≡ list_all is_number (map (λ part. part.now) parts.now) }
 {

@@ -4,8 +4,9 @@
 //! of that dictionary to standard output; or says on standard error why it can't.
 #![tactic(auto)]
 
-ghost use Rattle.std.specs.Prelude.{◌≡◌, None, OnOk, IfSome};
+ghost use Rattle.std.specs.Prelude.{◌≡◌, None, OnOk, IfErr, IfSome};
 ghost use Rattle.std.specs.Io.KnownBytes.{Appends};
+ghost use Rattle.hyphenation.specs.Load.{Tells};
 
 use hyphenation::Standard;
 use hyphenation::engine::Kind;
@@ -28,6 +29,8 @@ fn put_in_order<D: Load + Drop, R: Read, W: Write>(
     ensures written { OnOk result (IfSome (R.remaining input.old) (λ bytes.
         (dictionary : D) × D.is_given bytes dictionary
         × Appends (W.contents output.old) (W.contents output.new) (D.canonical dictionary))) }
+    ensures refused { IfErr result (λ e. IfSome (R.remaining input.old) (λ bytes.
+        Tells (D.refusal bytes) (Unit {0}) (λ _ _. ⊥) e)) }
 {
     let dictionary = D::any_from_reader(alloc, input)?;
     dictionary.to_writer(alloc, output)
@@ -86,6 +89,7 @@ fn words_of(rt: &HostRuntime) -> io::Result<Vec<String>> {
     Ok(words)
 }
 
+/// Does what the words ask for; the status, or that memory was refused.
 fn answer_words(rt: &HostRuntime, words: &[String]) -> io::Result<u8> {
     let words: Vec<&str> = words.iter().map(|word| word.as_str()).collect(rt.alloc())?;
     let status = answer(

@@ -16,6 +16,7 @@ fn words_of(rt: &HostRuntime) -> io::Result<Vec<String>> {
     Ok(words)
 }
 
+/// Does what the words ask for; the status, or that memory was refused.
 fn answer_words(rt: &HostRuntime, words: &[String]) -> io::Result<u8> {
     let words: Vec<&str> = words.iter().map(|word| word.as_str()).collect(rt.alloc())?;
     let status = answer(rt, rt.alloc(), &words, &mut rt.stdout(), &mut rt.stderr());

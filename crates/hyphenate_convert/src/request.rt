@@ -117,6 +117,7 @@ fn minimum_of(text: &str) -> Option<Option<u8>> {
 }
 
 impl<'w> Request<'w> {
+    /// The request, or why the words ask for nothing.
     pub fn from_words(words: &'w [&'w str]) -> Result<Request<'w>, Misfit> {
         let [kind, code, left, right, paths @ ..] = words else {
             return Err(Misfit::Form);

@@ -24,7 +24,7 @@ use Rattle.hyphenation_score.specs.Scoring.{own_change, values}
 abbrev pub score_line : List ℕ → List ℕ
 score_line values = join_with_byte 32 (map decimal values) ++ 10 ∷ []
 
--- The language that the second line of a text names, whatever the kind.
+-- The language that the second line of a text names, whatever the kind; empty where it names none.
 abbrev pub language_in : List ℕ → List ℕ
 language_in bytes = unwrap_or (language_of (slice_index_or (lines_of bytes) 1 [])) []
 
@@ -37,18 +37,20 @@ values_by Extended bytes word = values (keys_of (extended_contents bytes)) word
 abbrev pub IsAccepted : (List ℕ → Option (ℕ × Cause)) → (List ℕ → List ℕ) → List ℕ → List ℕ → Type 0
 IsAccepted refusal language asked bytes = (refusal bytes ≡ None) × (language bytes ≡ asked)
 
--- A run over a dictionary's bytes ends well, or at the writing, exactly where the text is accepted and of the asked language.
-abbrev pub Runs : {X : Type 0} → (List ℕ → Option (ℕ × Cause)) → (List ℕ → List ℕ) → List ℕ → List ℕ → Result X RunError
-    → Type 0
-Runs refusal language asked bytes (Ok done) = IsAccepted refusal language asked bytes
-Runs refusal language asked bytes (Err (Dictionary e)) = TellsIn refusal language asked bytes e
-Runs refusal language asked bytes (Err (Edit number)) = ⊥
-Runs refusal language asked bytes (Err TextNotUtf8) = ⊥
-Runs refusal language asked bytes (Err (Input e)) = ⊥
-Runs refusal language asked bytes (Err (Output e)) = IsAccepted refusal language asked bytes
-Runs refusal language asked bytes (Err Memory) = Unit {0}
+-- Why a score is not written: its dictionary can't be had, the writing failed, or memory was refused.
+abbrev pub IsOfScore : RunError → Type 0
+IsOfScore (Dictionary e) = Unit {0}
+IsOfScore (Output e) = Unit {0}
+IsOfScore Memory = Unit {0}
+IsOfScore _ = ⊥
 
--- A run that ended before its writing.
+-- This holds where a run ended before the reading of its text: over its dictionary, or over an edit.
+abbrev pub BeforeReading : {X : Type 0} → Result X RunError → Type 0 → Type 0
+BeforeReading (Err (Dictionary e)) P = P
+BeforeReading (Err (Edit number)) P = P
+BeforeReading _ P = Unit {0}
+
+-- This holds where a run ended before its writing.
 abbrev pub BeforeWriting : Result (Unit {0}) RunError → Type 0 → Type 0
 BeforeWriting (Ok done) P = Unit {0}
 BeforeWriting (Err (Dictionary e)) P = P
@@ -65,7 +67,7 @@ run_error (IO e) = Dictionary (IO e)
 run_error (LanguageMismatch expected found) = Dictionary (LanguageMismatch expected found)
 run_error (NoMemory e) = Memory
 
--- A dictionary or an input that could not be had, other than for want of memory, whoever told it.
+-- An error that tells of the dictionary or of the input tells of no want of memory, whoever told it.
 abbrev pub HoldsNoWant : RunError → Type 0
 HoldsNoWant (Dictionary (IO e)) = error_kind e ≢ OutOfMemory
 HoldsNoWant (Dictionary (NoMemory e)) = ⊥
@@ -81,7 +83,8 @@ breaks_by Standard bytes edits word =
 breaks_by Extended bytes edits word =
     fitted_breaks_of (rules_of own_change own_break (after_edits break_as_listing (extended_contents bytes) edits)) word
 
--- The dictionary is judged first: only where it is accepted, and of the asked language, anything else is answered.
+-- The dictionary is judged first: only where it is accepted, and of the asked language, anything else is answered than
+-- an error of the dictionary or want of memory.
 abbrev pub JudgesDictionary : {X : Type 0} → (List ℕ → Option (ℕ × Cause)) → List ℕ → List ℕ → Result X RunError
     → Type 0
 JudgesDictionary refusal asked bytes (Err (Dictionary e)) = TellsIn refusal language_in asked bytes e
@@ -95,7 +98,7 @@ JudgesEdits kind edits (Err (Edit number)) = first_refused kind edits ≡ Some n
 JudgesEdits kind edits (Err Memory) = Unit {0}
 JudgesEdits kind edits _ = first_refused kind edits ≡ None
 
--- Then the text: only where it is UTF-8, it is written.
+-- Then the text: only where it is UTF-8 it is written, and only where it is not, that is answered.
 abbrev pub JudgesText : {X : Type 0} → List ℕ → Result X RunError → Type 0
 JudgesText text (Ok done) = IsUtf8 text
 JudgesText text (Err TextNotUtf8) = ¬ (IsUtf8 text)

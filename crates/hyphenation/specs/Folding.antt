@@ -21,7 +21,8 @@ fold text = encode_utf8_all (map fold_character (chars text))
 abbrev pub has_uppercase : List ℕ → Bool
 has_uppercase text = list_any is_uppercase (chars text)
 
--- A place of the folded text is carried back to the place in the text as written with as many characters before it.
+-- A character boundary of the folded text is carried back to the place in the text as written with as many characters
+-- before it.
 abbrev pub carried_back : List ℕ → ℕ → ℕ
 carried_back text place = place_of_character text (length (chars (take place (fold text))))
 

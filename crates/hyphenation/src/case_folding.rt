@@ -171,7 +171,8 @@ fn difference(a: usize, b: usize) -> isize
 }
 
 /// The place in the word as written that has as many characters before it as the place `i` of
-/// the folded word, where the shifts are those of [`refold`].
+/// the folded word, where that is a character boundary and the shifts are those of [`refold`].
+/// Places are numbers of bytes.
 ///
 /// This is `i` less the delta of the last shift whose index is below `i`, held between 0 and
 /// the greatest `usize`.

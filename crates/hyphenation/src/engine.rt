@@ -2,11 +2,11 @@
 
 ghost use Rattle.std.specs.Prelude.{◌≡◌, ◌++◌, OnOk, IfOk, IfErr, IfSome, decimal, map};
 ghost use Rattle.std.specs.String.{string_bytes};
-ghost use Rattle.std.specs.Io.KnownBytes.{Appends, Keeps};
+ghost use Rattle.std.specs.Io.KnownBytes.{Appends};
 ghost use Rattle.hyphenation_commons.specs.Dictionary.{keys_of};
 ghost use Rattle.dictionary_text.specs.Judging.{refusal_of};
 ghost use Rattle.hyphenation_score.specs.Scoring.{values};
-ghost use Rattle.hyphenation.specs.Engine.{score_line, language_in, values_by, breaks_by, Runs, JudgesDictionary, JudgesEdits, JudgesText, BeforeWriting, HoldsNoWant};
+ghost use Rattle.hyphenation.specs.Engine.{score_line, values_by, breaks_by, IsOfScore, JudgesDictionary, JudgesEdits, JudgesText, BeforeReading, BeforeWriting, HoldsNoWant};
 ghost use Rattle.hyphenation.specs.Private.Engine.{space_before, IsUnwritten};
 ghost use Rattle.hyphenation.specs.Hyphenated.{hyphenated_text};
 
@@ -113,11 +113,12 @@ fn standard_values<D: Read>(
     word: &str,
     reader: &mut D,
 ) -> Result<Vec<u8>, RunError>
-    ensures answers { IfSome (D.remaining reader.old) (λ bytes.
-        Runs (refusal_of Kind.Standard) language_in lang bytes result) }
+    ensures dictionary { IfSome (D.remaining reader.old) (λ bytes.
+        JudgesDictionary (refusal_of Kind.Standard) lang bytes result) }
     ensures values { IfOk result (λ found.
         IfSome (D.remaining reader.old) (λ bytes. found.items ≡ values_by Kind.Standard bytes word.now)) }
     ensures unwritten { IfErr result IsUnwritten }
+    ensures cause { IfErr result IsOfScore }
     ensures kind { IfErr result HoldsNoWant }
 {
     let dictionary = Standard::from_reader(alloc, lang, reader)?;
@@ -131,11 +132,12 @@ fn extended_values<D: Read>(
     word: &str,
     reader: &mut D,
 ) -> Result<Vec<u8>, RunError>
-    ensures answers { IfSome (D.remaining reader.old) (λ bytes.
-        Runs (refusal_of Kind.Extended) language_in lang bytes result) }
+    ensures dictionary { IfSome (D.remaining reader.old) (λ bytes.
+        JudgesDictionary (refusal_of Kind.Extended) lang bytes result) }
     ensures values { IfOk result (λ found.
         IfSome (D.remaining reader.old) (λ bytes. found.items ≡ values_by Kind.Extended bytes word.now)) }
     ensures unwritten { IfErr result IsUnwritten }
+    ensures cause { IfErr result IsOfScore }
     ensures kind { IfErr result HoldsNoWant }
 {
     let dictionary = Extended::from_reader(alloc, lang, reader)?;
@@ -150,10 +152,11 @@ fn score_line<D: Read>(
     word: &str,
     reader: &mut D,
 ) -> Result<String, RunError>
-    ensures answers { IfSome (D.remaining reader.old) (λ bytes. Runs (refusal_of kind) language_in lang bytes result) }
+    ensures dictionary { IfSome (D.remaining reader.old) (λ bytes. JudgesDictionary (refusal_of kind) lang bytes result) }
     ensures line { IfOk result (λ line.
         IfSome (D.remaining reader.old) (λ bytes. string_bytes line ≡ score_line (values_by kind bytes word.now))) }
     ensures unwritten { IfErr result IsUnwritten }
+    ensures cause { IfErr result IsOfScore }
     ensures kind { IfErr result HoldsNoWant }
 {
     let values = match kind {
@@ -173,12 +176,13 @@ pub fn run_score<D: Read, O: Write>(
     dictionary: &mut D,
     output: &mut O,
 ) -> Result<(), RunError>
-    ensures answers { IfSome (D.remaining dictionary.old) (λ bytes.
-        Runs (refusal_of kind) language_in lang bytes result) }
+    ensures dictionary { IfSome (D.remaining dictionary.old) (λ bytes.
+        JudgesDictionary (refusal_of kind) lang bytes result) }
     ensures written { OnOk result (IfSome (D.remaining dictionary.old)
         (λ bytes. Appends (O.contents output.old) (O.contents output.new)
         (score_line (values_by kind bytes word.now)))) }
-    ensures untouched { BeforeWriting result (Keeps (O.contents output.old) (O.contents output.new)) }
+    ensures untouched { BeforeWriting result (output.new ≡ output.old) }
+    ensures cause { IfErr result IsOfScore }
     ensures kind { IfErr result HoldsNoWant }
 {
     let line = score_line(alloc, kind, lang, word, dictionary)?;
@@ -205,6 +209,7 @@ fn text_by<D: Read, I: Read>(
         string_bytes output
         ≡ hyphenated_text (breaks_by kind bytes (map (λ edit. edit.now) edits.now)) mark.now text))) }
     ensures unwritten { IfErr result IsUnwritten }
+    ensures unread { BeforeReading result (input.new ≡ input.old) }
     ensures kind { IfErr result HoldsNoWant }
 {
     match kind {
@@ -235,7 +240,8 @@ pub fn run<D: Read, I: Read, O: Write>(
     ensures written { OnOk result (IfSome (D.remaining dictionary.old) (λ bytes. IfSome (I.remaining input.old) (λ text.
         Appends (O.contents output.old) (O.contents output.new)
         (hyphenated_text (breaks_by kind bytes (map (λ edit. edit.now) edits.now)) mark.now text)))) }
-    ensures untouched { BeforeWriting result (Keeps (O.contents output.old) (O.contents output.new)) }
+    ensures untouched { BeforeWriting result (output.new ≡ output.old) }
+    ensures unread { BeforeReading result (input.new ≡ input.old) }
     ensures kind { IfErr result HoldsNoWant }
 {
     let text = text_by(alloc, kind, lang, edits, mark, dictionary, input)?;

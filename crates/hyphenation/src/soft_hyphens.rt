@@ -8,7 +8,8 @@ use std::alloc::{AllocError, Global};
 
 const SOFT_HYPHEN: char = '\u{ad}';
 
-/// The places at which the soft hyphens of a word begin, ascending, or `None` where it has none.
+/// The places at which the soft hyphens of a word begin, in bytes of the word, ascending, or `None`
+/// where it has none.
 ///
 /// Without a soft hyphen no memory is taken, and the answer is always `Ok(None)`; with one, an
 /// `Err` says that memory was refused.

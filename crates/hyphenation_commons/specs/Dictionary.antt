@@ -25,6 +25,7 @@ pub record Contents (C B : Type 0) : Type 0 where
 abbrev pub Patterns : Type 0 → Type 0
 Patterns C = List ℕ → Option (List (Entry C))
 
+-- The entries of each text that is a key.
 abbrev pub keys_of : {C B : Type 0} → Contents C B → Patterns C
 keys_of contents text = finite.get contents.patterns text
 

@@ -22,6 +22,6 @@ abbrev pub pair_of : {X Y Z : Type 0} → String Y × Vec X Z → List ℕ × Li
 pair_of x = (string_bytes x.0, x.1.items)
 
 -- A key may have these entries: it has a character other than a dot; their places ascend strictly on its character
--- boundaries, their values are from 1 to 255, and their changes keep within it.
+-- boundaries, their values are from 1 to 255, and their changes can be said, and keep within it.
 abbrev pub fits_key : {C : Type 0} → (C → Option Change) → List ℕ → List (Entry C) → Bool
 fits_key change_of key entries = has_letter key && are_entries change_of key entries

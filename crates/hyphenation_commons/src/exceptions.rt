@@ -1,7 +1,7 @@
 //! Exceptions: words, each with a list.
 //!
-//! Most words that are looked up are no exceptions. A mark for each of some thousand spots says whether a listed word
-//! falls on it, so that most look-ups end before the word is hashed.
+//! Most words that are looked up are no exceptions. A mark for each of some thousand spots says whether a word that is
+//! listed, or was, falls on it, so that most look-ups end before the word is hashed.
 
 ghost use Rattle.std.specs.Prelude.{◌≡◌, ◌<◌, true, false, ℕ, List, IfOk, OnOk, OnErr, length, option_copied, replicate, slice_index_or};
 ghost use Rattle.std.specs.FinMap as finite;

@@ -37,18 +37,21 @@ impl Model for Language {
     } };
 }
 
+/// Whether a byte may stand in a code.
 fn is_code_byte(byte: u8) -> bool
     ensures { result ≡ is_code_byte byte }
 {
     matches!(byte, b'a'..=b'z' | b'0'..=b'9' | b'-')
 }
 
+/// Whether all bytes may.
 fn are_code_bytes(text: &[u8]) -> bool
     ensures { result ≡ list_all is_code_byte text.now }
 {
     text.iter().all(|b| is_code_byte(*b))
 }
 
+/// Whether a text is a code: 1 to 32 such bytes.
 fn is_code(text: &[u8]) -> bool
     ensures { result ≡ is_code text.now }
 {

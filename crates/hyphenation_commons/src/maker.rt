@@ -90,7 +90,8 @@ fn map_of<B: Listing>(
 }
 
 /// Makes a dictionary of these patterns and exceptions. Where a key or a word stands several times, the last one
-/// counts.
+/// counts. `left` and `right` are the least numbers of characters before the first break of a word and after its last
+/// one.
 ///
 /// The caller owes that each key may have its entries, as `fits_key` tests, and each word its breaks, as
 /// `Dictionary::fits` tests. The only error is memory.

@@ -5,7 +5,8 @@ use Rattle.std.specs.List.{find, flat_map, range_with_len, IsAmong}
 use Rattle.std.proofs.lemmas.Bool.{cases_eq, cases_lt, eqb-true, eq-eqb}
 use Rattle.hyphenation_commons.specs.Dictionary.{Patterns}
 use Rattle.hyphenation_commons.specs.declared.dictionary.Entry.{Entry}
-use Rattle.hyphenation_score.specs.Scoring.{frame, bearing, bearing_from, bearers, greatest_value, first_greatest, value_of, value_at, winner_at, Bears, Before, Wins}
+use Rattle.hyphenation_score.specs.Scoring.{frame, bearing, bearing_from, bearers, greatest_value, first_greatest, value_of, value_at, winner_at}
+use Rattle.hyphenation_score.specs.Winners.{Bears, Before, Wins}
 use Rattle.hyphenation_score.specs.Private.Scoring.{greater}
 use Rattle.hyphenation_score.proofs.GreatestValues.{greatest_from, greatest_value-append}
 use Rattle.hyphenation_score.proofs.FirstGreatest.{first-append, first_none, first_some, value_of-first, greater_first, greater_second}

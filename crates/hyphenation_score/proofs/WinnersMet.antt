@@ -5,9 +5,9 @@ use Rattle.std.proofs.lemmas.List.{take_more}
 use Rattle.std.proofs.lemmas.Bool.{cases_lt, cases_eq, lt-ltb, le-ltb, eqb-true, eq-eqb}
 use Rattle.hyphenation_commons.specs.Dictionary.{Patterns}
 use Rattle.hyphenation_commons.specs.declared.dictionary.Entry.{Entry}
-use Rattle.hyphenation_score.specs.Scoring.{greatest_value, first_greatest, bearing, bearing_from, bearers, value_of, Before}
+use Rattle.hyphenation_score.specs.Scoring.{greatest_value, first_greatest, bearing, bearing_from, bearers, value_of}
 use Rattle.hyphenation_score.specs.Private.Scoring.{greater}
-use Rattle.hyphenation_score.specs.Winners.{IsPair, IsBest, Best, Holds}
+use Rattle.hyphenation_score.specs.Winners.{IsPair, IsBest, Best, Holds, Before}
 use Rattle.hyphenation_score.specs.Private.Winners.{meets, Sane}
 use Rattle.hyphenation_score.proofs.FirstGreatest.{first_none, value_of-first, first-append, greater_first, greater_second, greater_none, greater_one}
 use Rattle.hyphenation_score.proofs.GreatestValues.{greatest_value-within, filter-append}

@@ -2,8 +2,8 @@
 use Rattle.std.specs.Prelude.{◌≡◌, ℕ, ◌+◌, ◌-◌, ◌<◌, ◌≤◌, ◌⊎◌, ◌↔◌, List, length, slice_get, Some, None}
 use Rattle.hyphenation_commons.specs.Dictionary.{Patterns}
 use Rattle.hyphenation_commons.specs.declared.dictionary.Entry.{Entry}
-use Rattle.hyphenation_score.specs.Scoring.{Bears, Wins, frame, value_at, values, winner_at, winners}
-use Rattle.hyphenation_score.specs.Winners.{Best, IsPair, Holds}
+use Rattle.hyphenation_score.specs.Scoring.{frame, value_at, values, winner_at, winners}
+use Rattle.hyphenation_score.specs.Winners.{Best, IsPair, Holds, Bears, Wins}
 
 -- A place's value is at least each value that bears on it.
 abbrev pub ValueIsGreatest : Type 0 → Type 0
@@ -39,21 +39,23 @@ FirstIsWinner C =
     → Wins keys word p start end entry → ((other : Entry C) → Bears keys word p start end other → other ≡ entry)
     → winner_at keys word p ≡ Some entry
 
--- The values of a word are one less than its bytes, and stand in the order of its places.
+-- The values of a word stand in the order of its places.
 abbrev pub ValuesAreOfPlaces : Type 0 → Type 0
 ValuesAreOfPlaces C =
     (keys : Patterns C) (word : List ℕ) (i : ℕ) → i + 1 < length word
     → slice_get (values keys word) i ≡ Some (value_at keys word (i + 1))
 
+-- There is one less of them than the word has bytes, and none of the empty word.
 abbrev pub ValuesAreOneLess : Type 0 → Type 0
 ValuesAreOneLess C = (keys : Patterns C) (word : List ℕ) → length (values keys word) ≡ length word - 1
 
--- The same of its winners.
+-- The winners of a word stand in the order of its places.
 abbrev pub WinnersAreOfPlaces : Type 0 → Type 0
 WinnersAreOfPlaces C =
     (keys : Patterns C) (word : List ℕ) (i : ℕ) → i + 1 < length word
     → slice_get (winners keys word) i ≡ Some (winner_at keys word (i + 1))
 
+-- There is one less of them than the word has bytes, and none of the empty word.
 abbrev pub WinnersAreOneLess : Type 0 → Type 0
 WinnersAreOneLess C = (keys : Patterns C) (word : List ℕ) → length (winners keys word) ≡ length word - 1
 

@@ -5,11 +5,11 @@ use Rattle.hyphenation_commons.specs.Break.{Change}
 use Rattle.hyphenation_commons.specs.Dictionary.{Patterns}
 use Rattle.hyphenation_commons.specs.declared.dictionary.Entry.{Entry}
 
--- The keys that end there in the frame, the empty one not counted.
+-- How many keys end there in the frame, the empty one not counted.
 abbrev pub keys_ending : {C : Type 0} → Patterns C → List ℕ → ℕ → ℕ
 keys_ending keys framed end = count_by (λ start. is_some (keys (slice_range framed start end))) (range_with_len 0 end)
 
--- The occurrences of keys in the frame: the pairs of a start and a greater end between which a key stands.
+-- How many occurrences of keys the frame has: pairs of a start and a greater end between which a key stands.
 abbrev pub occurrences : {C : Type 0} → Patterns C → List ℕ → ℕ
 occurrences keys framed = sum_by (λ end. keys_ending keys framed end) (range_with_len 1 (length framed))
 

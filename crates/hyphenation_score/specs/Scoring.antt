@@ -1,8 +1,8 @@
 -- Which keys stand in a word, which values they give to its places, and which entry wins each place.
 -- Sources: F. M. Liang, Word Hy-phen-a-tion by Com-put-er (1983), for keys whose values compete;
 -- L. Németh, Automatic non-standard hyphenation in OpenOffice.org, TUGboat 27:1 (2006), for values that carry changes.
-use Rattle.std.specs.Prelude.{◌≡◌, ℕ, ◌+◌, ◌-◌, ◌<◌, ◌≤◌, ◌==◌, ◌⊎◌, if◌then◌else◌, List, [], ◌∷◌, ◌++◌, length, map, filter, Option, Some, None, unwrap_or, option_copied, slice_range}
-use Rattle.std.specs.List.{find, flat_map, range_with_len, IsAmong}
+use Rattle.std.specs.Prelude.{ℕ, ◌+◌, ◌-◌, ◌==◌, if◌then◌else◌, List, [], ◌∷◌, ◌++◌, length, map, filter, Option, Some, None, unwrap_or, option_copied, slice_range}
+use Rattle.std.specs.List.{find, flat_map, range_with_len}
 use Rattle.std.specs.Borrow.{Bor}
 use Rattle.std.specs.Option.{option_and_then}
 use Rattle.hyphenation_commons.specs.Break.{Change}
@@ -21,7 +21,8 @@ frame word = 46 ∷ word ++ 46 ∷ []
 abbrev pub places : List ℕ → List ℕ
 places word = range_with_len 1 (length word - 1)
 
--- An occurrence: of the key that stands in the frame from start to end, the entries that bear on the word's place p; none, if no key stands there.
+-- The entries that bear on the word's place p, of the key that stands in the frame from start to end; none, if no key
+-- stands there.
 abbrev pub bearing : {C : Type 0} → Patterns C → List ℕ → ℕ → ℕ → ℕ → List (Entry C)
 bearing keys framed p start end =
     filter (λ entry. start + entry.place == p + 1) (unwrap_or (keys (slice_range framed start end)) [])
@@ -48,7 +49,8 @@ first_greatest entries =
 abbrev pub value_at : {C : Type 0} → Patterns C → List ℕ → ℕ → ℕ
 value_at keys word p = greatest_value (bearers keys (frame word) p)
 
--- The entry that wins the word's place p: of those with its value the one whose key starts first, and then is shortest.
+-- The entry that wins the word's place p: of those with its value the one whose key starts first, and then is shortest;
+-- none where that value is 0.
 abbrev pub winner_at : {C : Type 0} → Patterns C → List ℕ → ℕ → Option (Entry C)
 winner_at keys word p = first_greatest (bearers keys (frame word) p)
 
@@ -86,26 +88,3 @@ scores change_of keys word = map (scored_by change_of) (winners keys word)
 -- A value with a change that is lent, or none.
 abbrev pub scored_pair : ℕ × Option (Bor Change) → Scored
 scored_pair pair = record { value = pair.0; change = option_copied pair.1 }
-
--- ---- the same in terms of single keys
-
--- The key that stands in the word's frame from start to end has this entry, and it bears on the word's place p.
-pub record Bears {C : Type 0} (keys : Patterns C) (word : List ℕ) (p start end : ℕ) (entry : Entry C) : Type 0 where
-  pub some : start < end
-  pub within : end ≤ length (frame word)
-  pub entries : List (Entry C)
-  pub key : keys (slice_range (frame word) start end) ≡ Some entries
-  pub among : IsAmong entries entry
-  pub place : start + entry.place ≡ p + 1
-
--- The start is less, or the same and the end is no greater.
-abbrev pub Before : ℕ → ℕ → ℕ → ℕ → Type 0
-Before start end other_start other_end = (start < other_start) ⊎ ((start ≡ other_start) × (end ≤ other_end))
-
--- The entry bears on the place, no entry that does has a greater value, and each that has the same starts no earlier, or at the same byte and ends no earlier.
-pub record Wins {C : Type 0} (keys : Patterns C) (word : List ℕ) (p start end : ℕ) (entry : Entry C) : Type 0 where
-  pub bears : Bears keys word p start end entry
-  pub most : (other_start other_end : ℕ) (other : Entry C) → Bears keys word p other_start other_end other
-      → other.value ≤ entry.value
-  pub before : (other_start other_end : ℕ) (other : Entry C) → Bears keys word p other_start other_end other
-      → other.value ≡ entry.value → Before start end other_start other_end

@@ -1,8 +1,31 @@
--- The winner of a place, as one pass finds it: keys by their ends.
-use Rattle.std.specs.Prelude.{◌≡◌, ℕ, ◌<◌, ◌≤◌, ◌⊎◌, List, length, Option, Some, None}
+-- What bears on a place and wins it, in terms of single keys; and the winner as one pass finds it: keys by their ends.
+use Rattle.std.specs.Prelude.{◌≡◌, ℕ, ◌<◌, ◌≤◌, ◌⊎◌, List, length, Option, Some, None, slice_range, ◌+◌}
 use Rattle.hyphenation_commons.specs.Dictionary.{Patterns}
 use Rattle.hyphenation_commons.specs.declared.dictionary.Entry.{Entry}
-use Rattle.hyphenation_score.specs.Scoring.{bearing, first_greatest, greatest_value, Before}
+use Rattle.hyphenation_score.specs.Scoring.{bearing, first_greatest, greatest_value, frame}
+use Rattle.std.specs.List.{IsAmong}
+
+-- The key that stands in the word's frame from start to end has this entry, and it bears on the word's place p.
+pub record Bears {C : Type 0} (keys : Patterns C) (word : List ℕ) (p start end : ℕ) (entry : Entry C) : Type 0 where
+  pub some : start < end
+  pub within : end ≤ length (frame word)
+  pub entries : List (Entry C)
+  pub key : keys (slice_range (frame word) start end) ≡ Some entries
+  pub among : IsAmong entries entry
+  pub place : start + entry.place ≡ p + 1
+
+-- The start is less, or the same and the end is no greater.
+abbrev pub Before : ℕ → ℕ → ℕ → ℕ → Type 0
+Before start end other_start other_end = (start < other_start) ⊎ ((start ≡ other_start) × (end ≤ other_end))
+
+-- The entry bears on the place, no entry that does has a greater value, and each that has the same starts no earlier, or
+-- at the same byte and ends no earlier.
+pub record Wins {C : Type 0} (keys : Patterns C) (word : List ℕ) (p start end : ℕ) (entry : Entry C) : Type 0 where
+  pub bears : Bears keys word p start end entry
+  pub most : (other_start other_end : ℕ) (other : Entry C) → Bears keys word p other_start other_end other
+      → other.value ≤ entry.value
+  pub before : (other_start other_end : ℕ) (other : Entry C) → Bears keys word p other_start other_end other
+      → other.value ≡ entry.value → Before start end other_start other_end
 
 -- The pairs of a start and a greater end in a frame.
 abbrev pub IsPair : List ℕ → ℕ → ℕ → Type 0

@@ -117,6 +117,9 @@ fn compete_reported<'d, C: Drop>(
 }
 
 /// The entries that win the places of a word, from place 1 on, by the automaton of the keys.
+///
+/// Places are numbers of bytes. Look-ups and reports are counted, and the only error is memory. The caller owes that each
+/// node of the automaton but the root begins a key.
 #[inline(always)]
 pub fn winners_in<'d, C: Drop>(
     alloc: Global,

@@ -178,7 +178,10 @@ fn read<C: Payload>(
 }
 
 /// Raises values, which are 0, to those of a word's places, in one pass over its frame. Where it says no, no entry that
-/// bears on a place carries a change.
+/// bears on a place carries a change; where it says yes, nothing is promised of changes.
+///
+/// The list has one value for each place, from place 1 on. Look-ups and reports are counted. The caller owes that each
+/// node of the automaton but the root begins a key.
 #[inline(always)]
 pub fn raise_all<C: Payload>(
     automaton: &Automaton<Entry<C>>,

@@ -1,7 +1,9 @@
 -- Appending the marked segments of a word, break by break.
-use Rattle.std.proofs.Common.{◌≡◌, ℕ, ◌+◌, ◌-◌, ◌≤◌, List, [], ◌∷◌, ◌++◌, map, length, drop, refl, sym, ap, subst, ◌∙◌, arith, append_assoc, append-nil, add-zero, add-one, get_or, suc, ◌<◌, IsCharBoundary, IsUtf8}
+use Rattle.std.proofs.Common.{◌≡◌, Bool, true, false, if◌then◌else◌, ℕ, ◌+◌, ◌-◌, ◌≤◌, List, [], ◌∷◌, ◌++◌, map, length, drop, refl, sym, ap, subst, ◌∙◌, arith, append_assoc, append-nil, add-zero, add-one, get_or, suc, ◌<◌, IsCharBoundary, IsUtf8}
 use Rattle.std.specs.List.{concat, slice_range}
 use Rattle.std.proofs.Math.Seq.{drop-cons}
+use Rattle.std.proofs.Transfers.{starts_with_of_append, starts_with_of_eq, starts_with_trans}
+use Rattle.std.specs.Io.{StartsWith}
 use Rattle.std.proofs.lemmas.Str.{IsCharBoundary-start}
 use Rattle.hyphenation_commons.specs.Break.{Break, plain, begin_of, end_of, before_of, after_of}
 use Rattle.hyphenation_segments.specs.Fits.{Stands, FitsFrom, Fits}
@@ -79,3 +81,8 @@ at_first text breaks u h = (IsCharBoundary-start text u, h)
 pub here_stands : {X : Type 0} (meaning : X → Break) (text : List ℕ) (start i : ℕ) (xs : List X) (x : X) → i < length xs → x ≡ get_or xs i x → FitFrom text start (map meaning (drop i xs)) → Stands text start 0 (meaning x)
 here_stands {X} meaning text start i xs x lt is h =
     first_stands text start (meaning x) (map meaning (drop (i + 1) xs)) (subst (λ (l : List Break). FitFrom text start l) (ap (map meaning) (from_here xs i x lt is)) h)
+
+-- What is in front stays there, whether something is pushed after it or its memory is refused.
+pub stays_in_front : (before old new piece : List ℕ) (pushed : Bool) → new ≡ (if pushed then old ++ piece else old) → StartsWith old before → StartsWith new before
+stays_in_front before old new piece true is front = starts_with_trans new old before (starts_with_of_append new old piece is) front
+stays_in_front before old new piece false is front = starts_with_trans new old before (starts_with_of_eq new old is) front

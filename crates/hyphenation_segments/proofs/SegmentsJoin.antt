@@ -6,7 +6,8 @@ use Rattle.std.proofs.lemmas.List.{drop_all, drop-append-le, drop-take, length-t
 use Rattle.std.proofs.lemmas.List.Folds.{drop_split}
 use Rattle.hyphenation_commons.specs.Break.{Break, plain}
 use Rattle.hyphenation_segments.specs.Fits.{FitsFrom}
-use Rattle.hyphenation_segments.specs.Segments.{segment_between, segments_after, break_number, mark_if_more, marked_segments, with_marks}
+use Rattle.hyphenation_segments.specs.Segments.{segment_between, segments_after, mark_if_more, marked_segments}
+use Rattle.hyphenation_segments.specs.Laws.{break_number, with_marks}
 
 step : (text : List ℕ) (last : Break) (breaks : List Break) (number : ℕ) → number ≤ length breaks →
     slice_get (segments_after text last breaks) number

@@ -3,8 +3,8 @@ use Rattle.std.specs.Prelude.{ℕ, ◌+◌, ◌≤◌, List, [], ◌∷◌, ⊤}
 use Rattle.std.specs.Str.{IsCharBoundary}
 use Rattle.hyphenation_commons.specs.Break.{Break, left_of, begin_of, end_of}
 
--- A break stands in a text: its place is no less than the least one, its range begins no earlier than the range
--- before it ends, and its place and both ends of its range are character boundaries of the text.
+-- A break stands in a text: its place is no less than the least one; its range begins within the text, and no earlier
+-- than the range before it ends; and its place and both ends of its range are character boundaries of the text.
 pub record Stands (text : List ℕ) (last_end least : ℕ) (b : Break) : Type 0 where
   pub ascends : least ≤ b.place
   pub within : left_of b.change ≤ b.place

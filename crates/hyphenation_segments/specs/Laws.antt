@@ -1,10 +1,24 @@
 -- What is true of all segments.
-use Rattle.std.specs.Prelude.{◌≡◌, ℕ, ◌+◌, ◌≤◌, List, map, length, slice_get, Some}
+use Rattle.std.specs.Prelude.{◌≡◌, ℕ, ◌+◌, ◌≤◌, List, map, length, slice_get, Some, [], drop, slice_index_or, take, ◌++◌, ◌∷◌}
 use Rattle.std.specs.List.{concat}
 use Rattle.hyphenation_commons.specs.Break.{Break, plain}
 use Rattle.hyphenation_segments.specs.Fits.{Fits}
 use Rattle.hyphenation_segments.specs.ChangedSegments.{made_segments}
-use Rattle.hyphenation_segments.specs.Segments.{segments, segment_between, with_ends, break_number, marked_segments, with_marks}
+use Rattle.hyphenation_segments.specs.Segments.{segments, segment_between, marked_segments}
+
+-- The breaks, with the two ends of the text.
+abbrev pub with_ends : List ℕ → List Break → List Break
+with_ends text breaks = plain 0 ∷ (breaks ++ plain (length text) ∷ [])
+
+-- The break of a number, counted from 0, and the text's start where there is none.
+abbrev pub break_number : List Break → ℕ → Break
+break_number breaks number = slice_index_or breaks number (plain 0)
+
+-- A text with the mark at each of the places: the text up to the first place, the mark, and what is after that place
+-- in the text with the mark at the other ones.
+abbrev pub with_marks : List ℕ → List ℕ → List ℕ → List ℕ
+with_marks mark text [] = text
+with_marks mark text (p ∷ ps) = take p text ++ mark ++ drop p (with_marks mark text ps)
 
 -- A segment is given by its two neighbouring breaks alone, where the two ends of the text count as breaks.
 abbrev pub IsGivenByNeighbours : Type 0
@@ -17,11 +31,11 @@ IsGivenByNeighbours = (text : List ℕ) (breaks : List Break) (number : ℕ) →
 abbrev pub IsOneMore : Type 0
 IsOneMore = (text : List ℕ) (breaks : List Break) → length (segments text breaks) ≡ length breaks + 1
 
--- The segments at plain breaks join to the text.
+-- The segments at plain breaks that fit the text join to it.
 abbrev pub JoinsToText : Type 0
 JoinsToText = (text places : List ℕ) → Fits text (map plain places) → concat (segments text (map plain places)) ≡ text
 
--- The marked segments at plain breaks join to the text with the mark at each break and nowhere else.
+-- The marked segments at plain breaks that fit the text join to it with the mark at each break and nowhere else.
 abbrev pub JoinsToMarkedText : Type 0
 JoinsToMarkedText =
     (mark text places : List ℕ) → Fits text (map plain places)

@@ -1,5 +1,5 @@
 -- The segments of a text, and their marks.
-use Rattle.std.specs.Prelude.{ℕ, List, [], ◌∷◌, ◌++◌, length, take, drop, slice_range, slice_index_or}
+use Rattle.std.specs.Prelude.{ℕ, List, [], ◌∷◌, ◌++◌, length, slice_range}
 use Rattle.std.specs.List.{concat}
 use Rattle.hyphenation_commons.specs.Break.{Break, plain, begin_of, end_of, before_of, after_of}
 
@@ -17,14 +17,6 @@ segments_after text last (b ∷ bs) = segment_between text last b ∷ segments_a
 abbrev pub segments : List ℕ → List Break → List (List ℕ)
 segments text breaks = segments_after text (plain 0) breaks
 
--- The breaks, with the two ends of the text.
-abbrev pub with_ends : List ℕ → List Break → List Break
-with_ends text breaks = plain 0 ∷ (breaks ++ plain (length text) ∷ [])
-
--- The break of a number, counted from 0, and the text's start where there is none.
-abbrev pub break_number : List Break → ℕ → Break
-break_number breaks number = slice_index_or breaks number (plain 0)
-
 -- The mark, where more segments follow.
 abbrev pub mark_if_more : List ℕ → List (List ℕ) → List ℕ
 mark_if_more mark [] = []
@@ -38,9 +30,3 @@ marked_segments mark (s ∷ ss) = (s ++ mark_if_more mark ss) ∷ marked_segment
 -- The marked segments of a text, joined.
 abbrev pub marked_word : List ℕ → List ℕ → List Break → List ℕ
 marked_word mark text breaks = concat (marked_segments mark (segments text breaks))
-
--- A text with the mark at each of the places: the text up to the first place, the mark, and what is after that place
--- in the text with the mark at the other ones.
-abbrev pub with_marks : List ℕ → List ℕ → List ℕ → List ℕ
-with_marks mark text [] = text
-with_marks mark text (p ∷ ps) = take p text ++ mark ++ drop p (with_marks mark text ps)

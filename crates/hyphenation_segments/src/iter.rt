@@ -2,7 +2,7 @@
 //!
 //! A word's breaks come one after another (`Breaks`); `Segments` takes them, and gives the text between each two of
 //! them, and `SegmentsExt` does so where breaks may change it; `Hyphenating` takes such texts (`Texts`), and gives each
-//! with its mark. [`joined`] writes them all into a text at once.
+//! with its mark. [`push_marked`] writes them all after a text at once.
 
 ghost use Rattle.std.specs.Prelude.{◌≡◌, ℕ, List, Bool, false, Option, Some, None, length, IsSome, MatchResult};
 ghost use Rattle.hyphenation_commons.specs.Break.{Break};

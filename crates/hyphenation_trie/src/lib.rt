@@ -194,7 +194,7 @@ impl<E: Drop> Trie<E> {
     /// Moves these entries to a key, in place of those that it had. Whether it was a key.
     ///
     /// No other key changes, and the list is empty then and can be filled again. The only error is memory, and then
-    /// each key is as before.
+    /// each key and the list are as before.
     pub fn insert(&mut self, key: &[u8], entries: &mut Vec<E>) -> Result<bool, AllocError>
         ensures ok { OnOk result ((q : List ℕ) → key_at self.new q ≡
             (if pointwise nat_eq key.now q then Some entries.old.items else key_at self.old q)) }
@@ -202,6 +202,7 @@ impl<E: Drop> Trie<E> {
         ensures moved { OnOk result (entries.new.items ≡ []) }
         ensures begins { OnOk result (EachBeginsKey self.old → EachBeginsKey self.new) }
         ensures err { OnErr result ((q : List ℕ) → key_at self.new q ≡ key_at self.old q) }
+        ensures unmoved { OnErr result (entries.new.items ≡ entries.old.items) }
         ensures adds { AddsFront self.old self.new key.now }
         ensures nodes { KeepsNodes self.old self.new }
     {
@@ -307,6 +308,7 @@ impl<E: Drop> Trie<E> {
         ensures had { IfOk result (λ had. had ≡ is_some (key_at self.old (node_text self.old node))) }
         ensures moved { OnOk result (entries.new.items ≡ []) }
         ensures err { OnErr result (self.new ≡ self.old) }
+        ensures unmoved { OnErr result (entries.new.items ≡ entries.old.items) }
     {
         let start = in_32_bits(self.entries.len())?;
         let count = in_32_bits(entries.len())?;

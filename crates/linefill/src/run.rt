@@ -1,11 +1,11 @@
 //! Whole runs, from a dictionary's bytes and a text's to the lines that are written.
 
-ghost use Rattle.std.specs.Prelude.{◌≡◌, OnOk, IfOk, IfErr, IfSome, map};
+ghost use Rattle.std.specs.Prelude.{◌≡◌, [], OnOk, IfOk, IfErr, IfSome, map};
 ghost use Rattle.std.specs.String.{string_bytes};
-ghost use Rattle.std.specs.Io.KnownBytes.{Appends, Keeps};
+ghost use Rattle.std.specs.Io.KnownBytes.{Appends};
 ghost use Rattle.hyphenation_commons.specs.Break.{plain};
 ghost use Rattle.dictionary_text.specs.Judging.{refusal_of};
-ghost use Rattle.hyphenation.specs.Engine.{JudgesDictionary, JudgesText, BeforeWriting, HoldsNoWant};
+ghost use Rattle.hyphenation.specs.Engine.{JudgesDictionary, JudgesEdits, JudgesText, BeforeReading, BeforeWriting, HoldsNoWant};
 ghost use Rattle.hyphenation.specs.Private.Engine.{IsUnwritten};
 ghost use Rattle.hyphenation.specs.Opportunities.{no_change, rules_of, all_breaks_of};
 ghost use Rattle.linefill.specs.Lines.{lines_by};
@@ -61,6 +61,8 @@ fn filled_input<D: Read, I: Read>(
         IfSome (I.remaining input.old) (λ text.
         string_bytes filled ≡ with_line_feeds (filled_by bytes columns text)))) }
     ensures unwritten { IfErr result IsUnwritten }
+    ensures unread { BeforeReading result (input.new ≡ input.old) }
+    ensures edits { JudgesEdits Kind.Standard [] result }
     ensures kind { IfErr result HoldsNoWant }
 {
     let dictionary = Standard::from_reader(alloc, lang, reader)?;
@@ -73,7 +75,7 @@ fn filled_input<D: Read, I: Read>(
 ///
 /// In this order: the dictionary is loaded; the whole input is read, and has to be UTF-8; it is filled; the result is
 /// written. Before it is whole nothing is written: only an answer [`RunError::Output`] may have written a beginning.
-/// [`RunError::Edit`] is never answered.
+/// There are no edits, so [`RunError::Edit`] is never answered.
 pub fn run_fill<D: Read, I: Read, O: Write>(
     alloc: Global,
     lang: Language,
@@ -87,7 +89,9 @@ pub fn run_fill<D: Read, I: Read, O: Write>(
     ensures text { IfSome (I.remaining input.old) (λ text. JudgesText text result) }
     ensures written { OnOk result (IfSome (D.remaining dictionary.old) (λ bytes. IfSome (I.remaining input.old) (λ text.
         Appends (O.contents output.old) (O.contents output.new) (with_line_feeds (filled_by bytes columns text))))) }
-    ensures untouched { BeforeWriting result (Keeps (O.contents output.old) (O.contents output.new)) }
+    ensures untouched { BeforeWriting result (output.new ≡ output.old) }
+    ensures unread { BeforeReading result (input.new ≡ input.old) }
+    ensures edits { JudgesEdits Kind.Standard [] result }
     ensures kind { IfErr result HoldsNoWant }
 {
     let text = filled_input(alloc, lang, columns, dictionary, input)?;

@@ -10,8 +10,6 @@ use Rattle.pattern_files.specs.Groups.{GroupWord, groups, plain_words, pieces_of
 use Rattle.pattern_files.specs.Spelling.{word_cause, pattern_in, exception_in}
 use Rattle.pattern_files.specs.declared.fault.Cause.{Cause}
 use Rattle.pattern_files.specs.declared.fault.Cause.TheVariants.{Nothing}
-use Rattle.pattern_files.specs.declared.fault.LineFault.{LineFault}
-use Rattle.pattern_files.specs.declared.fault.LineFault.TheVariants.{NoMemory, OnLine}
 use Rattle.pattern_files.specs.declared.fault.Refusal.{Refusal}
 use Rattle.pattern_files.specs.declared.fault.Refusal.TheVariants.{Memory, Fault}
 use Rattle.pattern_files.specs.declared.group.Form.{Form}
@@ -28,6 +26,7 @@ abbrev pub words_of : Form → List ℕ → List GroupWord
 words_of Tex bytes = (groups (pieces_of bytes)).words
 words_of (Plain group) bytes = plain_words group (pieces_of bytes)
 
+-- What is wrong with a file's groups, if anything is: the line and the cause.
 abbrev pub group_fault : Form → List ℕ → Option (ℕ × Cause)
 group_fault Tex bytes = (groups (pieces_of bytes)).fault
 group_fault (Plain group) bytes = None
@@ -77,13 +76,6 @@ spelled_in payload_of listing_of (file ∷ files) =
     one_after_other (words_spelled payload_of listing_of (words_of file.form file.bytes.now))
     (spelled_in payload_of listing_of files)
 
--- A key with its entries more, and a word with its breaks more.
-abbrev pub with_key : {C B : Type 0} → Spelled C B → List ℕ × List (Entry C) → Spelled C B
-with_key now key = record { patterns = now.patterns ++ key ∷ []; exceptions = now.exceptions }
-
-abbrev pub with_word : {C B : Type 0} → Spelled C B → List ℕ × List B → Spelled C B
-with_word now word = record { patterns = now.patterns; exceptions = now.exceptions ++ word ∷ [] }
-
 -- The dictionary of what is spelled: of a key and of a word that stands several times, the last one counts.
 abbrev pub contents_made : {C B : Type 0} → List ℕ → ℕ → ℕ → Spelled C B → Contents C B
 contents_made language left right all = record {
@@ -100,11 +92,7 @@ abbrev pub contents_of_files : {C B : Type 0} → (Option Change → C) → (Bre
 contents_of_files payload_of listing_of language left right files =
     contents_made language left right (spelled_in payload_of listing_of files)
 
--- Want of memory, or that very fault.
-abbrev pub IsLineFault : LineFault → Option (ℕ × Cause) → Type 0
-IsLineFault NoMemory fault = Unit {0}
-IsLineFault (OnLine line cause) fault = fault ≡ Some (line, cause)
-
+-- Of files: want of memory, or that very fault.
 abbrev pub IsRefusalOf : Refusal → Option (ℕ × (ℕ × Cause)) → Type 0
 IsRefusalOf Memory fault = Unit {0}
 IsRefusalOf (Fault file line cause) fault = fault ≡ Some (file, (line, cause))

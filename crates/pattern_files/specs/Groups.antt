@@ -10,7 +10,6 @@ use Rattle.pattern_files.specs.declared.group.Group.{Group}
 use Rattle.pattern_files.specs.declared.group.Group.TheVariants.{Patterns, Exceptions}
 use Rattle.pattern_files.specs.declared.group.Place.{Place}
 use Rattle.pattern_files.specs.declared.group.Place.TheVariants.{Outside, Before, Within}
-use Rattle.pattern_files.specs.declared.group.Word.{Word}
 
 -- ---- The pieces of a file.
 
@@ -30,6 +29,7 @@ pub record Lexed : Type 0 where
   pub pieces : List Piece
   pub last : List ℕ
 
+-- Nothing is read yet.
 abbrev pub nothing_lexed : Lexed
 nothing_lexed = record { line = 1; in_comment = false; pieces = []; last = [] }
 
@@ -62,9 +62,6 @@ pub record GroupWord : Type 0 where
   pub group : Group
   pub text : List ℕ
 
-abbrev pub word_view : Word → GroupWord
-word_view word = record { line = word.line; group = word.group; text = word.text.items }
-
 -- The words of groups, where the next piece stands, whether the file has come to its end, and what is wrong with the
 -- groups.
 pub record Found : Type 0 where
@@ -73,6 +70,7 @@ pub record Found : Type 0 where
   pub at_end : Bool
   pub fault : Option (ℕ × Cause)
 
+-- Nothing is found yet, and the first piece stands outside of groups.
 abbrev pub nothing_found : Found
 nothing_found = record { words = []; place = Outside; at_end = false; fault = None }
 
@@ -110,14 +108,16 @@ closed_at Outside found = found
 closed_at (Before group) found = found
 closed_at (Within group opened) found = record found { fault = Some (opened, Unclosed) }
 
+-- The words of the groups in all pieces of a file, and what is wrong with the groups.
 abbrev pub groups : List Piece → Found
 groups pieces = let found = fold with_piece nothing_found pieces in closed_at found.place found
 
--- A plain file is the inside of one group.
+-- A word more, where the piece is not empty.
 abbrev pub with_plain : Group → List GroupWord → Piece → List GroupWord
 with_plain group words piece =
     if length piece.text == 0 then words
     else words ++ (record { line = piece.line; group = group; text = piece.text }) ∷ []
 
+-- A plain file is the inside of one group.
 abbrev pub plain_words : Group → List Piece → List GroupWord
 plain_words group pieces = fold (with_plain group) [] pieces

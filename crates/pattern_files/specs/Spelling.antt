@@ -1,6 +1,6 @@
 -- What a pattern, and a word with hyphens, spell in a file of patterns, and which of them spell nothing.
 -- Source: F. M. Liang, Word Hy-phen-a-tion by Com-put-er (1983); D. E. Knuth, The TeXbook, appendix H.
-use Rattle.std.specs.Prelude.{◌≡◌, ℕ, ◌+◌, ◌-◌, ◌==◌, ◌&&◌, ◌||◌, nat_le, nat_lt, Bool, true, false, not, if◌then◌else◌, List, [], ◌∷◌, ◌++◌, map, Option, Some, None}
+use Rattle.std.specs.Prelude.{ℕ, ◌+◌, ◌-◌, ◌==◌, ◌&&◌, ◌||◌, nat_le, nat_lt, Bool, true, false, not, if◌then◌else◌, List, [], ◌∷◌, ◌++◌, map, Option, Some, None}
 use Rattle.std.specs.Option.{option_or}
 use Rattle.std.specs.List.{list_any}
 use Rattle.std.specs.Str.{is_utf8}
@@ -11,8 +11,6 @@ use Rattle.hyphenation_commons.specs.Invariant.{has_letter, are_entries, are_lis
 use Rattle.hyphenation_commons.specs.declared.dictionary.Entry.{Entry}
 use Rattle.pattern_files.specs.declared.fault.Cause.{Cause}
 use Rattle.pattern_files.specs.declared.fault.Cause.TheVariants.{Command, EightBit, Sign, TwoInOnePlace, NoLetters, NotUtf8}
-use Rattle.pattern_files.specs.declared.fault.WordFault.{WordFault}
-use Rattle.pattern_files.specs.declared.fault.WordFault.TheVariants.{Memory, Fails}
 use Rattle.pattern_files.specs.declared.group.Group.{Group}
 use Rattle.pattern_files.specs.declared.group.Group.TheVariants.{Patterns, Exceptions}
 
@@ -21,10 +19,11 @@ abbrev pub letters : List ℕ → List ℕ
 letters [] = []
 letters (b ∷ bs) = if is_digit b then letters bs else b ∷ letters bs
 
--- The digits of a pattern other than 0, each with the number of letters before it, and at, counted in bytes.
+-- A digit other than 0 at its place; nothing of 0.
 abbrev pub value_of_digit : ℕ → ℕ → List (ℕ × ℕ)
 value_of_digit at digit = if digit == 48 then [] else (at, digit - 48) ∷ []
 
+-- The digits of a pattern other than 0, each with the number of letters before it, and at, counted in bytes.
 abbrev pub digit_values : ℕ → List ℕ → List (ℕ × ℕ)
 digit_values at [] = []
 digit_values at (b ∷ bs) = if is_digit b then value_of_digit at b ++ digit_values at bs else digit_values (at + 1) bs
@@ -39,10 +38,11 @@ abbrev pub hyphens_from : ℕ → List ℕ → List ℕ
 hyphens_from at [] = []
 hyphens_from at (b ∷ bs) = if b == 45 then at ∷ hyphens_from at bs else hyphens_from (at + 1) bs
 
--- The entries of a pattern, in a kind of dictionary that holds a change or none by payload_of.
+-- An entry without a change, in a kind of dictionary that holds a change or none by payload_of.
 abbrev pub entry_without_change : {C : Type 0} → (Option Change → C) → ℕ × ℕ → Entry C
 entry_without_change payload_of v = record { place = v.0; value = v.1; change = payload_of None }
 
+-- The entries of a pattern.
 abbrev pub entries_of_digits : {C : Type 0} → (Option Change → C) → List ℕ → List (Entry C)
 entries_of_digits payload_of text = map (entry_without_change payload_of) (digit_values 0 text)
 
@@ -55,11 +55,12 @@ breaks_of_hyphens listing_of text = map (λ place. listing_of (plain place)) (hy
 abbrev pub folded_text : List ℕ → List ℕ
 folded_text text = if is_utf8 text then fold text else text
 
--- What a word of each group spells, in small letters: a key with its entries, or a word with its breaks.
+-- What a word of a group of patterns spells, in small letters: a key with its entries.
 abbrev pub pattern_in : {C : Type 0} → (Option Change → C) → Group → List ℕ → Option (List ℕ × List (Entry C))
 pattern_in payload_of Patterns text = Some (letters (folded_text text), entries_of_digits payload_of (folded_text text))
 pattern_in payload_of Exceptions text = None
 
+-- What a word of a group of exceptions spells, in small letters: a word with its breaks.
 abbrev pub exception_in : {B : Type 0} → (Break → B) → Group → List ℕ → Option (List ℕ × List B)
 exception_in listing_of Patterns text = None
 exception_in listing_of Exceptions text =
@@ -67,13 +68,15 @@ exception_in listing_of Exceptions text =
 
 -- ---- What spells nothing.
 
--- A backslash or a brace; a circumflex.
+-- A backslash or a brace.
 abbrev pub is_command : ℕ → Bool
 is_command b = b == 92 || b == 123 || b == 125
 
+-- A circumflex.
 abbrev pub is_caret : ℕ → Bool
 is_caret b = b == 94
 
+-- A letter of ASCII.
 abbrev pub is_ascii_letter : ℕ → Bool
 is_ascii_letter b = (nat_le 65 b && nat_le b 90) || (nat_le 97 b && nat_le b 122)
 
@@ -98,6 +101,7 @@ two_in_one_place group after [] = false
 two_in_one_place group after (b ∷ bs) =
     (after && says_place group b) || two_in_one_place group (says_place group b) bs
 
+-- A pattern has a character other than dots and digits.
 abbrev pub spells_letters : Group → List ℕ → Bool
 spells_letters Patterns text = has_letter (letters text)
 spells_letters Exceptions text = true
@@ -113,7 +117,7 @@ keeps_characters Patterns text =
 keeps_characters Exceptions text =
     is_utf8 (unhyphenated text) && are_listed plain (unhyphenated text) (hyphens_from 0 text)
 
--- The first test that a word of a group fails: first those of its signs.
+-- The first test that the signs of a word of a group fail.
 abbrev pub sign_cause : Group → List ℕ → Option Cause
 sign_cause group text =
     if list_any is_command text then Some Command
@@ -121,15 +125,12 @@ sign_cause group text =
     else (if list_any (is_sign group) text then Some Sign
     else (if two_in_one_place group false text then Some TwoInOnePlace else None)))
 
+-- Then the first test that its letters fail.
 abbrev pub letter_cause : Group → List ℕ → Option Cause
 letter_cause group text =
     if not (spells_letters group text) then Some NoLetters
     else (if not (keeps_characters group text) then Some NotUtf8 else None)
 
+-- The first of all tests that a word of a group fails, its letters in small letters.
 abbrev pub word_cause : Group → List ℕ → Option Cause
 word_cause group text = option_or (sign_cause group text) (letter_cause group (folded_text text))
-
--- Want of memory, or that very test.
-abbrev pub IsWordFault : WordFault → Option Cause → Type 0
-IsWordFault Memory cause = Unit {0}
-IsWordFault (Fails c) cause = cause ≡ Some c

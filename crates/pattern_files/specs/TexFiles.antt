@@ -37,6 +37,7 @@ opening Exceptions = codes "\\hyphenation{"
 
 -- ---- Words and lines.
 
+-- How many line feeds a text has.
 abbrev pub line_feeds : List ℕ → ℕ
 line_feeds text = count_by (λ b. b == 10) text
 
@@ -46,6 +47,7 @@ line_words group number line =
     map (λ word. record { line = number; group = group; text = word })
     (filter (λ word. not (length word == 0)) (slice_split is_space line))
 
+-- The words of lines, of which the first has that number.
 abbrev pub words_from : Group → ℕ → List (List ℕ) → List GroupWord
 words_from group number [] = []
 words_from group number (line ∷ lines) = line_words group number line ++ words_from group (number + 1) lines
@@ -58,6 +60,7 @@ words_between group number text = words_from group number (slice_split (λ b. b 
 abbrev pub words_later : ℕ → List GroupWord → List GroupWord
 words_later lines words = map {A = GroupWord} (λ word. record word { line = lines + word.line }) words
 
+-- The same fault that many lines later.
 abbrev pub fault_later : ℕ → Option (ℕ × Cause) → Option (ℕ × Cause)
 fault_later lines fault = option_map (λ f. (lines + f.0, f.1)) fault
 
@@ -86,11 +89,12 @@ HasFaultOfRest = (group : Group) (before inside after : List ℕ) → IsOutside 
     → group_fault Tex (before ++ opening group ++ inside ++ codes "}" ++ after)
     ≡ fault_later (line_feeds before + line_feeds inside) (group_fault Tex after)
 
--- A file that is cut in a group has the words of what is there, and is faulty on the line on which the group begins.
+-- A file that is cut in a group has the words of what is there.
 abbrev pub HasWordsOfOpenGroup : Type 0
 HasWordsOfOpenGroup = (group : Group) (before inside : List ℕ) → IsOutside before → IsInside inside
     → words_of Tex (before ++ opening group ++ inside) ≡ words_between group (1 + line_feeds before) inside
 
+-- A file that is cut in a group is faulty on the line on which the group begins.
 abbrev pub HasFaultOfOpenGroup : Type 0
 HasFaultOfOpenGroup = (group : Group) (before inside : List ℕ) → IsOutside before → IsInside inside
     → group_fault Tex (before ++ opening group ++ inside) ≡ Some (1 + line_feeds before, Unclosed)

@@ -1,7 +1,8 @@
 //! TeX's files and plain ones, made into a dictionary.
 
 ghost use Rattle.std.specs.Prelude.{◌≡◌, IfOk, OnOk, IfErr, None};
-ghost use Rattle.pattern_files.specs.Converting.{words_spelled, one_after_other, spelled_in, file_fault, fault_from, contents_of_files, words_of, IsLineFault, IsRefusalOf};
+ghost use Rattle.pattern_files.specs.Converting.{words_spelled, one_after_other, spelled_in, file_fault, fault_from, contents_of_files, words_of, IsRefusalOf};
+ghost use Rattle.pattern_files.specs.Private.Read.{IsLineFault};
 
 use crate::fault::{Cause, LineFault, Refusal};
 use crate::group::{File, Form};

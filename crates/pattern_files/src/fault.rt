@@ -16,7 +16,7 @@ pub enum Cause {
     TwoInOnePlace,
     /// A pattern has no character other than dots and digits.
     NoLetters,
-    /// A pattern or an exception is not UTF-8.
+    /// A pattern or an exception is not UTF-8; of a `.dic` in UTF-8, what stands after its first line.
     NotUtf8,
     /// `\input`: the patterns are in another file.
     Input,
@@ -53,7 +53,7 @@ impl fmt::Display for Cause {
 
 /// Why a file gives nothing.
 #[derive(Clone, Copy, Debug, PartialEq, Eq)]
-pub enum LineFault {
+pub(crate) enum LineFault {
     /// Memory was refused.
     NoMemory,
     /// That line of it, counted from 1, is faulty.
@@ -73,7 +73,7 @@ impl From<AllocError> for LineFault {
 
 /// Why a word spells nothing.
 #[derive(Clone, Copy, Debug, PartialEq, Eq)]
-pub enum WordFault {
+pub(crate) enum WordFault {
     /// Memory was refused.
     Memory,
     /// The first test that it fails.

@@ -1,7 +1,8 @@
 //! Laws on the groups of TeX's files and on plain files, in the format's own words.
 //!
-//! A reader who doubts the definition in specs/Groups.antt needs only these: leave the comments out by the first law;
-//! the second tells the words of what is left group by group, and the others say how it ends.
+//! For a reader who doubts the definition in specs/Groups.antt: leave the comments out by the first law; the second
+//! tells the words of what is left group by group, and the others say how it ends. The few forms that no law speaks of
+//! are named in docs/DEFINITIONS.md.
 
 ghost use Rattle.std.specs.Prelude.{◌≡◌, List, ℕ, [], None};
 ghost use Rattle.pattern_files.specs.Converting.{words_of, group_fault};
@@ -17,14 +18,14 @@ pub fn comments_say_nothing()
     ensures last_fault { (form : Form) → IgnoresLastComment (group_fault form) }
 {}
 
-/// A TeX file has the words of its first group, which are those between white space, and then those of what is after
-/// that group, with their lines.
+/// A TeX file without comments has the words of its first group, which are those between white space where it holds
+/// neither a command nor a brace, and then those of what is after that group, with their lines.
 pub fn groups_are_read_in_order()
     ensures words { HasWordsOfFirstGroupAndRest }
     ensures fault { HasFaultOfRest }
 {}
 
-/// A TeX file without groups has no words, and nothing is wrong with its groups.
+/// A TeX file without comments, groups, `\input` and `\endinput` has no words, and nothing is wrong with its groups.
 pub fn nothing_is_read_outside_of_groups()
     ensures words { (text : List ℕ) → IsOutside text → words_of Tex text ≡ [] }
     ensures fault { (text : List ℕ) → IsOutside text → group_fault Tex text ≡ None }
@@ -42,7 +43,7 @@ pub fn the_end_is_the_end()
     ensures input { HasFaultOfInput }
 {}
 
-/// A plain file has the words between its white space.
+/// A plain file without a comment, a command and a brace has the words between its white space.
 pub fn plain_files_are_words()
     ensures words { HasWordsBetween }
 {}

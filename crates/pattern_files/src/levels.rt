@@ -108,6 +108,7 @@ pub(crate) struct Levels {
 }
 
 impl Levels {
+    /// No patterns yet; whether changes are taken.
     pub(crate) fn new(alloc: Global, changes: bool) -> Levels {
         Levels {
             changes,
@@ -118,10 +119,12 @@ impl Levels {
         }
     }
 
+    /// Whether there is no pattern.
     pub(crate) fn is_empty(&self) -> bool {
         self.patterns.is_empty()
     }
 
+    /// Notes something of a line.
     pub(crate) fn note(&mut self, what: What, line: usize) -> Result<(), AllocError> {
         add_note(&mut self.notes, what, Spot { file: 0, line })
     }
@@ -150,6 +153,7 @@ impl Levels {
         }
     }
 
+    /// Takes in a pattern with its change, or notes why it is left out.
     fn take_change(
         &mut self,
         alloc: Global,

@@ -16,8 +16,8 @@
 //! [`convert::convert`] takes TeX's files and plain ones, and its contract says which dictionary they give;
 //! [`libreoffice::convert_dic`] takes a `.dic`. The modules, from the bottom up: [`fault`] says why files give nothing,
 //! [`notes`] what there is to tell where they give a dictionary; [`group`] has files, their groups and their words;
-//! [`spelling`] reads one word; [`parts`] gathers what words spell; [`tex`] reads files into words, and [`laws`] say in
-//! the format's own words which; [`told`] has what TeX's files say of themselves, and what there is to note of them.
+//! `spelling` reads one word; `parts` gathers what words spell; `tex` reads files into words, and [`laws`] say in the
+//! format's own words which; [`told`] has what TeX's files say of themselves, and what there is to note of them.
 #![tactic(auto)]
 
 mod change;
@@ -29,7 +29,7 @@ pub mod laws;
 mod levels;
 pub mod libreoffice;
 pub mod notes;
-pub mod parts;
-pub mod spelling;
-pub mod tex;
+mod parts;
+mod spelling;
+mod tex;
 pub mod told;

@@ -28,6 +28,7 @@ enum Line<'a> {
     Pattern(&'a str),
 }
 
+/// What a line is.
 fn line_of(line: &str) -> Line<'_> {
     let line = line.trim_end();
     if line.is_empty() || line.starts_with('%') || line.starts_with('#') {
@@ -126,6 +127,7 @@ fn take(alloc: Global, levels: &mut Levels, bytes: &[u8]) -> Result<(), LineFaul
     Ok(())
 }
 
+/// The fault of the only file, which has the number 0.
 fn refusal_of(fault: LineFault) -> Refusal
     ensures { IsOfFile 0 result }
 {
@@ -151,8 +153,9 @@ fn minimum(given: Option<u8>, told: Option<u8>) -> u8
 
 /// Makes a dictionary of a `.dic`. Minima that are not given are those of the file, or 2, as LibreOffice has it.
 ///
-/// Patterns with changes are taken where `changes` says so, else left out, which is noted. The refusal names the first
-/// fault: the line and the cause.
+/// Patterns with changes are taken where `changes` says so, else left out, which is noted. It is to say so for extended
+/// dictionaries alone: a standard one would hold such a pattern without its change. The refusal names the first fault:
+/// the line and the cause.
 pub fn convert_dic<C: Payload, B: Listing>(
     alloc: Global,
     language: Language,

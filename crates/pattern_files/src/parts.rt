@@ -1,12 +1,12 @@
 //! What words spell, gathered: keys with their entries, words with their breaks.
 
-ghost use Rattle.std.specs.Prelude.{◌≡◌, [], ◌∷◌, ◌++◌, IfOk, OnOk, IfErr, IsTrue, None, map};
+ghost use Rattle.std.specs.Prelude.{◌≡◌, [], ◌∷◌, ◌++◌, IfOk, OnOk, OnErr, IfErr, IsTrue, None, map};
 ghost use Rattle.std.specs.String.{string_bytes};
 ghost use Rattle.hyphenation_commons.specs.Invariant.{are_listed};
 ghost use Rattle.hyphenation_commons.specs.Maker.{fits_key};
-ghost use Rattle.pattern_files.specs.Converting.{words_spelled, one_after_other, with_key, with_word, contents_made, first_fault, IsLineFault};
-ghost use Rattle.pattern_files.specs.Groups.{word_view};
-ghost use Rattle.pattern_files.specs.Spelling.{word_cause, IsWordFault};
+ghost use Rattle.pattern_files.specs.Converting.{words_spelled, one_after_other, contents_made, first_fault};
+ghost use Rattle.pattern_files.specs.Private.Read.{word_view, IsWordFault, with_key, with_word, IsLineFault};
+ghost use Rattle.pattern_files.specs.Spelling.{word_cause};
 
 use crate::fault::{LineFault, WordFault};
 use crate::group::{Group, Word};
@@ -55,19 +55,23 @@ impl<C: Payload, B: Listing> Parts<C, B> {
         }
     }
 
-    /// Takes in a key with its entries. The caller owes that the key may have them.
+    /// Takes in a key with its entries. The caller owes that the key may have them. The only error is memory, and then
+    /// nothing has changed.
     pub fn push_pattern(&mut self, key: String, entries: Vec<Entry<C>>) -> Result<(), AllocError>
         requires { IsTrue (fits_key C.change_of (string_bytes key) entries.items) }
-        ensures { OnOk result (self.new ≡ with_key self.old (string_bytes key, entries.items)) }
+        ensures taken { OnOk result (self.new ≡ with_key self.old (string_bytes key, entries.items)) }
+        ensures err { OnErr result (self.new ≡ self.old) }
     {
         self.patterns.push((key, entries))?;
         Ok(())
     }
 
-    /// Takes in a word with its breaks. The caller owes that they fit the word.
+    /// Takes in a word with its breaks. The caller owes that they may be listed for the word. The only error is memory,
+    /// and then nothing has changed.
     pub fn push_exception(&mut self, word: String, listed: Vec<B>) -> Result<(), AllocError>
         requires { IsTrue (are_listed B.meaning (string_bytes word) listed.items) }
-        ensures { OnOk result (self.new ≡ with_word self.old (string_bytes word, listed.items)) }
+        ensures taken { OnOk result (self.new ≡ with_word self.old (string_bytes word, listed.items)) }
+        ensures err { OnErr result (self.new ≡ self.old) }
     {
         self.exceptions.push((word, listed))?;
         Ok(())
@@ -107,7 +111,8 @@ impl<C: Payload, B: Listing> Parts<C, B> {
         Ok(())
     }
 
-    /// Takes in what words spell, up to the first that spells nothing.
+    /// Takes in what words spell; of the first that spells nothing, its line and the test that it fails. After an error
+    /// it is not said what was taken in.
     pub fn take_words(&mut self, alloc: Global, words: &[Word]) -> Result<(), LineFault>
         ensures good { OnOk result (first_fault (map word_view words.now) ≡ None) }
         ensures taken { OnOk result (self.new ≡ one_after_other self.old

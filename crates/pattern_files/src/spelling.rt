@@ -7,7 +7,8 @@ ghost use Rattle.std.specs.String.{string_bytes};
 ghost use Rattle.hyphenation.specs.Folding.{fold};
 ghost use Rattle.hyphenation_commons.specs.Invariant.{has_letter, are_listed};
 ghost use Rattle.hyphenation_commons.specs.Maker.{pair_of, fits_key};
-ghost use Rattle.pattern_files.specs.Spelling.{value_of_digit, entry_without_change, folded_text, letter_cause, letters, entries_of_digits, unhyphenated, breaks_of_hyphens, pattern_in, exception_in, is_command, is_caret, is_sign, says_place, two_in_one_place, sign_cause, word_cause, IsWordFault};
+ghost use Rattle.pattern_files.specs.Spelling.{value_of_digit, entry_without_change, folded_text, letter_cause, letters, entries_of_digits, unhyphenated, breaks_of_hyphens, pattern_in, exception_in, is_command, is_caret, is_sign, says_place, two_in_one_place, sign_cause, word_cause};
+ghost use Rattle.pattern_files.specs.Private.Read.{IsWordFault};
 ghost use Rattle.dictionary_text.specs.Lines.{is_digit};
 ghost use Rattle.pattern_files.specs.declared.group.Group.TheVariants.{Patterns, Exceptions};
 

@@ -3,9 +3,9 @@
 ghost use Rattle.std.specs.Prelude.{◌≡◌, ◌+◌, ◌<◌, ◌^◌, IfOk, OnOk, map, fold};
 ghost use Rattle.dictionary_text.specs.Lines.{same};
 ghost use Rattle.pattern_files.specs.Converting.{words_of, group_fault};
-ghost use Rattle.pattern_files.specs.Groups.{is_space, with_piece_outside, closed_at, with_read_byte, with_piece_ended, with_byte, pieces_of, place_after, with_piece, with_plain, nothing_found, nothing_lexed, groups, plain_words, word_view};
+ghost use Rattle.pattern_files.specs.Groups.{is_space, with_piece_outside, closed_at, with_read_byte, with_piece_ended, with_byte, pieces_of, place_after, with_piece, with_plain, nothing_found, nothing_lexed, groups, plain_words};
 ghost use Rattle.dictionary_text.specs.Tokens.{is_brace};
-ghost use Rattle.pattern_files.specs.Private.Read.{piece_view, lexer_view, scan_view};
+ghost use Rattle.pattern_files.specs.Private.Read.{piece_view, lexer_view, scan_view, word_view};
 
 use crate::fault::Cause;
 use crate::group::{Form, Group, Place, Word};
@@ -43,6 +43,7 @@ struct Lexer {
 }
 
 impl Lexer {
+    /// Nothing is read yet.
     fn new(alloc: Global) -> Lexer
         ensures { lexer_view result ≡ nothing_lexed }
     {
@@ -145,6 +146,7 @@ fn place_after(piece: &[u8]) -> Place
 }
 
 impl Scan {
+    /// Nothing is found yet.
     fn new(alloc: Global) -> Scan
         ensures { scan_view result ≡ nothing_found }
     {

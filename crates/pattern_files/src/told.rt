@@ -72,7 +72,8 @@ fn minima_of(bytes: &[u8]) -> Minima {
     minima
 }
 
-/// The minima that are given, or else those that the first file tells that tells any; none where one is wanting.
+/// Each minimum that is given, or else that of the first file that tells it; none where one of the two is neither given
+/// nor told.
 pub fn minima_for(left: Option<u8>, right: Option<u8>, files: &[File<'_>]) -> Option<(u8, u8)>
     ensures given { IsSome left → IsSome right → IsSome result }
     ensures first { IfSome result (λ minima. IfSome left (λ given. minima.0 ≡ given)) }
@@ -111,6 +112,7 @@ struct Met {
 }
 
 impl Met {
+    /// Notes a pattern without values, and one whose key was met before.
     fn note_pattern(&mut self, letters: Vec<u8>, len: usize, at: Spot) -> Result<(), AllocError> {
         if letters.len() == len {
             add_note(&mut self.notes, What::NoValue, at)?;
@@ -121,6 +123,7 @@ impl Met {
         Ok(())
     }
 
+    /// Notes an exception that was met before.
     fn note_exception(&mut self, letters: Vec<u8>, at: Spot) -> Result<(), AllocError> {
         if self.words.insert(letters, ())?.is_some() {
             add_note(&mut self.notes, What::ExceptionRepeated, at)?;
@@ -128,6 +131,7 @@ impl Met {
         Ok(())
     }
 
+    /// Notes what there is to note of a word of a group.
     fn note_word(&mut self, alloc: Global, word: &Word, at: Spot) -> Result<(), AllocError> {
         let folded = folded(alloc, &word.text)?;
         if folded.as_slice() != word.text.as_slice() {
@@ -140,6 +144,7 @@ impl Met {
         }
     }
 
+    /// Notes what there is to note of the words of a file, by its number from 0.
     fn note_file(
         &mut self,
         alloc: Global,

@@ -5,7 +5,8 @@ ghost use Rattle.std.specs.List.{concat};
 ghost use Rattle.std.specs.String.{string_bytes};
 ghost use Rattle.hyphenation_commons.specs.Break.{plain};
 ghost use Rattle.hyphenation_segments.specs.Fits.{Fits};
-ghost use Rattle.hyphenation_segments.specs.Segments.{segments, marked_segments, with_marks};
+ghost use Rattle.hyphenation_segments.specs.Segments.{segments, marked_segments};
+ghost use Rattle.hyphenation_segments.specs.Laws.{with_marks};
 
 use answers::{gives, holds};
 use hyphenation::Iter;

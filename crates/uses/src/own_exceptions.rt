@@ -1,11 +1,12 @@
 //! A dictionary with a word that its user adds, kept as a text.
 
-ghost use Rattle.std.specs.Prelude.{◌≡◌, IfOk, IsTrue, not};
+ghost use Rattle.std.specs.Prelude.{◌≡◌, ◌⊎◌, IfErr, IfOk, IsOk, IsTrue, OnErr, not};
 ghost use Rattle.std.specs.FinMap as finite;
-ghost use Rattle.std.specs.Io.KnownBytes.{Appends, Keeps};
+ghost use Rattle.std.specs.Io.KnownBytes.{Appends};
 ghost use Rattle.hyphenation_commons.specs.Break.{plain};
 ghost use Rattle.dictionary_text.specs.Canonical.{standard_text};
 ghost use Rattle.hyphenation_commons.specs.Invariant.{are_listed};
+ghost use Rattle.hyphenation.specs.Load.{IfMemory, IsOfWriting};
 
 use hyphenation::load::{Error, Result};
 use hyphenation::{Load, Standard};
@@ -15,7 +16,8 @@ use std::io::Write;
 /// Lists the places at which a word is to be broken, and writes the dictionary that has them. Whether they may be
 /// listed: where not, nothing is written and nothing has changed.
 ///
-/// The errors are those of [`Load::to_writer`], and that memory for the word was refused.
+/// The errors are those of [`Load::to_writer`], and that memory for the word was refused. After an error the word may
+/// be listed; after `Error::IO` a beginning of the text may have gone out, after `Error::Memory` nothing has.
 pub fn list_and_write<W: Write>(
     alloc: Global,
     dictionary: &mut Standard,
@@ -31,8 +33,12 @@ pub fn list_and_write<W: Write>(
     ensures written { IfOk result (λ good.
         IsTrue good → Appends (W.contents writer.old) (W.contents writer.new) (standard_text dictionary.new)) }
     ensures refused { IfOk result (λ good. IsTrue (not good) → dictionary.new ≡ dictionary.old) }
-    ensures unwritten { IfOk result (λ good.
-        IsTrue (not good) → Keeps (W.contents writer.old) (W.contents writer.new)) }
+    ensures unwritten { IfOk result (λ good. IsTrue (not good) → writer.new ≡ writer.old) }
+    ensures told { IsTrue (not (are_listed plain word.now places.items)) → IsOk result }
+    ensures err { OnErr result ((dictionary.new ≡ dictionary.old) ⊎ (dictionary.new
+        ≡ record dictionary.old { exceptions = finite.insert dictionary.old.exceptions word.now places.items })) }
+    ensures untouched { IfMemory result (writer.new ≡ writer.old) }
+    ensures kind { IfErr result IsOfWriting }
 {
     if !Standard::fits(word, &places) {
         return Ok(false);

@@ -13,7 +13,7 @@ use std::alloc::{AllocError, Global};
 use unicode_segmentation::UnicodeSegmentation;
 
 /// Appends a piece of a text, as [`with_soft_hyphens`] has it.
-fn push_piece<'h, H: Hyphenator<'h>>(
+fn push_piece<'h, H: Hyphenator<'h, Opportunity = usize>>(
     page: &mut String,
     dictionary: &'h H,
     piece: &str,
@@ -30,8 +30,10 @@ fn push_piece<'h, H: Hyphenator<'h>>(
 
 /// A text with U+00AD at each break of its words. A word that has soft hyphens already stays as its writer left it.
 ///
+/// It asks for breaks that change nothing: a break that changes letters would change them also where no line ends.
+///
 /// The only error is that memory was refused.
-pub fn with_soft_hyphens<'h, H: Hyphenator<'h>>(
+pub fn with_soft_hyphens<'h, H: Hyphenator<'h, Opportunity = usize>>(
     alloc: Global,
     dictionary: &'h H,
     text: &str,

@@ -5,7 +5,7 @@ use Rattle.std.specs.FinMap as finite
 use Rattle.std.specs.String.{string_bytes}
 use Rattle.hyphenation_commons.specs.Parts.{patterns_of}
 use Rattle.dictionary_text.specs.Reading.{SpeltItems}
-use Rattle.dictionary_text.specs.Judging.{fault_after, is_item}
+use Rattle.dictionary_text.specs.Judging.{fault_after, is_item_line}
 use Rattle.std.specs.List.{list_all}
 use Rattle.dictionary_text.specs.Lines.{language_of, minima_of}
 use Rattle.dictionary_text.specs.declared.form.Form.{Form}
@@ -40,7 +40,7 @@ repeated_by s (Exception word listed) =
 
 -- The lines spell no item.
 abbrev pub are_idle : List (List ℕ) → Bool
-are_idle lines = list_all (λ line. not (is_item line)) lines
+are_idle lines = list_all (λ line. not (is_item_line line)) lines
 
 -- The lines begin with three good head lines, which spell no item; the second and the third say these.
 pub record HasHead (form : Form) (lines : List (List ℕ)) (language : List ℕ) (minima : ℕ × ℕ) : Type 0 where

@@ -6,7 +6,7 @@ ghost use Rattle.std.specs.String.{string_bytes};
 ghost use Rattle.hyphenation_commons.specs.Break.{Break};
 ghost use Rattle.dictionary_text.specs.Edits.{is_good_edit};
 ghost use Rattle.dictionary_text.specs.Judging.{refusal_of};
-ghost use Rattle.hyphenation.specs.Engine.{IsOfInput, IsOfText, JudgesDictionary, JudgesEdits, JudgesText, HoldsNoWant, language_in};
+ghost use Rattle.hyphenation.specs.Engine.{BeforeReading, IsOfInput, IsOfText, JudgesDictionary, JudgesEdits, JudgesText, HoldsNoWant, language_in};
 ghost use Rattle.hyphenation.specs.Private.Engine.{IsOfEdits, IsUnwritten};
 ghost use Rattle.hyphenation.specs.Hyphenated.{hyphenated_text};
 ghost use Rattle.hyphenation.specs.Load.{ReadsIn, IsNoWant};
@@ -190,6 +190,7 @@ pub(super) fn whole_text<K: WholeTexts, D: Read, I: Read>(
         ≡ hyphenated_text
         (K.breaks_of (fold K.edited (K.contents bytes) (map (λ edit. edit.now) edits.now))) mark.now text))) }
     ensures unwritten { IfErr result IsUnwritten }
+    ensures unread { BeforeReading result (input.new ≡ input.old) }
     ensures kind { IfErr result HoldsNoWant }
 {
     let mut dictionary = K::load(alloc, lang, reader)?;

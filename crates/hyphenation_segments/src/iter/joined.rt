@@ -1,6 +1,7 @@
 //! The marked segments of a word, joined after a text, with no text of their own.
 
 ghost use Rattle.std.specs.Prelude.{◌≡◌, ◌++◌, map, slice_range, IfOk, OnOk};
+ghost use Rattle.std.specs.Io.{StartsWith};
 ghost use Rattle.std.specs.Str.{IsCharBoundary};
 ghost use Rattle.std.specs.String.{string_bytes};
 ghost use Rattle.hyphenation_commons.specs.Break.{begin_of, end_of, before_of, after_of};
@@ -26,6 +27,7 @@ fn push_break<B: Break>(
         (begin_of (B.meaning b.now)) ++ before_of (B.meaning b.now).change ++ mark.now ++ after_of (B.meaning
         b.now).change) }
     ensures end { IfOk result (λ end. end ≡ end_of (B.meaning b.now)) }
+    ensures front { StartsWith (string_bytes output.new) (string_bytes output.old) }
 {
     let (begin, end) = b.range().unwrap();
     output.push_str(&text[start..begin])?;
@@ -43,8 +45,9 @@ fn push_segments<B: Break>(
     mark: &str,
 ) -> Result<(), AllocError>
     requires { Fits text.now (map B.meaning breaks.now) }
-    ensures { OnOk result (string_bytes output.new ≡ string_bytes output.old ++ marked_word mark.now text.now
+    ensures appended { OnOk result (string_bytes output.new ≡ string_bytes output.old ++ marked_word mark.now text.now
         (map B.meaning breaks.now)) }
+    ensures front { StartsWith (string_bytes output.new) (string_bytes output.old) }
 {
     let mut start = 0;
     for b in breaks {
@@ -55,14 +58,16 @@ fn push_segments<B: Break>(
 
 /// Appends the segments of a word, each but the last with the mark after it.
 ///
-/// The only error is memory, and then a beginning of them may stand after the text.
+/// What is in the `String` before stays in front. The only error is memory, and then a beginning of them may stand after
+/// it.
 pub fn push_marked<B: Break>(
     output: &mut String,
     word: &Word<'_, B>,
     mark: &str,
 ) -> Result<(), AllocError>
-    ensures { OnOk result (string_bytes output.new ≡ string_bytes output.old ++ marked_word mark.now word.now.text.now
-        (map B.meaning word.now.breaks.items)) }
+    ensures appended { OnOk result (string_bytes output.new ≡ string_bytes output.old ++ marked_word
+        mark.now word.now.text.now (map B.meaning word.now.breaks.items)) }
+    ensures front { StartsWith (string_bytes output.new) (string_bytes output.old) }
 {
     push_segments(output, word.text, &word.breaks, mark)
 }

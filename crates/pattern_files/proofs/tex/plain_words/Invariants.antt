@@ -1,6 +1,6 @@
 use Rattle.std.proofs.Common.{◌≡◌, fold, drop, map, []}
-use Rattle.pattern_files.specs.Groups.{with_plain, word_view}
-use Rattle.pattern_files.specs.Private.Read.{piece_view}
+use Rattle.pattern_files.specs.Groups.{with_plain}
+use Rattle.pattern_files.specs.Private.Read.{piece_view, word_view}
 use Rattle.pattern_files.proofs.tex.plain_words.Given as goal
 
 abbrev pub invariant-loop-piece : goal.invariant-loop-piece

@@ -1,6 +1,6 @@
 use Rattle.std.proofs.Common.{◌≡◌, map, drop}
 use Rattle.pattern_files.specs.Converting.{words_spelled, one_after_other, first_fault}
-use Rattle.pattern_files.specs.Groups.{word_view}
+use Rattle.pattern_files.specs.Private.Read.{word_view}
 use Rattle.pattern_files.proofs.parts.Parts.take_words.Given as goal
 
 abbrev pub invariant-loop-word : goal.invariant-loop-word
