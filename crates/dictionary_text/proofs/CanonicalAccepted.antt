@@ -14,7 +14,7 @@ use Rattle.std.proofs.lemmas.List.Elements.{filter_map-append}
 use Rattle.std.proofs.lemmas.Bool.Decides.{nat_tests}
 use Rattle.hyphenation_commons.specs.Dictionary.{TextMap}
 use Rattle.dictionary_text.specs.Judging.{own_cause, repetition, stands_in, fault_after, missing_head}
-use Rattle.dictionary_text.specs.Lines.{same}
+use Rattle.dictionary_text.specs.Lines.{is_same}
 use Rattle.dictionary_text.specs.Reading.{map_of_lines}
 use Rattle.dictionary_text.specs.declared.Cause.{Cause}
 use Rattle.dictionary_text.specs.declared.form.Form.{Form}
@@ -109,9 +109,9 @@ module _ (form : Form) where
     new-more earlier l q v [] says s new = tt
     new-more earlier l q v (x ∷ xs) says s new =
         let p = pick (is_lt (slice_cmp nat_cmp q x.0)) _ _ _ s in
-        let apart : same q x.0 ≡ false = texts_ties q x.0 ∙ less_off (slice_cmp nat_cmp q x.0) p.0 in (
-          list_any-append (λ other. option_map_or (λ t. same t x.0) (spells other) false) earlier (l ∷ [])
-              ∙ ap (λ (o : Option (List ℕ)). stands_in spells earlier x.0 || (option_map_or (λ t. same t x.0) o false || false)) says
+        let apart : is_same q x.0 ≡ false = texts_ties q x.0 ∙ less_off (slice_cmp nat_cmp q x.0) p.0 in (
+          list_any-append (λ other. option_map_or (λ t. is_same t x.0) (spells other) false) earlier (l ∷ [])
+              ∙ ap (λ (o : Option (List ℕ)). stands_in spells earlier x.0 || (option_map_or (λ t. is_same t x.0) o false || false)) says
               ∙ ap (λ (t : Bool). stands_in spells earlier x.0 || (t || false)) apart ∙ ap (λ (t : Bool). t || false) new.0,
           new-more earlier l q v xs says p.1 new.1,
         )
@@ -132,7 +132,7 @@ module _ (form : Form) where
 
     none-stand : (ls : List (List ℕ)) (q : List ℕ) → AllSilent ls → stands_in spells ls q ≡ false
     none-stand [] q h = refl
-    none-stand (l ∷ ls) q h = ap (λ (o : Option (List ℕ)). option_map_or (λ t. same t q) o false || stands_in spells ls q) h.0 ∙ none-stand ls q h.1
+    none-stand (l ∷ ls) q h = ap (λ (o : Option (List ℕ)). option_map_or (λ t. is_same t q) o false || stands_in spells ls q) h.0 ∙ none-stand ls q h.1
 
     pub all-new : (ls : List (List ℕ)) (xs : List (List ℕ × X)) → AllSilent ls → AllNew ls xs
     all-new ls [] h = tt

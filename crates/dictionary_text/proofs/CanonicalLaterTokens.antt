@@ -15,8 +15,8 @@ use Rattle.dictionary_text.specs.declared.form.Kind.{Kind}
 use Rattle.dictionary_text.specs.Items.{break_of_token}
 use Rattle.dictionary_text.specs.Judging.{is_good_later_token, is_extended, has_value_at}
 use Rattle.hyphenation_commons.specs.Invariant.{fits_usize, can_be_said, can_be_said_if_any, stays_within}
-use Rattle.dictionary_text.specs.Lines.{is_number, number, same}
-use Rattle.dictionary_text.specs.Tokens.{escaped_bytes_of, text_spelt, parts_within, parts_of, put_byte, has_comma, numerals_of, is_readable, place_of, change_of, is_whole, bytes_of}
+use Rattle.dictionary_text.specs.Lines.{is_number, number, is_same}
+use Rattle.dictionary_text.specs.Tokens.{escaped_bytes_of, text_spelt, parts_within, parts_of, put_byte, has_comma, numerals_of, is_readable, place_of_token, change_of_token, is_whole, bytes_of}
 use Rattle.dictionary_text.specs.Canonical.{byte_spelling, text_token, before_comma, break_token}
 use Rattle.dictionary_text.specs.declared.tokens.Escapes.TheVariants.{Plain}
 use Rattle.dictionary_text.specs.declared.tokens.PatternElement.{PatternElement}
@@ -30,11 +30,11 @@ use Rattle.dictionary_text.proofs.CanonicalTokens.{reads_text, digits-signs}
 -- ---- Texts.
 
 -- the token of a text with letters is not that of the empty one
-not_empty : (b : ℕ) (rest : List ℕ) → same (byte_spelling Plain b ++ rest) (92 ∷ 101 ∷ []) ≡ false
+not_empty : (b : ℕ) (rest : List ℕ) → is_same (byte_spelling Plain b ++ rest) (92 ∷ 101 ∷ []) ≡ false
 not_empty b rest = by (eqb b 92) (eqb b 32) (eqb b 10) (eqb b 13) refl
   where
     by : (t1 t2 t3 t4 : Bool) → eqb b 92 ≡ t1
-        → same (cond t1 (92 ∷ 92 ∷ []) (cond t2 (92 ∷ 115 ∷ []) (cond t3 (92 ∷ 110 ∷ []) (cond t4 (92 ∷ 114 ∷ []) (b ∷ [])))) ++ rest) (92 ∷ 101 ∷ []) ≡ false
+        → is_same (cond t1 (92 ∷ 92 ∷ []) (cond t2 (92 ∷ 115 ∷ []) (cond t3 (92 ∷ 110 ∷ []) (cond t4 (92 ∷ 114 ∷ []) (b ∷ [])))) ++ rest) (92 ∷ 101 ∷ []) ≡ false
     by true t2 t3 t4 e = refl
     by false true t3 t4 e = refl
     by false false true t4 e = refl
@@ -121,7 +121,7 @@ tells_place place h =
           (ap (λ (ps : List (List ℕ)). list_all (λ w. is_some (escaped_bytes_of Plain w)) (take 4 ps)) e ∙ and_from (is_some (escaped_bytes_of Plain (decimal place))) true (number-signs place h) refl))
           (ap (λ (ps : List (List ℕ)). list_all (λ w. is_some (text_spelt w)) (drop 4 ps)) e);
       numbers = ap (λ (ps : List (List ℕ)). list_all is_number (cond (nat_lt 1 (length ps)) (take (length ps - 1) ps) ps)) e ∙ and_from (is_number (decimal place)) true n.0 refl;
-      listed = ap (λ (ps : List (List ℕ)). record { place = number (get_or ps 0 []); change = cond {A = Option Change} (nat_lt 1 (length ps)) (Some (change_of (decimal place))) None }) e ∙ (λ i. record { place = n.1 i; change = None });
+      listed = ap (λ (ps : List (List ℕ)). record { place = number (get_or ps 0 []); change = cond {A = Option Change} (nat_lt 1 (length ps)) (Some (change_of_token (decimal place))) None }) e ∙ (λ i. record { place = n.1 i; change = None });
       comma = ap (λ (ps : List (List ℕ)). nat_lt 1 (length ps)) e;
       whole = λ some. absurd cc;
       utf8 = decimal-utf8 place h;
@@ -187,18 +187,18 @@ module _ (form : Form) (in_pattern : Bool) (marks : List PatternElement) (text :
   pub good : (token : List ℕ) (place : ℕ) (change : Option Change) → Tells token (record { place = place; change = change }) → is_allowed form.kind change ≡ true → stays_within text place change ≡ true
       → (in_pattern ≡ true → (is_some change ≡ true) × (has_value_at marks place ≡ true)) → is_good_later_token form in_pattern marks text token ≡ true
   good token place None tells w stays belongs =
-      ap (λ (t : Bool). cond t (is_extended form.kind && is_whole token && keeps_within text (place_of token) (change_of token) && (not in_pattern || has_value_at marks (place_of token))) (not in_pattern)) tells.comma
+      ap (λ (t : Bool). cond t (is_extended form.kind && is_whole token && keeps_within text (place_of_token token) (change_of_token token) && (not in_pattern || has_value_at marks (place_of_token token))) (not in_pattern)) tells.comma
       ∙ off in_pattern (λ e. (belongs e).0)
     where
       off : (t : Bool) → (t ≡ true → false ≡ true) → not t ≡ true
       off true h = h refl
       off false h = refl
   good token place (Some c) tells w stays belongs =
-      let at : place_of token ≡ place = ap (λ (b : Break). b.place) tells.listed in
-      let says : Some (change_of token) ≡ Some c = sym (ap (λ (t : Bool). cond {A = Option Change} t (Some (change_of token)) None) tells.comma) ∙ ap (λ (b : Break). b.change) tells.listed in
-      let is : change_of token ≡ c = cc in
-      ap (λ (t : Bool). cond t (is_extended form.kind && is_whole token && keeps_within text (place_of token) (change_of token) && (not in_pattern || has_value_at marks (place_of token))) (not in_pattern)) tells.comma
-      ∙ ap (λ (p : ℕ). is_extended form.kind && is_whole token && keeps_within text p (change_of token) && (not in_pattern || has_value_at marks p)) at
+      let at : place_of_token token ≡ place = ap (λ (b : Break). b.place) tells.listed in
+      let says : Some (change_of_token token) ≡ Some c = sym (ap (λ (t : Bool). cond {A = Option Change} t (Some (change_of_token token)) None) tells.comma) ∙ ap (λ (b : Break). b.change) tells.listed in
+      let is : change_of_token token ≡ c = cc in
+      ap (λ (t : Bool). cond t (is_extended form.kind && is_whole token && keeps_within text (place_of_token token) (change_of_token token) && (not in_pattern || has_value_at marks (place_of_token token))) (not in_pattern)) tells.comma
+      ∙ ap (λ (p : ℕ). is_extended form.kind && is_whole token && keeps_within text p (change_of_token token) && (not in_pattern || has_value_at marks p)) at
       ∙ ap (λ (ch : Change). is_extended form.kind && is_whole token && keeps_within text place ch && (not in_pattern || has_value_at marks place)) is
       ∙ all (is_extended form.kind) (is_whole token) (keeps_within text place c) (has_value_at marks place) in_pattern
       w (tells.whole refl) (both_right (fits_usize place && can_be_said c) (keeps_within text place c) stays) (λ e. (belongs e).1)

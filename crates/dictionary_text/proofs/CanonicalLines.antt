@@ -17,7 +17,7 @@ use Rattle.dictionary_text.specs.Items.{break_of_token, change_at, pattern_of_li
 use Rattle.dictionary_text.specs.Judging.{is_good_later_token, has_value_at, fails, own_cause, is_known}
 use Rattle.hyphenation_commons.specs.Invariant.{fits_usize, can_be_said, can_be_said_if_any, stays_within, lists_within, is_value, are_entries, are_listed, has_letter}
 use Rattle.dictionary_text.specs.Lines.{is_number}
-use Rattle.dictionary_text.specs.Tokens.{elements_of, pattern_bytes, text_spelt, key_of, values_from, two_values, numerals_of, is_readable, place_of}
+use Rattle.dictionary_text.specs.Tokens.{elements_of, pattern_bytes, text_spelt, key_of, values_from, two_values, numerals_of, is_readable, place_of_token}
 use Rattle.dictionary_text.specs.Canonical.{elements_for, pattern_token, text_token, break_token, later_tokens, onto_changes, changes_of, pattern_line, exception_line}
 use Rattle.hyphenation_commons.specs.declared.dictionary.Entry.{Entry}
 use Rattle.dictionary_text.specs.declared.Cause.{Cause}
@@ -103,7 +103,7 @@ module _ (form : Form) where
   feed_each [] w = tt
   feed_each (b ∷ bs) w = free-append 10 (32 ∷ token_of b) (later_tokens bs) (refl, (tell b (first_of b bs w)).free 10 feed) (feed_each bs (rest_of b bs w))
 
-  pub places_each : (bs : List Break) → list_all (is_sayable form.kind) bs ≡ true → map place_of (tokens_for bs) ≡ map (λ b. b.place) bs
+  pub places_each : (bs : List Break) → list_all (is_sayable form.kind) bs ≡ true → map place_of_token (tokens_for bs) ≡ map (λ b. b.place) bs
   places_each [] w = refl
   places_each (b ∷ bs) w = λ i. ((tell b (first_of b bs w)).listed i).place ∷ places_each bs (rest_of b bs w) i
 
@@ -192,8 +192,8 @@ module _ (form : Form) (word : List ℕ) (bs : List Break) (u : IsUtf8 word) (al
         pattern = refl;
         letters = refl;
         number = ap (λ (ts : List (List ℕ)). not (list_all (λ token. list_all is_number (numerals_of token)) (drop 1 ts))) e_toks ∙ ap not (numbers_each form bs w);
-        place = ap (λ (ts : List (List ℕ)). not (ascend_on (unwrap_or (text_spelt (get_or ts 0 [])) []) 0 (map place_of (drop 1 ts)))) e_toks
-            ∙ ap (λ (o : Option (List ℕ)). not (ascend_on (unwrap_or o []) 0 (map place_of (tokens_for bs)))) t ∙ ap not (ap (ascend_on word 0) (places_each form bs w) ∙ l_places);
+        place = ap (λ (ts : List (List ℕ)). not (ascend_on (unwrap_or (text_spelt (get_or ts 0 [])) []) 0 (map place_of_token (drop 1 ts)))) e_toks
+            ∙ ap (λ (o : Option (List ℕ)). not (ascend_on (unwrap_or o []) 0 (map place_of_token (tokens_for bs)))) t ∙ ap not (ap (ascend_on word 0) (places_each form bs w) ∙ l_places);
         change = ap (λ (ts : List (List ℕ)). not (list_all (is_good_later_token form false (unwrap_or (elements_of form.version (get_or ts 0 [])) []) (unwrap_or (text_spelt (get_or ts 0 [])) [])) (drop 1 ts))) e_toks
             ∙ ap (λ (o : Option (List ℕ)). not (list_all (is_good_later_token form false (unwrap_or (elements_of form.version (text_token word)) []) (unwrap_or o [])) (tokens_for bs))) t
             ∙ ap not (good_each form false (unwrap_or (elements_of form.version (text_token word)) []) word bs w l_within (λ e. absurd cc));
@@ -405,9 +405,9 @@ module _ (form : Form) (whole : List ℕ) (es : List (Entry (Option Change))) (u
         pattern = ap (λ (ts : List (List ℕ)). two_values false (read_marks (get_or ts 0 []))) p_toks ∙ ap (λ (o : Option (List PatternElement)). two_values false (unwrap_or o [])) p_marks ∙ no_two 0 whole es;
         letters = ap (λ (ts : List (List ℕ)). list_all (λ b. b == 46) (key_of (read_marks (get_or ts 0 [])))) p_toks ∙ ap (λ (o : Option (List PatternElement)). list_all (λ b. b == 46) (key_of (unwrap_or o []))) p_marks ∙ ap (list_all (λ b. b == 46)) p_key ∙ not-true (list_all (λ b. b == 46) whole) letter;
         number = ap (λ (ts : List (List ℕ)). not (list_all (λ token. list_all is_number (numerals_of token)) (drop 1 ts))) p_toks ∙ ap not (numbers_each form the_breaks p_writable);
-        place = ap (λ (ts : List (List ℕ)). not (ascend_on (key_of (read_marks (get_or ts 0 []))) 0 (map place_of (drop 1 ts)))) p_toks
-            ∙ ap (λ (o : Option (List PatternElement)). not (ascend_on (key_of (unwrap_or o [])) 0 (map place_of (tokens_for the_breaks)))) p_marks
-            ∙ ap (λ (k : List ℕ). not (ascend_on k 0 (map place_of (tokens_for the_breaks)))) p_key ∙ ap not (ap (ascend_on whole 0) (places_each form the_breaks p_writable) ∙ changes-ascend whole 0 0 es (omega arith) a_each);
+        place = ap (λ (ts : List (List ℕ)). not (ascend_on (key_of (read_marks (get_or ts 0 []))) 0 (map place_of_token (drop 1 ts)))) p_toks
+            ∙ ap (λ (o : Option (List PatternElement)). not (ascend_on (key_of (unwrap_or o [])) 0 (map place_of_token (tokens_for the_breaks)))) p_marks
+            ∙ ap (λ (k : List ℕ). not (ascend_on k 0 (map place_of_token (tokens_for the_breaks)))) p_key ∙ ap not (ap (ascend_on whole 0) (places_each form the_breaks p_writable) ∙ changes-ascend whole 0 0 es (omega arith) a_each);
         change = ap (λ (ts : List (List ℕ)). not (list_all (is_good_later_token form true (read_marks (get_or ts 0 [])) (key_of (read_marks (get_or ts 0 [])))) (drop 1 ts))) p_toks
             ∙ ap (λ (o : Option (List PatternElement)). not (list_all (is_good_later_token form true (unwrap_or o []) (key_of (unwrap_or o []))) (tokens_for the_breaks))) p_marks
             ∙ ap (λ (k : List ℕ). not (list_all (is_good_later_token form true the_marks k) (tokens_for the_breaks))) p_key

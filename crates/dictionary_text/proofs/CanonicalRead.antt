@@ -21,7 +21,7 @@ use Rattle.dictionary_text.specs.Judging.{own_cause, repetition, stands_in, faul
 use Rattle.hyphenation_commons.specs.Invariant.{IsDictionary, IsPattern, IsException, is_value, are_entries, are_listed, stays_within, lists_within}
 use Rattle.hyphenation_commons.specs.Language.{is_code_byte, IsCode}
 use Rattle.dictionary_text.specs.Lines.{language_of, minima_of, small_of, two_small, lines_of}
-use Rattle.dictionary_text.specs.Reading.{map_of_lines, spelt_as, entry_as, contents_in, contents_of}
+use Rattle.dictionary_text.specs.Reading.{map_of_lines, spelling_as, entry_as, contents_in, contents_of}
 use Rattle.dictionary_text.specs.Canonical.{entry_as_said, pattern_line, exception_line, minima_line, language_line, canonical_lines, canonical_text_of, are_digits, version_for}
 use Rattle.dictionary_text.specs.Laws.{HoldsExactly}
 use Rattle.hyphenation_commons.specs.declared.dictionary.Entry.{Entry}
@@ -360,10 +360,10 @@ module _ {C B : Type 0} (kind : Kind) (payload_of : Option Change → C) (listin
 
   -- and its lines spell the dictionary
   abbrev say_p : List ℕ → Option (List ℕ × List (Entry C))
-  say_p = spelt_as (entry_as payload_of) (pattern_of_line version)
+  say_p = spelling_as (entry_as payload_of) (pattern_of_line version)
 
   abbrev say_e : List ℕ → Option (List ℕ × List B)
-  say_e = spelt_as listing_of exception_of_line
+  say_e = spelling_as listing_of exception_of_line
 
   key_again : (q : List ℕ) (es : List (Entry C)) → KeyLine q es → Again say_p p_line q es
   key_again q es k =

@@ -9,7 +9,7 @@ use Rattle.std.proofs.lemmas.Bool.{eqb-true, leb-true}
 use Rattle.std.proofs.lemmas.Bool.Decides.{nat_tests}
 use Rattle.hyphenation_commons.specs.Break.{Change}
 use Rattle.dictionary_text.specs.Lines.{is_digit, lines_of, without_empty_last}
-use Rattle.dictionary_text.specs.Tokens.{escaped_bytes_after, escaped_bytes_of, meaning, is_brace, escaped_also, bytes_of, element_of, braced_value, step_inside, step_at, elements_from, elements_of, pattern_escapes, pattern_bytes, key_of, values_from}
+use Rattle.dictionary_text.specs.Tokens.{escaped_bytes_after, escaped_bytes_of, byte_of_escape, is_brace, escaped_also, bytes_of, element_of, braced_value, step_inside, step_at, elements_from, elements_of, pattern_escapes, pattern_bytes, key_of, values_from}
 use Rattle.dictionary_text.specs.Canonical.{byte_spelling, element_spelling, elements_for, with_line_feeds}
 use Rattle.hyphenation_commons.specs.declared.dictionary.Entry.{Entry}
 use Rattle.dictionary_text.specs.declared.form.Version.{Version}
@@ -29,7 +29,7 @@ read_plain : (es : Escapes) (b : ℕ) (rest : List ℕ) (ss : List EscapedByte) 
     → escaped_bytes_after es false (b ∷ rest) ≡ Some (record { byte = b; escaped = false } ∷ ss)
 read_plain es b rest ss e1 e2 h = rw (e1, e2, h) refl
 
-read_escaped : (es : Escapes) (c m : ℕ) (rest : List ℕ) (ss : List EscapedByte) → meaning es c ≡ Some m → escaped_bytes_after es false rest ≡ Some ss
+read_escaped : (es : Escapes) (c m : ℕ) (rest : List ℕ) (ss : List EscapedByte) → byte_of_escape es c ≡ Some m → escaped_bytes_after es false rest ≡ Some ss
     → escaped_bytes_after es false (92 ∷ c ∷ rest) ≡ Some (record { byte = m; escaped = true } ∷ ss)
 read_escaped es c m rest ss e h = rw (e, h) refl
 
@@ -43,7 +43,7 @@ record SignFor (es : Escapes) (b : ℕ) (token : List ℕ) (ss : List EscapedByt
 reads_byte : (es : Escapes) (b : ℕ) (rest : List ℕ) (ss : List EscapedByte) → escaped_bytes_after es false rest ≡ Some ss → SignFor es b (byte_spelling es b ++ rest) ss
 reads_byte es b rest ss h = by (eqb b 92) (eqb b 32) (eqb b 10) (eqb b 13) (escaped_also es b) refl refl refl refl refl
   where
-    literal : (c m : ℕ) → meaning es c ≡ Some m → m ≡ b → SignFor es b (92 ∷ c ∷ rest) ss
+    literal : (c m : ℕ) → byte_of_escape es c ≡ Some m → m ≡ b → SignFor es b (92 ∷ c ∷ rest) ss
     literal c m e is = record { sign = record { byte = m; escaped = true }; read = read_escaped es c m rest ss e h; byte = is; letter = refl }
 
     by : (t1 t2 t3 t4 t5 : Bool) → eqb b 92 ≡ t1 → eqb b 32 ≡ t2 → eqb b 10 ≡ t3 → eqb b 13 ≡ t4 → escaped_also es b ≡ t5
@@ -54,7 +54,7 @@ reads_byte es b rest ss h = by (eqb b 92) (eqb b 32) (eqb b 10) (eqb b 13) (esca
     by false false false true t5 e1 e2 e3 e4 e5 = literal 114 13 refl (sym (eqb-true b 13 e4))
     by false false false false true e1 e2 e3 e4 e5 = literal b b (itself e1 (none es 115 e5 refl) (none es 110 e5 refl) (none es 114 e5 refl) e5) refl
       where
-        itself : eqb b 92 ≡ false → eqb b 115 ≡ false → eqb b 110 ≡ false → eqb b 114 ≡ false → escaped_also es b ≡ true → meaning es b ≡ Some b
+        itself : eqb b 92 ≡ false → eqb b 115 ≡ false → eqb b 110 ≡ false → eqb b 114 ≡ false → escaped_also es b ≡ true → byte_of_escape es b ≡ Some b
         itself f1 f2 f3 f4 f5 = rw (f1, f2, f3, f4, f5) refl
 
         none : (es : Escapes) (c : ℕ) → escaped_also es b ≡ true → escaped_also DigitsAndBraces c ≡ false → eqb b c ≡ false

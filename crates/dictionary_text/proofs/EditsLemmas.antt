@@ -10,7 +10,7 @@ use Rattle.std.specs.String.{string_bytes}
 use Rattle.std.specs.declared.string.String.{String}
 use Rattle.std.specs.declared.vec.Vec.{Vec}
 use Rattle.std.proofs.lemmas.Str.{IsUtf8-append, is_utf8-from_IsUtf8}
-use Rattle.hyphenation_commons.specs.Break.{Break, Change, plain}
+use Rattle.hyphenation_commons.specs.Break.{Break, Change, plain_break}
 use Rattle.hyphenation_commons.specs.Dictionary.{Contents}
 use Rattle.dictionary_text.specs.Edits.{as_line, form_in, is_addition, is_sound_line, edit_line, after_edit, after_edits}
 use Rattle.dictionary_text.specs.Laws.{said_of_word, word_named, last_said_of}
@@ -18,7 +18,7 @@ use Rattle.dictionary_text.specs.Private.Edits.{ReadsException}
 use Rattle.dictionary_text.specs.Items.{breaks_of_line}
 use Rattle.dictionary_text.specs.Judging.{own_cause, is_known}
 use Rattle.hyphenation_commons.specs.Invariant.{are_listed}
-use Rattle.dictionary_text.specs.Lines.{same, strip_prefix}
+use Rattle.dictionary_text.specs.Lines.{is_same, strip_prefix}
 use Rattle.dictionary_text.specs.Private.LineAnswers.{AnswersException, item_cause}
 use Rattle.dictionary_text.specs.declared.form.Form.{Form}
 use Rattle.dictionary_text.specs.declared.form.Kind.{Kind}
@@ -76,7 +76,7 @@ unread {B} {Y} {Z} kind listing_of text r u answers fault cause e fails =
     let h : item_cause form (as_line text) ≡ Some cause = subst (λ (s : Result (String Y × Vec B Z) Fault). AnswersException form listing_of (as_line text) s) (e ∙ ap Err fails) (answers (as_line text) refl) in
     some_cause (own_cause form 4 (as_line text)) cause (only_item form text u ∙ h)
 
-pub may_be_listed : {B Y Z : Type 0} (kind : Kind) (listing_of : Break → B) (break_of : B → Break) → ((b : Break) → (break_of (listing_of b) ≡ b) ⊎ (break_of (listing_of b) ≡ plain b.place))
+pub may_be_listed : {B Y Z : Type 0} (kind : Kind) (listing_of : Break → B) (break_of : B → Break) → ((b : Break) → (break_of (listing_of b) ≡ b) ⊎ (break_of (listing_of b) ≡ plain_break b.place))
     → (line : List ℕ) (found : Option (String Y × Vec B Z)) (x : String Y × Vec B Z) → found ≡ Some x → ReadsException kind listing_of found line → IsTrue (are_listed break_of (string_bytes x.0) x.1.items)
 may_be_listed {B} {Y} {Z} kind listing_of break_of kept line found x e reads =
     let form = form_in kind First in
@@ -96,13 +96,13 @@ chosen false said old = refl
 
 one_edit : {C B : Type 0} (dictionary : Contents C B) (name word : List ℕ) (list : List B) (adds : Bool)
     → finite.get (cond adds (record dictionary { exceptions = finite.insert dictionary.exceptions name list }) (record dictionary { exceptions = finite.remove dictionary.exceptions name })).exceptions word
-    ≡ unwrap_or (cond (same name word) (Some (cond adds (Some list) None)) None) (finite.get dictionary.exceptions word)
+    ≡ unwrap_or (cond (is_same name word) (Some (cond adds (Some list) None)) None) (finite.get dictionary.exceptions word)
 one_edit {C} {B} dictionary name word list true =
     get-insert nat_list_cmp_total dictionary.exceptions name list word ∙ ap (λ (b : Bool). cond b (Some list) (finite.get dictionary.exceptions word)) (same_test word name)
-    ∙ chosen (same name word) (Some list) (finite.get dictionary.exceptions word)
+    ∙ chosen (is_same name word) (Some list) (finite.get dictionary.exceptions word)
 one_edit {C} {B} dictionary name word list false =
     get-remove nat_list_cmp_total dictionary.exceptions name word ∙ ap (λ (b : Bool). cond b None (finite.get dictionary.exceptions word)) (same_test word name)
-    ∙ chosen (same name word) None (finite.get dictionary.exceptions word)
+    ∙ chosen (is_same name word) None (finite.get dictionary.exceptions word)
 
 either_or : {X : Type 0} (o p : Option X) (x y : X) → y ≡ unwrap_or p x → unwrap_or o y ≡ unwrap_or (option_or o p) x
 either_or None p x y e = e
@@ -113,5 +113,5 @@ pub last_decides : {C B : Type 0} (listing_of : Break → B) (dictionary : Conte
 last_decides listing_of dictionary [] word = refl
 last_decides {C} {B} listing_of dictionary (e ∷ es) word =
     last_decides listing_of (after_edit listing_of dictionary e) es word
-    ∙ either_or (last_said_of listing_of word es) (cond (same (word_named e) word) (Some (said_of_word listing_of e)) None) (finite.get dictionary.exceptions word) (finite.get (after_edit listing_of dictionary e).exceptions word)
+    ∙ either_or (last_said_of listing_of word es) (cond (is_same (word_named e) word) (Some (said_of_word listing_of e)) None) (finite.get dictionary.exceptions word) (finite.get (after_edit listing_of dictionary e).exceptions word)
     (one_edit dictionary (word_named e) word (map listing_of (breaks_of_line (edit_line e))) (is_addition e))

@@ -1,11 +1,11 @@
 -- Each kind of dictionary holds exactly what its texts say.
 use Rattle.std.proofs.Common.{◌≡◌, ℕ, Option, None, refl}
-use Rattle.hyphenation_commons.specs.Break.{Change, plain, changed_by}
+use Rattle.hyphenation_commons.specs.Break.{Change, plain_break, break_at}
 use Rattle.dictionary_text.specs.Laws.{HoldsExactly}
 use Rattle.dictionary_text.specs.Reading.{no_payload, place_as_listing, change_as_payload, break_as_listing}
 use Rattle.dictionary_text.specs.declared.form.Kind.TheVariants.{Standard, Extended}
 
-pub standard_holds : HoldsExactly {C = Unit {0}} {B = ℕ} Standard no_payload place_as_listing (λ _. None) plain
+pub standard_holds : HoldsExactly {C = Unit {0}} {B = ℕ} Standard no_payload place_as_listing (λ _. None) plain_break
 standard_holds = record {
   changes = λ c. refl;
   breaks = λ b. refl;
@@ -16,7 +16,7 @@ standard_holds = record {
 other : Extended ≡ Standard → ⊥
 other is = cc
 
-pub extended_holds : HoldsExactly {C = Option Change} {B = ℕ × Option Change} Extended change_as_payload break_as_listing (λ change. change) (λ b. changed_by b.0 b.1)
+pub extended_holds : HoldsExactly {C = Option Change} {B = ℕ × Option Change} Extended change_as_payload break_as_listing (λ change. change) (λ b. break_at b.0 b.1)
 extended_holds = record {
   changes = λ c. refl;
   breaks = λ b. refl;

@@ -10,10 +10,10 @@ use Rattle.std.specs.FinMap as finite
 use Rattle.std.specs.FinMap.{find, get-from_entries, from_entries_push, nat_cmp-IsAntisymmetric, slice_cmp-IsAntisymmetric}
 use Rattle.hyphenation_commons.specs.Break.{Break, Change}
 use Rattle.hyphenation_commons.specs.Dictionary.{TextMap}
-use Rattle.dictionary_text.specs.Lines.{same}
+use Rattle.dictionary_text.specs.Lines.{is_same}
 use Rattle.dictionary_text.specs.Items.{is_pattern_line, is_exception_line, key_of_line, word_of_line, key_spelt, word_spelt, pattern_of_line, exception_of_line, entries_of_line, breaks_of_line}
 use Rattle.dictionary_text.specs.Judging.{stands_in, repetition}
-use Rattle.dictionary_text.specs.Reading.{map_of_lines, spelt_as, entry_as, items_of_lines}
+use Rattle.dictionary_text.specs.Reading.{map_of_lines, spelling_as, entry_as, items_of_lines}
 use Rattle.hyphenation_commons.specs.declared.dictionary.Entry.{Entry}
 use Rattle.dictionary_text.specs.declared.form.Version.{Version}
 use Rattle.dictionary_text.specs.declared.Cause.{Cause}
@@ -25,9 +25,9 @@ standing : {X : Type 0} (spells : List ℕ → Option (List ℕ × X)) (earlier 
     → is_some (find (slice_cmp nat_cmp) q (filter_map spells earlier)) ≡ stands_in (λ l. option_map (λ x. x.0) (spells l)) earlier q
 standing spells [] q = refl
 standing {X} spells (l ∷ ls) q =
-    elim (spells l) as (λ o. is_some (find (slice_cmp nat_cmp) q (cons_option o (filter_map spells ls))) ≡ (option_map_or (λ other. same other q) (option_map (λ x. x.0) o) false || stands_in (λ l. option_map (λ x. x.0) (spells l)) ls q)) [
+    elim (spells l) as (λ o. is_some (find (slice_cmp nat_cmp) q (cons_option o (filter_map spells ls))) ≡ (option_map_or (λ other. is_same other q) (option_map (λ x. x.0) o) false || stands_in (λ l. option_map (λ x. x.0) (spells l)) ls q)) [
       | None ↦ standing spells ls q
-      | Some x ↦ either (eq_by_cmp (slice_cmp nat_cmp) q x.0) (same x.0 q) x.1 (find (slice_cmp nat_cmp) q (filter_map spells ls)) (stands_in (λ l. option_map (λ x. x.0) (spells l)) ls q) (same_test q x.0) (standing spells ls q)
+      | Some x ↦ either (eq_by_cmp (slice_cmp nat_cmp) q x.0) (is_same x.0 q) x.1 (find (slice_cmp nat_cmp) q (filter_map spells ls)) (stands_in (λ l. option_map (λ x. x.0) (spells l)) ls q) (same_test q x.0) (standing spells ls q)
     ]
   where
     either : (a b : Bool) (v : X) (o : Option X) (t : Bool) → a ≡ b → is_some o ≡ t → is_some (cond a (Some v) o) ≡ (b || t)
@@ -72,26 +72,26 @@ neither false true h = absurd cc
 neither false false h = (refl, refl)
 
 module _ {C B : Type 0} (version : Version) (payload_of : Option Change → C) (listing_of : Break → B) where
-  key_agrees : (l : List ℕ) → option_map (λ x. x.0) (spelt_as (entry_as payload_of) (pattern_of_line version) l) ≡ key_spelt version l
+  key_agrees : (l : List ℕ) → option_map (λ x. x.0) (spelling_as (entry_as payload_of) (pattern_of_line version) l) ≡ key_spelt version l
   key_agrees l = elim (is_pattern_line l) as (λ b. option_map (λ (x : List ℕ × List (Entry C)). x.0) (option_map {U = List ℕ × List (Entry C)} (λ x. (x.0, map (entry_as payload_of) x.1)) (cond {A = Option (List ℕ × List (Entry (Option Change)))} b (Some (key_of_line version l, entries_of_line version l)) None)) ≡ cond b (Some (key_of_line version l)) None) [ true ↦ refl | false ↦ refl ]
 
-  word_agrees : (l : List ℕ) → option_map (λ x. x.0) (spelt_as listing_of exception_of_line l) ≡ word_spelt l
+  word_agrees : (l : List ℕ) → option_map (λ x. x.0) (spelling_as listing_of exception_of_line l) ≡ word_spelt l
   word_agrees l = elim (is_exception_line l) as (λ b. option_map (λ (x : List ℕ × List B). x.0) (option_map {U = List ℕ × List B} (λ x. (x.0, map listing_of x.1)) (cond {A = Option (List ℕ × List Break)} b (Some (word_of_line l, breaks_of_line l)) None)) ≡ cond b (Some (word_of_line l)) None) [ true ↦ refl | false ↦ refl ]
 
   key_stands : (earlier : List (List ℕ)) (q : List ℕ) → is_some (finite.get (items_of_lines version payload_of listing_of earlier).patterns q) ≡ stands_in (key_spelt version) earlier q
-  key_stands earlier q = contains (spelt_as (entry_as payload_of) (pattern_of_line version)) earlier q ∙ ap (λ (s : List ℕ → Option (List ℕ)). stands_in s earlier q) (λ k l. key_agrees l k)
+  key_stands earlier q = contains (spelling_as (entry_as payload_of) (pattern_of_line version)) earlier q ∙ ap (λ (s : List ℕ → Option (List ℕ)). stands_in s earlier q) (λ k l. key_agrees l k)
 
   word_stands : (earlier : List (List ℕ)) (q : List ℕ) → is_some (finite.get (items_of_lines version payload_of listing_of earlier).exceptions q) ≡ stands_in word_spelt earlier q
-  word_stands earlier q = contains (spelt_as listing_of exception_of_line) earlier q ∙ ap (λ (s : List ℕ → Option (List ℕ)). stands_in s earlier q) (λ k l. word_agrees l k)
+  word_stands earlier q = contains (spelling_as listing_of exception_of_line) earlier q ∙ ap (λ (s : List ℕ → Option (List ℕ)). stands_in s earlier q) (λ k l. word_agrees l k)
 
-  has_key : (earlier : List (List ℕ)) (line : List ℕ) → has (items_of_lines version payload_of listing_of earlier).patterns (spelt_as (entry_as payload_of) (pattern_of_line version) line) ≡ (is_pattern_line line && stands_in (key_spelt version) earlier (key_of_line version line))
+  has_key : (earlier : List (List ℕ)) (line : List ℕ) → has (items_of_lines version payload_of listing_of earlier).patterns (spelling_as (entry_as payload_of) (pattern_of_line version) line) ≡ (is_pattern_line line && stands_in (key_spelt version) earlier (key_of_line version line))
   has_key earlier line =
       elim (is_pattern_line line) as (λ b. has (items_of_lines version payload_of listing_of earlier).patterns (option_map {U = List ℕ × List (Entry C)} (λ x. (x.0, map (entry_as payload_of) x.1)) (cond {A = Option (List ℕ × List (Entry (Option Change)))} b (Some (key_of_line version line, entries_of_line version line)) None)) ≡ (b && stands_in (key_spelt version) earlier (key_of_line version line))) [
         | true ↦ key_stands earlier (key_of_line version line)
         | false ↦ refl
       ]
 
-  has_word : (earlier : List (List ℕ)) (line : List ℕ) → has (items_of_lines version payload_of listing_of earlier).exceptions (spelt_as listing_of exception_of_line line) ≡ (is_exception_line line && stands_in word_spelt earlier (word_of_line line))
+  has_word : (earlier : List (List ℕ)) (line : List ℕ) → has (items_of_lines version payload_of listing_of earlier).exceptions (spelling_as listing_of exception_of_line line) ≡ (is_exception_line line && stands_in word_spelt earlier (word_of_line line))
   has_word earlier line =
       elim (is_exception_line line) as (λ b. has (items_of_lines version payload_of listing_of earlier).exceptions (option_map {U = List ℕ × List B} (λ x. (x.0, map listing_of x.1)) (cond {A = Option (List ℕ × List Break)} b (Some (word_of_line line, breaks_of_line line)) None)) ≡ (b && stands_in word_spelt earlier (word_of_line line))) [
         | true ↦ word_stands earlier (word_of_line line)
@@ -100,21 +100,21 @@ module _ {C B : Type 0} (version : Version) (payload_of : Option Change → C) (
 
   -- the last two tests by what was items_of_lines are those by the lines
   pub repeats-spelt : (earlier : List (List ℕ)) (line : List ℕ)
-      → repeats (items_of_lines version payload_of listing_of earlier).patterns (items_of_lines version payload_of listing_of earlier).exceptions (spelt_as (entry_as payload_of) (pattern_of_line version) line) (spelt_as listing_of exception_of_line line) ≡ repetition version earlier line
+      → repeats (items_of_lines version payload_of listing_of earlier).patterns (items_of_lines version payload_of listing_of earlier).exceptions (spelling_as (entry_as payload_of) (pattern_of_line version) line) (spelling_as listing_of exception_of_line line) ≡ repetition version earlier line
   repeats-spelt earlier line =
-      ap (λ (b : Bool). cond b (Some RepeatedPattern) (cond (has (items_of_lines version payload_of listing_of earlier).exceptions (spelt_as listing_of exception_of_line line)) (Some RepeatedException) None)) (has_key earlier line)
+      ap (λ (b : Bool). cond b (Some RepeatedPattern) (cond (has (items_of_lines version payload_of listing_of earlier).exceptions (spelling_as listing_of exception_of_line line)) (Some RepeatedException) None)) (has_key earlier line)
       ∙ ap (λ (b : Bool). cond (is_pattern_line line && stands_in (key_spelt version) earlier (key_of_line version line)) (Some RepeatedPattern) (cond b (Some RepeatedException) None)) (has_word earlier line)
 
   -- a line more, which repeats none
-  pub new_key : (earlier : List (List ℕ)) (line : List ℕ) → None ≡ repetition version earlier line → has (map_of_lines (spelt_as (entry_as payload_of) (pattern_of_line version)) earlier) (spelt_as (entry_as payload_of) (pattern_of_line version) line) ≡ false
-  new_key earlier line none = (neither (has (items_of_lines version payload_of listing_of earlier).patterns (spelt_as (entry_as payload_of) (pattern_of_line version) line)) (has (items_of_lines version payload_of listing_of earlier).exceptions (spelt_as listing_of exception_of_line line)) (none ∙ sym (repeats-spelt earlier line))).0
+  pub new_key : (earlier : List (List ℕ)) (line : List ℕ) → None ≡ repetition version earlier line → has (map_of_lines (spelling_as (entry_as payload_of) (pattern_of_line version)) earlier) (spelling_as (entry_as payload_of) (pattern_of_line version) line) ≡ false
+  new_key earlier line none = (neither (has (items_of_lines version payload_of listing_of earlier).patterns (spelling_as (entry_as payload_of) (pattern_of_line version) line)) (has (items_of_lines version payload_of listing_of earlier).exceptions (spelling_as listing_of exception_of_line line)) (none ∙ sym (repeats-spelt earlier line))).0
 
-  pub new_word : (earlier : List (List ℕ)) (line : List ℕ) → None ≡ repetition version earlier line → has (map_of_lines (spelt_as listing_of exception_of_line) earlier) (spelt_as listing_of exception_of_line line) ≡ false
-  new_word earlier line none = (neither (has (items_of_lines version payload_of listing_of earlier).patterns (spelt_as (entry_as payload_of) (pattern_of_line version) line)) (has (items_of_lines version payload_of listing_of earlier).exceptions (spelt_as listing_of exception_of_line line)) (none ∙ sym (repeats-spelt earlier line))).1
+  pub new_word : (earlier : List (List ℕ)) (line : List ℕ) → None ≡ repetition version earlier line → has (map_of_lines (spelling_as listing_of exception_of_line) earlier) (spelling_as listing_of exception_of_line line) ≡ false
+  new_word earlier line none = (neither (has (items_of_lines version payload_of listing_of earlier).patterns (spelling_as (entry_as payload_of) (pattern_of_line version) line)) (has (items_of_lines version payload_of listing_of earlier).exceptions (spelling_as listing_of exception_of_line line)) (none ∙ sym (repeats-spelt earlier line))).1
 
   pub spelt-more : (earlier : List (List ℕ)) (line : List ℕ) → None ≡ repetition version earlier line
-      → items_of_lines version payload_of listing_of (earlier ++ line ∷ []) ≡ record { patterns = with_spelt (items_of_lines version payload_of listing_of earlier).patterns (spelt_as (entry_as payload_of) (pattern_of_line version) line); exceptions = with_spelt (items_of_lines version payload_of listing_of earlier).exceptions (spelt_as listing_of exception_of_line line) }
+      → items_of_lines version payload_of listing_of (earlier ++ line ∷ []) ≡ record { patterns = with_spelt (items_of_lines version payload_of listing_of earlier).patterns (spelling_as (entry_as payload_of) (pattern_of_line version) line); exceptions = with_spelt (items_of_lines version payload_of listing_of earlier).exceptions (spelling_as listing_of exception_of_line line) }
   spelt-more earlier line none = λ i. record {
-    patterns = gathered-more (spelt_as (entry_as payload_of) (pattern_of_line version)) earlier line (new_key earlier line none) i;
-    exceptions = gathered-more (spelt_as listing_of exception_of_line) earlier line (new_word earlier line none) i;
+    patterns = gathered-more (spelling_as (entry_as payload_of) (pattern_of_line version)) earlier line (new_key earlier line none) i;
+    exceptions = gathered-more (spelling_as listing_of exception_of_line) earlier line (new_word earlier line none) i;
   }

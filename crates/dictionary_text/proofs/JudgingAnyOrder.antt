@@ -11,7 +11,7 @@ use Rattle.std.proofs.lemmas.List.Sorted.{IsPermutation-keeps}
 use native.Mathlib.Decide.{dec_lt, ℕ_discrete}
 use Rattle.dictionary_text.specs.declared.form.Form.{Form}
 use Rattle.dictionary_text.specs.declared.form.Version.{Version}
-use Rattle.dictionary_text.specs.Lines.{same}
+use Rattle.dictionary_text.specs.Lines.{is_same}
 use Rattle.dictionary_text.specs.Items.{is_pattern_line, is_exception_line, key_of_line, word_of_line, key_spelt, word_spelt}
 use Rattle.dictionary_text.specs.Judging.{fault_after, own_cause, missing_head, repetition, stands_in}
 use Rattle.dictionary_text.specs.declared.Cause.{Cause}
@@ -22,12 +22,12 @@ use Rattle.dictionary_text.proofs.ReadingLines.{from_line, at_line}
 
 -- two lines that spell the same key, or the same word
 abbrev spells_same : (List ℕ → Option (List ℕ)) → List ℕ → List ℕ → Bool
-spells_same spells text other = option_map_or (λ t. same t text) (spells other) false
+spells_same spells text other = option_map_or (λ t. is_same t text) (spells other) false
 
 abbrev clash : Version → List ℕ → List ℕ → Bool
 clash version e l = (is_pattern_line l && spells_same (key_spelt version) (key_of_line version l) e) || (is_exception_line l && spells_same word_spelt (word_of_line l) e)
 
-half : (a b : Bool) (k m : List ℕ) → (b && option_map_or (λ t. same t m) (cond {A = Option (List ℕ)} a (Some k) None) false) ≡ (a && option_map_or (λ t. same t k) (cond {A = Option (List ℕ)} b (Some m) None) false)
+half : (a b : Bool) (k m : List ℕ) → (b && option_map_or (λ t. is_same t m) (cond {A = Option (List ℕ)} a (Some k) None) false) ≡ (a && option_map_or (λ t. is_same t k) (cond {A = Option (List ℕ)} b (Some m) None) false)
 half true true k m = nat_list_eq_equiv.symm k m
 half true false k m = refl
 half false true k m = refl
@@ -142,7 +142,7 @@ module _ (form : Form) (all : List (List ℕ)) where
           apart_from k n h = grind (arith, nat_tests)
   from_rest s long (suc n) i len =
       let lt : i < length all = omega arith in
-      let again : None ≡ repetition form.version (take i all) (get_or all i []) = no_repetition form.version (take i all) (get_or all i []) (none_of_first (λ e. clash form.version e (get_or all i [])) all i (λ k below within. s.apart i k lt within (λ same. absurd (omega arith)))) in
+      let again : None ≡ repetition form.version (take i all) (get_or all i []) = no_repetition form.version (take i all) (get_or all i []) (none_of_first (λ e. clash form.version e (get_or all i [])) all i (λ k below within. s.apart i k lt within (λ is_same. absurd (omega arith)))) in
       at i lt
       ∙ ap (λ (o : Option Cause). from_line (i + 1) o (repetition form.version (take i all) (get_or all i [])) (rest_at (i + 1))) (s.own i lt)
       ∙ ap (λ (o : Option Cause). from_line (i + 1) None o (rest_at (i + 1))) (sym again)
@@ -174,7 +174,7 @@ own_late form n line late = rw (other 1 n (omega arith), other 2 n (omega arith)
     above n h = grind (arith, nat_tests)
 
 own_moved : (form : Form) (i k : ℕ) (line : List ℕ) → (k ≡ i) ⊎ ((3 ≤ i) × (3 ≤ k)) → own_cause form (i + 1) line ≡ own_cause form (k + 1) line
-own_moved form i k line (inl same) = ap (λ (n : ℕ). own_cause form (n + 1) line) (sym same)
+own_moved form i k line (inl is_same) = ap (λ (n : ℕ). own_cause form (n + 1) line) (sym is_same)
 own_moved form i k line (inr late) = own_late form (i + 1) line (omega (arith, late.0)) ∙ sym (own_late form (k + 1) line (omega (arith, late.1)))
 
 stays_or_late : (a b i k : ℕ) → 3 ≤ a → 3 ≤ b → From a b i k → (k ≡ i) ⊎ ((3 ≤ i) × (3 ≤ k))
@@ -193,7 +193,7 @@ module _ (form : Form) (old new : List (List ℕ)) (a b : ℕ) (la : 3 ≤ a) (l
   inside i k (inr (inr h)) lt = omega (arith, h.2)
 
   differ : (i j k m : ℕ) → From a b i k → From a b j m → i ≢ j → k ≢ m
-  differ i j k m x y n same = n (omega (arith, x, y, same))
+  differ i j k m x y n is_same = n (omega (arith, x, y, is_same))
 
   stands-swapped : Stands form old → Stands form new
   stands-swapped h = record {

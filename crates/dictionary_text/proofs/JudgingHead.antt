@@ -12,8 +12,8 @@ use Rattle.dictionary_text.specs.Judging.{is_item_line, fails, own_cause, repeti
 use Rattle.dictionary_text.specs.Private.Judging.{before_item}
 use Rattle.hyphenation_commons.specs.Language.{is_code}
 use Rattle.dictionary_text.specs.Form.{head_line, head_of}
-use Rattle.dictionary_text.specs.Lines.{same, starts_with, strip_prefix, language_of, minima_of, two_small}
-use Rattle.dictionary_text.specs.Reading.{items_of_lines, spelt_as, entry_as}
+use Rattle.dictionary_text.specs.Lines.{is_same, starts_with, strip_prefix, language_of, minima_of, two_small}
+use Rattle.dictionary_text.specs.Reading.{items_of_lines, spelling_as, entry_as}
 use Rattle.dictionary_text.specs.Refusals.{IsRefusal}
 use Rattle.dictionary_text.specs.Private.Refusals.{at_number}
 use Rattle.dictionary_text.specs.Private.LineAnswers.{item_cause}
@@ -43,7 +43,7 @@ other b c x e f = grind (arith, nat_tests)
 apart : (c : ℕ) (start line : List ℕ) (x : ℕ) → starts_with (c ∷ start) line ≡ true → eqb c x ≡ false → starts_with (x ∷ 32 ∷ []) line ≡ false
 apart c start [] x e f = absurd cc
 apart c start (b ∷ line) x e f =
-    off (eqb b x) (same (take 1 line) (32 ∷ [])) (drop 1 line) (other b c x (front (eqb b c) (same (take (length start) line) start) (drop (length start) line) e) f)
+    off (eqb b x) (is_same (take 1 line) (32 ∷ [])) (drop 1 line) (other b c x (front (eqb b c) (is_same (take (length start) line) start) (drop (length start) line) e) f)
 
 begun : (c : ℕ) (start line : List ℕ) → starts_with (c ∷ start) line ≡ true → eqb c 112 ≡ false → eqb c 101 ≡ false → IsIdle line
 begun c start line e f g = record { pattern = apart c start line 112 e f; exception = apart c start line 101 e g }
@@ -74,7 +74,7 @@ first-idle : (form : Form) (line : List ℕ) → before_item form 1 line ≡ Non
 first-idle form line e =
     let utf8 = found_none (fails form 1 line) NotUtf8 (Header ∷ Language ∷ Minima ∷ UnknownLine ∷ []) e in
     let here = found_none (fails form 1 line) Header (Language ∷ Minima ∷ UnknownLine ∷ []) utf8.1 in
-    subst IsIdle (sym (same_text line (head_line form) (on_from_not (same line (head_line form)) here.0))) (by form.kind form.version)
+    subst IsIdle (sym (same_text line (head_line form) (on_from_not (is_same line (head_line form)) here.0))) (by form.kind form.version)
   where
     on_from_not : (b : Bool) → not b ≡ false → b ≡ true
     on_from_not true h = refl
@@ -131,15 +131,15 @@ module _ (form : Form) (a : List ℕ) (ok : before_item form 1 a ≡ None) where
     third_refused c rest refusal h = subst (IsRefusal refusal) (sym (after_second (c ∷ rest))) (refused_at form (a ∷ b ∷ []) c rest refusal h)
 
     pub has_head : (c : List ℕ) (minima : ℕ × ℕ) (rest : List (List ℕ)) → minima_of c ≡ Some minima → before_item form 3 c ≡ None → HasHead form (a ∷ b ∷ c ∷ rest) language minima
-    has_head c minima rest spelt_as ok_c = record {
+    has_head c minima rest spelling_as ok_c = record {
       long = omega arith;
       second = says;
-      third = spelt_as;
-      goes_on = after_second (c ∷ rest) ∙ on c (third-idle c minima spelt_as) form (a ∷ b ∷ []) rest ok_c;
+      third = spelling_as;
+      goes_on = after_second (c ∷ rest) ∙ on c (third-idle c minima spelling_as) form (a ∷ b ∷ []) rest ok_c;
       idle =
           let x = first-idle form a ok in
           let y = second-idle b language says in
-          let z = third-idle c minima spelt_as in
+          let z = third-idle c minima spelling_as in
           λ i. not (x.pattern i || x.exception i) && (not (y.pattern i || y.exception i) && (not (z.pattern i || z.exception i) && true));
     }
 
@@ -159,6 +159,6 @@ neither false false e = (refl, refl)
 
 pub idle-spelt : {C B : Type 0} (version : Version) (payload_of : Option Change → C) (listing_of : Break → B) (ls : List (List ℕ)) → are_idle ls ≡ true → items_of_lines version payload_of listing_of ls ≡ items_of_lines version payload_of listing_of []
 idle-spelt {C} {B} version payload_of listing_of ls e =
-    let keys = unspelt (spelt_as (entry_as payload_of) (pattern_of_line version)) ls (λ l h. ap (λ (b : Bool). option_map {U = List ℕ × List (Entry C)} (λ (x : List ℕ × List (Entry (Option Change))). (x.0, map (entry_as payload_of) x.1)) (cond b (Some (key_of_line version l, entries_of_line version l)) None)) (neither (is_pattern_line l) (is_exception_line l) h).0) e in
-    let words = unspelt (spelt_as listing_of exception_of_line) ls (λ l h. ap (λ (b : Bool). option_map {U = List ℕ × List B} (λ (x : List ℕ × List Break). (x.0, map listing_of x.1)) (cond b (Some (word_of_line l, breaks_of_line l)) None)) (neither (is_pattern_line l) (is_exception_line l) h).1) e in
+    let keys = unspelt (spelling_as (entry_as payload_of) (pattern_of_line version)) ls (λ l h. ap (λ (b : Bool). option_map {U = List ℕ × List (Entry C)} (λ (x : List ℕ × List (Entry (Option Change))). (x.0, map (entry_as payload_of) x.1)) (cond b (Some (key_of_line version l, entries_of_line version l)) None)) (neither (is_pattern_line l) (is_exception_line l) h).0) e in
+    let words = unspelt (spelling_as listing_of exception_of_line) ls (λ l h. ap (λ (b : Bool). option_map {U = List ℕ × List B} (λ (x : List ℕ × List Break). (x.0, map listing_of x.1)) (cond b (Some (word_of_line l, breaks_of_line l)) None)) (neither (is_pattern_line l) (is_exception_line l) h).1) e in
     λ i. record { patterns = finite.from_entries (keys i); exceptions = finite.from_entries (words i) }

@@ -8,11 +8,11 @@ use Rattle.hyphenation_commons.specs.Break.{Break, Change as Changed, ascend_on,
 use Rattle.dictionary_text.specs.declared.form.Form.{Form}
 use Rattle.dictionary_text.specs.Items.{is_pattern_line, is_exception_line, tokens_of, pattern_of_line, exception_of_line, break_of_token, change_at, entries_of_line, breaks_of_line, key_of_line, word_of_line}
 use Rattle.dictionary_text.specs.Judging.{is_extended, is_good_later_token, has_value_at, has_bad_number, has_bad_place, has_bad_change}
-use Rattle.dictionary_text.specs.Lines.{strip_prefix, is_number, number, number_of, same}
+use Rattle.dictionary_text.specs.Lines.{strip_prefix, is_number, number, number_of, is_same}
 use Rattle.dictionary_text.specs.Private.Parsed.{ReadPattern, ReadLater, nothing_read, is_bad, with_spelt, read_pattern, no_later, read_later, first_token, pattern_parts, exception_parts, part_at, change_with, sound_change}
-use Rattle.dictionary_text.specs.Reading.{spelt_as, entry_as}
+use Rattle.dictionary_text.specs.Reading.{spelling_as, entry_as}
 use Rattle.dictionary_text.specs.Private.LineAnswers.{item_cause, pattern_cause, exception_cause, places_cause, suits_key, suits_word, breaks_listed, entries_of}
-use Rattle.dictionary_text.specs.Tokens.{elements_of, elements_from, pattern_bytes, text_spelt, escaped_bytes_of, parts_of, key_of, values_from, two_values, is_readable, place_of, change_of}
+use Rattle.dictionary_text.specs.Tokens.{elements_of, elements_from, pattern_bytes, text_spelt, escaped_bytes_of, parts_of, key_of, values_from, two_values, is_readable, place_of_token, change_of_token}
 use Rattle.hyphenation_commons.specs.declared.dictionary.Entry.{Entry}
 use Rattle.dictionary_text.specs.declared.Cause.{Cause}
 use Rattle.dictionary_text.specs.declared.Cause.TheVariants.{Token, Value as BadValue, Pattern, NoLetters, Number, Place, Change}
@@ -28,7 +28,7 @@ at_start true d text e = (refl, cc)
 at_start false d text e = absurd cc
 
 pub begun : (start line text : List ℕ) → Some text ≡ strip_prefix start line → (is_some (strip_prefix start line) ≡ true) × (drop (length start) line ≡ text)
-begun start line text e = at_start (same (take (length start) line) start) (drop (length start) line) text e
+begun start line text e = at_start (is_same (take (length start) line) start) (drop (length start) line) text e
 
 -- a line is of one sort
 apart : (b : ℕ) → eqb b 112 ≡ true → eqb b 101 ≡ false
@@ -44,7 +44,7 @@ off false b d e = refl
 
 pub one_sort : (line : List ℕ) → is_pattern_line line ≡ true → is_exception_line line ≡ false
 one_sort [] e = absurd cc
-one_sort (b ∷ line) e = off (eqb b 101) (same (take 1 line) (32 ∷ [])) (drop 1 line) (apart b (front (eqb b 112) (same (take 1 line) (32 ∷ [])) (drop 1 line) e))
+one_sort (b ∷ line) e = off (eqb b 101) (is_same (take 1 line) (32 ∷ [])) (drop 1 line) (apart b (front (eqb b 112) (is_same (take 1 line) (32 ∷ [])) (drop 1 line) e))
 
 pub other_sort : (line : List ℕ) → is_exception_line line ≡ true → is_pattern_line line ≡ false
 other_sort line e = by (is_pattern_line line) (λ h. one_sort line h)
@@ -94,9 +94,9 @@ not_off : (b : Bool) → not b ≡ false → b ≡ true
 not_off true e = refl
 not_off false e = absurd cc
 
-same_places : (text : List ℕ) (least : ℕ) (ts : List (List ℕ)) → ascend_on text least (map place_of ts) ≡ ascend_on text least (map (λ b. b.0) (map (λ token. said_by (parts_of token)) ts))
+same_places : (text : List ℕ) (least : ℕ) (ts : List (List ℕ)) → ascend_on text least (map place_of_token ts) ≡ ascend_on text least (map (λ b. b.0) (map (λ token. said_by (parts_of token)) ts))
 same_places text least [] = refl
-same_places text least (t ∷ ts) = ap (λ (b : Bool). (nat_le least (place_of t) && is_boundary text (place_of t)) && b) (same_places text (place_of t + 1) ts)
+same_places text least (t ∷ ts) = ap (λ (b : Bool). (nat_le least (place_of_token t) && is_boundary text (place_of_token t)) && b) (same_places text (place_of_token t + 1) ts)
 
 -- which of the elements it holds of
 both_left : (a b : Bool) → (a && b) ≡ true → a ≡ true
@@ -174,22 +174,22 @@ module _ (form : Form) (text : List ℕ) (token : List ℕ) (readable : is_reada
   texts : list_all (λ written. is_some (text_spelt written)) (drop 4 (parts_of token)) ≡ true
   texts = both_right (nat_lt 0 (length token) && list_all (λ written. is_some (escaped_bytes_of Plain written)) (take 4 (parts_of token))) (list_all (λ written. is_some (text_spelt written)) (drop 4 (parts_of token))) readable
 
-  sound_as : (t : Bool) → nat_lt 1 (length (parts_of token)) ≡ t → t ≡ true → sound_change (parts_of token) ≡ cond (whole (parts_of token)) (cond (at_boundary (parts_of token)) (Some (change_of token)) None) None
+  sound_as : (t : Bool) → nat_lt 1 (length (parts_of token)) ≡ t → t ≡ true → sound_change (parts_of token) ≡ cond (whole (parts_of token)) (cond (at_boundary (parts_of token)) (Some (change_of_token token)) None) None
   sound_as t is on = sound_by (parts_of token) (sym (ap (λ (b : Bool). list_all is_number (cond b (take (length (parts_of token) - 1) (parts_of token)) (parts_of token))) (is ∙ on)) ∙ numbers) texts
 
   abbrev within : Bool
-  within = (nat_le (change_of token).left (place_of token) && is_boundary text (place_of token - (change_of token).left)) && is_boundary text (place_of token + (change_of token).right)
+  within = (nat_le (change_of_token token).left (place_of_token token) && is_boundary text (place_of_token token - (change_of_token token).left)) && is_boundary text (place_of_token token + (change_of_token token).right)
 
   key_token : (ms : List PatternElement) → is_good_later_token form true ms text token ≡ (is_sound (parts_of token) && suits_key form text (values_from 0 ms) (said_by (parts_of token)))
   key_token ms = by (nat_lt 1 (length (parts_of token))) refl
     where
       by : (t : Bool) → nat_lt 1 (length (parts_of token)) ≡ t
-          → cond t (is_extended form.kind && whole (parts_of token) && (within && at_boundary (parts_of token)) && has_value_at ms (place_of token)) false
-          ≡ (cond t (is_some (sound_change (parts_of token))) true && suits_key form text (values_from 0 ms) (place_of token, cond t (sound_change (parts_of token)) None))
+          → cond t (is_extended form.kind && whole (parts_of token) && (within && at_boundary (parts_of token)) && has_value_at ms (place_of_token token)) false
+          ≡ (cond t (is_some (sound_change (parts_of token))) true && suits_key form text (values_from 0 ms) (place_of_token token, cond t (sound_change (parts_of token)) None))
       by false is = refl
       by true is =
-          by_change (is_extended form.kind) (whole (parts_of token)) within (at_boundary (parts_of token)) (has_value_at ms (place_of token)) (change_of token) (λ o. suits_key form text (values_from 0 ms) (place_of token, o)) refl
-          ∙ ap (λ (o : Option Changed). is_some o && suits_key form text (values_from 0 ms) (place_of token, o)) (sym (sound_as true is refl))
+          by_change (is_extended form.kind) (whole (parts_of token)) within (at_boundary (parts_of token)) (has_value_at ms (place_of_token token)) (change_of_token token) (λ o. suits_key form text (values_from 0 ms) (place_of_token token, o)) refl
+          ∙ ap (λ (o : Option Changed). is_some o && suits_key form text (values_from 0 ms) (place_of_token token, o)) (sym (sound_as true is refl))
 
   word_token : (ms : List PatternElement) → is_good_later_token form false ms text token ≡ (is_sound (parts_of token) && suits_word form text (said_by (parts_of token)))
   word_token ms = by (nat_lt 1 (length (parts_of token))) refl
@@ -200,16 +200,16 @@ module _ (form : Form) (text : List ℕ) (token : List ℕ) (readable : is_reada
 
       by : (t : Bool) → nat_lt 1 (length (parts_of token)) ≡ t
           → cond t (is_extended form.kind && whole (parts_of token) && (within && at_boundary (parts_of token)) && true) true
-          ≡ (cond t (is_some (sound_change (parts_of token))) true && suits_word form text (place_of token, cond t (sound_change (parts_of token)) None))
+          ≡ (cond t (is_some (sound_change (parts_of token))) true && suits_word form text (place_of_token token, cond t (sound_change (parts_of token)) None))
       by false is = refl
       by true is =
-          by_change (is_extended form.kind) (whole (parts_of token)) within (at_boundary (parts_of token)) true (change_of token) (λ o. suits_word form text (place_of token, o)) (and_true (is_extended form.kind && (within && at_boundary (parts_of token))))
-          ∙ ap (λ (o : Option Changed). is_some o && suits_word form text (place_of token, o)) (sym (sound_as true is refl))
+          by_change (is_extended form.kind) (whole (parts_of token)) within (at_boundary (parts_of token)) true (change_of_token token) (λ o. suits_word form text (place_of_token token, o)) (and_true (is_extended form.kind && (within && at_boundary (parts_of token))))
+          ∙ ap (λ (o : Option Changed). is_some o && suits_word form text (place_of_token token, o)) (sym (sound_as true is refl))
 
   listed_token : is_sound (parts_of token) ≡ true → record { place = (said_by (parts_of token)).0; change = (said_by (parts_of token)).1 } ≡ break_of_token token
   listed_token sound = by (nat_lt 1 (length (parts_of token))) refl sound
     where
-      there : (w bnd : Bool) (o : Option Changed) → o ≡ cond w (cond bnd (Some (change_of token)) None) None → is_some o ≡ true → o ≡ Some (change_of token)
+      there : (w bnd : Bool) (o : Option Changed) → o ≡ cond w (cond bnd (Some (change_of_token token)) None) None → is_some o ≡ true → o ≡ Some (change_of_token token)
       there true true o e h = e
       there true false o e h = absurd (no (sym (ap is_some e) ∙ h))
         where
@@ -221,9 +221,9 @@ module _ (form : Form) (text : List ℕ) (token : List ℕ) (readable : is_reada
           no x = cc
 
       by : (t : Bool) → nat_lt 1 (length (parts_of token)) ≡ t → cond t (is_some (sound_change (parts_of token))) true ≡ true
-          → ◌≡◌ {A = Break} (record { place = place_of token; change = cond t (sound_change (parts_of token)) None }) (record { place = place_of token; change = cond t (Some (change_of token)) None })
+          → ◌≡◌ {A = Break} (record { place = place_of_token token; change = cond t (sound_change (parts_of token)) None }) (record { place = place_of_token token; change = cond t (Some (change_of_token token)) None })
       by false is h = refl
-      by true is h = ap (λ (o : Option Changed). record { place = place_of token; change = o }) (there (whole (parts_of token)) (at_boundary (parts_of token)) (sound_change (parts_of token)) (sound_as true is refl) h)
+      by true is h = ap (λ (o : Option Changed). record { place = place_of_token token; change = o }) (there (whole (parts_of token)) (at_boundary (parts_of token)) (sound_change (parts_of token)) (sound_as true is refl) h)
 
 abbrev all_numbers : List (List ℕ) → Bool
 all_numbers ts = list_all (λ token. has_numbers (parts_of token)) ts
@@ -479,7 +479,7 @@ module _ (form : Form) (line text : List ℕ) (start : Some text ≡ strip_prefi
   pattern_caused r l e = as_pattern ∙ pattern_some form (is_exception_line line) (spaced text) r l e
 
   pub pattern_says : {C : Type 0} (payload_of : Option Changed → C) (r : ReadPattern) (l : ReadLater) → pattern_parts form.version (spaced text) ≡ Some (r, l) → pattern_cause form r l ≡ None
-      → (spelt_as (entry_as payload_of) (pattern_of_line form.version) line ≡ Some (r.key, entries_of payload_of r.values l.listed)) × (exception_of_line line ≡ None)
+      → (spelling_as (entry_as payload_of) (pattern_of_line form.version) line ≡ Some (r.key, entries_of payload_of r.values l.listed)) × (exception_of_line line ≡ None)
   pattern_says payload_of r l e none =
       (ap (λ (a : Bool). pattern_by form.version payload_of a (tokens_of line)) sort ∙ ap (pattern_by form.version payload_of true) tokens ∙ pattern_spelt payload_of form (spaced text) r l e none, ap (λ (x : Bool). cond x (Some (word_of_line line, breaks_of_line line)) None) (one_sort line sort))
 
@@ -502,7 +502,7 @@ module _ (form : Form) (line text : List ℕ) (start : Some text ≡ strip_prefi
   exception_caused w l e = as_exception ∙ exception_some form (spaced text) w l e
 
   pub exception_says : {B : Type 0} (listing_of : Break → B) (w : List ℕ) (l : ReadLater) → exception_parts (spaced text) ≡ Some (w, l) → exception_cause form w l ≡ None
-      → (pattern_of_line form.version line ≡ None) × (spelt_as listing_of exception_of_line line ≡ Some (w, map listing_of (breaks_listed l.listed)))
+      → (pattern_of_line form.version line ≡ None) × (spelling_as listing_of exception_of_line line ≡ Some (w, map listing_of (breaks_listed l.listed)))
   exception_says listing_of w l e none = (
     ap (λ (a : Bool). cond a (Some (key_of_line form.version line, entries_of_line form.version line)) None) (other_sort line sort_e),
     ap (λ (x : Bool). exception_by listing_of x (tokens_of line)) sort_e ∙ ap (exception_by listing_of true) tokens_e ∙ exception_spelt listing_of form (spaced text) w l e none,

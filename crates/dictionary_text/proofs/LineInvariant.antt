@@ -11,8 +11,8 @@ use Rattle.std.proofs.lemmas.Str.{IsUtf8-from_is_utf8, is_utf8-from_IsUtf8, IsUt
 use Rattle.hyphenation_commons.specs.Break.{Break, Change, ascend_on, is_boundary, keeps_within}
 use Rattle.dictionary_text.specs.declared.form.Form.{Form}
 use Rattle.hyphenation_commons.specs.Invariant.{fits_usize, can_be_said, is_value, stays_within, lists_within, are_listed, IsPattern, IsException}
-use Rattle.dictionary_text.specs.Lines.{same, starts_with, is_digit, has_no_leading_zero, is_number, is_small, number}
-use Rattle.dictionary_text.specs.Tokens.{escaped_bytes_of, bytes_of, element_of, is_raw, is_raw_digit, braced_value, step_outside, step_inside, elements_from, elements_of, pattern_bytes, text_spelt, key_of, values_from, two_values, has_comma, parts_of, numerals_of, place_of, change_of, is_whole}
+use Rattle.dictionary_text.specs.Lines.{is_same, starts_with, is_digit, has_no_leading_zero, is_number, is_small, number}
+use Rattle.dictionary_text.specs.Tokens.{escaped_bytes_of, bytes_of, element_of, is_raw, is_raw_digit, braced_value, step_outside, step_inside, elements_from, elements_of, pattern_bytes, text_spelt, key_of, values_from, two_values, has_comma, parts_of, numerals_of, place_of_token, change_of_token, is_whole}
 use Rattle.dictionary_text.specs.Items.{is_pattern_line, is_exception_line, tokens_of, first_token_of, later_tokens_of, pattern_elements, key_of_line, word_of_line, counted_text, break_of_token, breaks_of_line, change_at, entries_of_line}
 use Rattle.dictionary_text.specs.Judging.{is_item_line, is_extended, has_value_at, is_good_later_token, fails, own_cause}
 use Rattle.hyphenation_commons.specs.declared.dictionary.Entry.{Entry}
@@ -134,7 +134,7 @@ boundary_test text at h = by (h.1) (get_or_past text at 0)
     by lead past = let in_text : at ≤ length text = h.0 in grind (arith, nat_tests)
 
 text_read : (token : List ℕ) → IsUtf8 token → IsUtf8 (unwrap_or (text_spelt token) [])
-text_read token u = by (same token (codes "\\e")) (escaped_bytes_of Plain token) refl
+text_read token u = by (is_same token (codes "\\e")) (escaped_bytes_of Plain token) refl
   where
     by : (t : Bool) (o : Option (List EscapedByte)) → escaped_bytes_of Plain token ≡ o → IsUtf8 (unwrap_or (cond {A = Option (List ℕ)} t (Some []) (option_map bytes_of o)) [])
     by true o is = IsUtf8-nil
@@ -155,10 +155,10 @@ first_short (p ∷ ps) e = number_short p (both_left (is_number p) (list_all is_
 more_than_one : (n : ℕ) → nat_lt 1 n ≡ true → 1 < n
 more_than_one n e = grind (arith, nat_tests)
 
-place_short : (token : List ℕ) → has_numbers token ≡ true → fits_usize (place_of token) ≡ true
+place_short : (token : List ℕ) → has_numbers token ≡ true → fits_usize (place_of_token token) ≡ true
 place_short token e = by (has_comma token) refl e
   where
-    by : (t : Bool) → has_comma token ≡ t → list_all is_number (cond t (take (length (parts_of token) - 1) (parts_of token)) (parts_of token)) ≡ true → fits_usize (place_of token) ≡ true
+    by : (t : Bool) → has_comma token ≡ t → list_all is_number (cond t (take (length (parts_of token) - 1) (parts_of token)) (parts_of token)) ≡ true → fits_usize (place_of_token token) ≡ true
     by true is h =
         let two = more_than_one (length (parts_of token)) is in
         number_short (get_or (parts_of token) 0 []) (in_front is_number (parts_of token) (length (parts_of token) - 1) 0 h (omega arith) (omega arith))
@@ -167,51 +167,51 @@ place_short token e = by (has_comma token) refl e
 four : (a b c d : Bool) → a ≡ true → b ≡ true → c ≡ true → d ≡ true → (a && b && c && d) ≡ true
 four a b c d x y z w = rw (x, y, z, w) refl
 
-change_said : (token : List ℕ) → IsUtf8 token → has_comma token ≡ true → has_numbers token ≡ true → is_whole token ≡ true → can_be_said (change_of token) ≡ true
+change_said : (token : List ℕ) → IsUtf8 token → has_comma token ≡ true → has_numbers token ≡ true → is_whole token ≡ true → can_be_said (change_of_token token) ≡ true
 change_said token u comma e whole =
     let n : length (parts_of token) ≡ 5 = five (parts_of token) (both_left (length (parts_of token) == 5) (nat_lt 0 (length (get_or (parts_of token) 4 []))) whole) in
     let h : list_all is_number (take (length (parts_of token) - 1) (parts_of token)) ≡ true = subst (λ (t : Bool). list_all is_number (cond t (take (length (parts_of token) - 1) (parts_of token)) (parts_of token)) ≡ true) comma e in
-    four (fits_usize (change_of token).left) (fits_usize (change_of token).right) (fits_usize (change_of token).breakpoint) (is_utf8 (change_of token).substitution)
+    four (fits_usize (change_of_token token).left) (fits_usize (change_of_token token).right) (fits_usize (change_of_token token).breakpoint) (is_utf8 (change_of_token token).substitution)
     (number_short (get_or (parts_of token) 1 []) (in_front is_number (parts_of token) (length (parts_of token) - 1) 1 h (omega arith) (omega arith)))
     (number_short (get_or (parts_of token) 2 []) (in_front is_number (parts_of token) (length (parts_of token) - 1) 2 h (omega arith) (omega arith)))
     (number_short (get_or (parts_of token) 3 []) (in_front is_number (parts_of token) (length (parts_of token) - 1) 3 h (omega arith) (omega arith)))
-    (is_utf8-from_IsUtf8 (change_of token).substitution (text_read (get_or (parts_of token) 4 []) (part-utf8 4 4 token u)))
+    (is_utf8-from_IsUtf8 (change_of_token token).substitution (text_read (get_or (parts_of token) 4 []) (part-utf8 4 4 token u)))
 
 three : (a b c : Bool) → a ≡ true → b ≡ true → c ≡ true → (a && b && c) ≡ true
 three a b c x y z = rw (x, y, z) refl
 
 -- a change that a good token says can be said, and keeps within the text
 module _ (form : Form) (in_pattern : Bool) (marks : List PatternElement) (text : List ℕ) where
-  stays : (token : List ℕ) → IsUtf8 token → has_numbers token ≡ true → is_good_later_token form in_pattern marks text token ≡ true → stays_within text (place_of token) (break_of_token token).change ≡ true
+  stays : (token : List ℕ) → IsUtf8 token → has_numbers token ≡ true → is_good_later_token form in_pattern marks text token ≡ true → stays_within text (place_of_token token) (break_of_token token).change ≡ true
   stays token u numbers e = by (has_comma token) refl e
     where
-      by : (t : Bool) → has_comma token ≡ t → cond t (is_extended form.kind && is_whole token && keeps_within text (place_of token) (change_of token) && (not in_pattern || has_value_at marks (place_of token))) (not in_pattern) ≡ true
-          → stays_within text (place_of token) (cond t (Some (change_of token)) None) ≡ true
+      by : (t : Bool) → has_comma token ≡ t → cond t (is_extended form.kind && is_whole token && keeps_within text (place_of_token token) (change_of_token token) && (not in_pattern || has_value_at marks (place_of_token token))) (not in_pattern) ≡ true
+          → stays_within text (place_of_token token) (cond t (Some (change_of_token token)) None) ≡ true
       by true is h =
-          let most = both_left (is_extended form.kind && is_whole token && keeps_within text (place_of token) (change_of token)) (not in_pattern || has_value_at marks (place_of token)) h in
-          let whole = both_right (is_extended form.kind) (is_whole token) (both_left (is_extended form.kind && is_whole token) (keeps_within text (place_of token) (change_of token)) most) in
-          three (fits_usize (place_of token)) (can_be_said (change_of token)) (keeps_within text (place_of token) (change_of token)) (place_short token numbers) (change_said token u is numbers whole)
-          (both_right (is_extended form.kind && is_whole token) (keeps_within text (place_of token) (change_of token)) most)
+          let most = both_left (is_extended form.kind && is_whole token && keeps_within text (place_of_token token) (change_of_token token)) (not in_pattern || has_value_at marks (place_of_token token)) h in
+          let whole = both_right (is_extended form.kind) (is_whole token) (both_left (is_extended form.kind && is_whole token) (keeps_within text (place_of_token token) (change_of_token token)) most) in
+          three (fits_usize (place_of_token token)) (can_be_said (change_of_token token)) (keeps_within text (place_of_token token) (change_of_token token)) (place_short token numbers) (change_said token u is numbers whole)
+          (both_right (is_extended form.kind && is_whole token) (keeps_within text (place_of_token token) (change_of_token token)) most)
       by false is h = refl
 
   pub changes-stay : (later : List (List ℕ)) → AllUtf8 later → list_all has_numbers later ≡ true → list_all (is_good_later_token form in_pattern marks text) later ≡ true → (place : ℕ)
       → stays_within text place (change_at place (map break_of_token later)) ≡ true
   changes-stay [] u n e place = refl
   changes-stay (token ∷ later) u n e place =
-      by (eqb (place_of token) place) refl (changes-stay later u.1 (both_right (has_numbers token) (list_all has_numbers later) n) (both_right (is_good_later_token form in_pattern marks text token) (list_all (is_good_later_token form in_pattern marks text) later) e) place)
+      by (eqb (place_of_token token) place) refl (changes-stay later u.1 (both_right (has_numbers token) (list_all has_numbers later) n) (both_right (is_good_later_token form in_pattern marks text token) (list_all (is_good_later_token form in_pattern marks text) later) e) place)
     where
       equal : (a b : ℕ) → eqb a b ≡ true → a ≡ b
       equal a b h = grind (arith, nat_tests)
 
-      by : (t : Bool) → eqb (place_of token) place ≡ t → stays_within text place (change_at place (map break_of_token later)) ≡ true → stays_within text place (cond t (break_of_token token).change (change_at place (map break_of_token later))) ≡ true
+      by : (t : Bool) → eqb (place_of_token token) place ≡ t → stays_within text place (change_at place (map break_of_token later)) ≡ true → stays_within text place (cond t (break_of_token token).change (change_at place (map break_of_token later))) ≡ true
       by true is more =
-          subst (λ (at : ℕ). stays_within text at (break_of_token token).change ≡ true) (equal (place_of token) place is)
+          subst (λ (at : ℕ). stays_within text at (break_of_token token).change ≡ true) (equal (place_of_token token) place is)
           (stays token u.0 (both_left (has_numbers token) (list_all has_numbers later) n) (both_left (is_good_later_token form in_pattern marks text token) (list_all (is_good_later_token form in_pattern marks text) later) e))
       by false is more = more
 
-  token-places : (later : List (List ℕ)) → map (λ b. b.place) (map break_of_token later) ≡ map place_of later
+  token-places : (later : List (List ℕ)) → map (λ b. b.place) (map break_of_token later) ≡ map place_of_token later
   token-places [] = refl
-  token-places (token ∷ later) = ap (λ places. place_of token ∷ places) (token-places later)
+  token-places (token ∷ later) = ap (λ places. place_of_token token ∷ places) (token-places later)
 
   tokens-stay : (later : List (List ℕ)) → AllUtf8 later → list_all has_numbers later ≡ true → list_all (is_good_later_token form in_pattern marks text) later ≡ true
       → list_all (λ b. lists_within text b.place b.change) (map break_of_token later) ≡ true
@@ -219,11 +219,11 @@ module _ (form : Form) (in_pattern : Bool) (marks : List PatternElement) (text :
   tokens-stay (token ∷ later) u n good =
       let numbers = and_parts (has_numbers token) (list_all has_numbers later) n in
       let all = and_parts (is_good_later_token form in_pattern marks text token) (list_all (is_good_later_token form in_pattern marks text) later) good in
-      and_from (lists_within text (place_of token) (break_of_token token).change) (list_all (λ b. lists_within text b.place b.change) (map break_of_token later))
-      (and_from (fits_usize (place_of token)) (stays_within text (place_of token) (break_of_token token).change) (place_short token numbers.0) (stays token u.0 numbers.0 all.0))
+      and_from (lists_within text (place_of_token token) (break_of_token token).change) (list_all (λ b. lists_within text b.place b.change) (map break_of_token later))
+      (and_from (fits_usize (place_of_token token)) (stays_within text (place_of_token token) (break_of_token token).change) (place_short token numbers.0) (stays token u.0 numbers.0 all.0))
       (tokens-stay later u.1 numbers.1 all.1)
 
-  pub listed-stand : (later : List (List ℕ)) → AllUtf8 later → list_all has_numbers later ≡ true → ascend_on text 0 (map place_of later) ≡ true → list_all (is_good_later_token form in_pattern marks text) later ≡ true
+  pub listed-stand : (later : List (List ℕ)) → AllUtf8 later → list_all has_numbers later ≡ true → ascend_on text 0 (map place_of_token later) ≡ true → list_all (is_good_later_token form in_pattern marks text) later ≡ true
       → are_listed (λ b. b) text (map break_of_token later) ≡ true
   listed-stand later u n places good =
       and_from (ascend_on text 0 (map (λ b. b.place) (map break_of_token later))) (list_all (λ b. lists_within text b.place b.change) (map break_of_token later))
@@ -405,7 +405,7 @@ module _ (form : Form) (number : ℕ) (line : List ℕ) (none : own_cause form n
   exception-kept sort =
       let item : is_item_line line ≡ true = either_right (is_pattern_line line) (is_exception_line line) sort in
       let off : is_pattern_line line ≡ false = apart line sort in
-      let places : ascend_on (counted_text form.version line) 0 (map place_of (later_tokens_of line)) ≡ true = item_test (ascend_on (counted_text form.version line) 0 (map place_of (later_tokens_of line))) passed.place item in
+      let places : ascend_on (counted_text form.version line) 0 (map place_of_token (later_tokens_of line)) ≡ true = item_test (ascend_on (counted_text form.version line) 0 (map place_of_token (later_tokens_of line))) passed.place item in
       let good : list_all (is_good_later_token form (is_pattern_line line) (pattern_elements form.version line) (counted_text form.version line)) (later_tokens_of line) ≡ true = item_test (list_all (is_good_later_token form (is_pattern_line line) (pattern_elements form.version line) (counted_text form.version line)) (later_tokens_of line)) passed.change item in
       let rest : IsUtf8 (drop 2 line) = after_two 101 32 (omega arith) (omega arith) line sort line-utf8 in
       let numbers : list_all has_numbers (later_tokens_of line) ≡ true = item_test (list_all has_numbers (later_tokens_of line)) passed.numbers item in

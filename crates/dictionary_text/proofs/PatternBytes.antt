@@ -3,16 +3,16 @@ use Rattle.std.proofs.Common.{◌≡◌, ◌∙◌, ◌+◌, ◌<◌, ◌&&◌, 
 use Rattle.std.specs.Option.{option_map}
 use Rattle.std.proofs.lemmas.List.Sums.{fold-append}
 use Rattle.dictionary_text.specs.Private.Parsed.{ReadPattern, with_spelt}
-use Rattle.dictionary_text.specs.Tokens.{bytes_added, both_joined, escaped_bytes_after, pattern_escapes}
+use Rattle.dictionary_text.specs.Tokens.{bytes_added, concatenation, escaped_bytes_after, pattern_escapes}
 use Rattle.dictionary_text.specs.declared.form.Version.{Version}
 use Rattle.dictionary_text.specs.declared.tokens.Escapes.{Escapes}
 use Rattle.dictionary_text.specs.declared.tokens.EscapedByte.{EscapedByte}
 
-signs_next : (escapes : Escapes) (after : Bool) (b : ℕ) (rest : List ℕ) → escaped_bytes_after escapes after (b ∷ rest) ≡ both_joined (bytes_added escapes after b) (escaped_bytes_after escapes (not after && eqb b 92) rest)
+signs_next : (escapes : Escapes) (after : Bool) (b : ℕ) (rest : List ℕ) → escaped_bytes_after escapes after (b ∷ rest) ≡ concatenation (bytes_added escapes after b) (escaped_bytes_after escapes (not after && eqb b 92) rest)
 signs_next escapes true b rest = refl
 signs_next escapes false b rest = refl
 
-on : (f : ReadPattern → EscapedByte → ReadPattern) (r new : ReadPattern) (a rest : Option (List EscapedByte)) → Some new ≡ option_map (fold f r) a → option_map (fold f new) rest ≡ option_map (fold f r) (both_joined a rest)
+on : (f : ReadPattern → EscapedByte → ReadPattern) (r new : ReadPattern) (a rest : Option (List EscapedByte)) → Some new ≡ option_map (fold f r) a → option_map (fold f new) rest ≡ option_map (fold f r) (concatenation a rest)
 on f r new None rest e = absurd cc
 on f r new (Some xs) None e = refl
 on f r new (Some xs) (Some ys) e =

@@ -5,7 +5,7 @@ use Rattle.std.specs.Option.{option_map}
 use Rattle.std.specs.List.{list_all, slice_split}
 use Rattle.std.proofs.lemmas.Bool.{and_from, and_parts}
 use Rattle.std.proofs.lemmas.Bool.Decides.{nat_tests}
-use Rattle.hyphenation_commons.specs.Break.{Break, Change, ascend_on, plain}
+use Rattle.hyphenation_commons.specs.Break.{Break, Change, ascend_on, plain_break}
 use Rattle.hyphenation_commons.specs.Dictionary.{Contents}
 use Rattle.dictionary_text.specs.declared.form.Form.{Form}
 use Rattle.dictionary_text.specs.declared.form.Version.{Version}
@@ -14,7 +14,7 @@ use Rattle.hyphenation_commons.specs.Language.{IsCode, is_code}
 use Rattle.dictionary_text.specs.Lines.{strip_prefix, language_of, minima_of, small_of, two_small, is_small, is_number, number}
 use Rattle.dictionary_text.specs.Items.{is_pattern_line, is_exception_line, key_of_line, word_of_line, breaks_of_line, entries_of_line, pattern_of_line, exception_of_line}
 use Rattle.dictionary_text.specs.Judging.{fault_after, own_cause, repetition}
-use Rattle.dictionary_text.specs.Reading.{spelt_as, entry_as, SpeltItems, items_of_lines, contents_in}
+use Rattle.dictionary_text.specs.Reading.{spelling_as, entry_as, SpeltItems, items_of_lines, contents_in}
 use Rattle.hyphenation_commons.specs.declared.dictionary.Entry.{Entry}
 use Rattle.hyphenation_commons.proofs.PlacesInOrder.{is_entry, map_twice}
 use Rattle.dictionary_text.proofs.SomeLine.{SomeLine}
@@ -104,7 +104,7 @@ minima_small line = by (strip_prefix (codes "minima ") line)
     by None = (omega arith, omega arith)
     by (Some rest) = kept (two_small (slice_split (λ b. b == 32) rest)) (two_are_small (slice_split (λ b. b == 32) rest))
 
-told_from : {X Y : Type 0} (say : X → Y) (spells : List ℕ → Option (List ℕ × List X)) (line k : List ℕ) (ys : List Y) → spelt_as say spells line ≡ Some (k, ys)
+told_from : {X Y : Type 0} (say : X → Y) (spells : List ℕ → Option (List ℕ × List X)) (line k : List ℕ) (ys : List Y) → spelling_as say spells line ≡ Some (k, ys)
     → (xs : List X) × (spells line ≡ Some (k, xs)) × (map say xs ≡ ys)
 told_from {X} {Y} say spells line k ys e = by (spells line) refl e
   where
@@ -120,7 +120,7 @@ spelt_from false k v q w e = absurd cc
 
 -- however a kind of dictionary holds changes and listed breaks, so long as what it holds keeps within
 module _ {C B : Type 0} (payload_of : Option Change → C) (listing_of : Break → B) (change_of : C → Option Change) (break_of : B → Break)
-    (kept_change : (c : Option Change) → (change_of (payload_of c) ≡ c) ⊎ (change_of (payload_of c) ≡ None)) (kept_break : (b : Break) → (break_of (listing_of b) ≡ b) ⊎ (break_of (listing_of b) ≡ plain b.place)) where
+    (kept_change : (c : Option Change) → (change_of (payload_of c) ≡ c) ⊎ (change_of (payload_of c) ≡ None)) (kept_break : (b : Break) → (break_of (listing_of b) ≡ b) ⊎ (break_of (listing_of b) ≡ plain_break b.place)) where
   carried : (text : List ℕ) (place : ℕ) (c : Option Change) → stays_within text place c ≡ true → stays_within text place (change_of (payload_of c)) ≡ true
   carried text place c h = elim (kept_change c) [
     | inl same ↦ subst (λ (x : Option Change). stays_within text place x ≡ true) (sym same) h
@@ -171,7 +171,7 @@ module _ {C B : Type 0} (payload_of : Option Change → C) (listing_of : Break �
       and_from (ascend_on text 0 (map (λ b. (break_of b).place) (map listing_of bs))) (list_all (λ b. lists_within text (break_of b).place (break_of b).change) (map listing_of bs))
       (ap (ascend_on text 0) (places_held bs) ∙ parts.0) (changes_held text bs parts.1)
 
-  pattern_held : (form : Form) (n : ℕ) (line k : List ℕ) (es : List (Entry C)) → own_cause form n line ≡ None → spelt_as (entry_as payload_of) (pattern_of_line form.version) line ≡ Some (k, es) → IsPattern change_of k es
+  pattern_held : (form : Form) (n : ℕ) (line k : List ℕ) (es : List (Entry C)) → own_cause form n line ≡ None → spelling_as (entry_as payload_of) (pattern_of_line form.version) line ≡ Some (k, es) → IsPattern change_of k es
   pattern_held form n line k es own e =
       let t = told_from (entry_as payload_of) (pattern_of_line form.version) line k es e in
       let s = spelt_from (is_pattern_line line) (key_of_line form.version line) (entries_of_line form.version line) k t.0 t.1 in
@@ -183,7 +183,7 @@ module _ {C B : Type 0} (payload_of : Option Change → C) (listing_of : Break �
         ascend = subst (λ (xs : List (Entry C)). are_entries change_of (key_of_line form.version line) xs ≡ true) (ap (map (entry_as payload_of)) s.2 ∙ t.2) (entries_held (key_of_line form.version line) (entries_of_line form.version line) kept.ascend);
       })
 
-  pub exception_held : (form : Form) (n : ℕ) (line w : List ℕ) (bs : List B) → own_cause form n line ≡ None → spelt_as listing_of exception_of_line line ≡ Some (w, bs) → IsException break_of w bs
+  pub exception_held : (form : Form) (n : ℕ) (line w : List ℕ) (bs : List B) → own_cause form n line ≡ None → spelling_as listing_of exception_of_line line ≡ Some (w, bs) → IsException break_of w bs
   exception_held form n line w bs own e =
       let t = told_from listing_of exception_of_line line w bs e in
       let s = spelt_from (is_exception_line line) (word_of_line line) (breaks_of_line line) w t.0 t.1 in
@@ -203,10 +203,10 @@ module _ {C B : Type 0} (payload_of : Option Change → C) (listing_of : Break �
         left = small.0;
         right = small.1;
         patterns = λ k es got.
-            let own = own-none form (λ l. spelt_as (entry_as payload_of) (pattern_of_line form.version) l ≡ Some (k, es)) [] lines e ((patterns-told payload_of listing_of form lines e k es).0 got) in
+            let own = own-none form (λ l. spelling_as (entry_as payload_of) (pattern_of_line form.version) l ≡ Some (k, es)) [] lines e ((patterns-told payload_of listing_of form lines e k es).0 got) in
             pattern_held form own.0 own.1 k es own.3 own.2;
         exceptions = λ w bs got.
-            let own = own-none form (λ l. spelt_as listing_of exception_of_line l ≡ Some (w, bs)) [] lines e ((exceptions-told payload_of listing_of form lines e w bs).0 got) in
+            let own = own-none form (λ l. spelling_as listing_of exception_of_line l ≡ Some (w, bs)) [] lines e ((exceptions-told payload_of listing_of form lines e w bs).0 got) in
             exception_held form own.0 own.1 w bs own.3 own.2;
       }
 

@@ -13,7 +13,7 @@ use Rattle.dictionary_text.specs.declared.form.Form.{Form}
 use Rattle.dictionary_text.specs.declared.form.Version.{Version}
 use Rattle.dictionary_text.specs.Items.{pattern_of_line, exception_of_line}
 use Rattle.dictionary_text.specs.Judging.{fault_after, own_cause, repetition, missing_head}
-use Rattle.dictionary_text.specs.Reading.{SpeltItems, items_of_lines, spelt_as, entry_as}
+use Rattle.dictionary_text.specs.Reading.{SpeltItems, items_of_lines, spelling_as, entry_as}
 use Rattle.dictionary_text.specs.Refusals.{IsRefusal}
 use Rattle.dictionary_text.specs.Private.LineAnswers.{IsItemOf}
 use Rattle.hyphenation_commons.specs.declared.dictionary.Entry.{Entry}
@@ -39,17 +39,17 @@ module _ {C B : Type 0} (version : Version) (payload_of : Option Change → C) (
   abbrev before : SpeltItems C B
   before = items_of_lines version payload_of listing_of earlier
 
-  repeats_by : (p : Keys) (e : Words) → spelt_as (entry_as payload_of) (pattern_of_line version) line ≡ p → spelt_as listing_of exception_of_line line ≡ e → repeats before.patterns before.exceptions p e ≡ repetition version earlier line
+  repeats_by : (p : Keys) (e : Words) → spelling_as (entry_as payload_of) (pattern_of_line version) line ≡ p → spelling_as listing_of exception_of_line line ≡ e → repeats before.patterns before.exceptions p e ≡ repetition version earlier line
   repeats_by p e hp he = (λ i. repeats before.patterns before.exceptions (sym hp i) (sym he i)) ∙ repeats-spelt version payload_of listing_of earlier line
 
-  more_by : (p : Keys) (e : Words) → spelt_as (entry_as payload_of) (pattern_of_line version) line ≡ p → spelt_as listing_of exception_of_line line ≡ e → None ≡ repetition version earlier line
+  more_by : (p : Keys) (e : Words) → spelling_as (entry_as payload_of) (pattern_of_line version) line ≡ p → spelling_as listing_of exception_of_line line ≡ e → None ≡ repetition version earlier line
       → ◌≡◌ {A = SpeltItems C B} (record { patterns = with_spelt before.patterns p; exceptions = with_spelt before.exceptions e }) (items_of_lines version payload_of listing_of (earlier ++ line ∷ []))
   more_by p e hp he none = (λ i. record { patterns = with_spelt before.patterns (sym hp i); exceptions = with_spelt before.exceptions (sym he i) }) ∙ sym (spelt-more version payload_of listing_of earlier line none)
 
-  no_key : pattern_of_line version line ≡ None → spelt_as (entry_as payload_of) (pattern_of_line version) line ≡ None
+  no_key : pattern_of_line version line ≡ None → spelling_as (entry_as payload_of) (pattern_of_line version) line ≡ None
   no_key e = ap (option_map {U = List ℕ × List (Entry C)} (λ x. (x.0, map (entry_as payload_of) x.1))) e
 
-  no_word : exception_of_line line ≡ None → spelt_as listing_of exception_of_line line ≡ None
+  no_word : exception_of_line line ≡ None → spelling_as listing_of exception_of_line line ≡ None
   no_word e = ap (option_map {U = List ℕ × List B} (λ x. (x.0, map listing_of x.1))) e
 
   -- the last two tests, by what an item repeats

@@ -15,7 +15,7 @@ use Rattle.dictionary_text.specs.declared.form.Form.{Form}
 use Rattle.dictionary_text.specs.Items.{pattern_of_line, exception_of_line}
 use Rattle.dictionary_text.specs.Lines.{language_of, minima_of}
 use Rattle.dictionary_text.specs.Judging.{fault_after, own_cause, repetition}
-use Rattle.dictionary_text.specs.Reading.{map_of_lines, spelt_as, entry_as, items_of_lines, contents_in}
+use Rattle.dictionary_text.specs.Reading.{map_of_lines, spelling_as, entry_as, items_of_lines, contents_in}
 use Rattle.dictionary_text.specs.declared.Cause.{Cause}
 use Rattle.dictionary_text.proofs.SomeLine.{SomeLine, AllAmong}
 use Rattle.dictionary_text.proofs.ItemsOfLines.{has, with_spelt, gathered-more, new_key, new_word}
@@ -133,17 +133,17 @@ same_gathered {X} spells ls ms a b there back = same_map nat_list_cmp_total (sli
 
 module _ {C B : Type 0} (payload_of : Option Change → C) (listing_of : Break → B) where
   -- the law on patterns and exceptions
-  pub patterns-told : (form : Form) (lines : List (List ℕ)) → fault_after form [] lines ≡ None → Tells (spelt_as (entry_as payload_of) (pattern_of_line form.version)) lines
-  patterns-told form = all_told form (spelt_as (entry_as payload_of) (pattern_of_line form.version)) (new_key form.version payload_of listing_of)
+  pub patterns-told : (form : Form) (lines : List (List ℕ)) → fault_after form [] lines ≡ None → Tells (spelling_as (entry_as payload_of) (pattern_of_line form.version)) lines
+  patterns-told form = all_told form (spelling_as (entry_as payload_of) (pattern_of_line form.version)) (new_key form.version payload_of listing_of)
 
-  pub exceptions-told : (form : Form) (lines : List (List ℕ)) → fault_after form [] lines ≡ None → Tells (spelt_as listing_of exception_of_line) lines
-  exceptions-told form = all_told form (spelt_as listing_of exception_of_line) (new_word form.version payload_of listing_of)
+  pub exceptions-told : (form : Form) (lines : List (List ℕ)) → fault_after form [] lines ≡ None → Tells (spelling_as listing_of exception_of_line) lines
+  exceptions-told form = all_told form (spelling_as listing_of exception_of_line) (new_word form.version payload_of listing_of)
 
   -- accepted texts of the same lines, in whatever order, spell the same
   pub same-lines : (form : Form) (ls ms : List (List ℕ)) → fault_after form [] ls ≡ None → fault_after form [] ms ≡ None → AllAmong ls ms → AllAmong ms ls → items_of_lines form.version payload_of listing_of ls ≡ items_of_lines form.version payload_of listing_of ms
   same-lines form ls ms e f there back = λ i. record {
-    patterns = same_gathered (spelt_as (entry_as payload_of) (pattern_of_line form.version)) ls ms (patterns-told form ls e) (patterns-told form ms f) there back i;
-    exceptions = same_gathered (spelt_as listing_of exception_of_line) ls ms (exceptions-told form ls e) (exceptions-told form ms f) there back i;
+    patterns = same_gathered (spelling_as (entry_as payload_of) (pattern_of_line form.version)) ls ms (patterns-told form ls e) (patterns-told form ms f) there back i;
+    exceptions = same_gathered (spelling_as listing_of exception_of_line) ls ms (exceptions-told form ls e) (exceptions-told form ms f) there back i;
   }
 
 one_more : (l : List ℕ) (ls ms : List (List ℕ)) → AllAmong ls ms → AllAmong (l ∷ ls) (l ∷ ms)

@@ -1,5 +1,5 @@
 -- Some line is so, told along the list of lines, and the kit's `Any` and `Contains` beside it.
-use Rattle.std.proofs.Common.{◌≡◌, ℕ, ◌+◌, zero, suc, List, [], ◌∷◌, refl, sym, subst, inl, inr, arith}
+use Rattle.std.proofs.Common.{◌≡◌, ℕ, zero, suc, List, [], ◌∷◌, refl, sym, subst, inl, inr, arith}
 use Rattle.std.specs.Prelude.{◌⊎◌, ◌↔◌, Any, Contains, slice_index_or}
 
 abbrev pub SomeLine : (List ℕ → Type 0) → List (List ℕ) → Type 0

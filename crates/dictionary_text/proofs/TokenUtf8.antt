@@ -6,7 +6,7 @@ use Rattle.std.proofs.lemmas.List.{append-nil}
 use Rattle.std.proofs.lemmas.Bool.Decides.{nat_tests}
 use Rattle.std.proofs.lemmas.Str.{IsUtf8-append}
 use Rattle.dictionary_text.specs.Lines.{is_digit}
-use Rattle.dictionary_text.specs.Tokens.{escaped_bytes_after, escaped_bytes_of, meaning, escaped_also, both_joined, bytes_added, bytes_of, element_of, key_of, is_raw, is_raw_digit, braced_value, step_outside, step_inside, elements_from, elements_of, pattern_escapes, pattern_bytes}
+use Rattle.dictionary_text.specs.Tokens.{escaped_bytes_after, escaped_bytes_of, byte_of_escape, escaped_also, concatenation, bytes_added, bytes_of, element_of, key_of, is_raw, is_raw_digit, braced_value, step_outside, step_inside, elements_from, elements_of, pattern_escapes, pattern_bytes}
 use Rattle.dictionary_text.specs.declared.form.Version.{Version}
 use Rattle.dictionary_text.specs.declared.form.Version.TheVariants.{First, Second}
 use Rattle.dictionary_text.specs.declared.tokens.Escapes.{Escapes}
@@ -26,14 +26,14 @@ seams-utf8 p [] h = subst IsUtf8 (sym (append-nil p)) h
 seams-utf8 p (Letter b ∷ ms) h = subst IsUtf8 (append_assoc p (b ∷ []) (key_of ms)) (seams-utf8 (p ++ b ∷ []) ms h)
 seams-utf8 p (Value v ∷ ms) h = IsUtf8-append p (key_of ms) h.0 (seams-utf8 [] ms h.1)
 
-joined_some : (front : List EscapedByte) (rest : Option (List EscapedByte)) (ss : List EscapedByte) → both_joined (Some front) rest ≡ Some ss → (more : List EscapedByte) × (rest ≡ Some more) × (front ++ more ≡ ss)
+joined_some : (front : List EscapedByte) (rest : Option (List EscapedByte)) (ss : List EscapedByte) → concatenation (Some front) rest ≡ Some ss → (more : List EscapedByte) × (rest ≡ Some more) × (front ++ more ≡ ss)
 joined_some front None ss e = absurd cc
 joined_some front (Some more) ss e = (more, refl, cc)
 
-none_joined : (rest : Option (List EscapedByte)) (ss : List EscapedByte) → both_joined None rest ≡ Some ss → ⊥
+none_joined : (rest : Option (List EscapedByte)) (ss : List EscapedByte) → concatenation None rest ≡ Some ss → ⊥
 none_joined rest ss e = absurd cc
 
-small_meaning : (es : Escapes) (c m : ℕ) → meaning es c ≡ Some m → (c < 128) × (m < 128)
+small_meaning : (es : Escapes) (c m : ℕ) → byte_of_escape es c ≡ Some m → (c < 128) × (m < 128)
 small_meaning es c m e = by (eqb c 92) (eqb c 115) (eqb c 110) (eqb c 114) (escaped_also es c) refl refl refl refl refl e
   where
     literal : (a k : ℕ) → eqb c a ≡ true → a < 128 → k < 128 → Some k ≡ Some m → (c < 128) × (m < 128)
@@ -60,10 +60,10 @@ module _ (es : Escapes) where
       × ((p : List ℕ) (ss : List EscapedByte) → IsUtf8 p → IsUtf8 rest → escaped_bytes_after es true rest ≡ Some ss → AreParted p ss)
 
   keeps_plain : (b : ℕ) (rest p : List ℕ) (ss : List EscapedByte) → Keeps rest → IsUtf8 (p ++ b ∷ rest)
-      → both_joined (bytes_added es false b) (escaped_bytes_after es (eqb b 92) rest) ≡ Some ss → AreParted p ss
+      → concatenation (bytes_added es false b) (escaped_bytes_after es (eqb b 92) rest) ≡ Some ss → AreParted p ss
   keeps_plain b rest p ss more u e = by (eqb b 92) (eqb b 13) refl refl e
     where
-      by : (t1 t2 : Bool) → eqb b 92 ≡ t1 → eqb b 13 ≡ t2 → both_joined (cond t1 (Some []) (cond t2 None (Some (record { byte = b; escaped = false } ∷ [])))) (escaped_bytes_after es t1 rest) ≡ Some ss → AreParted p ss
+      by : (t1 t2 : Bool) → eqb b 92 ≡ t1 → eqb b 13 ≡ t2 → concatenation (cond t1 (Some []) (cond t2 None (Some (record { byte = b; escaped = false } ∷ [])))) (escaped_bytes_after es t1 rest) ≡ Some ss → AreParted p ss
       by true t2 e1 e2 h =
           let j = joined_some [] (escaped_bytes_after es true rest) ss h in
           let parts = split_ascii p b rest (same_byte b 92 e1 (omega arith)) u in
@@ -77,10 +77,10 @@ module _ (es : Escapes) where
           )
 
   keeps_escaped : (c : ℕ) (rest p : List ℕ) (ss : List EscapedByte) → Keeps rest → IsUtf8 p → IsUtf8 (c ∷ rest)
-      → both_joined (option_map (λ byte. record { byte = byte; escaped = true } ∷ []) (meaning es c)) (escaped_bytes_after es false rest) ≡ Some ss → AreParted p ss
-  keeps_escaped c rest p ss more up u e = by (meaning es c) refl e
+      → concatenation (option_map (λ byte. record { byte = byte; escaped = true } ∷ []) (byte_of_escape es c)) (escaped_bytes_after es false rest) ≡ Some ss → AreParted p ss
+  keeps_escaped c rest p ss more up u e = by (byte_of_escape es c) refl e
     where
-      by : (o : Option ℕ) → meaning es c ≡ o → both_joined (option_map (λ byte. record { byte = byte; escaped = true } ∷ []) o) (escaped_bytes_after es false rest) ≡ Some ss → AreParted p ss
+      by : (o : Option ℕ) → byte_of_escape es c ≡ o → concatenation (option_map (λ byte. record { byte = byte; escaped = true } ∷ []) o) (escaped_bytes_after es false rest) ≡ Some ss → AreParted p ss
       by None m h = absurd (none_joined (escaped_bytes_after es false rest) ss h)
       by (Some byte) m h =
           let small = small_meaning es c byte m in

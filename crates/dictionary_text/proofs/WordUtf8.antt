@@ -4,8 +4,8 @@ use Rattle.std.specs.List.{list_all}
 use Rattle.std.specs.Prelude.{IsUtf8}
 use Rattle.std.specs.Option.{option_map}
 use Rattle.std.proofs.lemmas.Str.{IsUtf8-nil}
-use Rattle.dictionary_text.specs.Lines.{same}
-use Rattle.dictionary_text.specs.Tokens.{text_spelt, escaped_bytes_of, both_joined, bytes_of}
+use Rattle.dictionary_text.specs.Lines.{is_same}
+use Rattle.dictionary_text.specs.Tokens.{text_spelt, escaped_bytes_of, concatenation, bytes_of}
 use Rattle.dictionary_text.specs.Private.Tokens.{is_itself}
 use Rattle.dictionary_text.specs.declared.tokens.Escapes.TheVariants.{Plain}
 use Rattle.dictionary_text.specs.declared.tokens.EscapedByte.{EscapedByte}
@@ -16,7 +16,7 @@ read_signs None bytes e = absurd cc
 read_signs (Some ss) bytes e = (ss, refl, cc)
 
 pub word-utf8 : (token bytes : List ℕ) → IsUtf8 token → Some bytes ≡ text_spelt token → IsUtf8 bytes
-word-utf8 token bytes u e = by (same token (92 ∷ 101 ∷ [])) e
+word-utf8 token bytes u e = by (is_same token (92 ∷ 101 ∷ [])) e
   where
     by : (t : Bool) → Some bytes ≡ cond t (Some []) (option_map bytes_of (escaped_bytes_of Plain token)) → IsUtf8 bytes
     by true e = let none : [] ≡ bytes = cc in subst IsUtf8 none IsUtf8-nil
@@ -33,7 +33,7 @@ no_escape true r e = absurd cc
 no_escape false true e = absurd cc
 no_escape false false e = (refl, refl)
 
-one_more : (sign : EscapedByte) (o : Option (List EscapedByte)) (text : List ℕ) → option_map bytes_of o ≡ Some text → option_map bytes_of (both_joined (Some (sign ∷ [])) o) ≡ Some (sign.byte ∷ text)
+one_more : (sign : EscapedByte) (o : Option (List EscapedByte)) (text : List ℕ) → option_map bytes_of o ≡ Some text → option_map bytes_of (concatenation (Some (sign ∷ [])) o) ≡ Some (sign.byte ∷ text)
 one_more sign None text e = absurd cc
 one_more sign (Some ss) text e =
     let is : bytes_of ss ≡ text = cc in
@@ -46,7 +46,7 @@ plain_signs (b ∷ text) e =
     let off = no_escape (eqb b 92) (eqb b 13) parts.0 in
     rw (off.0, off.1) (one_more (record { byte = b; escaped = false }) (escaped_bytes_of Plain text) text (plain_signs text parts.1))
 
-not_empty_mark : (text : List ℕ) → list_all is_itself text ≡ true → same text (92 ∷ 101 ∷ []) ≡ false
+not_empty_mark : (text : List ℕ) → list_all is_itself text ≡ true → is_same text (92 ∷ 101 ∷ []) ≡ false
 not_empty_mark [] e = refl
 not_empty_mark (b ∷ text) e =
     let parts = both_on (is_itself b) (list_all is_itself text) e in

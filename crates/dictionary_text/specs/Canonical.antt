@@ -2,7 +2,7 @@
 use Rattle.std.specs.Prelude.{ℕ, ◌+◌, ◌==◌, nat_le, Bool, if◌then◌else◌, List, [], ◌∷◌, ◌++◌, map, codes, Option, Some, None, decimal, flat_map}
 use Rattle.std.specs.List.{list_all}
 use Rattle.std.specs.FinMap as finite
-use Rattle.hyphenation_commons.specs.Break.{Break, Change, changed_by, plain}
+use Rattle.hyphenation_commons.specs.Break.{Break, Change, break_at, plain_break}
 use Rattle.hyphenation_commons.specs.Dictionary.{Contents}
 use Rattle.dictionary_text.specs.Form.{head_line}
 use Rattle.dictionary_text.specs.Tokens.{escaped_also, pattern_escapes}
@@ -68,7 +68,7 @@ later_tokens breaks = flat_map (λ b. 32 ∷ break_token b.place b.change) break
 -- A break with a change before others; nothing is added of a place without one.
 abbrev pub onto_changes : ℕ → Option Change → List Break → List Break
 onto_changes place None breaks = breaks
-onto_changes place (Some c) breaks = changed_by place (Some c) ∷ breaks
+onto_changes place (Some c) breaks = break_at place (Some c) ∷ breaks
 
 -- The changes of entries, at their places.
 abbrev pub changes_of : List (Entry (Option Change)) → List Break
@@ -132,8 +132,8 @@ canonical_text_of kind change_of break_of contents =
 
 -- The canonical text of a standard dictionary, which holds no change.
 abbrev pub standard_text : Contents (Unit {0}) ℕ → List ℕ
-standard_text contents = canonical_text_of Standard (λ _. None) plain contents
+standard_text contents = canonical_text_of Standard (λ _. None) plain_break contents
 
 -- That of an extended dictionary, which holds a change or none as it is.
 abbrev pub extended_text : Contents (Option Change) (ℕ × Option Change) → List ℕ
-extended_text contents = canonical_text_of Extended (λ change. change) (λ b. changed_by b.0 b.1) contents
+extended_text contents = canonical_text_of Extended (λ change. change) (λ b. break_at b.0 b.1) contents

@@ -15,17 +15,17 @@ use Rattle.dictionary_text.specs.declared.Cause.{Cause}
 -- ---- an edit, and the line of a dictionary text that says the same of its word
 
 -- A text begins with that byte.
-abbrev pub begins_with : ℕ → List ℕ → Bool
-begins_with sign [] = false
-begins_with sign (b ∷ bs) = b == sign
+abbrev pub first_byte_is : ℕ → List ℕ → Bool
+first_byte_is sign [] = false
+first_byte_is sign (b ∷ bs) = b == sign
 
 -- With `+` it lists breaks for a word.
 abbrev pub is_addition : List ℕ → Bool
-is_addition edit = begins_with 43 edit
+is_addition edit = first_byte_is 43 edit
 
 -- With `-` it takes a word out of the exceptions.
 abbrev pub is_removal : List ℕ → Bool
-is_removal edit = begins_with 45 edit
+is_removal edit = first_byte_is 45 edit
 
 -- An exception as the line of a dictionary text.
 abbrev pub as_line : List ℕ → List ℕ
@@ -70,14 +70,14 @@ abbrev pub is_good_edit : Kind → List ℕ → Bool
 is_good_edit kind edit = not (has_feed edit) && (is_good_addition kind edit || is_good_removal kind edit)
 
 -- The number, from one on, of the first that is not.
-abbrev pub refused_from : Kind → ℕ → List (List ℕ) → Option ℕ
-refused_from kind number [] = None
-refused_from kind number (edit ∷ edits) =
-    if is_good_edit kind edit then refused_from kind (number + 1) edits else Some number
+abbrev pub first_refused_from : Kind → ℕ → List (List ℕ) → Option ℕ
+first_refused_from kind number [] = None
+first_refused_from kind number (edit ∷ edits) =
+    if is_good_edit kind edit then first_refused_from kind (number + 1) edits else Some number
 
 -- The number, from one on, of the first edit that is not good.
 abbrev pub first_refused : Kind → List (List ℕ) → Option ℕ
-first_refused kind edits = refused_from kind 1 edits
+first_refused kind edits = first_refused_from kind 1 edits
 
 -- ---- what they do, in a dictionary that lists a break by listing_of
 

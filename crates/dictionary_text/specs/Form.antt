@@ -1,6 +1,6 @@
 -- The forms of dictionary texts.
 use Rattle.std.specs.Prelude.{ℕ, List, [], codes, if◌then◌else◌, slice_index_or, Option, Some, None}
-use Rattle.dictionary_text.specs.Lines.{same}
+use Rattle.dictionary_text.specs.Lines.{is_same}
 use Rattle.dictionary_text.specs.declared.form.Form.{Form}
 use Rattle.dictionary_text.specs.declared.form.Kind.{Kind}
 use Rattle.dictionary_text.specs.declared.form.Kind.TheVariants.{Standard, Extended}
@@ -8,10 +8,10 @@ use Rattle.dictionary_text.specs.declared.form.Version.{Version}
 use Rattle.dictionary_text.specs.declared.form.Version.TheVariants.{First, Second}
 
 -- The kind of a name, where there is one.
-abbrev pub kind_named : List ℕ → Option Kind
-kind_named name =
-    if same name (codes "standard") then Some Standard
-    else (if same name (codes "extended") then Some Extended else None)
+abbrev pub kind_of_name : List ℕ → Option Kind
+kind_of_name name =
+    if is_same name (codes "standard") then Some Standard
+    else (if is_same name (codes "extended") then Some Extended else None)
 
 -- Line 1 of each form.
 abbrev pub head_of : Kind → Version → List ℕ
@@ -26,7 +26,7 @@ head_line form = head_of form.kind form.version
 
 -- The version that a first line names in a text of that kind. Any other line counts as one of the first version.
 abbrev pub version_by : Kind → List ℕ → Version
-version_by kind line = if same line (head_of kind Second) then Second else First
+version_by kind line = if is_same line (head_of kind Second) then Second else First
 
 -- The version that the first of the lines names; the first version where there are no lines.
 abbrev pub version_of : Kind → List (List ℕ) → Version

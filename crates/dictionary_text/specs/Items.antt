@@ -3,7 +3,7 @@ use Rattle.std.specs.Prelude.{ℕ, ◌==◌, Bool, if◌then◌else◌, List, []
 use Rattle.std.specs.List.{slice_split}
 use Rattle.hyphenation_commons.specs.Break.{Break, Change}
 use Rattle.dictionary_text.specs.Lines.{starts_with}
-use Rattle.dictionary_text.specs.Tokens.{elements_of, text_spelt, key_of, values_from, has_comma, place_of, change_of}
+use Rattle.dictionary_text.specs.Tokens.{elements_of, text_spelt, key_of, values_from, has_comma, place_of_token, change_of_token}
 use Rattle.dictionary_text.specs.declared.form.Version.{Version}
 use Rattle.dictionary_text.specs.declared.tokens.PatternElement.{PatternElement}
 use Rattle.hyphenation_commons.specs.declared.dictionary.Entry.{Entry}
@@ -55,8 +55,8 @@ word_spelt line = if is_exception_line line then Some (word_of_line line) else N
 -- What a later token lists: a place, with a change where it has commas.
 abbrev pub break_of_token : List ℕ → Break
 break_of_token token = record {
-  place = place_of token;
-  change = if has_comma token then Some (change_of token)
+  place = place_of_token token;
+  change = if has_comma token then Some (change_of_token token)
       else None;
 }
 
@@ -77,7 +77,8 @@ entries_of_line version line =
 
 -- What a `p` line spells: its key with its entries.
 abbrev pub pattern_of_line : Version → List ℕ → Option (List ℕ × List (Entry (Option Change)))
-pattern_of_line version line = if is_pattern_line line then Some (key_of_line version line, entries_of_line version line)
+pattern_of_line version line = if is_pattern_line line then Some
+    (key_of_line version line, entries_of_line version line)
     else None
 
 -- What an `e` line spells: its word with its listed breaks.

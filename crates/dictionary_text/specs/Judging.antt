@@ -5,8 +5,8 @@ use Rattle.std.specs.Option.{option_or, option_map_or}
 use Rattle.std.specs.Str.{is_utf8}
 use Rattle.hyphenation_commons.specs.Break.{ascend_on, keeps_within}
 use Rattle.dictionary_text.specs.Form.{head_line, form_of}
-use Rattle.dictionary_text.specs.Lines.{same, starts_with, language_of, minima_of, is_number, lines_of}
-use Rattle.dictionary_text.specs.Tokens.{elements_of, pattern_bytes, text_spelt, two_values, has_comma, numerals_of, is_readable, place_of, is_whole, change_of, values_from}
+use Rattle.dictionary_text.specs.Lines.{is_same, starts_with, language_of, minima_of, is_number, lines_of}
+use Rattle.dictionary_text.specs.Tokens.{elements_of, pattern_bytes, text_spelt, two_values, has_comma, numerals_of, is_readable, place_of_token, is_whole, change_of_token, values_from}
 use Rattle.dictionary_text.specs.Items.{is_pattern_line, is_exception_line, first_token_of, later_tokens_of, pattern_elements, key_of_line, word_of_line, counted_text, key_spelt, word_spelt}
 use Rattle.dictionary_text.specs.declared.tokens.PatternElement.{PatternElement}
 use Rattle.dictionary_text.specs.declared.form.Form.{Form}
@@ -45,8 +45,8 @@ has_value_at elements place = list_any (λ v. v.0 == place) (values_from 0 eleme
 abbrev pub is_good_later_token : Form → Bool → List PatternElement → List ℕ → List ℕ → Bool
 is_good_later_token form in_pattern elements text token =
     if has_comma token then is_extended form.kind && is_whole token
-    && keeps_within text (place_of token) (change_of token)
-    && (not in_pattern || has_value_at elements (place_of token))
+    && keeps_within text (place_of_token token) (change_of_token token)
+    && (not in_pattern || has_value_at elements (place_of_token token))
     else not in_pattern
 
 -- Of a later token, a part that has to be a number is none.
@@ -55,7 +55,7 @@ has_bad_number later = not (list_all (λ token. list_all is_number (numerals_of 
 
 -- The places do not ascend on the character boundaries of the text that they count in.
 abbrev pub has_bad_place : List ℕ → List (List ℕ) → Bool
-has_bad_place text later = not (ascend_on text 0 (map place_of later))
+has_bad_place text later = not (ascend_on text 0 (map place_of_token later))
 
 -- A later token does not belong in such a line.
 abbrev pub has_bad_change : Form → Bool → List PatternElement → List ℕ → List (List ℕ) → Bool
@@ -65,7 +65,7 @@ has_bad_change form in_pattern elements text later =
 -- Whether the line of that number fails the test of that cause, whatever stands before it.
 abbrev pub fails : Form → ℕ → List ℕ → Cause → Bool
 fails form number line NotUtf8 = not (is_utf8 line)
-fails form number line Header = number == 1 && not (same line (head_line form))
+fails form number line Header = number == 1 && not (is_same line (head_line form))
 fails form number line Language = number == 2 && is_none (language_of line)
 fails form number line Minima = number == 3 && is_none (minima_of line)
 fails form number line UnknownLine = nat_lt 3 number && not (is_known line)
@@ -75,7 +75,8 @@ fails form number line Value = is_pattern_line line && is_none (elements_of form
 fails form number line Pattern = is_pattern_line line && two_values false (pattern_elements form.version line)
 fails form number line NoLetters = is_pattern_line line && list_all (λ b. b == 46) (key_of_line form.version line)
 fails form number line Number = is_item_line line && has_bad_number (later_tokens_of line)
-fails form number line Place = is_item_line line && has_bad_place (counted_text form.version line) (later_tokens_of line)
+fails form number line Place = is_item_line line && has_bad_place (counted_text form.version line)
+    (later_tokens_of line)
 fails form number line Change =
     is_item_line line
     && has_bad_change form (is_pattern_line line) (pattern_elements form.version line) (counted_text form.version line)
@@ -92,12 +93,14 @@ own_cause form number line =
 
 -- An earlier line spells the text.
 abbrev pub stands_in : (List ℕ → Option (List ℕ)) → List (List ℕ) → List ℕ → Bool
-stands_in spells earlier text = list_any (λ line. option_map_or (λ other. same other text) (spells line) false) earlier
+stands_in spells earlier text = list_any (λ line. option_map_or (λ other. is_same other text)
+    (spells line) false) earlier
 
 -- The last two tests: the key or the word stands in an earlier line.
 abbrev pub repetition : Version → List (List ℕ) → List ℕ → Option Cause
 repetition version earlier line =
-    if is_pattern_line line && stands_in (key_spelt version) earlier (key_of_line version line) then Some RepeatedPattern
+    if is_pattern_line line && stands_in (key_spelt version) earlier (key_of_line version line)
+    then Some RepeatedPattern
     else (if is_exception_line line && stands_in word_spelt earlier (word_of_line line)
     then Some RepeatedException
     else None)

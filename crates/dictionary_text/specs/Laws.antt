@@ -11,8 +11,8 @@ use Rattle.dictionary_text.specs.Form.{head_of, version_of}
 use Rattle.hyphenation_commons.specs.Invariant.{IsDictionary}
 use Rattle.dictionary_text.specs.Items.{pattern_of_line, exception_of_line, breaks_of_line, word_of_line}
 use Rattle.dictionary_text.specs.Judging.{fault_of, refusal_of, fails}
-use Rattle.dictionary_text.specs.Lines.{lines_of, same}
-use Rattle.dictionary_text.specs.Reading.{contents_of, spelt_as, entry_as}
+use Rattle.dictionary_text.specs.Lines.{lines_of, is_same}
+use Rattle.dictionary_text.specs.Reading.{contents_of, spelling_as, entry_as}
 use Rattle.hyphenation_commons.specs.declared.dictionary.Entry.{Entry}
 use Rattle.dictionary_text.specs.declared.form.Kind.{Kind}
 use Rattle.dictionary_text.specs.declared.form.Version.TheVariants.{First}
@@ -37,7 +37,8 @@ KeysAreSpelt C B =
     (kind : Kind) (payload_of : Option Change → C) (listing_of : Break → B) (lines : List (List ℕ)) (key : List ℕ)
     (entries : List (Entry C)) → fault_of kind lines ≡ None
     → (finite.get (contents_of kind payload_of listing_of lines).patterns key ≡ Some entries)
-    ↔ Any (λ line. spelt_as (entry_as payload_of) (pattern_of_line (version_of kind lines)) line ≡ Some (key, entries))
+    ↔ Any (λ line. spelling_as (entry_as payload_of) (pattern_of_line (version_of kind lines)) line
+    ≡ Some (key, entries))
     lines
 
 -- A word has exactly the list that some `e` line spells for it.
@@ -46,7 +47,7 @@ WordsAreSpelt C B =
     (kind : Kind) (payload_of : Option Change → C) (listing_of : Break → B) (lines : List (List ℕ)) (word : List ℕ)
     (listed : List B) → fault_of kind lines ≡ None
     → (finite.get (contents_of kind payload_of listing_of lines).exceptions word ≡ Some listed)
-    ↔ Any (λ line. spelt_as listing_of exception_of_line line ≡ Some (word, listed)) lines
+    ↔ Any (λ line. spelling_as listing_of exception_of_line line ≡ Some (word, listed)) lines
 
 -- Two accepted texts of the same lines after the third, in whatever order, give the same dictionary.
 abbrev pub OrderMeansNothing : Type 0 → Type 0 → Type 0
@@ -122,7 +123,7 @@ abbrev pub last_said_of : {B : Type 0} → (Break → B) → List ℕ → List (
 last_said_of listing_of word [] = None
 last_said_of listing_of word (edit ∷ edits) =
     option_or (last_said_of listing_of word edits)
-    (if same (word_named edit) word then Some (said_of_word listing_of edit) else None)
+    (if is_same (word_named edit) word then Some (said_of_word listing_of edit) else None)
 
 -- Of the edits that name a word the last one decides, and where there is none, the dictionary before them.
 abbrev pub LastDecides : Type 0 → Type 0 → Type 0

@@ -17,8 +17,9 @@ abbrev pub map_of_lines : {X : Type 0} → (List ℕ → Option (List ℕ × X))
 map_of_lines spells lines = finite.from_entries (filter_map spells lines)
 
 -- The same said of each text in another way.
-abbrev pub spelt_as : {X Y : Type 0} → (X → Y) → (List ℕ → Option (List ℕ × List X)) → List ℕ → Option (List ℕ × List Y)
-spelt_as say spells line = option_map (λ x. (x.0, map say x.1)) (spells line)
+abbrev pub spelling_as : {X Y : Type 0} → (X → Y) → (List ℕ → Option (List ℕ × List X)) → List ℕ → Option (List ℕ
+    × List Y)
+spelling_as say spells line = option_map (λ x. (x.0, map say x.1)) (spells line)
 
 -- An entry as a dictionary of one kind holds it.
 abbrev pub entry_as : {C : Type 0} → (Option Change → C) → Entry (Option Change) → Entry C
@@ -34,9 +35,9 @@ abbrev pub items_of_lines : {C B : Type 0} → Version → (Option Change → C)
     → SpeltItems C B
 items_of_lines version payload_of listing_of lines =
     record {
-      patterns = map_of_lines (spelt_as (entry_as payload_of) (pattern_of_line version)) lines;
+      patterns = map_of_lines (spelling_as (entry_as payload_of) (pattern_of_line version)) lines;
       exceptions = map_of_lines
-          (spelt_as listing_of exception_of_line) lines;
+          (spelling_as listing_of exception_of_line) lines;
     }
 
 -- The dictionary that the lines of an accepted text of that version give.

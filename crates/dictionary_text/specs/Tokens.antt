@@ -2,7 +2,7 @@
 use Rattle.std.specs.Prelude.{ℕ, ◌+◌, ◌-◌, ◌==◌, ◌&&◌, ◌||◌, nat_lt, nat_le, Bool, true, false, not, if◌then◌else◌, List, [], ◌∷◌, ◌++◌, length, map, take, drop, codes, Option, Some, None, is_some, unwrap_or, option_map, option_and_then, slice_index_or}
 use Rattle.std.specs.List.{list_all, onto_first}
 use Rattle.hyphenation_commons.specs.Break.{Change}
-use Rattle.dictionary_text.specs.Lines.{is_digit, number, same, small_of}
+use Rattle.dictionary_text.specs.Lines.{is_digit, number, is_same, small_of}
 use Rattle.dictionary_text.specs.declared.tokens.Escapes.{Escapes}
 use Rattle.dictionary_text.specs.declared.tokens.Escapes.TheVariants.{Plain, Digits, DigitsAndBraces}
 use Rattle.dictionary_text.specs.declared.form.Version.{Version}
@@ -27,8 +27,8 @@ escaped_also Digits c = is_digit c
 escaped_also DigitsAndBraces c = is_digit c || is_brace c
 
 -- The byte that a letter after a backslash means; none where it begins no escape.
-abbrev pub meaning : Escapes → ℕ → Option ℕ
-meaning escapes c =
+abbrev pub byte_of_escape : Escapes → ℕ → Option ℕ
+byte_of_escape escapes c =
     if c == 92 then Some 92
     else (if c == 115 then Some 32
     else (if c == 110 then Some 10
@@ -37,13 +37,13 @@ meaning escapes c =
 -- What a byte adds to what was read, after a backslash or not: after one what it means, else itself, and a backslash
 -- nothing. None where it can't stand there, as a carriage return.
 abbrev pub bytes_added : Escapes → Bool → ℕ → Option (List EscapedByte)
-bytes_added escapes true c = option_map (λ byte. record { byte = byte; escaped = true } ∷ []) (meaning escapes c)
+bytes_added escapes true c = option_map (λ byte. record { byte = byte; escaped = true } ∷ []) (byte_of_escape escapes c)
 bytes_added escapes false b =
     if b == 92 then Some [] else (if b == 13 then None else Some (record { byte = b; escaped = false } ∷ []))
 
 -- One after the other; none where one of them is none.
-abbrev pub both_joined : Option (List EscapedByte) → Option (List EscapedByte) → Option (List EscapedByte)
-both_joined front rest = option_and_then (λ xs. option_map (λ ys. xs ++ ys) rest) front
+abbrev pub concatenation : Option (List EscapedByte) → Option (List EscapedByte) → Option (List EscapedByte)
+concatenation front rest = option_and_then (λ xs. option_map (λ ys. xs ++ ys) rest) front
 
 -- The bytes of a token, from left to right, after a backslash or not; none where an escape is bad or unfinished, or a
 -- carriage return stands as it is.
@@ -51,7 +51,7 @@ abbrev pub escaped_bytes_after : Escapes → Bool → List ℕ → Option (List 
 escaped_bytes_after escapes true [] = None
 escaped_bytes_after escapes false [] = Some []
 escaped_bytes_after escapes after (b ∷ rest) =
-    both_joined (bytes_added escapes after b) (escaped_bytes_after escapes (not after && b == 92) rest)
+    concatenation (bytes_added escapes after b) (escaped_bytes_after escapes (not after && b == 92) rest)
 
 -- The bytes of a whole token, in the same way.
 abbrev pub escaped_bytes_of : Escapes → List ℕ → Option (List EscapedByte)
@@ -65,7 +65,7 @@ bytes_of bytes = map (λ spelt. spelt.byte) bytes
 -- read. What is empty as written fails other tests.
 abbrev pub text_spelt : List ℕ → Option (List ℕ)
 text_spelt written =
-    if same written (codes "\\e") then Some [] else option_map bytes_of (escaped_bytes_of Plain written)
+    if is_same written (codes "\\e") then Some [] else option_map bytes_of (escaped_bytes_of Plain written)
 
 -- In a pattern an unescaped digit is a value.
 abbrev pub element_of : EscapedByte → PatternElement
@@ -175,16 +175,16 @@ is_readable token =
     && list_all (λ written. is_some (text_spelt written)) (drop 4 (parts_of token))
 
 -- Its first part, as a number.
-abbrev pub place_of : List ℕ → ℕ
-place_of token = number (part 0 token)
+abbrev pub place_of_token : List ℕ → ℕ
+place_of_token token = number (part 0 token)
 
 -- All of place, left, right and breakpoint, and something after the fourth comma.
 abbrev pub is_whole : List ℕ → Bool
 is_whole token = length (parts_of token) == 5 && nat_lt 0 (length (part 4 token))
 
 -- Its change, by the parts after the first one.
-abbrev pub change_of : List ℕ → Change
-change_of token =
+abbrev pub change_of_token : List ℕ → Change
+change_of_token token =
     record {
       left = number (part 1 token);
       right = number (part 2 token);

@@ -1,7 +1,7 @@
 //! Lines of dictionary texts, judged and spelt by computation.
 
 ghost use Rattle.std.specs.Prelude.{◌≡◌, [], ◌∷◌, codes, map, Some, None};
-ghost use Rattle.dictionary_text.specs.Private.Examples.{extended_first, judged, standard_first, standard_second};
+ghost use Rattle.dictionary_text.specs.Private.Examples.{extended_first, first_cause, standard_first, standard_second};
 ghost use Rattle.dictionary_text.specs.Items.{pattern_of_line, exception_of_line};
 ghost use Rattle.dictionary_text.specs.Judging.{refusal_of};
 ghost use Rattle.dictionary_text.specs.declared.form.Kind.TheVariants.{Standard};
@@ -10,12 +10,12 @@ ghost use Rattle.dictionary_text.specs.declared.Cause.TheVariants.{Change, Heade
 
 /// A change is whole, belongs to a value or a listed place, and keeps within the key or the word.
 fn changes()
-    ensures refused { map (judged extended_first) (codes "p a1b 1" ∷ codes "p a1b 0,0,0,0,\\e"
+    ensures refused { map (first_cause extended_first) (codes "p a1b 1" ∷ codes "p a1b 0,0,0,0,\\e"
         ∷ codes "p a1b 1,2,0,0,\\e" ∷ codes "e ab 1,0,0" ∷ codes "e ab 1,0,0,0," ∷ codes "e ab 1,0,0,3,xy" ∷ [])
         ≡ Some Change ∷ Some Change ∷ Some Change ∷ Some Change ∷ Some Change ∷ Some Change ∷ [] }
-    ensures earlier { map (judged extended_first) (codes "e ab x,0" ∷ codes "e ab 3,0,0" ∷ [])
+    ensures earlier { map (first_cause extended_first) (codes "e ab x,0" ∷ codes "e ab 3,0,0" ∷ [])
         ≡ Some Number ∷ Some Place ∷ [] }
-    ensures accepted { map (judged extended_first) (codes "p a1b 1,1,1,0,\\e" ∷ codes "e ab 1,1,1,1,xy 2" ∷ [])
+    ensures accepted { map (first_cause extended_first) (codes "p a1b 1,1,1,0,\\e" ∷ codes "e ab 1,1,1,1,xy 2" ∷ [])
         ≡ None ∷ None ∷ [] }
 {}
 
@@ -53,16 +53,16 @@ fn braces()
         ≡ Some (codes "ab", record { place = 1; value = 255; change = None } ∷ []) }
     ensures letters { pattern_of_line Second (codes "p \\{1\\}")
         ≡ Some (codes "{}", record { place = 1; value = 1; change = None } ∷ []) }
-    ensures bad { map (judged standard_second) (codes "p a{9}b" ∷ codes "p a{010}b" ∷ codes "p a{256}b" ∷ codes "p a{}b"
+    ensures bad { map (first_cause standard_second) (codes "p a{9}b" ∷ codes "p a{010}b" ∷ codes "p a{256}b" ∷ codes "p a{}b"
         ∷ codes "p a{10" ∷ codes "p a}b" ∷ codes "p {1\\0}" ∷ codes "p {10\\}" ∷ codes "p }12" ∷ [])
         ≡ Some Value ∷ Some Value ∷ Some Value ∷ Some Value ∷ Some Value ∷ Some Value ∷ Some Value ∷ Some Value
         ∷ Some Value ∷ [] }
-    ensures other { map (judged standard_second)
+    ensures other { map (first_cause standard_second)
         (codes "p a{10}{11}b" ∷ codes "p a1{10}b" ∷ codes "p {10}" ∷ codes "e a\\{b" ∷ [])
         ≡ Some Pattern ∷ Some Pattern ∷ Some NoLetters ∷ Some Token ∷ [] }
-    ensures accepted { map (judged standard_second) (codes "p a{10}b" ∷ codes "p \\{1\\}" ∷ codes "e {b}" ∷ [])
+    ensures accepted { map (first_cause standard_second) (codes "p a{10}b" ∷ codes "p \\{1\\}" ∷ codes "e {b}" ∷ [])
         ≡ None ∷ None ∷ None ∷ [] }
-    ensures first { map (judged standard_first) (codes "p a{10}b" ∷ codes "p \\{1" ∷ codes "p {1}" ∷ [])
+    ensures first { map (first_cause standard_first) (codes "p a{10}b" ∷ codes "p \\{1" ∷ codes "p {1}" ∷ [])
         ≡ Some Pattern ∷ Some Token ∷ None ∷ [] }
     ensures third { refusal_of Standard (codes "hyphenation 3 standard") ≡ Some (1, Header) }
 {}

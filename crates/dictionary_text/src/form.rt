@@ -11,11 +11,11 @@ pub enum Kind {
 
 impl Kind {
     ghost use Rattle.std.specs.Prelude.{◌≡◌};
-    ghost use Rattle.dictionary_text.specs.Form.{kind_named};
+    ghost use Rattle.dictionary_text.specs.Form.{kind_of_name};
 
     /// The kind of that name: `standard` or `extended`.
     pub fn from_name(name: &str) -> Option<Kind>
-        ensures { result ≡ kind_named name.now }
+        ensures { result ≡ kind_of_name name.now }
     {
         if name == "standard" {
             Some(Kind::Standard)

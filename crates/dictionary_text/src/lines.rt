@@ -3,7 +3,7 @@
 ghost use Rattle.std.specs.Prelude.{◌≡◌, ◌==◌, ◌^◌, ◌<◌, ◌∷◌, [], IsUtf8, IfOk, IfSome, IfNone, position, length, map, option_map, nat_lt, true, if◌then◌else◌, Some, None};
 ghost use Rattle.std.specs.List.{list_all, slice_split};
 ghost use Rattle.dictionary_text.specs.Form.{head_line, head_of, version_by};
-ghost use Rattle.dictionary_text.specs.Lines.{lines_of, strip_prefix, starts_with, is_digit, has_no_leading_zero, number_of, with_digit, language_of, minima_of, small_of, two_small, same};
+ghost use Rattle.dictionary_text.specs.Lines.{lines_of, strip_prefix, starts_with, is_digit, has_no_leading_zero, number_of, with_digit, language_of, minima_of, small_of, two_small, is_same};
 ghost use Rattle.dictionary_text.specs.Private.Lines.{tokens_after, value_below};
 
 use crate::form::{Form, Kind, Version};
@@ -77,7 +77,7 @@ pub(crate) fn starts_with(start: &[u8], text: &[u8]) -> bool
 
 /// Whether a line is line 1 of a text of that form.
 pub(crate) fn is_head(form: Form, line: &[u8]) -> bool
-    ensures { result ≡ same line.now (head_line form) }
+    ensures { result ≡ is_same line.now (head_line form) }
 {
     line == head_of(form.kind, form.version)
 }

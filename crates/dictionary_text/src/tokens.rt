@@ -8,7 +8,7 @@ ghost use Rattle.dictionary_text.specs.declared.tokens.Escapes.TheVariants.{Plai
 ghost use Rattle.dictionary_text.specs.Lines.{is_number, number};
 ghost use Rattle.std.specs.String.{string_bytes};
 ghost use Rattle.dictionary_text.specs.Private.Parsed.{later_token, parted_token_said, sound_change, change_with, part_at};
-ghost use Rattle.dictionary_text.specs.Tokens.{bytes_added, escaped_also, element_of, meaning, parts_of, parts_within, escaped_bytes_of, text_spelt};
+ghost use Rattle.dictionary_text.specs.Tokens.{bytes_added, escaped_also, element_of, byte_of_escape, parts_of, parts_within, escaped_bytes_of, text_spelt};
 ghost use Rattle.dictionary_text.specs.Private.Tokens.{is_itself};
 
 use crate::lines::number_of;
@@ -44,7 +44,7 @@ pub enum PatternElement {
 
 /// The byte that a letter after a backslash means.
 fn meaning(escapes: Escapes, letter: u8) -> Option<u8>
-    ensures { result ≡ meaning escapes letter }
+    ensures { result ≡ byte_of_escape escapes letter }
 {
     match letter {
         b'\\' => Some(b'\\'),

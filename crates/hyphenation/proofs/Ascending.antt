@@ -2,7 +2,7 @@
 use Rattle.std.proofs.Common.{◌≡◌, ℕ, ◌+◌, ◌≤◌, List, [], ◌∷◌, map, refl, subst, sym, arith, add-zero, IsCharBoundary, true, inl, inr, length, nat_le, nat_lt, slice_index, ◌&&◌, ◌||◌}
 use Rattle.std.proofs.lemmas.Bool.{and_from, and_parts, or_cases, le-leb, leb-true, ltb-true}
 use Rattle.std.proofs.Math.Nat.{sub-zero}
-use Rattle.hyphenation_commons.specs.Break.{plain, ascend_on, is_boundary}
+use Rattle.hyphenation_commons.specs.Break.{plain_break, ascend_on, is_boundary}
 use Rattle.dictionary_text.proofs.LineInvariant.{boundary_test}
 use Rattle.hyphenation_segments.specs.Fits.{FitsFrom}
 
@@ -11,7 +11,7 @@ abbrev pub Ascend : List ℕ → ℕ → List ℕ → Type 0
 Ascend text least [] = Unit {0}
 Ascend text least (p ∷ ps) = (least ≤ p) × IsCharBoundary text p × Ascend text (p + 1) ps
 
-pub ascend_fits : (text : List ℕ) (last_end least : ℕ) (places : List ℕ) → last_end ≤ least → Ascend text least places → FitsFrom text last_end least (map plain places)
+pub ascend_fits : (text : List ℕ) (last_end least : ℕ) (places : List ℕ) → last_end ≤ least → Ascend text least places → FitsFrom text last_end least (map plain_break places)
 ascend_fits text last_end least [] h a = tt
 ascend_fits text last_end least (p ∷ ps) h a = (
   record {
@@ -25,7 +25,7 @@ ascend_fits text last_end least (p ∷ ps) h a = (
   ascend_fits text (p + 0) (p + 1) ps (omega arith) a.2,
 )
 
-pub fits_ascend : (text : List ℕ) (last_end least : ℕ) (places : List ℕ) → FitsFrom text last_end least (map plain places) → Ascend text least places
+pub fits_ascend : (text : List ℕ) (last_end least : ℕ) (places : List ℕ) → FitsFrom text last_end least (map plain_break places) → Ascend text least places
 fits_ascend text last_end least [] f = tt
 fits_ascend text last_end least (p ∷ ps) f = (f.0.ascends, f.0.place, fits_ascend text (p + 0) (p + 1) ps f.1)
 

@@ -14,7 +14,7 @@ use Rattle.hyphenation_commons.specs.Break.{Break}
 use Rattle.hyphenation.specs.Boundaries.{boundaries}
 use Rattle.hyphenation.specs.Fitting.{kept_breaks, fitted_breaks_of}
 use Rattle.hyphenation.specs.Private.Fitting.{is_steady_by}
-use Rattle.hyphenation.specs.Folding.{fold_character, fold, carried_back, shifts_of}
+use Rattle.hyphenation.specs.Folding.{fold_character, fold_case, carried_back, shifts_of}
 use Rattle.hyphenation.specs.Opportunities.{Rules, opportunities, Ascending}
 use Rattle.hyphenation.specs.Places.{place_of_character}
 use Rattle.hyphenation.proofs.AsciiLetters.{is_uppercase_ascii}
@@ -42,7 +42,7 @@ small_letters (c ∷ cs) e =
     let parts = and_parts (is_ascii_lowercase c) (list_all is_ascii_lowercase cs) e in
     rw (sym (is_uppercase_ascii c (letter_below c parts.0)) ∙ letter_is_small c parts.0) (small_letters cs parts.1)
 
-pub letters_fold : (word : List ℕ) → list_all is_ascii_lowercase word ≡ true → fold word ≡ word
+pub letters_fold : (word : List ℕ) → list_all is_ascii_lowercase word ≡ true → fold_case word ≡ word
 letters_fold word e =
     let ascii = letters_ascii word e in
     fold_stays word (IsUtf8-from_ascii word ascii) (ap (list_any is_uppercase) (chars-IsAscii word ascii) ∙ small_letters word e)
@@ -68,14 +68,14 @@ all_fold_small (c ∷ cs) a = ap (λ x. x ∷ map fold_character cs) (folds_smal
 small_ascii : (word : List ℕ) → IsAscii word → IsAscii (map to_ascii_lowercase word)
 small_ascii word a = IsAscii-map to_ascii_lowercase word lowercase_ascii a
 
-pub ascii_fold : (word : List ℕ) → IsAscii word → fold word ≡ map to_ascii_lowercase word
+pub ascii_fold : (word : List ℕ) → IsAscii word → fold_case word ≡ map to_ascii_lowercase word
 ascii_fold word a =
     ap (λ cs. encode_utf8_all (map fold_character cs)) (chars-IsAscii word a) ∙ ap encode_utf8_all (all_fold_small word a) ∙ encodes-IsAscii (map to_ascii_lowercase word) (small_ascii word a)
 
-pub fold_is_ascii : (word : List ℕ) → IsAscii word → IsAscii (fold word)
+pub fold_is_ascii : (word : List ℕ) → IsAscii word → IsAscii (fold_case word)
 fold_is_ascii word a = subst IsAscii (sym (ascii_fold word a)) (small_ascii word a)
 
-as_long : (word : List ℕ) → IsAscii word → length (fold word) ≡ length word
+as_long : (word : List ℕ) → IsAscii word → length (fold_case word) ≡ length word
 as_long word a = ap length (ascii_fold word a) ∙ length-map word to_ascii_lowercase
 
 keeps_length : (c : ℕ) → c < 128 → not (length (encode_utf8 (fold_character c)) == length (encode_utf8 c)) ≡ false
@@ -101,15 +101,15 @@ ascii_bounds l r word a below room =
 pub ascii_no_bounds : (l r : ℕ) (word : List ℕ) → IsAscii word → (length word ≤ l) ⊎ (length word - l < r) → boundaries l r word ≡ None
 ascii_no_bounds l r word a miss = bounds_missed l r (length word) word (sym (ap length (chars-IsAscii word a))) miss
 
-ascii_carried : (word : List ℕ) (p : ℕ) → IsAscii word → p ≤ length (fold word) → carried_back word p ≡ p
+ascii_carried : (word : List ℕ) (p : ℕ) → IsAscii word → p ≤ length (fold_case word) → carried_back word p ≡ p
 ascii_carried word p a le =
     let small = fold_is_ascii word a in
-    let count : length (chars (take p (fold word))) ≡ p = ap length (chars-IsAscii (take p (fold word)) (IsAscii-take (fold word) p small)) ∙ length-take-le p (fold word) le in
+    let count : length (chars (take p (fold_case word))) ≡ p = ap length (chars-IsAscii (take p (fold_case word)) (IsAscii-take (fold_case word) p small)) ∙ length-take-le p (fold_case word) le in
     ap (place_of_character word) count ∙ ascii_place word p a (omega (arith, as_long word a))
 
 -- ---- breaks
 
-pub ascii_breaks : (rules : Rules) (word folded : List ℕ) (kept : List Break) → IsAscii word → folded ≡ fold word → Ascending (fold word) (opportunities rules (fold word))
+pub ascii_breaks : (rules : Rules) (word folded : List ℕ) (kept : List Break) → IsAscii word → folded ≡ fold_case word → Ascending (fold_case word) (opportunities rules (fold_case word))
     → kept ≡ kept_breaks (is_steady_by (length folded) []) (opportunities rules folded) → kept ≡ fitted_breaks_of rules word
 ascii_breaks rules word folded kept a folded_is ascend is =
     unmoved_breaks rules word folded kept (ascii_no_shifts word a) (none_in_ascii word a) (λ p at. ascii_carried word p a at.0) folded_is ascend is

@@ -6,8 +6,8 @@ use Rattle.std.specs.Str.{IsUtf8, IsCharBoundary}
 use Rattle.std.specs.FinMap as finite
 use Rattle.std.proofs.Math.Nat.{sub-zero}
 use Rattle.std.proofs.lemmas.Bool.{and_parts}
-use Rattle.hyphenation_commons.specs.Break.{Break, Change, changed_by, ascend_on, is_boundary, keeps_within}
-use Rattle.hyphenation_commons.specs.Dictionary.{Contents, keys_of}
+use Rattle.hyphenation_commons.specs.Break.{Break, Change, break_at, ascend_on, is_boundary, keeps_within}
+use Rattle.hyphenation_commons.specs.Dictionary.{Contents, entries_of_keys}
 use Rattle.hyphenation_commons.specs.Invariant.{IsDictionary, fits_usize, can_be_said, is_value, stays_within, lists_within}
 use Rattle.hyphenation_commons.specs.declared.dictionary.Entry.{Entry}
 use Rattle.hyphenation.specs.Opportunities.{rules_of, is_odd, within, breaks_within, winning_break, by_patterns, by_exception, opportunities_in, opportunities, boundaries_by}
@@ -33,10 +33,10 @@ kept_within text place change h =
     let one = and_parts (nat_le change.left place) (is_boundary text (place - change.left)) two.0 in
     record { left = leb-true _ _ one.0; begin = boundary_from_test text _ one.1; end = boundary_from_test text _ two.1 }
 
-unchanged_ranged : (text : List ℕ) (place : ℕ) → IsCharBoundary text place → Ranged text (changed_by place None)
+unchanged_ranged : (text : List ℕ) (place : ℕ) → IsCharBoundary text place → Ranged text (break_at place None)
 unchanged_ranged text place at = λ left end. (subst (IsCharBoundary text) (sym (sub-zero place)) at, subst (IsCharBoundary text) (sym (add-zero place)) at)
 
-stays_ranged : (text : List ℕ) (place : ℕ) (change : Option Change) → IsCharBoundary text place → stays_within text place change ≡ true → Ranged text (changed_by place change)
+stays_ranged : (text : List ℕ) (place : ℕ) (change : Option Change) → IsCharBoundary text place → stays_within text place change ≡ true → Ranged text (break_at place change)
 stays_ranged text place None at h = unchanged_ranged text place at
 stays_ranged text place (Some change) at h = λ left end. let k = kept_within text place change (and_parts (fits_usize place && can_be_said change) _ h).1 in (k.begin, k.end)
 
@@ -66,7 +66,7 @@ entry_stays {C} change_of key (e ∷ es) i entry h lt is =
 
 -- In the word a change stands as it does in the key, the dots of the frame aside.
 in_word : (word : List ℕ) (p start end at : ℕ) (change : Change) → IsUtf8 word → start < end → end ≤ length (frame word) → IsUtf8 (slice_range (frame word) start end) → start + at ≡ p + 1
-    → KeepsWithin (slice_range (frame word) start end) at change → Ranged word (changed_by p (Some change))
+    → KeepsWithin (slice_range (frame word) start end) at change → Ranged word (break_at p (Some change))
 in_word word p start end at change u some within v place k = λ left last.
     let framed = frame word in
     let w = frame_is_utf8 word u in
@@ -80,10 +80,10 @@ in_word word p start end at change u some within v place k = λ left last.
     )
 
 won_ranged : {C B : Type 0} (change_of : C → Option Change) (break_of : B → Break) (contents : Contents C B) (word : List ℕ) (p : ℕ)
-    → IsDictionary change_of break_of contents → IsUtf8 word → IsCharBoundary word p → Ranged word (winning_break change_of (keys_of contents) word p)
+    → IsDictionary change_of break_of contents → IsUtf8 word → IsCharBoundary word p → Ranged word (winning_break change_of (entries_of_keys contents) word p)
 won_ranged {C} change_of break_of contents word p kept u at =
-    let keys = keys_of contents in
-    elim (winner_at keys word p) as (λ winner. winner_at keys word p ≡ winner → Ranged word (changed_by p (option_and_then (λ entry. change_of entry.change) winner))) [
+    let keys = entries_of_keys contents in
+    elim (winner_at keys word p) as (λ winner. winner_at keys word p ≡ winner → Ranged word (break_at p (option_and_then (λ entry. change_of entry.change) winner))) [
       | None ↦ λ _. unchanged_ranged word p at
       | Some entry ↦ λ is.
           let wins = winner_wins keys word p entry is in
@@ -92,7 +92,7 @@ won_ranged {C} change_of break_of contents word p kept u at =
           let pattern = kept.patterns key bears.entries bears.key in
           let sound = (and_parts (ascend_on key 0 (map (λ e. e.place) bears.entries)) _ pattern.ascend).1 in
           let stays = entry_stays change_of key bears.entries bears.among.0 entry sound bears.among.1.0 bears.among.1.1 in
-          elim (change_of entry.change) as (λ change. stays_within key entry.place change ≡ true → Ranged word (changed_by p change)) [
+          elim (change_of entry.change) as (λ change. stays_within key entry.place change ≡ true → Ranged word (break_at p change)) [
             | None ↦ λ _. unchanged_ranged word p at
             | Some change ↦ λ h. in_word word p wins.0 wins.1 entry.place change u bears.some bears.within pattern.utf8 bears.place (kept_within key entry.place change (and_parts (fits_usize entry.place && can_be_said change) _ h).1)
           ] stays
@@ -118,7 +118,7 @@ within_ranged text (b ∷ bs) bounds r =
 patterns_ranged : {C B : Type 0} (change_of : C → Option Change) (break_of : B → Break) (contents : Contents C B) (word : List ℕ) (bounds : ℕ × ℕ)
     → IsDictionary change_of break_of contents → IsUtf8 word → AreRanged word (by_patterns (rules_of change_of break_of contents) word bounds)
 patterns_ranged change_of break_of contents word bounds kept u =
-    let keys = keys_of contents in
+    let keys = entries_of_keys contents in
     within_ranged word (map (winning_break change_of keys word) (filter (λ place. is_odd (value_at keys word place)) (range_with_len 1 (length word - 1)))) bounds
     (picked_ranged word (λ place. is_odd (value_at keys word place)) (winning_break change_of keys word) 1 (length word - 1)
     (λ p lt odd. won_ranged change_of break_of contents word p kept u (value_boundary change_of break_of contents word p kept u (omega arith) (odd_is_some (value_at keys word p) odd))))

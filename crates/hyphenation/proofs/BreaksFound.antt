@@ -10,12 +10,12 @@ use Rattle.std.proofs.lemmas.List.Edits.{map_over_more}
 use Rattle.std.proofs.lemmas.List.Elements.{filter-append}
 use Rattle.std.proofs.lemmas.List.FromFn.{get_or-map-range_with_len, length-map-range_with_len}
 use Rattle.std.proofs.lemmas.List.Sums.{fold-append}
-use Rattle.hyphenation_commons.specs.Break.{Break, Change, begin_of, changed_by}
+use Rattle.hyphenation_commons.specs.Break.{Break, Change, begin_of, break_at}
 use Rattle.hyphenation_commons.specs.Dictionary.{Contents, Patterns}
 use Rattle.hyphenation_commons.specs.Invariant.{IsDictionary}
 use Rattle.hyphenation_commons.specs.declared.dictionary.Entry.{Entry}
-use Rattle.hyphenation.specs.Fitting.{keep, kept_breaks}
-use Rattle.hyphenation.specs.Opportunities.{within, breaks_within, is_odd, winning_break, allowed_by, rules_of, by_patterns, by_exception, Ascending}
+use Rattle.hyphenation.specs.Fitting.{keep_break, kept_breaks}
+use Rattle.hyphenation.specs.Opportunities.{within, breaks_within, is_odd, winning_break, breaks_at_odd_values, rules_of, by_patterns, by_exception, Ascending}
 use Rattle.hyphenation.specs.Private.Opportunities.{won_at, won_break, is_won, won_within}
 use Rattle.hyphenation_score.specs.Scoring.{frame, bearers, value_of, value_at, winner_at, winners}
 use Rattle.hyphenation_score.proofs.FirstGreatest.{value_of-first}
@@ -36,9 +36,9 @@ pub kept_more : {X : Type 0} (test : Break → Bool) (m : X → Break) (xs : Lis
     → kept ≡ kept_breaks test (map m (take i xs)) → EndsAt kept last_end → kept_breaks test (map m (take (i + 1) xs)) ≡ cond (test (m x) && nat_le last_end (begin_of (m x))) (kept ++ m x ∷ []) kept
 kept_more {X} test m xs i x kept last_end lt at is ends =
     ap (λ ys. kept_breaks test (map m ys)) (take_more xs i x lt) ∙ ap (kept_breaks test) (map-append m (take i xs) (get_or xs i x ∷ []))
-    ∙ fold-append (keep test) [] (map m (take i xs)) (m (get_or xs i x) ∷ [])
-    ∙ ap (λ k. keep test k (m (get_or xs i x))) (sym is)
-    ∙ ap (λ (y : X). keep test kept (m y)) (sym at)
+    ∙ fold-append (keep_break test) [] (map m (take i xs)) (m (get_or xs i x) ∷ [])
+    ∙ ap (λ k. keep_break test k (m (get_or xs i x))) (sym is)
+    ∙ ap (λ (y : X). keep_break test kept (m y)) (sym at)
     ∙ ap (λ t. cond (test (m x) && t) (kept ++ m x ∷ []) kept) (ends (m x))
 
 -- One more listed break may be within bounds.
@@ -103,7 +103,7 @@ same_won f g test odd bounds placed a (suc n) agree =
 
 -- The places that are won within bounds are the breaks that the keys allow.
 pub won_allowed : {C : Type 0} (change_of : C → Option Change) (keys : Patterns C) (word : List ℕ) (bounds : ℕ × ℕ) (found : List (Option (Entry C)))
-    → found ≡ winners keys word → won_within change_of found bounds ≡ breaks_within (allowed_by change_of keys word) bounds
+    → found ≡ winners keys word → won_within change_of found bounds ≡ breaks_within (breaks_at_odd_values change_of keys word) bounds
 won_allowed {C} change_of keys word bounds found is =
     let n = length word - 1 in
     let ws : List (Option (Entry C)) = winners keys word in
@@ -114,7 +114,7 @@ won_allowed {C} change_of keys word bounds found is =
     ∙ same_won (won_break change_of ws) (winning_break change_of keys word) (is_won ws bounds) (λ place. is_odd (value_at keys word place)) bounds (λ _. refl) 0 n
     (λ i l h.
     let winner : slice_index_or ws i None ≡ winner_at keys word (i + 1) = at i (omega arith) in (
-      ap (λ w. changed_by (i + 1) (option_and_then (λ entry. change_of entry.change) w)) winner,
+      ap (λ w. break_at (i + 1) (option_and_then (λ entry. change_of entry.change) w)) winner,
       ap (λ w. is_odd (value_of w) && within bounds (i + 1)) winner ∙ ap (λ v. is_odd v && within bounds (i + 1)) (value_of-first (bearers keys (frame word) (i + 1))),
     ))
 

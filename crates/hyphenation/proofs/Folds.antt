@@ -13,7 +13,7 @@ use Rattle.ucd_derived.specs.UppercaseRanges.{uppercase_ranges}
 use Rattle.unicode.specs.Binary.{is_uppercase}
 use Rattle.unicode.specs.CaseFolding.{simple_folding, simple_fold}
 use Rattle.hyphenation.specs.Places.{place_of_character}
-use Rattle.hyphenation.specs.Folding.{fold_character, fold, has_uppercase, carried_back}
+use Rattle.hyphenation.specs.Folding.{fold_character, fold_case, has_uppercase, carried_back}
 use Rattle.hyphenation.proofs.Places.{place_end, place_rises, place_reflects_order, place_of_boundary, boundary_within, characters_before, place_is_boundary, same_place}
 
 -- What the table folds to are characters.
@@ -36,13 +36,13 @@ folded_are_scalars : (cs : List ℕ) → all_scalars cs ≡ true → all_scalars
 folded_are_scalars [] h = refl
 folded_are_scalars (c ∷ cs) h = grind (arith, folded_is_scalar c, folded_are_scalars cs)
 
-pub chars_of_fold : (text : List ℕ) → IsUtf8 text → chars (fold text) ≡ map fold_character (chars text)
+pub chars_of_fold : (text : List ℕ) → IsUtf8 text → chars (fold_case text) ≡ map fold_character (chars text)
 chars_of_fold text u = chars-encodes (map fold_character (chars text)) (folded_are_scalars (chars text) (scalars-chars text u))
 
-pub fold_is_utf8 : (text : List ℕ) → IsUtf8 text → IsUtf8 (fold text)
+pub fold_is_utf8 : (text : List ℕ) → IsUtf8 text → IsUtf8 (fold_case text)
 fold_is_utf8 text u = (map fold_character (chars text), (folded_are_scalars (chars text) (scalars-chars text u), refl))
 
-pub as_many_characters : (text : List ℕ) → IsUtf8 text → length (chars (fold text)) ≡ length (chars text)
+pub as_many_characters : (text : List ℕ) → IsUtf8 text → length (chars (fold_case text)) ≡ length (chars text)
 as_many_characters text u = ap length (chars_of_fold text u) ∙ length-map _ _
 
 -- Texts without a character that is Uppercase stay.
@@ -58,32 +58,32 @@ pub all_fold_to_themselves : (cs : List ℕ) → list_any is_uppercase cs ≡ fa
 all_fold_to_themselves [] h = refl
 all_fold_to_themselves (c ∷ cs) h = grind (arith, folds_to_itself c, all_fold_to_themselves cs)
 
-pub fold_stays : (text : List ℕ) → IsUtf8 text → has_uppercase text ≡ false → fold text ≡ text
+pub fold_stays : (text : List ℕ) → IsUtf8 text → has_uppercase text ≡ false → fold_case text ≡ text
 fold_stays text u h = ap encode_utf8_all (all_fold_to_themselves (chars text) h) ∙ encodes-chars text u
 
 -- Places carried back.
 
-pub carried_place : (text : List ℕ) (j : ℕ) → IsUtf8 text → carried_back text (place_of_character (fold text) j) ≡ place_of_character text j
+pub carried_place : (text : List ℕ) (j : ℕ) → IsUtf8 text → carried_back text (place_of_character (fold_case text) j) ≡ place_of_character text j
 carried_place text j u =
-    let before : length (chars (take (place_of_character (fold text) j) (fold text))) ≡ min j (length (chars text)) =
-    ap length (characters_before (fold text) j (fold_is_utf8 text u) ∙ ap (take j) (chars_of_fold text u) ∙ take-map fold_character j (chars text)) ∙ length-map _ _ ∙ length-take j (chars text) in
+    let before : length (chars (take (place_of_character (fold_case text) j) (fold_case text))) ≡ min j (length (chars text)) =
+    ap length (characters_before (fold_case text) j (fold_is_utf8 text u) ∙ ap (take j) (chars_of_fold text u) ∙ take-map fold_character j (chars text)) ∙ length-map _ _ ∙ length-take j (chars text) in
     ap (place_of_character text) before ∙ same_place text j
 
 pub carried_is_boundary : (text : List ℕ) (p : ℕ) → IsUtf8 text → IsCharBoundary text (carried_back text p)
-carried_is_boundary text p u = place_is_boundary text (length (chars (take p (fold text)))) u
+carried_is_boundary text p u = place_is_boundary text (length (chars (take p (fold_case text)))) u
 
-pub carried_end : (text : List ℕ) → IsUtf8 text → carried_back text (length (fold text)) ≡ length text
+pub carried_end : (text : List ℕ) → IsUtf8 text → carried_back text (length (fold_case text)) ≡ length text
 carried_end text u =
-    let n = length (chars (fold text)) in
-    let at : place_of_character (fold text) n ≡ length (fold text) = place_end (fold text) n (fold_is_utf8 text u) (omega arith) in
+    let n = length (chars (fold_case text)) in
+    let at : place_of_character (fold_case text) n ≡ length (fold_case text) = place_end (fold_case text) n (fold_is_utf8 text u) (omega arith) in
     ap (carried_back text) (sym at) ∙ carried_place text n u ∙ place_end text n u (omega (arith, as_many_characters text u))
 
 pub carried_start : (text : List ℕ) → IsUtf8 text → carried_back text 0 ≡ 0
 carried_start text u = carried_place text 0 u
 
-pub carried_rises : (text : List ℕ) (p q : ℕ) → IsUtf8 text → IsCharBoundary (fold text) p → IsCharBoundary (fold text) q → p < q → carried_back text p < carried_back text q
+pub carried_rises : (text : List ℕ) (p q : ℕ) → IsUtf8 text → IsCharBoundary (fold_case text) p → IsCharBoundary (fold_case text) q → p < q → carried_back text p < carried_back text q
 carried_rises text p q u a b h =
-    let folded = fold text in
+    let folded = fold_case text in
     let w = fold_is_utf8 text u in
     let i = length (chars (take p folded)) in
     let j = length (chars (take q folded)) in

@@ -6,9 +6,9 @@ use Rattle.std.proofs.lemmas.Bool.{cases_lt, le-leb, lt-leb}
 use Rattle.std.proofs.lemmas.List.{append-nil, get_or_past}
 use Rattle.std.proofs.lemmas.List.Elements.{filter-append}
 use Rattle.std.proofs.lemmas.List.FromFn.{get_or-map-range_with_len, length-map-range_with_len}
-use Rattle.hyphenation_commons.specs.Break.{Break, Change, plain, changed_by}
+use Rattle.hyphenation_commons.specs.Break.{Break, Change, plain_break, break_at}
 use Rattle.hyphenation_commons.specs.Dictionary.{Patterns}
-use Rattle.hyphenation.specs.Opportunities.{is_odd, within, breaks_within, winning_break, allowed_by}
+use Rattle.hyphenation.specs.Opportunities.{is_odd, within, breaks_within, winning_break, breaks_at_odd_values}
 use Rattle.hyphenation_score.specs.OnePass.{carry_change}
 use Rattle.hyphenation_score.specs.Scoring.{frame, bearers, value_at, values}
 use Rattle.hyphenation_score.proofs.CarriedChanges.{none_wins}
@@ -103,31 +103,31 @@ even_none values bounds first least even =
 
 -- ---- as breaks
 
-same_breaks : (test odd : ℕ → Bool) (break_to : ℕ → Break) (bounds : ℕ × ℕ) → ((p : ℕ) → break_to p ≡ plain p) → (first n : ℕ)
+same_breaks : (test odd : ℕ → Bool) (break_to : ℕ → Break) (bounds : ℕ × ℕ) → ((p : ℕ) → break_to p ≡ plain_break p) → (first n : ℕ)
     → ((p : ℕ) → first ≤ p → p < first + n → test p ≡ (odd p && within bounds p))
-    → map plain (filter test (range_with_len first n)) ≡ breaks_within (map break_to (filter odd (range_with_len first n))) bounds
+    → map plain_break (filter test (range_with_len first n)) ≡ breaks_within (map break_to (filter odd (range_with_len first n))) bounds
 same_breaks test odd break_to bounds is first zero agree = refl
 same_breaks test odd break_to bounds is first (suc n) agree =
     let front = filter test (range_with_len (first + 1) n) in
     let back = filter odd (range_with_len (first + 1) n) in
-    let rest : map plain front ≡ breaks_within (map break_to back) bounds = same_breaks test odd break_to bounds is (first + 1) n (λ p l h. agree p (omega arith) (omega arith)) in
+    let rest : map plain_break front ≡ breaks_within (map break_to back) bounds = same_breaks test odd break_to bounds is (first + 1) n (λ p l h. agree p (omega arith) (omega arith)) in
     let here : test first ≡ (odd first && within bounds first) = agree first (omega arith) (omega arith) in
     let after = breaks_within (map break_to back) bounds in
-    let both : map plain (cond (within bounds first) (first ∷ front) front) ≡ cond (within bounds first) (plain first ∷ after) after =
-    elim (within bounds first) as (λ w. map plain (cond w (first ∷ front) front) ≡ cond w (plain first ∷ after) after) [ true ↦ ap (λ bs. plain first ∷ bs) rest | false ↦ rest ] in
-    ap (λ t. map plain (cond t (first ∷ front) front)) here
-    ∙ elim (odd first) as (λ o. map plain (cond (o && within bounds first) (first ∷ front) front) ≡ breaks_within (map break_to (cond o (first ∷ back) back)) bounds) [
-      | true ↦ subst (λ (b : Break). map plain (cond (within bounds first) (first ∷ front) front) ≡ cond (within bounds b.place) (b ∷ after) after) (sym (is first)) both
+    let both : map plain_break (cond (within bounds first) (first ∷ front) front) ≡ cond (within bounds first) (plain_break first ∷ after) after =
+    elim (within bounds first) as (λ w. map plain_break (cond w (first ∷ front) front) ≡ cond w (plain_break first ∷ after) after) [ true ↦ ap (λ bs. plain_break first ∷ bs) rest | false ↦ rest ] in
+    ap (λ t. map plain_break (cond t (first ∷ front) front)) here
+    ∙ elim (odd first) as (λ o. map plain_break (cond (o && within bounds first) (first ∷ front) front) ≡ breaks_within (map break_to (cond o (first ∷ back) back)) bounds) [
+      | true ↦ subst (λ (b : Break). map plain_break (cond (within bounds first) (first ∷ front) front) ≡ cond (within bounds b.place) (b ∷ after) after) (sym (is first)) both
       | false ↦ rest
     ]
 
 -- The odd places within bounds are the breaks that the keys allow, where no entry that bears on a place carries a change.
 pub places_allowed : {C : Type 0} (change_of : C → Option Change) (keys : Patterns C) (word : List ℕ) (bounds : ℕ × ℕ) → ((p : ℕ) → carry_change change_of (bearers keys (frame word) p) ≡ false)
-    → map plain (filter (test_of (values keys word) bounds) (range_with_len 1 (length (values keys word)))) ≡ breaks_within (allowed_by change_of keys word) bounds
+    → map plain_break (filter (test_of (values keys word) bounds) (range_with_len 1 (length (values keys word)))) ≡ breaks_within (breaks_at_odd_values change_of keys word) bounds
 places_allowed change_of keys word bounds none =
     let n = length word - 1 in
     let test : ℕ → Bool = test_of (values keys word) bounds in
     let count : length (values keys word) ≡ n = length-map-range_with_len (λ p. value_at keys word p) 1 n in
-    ap (λ m. map plain (filter test (range_with_len 1 m))) count
-    ∙ same_breaks test (λ place. is_odd (value_at keys word place)) (winning_break change_of keys word) bounds (λ p. ap (changed_by p) (none_wins change_of keys word p (none p))) 1 n
+    ap (λ m. map plain_break (filter test (range_with_len 1 m))) count
+    ∙ same_breaks test (λ place. is_odd (value_at keys word place)) (winning_break change_of keys word) bounds (λ p. ap (break_at p) (none_wins change_of keys word p (none p))) 1 n
     (λ p l h. ap (λ v. is_odd v && within bounds p) (get_or-map-range_with_len (λ q. value_at keys word q) 1 n (p - 1) p 0 (omega arith) (omega arith)))

@@ -6,14 +6,14 @@ use Rattle.std.specs.FinMap as finite
 use Rattle.std.specs.Prelude.{is_none}
 use Rattle.std.specs.List.{list_all}
 use Rattle.std.proofs.lemmas.Bool.{cond-true, and_parts}
-use Rattle.hyphenation_commons.specs.Break.{Break, Change, plain, changed_by, begin_of, end_of}
-use Rattle.hyphenation_commons.specs.Dictionary.{Contents, Patterns, keys_of}
+use Rattle.hyphenation_commons.specs.Break.{Break, Change, plain_break, break_at, begin_of, end_of}
+use Rattle.hyphenation_commons.specs.Dictionary.{Contents, Patterns, entries_of_keys}
 use Rattle.hyphenation_commons.specs.Invariant.{IsDictionary}
 use Rattle.hyphenation.specs.declared.case_folding.Shift.{Shift}
 use Rattle.hyphenation.specs.Fitting.{kept_breaks, fitted_breaks_of}
 use Rattle.hyphenation.specs.Private.Fitting.{holds_shift, is_steady_by}
 use Rattle.hyphenation.specs.Private.Opportunities.{lent_break}
-use Rattle.hyphenation.specs.Folding.{fold, carried_back, shifts_of}
+use Rattle.hyphenation.specs.Folding.{fold_case, carried_back, shifts_of}
 use Rattle.hyphenation.specs.Opportunities.{Rules, no_change, rules_of, within, breaks_within, winning_break, by_patterns, opportunities_in, opportunities, boundaries_by, all_breaks_of, breaks_as_written, break_carried_back, Ascending}
 use Rattle.hyphenation.specs.SoftHyphens.{soft_hyphens}
 use Rattle.hyphenation_score.specs.Scoring.{winner_at}
@@ -24,7 +24,7 @@ use Rattle.hyphenation.proofs.RulesAscend.{AscendFrom, from_ascending, rules_are
 -- Each break is a place alone.
 abbrev pub ArePlain : List Break → Type 0
 ArePlain [] = Unit {0}
-ArePlain (b ∷ bs) = (b ≡ plain b.place) × ArePlain bs
+ArePlain (b ∷ bs) = (b ≡ plain_break b.place) × ArePlain bs
 
 -- ---- all of them are kept
 
@@ -36,13 +36,13 @@ none_between place (s ∷ ss) =
       | false ↦ λ e. grind (arith, none_between place ss)
     ] refl
 
-plain_is_steady : (size : ℕ) (shifts : List Shift) (place : ℕ) → place ≤ size → is_steady_by size shifts (plain place) ≡ true
+plain_is_steady : (size : ℕ) (shifts : List Shift) (place : ℕ) → place ≤ size → is_steady_by size shifts (plain_break place) ≡ true
 plain_is_steady size shifts place h =
     ap (λ t. (nat_le 0 place && t) && not (holds_shift shifts (place - 0) (place + 0))) (le-leb (place + 0) size (omega arith))
     ∙ ap (λ t. (t && true) && not (holds_shift shifts (place - 0) (place + 0))) (le-leb 0 place (omega arith))
     ∙ ap (λ t. (true && true) && not t) (none_between place shifts)
 
-all_kept : (text : List ℕ) (test : Break → Bool) (last_end least : ℕ) (breaks : List Break) → ((place : ℕ) → place ≤ length text → test (plain place) ≡ true) → last_end ≤ least → AscendFrom text least breaks → ArePlain breaks → kept_from test last_end breaks ≡ breaks
+all_kept : (text : List ℕ) (test : Break → Bool) (last_end least : ℕ) (breaks : List Break) → ((place : ℕ) → place ≤ length text → test (plain_break place) ≡ true) → last_end ≤ least → AscendFrom text least breaks → ArePlain breaks → kept_from test last_end breaks ≡ breaks
 all_kept text test last_end least [] steady h a p = refl
 all_kept text test last_end least (b ∷ bs) steady h a p =
     let place = b.place in
@@ -56,11 +56,11 @@ plain_kept text shifts breaks a p = kept_is _ breaks ∙ all_kept text (is_stead
 
 carried_plain : (word : List ℕ) (breaks : List Break) → ArePlain breaks → ArePlain (map (break_carried_back word) breaks)
 carried_plain word [] p = tt
-carried_plain word (b ∷ bs) p = (ap (λ x. changed_by (carried_back word b.place) x.change) p.0, carried_plain word bs p.1)
+carried_plain word (b ∷ bs) p = (ap (λ x. break_at (carried_back word b.place) x.change) p.0, carried_plain word bs p.1)
 
 -- ---- of a standard dictionary
 
-pub plain_made : {X : Type 0} (make : X → Break) → ((x : X) → make x ≡ plain (make x).place) → (xs : List X) → ArePlain (map make xs)
+pub plain_made : {X : Type 0} (make : X → Break) → ((x : X) → make x ≡ plain_break (make x).place) → (xs : List X) → ArePlain (map make xs)
 plain_made make h [] = tt
 plain_made make h (x ∷ xs) = (h x, plain_made make h xs)
 
@@ -69,7 +69,7 @@ pub plain_lent : (found : List (ℕ × Option (Bor Change))) → list_all (λ b.
 plain_lent [] none = tt
 plain_lent (b ∷ bs) none =
     let parts = and_parts (is_none b.1) (list_all (λ b. is_none b.1) bs) none in
-    (elim b.1 as (λ o. is_none o ≡ true → changed_by b.0 (option_copied o) ≡ plain b.0) [ None ↦ λ _. refl | Some change ↦ λ h. absurd cc ] parts.0, plain_lent bs parts.1)
+    (elim b.1 as (λ o. is_none o ≡ true → break_at b.0 (option_copied o) ≡ plain_break b.0) [ None ↦ λ _. refl | Some change ↦ λ h. absurd cc ] parts.0, plain_lent bs parts.1)
 
 plain_within : (breaks : List Break) (bounds : ℕ × ℕ) → ArePlain breaks → ArePlain (breaks_within breaks bounds)
 plain_within [] bounds p = tt
@@ -80,40 +80,40 @@ plain_within (b ∷ bs) bounds p =
       | false ↦ rest
     ]
 
-pub changes_nothing : {C : Type 0} (keys : Patterns C) (text : List ℕ) (place : ℕ) → winning_break no_change keys text place ≡ plain place
+pub changes_nothing : {C : Type 0} (keys : Patterns C) (text : List ℕ) (place : ℕ) → winning_break no_change keys text place ≡ plain_break place
 changes_nothing keys text place =
-    elim (winner_at keys text place) as (λ winner. record { place = place; change = option_and_then (λ entry. no_change entry.change) winner } ≡ plain place) [
+    elim (winner_at keys text place) as (λ winner. record { place = place; change = option_and_then (λ entry. no_change entry.change) winner } ≡ plain_break place) [
       | None ↦ refl
       | Some entry ↦ refl
     ]
 
 module _ (contents : Contents (Unit {0}) ℕ) (word : List ℕ) where
   abbrev rules : Rules
-  rules = rules_of no_change plain contents
+  rules = rules_of no_change plain_break contents
 
   opportunities_plain : (text : List ℕ) → ArePlain (opportunities rules text)
   opportunities_plain text =
       elim (boundaries_by rules text) as (λ found. ArePlain (option_map_or (opportunities_in rules text) found [])) [
         | None ↦ tt
         | Some bounds ↦
-            elim (finite.get contents.exceptions text) as (λ found. ArePlain (unwrap_or (option_map (λ listed. breaks_within listed bounds) (option_map (map plain) found)) (by_patterns rules text bounds))) [
-              | None ↦ plain_within (rules.allowed text) bounds (plain_made (winning_break no_change (keys_of contents) text) (changes_nothing (keys_of contents) text) _)
-              | Some listed ↦ plain_within (map plain listed) bounds (plain_made plain (λ _. refl) listed)
+            elim (finite.get contents.exceptions text) as (λ found. ArePlain (unwrap_or (option_map (λ listed. breaks_within listed bounds) (option_map (map plain_break) found)) (by_patterns rules text bounds))) [
+              | None ↦ plain_within (rules.allowed text) bounds (plain_made (winning_break no_change (entries_of_keys contents) text) (changes_nothing (entries_of_keys contents) text) _)
+              | Some listed ↦ plain_within (map plain_break listed) bounds (plain_made plain_break (λ _. refl) listed)
             ]
       ]
 
   -- Its breaks change nothing.
   pub breaks_plain : ArePlain (all_breaks_of rules word)
   breaks_plain =
-      let found : List Break = opportunities rules (fold word) in
-      elim (length (soft_hyphens word) == 0) as (λ t. ArePlain (cond t (map (break_carried_back word) found) (map plain (soft_hyphens word)))) [
-        | true ↦ carried_plain word found (opportunities_plain (fold word))
-        | false ↦ plain_made plain (λ _. refl) (soft_hyphens word)
+      let found : List Break = opportunities rules (fold_case word) in
+      elim (length (soft_hyphens word) == 0) as (λ t. ArePlain (cond t (map (break_carried_back word) found) (map plain_break (soft_hyphens word)))) [
+        | true ↦ carried_plain word found (opportunities_plain (fold_case word))
+        | false ↦ plain_made plain_break (λ _. refl) (soft_hyphens word)
       ]
 
   -- Its breaks are the same where they are fitted first.
-  pub fitted_alike : IsDictionary no_change plain contents → IsUtf8 word → fitted_breaks_of rules word ≡ all_breaks_of rules word
+  pub fitted_alike : IsDictionary no_change plain_break contents → IsUtf8 word → fitted_breaks_of rules word ≡ all_breaks_of rules word
   fitted_alike kept u =
-      let all = opportunities rules (fold word) in
-      let ascend : Ascending (fold word) all = opportunities_ascend rules (fold word) (rules_are_sound no_change plain contents (fold word) kept (fold_is_utf8 word u)) in
-      ap (breaks_as_written word) (sym (fitted_by_shifts word all) ∙ plain_kept (fold word) (shifts_of word) all ascend (opportunities_plain (fold word)))
+      let all = opportunities rules (fold_case word) in
+      let ascend : Ascending (fold_case word) all = opportunities_ascend rules (fold_case word) (rules_are_sound no_change plain_break contents (fold_case word) kept (fold_is_utf8 word u)) in
+      ap (breaks_as_written word) (sym (fitted_by_shifts word all) ∙ plain_kept (fold_case word) (shifts_of word) all ascend (opportunities_plain (fold_case word)))

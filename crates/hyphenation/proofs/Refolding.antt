@@ -10,7 +10,7 @@ use Rattle.std.proofs.lemmas.Str.{chars-nil, chars-append, chars_past_char, enco
 use Rattle.unicode.specs.Binary.{is_uppercase}
 use Rattle.hyphenation.specs.declared.case_folding.Shift.{Shift}
 use Rattle.hyphenation.specs.Places.{place_of_character}
-use Rattle.hyphenation.specs.Folding.{fold_character, fold, has_uppercase, changes_length, shift_of, shifts_of}
+use Rattle.hyphenation.specs.Folding.{fold_character, fold_case, has_uppercase, changes_length, shift_of, shifts_of}
 use Rattle.hyphenation.proofs.Folds.{chars_of_fold, fold_stays, folds_to_itself}
 use Rattle.hyphenation.proofs.NumberedCharacters.{picked_more}
 use Rattle.hyphenation.proofs.Places.{place_at}
@@ -75,10 +75,10 @@ unequal a b h = grind (arith)
 written_place : (original rest folded : List ℕ) (written : ℕ) (shifts : List Shift) (r : Refolding original rest folded written shifts) → place_of_character original (length r.done) ≡ written
 written_place original rest folded written shifts r = place_at original r.done (chars rest) r.all ∙ sym r.written_is
 
-folded_place : (original rest folded : List ℕ) (written : ℕ) (shifts : List Shift) (r : Refolding original rest folded written shifts) → place_of_character (fold original) (length r.done) ≡ length folded
+folded_place : (original rest folded : List ℕ) (written : ℕ) (shifts : List Shift) (r : Refolding original rest folded written shifts) → place_of_character (fold_case original) (length r.done) ≡ length folded
 folded_place original rest folded written shifts r =
-    let parts : chars (fold original) ≡ map fold_character r.done ++ map fold_character (chars rest) = chars_of_fold original r.utf8 ∙ ap (map fold_character) r.all ∙ map-append fold_character r.done (chars rest) in
-    ap (place_of_character (fold original)) (sym (length-map _ _)) ∙ place_at (fold original) (map fold_character r.done) (map fold_character (chars rest)) parts ∙ sym (ap length r.folded_is)
+    let parts : chars (fold_case original) ≡ map fold_character r.done ++ map fold_character (chars rest) = chars_of_fold original r.utf8 ∙ ap (map fold_character) r.all ∙ map-append fold_character r.done (chars rest) in
+    ap (place_of_character (fold_case original)) (sym (length-map _ _)) ∙ place_at (fold_case original) (map fold_character r.done) (map fold_character (chars rest)) parts ∙ sym (ap length r.folded_is)
 
 -- One character further.
 
@@ -121,16 +121,16 @@ module _ (original rest next folded folded' : List ℕ) (written written' c : �
       let index = folded_place original rest folded written shifts before in
       let then : Refolding original next folded' written' (shifts_before original (n + 1)) = further (shifts_before original (n + 1)) refl in
       let count : length more ≡ n + 1 = length-append before.done (c ∷ []) in
-      let folded_after : place_of_character (fold original) (n + 1) ≡ length folded' = subst (λ m. place_of_character (fold original) m ≡ length folded') count (folded_place original next folded' written' (shifts_before original (n + 1)) then) in
+      let folded_after : place_of_character (fold_case original) (n + 1) ≡ length folded' = subst (λ m. place_of_character (fold_case original) m ≡ length folded') count (folded_place original next folded' written' (shifts_before original (n + 1)) then) in
       let after : place_of_character original (n + 1) ≡ written' = subst (λ m. place_of_character original m ≡ written') count (written_place original next folded' written' (shifts_before original (n + 1)) then) in
       let make : ℕ → ℤ → Shift = λ index delta. record { index = index; delta = delta } in
-      let this : s ≡ shift_of original n = ap (λ m. make m s.delta) (i ∙ sym index) ∙ ap (make (place_of_character (fold original) n)) (d ∙ ap (λ m. pos m -ℤ pos written') (sym folded_after) ∙ ap (λ m. pos (place_of_character (fold original) (n + 1)) -ℤ pos m) (sym after)) in
+      let this : s ≡ shift_of original n = ap (λ m. make m s.delta) (i ∙ sym index) ∙ ap (make (place_of_character (fold_case original) n)) (d ∙ ap (λ m. pos m -ℤ pos written') (sym folded_after) ∙ ap (λ m. pos (place_of_character (fold_case original) (n + 1)) -ℤ pos m) (sym after)) in
       further shifts' (k ∙ ap (λ xs. xs ++ s ∷ []) before.shifts_are ∙ ap (λ t. shifts_before original n ++ t ∷ []) this
       ∙ sym (picked_more (shift_of original) (changes_length original) n ∙ ap (λ b. shifts_before original n ++ cond b (shift_of original n ∷ []) []) (changes ∙ unequal _ _ h)))
 
 -- At the end.
 
-pub folded_whole : (original rest folded : List ℕ) (written : ℕ) (shifts : List Shift) → Refolding original rest folded written shifts → length rest ≡ 0 → (folded ≡ fold original) × (shifts ≡ shifts_of original)
+pub folded_whole : (original rest folded : List ℕ) (written : ℕ) (shifts : List Shift) → Refolding original rest folded written shifts → length rest ≡ 0 → (folded ≡ fold_case original) × (shifts ≡ shifts_of original)
 folded_whole original [] folded written shifts r h =
     let whole : chars original ≡ r.done = r.all ∙ ap (λ cs. r.done ++ cs) chars-nil ∙ append-nil r.done in
     (r.folded_is ∙ ap (λ cs. encode_utf8_all (map fold_character cs)) (sym whole), r.shifts_are ∙ ap (λ cs. shifts_before original (length cs)) (sym whole))

@@ -8,8 +8,8 @@ use Rattle.std.specs.Str.{IsUtf8, IsCharBoundary}
 use Rattle.std.specs.FinMap as finite
 use Rattle.std.proofs.lemmas.Bool.{and_parts}
 use Rattle.std.proofs.lemmas.List.Elements.{All-head, All-tail}
-use Rattle.hyphenation_commons.specs.Break.{Break, Change, plain, ascend_on, end_of}
-use Rattle.hyphenation_commons.specs.Dictionary.{Contents, keys_of}
+use Rattle.hyphenation_commons.specs.Break.{Break, Change, plain_break, ascend_on, end_of}
+use Rattle.hyphenation_commons.specs.Dictionary.{Contents, entries_of_keys}
 use Rattle.hyphenation_commons.specs.Invariant.{IsDictionary, are_listed}
 use Rattle.hyphenation_commons.proofs.PlacesInOrder.{map_twice}
 use Rattle.hyphenation_segments.specs.Fits.{Fits, FitsFrom}
@@ -72,7 +72,7 @@ odd_is_some (suc value) h = omega arith
 pub rules_are_sound : {C B : Type 0} (change_of : C → Option Change) (break_of : B → Break) (contents : Contents C B) (word : List ℕ)
     → IsDictionary change_of break_of contents → IsUtf8 word → AreSound (rules_of change_of break_of contents) word
 rules_are_sound {C} {B} change_of break_of contents word kept u =
-    let keys = keys_of contents in
+    let keys = entries_of_keys contents in
     record {
       listed = elim (finite.get contents.exceptions word) as (λ found. finite.get contents.exceptions word ≡ found → IfSome (option_map (map break_of) found) (λ listed. Ascending word listed)) [
         | None ↦ λ _. tt
@@ -120,7 +120,7 @@ increasing_tail x xs h = λ k lt. let later : slice_index xs k < slice_index (x 
     let e : slice_index (x ∷ xs) (suc k + 1) ≡ slice_index xs (k + 1) = ap (λ i. slice_index (x ∷ xs) i) (add-one (suc k)) ∙ ap (λ i. slice_index xs i) (sym (add-one k)) in omega arith
 
 -- Increasing places on boundaries ascend.
-places_ascend : (text : List ℕ) (least : ℕ) (xs : List ℕ) → IsStrictlyIncreasing xs → All (λ place. IsCharBoundary text place × (place < length text)) xs → (0 < length xs → least ≤ slice_index xs 0) → AscendFrom text least (map plain xs)
+places_ascend : (text : List ℕ) (least : ℕ) (xs : List ℕ) → IsStrictlyIncreasing xs → All (λ place. IsCharBoundary text place × (place < length text)) xs → (0 < length xs → least ≤ slice_index xs 0) → AscendFrom text least (map plain_break xs)
 places_ascend text least [] h all from = tt
 places_ascend text least (x ∷ xs) h all from = (
   from (omega arith),
@@ -129,15 +129,15 @@ places_ascend text least (x ∷ xs) h all from = (
       (λ lt. let next : x < slice_index xs 0 = h 0 (omega arith) in omega arith),
 )
 
-places_of_plain : (xs : List ℕ) → map (λ b. b.place) (map plain xs) ≡ xs
+places_of_plain : (xs : List ℕ) → map (λ b. b.place) (map plain_break xs) ≡ xs
 places_of_plain [] = refl
 places_of_plain (x ∷ xs) = ap (λ ys. x ∷ ys) (places_of_plain xs)
 
 -- Plain breaks that ascend fit.
-pub ascending_fit : (text xs : List ℕ) → AscendFrom text 0 (map plain xs) → Fits text (map plain xs)
+pub ascending_fit : (text xs : List ℕ) → AscendFrom text 0 (map plain_break xs) → Fits text (map plain_break xs)
 ascending_fit text xs a = ascend_fits text 0 0 xs (omega arith) (subst (Ascend text 0) (places_of_plain xs) a)
 
-pub increasing_fit : (text xs : List ℕ) → IsStrictlyIncreasing xs → All (λ place. IsCharBoundary text place × (place < length text)) xs → Fits text (map plain xs)
+pub increasing_fit : (text xs : List ℕ) → IsStrictlyIncreasing xs → All (λ place. IsCharBoundary text place × (place < length text)) xs → Fits text (map plain_break xs)
 increasing_fit text xs h all = ascending_fit text xs (places_ascend text 0 xs h all (λ _. omega arith))
 
 -- Breaks that fit ascend.

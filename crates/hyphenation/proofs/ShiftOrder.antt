@@ -13,7 +13,7 @@ use Rattle.std.proofs.lemmas.List.Folds.{list_any_at, list_any_none, find-append
 use Rattle.std.proofs.lemmas.Option.{slice_get-get_or}
 use Rattle.hyphenation.specs.declared.case_folding.Shift.{Shift}
 use Rattle.hyphenation.specs.Private.Fitting.{holds_shift}
-use Rattle.hyphenation.specs.Folding.{fold, changes_length, shift_of, shifts_of}
+use Rattle.hyphenation.specs.Folding.{fold_case, changes_length, shift_of, shifts_of}
 use Rattle.hyphenation.specs.Places.{place_of_character}
 use Rattle.hyphenation.proofs.Folds.{as_many_characters}
 use Rattle.hyphenation.proofs.Places.{place_keeps_order}
@@ -97,5 +97,5 @@ pub shifts_in_order : (word : List ℕ) → IsUtf8 word → IsNonDecreasingBy (�
 shifts_in_order word u =
     let n = length (chars word) in
     mapped_in_order (shift_of word) (λ s. s.index) (filter (changes_length word) (range_with_len 0 n))
-    (IsNonDecreasingBy-filter (λ j. place_of_character (fold word) j) (changes_length word) (range_with_len 0 n)
-    (row_in_order (λ j. place_of_character (fold word) j) n (λ i j h l. place_keeps_order (fold word) i j h (omega (arith, as_many_characters word u)))))
+    (IsNonDecreasingBy-filter (λ j. place_of_character (fold_case word) j) (changes_length word) (range_with_len 0 n)
+    (row_in_order (λ j. place_of_character (fold_case word) j) n (λ i j h l. place_keeps_order (fold_case word) i j h (omega (arith, as_many_characters word u)))))

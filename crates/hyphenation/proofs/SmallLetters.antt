@@ -14,7 +14,7 @@ use Rattle.ucd_derived.proofs.Computing.{ucd_derived}
 use Rattle.hyphenation_commons.specs.Break.{Break}
 use Rattle.hyphenation.specs.Fitting.{kept_breaks, fitted_breaks_of}
 use Rattle.hyphenation.specs.Private.Fitting.{is_steady_by}
-use Rattle.hyphenation.specs.Folding.{fold, carried_back}
+use Rattle.hyphenation.specs.Folding.{fold_case, carried_back}
 use Rattle.hyphenation.specs.Opportunities.{Rules, opportunities, Ascending}
 use Rattle.hyphenation.specs.Places.{place_of_character}
 use Rattle.hyphenation.specs.Private.SmallLetters.{is_small_letter, is_small_pair, are_small_letters}
@@ -223,14 +223,14 @@ none_soft [] (suc j) e = refl
 none_soft (c ∷ cs) zero e = small_not_soft c (and_parts (is_small_letter c) (list_all is_small_letter cs) e).0
 none_soft (c ∷ cs) (suc j) e = none_soft cs j (and_parts (is_small_letter c) (list_all is_small_letter cs) e).1
 
-pub small_fold : (word : List ℕ) → IsUtf8 word → are_small_letters word ≡ true → fold word ≡ word
+pub small_fold : (word : List ℕ) → IsUtf8 word → are_small_letters word ≡ true → fold_case word ≡ word
 small_fold word u e = fold_stays word u (none_upper (chars word) (letters_spelt word e))
 
-stays : (word : List ℕ) (p : ℕ) → IsUtf8 word → fold word ≡ word → IsCharBoundary (fold word) p → carried_back word p ≡ p
+stays : (word : List ℕ) (p : ℕ) → IsUtf8 word → fold_case word ≡ word → IsCharBoundary (fold_case word) p → carried_back word p ≡ p
 stays word p u same at =
     ap (λ t. place_of_character word (length (chars (take p t)))) same ∙ sym (place_of_boundary word p u (subst (λ t. IsCharBoundary t p) same at))
 
-pub small_breaks : (rules : Rules) (word : List ℕ) (kept : List Break) → IsUtf8 word → are_small_letters word ≡ true → Ascending (fold word) (opportunities rules (fold word))
+pub small_breaks : (rules : Rules) (word : List ℕ) (kept : List Break) → IsUtf8 word → are_small_letters word ≡ true → Ascending (fold_case word) (opportunities rules (fold_case word))
     → kept ≡ kept_breaks (is_steady_by (length word) []) (opportunities rules word) → kept ≡ fitted_breaks_of rules word
 small_breaks rules word kept u e ascend is =
     let same = small_fold word u e in

@@ -2,7 +2,7 @@
 use Rattle.std.proofs.Common.{◌≡◌, ℕ, List, [], ◌∷◌, ◌++◌, map, refl, ap, subst, ◌∙◌, append-nil, arith}
 use Rattle.std.specs.List.{concat}
 use Rattle.std.specs.Str.{IsUtf8}
-use Rattle.hyphenation_commons.specs.Break.{Break, plain}
+use Rattle.hyphenation_commons.specs.Break.{Break, plain_break}
 use Rattle.hyphenation_segments.specs.Fits.{Fits}
 use Rattle.hyphenation_segments.specs.Segments.{marked_word, segments, marked_segments}
 use Rattle.hyphenation.specs.Hyphenated.{hyphenated_text}
@@ -10,9 +10,9 @@ use Rattle.hyphenation_segments.proofs.SegmentsJoin as lemmas
 use Rattle.hyphenation.proofs.PiecesJoin.{pieces_back}
 use Rattle.hyphenation.proofs.PlainBreaks.{ArePlain}
 
-places_alone : (breaks : List Break) → ArePlain breaks → breaks ≡ map plain (map (λ b. b.place) breaks)
+places_alone : (breaks : List Break) → ArePlain breaks → breaks ≡ map plain_break (map (λ b. b.place) breaks)
 places_alone [] p = refl
-places_alone (b ∷ bs) p = ap (λ x. x ∷ bs) p.0 ∙ ap (λ xs. plain b.place ∷ xs) (places_alone bs p.1)
+places_alone (b ∷ bs) p = ap (λ x. x ∷ bs) p.0 ∙ ap (λ xs. plain_break b.place ∷ xs) (places_alone bs p.1)
 
 unmarked : (parts : List (List ℕ)) → concat (marked_segments [] parts) ≡ concat parts
 unmarked [] = refl

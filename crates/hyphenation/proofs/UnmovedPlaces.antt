@@ -2,10 +2,10 @@
 use Rattle.std.proofs.Common.{◌≡◌, ℕ, ◌+◌, ◌==◌, ◌&&◌, Bool, true, false, cond, nat_le, List, [], ◌∷◌, length, map, refl, sym, ap, ◌∙◌}
 use Rattle.std.specs.Str.{IsCharBoundary}
 use Rattle.std.proofs.lemmas.Bool.{cond-true}
-use Rattle.hyphenation_commons.specs.Break.{Break, plain, begin_of, end_of}
+use Rattle.hyphenation_commons.specs.Break.{Break, plain_break, begin_of, end_of}
 use Rattle.hyphenation.specs.Fitting.{is_steady, kept_breaks, fitted_breaks, fitted_breaks_of}
 use Rattle.hyphenation.specs.Private.Fitting.{is_steady_by}
-use Rattle.hyphenation.specs.Folding.{fold, carried_back, shifts_of}
+use Rattle.hyphenation.specs.Folding.{fold_case, carried_back, shifts_of}
 use Rattle.hyphenation.specs.Opportunities.{Rules, opportunities, break_carried_back, Ascending}
 use Rattle.hyphenation.specs.SoftHyphens.{soft_hyphens}
 use Rattle.hyphenation.proofs.Fitting.{kept_from, kept_is, fitted_by_shifts}
@@ -13,9 +13,9 @@ use Rattle.hyphenation.proofs.RulesAscend.{AscendFrom, from_ascending}
 
 -- Each place of the folded word is the same place of the word as written.
 abbrev pub MovesNothing : List ℕ → Type 0
-MovesNothing word = (p : ℕ) → IsCharBoundary (fold word) p → carried_back word p ≡ p
+MovesNothing word = (p : ℕ) → IsCharBoundary (fold_case word) p → carried_back word p ≡ p
 
-kept_stay : (word : List ℕ) (test : Break → Bool) (last_end least : ℕ) (breaks : List Break) → MovesNothing word → AscendFrom (fold word) least breaks
+kept_stay : (word : List ℕ) (test : Break → Bool) (last_end least : ℕ) (breaks : List Break) → MovesNothing word → AscendFrom (fold_case word) least breaks
     → map (break_carried_back word) (kept_from test last_end breaks) ≡ kept_from test last_end breaks
 kept_stay word test last_end least [] stays ascend = refl
 kept_stay word test last_end least (b ∷ bs) stays ascend =
@@ -27,13 +27,13 @@ kept_stay word test last_end least (b ∷ bs) stays ascend =
     ]
 
 -- What is kept of the folded word's breaks, with no shifts, are the breaks of the word as written.
-pub unmoved_breaks : (rules : Rules) (word folded : List ℕ) (kept : List Break) → shifts_of word ≡ [] → soft_hyphens word ≡ [] → MovesNothing word → folded ≡ fold word → Ascending (fold word) (opportunities rules (fold word))
+pub unmoved_breaks : (rules : Rules) (word folded : List ℕ) (kept : List Break) → shifts_of word ≡ [] → soft_hyphens word ≡ [] → MovesNothing word → folded ≡ fold_case word → Ascending (fold_case word) (opportunities rules (fold_case word))
     → kept ≡ kept_breaks (is_steady_by (length folded) []) (opportunities rules folded) → kept ≡ fitted_breaks_of rules word
 unmoved_breaks rules word folded kept no_shifts no_hyphens stays folded_is ascend is =
-    let all = opportunities rules (fold word) in
+    let all = opportunities rules (fold_case word) in
     let kept_are : kept ≡ fitted_breaks word all =
-    is ∙ ap (λ t. kept_breaks (is_steady_by (length t) []) (opportunities rules t)) folded_is ∙ ap (λ s. kept_breaks (is_steady_by (length (fold word)) s) all) (sym no_shifts) ∙ fitted_by_shifts word all in
+    is ∙ ap (λ t. kept_breaks (is_steady_by (length t) []) (opportunities rules t)) folded_is ∙ ap (λ s. kept_breaks (is_steady_by (length (fold_case word)) s) all) (sym no_shifts) ∙ fitted_by_shifts word all in
     let from : fitted_breaks word all ≡ kept_from (is_steady word) 0 all = kept_is (is_steady word) all in
-    let stay : map (break_carried_back word) (fitted_breaks word all) ≡ fitted_breaks word all = ap (map (break_carried_back word)) from ∙ kept_stay word (is_steady word) 0 0 all stays (from_ascending (fold word) all ascend) ∙ sym from in
+    let stay : map (break_carried_back word) (fitted_breaks word all) ≡ fitted_breaks word all = ap (map (break_carried_back word)) from ∙ kept_stay word (is_steady word) 0 0 all stays (from_ascending (fold_case word) all ascend) ∙ sym from in
     let none : (length (soft_hyphens word) == 0) ≡ true = ap (λ xs. length xs == 0) no_hyphens in
-    kept_are ∙ sym stay ∙ sym (cond-true (length (soft_hyphens word) == 0) (map (break_carried_back word) (fitted_breaks word all)) (map plain (soft_hyphens word)) none)
+    kept_are ∙ sym stay ∙ sym (cond-true (length (soft_hyphens word) == 0) (map (break_carried_back word) (fitted_breaks word all)) (map plain_break (soft_hyphens word)) none)

@@ -1,8 +1,8 @@
 -- What is written of a word's score, and when a run is refused.
 use Rattle.std.specs.Prelude.{◌≡◌, ◌≢◌, ℕ, List, [], ◌∷◌, ◌++◌, map, decimal, IsUtf8, None, Result, Ok, Err, Option, Some, unwrap_or, slice_index_or}
 use Rattle.std.specs.List.{join_with_byte}
-use Rattle.hyphenation_commons.specs.Break.{Break, plain}
-use Rattle.hyphenation_commons.specs.Dictionary.{keys_of}
+use Rattle.hyphenation_commons.specs.Break.{Break, plain_break}
+use Rattle.hyphenation_commons.specs.Dictionary.{entries_of_keys}
 use Rattle.dictionary_text.specs.Edits.{after_edits, first_refused}
 use Rattle.dictionary_text.specs.Lines.{lines_of, language_of}
 use Rattle.dictionary_text.specs.Reading.{place_as_listing, break_as_listing, standard_contents, extended_contents}
@@ -30,8 +30,8 @@ language_in bytes = unwrap_or (language_of (slice_index_or (lines_of bytes) 1 []
 
 -- The values of a word's places by the dictionary of that kind that a text gives.
 abbrev pub values_by : Kind → List ℕ → List ℕ → List ℕ
-values_by Standard bytes word = values (keys_of (standard_contents bytes)) word
-values_by Extended bytes word = values (keys_of (extended_contents bytes)) word
+values_by Standard bytes word = values (entries_of_keys (standard_contents bytes)) word
+values_by Extended bytes word = values (entries_of_keys (extended_contents bytes)) word
 
 -- A dictionary's text is accepted, and of that language.
 abbrev pub IsAccepted : (List ℕ → Option (ℕ × Cause)) → (List ℕ → List ℕ) → List ℕ → List ℕ → Type 0
@@ -79,7 +79,7 @@ HoldsNoWant _ = Unit {0}
 -- The breaks of a word as written by the dictionary of that kind that a text gives, after edits.
 abbrev pub breaks_by : Kind → List ℕ → List (List ℕ) → List ℕ → List Break
 breaks_by Standard bytes edits word =
-    all_breaks_of (rules_of no_change plain (after_edits place_as_listing (standard_contents bytes) edits)) word
+    all_breaks_of (rules_of no_change plain_break (after_edits place_as_listing (standard_contents bytes) edits)) word
 breaks_by Extended bytes edits word =
     fitted_breaks_of (rules_of own_change own_break (after_edits break_as_listing (extended_contents bytes) edits)) word
 

@@ -14,8 +14,8 @@ abbrev pub fold_character : ℕ → ℕ
 fold_character c = if c == 0x130 then 0x69 else (if is_uppercase c then simple_fold c else c)
 
 -- Each character is folded by itself.
-abbrev pub fold : List ℕ → List ℕ
-fold text = encode_utf8_all (map fold_character (chars text))
+abbrev pub fold_case : List ℕ → List ℕ
+fold_case text = encode_utf8_all (map fold_character (chars text))
 
 -- Some character is Uppercase.
 abbrev pub has_uppercase : List ℕ → Bool
@@ -24,7 +24,7 @@ has_uppercase text = list_any is_uppercase (chars text)
 -- A character boundary of the folded text is carried back to the place in the text as written with as many characters
 -- before it.
 abbrev pub carried_back : List ℕ → ℕ → ℕ
-carried_back text place = place_of_character text (length (chars (take place (fold text))))
+carried_back text place = place_of_character text (length (chars (take place (fold_case text))))
 
 -- The folding changes the number of bytes of character number j.
 abbrev pub changes_length : List ℕ → ℕ → Bool
@@ -35,8 +35,8 @@ changes_length text j =
 abbrev pub shift_of : List ℕ → ℕ → Shift
 shift_of text j =
     record {
-      index = place_of_character (fold text) j;
-      delta = pos (place_of_character (fold text) (j + 1)) -ℤ pos
+      index = place_of_character (fold_case text) j;
+      delta = pos (place_of_character (fold_case text) (j + 1)) -ℤ pos
           (place_of_character text (j + 1));
     }
 

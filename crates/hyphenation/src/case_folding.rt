@@ -23,7 +23,7 @@ ghost use Rattle.std.specs.Str.Pattern.{HasPassingCharAt};
 ghost use Rattle.unicode.specs.Binary.{is_uppercase};
 ghost use Rattle.hyphenation.specs.Places.{place_of_character};
 ghost use Rattle.hyphenation.specs.Private.SmallLetters.{is_small_letter, is_small_pair, are_small_letters};
-ghost use Rattle.hyphenation.specs.Folding.{fold_character, fold, has_uppercase, shifts_of, delta_below, carried_back};
+ghost use Rattle.hyphenation.specs.Folding.{fold_character, fold_case, has_uppercase, shifts_of, delta_below, carried_back};
 
 use std::alloc::{AllocError, Global};
 use std::borrow::CowStr;
@@ -47,7 +47,7 @@ pub struct Shift {
 /// that is Uppercase is lent as it stands, with no shifts, and takes no memory; for any other,
 /// an `Err` says that memory was refused.
 pub fn refold<'t>(alloc: Global, original: &'t str) -> Result<(CowStr<'t>, Vec<Shift>), AllocError>
-    ensures folded { IfOk result (λ r. cow_str_bytes r.0 ≡ fold original.now) }
+    ensures folded { IfOk result (λ r. cow_str_bytes r.0 ≡ fold_case original.now) }
     ensures shifts { IfOk result (λ r. r.1.items ≡ shifts_of original.now) }
     ensures borrowed { IfOk result (λ r. IsBorrowedStr r.0 ↔ (has_uppercase original.now ≡ false)) }
     ensures lent { has_uppercase original.now ≡ false → IsOkAnd result (λ r. IsBorrowedStr r.0 × (r.1.items ≡ [])) }
@@ -179,9 +179,9 @@ fn difference(a: usize, b: usize) -> isize
 pub fn realign(i: usize, shifts: &[Shift]) -> usize
     ensures value { result ≡ saturate_unsigned w64 (pos i -ℤ delta_below shifts.now i) }
     ensures carried { (original : List ℕ) → IsUtf8 original → length original ≤ usize.MAX
-        → shifts.now ≡ shifts_of original → IsCharBoundary (fold original) i → result ≡ carried_back original i }
+        → shifts.now ≡ shifts_of original → IsCharBoundary (fold_case original) i → result ≡ carried_back original i }
     ensures same_character { (original : List ℕ) (j : ℕ) → IsUtf8 original → length original ≤ usize.MAX
-        → shifts.now ≡ shifts_of original → i ≡ place_of_character (fold original) j
+        → shifts.now ≡ shifts_of original → i ≡ place_of_character (fold_case original) j
         → result ≡ place_of_character original j }
 {
     carried_by(i, last_shift_below(i, shifts))

@@ -3,7 +3,7 @@
 ghost use Rattle.std.specs.Prelude.{◌≡◌, ◌++◌, OnOk, IfOk, IfErr, IfSome, decimal, map};
 ghost use Rattle.std.specs.String.{string_bytes};
 ghost use Rattle.std.specs.Io.KnownBytes.{Appends};
-ghost use Rattle.hyphenation_commons.specs.Dictionary.{keys_of};
+ghost use Rattle.hyphenation_commons.specs.Dictionary.{entries_of_keys};
 ghost use Rattle.dictionary_text.specs.Judging.{refusal_of};
 ghost use Rattle.hyphenation_score.specs.Scoring.{values};
 ghost use Rattle.hyphenation.specs.Engine.{score_line, values_by, breaks_by, IsOfScore, JudgesDictionary, JudgesEdits, JudgesText, BeforeReading, BeforeWriting, HoldsNoWant};
@@ -99,7 +99,7 @@ fn values_alone(alloc: Global, scores: &[(u8, Option<&Subregion>)]) -> Result<Ve
 
 /// The values of a word by an extended dictionary, without the changes.
 fn values_of(alloc: Global, dictionary: &Extended, word: &str) -> Result<Vec<u8>, AllocError>
-    ensures { IfOk result (λ found. found.items ≡ values (keys_of dictionary.now) word.now) }
+    ensures { IfOk result (λ found. found.items ≡ values (entries_of_keys dictionary.now) word.now) }
 {
     let scores = dictionary.score(alloc, word)?;
     let found = values_alone(alloc, &scores)?;
@@ -152,7 +152,8 @@ fn score_line<D: Read>(
     word: &str,
     reader: &mut D,
 ) -> Result<String, RunError>
-    ensures dictionary { IfSome (D.remaining reader.old) (λ bytes. JudgesDictionary (refusal_of kind) lang bytes result) }
+    ensures dictionary { IfSome (D.remaining reader.old) (λ bytes. JudgesDictionary
+        (refusal_of kind) lang bytes result) }
     ensures line { IfOk result (λ line.
         IfSome (D.remaining reader.old) (λ bytes. string_bytes line ≡ score_line (values_by kind bytes word.now))) }
     ensures unwritten { IfErr result IsUnwritten }

@@ -2,7 +2,7 @@
 
 ghost use Rattle.std.specs.Prelude.{◌≡◌, ◌++◌, List, [], ℕ, IfOk, OnOk, OnErr, IsUtf8};
 ghost use Rattle.std.specs.String.{string_bytes};
-ghost use Rattle.hyphenation_commons.specs.Break.{plain};
+ghost use Rattle.hyphenation_commons.specs.Break.{plain_break};
 ghost use Rattle.hyphenation_segments.specs.Segments.{marked_word};
 ghost use Rattle.hyphenation.specs.Hyphenated.{hyphenated_text};
 ghost use Rattle.hyphenation.specs.Opportunities.{no_change, rules_of, all_breaks_of};
@@ -76,7 +76,7 @@ pub fn hyphenate_text<'h, H: Hyphenator<'h>>(
 /// It is a law of all texts, and says it of the dictionary that is lent.
 pub fn an_empty_mark_gives_the_text_back(dictionary: &Standard)
     ensures { (text : List ℕ) → IsUtf8 text
-        → hyphenated_text (all_breaks_of (rules_of no_change plain dictionary.now)) [] text ≡ text }
+        → hyphenated_text (all_breaks_of (rules_of no_change plain_break dictionary.now)) [] text ≡ text }
 {
     dictionary.invariant();
 }

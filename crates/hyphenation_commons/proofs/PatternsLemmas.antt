@@ -9,7 +9,7 @@ use Rattle.std.specs.FinMap.{find, get-from_entries, get-insert, same_map, conta
 use Rattle.hyphenation_commons.specs.Dictionary.{greatest}
 use Rattle.hyphenation_commons.specs.Parts.{patterns_of}
 use Rattle.hyphenation_trie.specs.Keys.{pairs_of}
-use Rattle.hyphenation_trie.specs.Trie.{Tree, entries_at, key_at, IsTrie, EachBeginsKey}
+use Rattle.hyphenation_trie.specs.Trie.{Tree, entries_at, entries_of_key, IsTrie, EachBeginsKey}
 use Rattle.hyphenation_trie.proofs.KeyNodes.{node_of_key}
 use Rattle.hyphenation_trie.proofs.TrieNodes.{AllApart, apart_rest, apart_first, same_text}
 
@@ -37,11 +37,11 @@ find-pairs (t ∷ ts) (None ∷ es) q apart = find-pairs ts es q (apart_rest t t
 find-pairs (t ∷ ts) (Some x ∷ es) q apart =
     ap (λ b. cond b (Some x) (find (slice_cmp nat_cmp) q (pairs_of ts es))) (same_test q t) ∙ ap (cond (pointwise nat_eq t q) (Some x)) (find-pairs ts es q (apart_rest t ts apart))
 
-pub get-patterns_of : {E : Type 0} (t : Tree E) → IsTrie t → (q : List ℕ) → finite.get (patterns_of t) q ≡ key_at t q
+pub get-patterns_of : {E : Type 0} (t : Tree E) → IsTrie t → (q : List ℕ) → finite.get (patterns_of t) q ≡ entries_of_key t q
 get-patterns_of t trie q = get-from_entries nat_list_cmp_total (pairs_of t.texts t.entries) q ∙ find-pairs t.texts t.entries q trie.distinct
 
 pub patterns_of-insert : {E : Type 0} (old new : Tree E) (key : List ℕ) (es : List E) → IsTrie old → IsTrie new
-    → ((q : List ℕ) → key_at new q ≡ cond (pointwise nat_eq key q) (Some es) (key_at old q)) → patterns_of new ≡ finite.insert (patterns_of old) key es
+    → ((q : List ℕ) → entries_of_key new q ≡ cond (pointwise nat_eq key q) (Some es) (entries_of_key old q)) → patterns_of new ≡ finite.insert (patterns_of old) key es
 patterns_of-insert old new key es was is step = same_map nat_list_cmp_total (slice_cmp-IsAntisymmetric nat_cmp-IsAntisymmetric) _ _ (λ q.
     get-patterns_of new is q ∙ step q ∙ ap (cond (pointwise nat_eq key q) (Some es)) (sym (get-patterns_of old was q)) ∙ ap (λ b. cond b (Some es) (finite.get (patterns_of old) q)) (sym (same_test q key))
     ∙ sym (get-insert nat_list_cmp_total (patterns_of old) key es q))
@@ -64,7 +64,7 @@ among_most q (k ∷ ks) h =
     ] refl
 
 -- no key is longer than the longest
-pub length-le_longest : {E : Type 0} (t : Tree E) → IsTrie t → (q : List ℕ) → IsSome (key_at t q) → length q ≤ greatest (map length (finite.keys (patterns_of t)))
+pub length-le_longest : {E : Type 0} (t : Tree E) → IsTrie t → (q : List ℕ) → IsSome (entries_of_key t q) → length q ≤ greatest (map length (finite.keys (patterns_of t)))
 length-le_longest {E} t trie q h =
     among_most q (finite.keys (patterns_of t)) (sym (contains_key-keys (patterns_of t) q) ∙ ap is_some (get-patterns_of t trie q) ∙ h)
 

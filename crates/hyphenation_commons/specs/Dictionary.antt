@@ -26,8 +26,8 @@ abbrev pub Patterns : Type 0 → Type 0
 Patterns C = List ℕ → Option (List (Entry C))
 
 -- The entries of each text that is a key.
-abbrev pub keys_of : {C B : Type 0} → Contents C B → Patterns C
-keys_of contents text = finite.get contents.patterns text
+abbrev pub entries_of_keys : {C B : Type 0} → Contents C B → Patterns C
+entries_of_keys contents text = finite.get contents.patterns text
 
 -- The greatest of 0 and the numbers.
 abbrev pub greatest : List ℕ → ℕ

@@ -9,12 +9,12 @@ use Rattle.std.proofs.lemmas.Grind.{flat_map-append}
 use Rattle.std.proofs.lemmas.List.{append-nil}
 use Rattle.hyphenation_commons.specs.Break.{Change}
 use Rattle.hyphenation_commons.specs.Dictionary.{Patterns}
-use Rattle.hyphenation_trie.specs.Links.{Ends, IsLongest, IsReport}
-use Rattle.hyphenation_trie.specs.Trie.{Tree, node_text, key_at}
+use Rattle.hyphenation_trie.specs.Links.{EndsWith, IsLongest, IsReport}
+use Rattle.hyphenation_trie.specs.Trie.{Tree, node_text, entries_of_key}
 use Rattle.hyphenation_commons.specs.declared.dictionary.Entry.{Entry}
 use Rattle.hyphenation_score.specs.Private.OnePass.{entries_of_end, entries_of_ends}
 use Rattle.hyphenation_score.specs.OnePass.{carry_change}
-use Rattle.hyphenation_score.specs.Scoring.{frame, bearing, bearing_from, bearers, greatest_value, winner_at}
+use Rattle.hyphenation_score.specs.Scoring.{frame, bearers_between, bearers_from, bearers, greatest_value, winner_at}
 use Rattle.hyphenation_score.proofs.NumberRows.{range_more}
 use Rattle.hyphenation_score.proofs.OnePass.{ending_at, ending_is, visited_more, visited_first}
 
@@ -52,17 +52,17 @@ module _ {C : Type 0} (change_of : C → Option Change) where
 
   -- Before the first report nothing is met.
   pub none_before : (tree : Tree (Entry C)) (t : List ℕ) (end p to : ℕ) → IsReport tree t to
-      → carry_change change_of (flat_map (λ d. entries_of_end (key_at tree) t end p d) (range_with_len 0 (length t - length (node_text tree to)))) ≡ false
+      → carry_change change_of (flat_map (λ d. entries_of_end (entries_of_key tree) t end p d) (range_with_len 0 (length t - length (node_text tree to)))) ≡ false
   none_before tree t end p to report = ap (carry_change change_of) (visited_first tree t end p to report)
 
   -- One report more.
-  pub none_reported : (tree : Tree (Entry C)) (t : List ℕ) (end p at to : ℕ) → Ends t (node_text tree at) → length (node_text tree to) < length (node_text tree at)
-      → ((k : ℕ) → length t - length (node_text tree at) < k → k < length t - length (node_text tree to) → key_at tree (drop k t) ≡ None)
-      → carry_change change_of (flat_map (λ d. entries_of_end (key_at tree) t end p d) (range_with_len 0 (length t - length (node_text tree at)))) ≡ false
-      → carry_change change_of (entries_of_end (key_at tree) t end p (length t - length (node_text tree at))) ≡ false
-      → carry_change change_of (flat_map (λ d. entries_of_end (key_at tree) t end p d) (range_with_len 0 (length t - length (node_text tree to)))) ≡ false
+  pub none_reported : (tree : Tree (Entry C)) (t : List ℕ) (end p at to : ℕ) → EndsWith t (node_text tree at) → length (node_text tree to) < length (node_text tree at)
+      → ((k : ℕ) → length t - length (node_text tree at) < k → k < length t - length (node_text tree to) → entries_of_key tree (drop k t) ≡ None)
+      → carry_change change_of (flat_map (λ d. entries_of_end (entries_of_key tree) t end p d) (range_with_len 0 (length t - length (node_text tree at)))) ≡ false
+      → carry_change change_of (entries_of_end (entries_of_key tree) t end p (length t - length (node_text tree at))) ≡ false
+      → carry_change change_of (flat_map (λ d. entries_of_end (entries_of_key tree) t end p d) (range_with_len 0 (length t - length (node_text tree to)))) ≡ false
   none_reported tree t end p at to ends less none before here =
-      let f = λ (d : ℕ). entries_of_end (key_at tree) t end p d in
+      let f = λ (d : ℕ). entries_of_end (entries_of_key tree) t end p d in
       let d0 : ℕ = length t - length (node_text tree at) in
       let last : 0 + d0 ≡ d0 = omega arith in
       ap (carry_change change_of) (visited_more tree t end p at to ends less none
@@ -74,24 +74,24 @@ module _ {C : Type 0} (change_of : C → Option Change) where
 
   -- No key that ends up to an end has an entry that bears on a place of the word and carries a change.
   abbrev pub NoneTo : Tree (Entry C) → List ℕ → ℕ → Type 0
-  NoneTo tree word most = (p end : ℕ) → 1 ≤ end → end ≤ most → carry_change change_of (ending_at (key_at tree) (frame word) p end) ≡ false
+  NoneTo tree word most = (p end : ℕ) → 1 ≤ end → end ≤ most → carry_change change_of (ending_at (entries_of_key tree) (frame word) p end) ≡ false
 
   -- One byte more.
   pub none_to_more : (tree : Tree (Entry C)) (word : List ℕ) (at node : ℕ) → at + 1 ≤ length (frame word) → IsLongest tree.texts (take (at + 1) (frame word)) node → NoneTo tree word at
-      → ((p : ℕ) → carry_change change_of (entries_of_ends (key_at tree) (node_text tree node) (at + 1) p) ≡ false) → NoneTo tree word (at + 1)
+      → ((p : ℕ) → carry_change change_of (entries_of_ends (entries_of_key tree) (node_text tree node) (at + 1) p) ≡ false) → NoneTo tree word (at + 1)
   none_to_more tree word at node within longest before here = λ p end low high. elim (cases_eq end (at + 1)) [
-    | inl is ↦ ap (λ (e : ℕ). carry_change change_of (ending_at (key_at tree) (frame word) p e)) is ∙ ap (carry_change change_of) (ending_is tree (frame word) (at + 1) p node within longest) ∙ here p
+    | inl is ↦ ap (λ (e : ℕ). carry_change change_of (ending_at (entries_of_key tree) (frame word) p e)) is ∙ ap (carry_change change_of) (ending_is tree (frame word) (at + 1) p node within longest) ∙ here p
     | inr apart ↦ before p end low (omega arith)
   ]
 
   -- All is read.
-  pub none_bears : (tree : Tree (Entry C)) (word : List ℕ) → NoneTo tree word (length (frame word)) → (p : ℕ) → carry_change change_of (bearers (key_at tree) (frame word) p) ≡ false
+  pub none_bears : (tree : Tree (Entry C)) (word : List ℕ) → NoneTo tree word (length (frame word)) → (p : ℕ) → carry_change change_of (bearers (entries_of_key tree) (frame word) p) ≡ false
   none_bears tree word none p =
       let framed = frame word in
-      let keys = key_at tree in
-      none_in_row (λ s. bearing_from keys framed p s) 0 (length framed) (λ s slow shigh.
-      none_in_row (λ e. bearing keys framed p s e) (s + 1) (length framed - s) (λ e low high.
-      none_at (λ k. bearing keys framed p k e) 0 e s (none p e (omega arith) (omega arith)) (omega arith) (omega arith)))
+      let keys = entries_of_key tree in
+      none_in_row (λ s. bearers_from keys framed p s) 0 (length framed) (λ s slow shigh.
+      none_in_row (λ e. bearers_between keys framed p s e) (s + 1) (length framed - s) (λ e low high.
+      none_at (λ k. bearers_between keys framed p k e) 0 e s (none p e (omega arith) (omega arith)) (omega arith) (omega arith)))
 
   -- ---- what wins
 

@@ -6,7 +6,7 @@ use Rattle.std.specs.Ordering.{nat_cmp, eq_by_cmp}
 use Rattle.std.specs.Cmp.Lexicographic.{slice_cmp, texts_ties}
 use Rattle.std.specs.FinMap as finite
 use Rattle.std.specs.FinMap.{contains_key-keys}
-use Rattle.hyphenation_commons.specs.Dictionary.{Contents, keys_of, greatest, longest_key}
+use Rattle.hyphenation_commons.specs.Dictionary.{Contents, entries_of_keys, greatest, longest_key}
 use Rattle.hyphenation_score.proofs.GreatestValues.{greatest_from}
 use Rattle.hyphenation_trie.proofs.TrieNodes.{same_text}
 
@@ -23,5 +23,5 @@ among_most q (k ∷ ks) h =
       | false ↦ λ e. omega (arith, among_most q ks (either_true (eq_by_cmp (slice_cmp nat_cmp) q k) (list_any (eq_by_cmp (slice_cmp nat_cmp) q) ks) h e))
     ] refl
 
-pub no_longer : {C B : Type 0} (contents : Contents C B) (q : List ℕ) → IsSome (keys_of contents q) → length q ≤ longest_key contents
+pub no_longer : {C B : Type 0} (contents : Contents C B) (q : List ℕ) → IsSome (entries_of_keys contents q) → length q ≤ longest_key contents
 no_longer contents q h = among_most q (finite.keys contents.patterns) (sym (contains_key-keys contents.patterns q) ∙ h)

@@ -8,11 +8,11 @@ use Rattle.std.proofs.lemmas.List.{length-append, take_more, length-take, length
 use Rattle.std.proofs.lemmas.Grind.{flat_map-append, common_steps}
 use Rattle.hyphenation_commons.specs.declared.dictionary.Entry.{Entry}
 use Rattle.hyphenation_commons.specs.Dictionary.{Patterns}
-use Rattle.hyphenation_trie.specs.Trie.{Tree, node_text, key_at, EachBeginsKey}
-use Rattle.hyphenation_trie.specs.Links.{Ends, IsLongest, IsReport}
+use Rattle.hyphenation_trie.specs.Trie.{Tree, node_text, entries_of_key, EachBeginsKey}
+use Rattle.hyphenation_trie.specs.Links.{EndsWith, IsLongest, IsReport}
 use Rattle.hyphenation_trie.specs.Private.Links.{keys_in}
 use Rattle.hyphenation_trie.proofs.KeyNodes.{node_of_key}
-use Rattle.hyphenation_score.specs.Scoring.{frame, greatest_value, bearing, bearing_from, bearers, values}
+use Rattle.hyphenation_score.specs.Scoring.{frame, greatest_value, bearers_between, bearers_from, bearers, values}
 use Rattle.hyphenation_score.specs.OnePass.{keys_ending, occurrences}
 use Rattle.hyphenation_score.specs.Private.OnePass.{entries_of_end, entries_of_ends}
 use Rattle.hyphenation_score.proofs.GreatestValues.{greatest_value-append, greatest_value-within, filter-append}
@@ -43,25 +43,25 @@ raised_more p es k e first now next lt read a b =
     b ∙ ap (λ x. max x (cond (p e) e.value 0)) a ∙ max_assoc first (greatest_value (filter p (take k es))) (cond (p e) e.value 0) ∙ ap (max first) (sym (filtered_more p es k e lt read))
 
 -- what is left of a text ends it
-pub Ends-drop : (t : List ℕ) (k : ℕ) → k ≤ length t → Ends t (drop k t)
+pub Ends-drop : (t : List ℕ) (k : ℕ) → k ≤ length t → EndsWith t (drop k t)
 Ends-drop t k le =
     let len : length (drop k t) ≡ length t - k = length-drop k t in
     let n : length t - length (drop k t) ≡ k = omega arith in
     (omega arith, ap (λ (m : ℕ). drop m t) n)
 
 -- what a node of the path has
-pub piece_is : {C : Type 0} (tree : Tree (Entry C)) (t : List ℕ) (end p at depth : ℕ) (o : Option (List (Entry C))) → Ends t (node_text tree at) → length t ≤ end → depth ≡ length (node_text tree at) → o ≡ key_at tree (node_text tree at)
-    → entries_of_end (key_at tree) t end p (length t - length (node_text tree at)) ≡ filter (λ entry. (end - depth) + entry.place == p + 1) (unwrap_or o [])
+pub piece_is : {C : Type 0} (tree : Tree (Entry C)) (t : List ℕ) (end p at depth : ℕ) (o : Option (List (Entry C))) → EndsWith t (node_text tree at) → length t ≤ end → depth ≡ length (node_text tree at) → o ≡ entries_of_key tree (node_text tree at)
+    → entries_of_end (entries_of_key tree) t end p (length t - length (node_text tree at)) ≡ filter (λ entry. (end - depth) + entry.place == p + 1) (unwrap_or o [])
 piece_is tree t end p at depth o ends le deep is =
     let n : end - (length t - (length t - length (node_text tree at))) ≡ end - depth = omega (arith, ends.0) in
-    ap (λ (k : ℕ). filter (λ entry. k + entry.place == p + 1) (unwrap_or (key_at tree (drop (length t - length (node_text tree at)) t)) [])) n
-    ∙ ap (λ x. filter (λ entry. (end - depth) + entry.place == p + 1) (unwrap_or x [])) (ap (key_at tree) ends.1 ∙ sym is)
+    ap (λ (k : ℕ). filter (λ entry. k + entry.place == p + 1) (unwrap_or (entries_of_key tree (drop (length t - length (node_text tree at)) t)) [])) n
+    ∙ ap (λ x. filter (λ entry. (end - depth) + entry.place == p + 1) (unwrap_or x [])) (ap (entries_of_key tree) ends.1 ∙ sym is)
 
 -- ---- keys by their ends
 
 -- those of all keys that end there
 abbrev pub ending_at : {C : Type 0} → Patterns C → List ℕ → ℕ → ℕ → List (Entry C)
-ending_at keys framed p end = flat_map (λ start. bearing keys framed p start end) (range_with_len 0 end)
+ending_at keys framed p end = flat_map (λ start. bearers_between keys framed p start end) (range_with_len 0 end)
 
 flat_map_shift : {A : Type 0} (f g : ℕ → List A) (a b n : ℕ) → ((d : ℕ) → d < n → f (a + d) ≡ g (b + d)) → flat_map f (range_with_len a n) ≡ flat_map g (range_with_len b n)
 flat_map_shift f g a b zero h = refl
@@ -77,31 +77,31 @@ slice_is framed s e le =
 
 -- the keys that end there end the text of the longest node
 pub ending_is : {C : Type 0} (tree : Tree (Entry C)) (framed : List ℕ) (end p node : ℕ) → end ≤ length framed → IsLongest tree.texts (take end framed) node
-    → ending_at (key_at tree) framed p end ≡ entries_of_ends (key_at tree) (node_text tree node) end p
+    → ending_at (entries_of_key tree) framed p end ≡ entries_of_ends (entries_of_key tree) (node_text tree node) end p
 ending_is {C} tree framed end p node le longest =
     let T : List ℕ = take end framed in
     let t : List ℕ = node_text tree node in
     let len : length T ≡ end = omega (arith, length-take end framed) in
     let below : length t ≤ length T = longest.ends.0 in
     let e0 : ℕ = end - length t in
-    let f = λ (start : ℕ). bearing (key_at tree) framed p start end in
+    let f = λ (start : ℕ). bearers_between (entries_of_key tree) framed p start end in
     let front : flat_map f (range_with_len 0 e0) ≡ [] = flat_map_none f 0 e0 (λ k low high.
-    ap (λ o. filter (λ entry. k + entry.place == p + 1) (unwrap_or o [])) (ap (key_at tree) (slice_is framed k end (omega arith)) ∙
-    elim (key_at tree (drop k T)) as (λ o. key_at tree (drop k T) ≡ o → o ≡ None) [
+    ap (λ o. filter (λ entry. k + entry.place == p + 1) (unwrap_or o [])) (ap (entries_of_key tree) (slice_is framed k end (omega arith)) ∙
+    elim (entries_of_key tree (drop k T)) as (λ o. entries_of_key tree (drop k T) ≡ o → o ≡ None) [
       | None ↦ λ is. refl
       | Some es ↦ λ is.
           let n = node_of_key tree.texts tree.entries (drop k T) (subst (λ (o : Option (List (Entry C))). IsSome o) (sym is) refl) in
-          let most = longest.most n.0 n.1 (subst (λ (x : List ℕ). Ends T x) (sym n.2) (Ends-drop T k (omega arith))) in
+          let most = longest.most n.0 n.1 (subst (λ (x : List ℕ). EndsWith T x) (sym n.2) (Ends-drop T k (omega arith))) in
           absurd (omega (arith, ap length n.2, length-drop k T))
     ] refl)) in
     let parts : range_with_len 0 end ≡ range_with_len 0 e0 ++ range_with_len e0 (length t) =
     ap (range_with_len 0) (omega arith) ∙ range-append 0 e0 (length t) ∙ ap (λ (k : ℕ). range_with_len 0 e0 ++ range_with_len k (length t)) (omega arith) in
     ap (flat_map f) parts ∙ flat_map-append f (range_with_len 0 e0) (range_with_len e0 (length t)) ∙ ap (λ xs. xs ++ flat_map f (range_with_len e0 (length t))) front
-    ∙ flat_map_shift f (λ d. entries_of_end (key_at tree) t end p d) e0 0 (length t) (λ d lt.
+    ∙ flat_map_shift f (λ d. entries_of_end (entries_of_key tree) t end p d) e0 0 (length t) (λ d lt.
     let same : slice_range framed (e0 + d) end ≡ drop (0 + d) t =
     slice_is framed (e0 + d) end (omega arith) ∙ sym (drop-drop d e0 T) ∙ ap (λ (k : ℕ). drop d (drop k T)) (omega arith) ∙ ap (drop d) longest.ends.1 ∙ ap (λ (k : ℕ). drop k t) (omega arith) in
-    ap (λ x. filter (λ entry. (e0 + d) + entry.place == p + 1) (unwrap_or (key_at tree x) [])) same
-    ∙ ap (λ (k : ℕ). filter (λ entry. k + entry.place == p + 1) (unwrap_or (key_at tree (drop (0 + d) t)) [])) (omega arith))
+    ap (λ x. filter (λ entry. (e0 + d) + entry.place == p + 1) (unwrap_or (entries_of_key tree x) [])) same
+    ∙ ap (λ (k : ℕ). filter (λ entry. k + entry.place == p + 1) (unwrap_or (entries_of_key tree (drop (0 + d) t)) [])) (omega arith))
 
 -- ---- starts and ends changed about
 
@@ -125,16 +125,16 @@ pub by_ends : {C : Type 0} (keys : Patterns C) (framed : List ℕ) (p : ℕ)
     → greatest_value (flat_map (λ end. ending_at keys framed p end) (range_with_len 1 (length framed))) ≡ greatest_value (bearers keys framed p)
 by_ends keys framed p =
     let n : ℕ = length framed in
-    let starts = λ (s : ℕ). bearing_from keys framed p s in
+    let starts = λ (s : ℕ). bearers_from keys framed p s in
     let ends = λ (e : ℕ). ending_at keys framed p e in
     both_ways (greatest_value (flat_map ends (range_with_len 1 n))) (greatest_value (flat_map starts (range_with_len 0 n)))
-    (greatest_value-within ends 1 n _ (λ e low high. greatest_value-within (λ s. bearing keys framed p s e) 0 e _ (λ s slow shigh.
-    le_trans _ _ _ (le_gv (λ e. bearing keys framed p s e) (s + 1) (n - s) e (omega arith) (omega arith)) (le_gv starts 0 n s (omega arith) (omega arith)))))
-    (greatest_value-within starts 0 n _ (λ s low high. greatest_value-within (λ e. bearing keys framed p s e) (s + 1) (n - s) _ (λ e elow ehigh.
-    le_trans _ _ _ (le_gv (λ s. bearing keys framed p s e) 0 e s (omega arith) (omega arith)) (le_gv ends 1 n e (omega arith) (omega arith)))))
+    (greatest_value-within ends 1 n _ (λ e low high. greatest_value-within (λ s. bearers_between keys framed p s e) 0 e _ (λ s slow shigh.
+    le_trans _ _ _ (le_gv (λ e. bearers_between keys framed p s e) (s + 1) (n - s) e (omega arith) (omega arith)) (le_gv starts 0 n s (omega arith) (omega arith)))))
+    (greatest_value-within starts 0 n _ (λ s low high. greatest_value-within (λ e. bearers_between keys framed p s e) (s + 1) (n - s) _ (λ e elow ehigh.
+    le_trans _ _ _ (le_gv (λ s. bearers_between keys framed p s e) 0 e s (omega arith) (omega arith)) (le_gv ends 1 n e (omega arith) (omega arith)))))
 
 -- where there is no key, the root alone stands
-pub alone_is : {E : Type 0} (tree : Tree E) → EachBeginsKey tree → ((q : List ℕ) → key_at tree q ≡ None) → (j : ℕ) → j < length tree.texts → j ≡ 0
+pub alone_is : {E : Type 0} (tree : Tree E) → EachBeginsKey tree → ((q : List ℕ) → entries_of_key tree q ≡ None) → (j : ℕ) → j < length tree.texts → j ≡ 0
 alone_is {E} tree begins none j lj = elim (cases_eq j 0) [
   | inl is ↦ is
   | inr apart ↦
@@ -146,22 +146,22 @@ alone_is {E} tree begins none j lj = elim (cases_eq j 0) [
 -- ---- visits
 
 -- after a key's node and before the next report no key stands
-pub none_next : {E : Type 0} (tree : Tree E) (t : List ℕ) (at next : ℕ) → Ends t (node_text tree at) → IsReport tree (drop 1 (node_text tree at)) next
-    → (k : ℕ) → length t - length (node_text tree at) < k → k < length t - length (node_text tree next) → key_at tree (drop k t) ≡ None
+pub none_next : {E : Type 0} (tree : Tree E) (t : List ℕ) (at next : ℕ) → EndsWith t (node_text tree at) → IsReport tree (drop 1 (node_text tree at)) next
+    → (k : ℕ) → length t - length (node_text tree at) < k → k < length t - length (node_text tree next) → entries_of_key tree (drop k t) ≡ None
 none_next tree t at next ends report k low high =
     let d0 : ℕ = length t - length (node_text tree at) in
     let m : ℕ = k - d0 - 1 in
     let n : d0 + (1 + m) ≡ k = omega arith in
     let same : drop m (drop 1 (node_text tree at)) ≡ drop k t = drop-drop m 1 (node_text tree at) ∙ ap (drop (1 + m)) (sym ends.1) ∙ drop-drop (1 + m) d0 t ∙ ap (λ (x : ℕ). drop x t) n in
-    ap (key_at tree) (sym same) ∙ report.none m (omega (arith, ends.0, report.ends.0, length-drop 1 (node_text tree at)))
+    ap (entries_of_key tree) (sym same) ∙ report.none m (omega (arith, ends.0, report.ends.0, length-drop 1 (node_text tree at)))
 
 -- what is met by one visit more
-pub visited_more : {C : Type 0} (tree : Tree (Entry C)) (t : List ℕ) (end p at to : ℕ) → Ends t (node_text tree at) → length (node_text tree to) < length (node_text tree at)
-    → ((k : ℕ) → length t - length (node_text tree at) < k → k < length t - length (node_text tree to) → key_at tree (drop k t) ≡ None)
-    → flat_map (λ d. entries_of_end (key_at tree) t end p d) (range_with_len 0 (length t - length (node_text tree to)))
-    ≡ flat_map (λ d. entries_of_end (key_at tree) t end p d) (range_with_len 0 ((length t - length (node_text tree at)) + 1))
+pub visited_more : {C : Type 0} (tree : Tree (Entry C)) (t : List ℕ) (end p at to : ℕ) → EndsWith t (node_text tree at) → length (node_text tree to) < length (node_text tree at)
+    → ((k : ℕ) → length t - length (node_text tree at) < k → k < length t - length (node_text tree to) → entries_of_key tree (drop k t) ≡ None)
+    → flat_map (λ d. entries_of_end (entries_of_key tree) t end p d) (range_with_len 0 (length t - length (node_text tree to)))
+    ≡ flat_map (λ d. entries_of_end (entries_of_key tree) t end p d) (range_with_len 0 ((length t - length (node_text tree at)) + 1))
 visited_more tree t end p at to ends less none =
-    let f = λ (d : ℕ). entries_of_end (key_at tree) t end p d in
+    let f = λ (d : ℕ). entries_of_end (entries_of_key tree) t end p d in
     let d0 : ℕ = length t - length (node_text tree at) in
     let gap : ℕ = length (node_text tree at) - length (node_text tree to) - 1 in
     let n : length t - length (node_text tree to) ≡ (d0 + 1) + gap = omega (arith, ends.0) in
@@ -171,13 +171,13 @@ visited_more tree t end p at to ends less none =
     ∙ ap (λ (k : ℕ). flat_map f (range_with_len 0 (d0 + 1)) ++ flat_map f (range_with_len k gap)) (omega arith) ∙ ap (λ ys. flat_map f (range_with_len 0 (d0 + 1)) ++ ys) rest ∙ append-nil (flat_map f (range_with_len 0 (d0 + 1)))
 
 -- one visit more
-pub visit_more : {C : Type 0} (tree : Tree (Entry C)) (t : List ℕ) (end p at to first now next : ℕ) → Ends t (node_text tree at) → length (node_text tree to) < length (node_text tree at)
-    → ((k : ℕ) → length t - length (node_text tree at) < k → k < length t - length (node_text tree to) → key_at tree (drop k t) ≡ None)
-    → now ≡ max first (greatest_value (flat_map (λ d. entries_of_end (key_at tree) t end p d) (range_with_len 0 (length t - length (node_text tree at)))))
-    → next ≡ max now (greatest_value (entries_of_end (key_at tree) t end p (length t - length (node_text tree at))))
-    → next ≡ max first (greatest_value (flat_map (λ d. entries_of_end (key_at tree) t end p d) (range_with_len 0 (length t - length (node_text tree to)))))
+pub visit_more : {C : Type 0} (tree : Tree (Entry C)) (t : List ℕ) (end p at to first now next : ℕ) → EndsWith t (node_text tree at) → length (node_text tree to) < length (node_text tree at)
+    → ((k : ℕ) → length t - length (node_text tree at) < k → k < length t - length (node_text tree to) → entries_of_key tree (drop k t) ≡ None)
+    → now ≡ max first (greatest_value (flat_map (λ d. entries_of_end (entries_of_key tree) t end p d) (range_with_len 0 (length t - length (node_text tree at)))))
+    → next ≡ max now (greatest_value (entries_of_end (entries_of_key tree) t end p (length t - length (node_text tree at))))
+    → next ≡ max first (greatest_value (flat_map (λ d. entries_of_end (entries_of_key tree) t end p d) (range_with_len 0 (length t - length (node_text tree to)))))
 visit_more tree t end p at to first now next ends less none a b =
-    let f = λ (d : ℕ). entries_of_end (key_at tree) t end p d in
+    let f = λ (d : ℕ). entries_of_end (entries_of_key tree) t end p d in
     let d0 : ℕ = length t - length (node_text tree at) in
     let all = visited_more tree t end p at to ends less none in
     let last : 0 + d0 ≡ d0 = omega arith in
@@ -185,12 +185,12 @@ visit_more tree t end p at to first now next ends less none a b =
     omega (arith, ap greatest_value all, more)
 
 -- before the first report nothing is met
-pub visited_first : {C : Type 0} (tree : Tree (Entry C)) (t : List ℕ) (end p to : ℕ) → IsReport tree t to → flat_map (λ d. entries_of_end (key_at tree) t end p d) (range_with_len 0 (length t - length (node_text tree to))) ≡ []
-visited_first tree t end p to report = flat_map_none (λ d. entries_of_end (key_at tree) t end p d) 0 (length t - length (node_text tree to)) (λ k low high.
+pub visited_first : {C : Type 0} (tree : Tree (Entry C)) (t : List ℕ) (end p to : ℕ) → IsReport tree t to → flat_map (λ d. entries_of_end (entries_of_key tree) t end p d) (range_with_len 0 (length t - length (node_text tree to))) ≡ []
+visited_first tree t end p to report = flat_map_none (λ d. entries_of_end (entries_of_key tree) t end p d) 0 (length t - length (node_text tree to)) (λ k low high.
     ap (λ o. filter (λ entry. (end - (length t - k)) + entry.place == p + 1) (unwrap_or o [])) (report.none k (omega arith)))
 
 -- where there is none before the first, nothing is to be raised
-pub visit_first : {C : Type 0} (tree : Tree (Entry C)) (t : List ℕ) (end p to first : ℕ) → IsReport tree t to → first ≡ max first (greatest_value (flat_map (λ d. entries_of_end (key_at tree) t end p d) (range_with_len 0 (length t - length (node_text tree to)))))
+pub visit_first : {C : Type 0} (tree : Tree (Entry C)) (t : List ℕ) (end p to first : ℕ) → IsReport tree t to → first ≡ max first (greatest_value (flat_map (λ d. entries_of_end (entries_of_key tree) t end p d) (range_with_len 0 (length t - length (node_text tree to)))))
 visit_first tree t end p to first report = omega (arith, ap greatest_value (visited_first tree t end p to report))
 
 -- ---- the number of visits
@@ -207,19 +207,19 @@ one_counted p k e = grind (arith, common_steps)
 
 -- none before the first
 pub counted_first : {E : Type 0} (tree : Tree E) (t : List ℕ) (to : ℕ) → IsReport tree t to → keys_in tree t (length t - length (node_text tree to)) ≡ 0
-counted_first tree t to report = count_none (λ d. is_some (key_at tree (drop d t))) 0 (length t - length (node_text tree to)) (λ k low high. ap is_some (report.none k (omega arith)))
+counted_first tree t to report = count_none (λ d. is_some (entries_of_key tree (drop d t))) 0 (length t - length (node_text tree to)) (λ k low high. ap is_some (report.none k (omega arith)))
 
 -- one visit is one key
-pub counted_more : {E : Type 0} (tree : Tree E) (t : List ℕ) (at to : ℕ) → Ends t (node_text tree at) → length (node_text tree to) < length (node_text tree at) → IsSome (key_at tree (node_text tree at))
-    → ((k : ℕ) → length t - length (node_text tree at) < k → k < length t - length (node_text tree to) → key_at tree (drop k t) ≡ None)
+pub counted_more : {E : Type 0} (tree : Tree E) (t : List ℕ) (at to : ℕ) → EndsWith t (node_text tree at) → length (node_text tree to) < length (node_text tree at) → IsSome (entries_of_key tree (node_text tree at))
+    → ((k : ℕ) → length t - length (node_text tree at) < k → k < length t - length (node_text tree to) → entries_of_key tree (drop k t) ≡ None)
     → keys_in tree t (length t - length (node_text tree to)) ≡ keys_in tree t (length t - length (node_text tree at)) + 1
 counted_more tree t at to ends less key none =
-    let p = λ (d : ℕ). is_some (key_at tree (drop d t)) in
+    let p = λ (d : ℕ). is_some (entries_of_key tree (drop d t)) in
     let d0 : ℕ = length t - length (node_text tree at) in
     let gap : ℕ = length (node_text tree at) - length (node_text tree to) - 1 in
     let n : length t - length (node_text tree to) ≡ (d0 + 1) + gap = omega (arith, ends.0) in
     let rest : count_by p (range_with_len (d0 + 1) gap) ≡ 0 = count_none p (d0 + 1) gap (λ k low high. ap is_some (none k (omega arith) (omega (arith, ends.0)))) in
-    let here : is_some (key_at tree (drop d0 t)) ≡ true = ap (λ (x : List ℕ). is_some (key_at tree x)) ends.1 ∙ key in
+    let here : is_some (entries_of_key tree (drop d0 t)) ≡ true = ap (λ (x : List ℕ). is_some (entries_of_key tree x)) ends.1 ∙ key in
     let zero_more : 0 + (d0 + 1) ≡ d0 + 1 = omega arith in
     let zero_last : 0 + d0 ≡ d0 = omega arith in
     ap (λ (k : ℕ). count_by p (range_with_len 0 k)) n ∙ ap (count_by p) (range-append 0 (d0 + 1) gap) ∙ count_append p (range_with_len 0 (d0 + 1)) (range_with_len (0 + (d0 + 1)) gap)
@@ -253,26 +253,26 @@ count_most p a (suc n) =
     omega (arith, split, one, count_most p (a + 1) n)
 
 pub keys_in_most : {E : Type 0} (tree : Tree E) (t : List ℕ) (n : ℕ) → keys_in tree t n ≤ n
-keys_in_most tree t n = count_most (λ d. is_some (key_at tree (drop d t))) 0 n
+keys_in_most tree t n = count_most (λ d. is_some (entries_of_key tree (drop d t))) 0 n
 
 -- the keys that end there are those that end the text of the longest node
 pub counted_is : {C : Type 0} (tree : Tree (Entry C)) (framed : List ℕ) (end node : ℕ) → end ≤ length framed → IsLongest tree.texts (take end framed) node
-    → keys_ending (key_at tree) framed end ≡ keys_in tree (node_text tree node) (length (node_text tree node))
+    → keys_ending (entries_of_key tree) framed end ≡ keys_in tree (node_text tree node) (length (node_text tree node))
 counted_is {C} tree framed end node le longest =
     let T : List ℕ = take end framed in
     let t : List ℕ = node_text tree node in
     let len : length T ≡ end = omega (arith, length-take end framed) in
     let below : length t ≤ length T = longest.ends.0 in
     let e0 : ℕ = end - length t in
-    let p = λ (start : ℕ). is_some (key_at tree (slice_range framed start end)) in
-    let q = λ (d : ℕ). is_some (key_at tree (drop d t)) in
+    let p = λ (start : ℕ). is_some (entries_of_key tree (slice_range framed start end)) in
+    let q = λ (d : ℕ). is_some (entries_of_key tree (drop d t)) in
     let front : count_by p (range_with_len 0 e0) ≡ 0 = count_none p 0 e0 (λ k low high.
-    ap is_some (ap (key_at tree) (slice_is framed k end (omega arith)) ∙
-    elim (key_at tree (drop k T)) as (λ o. key_at tree (drop k T) ≡ o → o ≡ None) [
+    ap is_some (ap (entries_of_key tree) (slice_is framed k end (omega arith)) ∙
+    elim (entries_of_key tree (drop k T)) as (λ o. entries_of_key tree (drop k T) ≡ o → o ≡ None) [
       | None ↦ λ is. refl
       | Some es ↦ λ is.
           let n = node_of_key tree.texts tree.entries (drop k T) (subst (λ (o : Option (List (Entry C))). IsSome o) (sym is) refl) in
-          let most = longest.most n.0 n.1 (subst (λ (x : List ℕ). Ends T x) (sym n.2) (Ends-drop T k (omega arith))) in
+          let most = longest.most n.0 n.1 (subst (λ (x : List ℕ). EndsWith T x) (sym n.2) (Ends-drop T k (omega arith))) in
           absurd (omega (arith, ap length n.2, length-drop k T))
     ] refl)) in
     let parts : range_with_len 0 end ≡ range_with_len 0 e0 ++ range_with_len e0 (length t) =
@@ -281,7 +281,7 @@ counted_is {C} tree framed end node le longest =
     ∙ count_shift p q e0 0 (length t) (λ d lt.
     let same : slice_range framed (e0 + d) end ≡ drop (0 + d) t =
     slice_is framed (e0 + d) end (omega arith) ∙ sym (drop-drop d e0 T) ∙ ap (λ (k : ℕ). drop d (drop k T)) (omega arith) ∙ ap (drop d) longest.ends.1 ∙ ap (λ (k : ℕ). drop k t) (omega arith) in
-    ap (λ x. is_some (key_at tree x)) same)
+    ap (λ x. is_some (entries_of_key tree x)) same)
 
 -- ---- what is known of the keys in two ways
 

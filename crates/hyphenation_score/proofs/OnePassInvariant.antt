@@ -4,7 +4,7 @@ use Rattle.std.specs.List.{range_with_len, flat_map, sum_by}
 use Rattle.std.proofs.Math.Nat.{mul-le-mul_right}
 use Rattle.std.proofs.lemmas.List.{length-take, ext_get_or}
 use Rattle.std.proofs.lemmas.List.FromFn.{length-map-range_with_len, get_or-map-range_with_len}
-use Rattle.hyphenation_trie.specs.Trie.{Tree, node_text, key_at, IsTrie, EachBeginsKey}
+use Rattle.hyphenation_trie.specs.Trie.{Tree, node_text, entries_of_key, IsTrie, EachBeginsKey}
 use Rattle.hyphenation_trie.specs.Links.{IsLongest}
 use Rattle.hyphenation_trie.specs.Private.Links.{keys_in}
 use Rattle.hyphenation_commons.specs.declared.dictionary.Entry.{Entry}
@@ -17,11 +17,11 @@ use Rattle.hyphenation_score.proofs.OnePass.{length-frame, read_more, sum_more, 
 -- The first bytes of the frame are read: the node, the values, and what was counted before and is counted now.
 pub record Passed {C : Type 0} (tree : Tree (Entry C)) (word : List ℕ) (at node : ℕ) (vals : List ℕ) (made_first reported_first made reported : ℕ) : Type 0 where
   pub longest : IsLongest tree.texts (take at (frame word)) node
-  pub vals_are : (i : ℕ) → i < length vals → slice_index vals i ≡ greatest_value (flat_map (λ end. ending_at (key_at tree) (frame word) (i + 1) end) (range_with_len 1 at))
+  pub vals_are : (i : ℕ) → i < length vals → slice_index vals i ≡ greatest_value (flat_map (λ end. ending_at (entries_of_key tree) (frame word) (i + 1) end) (range_with_len 1 at))
   pub most : made + length (node_text tree node) ≤ made_first + 2 * at
-  pub alone : ((q : List ℕ) → key_at tree q ≡ None) → made ≤ made_first + at
+  pub alone : ((q : List ℕ) → entries_of_key tree q ≡ None) → made ≤ made_first + at
   pub least : made_first + at ≤ made
-  pub reported_is : reported ≡ reported_first + sum_by (λ end. keys_ending (key_at tree) (frame word) end) (range_with_len 1 at)
+  pub reported_is : reported ≡ reported_first + sum_by (λ end. keys_ending (entries_of_key tree) (frame word) end) (range_with_len 1 at)
   pub few : reported ≤ reported_first + at * (length word + 2)
 
 module _ {C : Type 0} (tree : Tree (Entry C)) (word : List ℕ) (trie : IsTrie tree) where
@@ -55,7 +55,7 @@ module _ {C : Type 0} (tree : Tree (Entry C)) (word : List ℕ) (trie : IsTrie t
       → Passed tree word at from old m0 r0 m r
       → IsLongest tree.texts (node_text tree from ++ byte ∷ []) node
       → length new ≡ length old
-      → ((i : ℕ) → i < length old → slice_index new i ≡ max (slice_index old i) (greatest_value (entries_of_ends (key_at tree) (node_text tree node) (at + 1) (i + 1))))
+      → ((i : ℕ) → i < length old → slice_index new i ≡ max (slice_index old i) (greatest_value (entries_of_ends (entries_of_key tree) (node_text tree node) (at + 1) (i + 1))))
       → m + 1 ≤ m' → m' + length (node_text tree node) ≤ m + length (node_text tree from) + 2 → m' ≤ m + length (node_text tree from) + 1
       → r' ≡ r + keys_in tree (node_text tree node) (length (node_text tree node))
       → Passed tree word (at + 1) node new m0 r0 m' r'
@@ -68,11 +68,11 @@ module _ {C : Type 0} (tree : Tree (Entry C)) (word : List ℕ) (trie : IsTrie t
       record {
         longest = longest;
         vals_are = λ i low.
-            let ends = λ (end : ℕ). ending_at (key_at tree) framed (i + 1) end in
+            let ends = λ (end : ℕ). ending_at (entries_of_key tree) framed (i + 1) end in
             let more = greatest_more ends 1 at ∙ ap (λ (k : ℕ). max (greatest_value (flat_map ends (range_with_len 1 at))) (greatest_value (ends k))) last in
             let is = ending_is tree framed (at + 1) (i + 1) node within longest in
             raised i (omega arith)
-            ∙ ap (λ (v : ℕ). max v (greatest_value (entries_of_ends (key_at tree) (node_text tree node) (at + 1) (i + 1)))) (p.vals_are i (omega arith))
+            ∙ ap (λ (v : ℕ). max v (greatest_value (entries_of_ends (entries_of_key tree) (node_text tree node) (at + 1) (i + 1)))) (p.vals_are i (omega arith))
             ∙ ap (λ es. max (greatest_value (flat_map ends (range_with_len 1 at))) (greatest_value es)) (sym is) ∙ sym more;
         most = let was = p.most in omega arith;
         alone = λ none.
@@ -82,7 +82,7 @@ module _ {C : Type 0} (tree : Tree (Entry C)) (word : List ℕ) (trie : IsTrie t
             omega arith;
         least = let was = p.least in omega arith;
         reported_is =
-            let f = λ (end : ℕ). keys_ending (key_at tree) framed end in
+            let f = λ (end : ℕ). keys_ending (entries_of_key tree) framed end in
             let more = sum_more f 1 at ∙ ap (λ (k : ℕ). sum_by f (range_with_len 1 at) + f k) last in
             let is = counted_is tree framed (at + 1) node within longest in
             omega (arith, counted, p.reported_is, more, is);
@@ -95,14 +95,14 @@ module _ {C : Type 0} (tree : Tree (Entry C)) (word : List ℕ) (trie : IsTrie t
       }
 
   -- All is read.
-  pub passed_values : (node : ℕ) (vals : List ℕ) (m0 r0 m r : ℕ) → length vals ≡ length word - 1 → Passed tree word (length word + 2) node vals m0 r0 m r → vals ≡ values (key_at tree) word
+  pub passed_values : (node : ℕ) (vals : List ℕ) (m0 r0 m r : ℕ) → length vals ≡ length word - 1 → Passed tree word (length word + 2) node vals m0 r0 m r → vals ≡ values (entries_of_key tree) word
   passed_values node vals m0 r0 m r len p =
       let n : ℕ = length word - 1 in
-      let f = λ (q : ℕ). value_at (key_at tree) word q in
+      let f = λ (q : ℕ). value_at (entries_of_key tree) word q in
       ext_get_or 0 vals (map f (range_with_len 1 n)) (len ∙ sym (length-map-range_with_len f 1 n))
       (λ i lt. p.vals_are i lt
-      ∙ ap (λ (k : ℕ). greatest_value (flat_map (λ end. ending_at (key_at tree) framed (i + 1) end) (range_with_len 1 k))) (sym (length-frame word)) ∙ by_ends (key_at tree) framed (i + 1)
+      ∙ ap (λ (k : ℕ). greatest_value (flat_map (λ end. ending_at (entries_of_key tree) framed (i + 1) end) (range_with_len 1 k))) (sym (length-frame word)) ∙ by_ends (entries_of_key tree) framed (i + 1)
       ∙ sym (get_or-map-range_with_len f 1 n i (i + 1) 0 (omega (arith, len)) (omega arith)))
 
-  pub passed_reported : (node : ℕ) (vals : List ℕ) (m0 r0 m r : ℕ) → Passed tree word (length word + 2) node vals m0 r0 m r → r ≡ r0 + occurrences (key_at tree) (frame word)
-  passed_reported node vals m0 r0 m r p = p.reported_is ∙ ap (λ (k : ℕ). r0 + sum_by (λ end. keys_ending (key_at tree) framed end) (range_with_len 1 k)) (sym (length-frame word))
+  pub passed_reported : (node : ℕ) (vals : List ℕ) (m0 r0 m r : ℕ) → Passed tree word (length word + 2) node vals m0 r0 m r → r ≡ r0 + occurrences (entries_of_key tree) (frame word)
+  passed_reported node vals m0 r0 m r p = p.reported_is ∙ ap (λ (k : ℕ). r0 + sum_by (λ end. keys_ending (entries_of_key tree) framed end) (range_with_len 1 k)) (sym (length-frame word))

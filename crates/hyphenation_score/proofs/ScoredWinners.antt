@@ -3,7 +3,7 @@ use Rattle.std.proofs.Common.{◌≡◌, ℕ, ◌+◌, ◌<◌, List, [], ◌∷
 use Rattle.std.proofs.lemmas.List.{take_more, map-append}
 use Rattle.hyphenation_commons.specs.Break.{Change}
 use Rattle.hyphenation_commons.specs.declared.dictionary.Entry.{Entry}
-use Rattle.hyphenation_score.specs.Scoring.{scored_by}
+use Rattle.hyphenation_score.specs.Scoring.{score_of_winner}
 
 -- One more is made.
 pub mapped_more : {X Y W : Type 0} (m : X → Y) (f : W → Y) (xs : List W) (i : ℕ) (x : W) (items new : List X) (made : X) → i < length xs → x ≡ get_or xs i x
@@ -13,6 +13,6 @@ mapped_more {X} {Y} {W} m f xs i x items new made lt at is e n =
     ∙ sym (ap (map f) (take_more xs i x lt) ∙ map-append f (take i xs) (get_or xs i x ∷ []))
 
 -- What winners that are lent score.
-pub scored_winners : {C : Type 0} (change_of : C → Option Change) (lent : List (Option (Bor (Entry C)))) → map (λ winner. scored_by change_of (option_copied winner)) lent ≡ map (scored_by change_of) (map option_copied lent)
+pub scored_winners : {C : Type 0} (change_of : C → Option Change) (lent : List (Option (Bor (Entry C)))) → map (λ winner. score_of_winner change_of (option_copied winner)) lent ≡ map (score_of_winner change_of) (map option_copied lent)
 scored_winners change_of [] = refl
-scored_winners change_of (w ∷ ws) = ap (λ rest. scored_by change_of (option_copied w) ∷ rest) (scored_winners change_of ws)
+scored_winners change_of (w ∷ ws) = ap (λ rest. score_of_winner change_of (option_copied w) ∷ rest) (scored_winners change_of ws)

@@ -6,7 +6,7 @@ use Rattle.std.proofs.lemmas.Option.{slice_get-get_or}
 use Rattle.std.proofs.lemmas.List.FromFn.{length-map-range_with_len, get_or-map-range_with_len}
 use Rattle.hyphenation_commons.specs.Break.{Change}
 use Rattle.hyphenation_commons.specs.Dictionary.{Patterns}
-use Rattle.hyphenation_score.specs.Scoring.{frame, places, bearers, value_at, winner_at, value_of, values, winners, Scored, scored_by, scored_pair, scores}
+use Rattle.hyphenation_score.specs.Scoring.{frame, places, bearers, value_at, winner_at, value_of, values, winners, Scored, score_of_winner, scored_pair, scores}
 use Rattle.hyphenation_score.proofs.FirstGreatest.{value_of-first}
 
 pub length-values : {C : Type 0} (keys : Patterns C) (word : List ℕ) → length (values keys word) ≡ length word - 1
@@ -37,7 +37,7 @@ map-value_of keys word =
 -- and those of scores, without their changes
 pub values-of-scores : {C : Type 0} (change_of : C → Option Change) (keys : Patterns C) (word : List ℕ) (pairs : List (ℕ × Option (Bor Change))) → map scored_pair pairs ≡ scores change_of keys word → map (λ pair. pair.0) pairs ≡ values keys word
 values-of-scores change_of keys word pairs e =
-    sym (map-map (λ s. s.value) scored_pair pairs) ∙ ap (map (λ (s : Scored). s.value)) e ∙ map-map (λ s. s.value) (scored_by change_of) (winners keys word) ∙ map-value_of keys word
+    sym (map-map (λ s. s.value) scored_pair pairs) ∙ ap (map (λ (s : Scored). s.value)) e ∙ map-map (λ s. s.value) (score_of_winner change_of) (winners keys word) ∙ map-value_of keys word
 
 -- patterns that know the same of each text have the same winners
 pub winners_same : {C : Type 0} (keys other : Patterns C) (word : List ℕ) → ((text : List ℕ) → keys text ≡ other text) → winners keys word ≡ winners other word

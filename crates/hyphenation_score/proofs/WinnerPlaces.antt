@@ -5,7 +5,7 @@ use Rattle.std.specs.List.{find, flat_map, range_with_len, IsAmong}
 use Rattle.std.proofs.lemmas.Bool.{cases_eq, cases_lt, eqb-true, eq-eqb}
 use Rattle.hyphenation_commons.specs.Dictionary.{Patterns}
 use Rattle.hyphenation_commons.specs.declared.dictionary.Entry.{Entry}
-use Rattle.hyphenation_score.specs.Scoring.{frame, bearing, bearing_from, bearers, greatest_value, first_greatest, value_of, value_at, winner_at}
+use Rattle.hyphenation_score.specs.Scoring.{frame, bearers_between, bearers_from, bearers, greatest_value, first_greatest, value_of, value_at, winner_at}
 use Rattle.hyphenation_score.specs.Winners.{Bears, Before, Wins}
 use Rattle.hyphenation_score.specs.Private.Scoring.{greater}
 use Rattle.hyphenation_score.proofs.GreatestValues.{greatest_from, greatest_value-append}
@@ -94,23 +94,23 @@ row_first {C} f a (suc n) e is =
 -- ---- entries that bear
 
 -- what the key has that stands there
-pub bearing_is : {C : Type 0} (keys : Patterns C) (framed : List ℕ) (p start end : ℕ) (entries : List (Entry C)) → keys (slice_range framed start end) ≡ Some entries → bearing keys framed p start end ≡ filter (λ entry. start + entry.place == p + 1) entries
+pub bearing_is : {C : Type 0} (keys : Patterns C) (framed : List ℕ) (p start end : ℕ) (entries : List (Entry C)) → keys (slice_range framed start end) ≡ Some entries → bearers_between keys framed p start end ≡ filter (λ entry. start + entry.place == p + 1) entries
 bearing_is {C} keys framed p start end entries is = ap (λ (o : Option (List (Entry C))). filter (λ entry. start + entry.place == p + 1) (unwrap_or o [])) is
 
 -- the values that bear, from one occurrence up to all
-pub bears_value : {C : Type 0} (keys : Patterns C) (word : List ℕ) (p start end : ℕ) (entry : Entry C) → Bears keys word p start end entry → entry.value ≤ greatest_value (bearing keys (frame word) p start end)
+pub bears_value : {C : Type 0} (keys : Patterns C) (word : List ℕ) (p start end : ℕ) (entry : Entry C) → Bears keys word p start end entry → entry.value ≤ greatest_value (bearers_between keys (frame word) p start end)
 bears_value keys word p start end entry bears =
     let passes : (start + entry.place == p + 1) ≡ true = eq-eqb (start + entry.place) (p + 1) bears.place in
     let kept = kept_value (λ e. start + e.place == p + 1) bears.entries bears.among.0 entry bears.among.1.0 bears.among.1.1 passes in
     omega (arith, ap greatest_value (bearing_is keys (frame word) p start end bears.entries bears.key))
 
-pub bears_from : {C : Type 0} (keys : Patterns C) (word : List ℕ) (p start end : ℕ) (entry : Entry C) → Bears keys word p start end entry → entry.value ≤ greatest_value (bearing_from keys (frame word) p start)
+pub bears_from : {C : Type 0} (keys : Patterns C) (word : List ℕ) (p start end : ℕ) (entry : Entry C) → Bears keys word p start end entry → entry.value ≤ greatest_value (bearers_from keys (frame word) p start)
 bears_from keys word p start end entry bears =
-    omega (arith, bears_value keys word p start end entry bears, row_value (λ e. bearing keys (frame word) p start e) (start + 1) (length (frame word) - start) end (omega (arith, bears.some)) (omega (arith, bears.some, bears.within)))
+    omega (arith, bears_value keys word p start end entry bears, row_value (λ e. bearers_between keys (frame word) p start e) (start + 1) (length (frame word) - start) end (omega (arith, bears.some)) (omega (arith, bears.some, bears.within)))
 
 pub bears_at : {C : Type 0} (keys : Patterns C) (word : List ℕ) (p start end : ℕ) (entry : Entry C) → Bears keys word p start end entry → entry.value ≤ value_at keys word p
 bears_at keys word p start end entry bears =
-    omega (arith, bears_from keys word p start end entry bears, row_value (λ s. bearing_from keys (frame word) p s) 0 (length (frame word)) start (omega arith) (omega (arith, bears.some, bears.within)))
+    omega (arith, bears_from keys word p start end entry bears, row_value (λ s. bearers_from keys (frame word) p s) 0 (length (frame word)) start (omega arith) (omega (arith, bears.some, bears.within)))
 
 -- what is first has a value above 0
 positive : {C : Type 0} (es : List (Entry C)) (e : Entry C) → first_greatest es ≡ Some e → 0 < greatest_value es
@@ -120,16 +120,16 @@ positive es e is = elim (cases_eq (greatest_value es) 0) [
 ]
 
 -- the first of an occurrence bears
-first_bears : {C : Type 0} (keys : Patterns C) (word : List ℕ) (p start end : ℕ) (entry : Entry C) → start < end → end ≤ length (frame word) → first_greatest (bearing keys (frame word) p start end) ≡ Some entry → Bears keys word p start end entry
+first_bears : {C : Type 0} (keys : Patterns C) (word : List ℕ) (p start end : ℕ) (entry : Entry C) → start < end → end ≤ length (frame word) → first_greatest (bearers_between keys (frame word) p start end) ≡ Some entry → Bears keys word p start end entry
 first_bears {C} keys word p start end entry some within is =
-    let pos : 0 < greatest_value (bearing keys (frame word) p start end) = positive (bearing keys (frame word) p start end) entry is in
-    let f = first_some (bearing keys (frame word) p start end) pos in
+    let pos : 0 < greatest_value (bearers_between keys (frame word) p start end) = positive (bearers_between keys (frame word) p start end) entry is in
+    let f = first_some (bearers_between keys (frame word) p start end) pos in
     let one : f.0 ≡ entry = let both : Some f.0 ≡ Some entry = sym f.1 ∙ is in cc in
-    let found : find (λ x. x.value == greatest_value (bearing keys (frame word) p start end)) (bearing keys (frame word) p start end) ≡ Some entry = f.2 ∙ ap (λ x. Some x) one in
-    elim (keys (slice_range (frame word) start end)) as (λ o. keys (slice_range (frame word) start end) ≡ o → find (λ x. x.value == greatest_value (bearing keys (frame word) p start end)) (filter (λ e. start + e.place == p + 1) (unwrap_or o [])) ≡ Some entry → Bears keys word p start end entry) [
+    let found : find (λ x. x.value == greatest_value (bearers_between keys (frame word) p start end)) (bearers_between keys (frame word) p start end) ≡ Some entry = f.2 ∙ ap (λ x. Some x) one in
+    elim (keys (slice_range (frame word) start end)) as (λ o. keys (slice_range (frame word) start end) ≡ o → find (λ x. x.value == greatest_value (bearers_between keys (frame word) p start end)) (filter (λ e. start + e.place == p + 1) (unwrap_or o [])) ≡ Some entry → Bears keys word p start end entry) [
       | None ↦ λ e h. absurd cc
       | Some entries ↦ λ e h.
-          let kept = found_kept (λ e. start + e.place == p + 1) (λ x. x.value == greatest_value (bearing keys (frame word) p start end)) entries entry h in
+          let kept = found_kept (λ e. start + e.place == p + 1) (λ x. x.value == greatest_value (bearers_between keys (frame word) p start end)) entries entry h in
           record { some = some; within = within; entries = entries; key = e; among = kept.0; place = eqb-true (start + entry.place) (p + 1) kept.1 }
     ] refl found
 
@@ -137,8 +137,8 @@ first_bears {C} keys word p start end entry some within is =
 pub winner_wins : {C : Type 0} (keys : Patterns C) (word : List ℕ) (p : ℕ) (entry : Entry C) → winner_at keys word p ≡ Some entry → (start : ℕ) × (end : ℕ) × (Wins keys word p start end entry) × (entry.value ≡ value_at keys word p)
 winner_wins keys word p entry is =
     let value : entry.value ≡ value_at keys word p = sym (ap value_of is) ∙ value_of-first (bearers keys (frame word) p) in
-    let s = row_first (λ start. bearing_from keys (frame word) p start) 0 (length (frame word)) entry is in
-    let e = row_first (λ end. bearing keys (frame word) p s.0 end) (s.0 + 1) (length (frame word) - s.0) entry s.1.first in
+    let s = row_first (λ start. bearers_from keys (frame word) p start) 0 (length (frame word)) entry is in
+    let e = row_first (λ end. bearers_between keys (frame word) p s.0 end) (s.0 + 1) (length (frame word) - s.0) entry s.1.first in
     let some : s.0 < e.0 = omega (arith, e.1.low) in
     let within : e.0 ≤ length (frame word) = omega (arith, e.1.high, s.1.high) in (
       s.0,
@@ -152,7 +152,7 @@ winner_wins keys word p entry is =
             | inr apart ↦ inl (omega arith)
             | inl at ↦ elim (cases_lt end e.0) [
               | inr ge ↦ inr (at, ge)
-              | inl shorter ↦ absurd (omega (arith, ap (λ (x : ℕ). greatest_value (bearing keys (frame word) p x end)) at, bears_value keys word p start end other bears, bears.some, e.1.less end (omega (arith, bears.some)) shorter))
+              | inl shorter ↦ absurd (omega (arith, ap (λ (x : ℕ). greatest_value (bearers_between keys (frame word) p x end)) at, bears_value keys word p start end other bears, bears.some, e.1.less end (omega (arith, bears.some)) shorter))
             ]
           ]
         ];

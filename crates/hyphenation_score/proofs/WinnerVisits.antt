@@ -4,36 +4,36 @@ use Rattle.std.specs.Prelude.{unwrap_or}
 use Rattle.std.proofs.lemmas.Bool.{cases_eq, cases_lt}
 use Rattle.std.proofs.lemmas.List.{length-take, length-drop}
 use Rattle.hyphenation_commons.specs.declared.dictionary.Entry.{Entry}
-use Rattle.hyphenation_trie.specs.Trie.{Tree, node_text, key_at}
-use Rattle.hyphenation_trie.specs.Links.{Ends, IsLongest, IsReport}
+use Rattle.hyphenation_trie.specs.Trie.{Tree, node_text, entries_of_key}
+use Rattle.hyphenation_trie.specs.Links.{EndsWith, IsLongest, IsReport}
 use Rattle.hyphenation_trie.proofs.LinksMade.{report_next}
-use Rattle.hyphenation_score.specs.Scoring.{greatest_value, first_greatest, bearing, bearers}
+use Rattle.hyphenation_score.specs.Scoring.{greatest_value, first_greatest, bearers_between, bearers}
 use Rattle.hyphenation_score.specs.Winners.{IsPair, Best, Holds}
 use Rattle.hyphenation_score.specs.Private.Winners.{meets, Asked}
 use Rattle.hyphenation_score.proofs.OnePass.{slice_is, none_next}
 use Rattle.hyphenation_score.proofs.WinnersMet.{holds_skip, holds_visit, winner_is, winner_none}
 
 -- where no key stands, nothing bears
-nothing : {C : Type 0} (tree : Tree (Entry C)) (framed : List ℕ) (p s end : ℕ) → s ≤ end → key_at tree (drop s (take end framed)) ≡ None → greatest_value (bearing (key_at tree) framed p s end) ≡ 0
+nothing : {C : Type 0} (tree : Tree (Entry C)) (framed : List ℕ) (p s end : ℕ) → s ≤ end → entries_of_key tree (drop s (take end framed)) ≡ None → greatest_value (bearers_between (entries_of_key tree) framed p s end) ≡ 0
 nothing tree framed p s end le none =
-    ap (λ o. greatest_value (filter (λ entry. s + entry.place == p + 1) (unwrap_or o []))) (ap (key_at tree) (slice_is framed s end le) ∙ none)
+    ap (λ o. greatest_value (filter (λ entry. s + entry.place == p + 1) (unwrap_or o []))) (ap (entries_of_key tree) (slice_is framed s end le) ∙ none)
 
 -- more starts of which no key ends there
-skip : {C : Type 0} (tree : Tree (Entry C)) (framed : List ℕ) (p end low high : ℕ) (now : Best C) → low ≤ high → Holds (key_at tree) framed p (Asked framed end low) now
-    → ((s : ℕ) → low ≤ s → s < high → s < end → key_at tree (drop s (take end framed)) ≡ None) → Holds (key_at tree) framed p (Asked framed end high) now
-skip tree framed p end low high now le holds none = holds_skip (key_at tree) framed p (Asked framed end low) (Asked framed end high) now holds
+skip : {C : Type 0} (tree : Tree (Entry C)) (framed : List ℕ) (p end low high : ℕ) (now : Best C) → low ≤ high → Holds (entries_of_key tree) framed p (Asked framed end low) now
+    → ((s : ℕ) → low ≤ s → s < high → s < end → entries_of_key tree (drop s (take end framed)) ≡ None) → Holds (entries_of_key tree) framed p (Asked framed end high) now
+skip tree framed p end low high now le holds none = holds_skip (entries_of_key tree) framed p (Asked framed end low) (Asked framed end high) now holds
     (λ a b h. (h.0, elim h.1 [ inl less ↦ inl less | inr same ↦ inr (same.0, omega (arith, same.1)) ]))
     (λ a b h. elim h.1 [
       | inl less ↦ inl (h.0, inl less)
       | inr same ↦ elim (cases_lt a low) [
         | inl old ↦ inl (h.0, inr (same.0, old))
-        | inr new ↦ inr (ap (λ (x : ℕ). greatest_value (bearing (key_at tree) framed p a x)) same.0 ∙ nothing tree framed p a end (omega (arith, h.0.0, same.0)) (none a new same.1 (omega (arith, h.0.0, same.0))))
+        | inr new ↦ inr (ap (λ (x : ℕ). greatest_value (bearers_between (entries_of_key tree) framed p a x)) same.0 ∙ nothing tree framed p a end (omega (arith, h.0.0, same.0)) (none a new same.1 (omega (arith, h.0.0, same.0))))
       ]
     ])
 
 -- before the first report
 pub met_first : {C : Type 0} (tree : Tree (Entry C)) (framed : List ℕ) (end p from to : ℕ) (now : Best C) → end ≤ length framed → IsLongest tree.texts (take end framed) from → IsReport tree (node_text tree from) to
-    → Holds (key_at tree) framed p (Asked framed end 0) now → Holds (key_at tree) framed p (Asked framed end (end - length (node_text tree to))) now
+    → Holds (entries_of_key tree) framed p (Asked framed end 0) now → Holds (entries_of_key tree) framed p (Asked framed end (end - length (node_text tree to))) now
 met_first tree framed end p from to now le longest report holds =
     let T : List ℕ = take end framed in
     let len : length T ≡ end = omega (arith, length-take end framed) in
@@ -41,18 +41,18 @@ met_first tree framed end p from to now le longest report holds =
     skip tree framed p end 0 (end - length (node_text tree to)) now (omega arith) holds (λ s low high below. whole.none s (omega arith))
 
 -- one report
-pub met_next : {C : Type 0} (tree : Tree (Entry C)) (framed : List ℕ) (end p at to start : ℕ) (es : List (Entry C)) (now : Best C) → end ≤ length framed → Ends (take end framed) (node_text tree at) → 0 < length (node_text tree at)
-    → IsReport tree (drop 1 (node_text tree at)) to → Some es ≡ key_at tree (node_text tree at) → start ≡ end - length (node_text tree at)
-    → Holds (key_at tree) framed p (Asked framed end start) now
-    → Holds (key_at tree) framed p (Asked framed end (end - length (node_text tree to))) (meets now start (first_greatest (filter (λ entry. start + entry.place == p + 1) es)))
+pub met_next : {C : Type 0} (tree : Tree (Entry C)) (framed : List ℕ) (end p at to start : ℕ) (es : List (Entry C)) (now : Best C) → end ≤ length framed → EndsWith (take end framed) (node_text tree at) → 0 < length (node_text tree at)
+    → IsReport tree (drop 1 (node_text tree at)) to → Some es ≡ entries_of_key tree (node_text tree at) → start ≡ end - length (node_text tree at)
+    → Holds (entries_of_key tree) framed p (Asked framed end start) now
+    → Holds (entries_of_key tree) framed p (Asked framed end (end - length (node_text tree to))) (meets now start (first_greatest (filter (λ entry. start + entry.place == p + 1) es)))
 met_next {C} tree framed end p at to start es now le ends pos report key is holds =
     let T : List ℕ = take end framed in
     let len : length T ≡ end = omega (arith, length-take end framed) in
     let begin : length T - length (node_text tree at) ≡ start = omega (arith, is) in
     let text : drop start T ≡ node_text tree at = ap (λ (k : ℕ). drop k T) (sym begin) ∙ ends.1 in
-    let bears : bearing (key_at tree) framed p start end ≡ filter (λ entry. start + entry.place == p + 1) es =
-    ap (λ o. filter (λ entry. start + entry.place == p + 1) (unwrap_or o [])) (ap (key_at tree) (slice_is framed start end (omega arith) ∙ text) ∙ sym key) in
-    let visited = holds_visit (key_at tree) framed p (Asked framed end start) (Asked framed end (start + 1)) now start end holds
+    let bears : bearers_between (entries_of_key tree) framed p start end ≡ filter (λ entry. start + entry.place == p + 1) es =
+    ap (λ o. filter (λ entry. start + entry.place == p + 1) (unwrap_or o [])) (ap (entries_of_key tree) (slice_is framed start end (omega arith) ∙ text) ∙ sym key) in
+    let visited = holds_visit (entries_of_key tree) framed p (Asked framed end start) (Asked framed end (start + 1)) now start end holds
     (λ a b h. (h.0, elim h.1 [ inl less ↦ inl less | inr same ↦ inr (same.0, omega (arith, same.1)) ]))
     (λ a b h. elim h.1 [
       | inl less ↦ inl (h.0, inl less)
@@ -61,12 +61,12 @@ met_next {C} tree framed end p at to start es now le ends pos report key is hold
     ((omega (arith, ends.0), le), inr (refl, omega arith))
     (λ a b h. elim h.1 [ inl less ↦ omega arith | inr same ↦ omega (arith, same.0) ]) in
     let less : length (node_text tree to) < length (node_text tree at) = omega (arith, report.ends.0, length-drop 1 (node_text tree at)) in
-    subst (λ es. Holds (key_at tree) framed p (Asked framed end (end - length (node_text tree to))) (meets now start (first_greatest es))) bears
+    subst (λ es. Holds (entries_of_key tree) framed p (Asked framed end (end - length (node_text tree to))) (meets now start (first_greatest es))) bears
     (skip tree framed p end (start + 1) (end - length (node_text tree to)) _ (omega (arith, ends.0)) visited (λ s low high below. none_next tree T at to ends report s (omega arith) (omega arith)))
 
 -- after the last
-pub met_all : {C : Type 0} (tree : Tree (Entry C)) (framed : List ℕ) (end p bound : ℕ) (now : Best C) → bound ≡ end → Holds (key_at tree) framed p (Asked framed end bound) now → Holds (key_at tree) framed p (Asked framed (end + 1) 0) now
-met_all tree framed end p bound now is holds = holds_skip (key_at tree) framed p (Asked framed end bound) (Asked framed (end + 1) 0) now holds
+pub met_all : {C : Type 0} (tree : Tree (Entry C)) (framed : List ℕ) (end p bound : ℕ) (now : Best C) → bound ≡ end → Holds (entries_of_key tree) framed p (Asked framed end bound) now → Holds (entries_of_key tree) framed p (Asked framed (end + 1) 0) now
+met_all tree framed end p bound now is holds = holds_skip (entries_of_key tree) framed p (Asked framed end bound) (Asked framed (end + 1) 0) now holds
     (λ a b h. (h.0, elim h.1 [ inl less ↦ inl (omega arith) | inr same ↦ inl (omega (arith, same.0)) ]))
     (λ a b h. elim h.1 [
       | inl less ↦ elim (cases_eq b end) [ inl here ↦ inl (h.0, inr (here, omega (arith, h.0.0))) | inr apart ↦ inl (h.0, inl (omega arith)) ]
@@ -74,10 +74,10 @@ met_all tree framed end p bound now is holds = holds_skip (key_at tree) framed p
     ])
 
 -- after the frame's end
-pub met_end : {C : Type 0} (tree : Tree (Entry C)) (framed : List ℕ) (p bound : ℕ) (now : Best C) → length framed < bound → Holds (key_at tree) framed p (Asked framed bound 0) now → now.0 ≡ first_greatest (bearers (key_at tree) framed p)
+pub met_end : {C : Type 0} (tree : Tree (Entry C)) (framed : List ℕ) (p bound : ℕ) (now : Best C) → length framed < bound → Holds (entries_of_key tree) framed p (Asked framed bound 0) now → now.0 ≡ first_greatest (bearers (entries_of_key tree) framed p)
 met_end tree framed p bound now lt holds =
-    let all = holds_skip (key_at tree) framed p (Asked framed bound 0) (IsPair framed) now holds (λ a b h. h.0) (λ a b h. inl (h, inl (omega (arith, h.1)))) in
+    let all = holds_skip (entries_of_key tree) framed p (Asked framed bound 0) (IsPair framed) now holds (λ a b h. h.0) (λ a b h. inl (h, inl (omega (arith, h.1)))) in
     elim all [
-      | inl none ↦ none.0 ∙ sym (winner_none (key_at tree) framed p none.2)
-      | inr some ↦ some.2 ∙ sym (winner_is (key_at tree) framed p now.1 some.1 some.0 some.3)
+      | inl none ↦ none.0 ∙ sym (winner_none (entries_of_key tree) framed p none.2)
+      | inr some ↦ some.2 ∙ sym (winner_is (entries_of_key tree) framed p now.1 some.1 some.0 some.3)
     ]

@@ -5,7 +5,7 @@ use Rattle.std.proofs.lemmas.List.{take_more}
 use Rattle.std.proofs.lemmas.Bool.{cases_lt, cases_eq, lt-ltb, le-ltb, eqb-true, eq-eqb}
 use Rattle.hyphenation_commons.specs.Dictionary.{Patterns}
 use Rattle.hyphenation_commons.specs.declared.dictionary.Entry.{Entry}
-use Rattle.hyphenation_score.specs.Scoring.{greatest_value, first_greatest, bearing, bearing_from, bearers, value_of}
+use Rattle.hyphenation_score.specs.Scoring.{greatest_value, first_greatest, bearers_between, bearers_from, bearers, value_of}
 use Rattle.hyphenation_score.specs.Private.Scoring.{greater}
 use Rattle.hyphenation_score.specs.Winners.{IsPair, IsBest, Best, Holds, Before}
 use Rattle.hyphenation_score.specs.Private.Winners.{meets, Sane}
@@ -49,27 +49,27 @@ pub winner_is : {C : Type 0} (keys : Patterns C) (framed : List ℕ) (p s e : �
 winner_is keys framed p s e entry best =
     let n : ℕ = length framed in
     let pair = best.pair in
-    let v = first_value (bearing keys framed p s e) entry best.first in
-    let here = first_of (λ end. bearing keys framed p s end) (s + 1) (n - s) e entry (omega (arith, pair.0)) (omega (arith, pair.0, pair.1)) best.first
+    let v = first_value (bearers_between keys framed p s e) entry best.first in
+    let here = first_of (λ end. bearers_between keys framed p s end) (s + 1) (n - s) e entry (omega (arith, pair.0)) (omega (arith, pair.0, pair.1)) best.first
     (λ j low high. best.most s j (omega arith, omega (arith, pair.0, pair.1)))
-    (λ j low high. elim (cases_eq (greatest_value (bearing keys framed p s j)) entry.value) [
+    (λ j low high. elim (cases_eq (greatest_value (bearers_between keys framed p s j)) entry.value) [
       | inl same ↦ elim (best.before s j (omega arith, omega (arith, pair.0, pair.1)) same) [ inl less ↦ absurd (omega arith) | inr h ↦ absurd (omega (arith, h.1)) ]
       | inr other ↦ omega (arith, best.most s j (omega arith, omega (arith, pair.0, pair.1)))
     ]) in
-    first_of (λ start. bearing_from keys framed p start) 0 n s entry (omega arith) (omega (arith, pair.0, pair.1)) here
-    (λ j low high. greatest_value-within (λ end. bearing keys framed p j end) (j + 1) (n - j) entry.value (λ k klow khigh. best.most j k (omega arith, omega arith)))
+    first_of (λ start. bearers_from keys framed p start) 0 n s entry (omega arith) (omega (arith, pair.0, pair.1)) here
+    (λ j low high. greatest_value-within (λ end. bearers_between keys framed p j end) (j + 1) (n - j) entry.value (λ k klow khigh. best.most j k (omega arith, omega arith)))
     (λ j low high.
-    let strict = greatest_value-within (λ end. bearing keys framed p j end) (j + 1) (n - j) (entry.value - 1) (λ k klow khigh.
-    elim (cases_eq (greatest_value (bearing keys framed p j k)) entry.value) [
+    let strict = greatest_value-within (λ end. bearers_between keys framed p j end) (j + 1) (n - j) (entry.value - 1) (λ k klow khigh.
+    elim (cases_eq (greatest_value (bearers_between keys framed p j k)) entry.value) [
       | inl same ↦ elim (best.before j k (omega arith, omega (arith, pair.0, pair.1)) same) [ inl less ↦ absurd (omega arith) | inr h ↦ absurd (omega (arith, h.0)) ]
       | inr other ↦ omega (arith, best.most j k (omega arith, omega (arith, pair.0, pair.1)))
     ]) in
     omega (arith, v.1))
 
 -- where no pair gives a value, there is no winner
-pub winner_none : {C : Type 0} (keys : Patterns C) (framed : List ℕ) (p : ℕ) → ((s e : ℕ) → IsPair framed s e → greatest_value (bearing keys framed p s e) ≡ 0) → first_greatest (bearers keys framed p) ≡ None
+pub winner_none : {C : Type 0} (keys : Patterns C) (framed : List ℕ) (p : ℕ) → ((s e : ℕ) → IsPair framed s e → greatest_value (bearers_between keys framed p s e) ≡ 0) → first_greatest (bearers keys framed p) ≡ None
 winner_none keys framed p none =
-    let all = greatest_value-within (λ start. bearing_from keys framed p start) 0 (length framed) 0 (λ s low high. greatest_value-within (λ end. bearing keys framed p s end) (s + 1) (length framed - s) 0 (λ e elow ehigh. let h = none s e (omega arith, omega arith) in omega arith)) in
+    let all = greatest_value-within (λ start. bearers_from keys framed p start) 0 (length framed) 0 (λ s low high. greatest_value-within (λ end. bearers_between keys framed p s end) (s + 1) (length framed - s) 0 (λ e elow ehigh. let h = none s e (omega arith, omega arith) in omega arith)) in
     first_none (bearers keys framed p) (omega arith)
 
 -- ---- an entry met
@@ -106,18 +106,18 @@ beaten_later now start e same le =
 
 -- the pair is better
 best_new : {C : Type 0} (keys : Patterns C) (framed : List ℕ) (p : ℕ) (asked next : ℕ → ℕ → Type 0) (s e s1 e1 : ℕ) (entry entry1 : Entry C)
-    → IsBest keys framed p asked s e entry → ((a b : ℕ) → next a b → asked a b ⊎ ((a ≡ s1) × (b ≡ e1))) → next s1 e1 → first_greatest (bearing keys framed p s1 e1) ≡ Some entry1
+    → IsBest keys framed p asked s e entry → ((a b : ℕ) → next a b → asked a b ⊎ ((a ≡ s1) × (b ≡ e1))) → next s1 e1 → first_greatest (bearers_between keys framed p s1 e1) ≡ Some entry1
     → (entry.value < entry1.value) ⊎ ((entry.value ≡ entry1.value) × Before s1 e1 s e)
     → IsBest keys framed p next s1 e1 entry1
 best_new keys framed p asked next s e s1 e1 entry entry1 best split here is better =
-    let v = first_value (bearing keys framed p s1 e1) entry1 is in
+    let v = first_value (bearers_between keys framed p s1 e1) entry1 is in
     let le : entry.value ≤ entry1.value = elim better [ inl lt ↦ omega arith | inr h ↦ omega (arith, h.0) ] in
     record {
       pair = here;
       first = is;
       most = λ a b h. elim (split a b h) [
         | inl old ↦ omega (arith, best.most a b old)
-        | inr new ↦ omega (arith, v.0, ap (λ (x : ℕ). greatest_value (bearing keys framed p x b)) new.0, ap (λ (x : ℕ). greatest_value (bearing keys framed p s1 x)) new.1)
+        | inr new ↦ omega (arith, v.0, ap (λ (x : ℕ). greatest_value (bearers_between keys framed p x b)) new.0, ap (λ (x : ℕ). greatest_value (bearers_between keys framed p s1 x)) new.1)
       ];
       before = λ a b h same. elim (split a b h) [
         | inr new ↦ inr (sym new.0, omega (arith, new.1))
@@ -134,7 +134,7 @@ best_new keys framed p asked next s e s1 e1 entry entry1 best split here is bett
 -- the pair is no better
 best_old : {C : Type 0} (keys : Patterns C) (framed : List ℕ) (p : ℕ) (asked next : ℕ → ℕ → Type 0) (s e s1 e1 : ℕ) (entry : Entry C)
     → IsBest keys framed p asked s e entry → ((a b : ℕ) → next a b → asked a b ⊎ ((a ≡ s1) × (b ≡ e1))) → next s e
-    → (greatest_value (bearing keys framed p s1 e1) < entry.value) ⊎ ((greatest_value (bearing keys framed p s1 e1) ≡ entry.value) × Before s e s1 e1)
+    → (greatest_value (bearers_between keys framed p s1 e1) < entry.value) ⊎ ((greatest_value (bearers_between keys framed p s1 e1) ≡ entry.value) × Before s e s1 e1)
     → IsBest keys framed p next s e entry
 best_old keys framed p asked next s e s1 e1 entry best split here worse = record {
   pair = here;
@@ -142,13 +142,13 @@ best_old keys framed p asked next s e s1 e1 entry best split here worse = record
   most = λ a b h. elim (split a b h) [
     | inl old ↦ best.most a b old
     | inr new ↦
-        let same : greatest_value (bearing keys framed p a b) ≡ greatest_value (bearing keys framed p s1 e1) = ap (λ (x : ℕ). greatest_value (bearing keys framed p x b)) new.0 ∙ ap (λ (x : ℕ). greatest_value (bearing keys framed p s1 x)) new.1 in
+        let same : greatest_value (bearers_between keys framed p a b) ≡ greatest_value (bearers_between keys framed p s1 e1) = ap (λ (x : ℕ). greatest_value (bearers_between keys framed p x b)) new.0 ∙ ap (λ (x : ℕ). greatest_value (bearers_between keys framed p s1 x)) new.1 in
         elim worse [ inl lt ↦ omega arith | inr eq ↦ omega (arith, eq.0) ]
   ];
   before = λ a b h equal. elim (split a b h) [
     | inl old ↦ best.before a b old equal
     | inr new ↦
-        let same : greatest_value (bearing keys framed p a b) ≡ greatest_value (bearing keys framed p s1 e1) = ap (λ (x : ℕ). greatest_value (bearing keys framed p x b)) new.0 ∙ ap (λ (x : ℕ). greatest_value (bearing keys framed p s1 x)) new.1 in
+        let same : greatest_value (bearers_between keys framed p a b) ≡ greatest_value (bearers_between keys framed p s1 e1) = ap (λ (x : ℕ). greatest_value (bearers_between keys framed p x b)) new.0 ∙ ap (λ (x : ℕ). greatest_value (bearers_between keys framed p s1 x)) new.1 in
         elim worse [
           | inl lt ↦ absurd (omega arith)
           | inr eq ↦ elim eq.1 [ inl less ↦ inl (omega (arith, new.0)) | inr level ↦ inr (omega (arith, level.0, new.0), omega (arith, level.1, new.1)) ]
@@ -158,12 +158,12 @@ best_old keys framed p asked next s e s1 e1 entry best split here worse = record
 
 -- where the pair gives no value, nothing changes
 pub holds_skip : {C : Type 0} (keys : Patterns C) (framed : List ℕ) (p : ℕ) (asked next : ℕ → ℕ → Type 0) (now : Best C) → Holds keys framed p asked now
-    → ((a b : ℕ) → asked a b → next a b) → ((a b : ℕ) → next a b → asked a b ⊎ (greatest_value (bearing keys framed p a b) ≡ 0)) → Holds keys framed p next now
+    → ((a b : ℕ) → asked a b → next a b) → ((a b : ℕ) → next a b → asked a b ⊎ (greatest_value (bearers_between keys framed p a b) ≡ 0)) → Holds keys framed p next now
 holds_skip keys framed p asked next now holds more split = elim holds [
   | inl none ↦ inl (none.0, none.1, λ a b h. elim (split a b h) [ inl old ↦ none.2 a b old | inr nil ↦ nil ])
   | inr some ↦
       let best = some.3 in
-      let v = first_value (bearing keys framed p now.1 some.1) some.0 best.first in
+      let v = first_value (bearers_between keys framed p now.1 some.1) some.0 best.first in
       inr (
         some.0,
         some.1,
@@ -183,9 +183,9 @@ before_ends s e s1 e1 le ends = elim (cases_lt s s1) [ inl less ↦ inl less | i
 -- the pair gives this entry
 pub holds_more : {C : Type 0} (keys : Patterns C) (framed : List ℕ) (p : ℕ) (asked next : ℕ → ℕ → Type 0) (now : Best C) (s1 e1 : ℕ) (entry1 : Entry C) → Holds keys framed p asked now
     → ((a b : ℕ) → asked a b → next a b) → ((a b : ℕ) → next a b → asked a b ⊎ ((a ≡ s1) × (b ≡ e1))) → next s1 e1 → ((a b : ℕ) → asked a b → b ≤ e1)
-    → first_greatest (bearing keys framed p s1 e1) ≡ Some entry1 → Holds keys framed p next (meets now s1 (Some entry1))
+    → first_greatest (bearers_between keys framed p s1 e1) ≡ Some entry1 → Holds keys framed p next (meets now s1 (Some entry1))
 holds_more {C} keys framed p asked next now s1 e1 entry1 holds more split here ends is =
-    let v1 = first_value (bearing keys framed p s1 e1) entry1 is in
+    let v1 = first_value (bearers_between keys framed p s1 e1) entry1 is in
     let go : (to : Best C) → meets now s1 (Some entry1) ≡ to → Holds keys framed p next to → Holds keys framed p next (meets now s1 (Some entry1)) = λ to e h. subst (λ (x : Best C). Holds keys framed p next x) (sym e) h in
     elim holds [
       | inl none ↦
@@ -199,7 +199,7 @@ holds_more {C} keys framed p asked next now s1 e1 entry1 holds more split here e
               first = is;
               most = λ a b h. elim (split a b h) [
                 | inl old ↦ omega (arith, none.2 a b old)
-                | inr new ↦ omega (arith, v1.0, ap (λ (x : ℕ). greatest_value (bearing keys framed p x b)) new.0, ap (λ (x : ℕ). greatest_value (bearing keys framed p s1 x)) new.1)
+                | inr new ↦ omega (arith, v1.0, ap (λ (x : ℕ). greatest_value (bearers_between keys framed p x b)) new.0, ap (λ (x : ℕ). greatest_value (bearers_between keys framed p s1 x)) new.1)
               ];
               before = λ a b h same. elim (split a b h) [
                 | inl old ↦ absurd (omega (arith, none.2 a b old, v1.1))
@@ -226,7 +226,7 @@ pub holds_sane : {C : Type 0} (keys : Patterns C) (framed : List ℕ) (p : ℕ) 
 holds_sane keys framed p asked now holds = elim holds [
   | inl none ↦ λ nil. none.1
   | inr some ↦ λ nil.
-      let v = first_value (bearing keys framed p now.1 some.1) some.0 some.3.first in
+      let v = first_value (bearers_between keys framed p now.1 some.1) some.0 some.3.first in
       let value : value_of now.0 ≡ some.0.value = ap value_of some.2 in
       absurd (omega (arith, v.1))
 ]
@@ -234,14 +234,14 @@ holds_sane keys framed p asked now holds = elim holds [
 -- a pair is visited
 pub holds_visit : {C : Type 0} (keys : Patterns C) (framed : List ℕ) (p : ℕ) (asked next : ℕ → ℕ → Type 0) (now : Best C) (s1 e1 : ℕ) → Holds keys framed p asked now
     → ((a b : ℕ) → asked a b → next a b) → ((a b : ℕ) → next a b → asked a b ⊎ ((a ≡ s1) × (b ≡ e1))) → next s1 e1 → ((a b : ℕ) → asked a b → b ≤ e1)
-    → Holds keys framed p next (meets now s1 (first_greatest (bearing keys framed p s1 e1)))
+    → Holds keys framed p next (meets now s1 (first_greatest (bearers_between keys framed p s1 e1)))
 holds_visit {C} keys framed p asked next now s1 e1 holds more split here ends =
-    elim (first_greatest (bearing keys framed p s1 e1)) as (λ o. first_greatest (bearing keys framed p s1 e1) ≡ o → Holds keys framed p next (meets now s1 o)) [
+    elim (first_greatest (bearers_between keys framed p s1 e1)) as (λ o. first_greatest (bearers_between keys framed p s1 e1) ≡ o → Holds keys framed p next (meets now s1 o)) [
       | None ↦ λ is.
-          let nil : greatest_value (bearing keys framed p s1 e1) ≡ 0 = sym (value_of-first (bearing keys framed p s1 e1)) ∙ ap value_of is in
+          let nil : greatest_value (bearers_between keys framed p s1 e1) ≡ 0 = sym (value_of-first (bearers_between keys framed p s1 e1)) ∙ ap value_of is in
           holds_skip keys framed p asked next now holds more (λ a b h. elim (split a b h) [
             | inl old ↦ inl old
-            | inr new ↦ inr (ap (λ (x : ℕ). greatest_value (bearing keys framed p x b)) new.0 ∙ ap (λ (x : ℕ). greatest_value (bearing keys framed p s1 x)) new.1 ∙ nil)
+            | inr new ↦ inr (ap (λ (x : ℕ). greatest_value (bearers_between keys framed p x b)) new.0 ∙ ap (λ (x : ℕ). greatest_value (bearers_between keys framed p s1 x)) new.1 ∙ nil)
           ])
       | Some entry ↦ λ is. holds_more keys framed p asked next now s1 e1 entry holds more split here ends is
     ] refl

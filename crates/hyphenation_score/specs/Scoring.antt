@@ -23,18 +23,18 @@ places word = range_with_len 1 (length word - 1)
 
 -- The entries that bear on the word's place p, of the key that stands in the frame from start to end; none, if no key
 -- stands there.
-abbrev pub bearing : {C : Type 0} → Patterns C → List ℕ → ℕ → ℕ → ℕ → List (Entry C)
-bearing keys framed p start end =
+abbrev pub bearers_between : {C : Type 0} → Patterns C → List ℕ → ℕ → ℕ → ℕ → List (Entry C)
+bearers_between keys framed p start end =
     filter (λ entry. start + entry.place == p + 1) (unwrap_or (keys (slice_range framed start end)) [])
 
 -- Those of the keys that stand from start on, the shorter key first.
-abbrev pub bearing_from : {C : Type 0} → Patterns C → List ℕ → ℕ → ℕ → List (Entry C)
-bearing_from keys framed p start =
-    flat_map (λ end. bearing keys framed p start end) (range_with_len (start + 1) (length framed - start))
+abbrev pub bearers_from : {C : Type 0} → Patterns C → List ℕ → ℕ → ℕ → List (Entry C)
+bearers_from keys framed p start =
+    flat_map (λ end. bearers_between keys framed p start end) (range_with_len (start + 1) (length framed - start))
 
 -- Those of all keys that stand in the frame, in the order of their starts.
 abbrev pub bearers : {C : Type 0} → Patterns C → List ℕ → ℕ → List (Entry C)
-bearers keys framed p = flat_map (λ start. bearing_from keys framed p start) (range_with_len 0 (length framed))
+bearers keys framed p = flat_map (λ start. bearers_from keys framed p start) (range_with_len 0 (length framed))
 
 -- The greatest of 0 and the values of the entries.
 abbrev pub greatest_value : {C : Type 0} → List (Entry C) → ℕ
@@ -77,13 +77,13 @@ abbrev pub plain_value : ℕ → Scored
 plain_value value = record { value = value; change = None }
 
 -- A place's value with the change that its winner carries, where it is told which change an entry carries.
-abbrev pub scored_by : {C : Type 0} → (C → Option Change) → Option (Entry C) → Scored
-scored_by change_of winner =
+abbrev pub score_of_winner : {C : Type 0} → (C → Option Change) → Option (Entry C) → Scored
+score_of_winner change_of winner =
     record { value = value_of winner; change = option_and_then (λ entry. change_of entry.change) winner }
 
 -- The same of a word's places, from place 1 on.
 abbrev pub scores : {C : Type 0} → (C → Option Change) → Patterns C → List ℕ → List Scored
-scores change_of keys word = map (scored_by change_of) (winners keys word)
+scores change_of keys word = map (score_of_winner change_of) (winners keys word)
 
 -- A value with a change that is lent, or none.
 abbrev pub scored_pair : ℕ × Option (Bor Change) → Scored

@@ -2,7 +2,7 @@
 use Rattle.std.specs.Prelude.{◌≡◌, ℕ, ◌<◌, ◌≤◌, ◌⊎◌, List, length, Option, Some, None, slice_range, ◌+◌}
 use Rattle.hyphenation_commons.specs.Dictionary.{Patterns}
 use Rattle.hyphenation_commons.specs.declared.dictionary.Entry.{Entry}
-use Rattle.hyphenation_score.specs.Scoring.{bearing, first_greatest, greatest_value, frame}
+use Rattle.hyphenation_score.specs.Scoring.{bearers_between, first_greatest, greatest_value, frame}
 use Rattle.std.specs.List.{IsAmong}
 
 -- The key that stands in the word's frame from start to end has this entry, and it bears on the word's place p.
@@ -35,9 +35,10 @@ IsPair framed start end = (start < end) × (end ≤ length framed)
 pub record IsBest {C : Type 0} (keys : Patterns C) (framed : List ℕ) (p : ℕ) (asked : ℕ → ℕ → Type 0) (start end : ℕ)
     (entry : Entry C) : Type 0 where
   pub pair : asked start end
-  pub first : first_greatest (bearing keys framed p start end) ≡ Some entry
-  pub most : (s e : ℕ) → asked s e → greatest_value (bearing keys framed p s e) ≤ entry.value
-  pub before : (s e : ℕ) → asked s e → greatest_value (bearing keys framed p s e) ≡ entry.value → Before start end s e
+  pub first : first_greatest (bearers_between keys framed p start end) ≡ Some entry
+  pub most : (s e : ℕ) → asked s e → greatest_value (bearers_between keys framed p s e) ≤ entry.value
+  pub before : (s e : ℕ) → asked s e → greatest_value (bearers_between keys framed p s e) ≡ entry.value
+      → Before start end s e
 
 -- The entry that is best so far, if any, and where its key starts; 0 without one.
 abbrev pub Best : Type 0 → Type 0
@@ -46,5 +47,5 @@ Best C = Option (Entry C) × ℕ
 -- What is best of the pairs in question.
 abbrev pub Holds : {C : Type 0} → Patterns C → List ℕ → ℕ → (ℕ → ℕ → Type 0) → Best C → Type 0
 Holds {C} keys framed p asked now =
-    ((now.0 ≡ None) × (now.1 ≡ 0) × ((s e : ℕ) → asked s e → greatest_value (bearing keys framed p s e) ≡ 0))
+    ((now.0 ≡ None) × (now.1 ≡ 0) × ((s e : ℕ) → asked s e → greatest_value (bearers_between keys framed p s e) ≡ 0))
     ⊎ ((entry : Entry C) × (end : ℕ) × (now.0 ≡ Some entry) × IsBest keys framed p asked now.1 end entry)

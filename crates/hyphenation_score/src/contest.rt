@@ -4,10 +4,10 @@
 //! the best entry so far, where its key starts. Of two that start at one byte the shorter is met first.
 
 ghost use Rattle.std.specs.Prelude.{◌≡◌, ◌+◌, ◌-◌, ◌*◌, ◌<◌, ◌≤◌, ◌^◌, ◌==◌, if◌then◌else◌, ℕ, List, None, Some, length, filter, map, take, option_copied, IfOk, OnOk};
-ghost use Rattle.hyphenation_commons.specs.Dictionary.{keys_of, longest_key};
+ghost use Rattle.hyphenation_commons.specs.Dictionary.{entries_of_keys, longest_key};
 ghost use Rattle.hyphenation_trie.specs.Links.{IsLongest};
 ghost use Rattle.hyphenation_trie.specs.Private.Links.{keys_in};
-ghost use Rattle.hyphenation_trie.specs.Trie.{node_text, key_at, EachBeginsKey};
+ghost use Rattle.hyphenation_trie.specs.Trie.{node_text, entries_of_key, EachBeginsKey};
 ghost use Rattle.hyphenation_score.specs.Scoring.{frame, first_greatest, winners};
 ghost use Rattle.hyphenation_score.specs.OnePass.{occurrences};
 ghost use Rattle.hyphenation_score.specs.Winners.{Holds};
@@ -96,11 +96,11 @@ fn compete_reported<'d, C: Drop>(
     requires longest { IsLongest automaton.now.texts (take end (frame word.now)) from }
     requires lengths { length starts.old ≡ length bests.old }
     requires holds { (i : ℕ) → i < length bests.old
-        → Holds (key_at automaton.now) (frame word.now) (i + 1) (Asked (frame word.now) end 0)
+        → Holds (entries_of_key automaton.now) (frame word.now) (i + 1) (Asked (frame word.now) end 0)
         (best_of bests.old starts.old i) }
     requires room { count.old.reported + length (node_text automaton.now from) + 1 < 2 ^ 128 }
     ensures holds { (i : ℕ) → i < length bests.old
-        → Holds (key_at automaton.now) (frame word.now) (i + 1) (Asked (frame word.now) (end + 1) 0)
+        → Holds (entries_of_key automaton.now) (frame word.now) (i + 1) (Asked (frame word.now) (end + 1) 0)
         (best_of bests.new starts.new i) }
     ensures reported { count.new.reported
         ≡ count.old.reported + keys_in automaton.now (node_text automaton.now from)
@@ -130,16 +130,17 @@ pub fn winners_in<'d, C: Drop>(
     requires begins { EachBeginsKey automaton.now }
     requires made { count.old.made ≤ 2 ^ 64 }
     requires reported { count.old.reported ≤ 2 ^ 64 }
-    ensures winners { IfOk result (λ v. map option_copied v.items ≡ winners (key_at automaton.now) word.now) }
+    ensures winners { IfOk result (λ v. map option_copied v.items ≡ winners (entries_of_key automaton.now) word.now) }
     ensures linear { count.new.made ≤ count.old.made + 2 * (length word.now + 2) }
-    ensures alone { ((q : List ℕ) → key_at automaton.now q ≡ None)
+    ensures alone { ((q : List ℕ) → entries_of_key automaton.now q ≡ None)
         → count.new.made ≤ count.old.made + (length word.now + 2) }
     ensures least { OnOk result (count.old.made + (length word.now + 2) ≤ count.new.made) }
     ensures kept { count.old.made ≤ count.new.made }
     ensures counted { count.old.reported ≤ count.new.reported }
-    ensures reported { OnOk result (count.new.reported ≡ count.old.reported + occurrences (key_at automaton.now)
+    ensures reported { OnOk result (count.new.reported ≡ count.old.reported + occurrences (entries_of_key automaton.now)
         (frame word.now)) }
-    ensures visited { count.new.reported ≤ count.old.reported + occurrences (key_at automaton.now) (frame word.now) }
+    ensures visited { count.new.reported ≤ count.old.reported
+        + occurrences (entries_of_key automaton.now) (frame word.now) }
 {
     let places = word.len().saturating_sub(1);
     let mut bests: Vec<Option<&'d Entry<C>>> = vec![in alloc; None; places]?;
@@ -176,15 +177,17 @@ pub fn winners<'d, C: Payload, B: Break>(
     requires made { count.old.made ≤ 2 ^ 64 }
     requires reported { count.old.reported ≤ 2 ^ 64 }
     ensures places { IfOk result (λ v. length v.items ≡ length word.now - 1) }
-    ensures winners { IfOk result (λ v. map option_copied v.items ≡ winners (keys_of dictionary.now) word.now) }
+    ensures winners { IfOk result (λ v. map option_copied v.items ≡ winners (entries_of_keys dictionary.now) word.now) }
     ensures most { count.new.made ≤ count.old.made + (length word.now + 2) * (longest_key dictionary.now + 1) }
     ensures linear { count.new.made ≤ count.old.made + 2 * (length word.now + 2) }
     ensures least { OnOk result (count.old.made + (length word.now + 2) ≤ count.new.made) }
     ensures kept { count.old.made ≤ count.new.made }
     ensures counted { count.old.reported ≤ count.new.reported }
-    ensures reported { OnOk result (count.new.reported ≡ count.old.reported + occurrences (keys_of dictionary.now)
+    ensures reported { OnOk result (count.new.reported ≡ count.old.reported
+        + occurrences (entries_of_keys dictionary.now)
         (frame word.now)) }
-    ensures visited { count.new.reported ≤ count.old.reported + occurrences (keys_of dictionary.now) (frame word.now) }
+    ensures visited { count.new.reported ≤ count.old.reported
+        + occurrences (entries_of_keys dictionary.now) (frame word.now) }
 {
     dictionary.invariant();
     winners_in(alloc, dictionary.patterns(), word.as_bytes(), count)

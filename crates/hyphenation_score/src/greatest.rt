@@ -5,10 +5,10 @@
 //! values alone say where the word may be broken.
 
 ghost use Rattle.std.specs.Prelude.{◌≡◌, ◌+◌, ◌-◌, ◌*◌, ◌<◌, ◌≤◌, ◌^◌, ◌==◌, ◌++◌, ◌∷◌, [], if◌then◌else◌, max, ℕ, List, None, false, length, filter, slice_index, is_some, IfOk, OnOk};
-ghost use Rattle.hyphenation_commons.specs.Dictionary.{keys_of, longest_key};
+ghost use Rattle.hyphenation_commons.specs.Dictionary.{entries_of_keys, longest_key};
 ghost use Rattle.hyphenation_trie.specs.Links.{IsLongest};
 ghost use Rattle.hyphenation_trie.specs.Private.Links.{keys_in};
-ghost use Rattle.hyphenation_trie.specs.Trie.{node_text, key_at, EachBeginsKey};
+ghost use Rattle.hyphenation_trie.specs.Trie.{node_text, entries_of_key, EachBeginsKey};
 ghost use Rattle.hyphenation_score.specs.OnePass.{occurrences, carry_change};
 ghost use Rattle.hyphenation_score.specs.Private.OnePass.{entries_of_ends};
 ghost use Rattle.hyphenation_score.specs.Scoring.{frame, bearers, greatest_value, values};
@@ -118,9 +118,9 @@ fn raise_reported<C: Payload>(
     ensures values { (i : ℕ) → i < length values.old
         → slice_index values.new i
         ≡ max (slice_index values.old i)
-        (greatest_value (entries_of_ends (key_at automaton.now) (node_text automaton.now from) end (i + 1))) }
+        (greatest_value (entries_of_ends (entries_of_key automaton.now) (node_text automaton.now from) end (i + 1))) }
     ensures unchanged { result ≡ false → (p : ℕ)
-        → carry_change C.change_of (entries_of_ends (key_at automaton.now) (node_text automaton.now from) end p)
+        → carry_change C.change_of (entries_of_ends (entries_of_key automaton.now) (node_text automaton.now from) end p)
         ≡ false }
     ensures reported { count.new.reported
         ≡ count.old.reported + keys_in automaton.now (node_text automaton.now from)
@@ -160,9 +160,11 @@ fn read<C: Payload>(
     ensures values { (i : ℕ) → i < length values.old
         → slice_index values.new i
         ≡ max (slice_index values.old i)
-        (greatest_value (entries_of_ends (key_at automaton.now) (node_text automaton.now result.0) end (i + 1))) }
+        (greatest_value (entries_of_ends (entries_of_key automaton.now) (node_text automaton.now result.0) end (i
+        + 1))) }
     ensures unchanged { result.1 ≡ false → (p : ℕ)
-        → carry_change C.change_of (entries_of_ends (key_at automaton.now) (node_text automaton.now result.0) end p)
+        → carry_change C.change_of (entries_of_ends (entries_of_key automaton.now)
+        (node_text automaton.now result.0) end p)
         ≡ false }
     ensures least { count.old.made + 1 ≤ count.new.made }
     ensures most { count.new.made + length (node_text automaton.now result.0)
@@ -194,14 +196,15 @@ pub fn raise_all<C: Payload>(
     requires reported { count.old.reported ≤ 2 ^ 64 }
     requires places { length scores.old ≡ length word.now - 1 }
     requires zeros { (i : ℕ) → i < length scores.old → slice_index scores.old i ≡ 0 }
-    ensures values { scores.new ≡ values (key_at automaton.now) word.now }
+    ensures values { scores.new ≡ values (entries_of_key automaton.now) word.now }
     ensures unchanged { result ≡ false → (p : ℕ)
-        → carry_change C.change_of (bearers (key_at automaton.now) (frame word.now) p) ≡ false }
+        → carry_change C.change_of (bearers (entries_of_key automaton.now) (frame word.now) p) ≡ false }
     ensures linear { count.new.made ≤ count.old.made + 2 * (length word.now + 2) }
-    ensures alone { ((q : List ℕ) → key_at automaton.now q ≡ None)
+    ensures alone { ((q : List ℕ) → entries_of_key automaton.now q ≡ None)
         → count.new.made ≤ count.old.made + (length word.now + 2) }
     ensures least { count.old.made + (length word.now + 2) ≤ count.new.made }
-    ensures reported { count.new.reported ≡ count.old.reported + occurrences (key_at automaton.now) (frame word.now) }
+    ensures reported { count.new.reported ≡ count.old.reported
+        + occurrences (entries_of_key automaton.now) (frame word.now) }
 {
     automaton.invariant();
     // The dots of the frame are read before the word and after it.
@@ -227,16 +230,17 @@ pub(super) fn values_in<C: Payload>(
     requires begins { EachBeginsKey automaton.now }
     requires made { count.old.made ≤ 2 ^ 64 }
     requires reported { count.old.reported ≤ 2 ^ 64 }
-    ensures values { IfOk result (λ v. v.items ≡ values (key_at automaton.now) word.now) }
+    ensures values { IfOk result (λ v. v.items ≡ values (entries_of_key automaton.now) word.now) }
     ensures linear { count.new.made ≤ count.old.made + 2 * (length word.now + 2) }
-    ensures alone { ((q : List ℕ) → key_at automaton.now q ≡ None)
+    ensures alone { ((q : List ℕ) → entries_of_key automaton.now q ≡ None)
         → count.new.made ≤ count.old.made + (length word.now + 2) }
     ensures least { OnOk result (count.old.made + (length word.now + 2) ≤ count.new.made) }
     ensures kept { count.old.made ≤ count.new.made }
     ensures counted { count.old.reported ≤ count.new.reported }
-    ensures reported { OnOk result (count.new.reported ≡ count.old.reported + occurrences (key_at automaton.now)
+    ensures reported { OnOk result (count.new.reported ≡ count.old.reported + occurrences (entries_of_key automaton.now)
         (frame word.now)) }
-    ensures visited { count.new.reported ≤ count.old.reported + occurrences (key_at automaton.now) (frame word.now) }
+    ensures visited { count.new.reported ≤ count.old.reported
+        + occurrences (entries_of_key automaton.now) (frame word.now) }
 {
     let places = word.len().saturating_sub(1);
     let mut values = vec![in alloc; 0u8; places]?;
@@ -257,15 +261,17 @@ pub(super) fn values<C: Payload, B: Break>(
     requires made { count.old.made ≤ 2 ^ 64 }
     requires reported { count.old.reported ≤ 2 ^ 64 }
     ensures places { IfOk result (λ v. length v.items ≡ length word.now - 1) }
-    ensures values { IfOk result (λ v. v.items ≡ values (keys_of dictionary.now) word.now) }
+    ensures values { IfOk result (λ v. v.items ≡ values (entries_of_keys dictionary.now) word.now) }
     ensures most { count.new.made ≤ count.old.made + (length word.now + 2) * (longest_key dictionary.now + 1) }
     ensures linear { count.new.made ≤ count.old.made + 2 * (length word.now + 2) }
     ensures least { OnOk result (count.old.made + (length word.now + 2) ≤ count.new.made) }
     ensures kept { count.old.made ≤ count.new.made }
     ensures counted { count.old.reported ≤ count.new.reported }
-    ensures reported { OnOk result (count.new.reported ≡ count.old.reported + occurrences (keys_of dictionary.now)
+    ensures reported { OnOk result (count.new.reported ≡ count.old.reported
+        + occurrences (entries_of_keys dictionary.now)
         (frame word.now)) }
-    ensures visited { count.new.reported ≤ count.old.reported + occurrences (keys_of dictionary.now) (frame word.now) }
+    ensures visited { count.new.reported ≤ count.old.reported
+        + occurrences (entries_of_keys dictionary.now) (frame word.now) }
 {
     dictionary.invariant();
     values_in(alloc, dictionary.patterns(), word.as_bytes(), count)

@@ -25,9 +25,9 @@
 #![tactic(auto)]
 
 ghost use Rattle.std.specs.Prelude.{◌≡◌, ◌↔◌, ◌+◌, ◌-◌, ◌*◌, ◌%◌, ◌<◌, ◌≤◌, ◌^◌, length, map, slice_index, option_copied, IfOk, OnOk, IsTrue};
-ghost use Rattle.hyphenation_commons.specs.Dictionary.{keys_of, longest_key};
+ghost use Rattle.hyphenation_commons.specs.Dictionary.{entries_of_keys, longest_key};
 ghost use Rattle.hyphenation_score.specs.OnePass.{occurrences};
-ghost use Rattle.hyphenation_score.specs.Scoring.{own_change, scored_by, scores, scored_pair, frame, values, plain_value};
+ghost use Rattle.hyphenation_score.specs.Scoring.{own_change, score_of_winner, scores, scored_pair, frame, values, plain_value};
 
 mod contest;
 mod examples;
@@ -110,7 +110,7 @@ pub trait Score<'d> {
 
 impl<'d> Score<'d> for Standard {
     ghost use Rattle.std.specs.Prelude.{None, map};
-    ghost use Rattle.hyphenation_commons.specs.Dictionary.{keys_of, longest_key};
+    ghost use Rattle.hyphenation_commons.specs.Dictionary.{entries_of_keys, longest_key};
     ghost use Rattle.hyphenation_score.specs.OnePass.{occurrences};
     ghost use Rattle.hyphenation_score.specs.Scoring.{frame, values, plain_value};
 
@@ -118,17 +118,17 @@ impl<'d> Score<'d> for Standard {
 
     ghost meaning = { plain_value };
 
-    ghost scores = { λ dictionary word. map plain_value (values (keys_of dictionary) word) };
+    ghost scores = { λ dictionary word. map plain_value (values (entries_of_keys dictionary) word) };
 
     ghost longest = { longest_key };
 
-    ghost occurring = { λ dictionary word. occurrences (keys_of dictionary) (frame word) };
+    ghost occurring = { λ dictionary word. occurrences (entries_of_keys dictionary) (frame word) };
 
     fn score(&'d self, alloc: Global, word: &str) -> Result<Vec<u8>, AllocError>
         ensures places { IfOk result (λ v. length v.items ≡ length word.now - 1) }
         ensures scores { IfOk result (λ v.
-            map plain_value v.items ≡ map plain_value (values (keys_of self.now) word.now)) }
-        ensures values { IfOk result (λ v. v.items ≡ values (keys_of self.now) word.now) }
+            map plain_value v.items ≡ map plain_value (values (entries_of_keys self.now) word.now)) }
+        ensures values { IfOk result (λ v. v.items ≡ values (entries_of_keys self.now) word.now) }
     {
         let mut count = LookUps::new();
         values(alloc, self, word, &mut count)
@@ -144,16 +144,17 @@ impl<'d> Score<'d> for Standard {
         requires reported { count.old.reported ≤ 2 ^ 64 }
         ensures places { IfOk result (λ v. length v.items ≡ length word.now - 1) }
         ensures scores { IfOk result (λ v.
-            map plain_value v.items ≡ map plain_value (values (keys_of self.now) word.now)) }
-        ensures values { IfOk result (λ v. v.items ≡ values (keys_of self.now) word.now) }
+            map plain_value v.items ≡ map plain_value (values (entries_of_keys self.now) word.now)) }
+        ensures values { IfOk result (λ v. v.items ≡ values (entries_of_keys self.now) word.now) }
         ensures most { count.new.made ≤ count.old.made + (length word.now + 2) * (longest_key self.now + 1) }
         ensures linear { count.new.made ≤ count.old.made + 2 * (length word.now + 2) }
         ensures least { OnOk result (count.old.made + (length word.now + 2) ≤ count.new.made) }
         ensures kept { count.old.made ≤ count.new.made }
         ensures counted { count.old.reported ≤ count.new.reported }
-        ensures reported { OnOk result (count.new.reported ≡ count.old.reported + occurrences (keys_of self.now)
+        ensures reported { OnOk result (count.new.reported ≡ count.old.reported + occurrences (entries_of_keys self.now)
             (frame word.now)) }
-        ensures visited { count.new.reported ≤ count.old.reported + occurrences (keys_of self.now) (frame word.now) }
+        ensures visited { count.new.reported ≤ count.old.reported
+            + occurrences (entries_of_keys self.now) (frame word.now) }
     {
         values(alloc, self, word, count)
     }
@@ -167,7 +168,7 @@ impl<'d> Score<'d> for Standard {
 
 /// The value of a place with the change that its winner carries.
 fn scored<'d>(winner: Option<&'d Entry<Option<Subregion>>>) -> (u8, Option<&'d Subregion>)
-    ensures { scored_pair result ≡ scored_by own_change (option_copied winner.entry) }
+    ensures { scored_pair result ≡ score_of_winner own_change (option_copied winner.entry) }
 {
     match winner {
         Some(entry) => (entry.value, entry.change.as_ref()),
@@ -181,7 +182,7 @@ fn scored_all<'d>(
     winners: &[Option<&'d Entry<Option<Subregion>>>],
 ) -> Result<Vec<(u8, Option<&'d Subregion>)>, AllocError>
     ensures { IfOk result (λ v.
-        map scored_pair v.items ≡ map (λ winner. scored_by own_change (option_copied winner)) winners.now) }
+        map scored_pair v.items ≡ map (λ winner. score_of_winner own_change (option_copied winner)) winners.now) }
 {
     let mut all = Vec::new(alloc);
     for winner in winners {
@@ -203,22 +204,25 @@ fn scores<'d>(
     requires made { count.old.made ≤ 2 ^ 64 }
     requires reported { count.old.reported ≤ 2 ^ 64 }
     ensures places { IfOk result (λ v. length v.items ≡ length word.now - 1) }
-    ensures scores { IfOk result (λ v. map scored_pair v.items ≡ scores own_change (keys_of dictionary.now) word.now) }
+    ensures scores { IfOk result (λ v. map scored_pair v.items
+        ≡ scores own_change (entries_of_keys dictionary.now) word.now) }
     ensures most { count.new.made ≤ count.old.made + (length word.now + 2) * (longest_key dictionary.now + 1) }
     ensures linear { count.new.made ≤ count.old.made + 2 * (length word.now + 2) }
     ensures least { OnOk result (count.old.made + (length word.now + 2) ≤ count.new.made) }
     ensures kept { count.old.made ≤ count.new.made }
     ensures counted { count.old.reported ≤ count.new.reported }
-    ensures reported { OnOk result (count.new.reported ≡ count.old.reported + occurrences (keys_of dictionary.now)
+    ensures reported { OnOk result (count.new.reported ≡ count.old.reported
+        + occurrences (entries_of_keys dictionary.now)
         (frame word.now)) }
-    ensures visited { count.new.reported ≤ count.old.reported + occurrences (keys_of dictionary.now) (frame word.now) }
+    ensures visited { count.new.reported ≤ count.old.reported
+        + occurrences (entries_of_keys dictionary.now) (frame word.now) }
 {
     let winners = winners(alloc, dictionary, word, count)?;
     scored_all(alloc, &winners)
 }
 
 impl<'d> Score<'d> for Extended {
-    ghost use Rattle.hyphenation_commons.specs.Dictionary.{keys_of, longest_key};
+    ghost use Rattle.hyphenation_commons.specs.Dictionary.{entries_of_keys, longest_key};
     ghost use Rattle.hyphenation_score.specs.Scoring.{own_change, frame, scores, scored_pair};
     ghost use Rattle.hyphenation_score.specs.OnePass.{occurrences};
 
@@ -226,11 +230,11 @@ impl<'d> Score<'d> for Extended {
 
     ghost meaning = { scored_pair };
 
-    ghost scores = { λ dictionary word. scores own_change (keys_of dictionary) word };
+    ghost scores = { λ dictionary word. scores own_change (entries_of_keys dictionary) word };
 
     ghost longest = { longest_key };
 
-    ghost occurring = { λ dictionary word. occurrences (keys_of dictionary) (frame word) };
+    ghost occurring = { λ dictionary word. occurrences (entries_of_keys dictionary) (frame word) };
 
     fn score(
         &'d self,

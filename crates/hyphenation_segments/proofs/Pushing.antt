@@ -1,11 +1,9 @@
 -- Appending the marked segments of a word, break by break.
-use Rattle.std.proofs.Common.{◌≡◌, Bool, true, false, if◌then◌else◌, ℕ, ◌+◌, ◌-◌, ◌≤◌, List, [], ◌∷◌, ◌++◌, map, length, drop, refl, sym, ap, subst, ◌∙◌, arith, append_assoc, append-nil, add-zero, add-one, get_or, suc, ◌<◌, IsCharBoundary, IsUtf8}
+use Rattle.std.proofs.Common.{◌≡◌, ℕ, ◌+◌, ◌-◌, ◌≤◌, List, [], ◌∷◌, ◌++◌, map, length, drop, refl, sym, ap, subst, ◌∙◌, arith, append_assoc, append-nil, add-zero, add-one, get_or, suc, ◌<◌, IsCharBoundary, IsUtf8}
 use Rattle.std.specs.List.{concat, slice_range}
 use Rattle.std.proofs.Math.Seq.{drop-cons}
-use Rattle.std.proofs.Transfers.{starts_with_of_append, starts_with_of_eq, starts_with_trans}
-use Rattle.std.specs.Io.{StartsWith}
 use Rattle.std.proofs.lemmas.Str.{IsCharBoundary-start}
-use Rattle.hyphenation_commons.specs.Break.{Break, plain, begin_of, end_of, before_of, after_of}
+use Rattle.hyphenation_commons.specs.Break.{Break, plain_break, begin_of, end_of, before_of, after_of}
 use Rattle.hyphenation_segments.specs.Fits.{Stands, FitsFrom, Fits}
 use Rattle.hyphenation_segments.specs.Segments.{segments_after, marked_segments, mark_if_more}
 use Rattle.hyphenation_segments.proofs.SegmentsJoin.{more_come, last_segment}
@@ -13,7 +11,7 @@ use Rattle.hyphenation_segments.proofs.SegmentSteps.{fits_earlier}
 
 -- The marked segments after a place, joined, where what a break before it leaves is appended already.
 abbrev pub to_append : List ℕ → List ℕ → ℕ → List Break → List ℕ
-to_append mark text start breaks = concat (marked_segments mark (segments_after text (plain start) breaks))
+to_append mark text start breaks = concat (marked_segments mark (segments_after text (plain_break start) breaks))
 
 -- The breaks to come fit after the place.
 abbrev pub FitFrom : List ℕ → ℕ → List Break → Type 0
@@ -81,8 +79,3 @@ at_first text breaks u h = (IsCharBoundary-start text u, h)
 pub here_stands : {X : Type 0} (meaning : X → Break) (text : List ℕ) (start i : ℕ) (xs : List X) (x : X) → i < length xs → x ≡ get_or xs i x → FitFrom text start (map meaning (drop i xs)) → Stands text start 0 (meaning x)
 here_stands {X} meaning text start i xs x lt is h =
     first_stands text start (meaning x) (map meaning (drop (i + 1) xs)) (subst (λ (l : List Break). FitFrom text start l) (ap (map meaning) (from_here xs i x lt is)) h)
-
--- What is in front stays there, whether something is pushed after it or its memory is refused.
-pub stays_in_front : (before old new piece : List ℕ) (pushed : Bool) → new ≡ (if pushed then old ++ piece else old) → StartsWith old before → StartsWith new before
-stays_in_front before old new piece true is front = starts_with_trans new old before (starts_with_of_append new old piece is) front
-stays_in_front before old new piece false is front = starts_with_trans new old before (starts_with_of_eq new old is) front

@@ -2,10 +2,10 @@
 use Rattle.std.proofs.Common.{◌≡◌, ℕ, ◌+◌, ◌≤◌, ◌↔◌, Bool, false, List, [], ◌∷◌, length, map, subst, sym, ap, arith, refl, Option, Some, IfSome, Result, Ok, Err, IfOk}
 use Rattle.std.specs.Cow.{cow_str_bytes, IsBorrowedStr}
 use Rattle.std.specs.declared.borrow.CowStr.{CowStr}
-use Rattle.hyphenation_commons.specs.Break.{Break, plain, end_of}
+use Rattle.hyphenation_commons.specs.Break.{Break, plain_break, end_of}
 use Rattle.hyphenation_segments.specs.Fits.{FitsFrom, Stands}
-use Rattle.hyphenation_segments.specs.ChangedSegments.{made_after, text_held}
-use Rattle.hyphenation_segments.specs.Private.ChangedSegments.{last_break, FitsAfterLast, made_from}
+use Rattle.hyphenation_segments.specs.ChangedSegments.{made_segments_after, text_held}
+use Rattle.hyphenation_segments.specs.Private.ChangedSegments.{last_break, FitsAfterLast, made_segments_from}
 use Rattle.hyphenation_segments.specs.Segments.{segments_after, segment_between}
 use Rattle.hyphenation_segments.specs.Private.Remaining.{FitsAfter, segments_from}
 
@@ -24,10 +24,10 @@ fits_earlier text last_end least last_end' least' (b ∷ bs) h k f = (
   f.1,
 )
 
-pub fits_next : (text : List ℕ) (start : Option ℕ) (p x : ℕ) (all rest : List Break) → start ≡ Some p → all ≡ plain x ∷ rest → FitsAfter text start all → (p ≤ x) × FitsAfter text (Some x) rest
+pub fits_next : (text : List ℕ) (start : Option ℕ) (p x : ℕ) (all rest : List Break) → start ≡ Some p → all ≡ plain_break x ∷ rest → FitsAfter text start all → (p ≤ x) × FitsAfter text (Some x) rest
 fits_next text start p x all rest e d h =
     let h1 : FitsAfter text (Some p) all = subst (λ s. FitsAfter text s all) e h in
-    let h2 : FitsAfter text (Some p) (plain x ∷ rest) = subst (λ l. FitsAfter text (Some p) l) d h1 in
+    let h2 : FitsAfter text (Some p) (plain_break x ∷ rest) = subst (λ l. FitsAfter text (Some p) l) d h1 in
     (h2.1.0.ascends, (h2.1.0.place, fits_earlier text (x + 0) (x + 1) x x rest (omega arith) (omega arith) h2.1.1))
 
 -- Breaks that fit are no more than the places of the text.
@@ -47,7 +47,7 @@ left_fits text start p breaks e h =
     omega (arith, fits_count text p p breaks (omega (arith, h1.0.0)) h1.1)
 
 pub left_is : (text : List ℕ) (start : Option ℕ) (p : ℕ) (breaks : List Break) → start ≡ Some p → length (segments_from text start breaks) ≡ length breaks + 1
-left_is text start p breaks e = subst (λ s. length (segments_from text s breaks) ≡ length breaks + 1) (sym e) (segments_count text (plain p) breaks)
+left_is text start p breaks e = subst (λ s. length (segments_from text s breaks) ≡ length breaks + 1) (sym e) (segments_count text (plain_break p) breaks)
 
 pub held_is : (held : Option (List ℕ)) (first text : List ℕ) → held ≡ Some text → IfSome held (λ value. value ≡ first) → text ≡ first
 held_is held first text e k = subst (λ o. IfSome o (λ value. value ≡ first)) e k
@@ -71,17 +71,17 @@ made_fits text start last p breaks e h =
     let place_in : (last_break last).place ≤ length text + 1 = omega (arith, h1.0, h1.1.0) in
     omega (arith, fits_count text p ((last_break last).place) breaks place_in h1.2)
 
-pub made_count : (text : List ℕ) (last : Break) (breaks : List Break) → length (made_after text last breaks) ≡ length breaks + 1
+pub made_count : (text : List ℕ) (last : Break) (breaks : List Break) → length (made_segments_after text last breaks) ≡ length breaks + 1
 made_count text last [] = refl
 made_count text last (b ∷ bs) = omega (arith, made_count text b bs)
 
-pub made_left : (text : List ℕ) (start : Option ℕ) (last : Option Break) (p : ℕ) (breaks : List Break) → start ≡ Some p → length (made_from text start last breaks) ≡ length breaks + 1
-made_left text start last p breaks e = subst (λ s. length (made_from text s last breaks) ≡ length breaks + 1) (sym e) (made_count text (last_break last) breaks)
+pub made_left : (text : List ℕ) (start : Option ℕ) (last : Option Break) (p : ℕ) (breaks : List Break) → start ≡ Some p → length (made_segments_from text start last breaks) ≡ length breaks + 1
+made_left text start last p breaks e = subst (λ s. length (made_segments_from text s last breaks) ≡ length breaks + 1) (sym e) (made_count text (last_break last) breaks)
 
 pub pull_held : {Z E : Type 0} (first : List ℕ × Bool) (r : Result (CowStr Z) E) → IfOk r (λ c. (cow_str_bytes c ≡ first.0) × (IsBorrowedStr c ↔ (first.1 ≡ false))) → IfSome (text_held r) (λ value. value ≡ first.0)
 pull_held first (Ok c) k = k.0
 pull_held first (Err e) k = tt
 
-pub texts_made : (text : List ℕ) (last : Break) (breaks : List Break) → map (λ made. made.0) (made_after text last breaks) ≡ segments_after text last breaks
+pub texts_made : (text : List ℕ) (last : Break) (breaks : List Break) → map (λ made. made.0) (made_segments_after text last breaks) ≡ segments_after text last breaks
 texts_made text last [] = refl
 texts_made text last (b ∷ bs) = ap (λ rest. segment_between text last b ∷ rest) (texts_made text b bs)

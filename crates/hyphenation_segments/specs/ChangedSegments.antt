@@ -2,17 +2,18 @@
 use Rattle.std.specs.Prelude.{◌≡◌, ℕ, ◌||◌, ◌↔◌, Bool, false, List, [], ◌∷◌, length, Option, None, Some, MatchOption, Result, Ok, Err, IfOk, IsOk}
 use Rattle.std.specs.Cow.{cow_str_bytes, IsBorrowedStr}
 use Rattle.std.specs.declared.borrow.CowStr.{CowStr}
-use Rattle.hyphenation_commons.specs.Break.{Break, plain, is_changed}
+use Rattle.hyphenation_commons.specs.Break.{Break, plain_break, is_changed}
 use Rattle.hyphenation_segments.specs.Segments.{segment_between}
 
 -- The segments after a break, each with whether it is made anew: whether a break beside it has a change.
-abbrev pub made_after : List ℕ → Break → List Break → List (List ℕ × Bool)
-made_after text last [] = (segment_between text last (plain (length text)), is_changed last) ∷ []
-made_after text last (b ∷ bs) = (segment_between text last b, is_changed last || is_changed b) ∷ made_after text b bs
+abbrev pub made_segments_after : List ℕ → Break → List Break → List (List ℕ × Bool)
+made_segments_after text last [] = (segment_between text last (plain_break (length text)), is_changed last) ∷ []
+made_segments_after text last (b ∷ bs) =
+    (segment_between text last b, is_changed last || is_changed b) ∷ made_segments_after text b bs
 
 -- The segments of a text, in the same way.
 abbrev pub made_segments : List ℕ → List Break → List (List ℕ × Bool)
-made_segments text breaks = made_after text (plain 0) breaks
+made_segments text breaks = made_segments_after text (plain_break 0) breaks
 
 -- An item is the first of the segments to come, or a refusal in its place; it is borrowed exactly where it isn't made anew, and such a one is never refused. After the end there is none again.
 abbrev pub GivesMade : {Z E : Type 0} → List (List ℕ × Bool) → Option (Result (CowStr Z) E) → List (List ℕ × Bool)

@@ -1,18 +1,18 @@
 -- What is true of all segments.
 use Rattle.std.specs.Prelude.{◌≡◌, ℕ, ◌+◌, ◌≤◌, List, map, length, slice_get, Some, [], drop, slice_index_or, take, ◌++◌, ◌∷◌}
 use Rattle.std.specs.List.{concat}
-use Rattle.hyphenation_commons.specs.Break.{Break, plain}
+use Rattle.hyphenation_commons.specs.Break.{Break, plain_break}
 use Rattle.hyphenation_segments.specs.Fits.{Fits}
 use Rattle.hyphenation_segments.specs.ChangedSegments.{made_segments}
 use Rattle.hyphenation_segments.specs.Segments.{segments, segment_between, marked_segments}
 
 -- The breaks, with the two ends of the text.
 abbrev pub with_ends : List ℕ → List Break → List Break
-with_ends text breaks = plain 0 ∷ (breaks ++ plain (length text) ∷ [])
+with_ends text breaks = plain_break 0 ∷ (breaks ++ plain_break (length text) ∷ [])
 
 -- The break of a number, counted from 0, and the text's start where there is none.
 abbrev pub break_number : List Break → ℕ → Break
-break_number breaks number = slice_index_or breaks number (plain 0)
+break_number breaks number = slice_index_or breaks number (plain_break 0)
 
 -- A text with the mark at each of the places: the text up to the first place, the mark, and what is after that place
 -- in the text with the mark at the other ones.
@@ -33,13 +33,14 @@ IsOneMore = (text : List ℕ) (breaks : List Break) → length (segments text br
 
 -- The segments at plain breaks that fit the text join to it.
 abbrev pub JoinsToText : Type 0
-JoinsToText = (text places : List ℕ) → Fits text (map plain places) → concat (segments text (map plain places)) ≡ text
+JoinsToText = (text places : List ℕ) → Fits text (map plain_break places)
+    → concat (segments text (map plain_break places)) ≡ text
 
 -- The marked segments at plain breaks that fit the text join to it with the mark at each break and nowhere else.
 abbrev pub JoinsToMarkedText : Type 0
 JoinsToMarkedText =
-    (mark text places : List ℕ) → Fits text (map plain places)
-    → concat (marked_segments mark (segments text (map plain places))) ≡ with_marks mark text places
+    (mark text places : List ℕ) → Fits text (map plain_break places)
+    → concat (marked_segments mark (segments text (map plain_break places))) ≡ with_marks mark text places
 
 -- The segments that are made are the segments of the text.
 abbrev pub MadeAreSegments : Type 0

@@ -1,7 +1,7 @@
 -- The segments of a text, and their marks.
 use Rattle.std.specs.Prelude.{ℕ, List, [], ◌∷◌, ◌++◌, length, slice_range}
 use Rattle.std.specs.List.{concat}
-use Rattle.hyphenation_commons.specs.Break.{Break, plain, begin_of, end_of, before_of, after_of}
+use Rattle.hyphenation_commons.specs.Break.{Break, plain_break, begin_of, end_of, before_of, after_of}
 
 -- What stands between two breaks: the second half of the change before it, the text between the two ranges, and the
 -- first half of the change after it.
@@ -10,12 +10,12 @@ segment_between text a b = after_of a.change ++ slice_range text (end_of a) (beg
 
 -- The segments after a break, the last one up to the end of the text.
 abbrev pub segments_after : List ℕ → Break → List Break → List (List ℕ)
-segments_after text last [] = segment_between text last (plain (length text)) ∷ []
+segments_after text last [] = segment_between text last (plain_break (length text)) ∷ []
 segments_after text last (b ∷ bs) = segment_between text last b ∷ segments_after text b bs
 
 -- The segments of a text.
 abbrev pub segments : List ℕ → List Break → List (List ℕ)
-segments text breaks = segments_after text (plain 0) breaks
+segments text breaks = segments_after text (plain_break 0) breaks
 
 -- The mark, where more segments follow.
 abbrev pub mark_if_more : List ℕ → List (List ℕ) → List ℕ

@@ -13,7 +13,8 @@ use std::alloc::{AllocError, Global};
 pub struct Word<'t, B: Break> {
     pub text: &'t str,
     pub breaks: Vec<B>,
-    pub ghost fit: { Fits text.now (map B.meaning breaks.items) } by { FitsFrom-prop text.now 0 0 (map B.meaning breaks.items) },
+    pub ghost fit: { Fits text.now (map B.meaning breaks.items) } by { FitsFrom-prop text.now 0 0
+        (map B.meaning breaks.items) },
 }
 
 impl<'t, B: Break> Word<'t, B> {

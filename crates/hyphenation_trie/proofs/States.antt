@@ -6,7 +6,7 @@ use Rattle.std.proofs.lemmas.Bool.{cases_eq, cond-true, cond-false}
 use Rattle.std.proofs.lemmas.List.{length-map, length-set, get_or-map, map-set, get_or-set_same, get_or-set_other}
 use Rattle.hyphenation_trie.specs.Private.Links.{IsFrozen}
 use Rattle.hyphenation_trie.specs.Private.States.{no_reports, links_with, froms_by, texts_by, span_in, unlinked, HasStates}
-use Rattle.hyphenation_trie.specs.Trie.{Tree, node_text, key_at}
+use Rattle.hyphenation_trie.specs.Trie.{Tree, node_text, entries_of_key}
 use Rattle.hyphenation_trie.specs.Private.Trie.{tree_of, entries_there, IsWithin, AreWithin}
 use Rattle.hyphenation_trie.specs.declared.Span.{Span}
 use Rattle.hyphenation_trie.specs.declared.frozen.Moves.{Moves}
@@ -62,7 +62,7 @@ key_within tree parents bytes states moves reports cells bound node s has lt rea
 -- the entries of a state are those of the key that its node's text is
 pub entries_of_node : {E : Type 0} (es : List E) (parents bytes : List ℕ) (states : List State) (moves : List Moves) (reports : List Reports) (cells : List Cell) (bound node : ℕ) (s : State)
     → HasStates (tree_of (froms_by parents bytes) (map span_in states) es) parents bytes states moves reports cells bound → node < length (texts_by parents bytes) → s ≡ get_or states node s
-    → entries_there es (span_in s) ≡ key_at (tree_of (froms_by parents bytes) (map span_in states) es) (node_text (tree_of (froms_by parents bytes) (map span_in states) es) node)
+    → entries_there es (span_in s) ≡ entries_of_key (tree_of (froms_by parents bytes) (map span_in states) es) (node_text (tree_of (froms_by parents bytes) (map span_in states) es) node)
 entries_of_node es parents bytes states moves reports cells bound node s has lt read =
     let tree = tree_of (froms_by parents bytes) (map span_in states) es in
     let trie = has.frozen.trie in

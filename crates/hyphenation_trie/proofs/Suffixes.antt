@@ -3,36 +3,36 @@ use Rattle.std.proofs.Common.{◌≡◌, ◌≢◌, ℕ, suc, ◌+◌, ◌-◌, 
 use Rattle.std.proofs.lemmas.Bool.{cases_eq, cases_lt}
 use Rattle.std.proofs.lemmas.List.{length-append, length-drop, drop-drop, drop-append-le, drop_all}
 use Rattle.hyphenation_trie.specs.Trie.{Tree, node_text, IsTrie}
-use Rattle.hyphenation_trie.specs.Links.{Ends, IsLongest}
+use Rattle.hyphenation_trie.specs.Links.{EndsWith, IsLongest}
 use Rattle.hyphenation_trie.specs.Private.Links.{HasNoChild}
 use Rattle.hyphenation_trie.proofs.TrieNodes.{last_same}
 
-pub Ends-refl : (t : List ℕ) → Ends t t
+pub Ends-refl : (t : List ℕ) → EndsWith t t
 Ends-refl t = let n : length t - length t ≡ 0 = omega arith in (omega arith, ap (λ (k : ℕ). drop k t) n)
 
-pub Ends-nil : (t : List ℕ) → Ends t []
+pub Ends-nil : (t : List ℕ) → EndsWith t []
 Ends-nil t = (omega arith, drop_all (length t - 0) t (omega arith))
 
 -- of two ends of one text the shorter ends the longer
-pub Ends-both : (t u s : List ℕ) → Ends t u → Ends t s → length s ≤ length u → Ends u s
+pub Ends-both : (t u s : List ℕ) → EndsWith t u → EndsWith t s → length s ≤ length u → EndsWith u s
 Ends-both t u s eu es le =
     let n : (length t - length u) + (length u - length s) ≡ length t - length s = omega (arith, eu.0, es.0) in
     (le, ap (λ (x : List ℕ). drop (length u - length s) x) (sym eu.1) ∙ drop-drop (length u - length s) (length t - length u) t ∙ ap (λ (k : ℕ). drop k t) n ∙ es.1)
 
-pub Ends-trans : (t u s : List ℕ) → Ends t u → Ends u s → Ends t s
+pub Ends-trans : (t u s : List ℕ) → EndsWith t u → EndsWith u s → EndsWith t s
 Ends-trans t u s eu es =
     let n : (length t - length u) + (length u - length s) ≡ length t - length s = omega (arith, eu.0, es.0) in
     (omega (arith, eu.0, es.0), ap (λ (k : ℕ). drop k t) (sym n) ∙ sym (drop-drop (length u - length s) (length t - length u) t) ∙ ap (λ (x : List ℕ). drop (length u - length s) x) eu.1 ∙ es.1)
 
 -- ends of one length are one
-pub Ends-same : (t u s : List ℕ) → Ends t u → Ends t s → length s ≡ length u → s ≡ u
+pub Ends-same : (t u s : List ℕ) → EndsWith t u → EndsWith t s → length s ≡ length u → s ≡ u
 Ends-same t u s eu es e = sym es.1 ∙ ap (λ (n : ℕ). drop (length t - n) t) e ∙ eu.1
 
 length-push : (t : List ℕ) (b : ℕ) → length (t ++ b ∷ []) ≡ length t + 1
 length-push t b = length-append t (b ∷ [])
 
 -- a byte more at both
-pub Ends-push : (t s : List ℕ) (b : ℕ) → Ends t s → Ends (t ++ b ∷ []) (s ++ b ∷ [])
+pub Ends-push : (t s : List ℕ) (b : ℕ) → EndsWith t s → EndsWith (t ++ b ∷ []) (s ++ b ∷ [])
 Ends-push t s b e =
     let n : length (t ++ b ∷ []) - length (s ++ b ∷ []) ≡ length t - length s = omega (arith, length-push t b, length-push s b) in (
       omega (arith, length-push t b, length-push s b, e.0),
@@ -40,7 +40,7 @@ Ends-push t s b e =
     )
 
 -- a byte less at both
-pub Ends-pop : (t s : List ℕ) (b c : ℕ) → Ends (t ++ b ∷ []) (s ++ c ∷ []) → Ends t s × (c ≡ b)
+pub Ends-pop : (t s : List ℕ) (b c : ℕ) → EndsWith (t ++ b ∷ []) (s ++ c ∷ []) → EndsWith t s × (c ≡ b)
 Ends-pop t s b c e =
     let le : length s ≤ length t = omega (arith, length-push t b, length-push s c, e.0) in
     let n : length (t ++ b ∷ []) - length (s ++ c ∷ []) ≡ length t - length s = omega (arith, length-push t b, length-push s c) in
@@ -49,13 +49,13 @@ Ends-pop t s b c e =
     ((le, parts.0), sym parts.1)
 
 -- a shorter end of a text ends what follows its first byte
-pub Ends-rest : (t s : List ℕ) → Ends t s → length s < length t → Ends (drop 1 t) s
+pub Ends-rest : (t s : List ℕ) → EndsWith t s → length s < length t → EndsWith (drop 1 t) s
 Ends-rest [] s e lt = absurd (omega arith)
 Ends-rest (x ∷ t) s e lt =
     let n : suc (length t) - length s ≡ suc (length t - length s) = omega arith in
     (omega arith, sym (ap (λ (k : ℕ). drop k (x ∷ t)) n) ∙ e.1)
 
-pub Ends-whole : (t s : List ℕ) → Ends (drop 1 t) s → Ends t s
+pub Ends-whole : (t s : List ℕ) → EndsWith (drop 1 t) s → EndsWith t s
 Ends-whole [] s e = e
 Ends-whole (x ∷ t) s e =
     let n : suc (length t) - length s ≡ suc (length t - length s) = omega (arith, e.0) in
@@ -63,13 +63,13 @@ Ends-whole (x ∷ t) s e =
 
 -- a node whose text ends this text and one byte more: the root, or below a node whose text ends this text
 pub parent : (texts : List (List ℕ)) → (root : get_or texts 0 [] ≡ []) → ((j : ℕ) → 0 < j → j < length texts → (i : ℕ) × (b : ℕ) × (i < length texts) × (get_or texts j [] ≡ get_or texts i [] ++ b ∷ []))
-    → (t : List ℕ) (b k : ℕ) → k < length texts → Ends (t ++ b ∷ []) (get_or texts k [])
-    → (length (get_or texts k []) ≡ 0) ⊎ ((i : ℕ) × (i < length texts) × Ends t (get_or texts i []) × (get_or texts k [] ≡ get_or texts i [] ++ b ∷ []) × (length (get_or texts k []) ≡ length (get_or texts i []) + 1))
+    → (t : List ℕ) (b k : ℕ) → k < length texts → EndsWith (t ++ b ∷ []) (get_or texts k [])
+    → (length (get_or texts k []) ≡ 0) ⊎ ((i : ℕ) × (i < length texts) × EndsWith t (get_or texts i []) × (get_or texts k [] ≡ get_or texts i [] ++ b ∷ []) × (length (get_or texts k []) ≡ length (get_or texts i []) + 1))
 parent texts root closed t b k lk e = elim (cases_eq k 0) [
   | inl k0 ↦ inl (ap (λ (x : ℕ). length (get_or texts x [])) k0 ∙ ap length root)
   | inr k1 ↦
       let up = closed k (omega arith) lk in
-      let cut = Ends-pop t (get_or texts up.0 []) b up.1 (subst (λ (x : List ℕ). Ends (t ++ b ∷ []) x) up.3 e) in
+      let cut = Ends-pop t (get_or texts up.0 []) b up.1 (subst (λ (x : List ℕ). EndsWith (t ++ b ∷ []) x) up.3 e) in
       let is : get_or texts k [] ≡ get_or texts up.0 [] ++ b ∷ [] = up.3 ∙ ap (λ (c : ℕ). get_or texts up.0 [] ++ c ∷ []) cut.1 in
       inr (up.0, up.2, cut.0, is, ap length is ∙ length-push (get_or texts up.0 []) b)
 ]
@@ -85,27 +85,27 @@ longest_more tree trie t b node next now then = record {
     | inr h ↦
         let shorter : length (node_text tree h.0) ≤ length (node_text tree node) = now.most h.0 h.1 h.2 in
         let inner = Ends-push (node_text tree node) (node_text tree h.0) b (Ends-both t (node_text tree node) (node_text tree h.0) now.ends h.2 shorter) in
-        then.most k lk (subst (λ (x : List ℕ). Ends (node_text tree node ++ b ∷ []) x) (sym h.3) inner)
+        then.most k lk (subst (λ (x : List ℕ). EndsWith (node_text tree node ++ b ∷ []) x) (sym h.3) inner)
   ];
 }
 
 -- What the search for a node after a byte has found: the text of `at` ends the first one, and no node with a longer text than one byte more comes into question.
 pub record IsSought {E : Type 0} (tree : Tree E) (t : List ℕ) (b at : ℕ) : Type 0 where
   pub within : at < length tree.texts
-  pub ends : Ends t (node_text tree at)
-  pub most : (k : ℕ) → k < length tree.texts → Ends (t ++ b ∷ []) (node_text tree k) → length (node_text tree k) ≤ length (node_text tree at) + 1
+  pub ends : EndsWith t (node_text tree at)
+  pub most : (k : ℕ) → k < length tree.texts → EndsWith (t ++ b ∷ []) (node_text tree k) → length (node_text tree k) ≤ length (node_text tree at) + 1
 
 -- where a child is there, it is the longest
 sought_here : {E : Type 0} (tree : Tree E) (t : List ℕ) (b at child : ℕ) → IsSought tree t b at → child < length tree.texts → node_text tree child ≡ node_text tree at ++ b ∷ [] → IsLongest tree.texts (t ++ b ∷ []) child
 sought_here tree t b at child s lt is = record {
   within = lt;
-  ends = subst (λ (x : List ℕ). Ends (t ++ b ∷ []) x) (sym is) (Ends-push t (node_text tree at) b s.ends);
+  ends = subst (λ (x : List ℕ). EndsWith (t ++ b ∷ []) x) (sym is) (Ends-push t (node_text tree at) b s.ends);
   most = λ k lk e. omega (arith, s.most k lk e, ap length is, length-push (node_text tree at) b);
 }
 
 -- where no child is there, the longest is no longer than the node's text
 shorter : {E : Type 0} (tree : Tree E) → IsTrie tree → (t : List ℕ) (b at : ℕ) → IsSought tree t b at → ((j : ℕ) → j < length tree.texts → node_text tree j ≢ node_text tree at ++ b ∷ [])
-    → (k : ℕ) → k < length tree.texts → Ends (t ++ b ∷ []) (node_text tree k) → length (node_text tree k) ≤ length (node_text tree at)
+    → (k : ℕ) → k < length tree.texts → EndsWith (t ++ b ∷ []) (node_text tree k) → length (node_text tree k) ≤ length (node_text tree at)
 shorter tree trie t b at s none k lk e = elim (cases_lt (length (node_text tree at)) (length (node_text tree k))) [
   | inr le ↦ omega arith
   | inl lt ↦
@@ -117,7 +117,7 @@ pub sought_up : {E : Type 0} (tree : Tree E) → IsTrie tree → (t : List ℕ) 
     → ((j : ℕ) → j < length tree.texts → node_text tree j ≢ node_text tree at ++ b ∷ []) → IsSought tree t b up × (length (node_text tree up) < length (node_text tree at))
 sought_up tree trie t b at up s pos link none =
     let less : length (node_text tree up) < length (node_text tree at) = omega (arith, link.ends.0, length-drop 1 (node_text tree at)) in
-    let up_ends : Ends (node_text tree at) (node_text tree up) = Ends-whole (node_text tree at) (node_text tree up) link.ends in (
+    let up_ends : EndsWith (node_text tree at) (node_text tree up) = Ends-whole (node_text tree at) (node_text tree up) link.ends in (
       record {
         within = link.within;
         ends = Ends-trans t (node_text tree at) (node_text tree up) s.ends up_ends;
@@ -125,7 +125,7 @@ sought_up tree trie t b at up s pos link none =
           | inl nil ↦ omega arith
           | inr h ↦
               let low : length (node_text tree k) ≤ length (node_text tree at) = shorter tree trie t b at s none k lk e in
-              let inner : Ends (node_text tree at) (node_text tree h.0) = Ends-both t (node_text tree at) (node_text tree h.0) s.ends h.2 (omega arith) in
+              let inner : EndsWith (node_text tree at) (node_text tree h.0) = Ends-both t (node_text tree at) (node_text tree h.0) s.ends h.2 (omega arith) in
               let link_most = link.most h.0 h.1 (Ends-rest (node_text tree at) (node_text tree h.0) inner (omega arith)) in
               omega arith
         ];
@@ -137,7 +137,7 @@ sought_up tree trie t b at up s pos link none =
 sought_root : {E : Type 0} (tree : Tree E) → IsTrie tree → (t : List ℕ) (b : ℕ) → IsSought tree t b 0 → HasNoChild tree 0 b → IsLongest tree.texts (t ++ b ∷ []) 0
 sought_root tree trie t b s none = record {
   within = s.within;
-  ends = subst (λ (x : List ℕ). Ends (t ++ b ∷ []) x) (sym trie.root) (Ends-nil (t ++ b ∷ []));
+  ends = subst (λ (x : List ℕ). EndsWith (t ++ b ∷ []) x) (sym trie.root) (Ends-nil (t ++ b ∷ []));
   most = shorter tree trie t b 0 s none;
 }
 

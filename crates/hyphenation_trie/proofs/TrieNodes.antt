@@ -5,7 +5,7 @@ use Rattle.std.proofs.lemmas.Bool.{cases_lt, eqb-true, eq-eqb}
 use Rattle.std.proofs.lemmas.List.{length-append, map_push, length-map, map-set, take_more, length-take-le, drop-append-le, take-append-le, length-drop, get_or_append_left, get_or_push}
 use Rattle.std.proofs.lemmas.Grind.{fold-append}
 use Rattle.hyphenation_trie.specs.Private.Growing.{IsGrowing}
-use Rattle.hyphenation_trie.specs.Trie.{IsTrie, Tree, entries_at, key_at, node_text, AddsFront, KeepsNodes, EachBeginsKey}
+use Rattle.hyphenation_trie.specs.Trie.{IsTrie, Tree, entries_at, entries_of_key, node_text, AddsFront, KeepsNodes, EachBeginsKey}
 use Rattle.hyphenation_trie.specs.Private.Trie.{with_node_text, text_after, texts_of, IsWithin, AreWithin, entries_there, tree_of, with_child, Grows, with_entries}
 use Rattle.std.specs.Option.{option_map}
 use Rattle.std.specs.List.{slice_range}
@@ -117,10 +117,10 @@ entries_at-push [] (e ∷ es) t len q = absurd (omega arith)
 entries_at-push (x ∷ ts) [] t len q = absurd (omega arith)
 entries_at-push (x ∷ ts) (e ∷ es) t len q = ap (λ r. cond (pointwise nat_eq x q) e r) (entries_at-push ts es t (omega arith) q)
 
-pub key_at-grows : {E : Type 0} (old new : Tree E) (t : List ℕ) → IsTrie old → Grows old new t → (q : List ℕ) → key_at new q ≡ key_at old q
+pub key_at-grows : {E : Type 0} (old new : Tree E) (t : List ℕ) → IsTrie old → Grows old new t → (q : List ℕ) → entries_of_key new q ≡ entries_of_key old q
 key_at-grows old new t trie g q = elim g [
-  | inl same ↦ ap (λ x. key_at x q) same
-  | inr more ↦ ap (λ x. key_at x q) more ∙ entries_at-push old.texts old.entries t trie.lengths q
+  | inl same ↦ ap (λ x. entries_of_key x q) same
+  | inr more ↦ ap (λ x. entries_of_key x q) more ∙ entries_at-push old.texts old.entries t trie.lengths q
 ]
 
 pub keeps-grows : {E : Type 0} (start old new : Tree E) (t : List ℕ) → KeepsNodes start old → Grows old new t → KeepsNodes start new
@@ -226,23 +226,23 @@ seen-with {E} froms spans es xs i start count now is within begin stop =
 
 -- the entries of one key are set
 pub key_at-with : {E : Type 0} (t : Tree E) (node : ℕ) (es : List E) (key q : List ℕ) → IsTrie t → node < length t.texts → node_text t node ≡ key
-    → key_at (with_entries t node es) q ≡ cond (pointwise nat_eq key q) (Some es) (key_at t q)
-key_at-with t node es key q trie lt e = entries_at-set t.texts t.entries node (Some es) q trie.distinct trie.lengths lt ∙ ap (λ (x : List ℕ). cond (pointwise nat_eq x q) (Some es) (key_at t q)) e
+    → entries_of_key (with_entries t node es) q ≡ cond (pointwise nat_eq key q) (Some es) (entries_of_key t q)
+key_at-with t node es key q trie lt e = entries_at-set t.texts t.entries node (Some es) q trie.distinct trie.lengths lt ∙ ap (λ (x : List ℕ). cond (pointwise nat_eq x q) (Some es) (entries_of_key t q)) e
 
 some_either : {X : Type 0} (b : Bool) (x : X) (o : Option X) → IsSome o → IsSome (cond b (Some x) o)
 some_either true x o h = refl
 some_either false x o h = h
 
-pub begins-insert : {E : Type 0} (old mid : Tree E) (key : List ℕ) (node : ℕ) (es : List E) → ((q : List ℕ) → key_at mid q ≡ key_at old q) → AddsFront old mid key → IsTrie mid
+pub begins-insert : {E : Type 0} (old mid : Tree E) (key : List ℕ) (node : ℕ) (es : List E) → ((q : List ℕ) → entries_of_key mid q ≡ entries_of_key old q) → AddsFront old mid key → IsTrie mid
     → node < length mid.texts → node_text mid node ≡ key → EachBeginsKey old → EachBeginsKey (with_entries mid node es)
 begins-insert {E} old mid key node es keys adds trie lt e begins j pos lj =
-    let at : (q : List ℕ) → key_at (with_entries mid node es) q ≡ cond (pointwise nat_eq key q) (Some es) (key_at mid q) = λ q. key_at-with mid node es key q trie lt e in
+    let at : (q : List ℕ) → entries_of_key (with_entries mid node es) q ≡ cond (pointwise nat_eq key q) (Some es) (entries_of_key mid q) = λ q. key_at-with mid node es key q trie lt e in
     elim (adds j lj) [
       | inl h ↦
           let b = begins j pos h.0 in (
             b.0,
-            subst (λ (o : Option (List E)). IsSome o) (sym (at b.0)) (some_either (pointwise nat_eq key b.0) es (key_at mid b.0) (subst (λ (o : Option (List E)). IsSome o) (sym (keys b.0)) b.1)),
+            subst (λ (o : Option (List E)). IsSome o) (sym (at b.0)) (some_either (pointwise nat_eq key b.0) es (entries_of_key mid b.0) (subst (λ (o : Option (List E)). IsSome o) (sym (keys b.0)) b.1)),
             h.1 ∙ b.2 ∙ ap (λ (x : List ℕ). take (length x) b.0) (sym h.1),
           )
-      | inr h ↦ (key, subst (λ (o : Option (List E)). IsSome o) (sym (at key ∙ ap (λ b. cond b (Some es) (key_at mid key)) (text_itself key))) refl, h)
+      | inr h ↦ (key, subst (λ (o : Option (List E)). IsSome o) (sym (at key ∙ ap (λ b. cond b (Some es) (entries_of_key mid key)) (text_itself key))) refl, h)
     ]

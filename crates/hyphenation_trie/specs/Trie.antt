@@ -18,8 +18,8 @@ entries_at (t ∷ ts) [] q = None
 entries_at (t ∷ ts) (e ∷ es) q = if pointwise nat_eq t q then e else entries_at ts es q
 
 -- The entries of a text, if it is a key.
-abbrev pub key_at : {E : Type 0} → Tree E → List ℕ → Option (List E)
-key_at t q = entries_at t.texts t.entries q
+abbrev pub entries_of_key : {E : Type 0} → Tree E → List ℕ → Option (List E)
+entries_of_key t q = entries_at t.texts t.entries q
 
 -- What is true of each trie: its first node is the root, of the empty text; no two nodes have one text; and each node but the root is the child of another.
 pub record IsTrie {E : Type 0} (t : Tree E) : Type 0 where
@@ -32,7 +32,7 @@ pub record IsTrie {E : Type 0} (t : Tree E) : Type 0 where
 
 -- The text begins a key.
 abbrev pub BeginsKey : {E : Type 0} → Tree E → List ℕ → Type 0
-BeginsKey t text = (q : List ℕ) × IsSome (key_at t q) × (text ≡ take (length text) q)
+BeginsKey t text = (q : List ℕ) × IsSome (entries_of_key t q) × (text ≡ take (length text) q)
 
 -- The text of each node begins a key, save the root's, which stands also where there is no key.
 abbrev pub EachBeginsKey : {E : Type 0} → Tree E → Type 0

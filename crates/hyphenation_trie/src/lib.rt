@@ -26,7 +26,7 @@
 ghost use Rattle.std.specs.Prelude.{◌≡◌, ◌≢◌, ◌+◌, ◌<◌, ◌≤◌, ◌^◌, ◌++◌, [], ◌∷◌, ℕ, List, length, None, Some, IfOk, OnOk, OnErr, if◌then◌else◌, nat_eq, is_some, IfSome, IfNone};
 ghost use Rattle.std.specs.Cmp.Lexicographic.{pointwise};
 ghost use Rattle.std.specs.List.{slice_range};
-ghost use Rattle.hyphenation_trie.specs.Trie.{Tree, node_text, key_at, IsTrie, AddsFront, KeepsNodes, EachBeginsKey};
+ghost use Rattle.hyphenation_trie.specs.Trie.{Tree, node_text, entries_of_key, IsTrie, AddsFront, KeepsNodes, EachBeginsKey};
 ghost use Rattle.hyphenation_trie.specs.Private.Trie.{with_child, Grows, with_entries};
 
 mod automaton;
@@ -196,12 +196,12 @@ impl<E: Drop> Trie<E> {
     /// No other key changes, and the list is empty then and can be filled again. The only error is memory, and then
     /// each key and the list are as before.
     pub fn insert(&mut self, key: &[u8], entries: &mut Vec<E>) -> Result<bool, AllocError>
-        ensures ok { OnOk result ((q : List ℕ) → key_at self.new q ≡
-            (if pointwise nat_eq key.now q then Some entries.old.items else key_at self.old q)) }
-        ensures had { IfOk result (λ had. had ≡ is_some (key_at self.old key.now)) }
+        ensures ok { OnOk result ((q : List ℕ) → entries_of_key self.new q ≡
+            (if pointwise nat_eq key.now q then Some entries.old.items else entries_of_key self.old q)) }
+        ensures had { IfOk result (λ had. had ≡ is_some (entries_of_key self.old key.now)) }
         ensures moved { OnOk result (entries.new.items ≡ []) }
         ensures begins { OnOk result (EachBeginsKey self.old → EachBeginsKey self.new) }
-        ensures err { OnErr result ((q : List ℕ) → key_at self.new q ≡ key_at self.old q) }
+        ensures err { OnErr result ((q : List ℕ) → entries_of_key self.new q ≡ entries_of_key self.old q) }
         ensures unmoved { OnErr result (entries.new.items ≡ entries.old.items) }
         ensures adds { AddsFront self.old self.new key.now }
         ensures nodes { KeepsNodes self.old self.new }
@@ -289,7 +289,7 @@ impl<E: Drop> Trie<E> {
     /// The node of a text, made where there is none.
     fn path(&mut self, text: &[u8]) -> Result<u32, AllocError>
         ensures ok { IfOk result (λ j. (j < length self.new.texts) × (node_text self.new j ≡ text.now)) }
-        ensures keys { (q : List ℕ) → key_at self.new q ≡ key_at self.old q }
+        ensures keys { (q : List ℕ) → entries_of_key self.new q ≡ entries_of_key self.old q }
         ensures adds { AddsFront self.old self.new text.now }
         ensures nodes { KeepsNodes self.old self.new }
     {
@@ -305,7 +305,7 @@ impl<E: Drop> Trie<E> {
     fn set_entries(&mut self, node: u32, entries: &mut Vec<E>) -> Result<bool, AllocError>
         requires { node < length self.old.texts }
         ensures set { OnOk result (self.new ≡ with_entries self.old node entries.old.items) }
-        ensures had { IfOk result (λ had. had ≡ is_some (key_at self.old (node_text self.old node))) }
+        ensures had { IfOk result (λ had. had ≡ is_some (entries_of_key self.old (node_text self.old node))) }
         ensures moved { OnOk result (entries.new.items ≡ []) }
         ensures err { OnErr result (self.new ≡ self.old) }
         ensures unmoved { OnErr result (entries.new.items ≡ entries.old.items) }

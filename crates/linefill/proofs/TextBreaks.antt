@@ -8,7 +8,7 @@ use Rattle.std.proofs.lemmas.List.Edits.{get_or-between}
 use Rattle.std.proofs.lemmas.List.Elements.{All-nil, All-cons, All-head, All-tail}
 use Rattle.std.proofs.lemmas.List.Folds.{list_any-append, drop_split}
 use Rattle.std.proofs.lemmas.Str.{IsCharBoundary-start, IsUtf8-between}
-use Rattle.hyphenation_commons.specs.Break.{Break, plain}
+use Rattle.hyphenation_commons.specs.Break.{Break, plain_break}
 use Rattle.hyphenation.specs.Opportunities.{Ascending}
 use Rattle.hyphenation.proofs.Ascending.{Ascend, ascend_from_test}
 use Rattle.unicode_segmentation.specs.Segments.{with_offsets}
@@ -55,7 +55,7 @@ piece_rises : (x : ℕ × List ℕ) (least from : ℕ) (bs : List Break) → fro
 piece_rises x least from [] e top a = top
 piece_rises x least from (b ∷ bs) e top a = (omega (arith, a.0, e), piece_rises x (b.place + 1) (x.0 + b.place) bs (omega arith) (omega (arith, a.1.0)) a.2)
 
-pub placed : (offset : ℕ) (bs : List ℕ) → map (λ b. offset + b) bs ≡ map (λ b. offset + b.place) (map plain bs)
+pub placed : (offset : ℕ) (bs : List ℕ) → map (λ b. offset + b) bs ≡ map (λ b. offset + b.place) (map plain_break bs)
 placed offset [] = refl
 placed offset (b ∷ bs) = ap (λ ps. (offset + b) ∷ ps) (placed offset bs)
 
@@ -113,7 +113,7 @@ pub after_later : (breaks_of : List ℕ → List Break) (text : List ℕ) (from 
 after_later breaks_of text from later b le h = record { order = h.order; stay = λ p lt. h.stay p (omega arith) }
 
 pub plain_boundary : (text : List ℕ) (place : ℕ) → IsUtf8 text → 0 < place → is_plain text place ≡ true → IsCharBoundary text place
-plain_boundary text place u some plain = cut_boundary text 0 [] place (record { utf8 = u; boundary = λ p i. absurd (false≢true i) }) some (or_left (is_plain text place) (is_in place []) plain)
+plain_boundary text place u some plain_break = cut_boundary text 0 [] place (record { utf8 = u; boundary = λ p i. absurd (false≢true i) }) some (or_left (is_plain text place) (is_in place []) plain_break)
 
 -- Where no byte is a space, no place after it is plain, but the end of the text.
 pub not_plain : (text : List ℕ) (from n : ℕ) → ((k : ℕ) → k < n → get_or (drop from text) k 0 ≡ 32 → ⊥) → (p : ℕ) → from < p → p < from + n + 1 → p < length text → is_plain text p ≡ false

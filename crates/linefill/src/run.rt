@@ -3,13 +3,13 @@
 ghost use Rattle.std.specs.Prelude.{◌≡◌, [], OnOk, IfOk, IfErr, IfSome, map};
 ghost use Rattle.std.specs.String.{string_bytes};
 ghost use Rattle.std.specs.Io.KnownBytes.{Appends};
-ghost use Rattle.hyphenation_commons.specs.Break.{plain};
+ghost use Rattle.hyphenation_commons.specs.Break.{plain_break};
 ghost use Rattle.dictionary_text.specs.Judging.{refusal_of};
 ghost use Rattle.hyphenation.specs.Engine.{JudgesDictionary, JudgesEdits, JudgesText, BeforeReading, BeforeWriting, HoldsNoWant};
 ghost use Rattle.hyphenation.specs.Private.Engine.{IsUnwritten};
 ghost use Rattle.hyphenation.specs.Opportunities.{no_change, rules_of, all_breaks_of};
 ghost use Rattle.linefill.specs.Lines.{lines_by};
-ghost use Rattle.linefill.specs.Run.{filled_by};
+ghost use Rattle.linefill.specs.Run.{lines_by_bytes};
 ghost use Rattle.dictionary_text.specs.Canonical.{with_line_feeds};
 
 use crate::filling::fill;
@@ -39,7 +39,7 @@ fn filled(
 ) -> Result<String, AllocError>
     ensures { IfOk result (λ filled.
         string_bytes filled
-        ≡ with_line_feeds (lines_by (all_breaks_of (rules_of no_change plain dictionary.now)) text.now columns)) }
+        ≡ with_line_feeds (lines_by (all_breaks_of (rules_of no_change plain_break dictionary.now)) text.now columns)) }
 {
     let lines = fill(alloc, dictionary, text, columns)?;
     joined(alloc, &lines)
@@ -59,7 +59,7 @@ fn filled_input<D: Read, I: Read>(
     ensures lines { IfOk result (λ filled.
         IfSome (D.remaining reader.old) (λ bytes.
         IfSome (I.remaining input.old) (λ text.
-        string_bytes filled ≡ with_line_feeds (filled_by bytes columns text)))) }
+        string_bytes filled ≡ with_line_feeds (lines_by_bytes bytes columns text)))) }
     ensures unwritten { IfErr result IsUnwritten }
     ensures unread { BeforeReading result (input.new ≡ input.old) }
     ensures edits { JudgesEdits Kind.Standard [] result }
@@ -88,7 +88,8 @@ pub fn run_fill<D: Read, I: Read, O: Write>(
         JudgesDictionary (refusal_of Kind.Standard) lang bytes result) }
     ensures text { IfSome (I.remaining input.old) (λ text. JudgesText text result) }
     ensures written { OnOk result (IfSome (D.remaining dictionary.old) (λ bytes. IfSome (I.remaining input.old) (λ text.
-        Appends (O.contents output.old) (O.contents output.new) (with_line_feeds (filled_by bytes columns text))))) }
+        Appends (O.contents output.old) (O.contents output.new) (with_line_feeds
+        (lines_by_bytes bytes columns text))))) }
     ensures untouched { BeforeWriting result (output.new ≡ output.old) }
     ensures unread { BeforeReading result (input.new ≡ input.old) }
     ensures edits { JudgesEdits Kind.Standard [] result }

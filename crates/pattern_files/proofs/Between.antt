@@ -1,16 +1,15 @@
 -- The pieces of what stands inside of a group are the words between its white space; a whole group.
-use Rattle.std.proofs.Common.{◌≡◌, ◌∙◌, ℕ, ◌+◌, ◌==◌, ◌||◌, Bool, true, false, not, cond, if◌then◌else◌, List, [], ◌∷◌, ◌++◌, map, filter, fold, length, refl, sym, ap, subst, append_assoc, arith, Some, None}
+use Rattle.std.proofs.Common.{◌≡◌, ◌∙◌, ℕ, ◌+◌, ◌==◌, Bool, true, false, not, cond, if◌then◌else◌, List, [], ◌∷◌, ◌++◌, map, filter, fold, length, refl, sym, ap, append_assoc, arith}
 use Rattle.std.proofs.lemmas.List.{append-nil}
 use Rattle.std.proofs.lemmas.List.Sums.{fold-append}
-use Rattle.std.specs.List.{slice_split, onto_first, count_by}
+use Rattle.std.specs.List.{slice_split, onto_first}
 use Rattle.std.specs.Prelude.{codes}
 use Rattle.pattern_files.specs.Groups.{Piece, GroupWord, Found, is_space, with_piece, nothing_found, groups, pieces_of}
-use Rattle.dictionary_text.specs.Tokens.{is_brace}
 use Rattle.pattern_files.specs.declared.group.Group.{Group}
 use Rattle.pattern_files.specs.declared.group.Group.TheVariants.{Patterns, Exceptions}
 use Rattle.pattern_files.specs.declared.group.Place.TheVariants.{Outside, Within}
-use Rattle.pattern_files.specs.TexFiles.{HasNo, IsOutside, IsInside, opening, line_feeds, line_words, words_from, words_between}
-use Rattle.pattern_files.proofs.Lexing.{piece, piece_later, lex, lexed, pieces-lex, lex-later, lex-end, lex-other, line_after, other_byte, rest_free, flat3, flat5}
+use Rattle.pattern_files.specs.TexFiles.{HasNo, IsOutside, IsInside, opening_text, line_feeds, line_words, words_from, words_between}
+use Rattle.pattern_files.proofs.Lexing.{piece, lex, lexed, pieces-lex, lex-later, lex-end, lex-other, line_after, other_byte, rest_free, flat3, flat5}
 use Rattle.pattern_files.proofs.Grouping.{word, picked, found_at, found_later, outside, within, groups-later, closed}
 
 -- ---- Lines.
@@ -143,18 +142,18 @@ command Exceptions = codes "\\hyphenation"
 
 -- up to the group's first byte
 opened_pieces : (group : Group) (before rest : List ℕ) → HasNo (codes "%") before
-    → pieces_of (before ++ (opening group ++ rest)) ≡ lex 1 false [] before ++ (piece (line_after 1 before) (command group) ∷ piece (line_after 1 before) (codes "{") ∷ lex (line_after 1 before) false [] rest)
+    → pieces_of (before ++ (opening_text group ++ rest)) ≡ lex 1 false [] before ++ (piece (line_after 1 before) (command group) ∷ piece (line_after 1 before) (codes "{") ∷ lex (line_after 1 before) false [] rest)
 opened_pieces Patterns before rest clean =
-    pieces-lex (before ++ (opening Patterns ++ rest)) ∙ lex-end 92 (codes "patterns{" ++ rest) (λ line. lex line false (codes "\\") (codes "patterns{" ++ rest)) (λ line last. refl) 1 [] before clean
+    pieces-lex (before ++ (opening_text Patterns ++ rest)) ∙ lex-end 92 (codes "patterns{" ++ rest) (λ line. lex line false (codes "\\") (codes "patterns{" ++ rest)) (λ line last. refl) 1 [] before clean
 opened_pieces Exceptions before rest clean =
-    pieces-lex (before ++ (opening Exceptions ++ rest)) ∙ lex-end 92 (codes "hyphenation{" ++ rest) (λ line. lex line false (codes "\\") (codes "hyphenation{" ++ rest)) (λ line last. refl) 1 [] before clean
+    pieces-lex (before ++ (opening_text Exceptions ++ rest)) ∙ lex-end 92 (codes "hyphenation{" ++ rest) (λ line. lex line false (codes "\\") (codes "hyphenation{" ++ rest)) (λ line last. refl) 1 [] before clean
 
 enter : (group : Group) (line : ℕ) (ps : List Piece) → fold with_piece (found_at [] Outside) (piece line (command group) ∷ piece line (codes "{") ∷ ps) ≡ fold with_piece (found_at [] (Within group line)) ps
 enter Patterns line ps = refl
 enter Exceptions line ps = refl
 
 opened : (group : Group) (before rest : List ℕ) → IsOutside before
-    → fold with_piece nothing_found (pieces_of (before ++ (opening group ++ rest))) ≡ fold with_piece (found_at [] (Within group (line_after 1 before))) (lex (line_after 1 before) false [] rest)
+    → fold with_piece nothing_found (pieces_of (before ++ (opening_text group ++ rest))) ≡ fold with_piece (found_at [] (Within group (line_after 1 before))) (lex (line_after 1 before) false [] rest)
 opened group before rest h =
     ap (λ (ps : List Piece). fold with_piece nothing_found ps) (opened_pieces group before rest h.comments)
     ∙ fold-append with_piece nothing_found (lex 1 false [] before) (piece (line_after 1 before) (command group) ∷ piece (line_after 1 before) (codes "{") ∷ lex (line_after 1 before) false [] rest)
@@ -164,9 +163,9 @@ opened group before rest h =
 
 -- within it, up to the file's end
 pub found-open : (group : Group) (before inside : List ℕ) → IsOutside before → IsInside inside
-    → fold with_piece nothing_found (pieces_of (before ++ opening group ++ inside)) ≡ found_at (words_between group (1 + line_feeds before) inside) (Within group (1 + line_feeds before))
+    → fold with_piece nothing_found (pieces_of (before ++ opening_text group ++ inside)) ≡ found_at (words_between group (1 + line_feeds before) inside) (Within group (1 + line_feeds before))
 found-open group before inside h i =
-    ap (λ (t : List ℕ). fold with_piece nothing_found (pieces_of t)) (flat3 before (opening group) inside)
+    ap (λ (t : List ℕ). fold with_piece nothing_found (pieces_of t)) (flat3 before (opening_text group) inside)
     ∙ opened group before inside h
     ∙ within group (line_after 1 before) [] (lex (line_after 1 before) false [] inside) (lex-other (codes "}") (line_after 1 before) [] inside i.comments i.closes)
     ∙ ap (λ (ws : List GroupWord). found_at ws (Within group (line_after 1 before))) (words-inside group (line_after 1 before) inside i)
@@ -180,14 +179,14 @@ two_lines before inside = lines (line_after 1 before) inside ∙ ap (λ (l : ℕ
 
 -- and after it
 pub found-group : (group : Group) (before inside after : List ℕ) → IsOutside before → IsInside inside
-    → groups (pieces_of (before ++ opening group ++ inside ++ codes "}" ++ after))
+    → groups (pieces_of (before ++ opening_text group ++ inside ++ codes "}" ++ after))
     ≡ found_later (line_feeds before + line_feeds inside) (words_between group (1 + line_feeds before) inside) (groups (pieces_of after))
 found-group group before inside after h i =
     let start = line_after 1 before in
     let stop = line_after start inside in
     let n = line_feeds before + line_feeds inside in
     let front = picked group (lex start false [] inside) in
-    ap (λ (t : List ℕ). closed (fold with_piece nothing_found (pieces_of t))) (flat5 before (opening group) inside (codes "}") after)
+    ap (λ (t : List ℕ). closed (fold with_piece nothing_found (pieces_of t))) (flat5 before (opening_text group) inside (codes "}") after)
     ∙ ap closed (opened group before (inside ++ 125 ∷ after) h)
     ∙ ap (λ (ps : List Piece). closed (fold with_piece (found_at [] (Within group start)) ps))
     (lex-end 125 after (λ line. piece line (codes "}") ∷ lex line false [] after) (λ line last. refl) start [] inside i.comments)

@@ -1,12 +1,11 @@
 -- What pieces say in each place: outside of groups nothing, within them a word each.
-use Rattle.std.proofs.Common.{◌≡◌, ◌∙◌, ℕ, ◌+◌, ◌==◌, ◌||◌, Bool, true, false, if◌then◌else◌, List, [], ◌∷◌, ◌++◌, map, fold, length, refl, sym, ap, append_assoc, Option, Some, None, arith}
+use Rattle.std.proofs.Common.{◌≡◌, ◌∙◌, ℕ, ◌+◌, ◌==◌, ◌||◌, Bool, true, false, if◌then◌else◌, List, [], ◌∷◌, ◌++◌, map, fold, length, refl, sym, ap, append_assoc, Some, None}
 use Rattle.std.proofs.lemmas.List.{append-nil, map-append}
-use Rattle.std.specs.Prelude.{codes, option_map}
-use Rattle.dictionary_text.specs.Lines.{same}
+use Rattle.std.specs.Prelude.{codes}
+use Rattle.dictionary_text.specs.Lines.{is_same}
 use Rattle.hyphenation_trie.proofs.TrieNodes.{same_text}
 use Rattle.pattern_files.specs.Groups.{Piece, GroupWord, Found, place_after, with_piece, with_piece_outside, with_piece_at, closed_at, groups, nothing_found, with_plain, plain_words}
-use Rattle.pattern_files.specs.declared.fault.Cause.{Cause}
-use Rattle.pattern_files.specs.declared.fault.Cause.TheVariants.{Input, Unclosed}
+use Rattle.pattern_files.specs.declared.fault.Cause.TheVariants.{Input}
 use Rattle.pattern_files.specs.declared.group.Group.{Group}
 use Rattle.pattern_files.specs.declared.group.Group.TheVariants.{Patterns, Exceptions}
 use Rattle.pattern_files.specs.declared.group.Place.{Place}
@@ -14,10 +13,10 @@ use Rattle.pattern_files.specs.declared.group.Place.TheVariants.{Outside, Before
 use Rattle.pattern_files.specs.TexFiles.{words_later, fault_later}
 use Rattle.pattern_files.proofs.Lexing.{piece_later, AllOther}
 
-pub other : (a b : List ℕ) → (a ≡ b → ⊥) → same a b ≡ false
-other a b apart = by (same a b) refl
+pub other : (a b : List ℕ) → (a ≡ b → ⊥) → is_same a b ≡ false
+other a b apart = by (is_same a b) refl
   where
-    by : (t : Bool) → same a b ≡ t → same a b ≡ false
+    by : (t : Bool) → is_same a b ≡ t → is_same a b ≡ false
     by true e = absurd (apart (same_text a b e))
     by false e = e
 
@@ -85,7 +84,7 @@ abbrev pub found_later : ℕ → List GroupWord → Found → Found
 found_later n front f = record { words = front ++ words_later n f.words; place = place_later n f.place; at_end = f.at_end; fault = fault_later n f.fault }
 
 after_later : (n : ℕ) (text : List ℕ) → place_later n (place_after text) ≡ place_after text
-after_later n text = by (same text (codes "\\patterns")) (same text (codes "\\hyphenation"))
+after_later n text = by (is_same text (codes "\\patterns")) (is_same text (codes "\\hyphenation"))
   where
     by : (a b : Bool) → place_later n (if a then Before Patterns else (if b then Before Exceptions else Outside)) ≡ (if a then Before Patterns else (if b then Before Exceptions else Outside))
     by true b = refl
@@ -98,20 +97,20 @@ chosen_later n front false f g h k e d = d
 
 outside_later : (n : ℕ) (front : List GroupWord) (f : Found) (p : Piece) → with_piece_outside (found_later n front f) (piece_later n p) ≡ found_later n front (with_piece_outside f p)
 outside_later n front f p =
-    chosen_later n front (same p.text (codes "\\input")) (record f { at_end = true; fault = Some (p.line, Input) }) (if same p.text (codes "\\endinput") then record f { at_end = true } else record f { place = place_after p.text })
-    (record (found_later n front f) { at_end = true; fault = Some (n + p.line, Input) }) (if same p.text (codes "\\endinput") then record (found_later n front f) { at_end = true } else record (found_later n front f) { place = place_after p.text })
+    chosen_later n front (is_same p.text (codes "\\input")) (record f { at_end = true; fault = Some (p.line, Input) }) (if is_same p.text (codes "\\endinput") then record f { at_end = true } else record f { place = place_after p.text })
+    (record (found_later n front f) { at_end = true; fault = Some (n + p.line, Input) }) (if is_same p.text (codes "\\endinput") then record (found_later n front f) { at_end = true } else record (found_later n front f) { place = place_after p.text })
     refl
-    (chosen_later n front (same p.text (codes "\\endinput")) (record f { at_end = true }) (record f { place = place_after p.text }) (record (found_later n front f) { at_end = true }) (record (found_later n front f) { place = place_after p.text })
+    (chosen_later n front (is_same p.text (codes "\\endinput")) (record f { at_end = true }) (record f { place = place_after p.text }) (record (found_later n front f) { at_end = true }) (record (found_later n front f) { place = place_after p.text })
     refl (ap (λ (q : Place). record (found_later n front f) { place = q }) (sym (after_later n p.text))))
 
 at_later : (n : ℕ) (front : List GroupWord) (place : Place) (f : Found) (p : Piece) → with_piece_at (place_later n place) (found_later n front f) (piece_later n p) ≡ found_later n front (with_piece_at place f p)
 at_later n front Outside f p = outside_later n front f p
 at_later n front (Before group) f p =
-    chosen_later n front (same p.text (codes "{")) (record f { place = Within group p.line }) (with_piece_outside f p)
+    chosen_later n front (is_same p.text (codes "{")) (record f { place = Within group p.line }) (with_piece_outside f p)
     (record (found_later n front f) { place = Within group (n + p.line) }) (with_piece_outside (found_later n front f) (piece_later n p))
     refl (outside_later n front f p)
 at_later n front (Within group opened) f p =
-    chosen_later n front (same p.text (codes "}")) (record f { place = Outside }) (record f { words = f.words ++ word group p ∷ [] })
+    chosen_later n front (is_same p.text (codes "}")) (record f { place = Outside }) (record f { words = f.words ++ word group p ∷ [] })
     (record (found_later n front f) { place = Outside }) (record (found_later n front f) { words = (front ++ words_later n f.words) ++ word group (piece_later n p) ∷ [] })
     refl
     (ap (λ (ws : List GroupWord). record (found_later n front f) { words = ws })

@@ -1,15 +1,13 @@
 -- The pieces of a text, told from its first byte on, and what bytes within it mean for those after.
 use Rattle.std.proofs.Common.{◌≡◌, ◌∙◌, ℕ, ◌+◌, ◌==◌, ◌||◌, Bool, true, false, if◌then◌else◌, List, [], ◌∷◌, ◌++◌, map, fold, refl, sym, ap, subst, append_assoc, arith}
-use Rattle.std.proofs.lemmas.List.{append-nil}
 use Rattle.std.proofs.lemmas.List.Sums.{fold-append}
 use Rattle.std.specs.Prelude.{codes}
-use Rattle.dictionary_text.specs.Lines.{same}
 use Rattle.pattern_files.specs.Converting.{words_of, group_fault}
 use Rattle.pattern_files.specs.Groups.{groups, plain_words, Piece, Lexed, with_piece_ended, with_byte, nothing_lexed, pieces_of, is_space}
 use Rattle.dictionary_text.specs.Tokens.{is_brace}
 use Rattle.pattern_files.specs.declared.group.Form.{Form}
 use Rattle.pattern_files.specs.declared.group.Form.TheVariants.{Tex, Plain}
-use Rattle.pattern_files.specs.TexFiles.{HasNo, line_feeds}
+use Rattle.pattern_files.specs.TexFiles.{HasNo}
 
 abbrev pub piece : ℕ → List ℕ → Piece
 piece line text = record { line = line; text = text }

@@ -3,7 +3,7 @@ use Rattle.std.proofs.Common.{◌≡◌, ◌⊎◌, ◌∙◌, ℕ, ◌&&◌, Bo
 use Rattle.std.specs.Prelude.{IsTrue, ◌↔◌}
 use Rattle.std.specs.List.{list_all}
 use Rattle.std.specs.Str.{is_utf8}
-use Rattle.hyphenation_commons.specs.Break.{Break, Change, plain, ascend_on}
+use Rattle.hyphenation_commons.specs.Break.{Break, Change, plain_break, ascend_on}
 use Rattle.hyphenation_commons.specs.Invariant.{has_letter, are_entries, are_listed, is_value, stays_within, lists_within}
 use Rattle.hyphenation_commons.specs.Maker.{fits_key}
 use Rattle.hyphenation_commons.specs.declared.dictionary.Entry.{Entry}
@@ -30,18 +30,18 @@ same_entries {C} change_of payload_of none key vs = λ i. ascend_on key 0 (place
     each [] = refl
     each (v ∷ vs) = λ i. is_value v.1 && stays_within key v.0 (none i) && each vs i
 
-places_said : {B : Type 0} (break_of : B → Break) (listing_of : Break → B) → ((place : ℕ) → break_of (listing_of (plain place)) ≡ plain place) → (ps : List ℕ)
-    → map (λ b. (break_of b).place) (map (λ place. listing_of (plain place)) ps) ≡ map (λ place. (plain place).place) ps
+places_said : {B : Type 0} (break_of : B → Break) (listing_of : Break → B) → ((place : ℕ) → break_of (listing_of (plain_break place)) ≡ plain_break place) → (ps : List ℕ)
+    → map (λ b. (break_of b).place) (map (λ place. listing_of (plain_break place)) ps) ≡ map (λ place. (plain_break place).place) ps
 places_said break_of listing_of same [] = refl
 places_said break_of listing_of same (p ∷ ps) = λ i. (same p i).place ∷ places_said break_of listing_of same ps i
 
-within_said : {B : Type 0} (break_of : B → Break) (listing_of : Break → B) → ((place : ℕ) → break_of (listing_of (plain place)) ≡ plain place) → (word : List ℕ) (ps : List ℕ)
-    → list_all (λ b. lists_within word (break_of b).place (break_of b).change) (map (λ place. listing_of (plain place)) ps) ≡ list_all (λ place. lists_within word place None) ps
+within_said : {B : Type 0} (break_of : B → Break) (listing_of : Break → B) → ((place : ℕ) → break_of (listing_of (plain_break place)) ≡ plain_break place) → (word : List ℕ) (ps : List ℕ)
+    → list_all (λ b. lists_within word (break_of b).place (break_of b).change) (map (λ place. listing_of (plain_break place)) ps) ≡ list_all (λ place. lists_within word place None) ps
 within_said break_of listing_of same word [] = refl
 within_said break_of listing_of same word (p ∷ ps) = λ i. lists_within word (same p i).place (same p i).change && within_said break_of listing_of same word ps i
 
-pub same_breaks : {B : Type 0} (break_of : B → Break) (listing_of : Break → B) → ((place : ℕ) → break_of (listing_of (plain place)) ≡ plain place) → (word : List ℕ) (ps : List ℕ)
-    → are_listed break_of word (map (λ place. listing_of (plain place)) ps) ≡ are_listed plain word ps
+pub same_breaks : {B : Type 0} (break_of : B → Break) (listing_of : Break → B) → ((place : ℕ) → break_of (listing_of (plain_break place)) ≡ plain_break place) → (word : List ℕ) (ps : List ℕ)
+    → are_listed break_of word (map (λ place. listing_of (plain_break place)) ps) ≡ are_listed plain_break word ps
 same_breaks break_of listing_of same word ps = λ i. ascend_on word 0 (places_said break_of listing_of same ps i) && within_said break_of listing_of same word ps i
 
 pub bad_letters : (text : List ℕ) → has_letter (letters text) ≡ true → is_utf8 (letters text) ≡ false → letter_cause Patterns text ≡ Some NotUtf8
@@ -92,7 +92,7 @@ bad_word text u = rw u refl
 off_one : (t u : Bool) → t ≡ false → IsTrue t ↔ IsTrue u → u ≡ false
 off_one t u e h = off t true u e refl h
 
-pub bad_breaks : {B : Type 0} (break_of : B → Break) (listing_of : Break → B) (text word : List ℕ) (bs : List B) (t : Bool) → ((place : ℕ) → break_of (listing_of (plain place)) ≡ plain place)
+pub bad_breaks : {B : Type 0} (break_of : B → Break) (listing_of : Break → B) (text word : List ℕ) (bs : List B) (t : Bool) → ((place : ℕ) → break_of (listing_of (plain_break place)) ≡ plain_break place)
     → word ≡ unhyphenated text → bs ≡ breaks_of_hyphens listing_of text → is_utf8 (unhyphenated text) ≡ true → IsTrue t ↔ IsTrue (are_listed break_of word bs) → t ≡ false
     → letter_cause Exceptions text ≡ Some NotUtf8
 bad_breaks break_of listing_of text word bs t same hw hb u fits e =
@@ -100,7 +100,7 @@ bad_breaks break_of listing_of text word bs t same hw hb u fits e =
     let none_fit = sym (same_breaks break_of listing_of same (unhyphenated text) (hyphens_from 0 text)) ∙ sym is ∙ off_one t (are_listed break_of word bs) e fits in
     rw (u, none_fit) refl
 
-pub good_breaks : {B : Type 0} (break_of : B → Break) (listing_of : Break → B) (text word : List ℕ) (bs : List B) (t : Bool) → ((place : ℕ) → break_of (listing_of (plain place)) ≡ plain place)
+pub good_breaks : {B : Type 0} (break_of : B → Break) (listing_of : Break → B) (text word : List ℕ) (bs : List B) (t : Bool) → ((place : ℕ) → break_of (listing_of (plain_break place)) ≡ plain_break place)
     → word ≡ unhyphenated text → bs ≡ breaks_of_hyphens listing_of text → is_utf8 (unhyphenated text) ≡ true → IsTrue t ↔ IsTrue (are_listed break_of word bs) → t ≡ true
     → letter_cause Exceptions text ≡ None
 good_breaks break_of listing_of text word bs t same hw hb u fits e =

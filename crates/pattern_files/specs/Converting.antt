@@ -17,7 +17,7 @@ use Rattle.pattern_files.specs.declared.group.Form.TheVariants.{Tex, Plain}
 use Rattle.pattern_files.specs.declared.group.File.{File}
 
 -- Keys with entries and words with breaks, in the order in which files have them.
-pub record Spelled (C B : Type 0) : Type 0 where
+pub record SpeltWords (C B : Type 0) : Type 0 where
   pub patterns : List (List ℕ × List (Entry C))
   pub exceptions : List (List ℕ × List B)
 
@@ -32,14 +32,14 @@ group_fault Tex bytes = (groups (pieces_of bytes)).fault
 group_fault (Plain group) bytes = None
 
 -- What words spell.
-abbrev pub words_spelled : {C B : Type 0} → (Option Change → C) → (Break → B) → List GroupWord → Spelled C B
-words_spelled payload_of listing_of words = record {
+abbrev pub words_spelt : {C B : Type 0} → (Option Change → C) → (Break → B) → List GroupWord → SpeltWords C B
+words_spelt payload_of listing_of words = record {
   patterns = filter_map (λ w. pattern_in payload_of w.group w.text) words;
   exceptions = filter_map (λ w. exception_in listing_of w.group w.text) words;
 }
 
 -- One after the other.
-abbrev pub one_after_other : {C B : Type 0} → Spelled C B → Spelled C B → Spelled C B
+abbrev pub one_after_other : {C B : Type 0} → SpeltWords C B → SpeltWords C B → SpeltWords C B
 one_after_other first more = record {
   patterns = first.patterns ++ more.patterns;
   exceptions = first.exceptions ++ more.exceptions;
@@ -70,14 +70,14 @@ fault_from number (file ∷ files) =
     (fault_from (number + 1) files)
 
 -- What files spell, one file after the other.
-abbrev pub spelled_in : {C B : Type 0} → (Option Change → C) → (Break → B) → List File → Spelled C B
-spelled_in payload_of listing_of [] = record { patterns = []; exceptions = [] }
-spelled_in payload_of listing_of (file ∷ files) =
-    one_after_other (words_spelled payload_of listing_of (words_of file.form file.bytes.now))
-    (spelled_in payload_of listing_of files)
+abbrev pub spelt_in : {C B : Type 0} → (Option Change → C) → (Break → B) → List File → SpeltWords C B
+spelt_in payload_of listing_of [] = record { patterns = []; exceptions = [] }
+spelt_in payload_of listing_of (file ∷ files) =
+    one_after_other (words_spelt payload_of listing_of (words_of file.form file.bytes.now))
+    (spelt_in payload_of listing_of files)
 
--- The dictionary of what is spelled: of a key and of a word that stands several times, the last one counts.
-abbrev pub contents_made : {C B : Type 0} → List ℕ → ℕ → ℕ → Spelled C B → Contents C B
+-- The dictionary of what is spelt: of a key and of a word that stands several times, the last one counts.
+abbrev pub contents_made : {C B : Type 0} → List ℕ → ℕ → ℕ → SpeltWords C B → Contents C B
 contents_made language left right all = record {
   language = language;
   left = left;
@@ -90,7 +90,7 @@ contents_made language left right all = record {
 abbrev pub contents_of_files : {C B : Type 0} → (Option Change → C) → (Break → B) → List ℕ → ℕ → ℕ → List File
     → Contents C B
 contents_of_files payload_of listing_of language left right files =
-    contents_made language left right (spelled_in payload_of listing_of files)
+    contents_made language left right (spelt_in payload_of listing_of files)
 
 -- Of files: want of memory, or that very fault.
 abbrev pub IsRefusalOf : Refusal → Option (ℕ × (ℕ × Cause)) → Type 0

@@ -2,7 +2,7 @@
 -- A file is read byte by byte into pieces, and its pieces one by one into the words of its groups, as TeX reads it.
 -- Source: D. E. Knuth, The TeXbook, appendix H; the files of hyph-utf8.
 use Rattle.std.specs.Prelude.{ℕ, ◌+◌, ◌==◌, ◌||◌, Bool, true, false, if◌then◌else◌, List, [], ◌∷◌, ◌++◌, fold, length, codes, Option, Some, None}
-use Rattle.dictionary_text.specs.Lines.{same}
+use Rattle.dictionary_text.specs.Lines.{is_same}
 use Rattle.dictionary_text.specs.Tokens.{is_brace}
 use Rattle.pattern_files.specs.declared.fault.Cause.{Cause}
 use Rattle.pattern_files.specs.declared.fault.Cause.TheVariants.{Input, Unclosed}
@@ -77,14 +77,14 @@ nothing_found = record { words = []; place = Outside; at_end = false; fault = No
 -- Where the next piece stands, after one that stands outside of groups.
 abbrev pub place_after : List ℕ → Place
 place_after piece =
-    if same piece (codes "\\patterns") then Before Patterns
-    else (if same piece (codes "\\hyphenation") then Before Exceptions else Outside)
+    if is_same piece (codes "\\patterns") then Before Patterns
+    else (if is_same piece (codes "\\hyphenation") then Before Exceptions else Outside)
 
 -- A piece outside of groups. At `\input` and `\endinput` the file ends.
 abbrev pub with_piece_outside : Found → Piece → Found
 with_piece_outside found piece =
-    if same piece.text (codes "\\input") then record found { at_end = true; fault = Some (piece.line, Input) }
-    else (if same piece.text (codes "\\endinput") then record found { at_end = true }
+    if is_same piece.text (codes "\\input") then record found { at_end = true; fault = Some (piece.line, Input) }
+    else (if is_same piece.text (codes "\\endinput") then record found { at_end = true }
     else record found { place = place_after piece.text })
 
 -- A piece that stands there. A group is what stands in braces after its command; where no brace is after it, what is
@@ -92,10 +92,10 @@ with_piece_outside found piece =
 abbrev pub with_piece_at : Place → Found → Piece → Found
 with_piece_at Outside found piece = with_piece_outside found piece
 with_piece_at (Before group) found piece =
-    if same piece.text (codes "{") then record found { place = Within group piece.line }
+    if is_same piece.text (codes "{") then record found { place = Within group piece.line }
     else with_piece_outside found piece
 with_piece_at (Within group opened) found piece =
-    if same piece.text (codes "}") then record found { place = Outside }
+    if is_same piece.text (codes "}") then record found { place = Outside }
     else record found { words = found.words ++ (record { line = piece.line; group = group; text = piece.text }) ∷ [] }
 
 -- A piece more; an empty one is none.

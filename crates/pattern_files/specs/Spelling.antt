@@ -4,8 +4,8 @@ use Rattle.std.specs.Prelude.{ℕ, ◌+◌, ◌-◌, ◌==◌, ◌&&◌, ◌||�
 use Rattle.std.specs.Option.{option_or}
 use Rattle.std.specs.List.{list_any}
 use Rattle.std.specs.Str.{is_utf8}
-use Rattle.hyphenation.specs.Folding.{fold}
-use Rattle.hyphenation_commons.specs.Break.{Break, Change, plain}
+use Rattle.hyphenation.specs.Folding.{fold_case}
+use Rattle.hyphenation_commons.specs.Break.{Break, Change, plain_break}
 use Rattle.dictionary_text.specs.Lines.{is_digit}
 use Rattle.hyphenation_commons.specs.Invariant.{has_letter, are_entries, are_listed}
 use Rattle.hyphenation_commons.specs.declared.dictionary.Entry.{Entry}
@@ -48,12 +48,12 @@ entries_of_digits payload_of text = map (entry_without_change payload_of) (digit
 
 -- The breaks of a word with hyphens, in a kind of dictionary that lists a break by listing_of.
 abbrev pub breaks_of_hyphens : {B : Type 0} → (Break → B) → List ℕ → List B
-breaks_of_hyphens listing_of text = map (λ place. listing_of (plain place)) (hyphens_from 0 text)
+breaks_of_hyphens listing_of text = map (λ place. listing_of (plain_break place)) (hyphens_from 0 text)
 
 -- A word with its capitals made small, as TeX makes them, and as `hyphenate` does with a word that it looks up. What is
 -- not UTF-8 has no capitals.
 abbrev pub folded_text : List ℕ → List ℕ
-folded_text text = if is_utf8 text then fold text else text
+folded_text text = if is_utf8 text then fold_case text else text
 
 -- What a word of a group of patterns spells, in small letters: a key with its entries.
 abbrev pub pattern_in : {C : Type 0} → (Option Change → C) → Group → List ℕ → Option (List ℕ × List (Entry C))
@@ -115,7 +115,7 @@ abbrev pub keeps_characters : Group → List ℕ → Bool
 keeps_characters Patterns text =
     is_utf8 (letters text) && are_entries (λ change. change) (letters text) (entries_of_digits carries_nothing text)
 keeps_characters Exceptions text =
-    is_utf8 (unhyphenated text) && are_listed plain (unhyphenated text) (hyphens_from 0 text)
+    is_utf8 (unhyphenated text) && are_listed plain_break (unhyphenated text) (hyphens_from 0 text)
 
 -- The first test that the signs of a word of a group fail.
 abbrev pub sign_cause : Group → List ℕ → Option Cause

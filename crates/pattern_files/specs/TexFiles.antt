@@ -31,9 +31,9 @@ pub record IsInside (text : List ℕ) : Type 0 where
   pub closes : HasNo (codes "}") text
 
 -- What opens a group.
-abbrev pub opening : Group → List ℕ
-opening Patterns = codes "\\patterns{"
-opening Exceptions = codes "\\hyphenation{"
+abbrev pub opening_text : Group → List ℕ
+opening_text Patterns = codes "\\patterns{"
+opening_text Exceptions = codes "\\hyphenation{"
 
 -- ---- Words and lines.
 
@@ -79,25 +79,25 @@ IgnoresLastComment read = (before comment : List ℕ) → HasNo (codes "\n") com
 -- A file's words are those of its first group, and then those of what is after that.
 abbrev pub HasWordsOfFirstGroupAndRest : Type 0
 HasWordsOfFirstGroupAndRest = (group : Group) (before inside after : List ℕ) → IsOutside before → IsInside inside
-    → words_of Tex (before ++ opening group ++ inside ++ codes "}" ++ after)
+    → words_of Tex (before ++ opening_text group ++ inside ++ codes "}" ++ after)
     ≡ words_between group (1 + line_feeds before) inside
     ++ words_later (line_feeds before + line_feeds inside) (words_of Tex after)
 
 -- What is wrong with its groups is what is wrong after the first.
 abbrev pub HasFaultOfRest : Type 0
 HasFaultOfRest = (group : Group) (before inside after : List ℕ) → IsOutside before → IsInside inside
-    → group_fault Tex (before ++ opening group ++ inside ++ codes "}" ++ after)
+    → group_fault Tex (before ++ opening_text group ++ inside ++ codes "}" ++ after)
     ≡ fault_later (line_feeds before + line_feeds inside) (group_fault Tex after)
 
 -- A file that is cut in a group has the words of what is there.
 abbrev pub HasWordsOfOpenGroup : Type 0
 HasWordsOfOpenGroup = (group : Group) (before inside : List ℕ) → IsOutside before → IsInside inside
-    → words_of Tex (before ++ opening group ++ inside) ≡ words_between group (1 + line_feeds before) inside
+    → words_of Tex (before ++ opening_text group ++ inside) ≡ words_between group (1 + line_feeds before) inside
 
 -- A file that is cut in a group is faulty on the line on which the group begins.
 abbrev pub HasFaultOfOpenGroup : Type 0
 HasFaultOfOpenGroup = (group : Group) (before inside : List ℕ) → IsOutside before → IsInside inside
-    → group_fault Tex (before ++ opening group ++ inside) ≡ Some (1 + line_feeds before, Unclosed)
+    → group_fault Tex (before ++ opening_text group ++ inside) ≡ Some (1 + line_feeds before, Unclosed)
 
 -- After `\endinput` nothing is read.
 abbrev pub HasNothingAfterItsEnd : Type 0

@@ -1,7 +1,7 @@
 //! TeX's files and plain ones, made into a dictionary.
 
 ghost use Rattle.std.specs.Prelude.{◌≡◌, IfOk, OnOk, IfErr, None};
-ghost use Rattle.pattern_files.specs.Converting.{words_spelled, one_after_other, spelled_in, file_fault, fault_from, contents_of_files, words_of, IsRefusalOf};
+ghost use Rattle.pattern_files.specs.Converting.{words_spelt, one_after_other, spelt_in, file_fault, fault_from, contents_of_files, words_of, IsRefusalOf};
 ghost use Rattle.pattern_files.specs.Private.Read.{IsLineFault};
 
 use crate::fault::{Cause, LineFault, Refusal};
@@ -23,7 +23,7 @@ fn take_file<C: Payload, B: Listing>(
 ) -> Result<(), LineFault>
     ensures good { OnOk result (file_fault form bytes.now ≡ None) }
     ensures taken { OnOk result (parts.new
-        ≡ one_after_other parts.old (words_spelled C.payload_of B.listing_of (words_of form bytes.now))) }
+        ≡ one_after_other parts.old (words_spelt C.payload_of B.listing_of (words_of form bytes.now))) }
     ensures refused { IfErr result (λ fault. IsLineFault fault (file_fault form bytes.now)) }
 {
     let (words, fault) = words_of(alloc, form, bytes)?;
@@ -44,7 +44,7 @@ fn take_files<C: Payload, B: Listing>(
 ) -> Result<(), Refusal>
     ensures good { OnOk result (fault_from 0 files.now ≡ None) }
     ensures taken { OnOk result (parts.new
-        ≡ one_after_other parts.old (spelled_in C.payload_of B.listing_of files.now)) }
+        ≡ one_after_other parts.old (spelt_in C.payload_of B.listing_of files.now)) }
     ensures refused { IfErr result (λ refusal. IsRefusalOf refusal (fault_from 0 files.now)) }
 {
     let mut number: usize = 0;

@@ -4,7 +4,7 @@ ghost use Rattle.std.specs.Prelude.{◌≡◌, [], ◌∷◌, ◌++◌, IfOk, On
 ghost use Rattle.std.specs.String.{string_bytes};
 ghost use Rattle.hyphenation_commons.specs.Invariant.{are_listed};
 ghost use Rattle.hyphenation_commons.specs.Maker.{fits_key};
-ghost use Rattle.pattern_files.specs.Converting.{words_spelled, one_after_other, contents_made, first_fault};
+ghost use Rattle.pattern_files.specs.Converting.{words_spelt, one_after_other, contents_made, first_fault};
 ghost use Rattle.pattern_files.specs.Private.Read.{word_view, IsWordFault, with_key, with_word, IsLineFault};
 ghost use Rattle.pattern_files.specs.Spelling.{word_cause};
 
@@ -29,9 +29,9 @@ impl<C: Payload, B: Listing> Model for Parts<C, B> {
     ghost use Rattle.std.specs.String.{string_bytes};
     ghost use Rattle.hyphenation_commons.specs.Invariant.{are_listed};
     ghost use Rattle.hyphenation_commons.specs.Maker.{pair_of, fits_key};
-    ghost use Rattle.pattern_files.specs.Converting.{Spelled};
+    ghost use Rattle.pattern_files.specs.Converting.{SpeltWords};
 
-    ghost Value = { Spelled C B };
+    ghost Value = { SpeltWords C B };
 
     ghost view = { λ p.
         record {
@@ -95,7 +95,7 @@ impl<C: Payload, B: Listing> Parts<C, B> {
     fn take_word(&mut self, alloc: Global, word: &Word) -> Result<(), WordFault>
         ensures good { OnOk result (word_cause word.now.group word.now.text.items ≡ None) }
         ensures taken { OnOk result (self.new ≡ one_after_other self.old
-            (words_spelled C.payload_of B.listing_of (word_view word.now ∷ []))) }
+            (words_spelt C.payload_of B.listing_of (word_view word.now ∷ []))) }
         ensures refused { IfErr result (λ fault. IsWordFault fault (word_cause word.now.group word.now.text.items)) }
     {
         match word.group {
@@ -116,7 +116,7 @@ impl<C: Payload, B: Listing> Parts<C, B> {
     pub fn take_words(&mut self, alloc: Global, words: &[Word]) -> Result<(), LineFault>
         ensures good { OnOk result (first_fault (map word_view words.now) ≡ None) }
         ensures taken { OnOk result (self.new ≡ one_after_other self.old
-            (words_spelled C.payload_of B.listing_of (map word_view words.now))) }
+            (words_spelt C.payload_of B.listing_of (map word_view words.now))) }
         ensures refused { IfErr result (λ fault. IsLineFault fault (first_fault (map word_view words.now))) }
     {
         for word in words {

@@ -4,7 +4,7 @@ ghost use Rattle.std.specs.Prelude.{◌≡◌, ◌++◌, false, true, map, IfOk,
 ghost use Rattle.std.specs.List.{list_any};
 ghost use Rattle.std.specs.Str.{is_utf8};
 ghost use Rattle.std.specs.String.{string_bytes};
-ghost use Rattle.hyphenation.specs.Folding.{fold};
+ghost use Rattle.hyphenation.specs.Folding.{fold_case};
 ghost use Rattle.hyphenation_commons.specs.Invariant.{has_letter, are_listed};
 ghost use Rattle.hyphenation_commons.specs.Maker.{pair_of, fits_key};
 ghost use Rattle.pattern_files.specs.Spelling.{value_of_digit, entry_without_change, folded_text, letter_cause, letters, entries_of_digits, unhyphenated, breaks_of_hyphens, pattern_in, exception_in, is_command, is_caret, is_sign, says_place, two_in_one_place, sign_cause, word_cause};
@@ -24,24 +24,14 @@ use std::alloc::{AllocError, Global};
 fn has_command(text: &[u8]) -> bool
     ensures { result ≡ list_any is_command text.now }
 {
-    for b in text {
-        if matches!(*b, b'\\' | b'{' | b'}') {
-            return true;
-        }
-    }
-    false
+    text.iter().any(|b| matches!(*b, b'\\' | b'{' | b'}'))
 }
 
 /// Whether a circumflex stands in a text.
 fn has_caret(text: &[u8]) -> bool
     ensures { result ≡ list_any is_caret text.now }
 {
-    for b in text {
-        if *b == b'^' {
-            return true;
-        }
-    }
-    false
+    text.iter().any(|b| *b == b'^')
 }
 
 /// Whether a byte is a sign of ASCII that stands in no word of such a group.
@@ -59,12 +49,7 @@ fn is_sign(group: Group, b: u8) -> bool
 fn has_sign(group: Group, text: &[u8]) -> bool
     ensures { result ≡ list_any (is_sign group) text.now }
 {
-    for b in text {
-        if is_sign(group, *b) {
-            return true;
-        }
-    }
-    false
+    text.iter().any(|b| is_sign(group, *b))
 }
 
 /// Whether a byte is a value, in a pattern, or a break, in an exception.
@@ -228,7 +213,7 @@ fn read_letters<C: Payload>(
 
 /// A text with its capitals made small.
 fn fold_text(alloc: Global, text: &str) -> Result<Vec<u8>, AllocError>
-    ensures { IfOk result (λ found. found.items ≡ fold text.now) }
+    ensures { IfOk result (λ found. found.items ≡ fold_case text.now) }
 {
     let (folded, _) = refold(alloc, text)?;
     Ok(folded.into_owned(alloc)?.into_bytes())

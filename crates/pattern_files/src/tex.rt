@@ -1,7 +1,7 @@
 //! TeX's files and plain ones: which of their words are patterns and exceptions.
 
 ghost use Rattle.std.specs.Prelude.{◌≡◌, ◌+◌, ◌<◌, ◌^◌, IfOk, OnOk, map, fold};
-ghost use Rattle.dictionary_text.specs.Lines.{same};
+ghost use Rattle.dictionary_text.specs.Lines.{is_same};
 ghost use Rattle.pattern_files.specs.Converting.{words_of, group_fault};
 ghost use Rattle.pattern_files.specs.Groups.{is_space, with_piece_outside, closed_at, with_read_byte, with_piece_ended, with_byte, pieces_of, place_after, with_piece, with_plain, nothing_found, nothing_lexed, groups, plain_words};
 ghost use Rattle.dictionary_text.specs.Tokens.{is_brace};
@@ -127,7 +127,7 @@ pub struct Scan {
 
 /// Whether a piece is that text.
 fn is(piece: &[u8], text: &str) -> bool
-    ensures { result ≡ same piece.now text.now }
+    ensures { result ≡ is_same piece.now text.now }
 {
     piece == text.as_bytes()
 }

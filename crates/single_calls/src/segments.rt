@@ -3,7 +3,7 @@
 ghost use Rattle.std.specs.Prelude.{◌≡◌, ◌+◌, map, vec_len, IfOk, codes};
 ghost use Rattle.std.specs.List.{concat};
 ghost use Rattle.std.specs.String.{string_bytes};
-ghost use Rattle.hyphenation_commons.specs.Break.{plain};
+ghost use Rattle.hyphenation_commons.specs.Break.{plain_break};
 ghost use Rattle.hyphenation_segments.specs.Fits.{Fits};
 ghost use Rattle.hyphenation_segments.specs.Segments.{segments, marked_segments};
 ghost use Rattle.hyphenation_segments.specs.Laws.{with_marks};
@@ -26,14 +26,15 @@ fn all_segments<'t>(
     text: &'t str,
     breaks: &[usize],
 ) -> Result<Vec<&'t str>, AllocError>
-    requires { Fits text.now (map plain breaks.now) }
-    ensures { IfOk result (λ list. map (λ segment. segment.now) list.items ≡ segments text.now (map plain breaks.now)) }
+    requires { Fits text.now (map plain_break breaks.now) }
+    ensures { IfOk result (λ list. map (λ segment. segment.now) list.items
+        ≡ segments text.now (map plain_break breaks.now)) }
 {
     Segments::new(text, breaks.iter().copied()).collect(alloc)
 }
 
 fn number_of_segments(text: &str, breaks: Vec<usize>) -> usize
-    requires { Fits text.now (map plain breaks.items) }
+    requires { Fits text.now (map plain_break breaks.items) }
     ensures { result ≡ vec_len breaks + 1 }
 {
     laws::segments_are_one_more();
@@ -41,7 +42,7 @@ fn number_of_segments(text: &str, breaks: Vec<usize>) -> usize
 }
 
 fn joined_segments(alloc: Global, text: &str, breaks: &[usize]) -> Result<String, AllocError>
-    requires { Fits text.now (map plain breaks.now) }
+    requires { Fits text.now (map plain_break breaks.now) }
     ensures { IfOk result (λ joined. string_bytes joined ≡ text.now) }
 {
     laws::segments_join();
@@ -95,7 +96,7 @@ fn all_items<'t>(
 fn all_marked(alloc: Global, word: Word<'_, usize>) -> Result<Vec<String>, AllocError>
     ensures { IfOk result (λ list.
         map string_bytes list.items
-        ≡ marked_segments (codes "-") (segments word.entry.text.now (map plain word.entry.breaks.items))) }
+        ≡ marked_segments (codes "-") (segments word.entry.text.now (map plain_break word.entry.breaks.items))) }
 {
     let mut list = Vec::new(alloc);
     for item in word {
@@ -106,7 +107,8 @@ fn all_marked(alloc: Global, word: Word<'_, usize>) -> Result<Vec<String>, Alloc
 
 fn left_unmarked<'t>(alloc: Global, word: Word<'t, usize>) -> Result<Vec<&'t str>, AllocError>
     ensures { IfOk result (λ list.
-        map (λ segment. segment.now) list.items ≡ segments word.entry.text.now (map plain word.entry.breaks.items)) }
+        map (λ segment. segment.now) list.items ≡ segments word.entry.text.now
+        (map plain_break word.entry.breaks.items)) }
 {
     word.into_iter().segments().collect(alloc)
 }

@@ -1,16 +1,16 @@
 -- Each of the breaks that fit a text stands in it.
 use Rattle.std.proofs.Common.{ℕ, ◌≡◌, ◌+◌, ◌<◌, List, [], ◌∷◌, map, length, refl, sym, ap, subst, arith, slice_index, get_or, IsCharBoundary, zero, suc}
-use Rattle.hyphenation_commons.specs.Break.{Break, plain, end_of}
+use Rattle.hyphenation_commons.specs.Break.{Break, plain_break, end_of}
 use Rattle.hyphenation_segments.specs.Fits.{FitsFrom, Stands}
 use Rattle.uses.specs.Room.{places_of}
 
-pub on_boundaries : (text : List ℕ) (last_end least : ℕ) (places : List ℕ) → FitsFrom text last_end least (map plain places)
+pub on_boundaries : (text : List ℕ) (last_end least : ℕ) (places : List ℕ) → FitsFrom text last_end least (map plain_break places)
     → (i : ℕ) → i < length places → IsCharBoundary text (slice_index places i)
 on_boundaries text last_end least [] fit i lt = absurd (omega (arith, lt))
 on_boundaries text last_end least (p ∷ ps) fit zero lt = fit.0.place
 on_boundaries text last_end least (p ∷ ps) fit (suc i) lt = on_boundaries text (p + 0) (p + 1) ps fit.1 i (omega (arith, lt))
 
-pub places_back : (places : List ℕ) → places_of (map plain places) ≡ places
+pub places_back : (places : List ℕ) → places_of (map plain_break places) ≡ places
 places_back [] = refl
 places_back (p ∷ ps) = ap (λ l. p ∷ l) (places_back ps)
 

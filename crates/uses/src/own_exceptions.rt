@@ -3,7 +3,7 @@
 ghost use Rattle.std.specs.Prelude.{◌≡◌, ◌⊎◌, IfErr, IfOk, IsOk, IsTrue, OnErr, not};
 ghost use Rattle.std.specs.FinMap as finite;
 ghost use Rattle.std.specs.Io.KnownBytes.{Appends};
-ghost use Rattle.hyphenation_commons.specs.Break.{plain};
+ghost use Rattle.hyphenation_commons.specs.Break.{plain_break};
 ghost use Rattle.dictionary_text.specs.Canonical.{standard_text};
 ghost use Rattle.hyphenation_commons.specs.Invariant.{are_listed};
 ghost use Rattle.hyphenation.specs.Load.{IfMemory, IsOfWriting};
@@ -25,7 +25,7 @@ pub fn list_and_write<W: Write>(
     places: Vec<usize>,
     writer: &mut W,
 ) -> Result<bool>
-    ensures good { IfOk result (λ good. good ≡ are_listed plain word.now places.items) }
+    ensures good { IfOk result (λ good. good ≡ are_listed plain_break word.now places.items) }
     ensures listed { IfOk result (λ good.
         IsTrue good
         → dictionary.new
@@ -34,7 +34,7 @@ pub fn list_and_write<W: Write>(
         IsTrue good → Appends (W.contents writer.old) (W.contents writer.new) (standard_text dictionary.new)) }
     ensures refused { IfOk result (λ good. IsTrue (not good) → dictionary.new ≡ dictionary.old) }
     ensures unwritten { IfOk result (λ good. IsTrue (not good) → writer.new ≡ writer.old) }
-    ensures told { IsTrue (not (are_listed plain word.now places.items)) → IsOk result }
+    ensures told { IsTrue (not (are_listed plain_break word.now places.items)) → IsOk result }
     ensures err { OnErr result ((dictionary.new ≡ dictionary.old) ⊎ (dictionary.new
         ≡ record dictionary.old { exceptions = finite.insert dictionary.old.exceptions word.now places.items })) }
     ensures untouched { IfMemory result (writer.new ≡ writer.old) }

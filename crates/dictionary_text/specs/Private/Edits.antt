@@ -5,7 +5,7 @@ use Rattle.std.specs.declared.string.String.{String}
 use Rattle.std.specs.declared.vec.Vec.{Vec}
 use Rattle.hyphenation_commons.specs.Break.{Break}
 use Rattle.dictionary_text.specs.Items.{exception_of_line}
-use Rattle.dictionary_text.specs.Reading.{spelt_as}
+use Rattle.dictionary_text.specs.Reading.{spelling_as}
 use Rattle.dictionary_text.specs.declared.form.Kind.{Kind}
 use Rattle.dictionary_text.specs.Edits.{is_sound_line}
 
@@ -13,4 +13,5 @@ use Rattle.dictionary_text.specs.Edits.{is_sound_line}
 abbrev pub ReadsException : {B Y Z : Type 0} → Kind → (Break → B) → Option (String Y × Vec B Z) → List ℕ → Type 0
 ReadsException kind listing_of None line = is_sound_line kind line ≡ false
 ReadsException kind listing_of (Some x) line =
-    (is_sound_line kind line ≡ true) × (spelt_as listing_of exception_of_line line ≡ Some (string_bytes x.0, x.1.items))
+    (is_sound_line kind line ≡ true) × (spelling_as listing_of exception_of_line line
+    ≡ Some (string_bytes x.0, x.1.items))

@@ -17,5 +17,5 @@ abbrev pub extended_first : Form
 extended_first = record { kind = Extended; version = First }
 
 -- The first test that a line after three good head lines fails.
-abbrev pub judged : Form → List ℕ → Option Cause
-judged form line = cause_of form (head_line form ∷ codes "language hu" ∷ codes "minima 2 2" ∷ []) line
+abbrev pub first_cause : Form → List ℕ → Option Cause
+first_cause form line = cause_of form (head_line form ∷ codes "language hu" ∷ codes "minima 2 2" ∷ []) line

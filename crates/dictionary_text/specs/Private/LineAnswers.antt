@@ -6,11 +6,11 @@ use Rattle.std.specs.List.{list_all, list_any}
 use Rattle.std.specs.String.{string_bytes}
 use Rattle.std.specs.declared.string.String.{String}
 use Rattle.std.specs.declared.vec.Vec.{Vec}
-use Rattle.hyphenation_commons.specs.Break.{Break, Change as Changed, changed_by, ascend_on, keeps_within}
+use Rattle.hyphenation_commons.specs.Break.{Break, Change as Changed, break_at, ascend_on, keeps_within}
 use Rattle.dictionary_text.specs.Items.{pattern_of_line, exception_of_line, change_at}
 use Rattle.dictionary_text.specs.Judging.{fails, is_extended}
 use Rattle.dictionary_text.specs.Private.Parsed.{ReadPattern, ReadLater, is_bad}
-use Rattle.dictionary_text.specs.Reading.{spelt_as, entry_as}
+use Rattle.dictionary_text.specs.Reading.{spelling_as, entry_as}
 use Rattle.hyphenation_commons.specs.declared.dictionary.Entry.{Entry}
 use Rattle.dictionary_text.specs.declared.Cause.{Cause}
 use Rattle.dictionary_text.specs.declared.Cause.TheVariants.{Token, Value as BadValue, Pattern as TwoValues, NoLetters, Number, Place, Change}
@@ -26,11 +26,11 @@ abbrev pub IsItemOf : {C B : Type 0} → Version → (Option Changed → C) → 
 IsItemOf version payload_of listing_of Nothing line =
     (pattern_of_line version line ≡ None) × (exception_of_line line ≡ None)
 IsItemOf version payload_of listing_of (Pattern key entries) line =
-    (spelt_as (entry_as payload_of) (pattern_of_line version) line ≡ Some (key.items, entries.items))
+    (spelling_as (entry_as payload_of) (pattern_of_line version) line ≡ Some (key.items, entries.items))
     × (exception_of_line line ≡ None)
 IsItemOf version payload_of listing_of (Exception word listed) line =
     (pattern_of_line version line ≡ None)
-    × (spelt_as listing_of exception_of_line line ≡ Some (string_bytes word, listed.items))
+    × (spelling_as listing_of exception_of_line line ≡ Some (string_bytes word, listed.items))
 
 -- Want of memory, or that very test.
 abbrev pub IsFault : Fault → Option Cause → Type 0
@@ -55,7 +55,7 @@ abbrev pub AnswersException : {B Y Z : Type 0} → Form → (Break → B) → Li
 AnswersException form listing_of line result =
     MatchResult result (λ x. (item_cause form line ≡ None) ×
     ((pattern_of_line form.version line ≡ None)
-    × (spelt_as listing_of exception_of_line line ≡ Some (string_bytes x.0, x.1.items))))
+    × (spelling_as listing_of exception_of_line line ≡ Some (string_bytes x.0, x.1.items))))
     (λ fault. IsFault fault (item_cause form line))
 
 -- The first of Number and Place that later tokens fail, whose places count in the text.
@@ -99,7 +99,7 @@ exception_cause form word later =
 
 -- Places with their changes, as breaks.
 abbrev pub breaks_listed : List (ℕ × Option Changed) → List Break
-breaks_listed listed = map (λ b. changed_by b.0 b.1) listed
+breaks_listed listed = map (λ b. break_at b.0 b.1) listed
 
 -- The entries of values, with the changes that are listed at their places.
 abbrev pub entries_of : {C : Type 0} → (Option Changed → C) → List (ℕ × ℕ) → List (ℕ × Option Changed) → List (Entry C)

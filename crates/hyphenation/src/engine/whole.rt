@@ -1,6 +1,7 @@
 //! What a run over a whole text needs of a kind of dictionary, and the steps of it.
 
 ghost use Rattle.std.specs.Prelude.{◌≡◌, ◌≢◌, List, ℕ, IsTrue, IfErr, IfOk, IfSome, OnOk, map, fold};
+ghost use Rattle.std.specs.Io.KnownBytes.{IsAtEnd};
 ghost use Rattle.std.specs.IoError.{error_kind};
 ghost use Rattle.std.specs.String.{string_bytes};
 ghost use Rattle.hyphenation_commons.specs.Break.{Break};
@@ -62,7 +63,7 @@ pub(super) trait WholeTexts: Drop {
 
 impl WholeTexts for Standard {
     ghost use Rattle.dictionary_text.specs.declared.form.Kind.TheVariants.{Standard as OfStandard};
-    ghost use Rattle.hyphenation_commons.specs.Break.{plain};
+    ghost use Rattle.hyphenation_commons.specs.Break.{plain_break};
     ghost use Rattle.dictionary_text.specs.Edits.{after_edit};
     ghost use Rattle.dictionary_text.specs.Reading.{place_as_listing, standard_contents};
     ghost use Rattle.hyphenation.specs.Opportunities.{no_change, rules_of, all_breaks_of};
@@ -73,7 +74,7 @@ impl WholeTexts for Standard {
 
     ghost edited = { after_edit place_as_listing };
 
-    ghost breaks_of = { λ dictionary word. all_breaks_of (rules_of no_change plain dictionary) word };
+    ghost breaks_of = { λ dictionary word. all_breaks_of (rules_of no_change plain_break dictionary) word };
 
     fn load<D: Read>(alloc: Global, lang: Language, reader: &mut D) -> load::Result<Standard> {
         Standard::from_reader(alloc, lang, reader)
@@ -150,6 +151,7 @@ fn input_fault(e: io::Error) -> RunError
 /// All bytes that an input has left.
 fn read_bytes<I: Read>(alloc: Global, input: &mut I) -> Result<Vec<u8>, RunError>
     ensures read { IfOk result (λ read. IfSome (I.remaining input.old) (λ bytes. read.items ≡ bytes)) }
+    ensures end { OnOk result (IsAtEnd (I.remaining input.new)) }
     ensures fault { IfErr result IsOfInput }
 {
     read_all(alloc, input).map_err(input_fault)
@@ -162,6 +164,7 @@ fn read_bytes<I: Read>(alloc: Global, input: &mut I) -> Result<Vec<u8>, RunError
 pub fn read_input<I: Read>(alloc: Global, input: &mut I) -> Result<String, RunError>
     ensures text { IfSome (I.remaining input.old) (λ bytes. JudgesText bytes result) }
     ensures read { IfOk result (λ text. IfSome (I.remaining input.old) (λ bytes. string_bytes text ≡ bytes)) }
+    ensures end { OnOk result (IsAtEnd (I.remaining input.new)) }
     ensures fault { IfErr result IsOfText }
 {
     let bytes = read_bytes(alloc, input)?;

@@ -1,10 +1,10 @@
 //! The odd values of a word: where patterns allow a break.
 
 ghost use Rattle.std.specs.Prelude.{◌≡◌, ◌≢◌, ◌%◌, ◌+◌, ◌-◌, ◌<◌, ◌≤◌, ◌&&◌, ℕ, IfOk, length, map, filter, slice_index};
-ghost use Rattle.hyphenation_trie.specs.Trie.{key_at, EachBeginsKey};
-ghost use Rattle.hyphenation.specs.Opportunities.{is_odd, within, breaks_within, allowed_by};
+ghost use Rattle.hyphenation_trie.specs.Trie.{entries_of_key, EachBeginsKey};
+ghost use Rattle.hyphenation.specs.Opportunities.{is_odd, within, breaks_within, breaks_at_odd_values};
 ghost use Rattle.std.specs.List.{range_with_len};
-ghost use Rattle.hyphenation_commons.specs.Break.{plain};
+ghost use Rattle.hyphenation_commons.specs.Break.{plain_break};
 
 use super::found::Found;
 use super::won::won_breaks;
@@ -40,7 +40,7 @@ fn odd_breaks<'h, F: Found<'h>>(
 ) -> Result<Vec<F>, AllocError>
     ensures { IfOk result (λ v.
         map F.meaning v.items
-        ≡ map plain (filter (λ place. is_odd (slice_index values.now (place - 1)) && within bounds place)
+        ≡ map plain_break (filter (λ place. is_odd (slice_index values.now (place - 1)) && within bounds place)
         (range_with_len 1 (length values.now)))) }
 {
     // No place before the first bound or after the second is looked at.
@@ -73,7 +73,8 @@ fn allowed_in<'h, F: Found<'h>>(
     requires places { length room.old ≡ length word.now - 1 }
     requires zeros { (i : ℕ) → i < length room.old → slice_index room.old i ≡ 0 }
     ensures { IfOk result (λ v.
-        map F.meaning v.items ≡ breaks_within (allowed_by F.Payload.change_of (key_at patterns.now) word.now) bounds) }
+        map F.meaning v.items ≡ breaks_within (breaks_at_odd_values F.Payload.change_of
+        (entries_of_key patterns.now) word.now) bounds) }
 {
     let mut count = LookUps::new();
     if raise_all(patterns, word.as_bytes(), room, &mut count) {
@@ -93,7 +94,8 @@ pub(super) fn allowed_breaks<'h, F: Found<'h>>(
 ) -> Result<Vec<F>, AllocError>
     requires { EachBeginsKey patterns.now }
     ensures { IfOk result (λ v.
-        map F.meaning v.items ≡ breaks_within (allowed_by F.Payload.change_of (key_at patterns.now) word.now) bounds) }
+        map F.meaning v.items ≡ breaks_within (breaks_at_odd_values F.Payload.change_of
+        (entries_of_key patterns.now) word.now) bounds) }
 {
     let count = word.len().saturating_sub(1);
     if count <= 64 {

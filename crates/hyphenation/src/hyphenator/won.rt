@@ -1,8 +1,8 @@
 //! The entries that win a word's places: where patterns allow a break, and what it changes.
 
 ghost use Rattle.std.specs.Prelude.{◌≡◌, IfOk, map, option_copied};
-ghost use Rattle.hyphenation_trie.specs.Trie.{key_at, EachBeginsKey};
-ghost use Rattle.hyphenation.specs.Opportunities.{breaks_within, allowed_by};
+ghost use Rattle.hyphenation_trie.specs.Trie.{entries_of_key, EachBeginsKey};
+ghost use Rattle.hyphenation.specs.Opportunities.{breaks_within, breaks_at_odd_values};
 ghost use Rattle.hyphenation.specs.Private.Opportunities.{won_at, won_within};
 ghost use Rattle.std.specs.Option.{option_map};
 
@@ -55,7 +55,8 @@ pub(super) fn won_breaks<'h, F: Found<'h>>(
 ) -> Result<Vec<F>, AllocError>
     requires { EachBeginsKey patterns.now }
     ensures { IfOk result (λ v.
-        map F.meaning v.items ≡ breaks_within (allowed_by F.Payload.change_of (key_at patterns.now) word.now) bounds) }
+        map F.meaning v.items ≡ breaks_within (breaks_at_odd_values F.Payload.change_of
+        (entries_of_key patterns.now) word.now) bounds) }
 {
     let mut count = LookUps::new();
     let winners = winners_in(alloc, patterns, word.as_bytes(), &mut count)?;

@@ -1,11 +1,11 @@
 use Rattle.std.proofs.Common.{Option, Bor, option_copied}
 use Rattle.hyphenation_commons.specs.Break.{Change}
 use Rattle.hyphenation_commons.specs.declared.dictionary.Entry.{Entry}
-use Rattle.hyphenation_score.specs.Scoring.{own_change, scored_by, scored_pair}
+use Rattle.hyphenation_score.specs.Scoring.{own_change, score_of_winner, scored_pair}
 use Rattle.hyphenation_score.proofs.ScoredWinners.{mapped_more}
 use Rattle.hyphenation_score.proofs.scored_all.Goals as goal
 
 pub loop-winner-preserved : goal.loop-winner-preserved
 loop-winner-preserved c =
-    mapped_more scored_pair (λ (w : Option (Bor (Entry (Option Change)))). scored_by own_change (option_copied w)) c.args.winners.now c.loop-winner.winner-index c.winner-item.result c.loop-winner.all.items _ c.scored.result
+    mapped_more scored_pair (λ (w : Option (Bor (Entry (Option Change)))). score_of_winner own_change (option_copied w)) c.args.winners.now c.loop-winner.winner-index c.winner-item.result c.loop-winner.all.items _ c.scored.result
     c.loop-winner-test.true c.winner-item.is c.loop-winner.invariant c.scored.ensures c.in_ok-push.ensures.items

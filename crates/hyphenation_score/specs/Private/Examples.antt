@@ -12,27 +12,27 @@ abbrev pub pattern : List ℕ → ℕ → ℕ → ℕ → List ℕ × List (Entr
 pattern key place value change = (key, record { place = place; value = value; change = change } ∷ [])
 
 -- The keys of a list, each with its entries.
-abbrev pub known : List (List ℕ × List (Entry ℕ)) → Patterns ℕ
-known keys text = lookup (pointwise nat_eq text) keys
+abbrev pub patterns_from : List (List ℕ × List (Entry ℕ)) → Patterns ℕ
+patterns_from keys text = lookup (pointwise nat_eq text) keys
 
 -- What the winners of a word's places carry.
 abbrev pub changes_won : Patterns ℕ → List ℕ → List (Option ℕ)
 changes_won keys word = map (λ winner. option_map (λ entry. entry.change) winner) (winners keys word)
 
 -- .fi2 i2r r2k r5kin k1in k2in.
-abbrev pub english : Patterns ℕ
-english =
-    known (pattern (codes ".fi") 3 2 0 ∷ pattern (codes "ir") 1 2 0 ∷ pattern (codes "rk") 1 2 0 ∷ pattern
+abbrev pub english_patterns : Patterns ℕ
+english_patterns =
+    patterns_from (pattern (codes ".fi") 3 2 0 ∷ pattern (codes "ir") 1 2 0 ∷ pattern (codes "rk") 1 2 0 ∷ pattern
     (codes "rkin") 1 5 0 ∷ pattern (codes "kin") 1 1 0 ∷ pattern (codes "kin.") 1 2 0 ∷ [])
 
 -- a1b, which carries 7, and ca1bd, which carries 9.
 abbrev pub early_and_late : Patterns ℕ
-early_and_late = known (pattern (codes "ab") 1 1 7 ∷ pattern (codes "cabd") 2 1 9 ∷ [])
+early_and_late = patterns_from (pattern (codes "ab") 1 1 7 ∷ pattern (codes "cabd") 2 1 9 ∷ [])
 
 -- a1b, which carries 7, and a1bd, which carries 8.
 abbrev pub short_and_long : Patterns ℕ
-short_and_long = known (pattern (codes "abd") 1 1 8 ∷ pattern (codes "ab") 1 1 7 ∷ [])
+short_and_long = patterns_from (pattern (codes "abd") 1 1 8 ∷ pattern (codes "ab") 1 1 7 ∷ [])
 
 -- .b1c
-abbrev pub dotted : Patterns ℕ
-dotted = known (pattern (codes ".bc") 2 1 0 ∷ [])
+abbrev pub dotted_patterns : Patterns ℕ
+dotted_patterns = patterns_from (pattern (codes ".bc") 2 1 0 ∷ [])

@@ -4,19 +4,19 @@ use Rattle.std.specs.Cow.{cow_str_bytes, IsBorrowedStr}
 use Rattle.std.specs.Option.{is_some}
 use Rattle.std.specs.Str.{IsCharBoundary}
 use Rattle.std.specs.declared.borrow.CowStr.{CowStr}
-use Rattle.hyphenation_commons.specs.Break.{Break, Change, plain, end_of, before_of, after_of}
+use Rattle.hyphenation_commons.specs.Break.{Break, Change, plain_break, end_of, before_of, after_of}
 use Rattle.hyphenation_segments.specs.Fits.{FitsFrom}
-use Rattle.hyphenation_segments.specs.ChangedSegments.{made_after}
+use Rattle.hyphenation_segments.specs.ChangedSegments.{made_segments_after}
 
 -- The break taken last; before the first, the start of the text.
 abbrev pub last_break : Option Break → Break
-last_break None = plain 0
+last_break None = plain_break 0
 last_break (Some b) = b
 
 -- The segments to come where the range of the last break ended at the start, and none after the last segment.
-abbrev pub made_from : List ℕ → Option ℕ → Option Break → List Break → List (List ℕ × Bool)
-made_from text None last breaks = []
-made_from text (Some start) last breaks = made_after text (last_break last) breaks
+abbrev pub made_segments_from : List ℕ → Option ℕ → Option Break → List Break → List (List ℕ × Bool)
+made_segments_from text None last breaks = []
+made_segments_from text (Some start) last breaks = made_segments_after text (last_break last) breaks
 
 -- The breaks to come fit the text after the last break, whose range ends at the start.
 abbrev pub FitsAfterLast : List ℕ → Option ℕ → Option Break → List Break → Type 0

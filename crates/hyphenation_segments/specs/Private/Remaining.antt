@@ -1,14 +1,14 @@
 -- Lists that are still to come: what private functions and proofs need of it beside, and no public contract cites.
 use Rattle.std.specs.Prelude.{◌≡◌, ℕ, Bool, false, List, [], ⊤, Option, None, Some}
 use Rattle.std.specs.Str.{IsCharBoundary}
-use Rattle.hyphenation_commons.specs.Break.{Break, plain}
+use Rattle.hyphenation_commons.specs.Break.{Break, plain_break}
 use Rattle.hyphenation_segments.specs.Fits.{FitsFrom}
 use Rattle.hyphenation_segments.specs.Segments.{segments_after}
 
 -- The segments to come where the last plain break was at the start, and none after the last segment.
 abbrev pub segments_from : List ℕ → Option ℕ → List Break → List (List ℕ)
 segments_from text None breaks = []
-segments_from text (Some start) breaks = segments_after text (plain start) breaks
+segments_from text (Some start) breaks = segments_after text (plain_break start) breaks
 
 -- The breaks to come fit the text after the start.
 abbrev pub FitsAfter : List ℕ → Option ℕ → List Break → Type 0

@@ -34,11 +34,11 @@ impl<'t, I: Breaks> Model for SegmentsExt<'t, I> {
     ghost use Rattle.std.specs.Prelude.{List, ℕ, Bool};
     ghost use Rattle.std.specs.Option.{option_map};
     ghost use Rattle.hyphenation_segments.specs.Private.Remaining.{MayAsk};
-    ghost use Rattle.hyphenation_segments.specs.Private.ChangedSegments.{made_from, FitsAfterLast};
+    ghost use Rattle.hyphenation_segments.specs.Private.ChangedSegments.{made_segments_from, FitsAfterLast};
 
     ghost Value = { List (List ℕ × Bool) };
 
-    ghost view = { λ s. made_from s.text.now s.start (option_map I.Item.meaning s.last) (I.to_come s.breaks) };
+    ghost view = { λ s. made_segments_from s.text.now s.start (option_map I.Item.meaning s.last) (I.to_come s.breaks) };
 
     ghost invariant = { λ s.
         FitsAfterLast s.text.now s.start (option_map I.Item.meaning s.last) (I.to_come s.breaks)

@@ -4,7 +4,7 @@ ghost use Rattle.std.specs.Prelude.{◌≡◌, ℕ, ◌++◌, List, map, length,
 ghost use Rattle.std.specs.Iterator.{item_count, UpTo, at_most};
 ghost use Rattle.std.specs.Iterator.SizeHint.{IsWithinCount};
 ghost use Rattle.std.specs.String.{string_bytes};
-ghost use Rattle.hyphenation_commons.specs.Break.{plain};
+ghost use Rattle.hyphenation_commons.specs.Break.{plain_break};
 ghost use Rattle.hyphenation_segments.specs.Segments.{marked_segments, mark_if_more, segments};
 ghost use Rattle.hyphenation_segments.specs.Remaining.{GivesMarked};
 ghost use Rattle.hyphenation_segments.specs.ChangedSegments.{made_segments};
@@ -154,7 +154,7 @@ pub trait Iter<'t> {
 impl<'t> Iter<'t> for Word<'t, usize> {
     type Iter = Segments<'t, Copied<slice::Iter<'t, usize>>>;
 
-    ghost iter_gives = { λ word result. result ≡ (segments word.text.now (map plain word.breaks.items), codes "-") };
+    ghost iter_gives = { λ word result. result ≡ (segments word.text.now (map plain_break word.breaks.items), codes "-") };
 
     fn iter(&'t self) -> Hyphenating<'t, Self::Iter> {
         let alloc = *self.breaks.allocator();
@@ -168,7 +168,7 @@ impl<'t> IntoIterator for Word<'t, usize> {
     type IntoIter = Hyphenating<'t, Segments<'t, vec::IntoIter<usize>>>;
 
     ghost into_iter_gives = { λ word result.
-        result ≡ (segments word.text.now (map plain word.breaks.items), codes "-") };
+        result ≡ (segments word.text.now (map plain_break word.breaks.items), codes "-") };
 
     /// The segments of the word, each but the last with a mark after it, at first `-`.
     fn into_iter(self) -> Self::IntoIter {
@@ -180,7 +180,7 @@ impl<'t> IntoIterator for Word<'t, usize> {
 
 impl<'t> IntoIterator for Word<'t, (usize, Option<&'t Subregion>)> {
     ghost use Rattle.std.specs.Option.{option_copied};
-    ghost use Rattle.hyphenation_commons.specs.Break.{changed_by};
+    ghost use Rattle.hyphenation_commons.specs.Break.{break_at};
 
     type Item = Result<String, AllocError>;
 
@@ -188,7 +188,7 @@ impl<'t> IntoIterator for Word<'t, (usize, Option<&'t Subregion>)> {
 
     ghost into_iter_gives = { λ word result.
         result
-        ≡ (made_segments word.text.now (map (λ b. changed_by b.0 (option_copied b.1)) word.breaks.items), codes "-") };
+        ≡ (made_segments word.text.now (map (λ b. break_at b.0 (option_copied b.1)) word.breaks.items), codes "-") };
 
     /// The segments of the word, each but the last with a mark after it, at first `-`.
     fn into_iter(self) -> Self::IntoIter {

@@ -1,6 +1,6 @@
 -- What private structs hold, as definitions speak of it, and what reading a word or a file answers.
 -- Private functions cite this, and no public contract does.
-use Rattle.std.specs.Prelude.{map, Option, Some, ◌≡◌, List, [], ℕ, ◌++◌, ◌+◌, ◌∷◌}
+use Rattle.std.specs.Prelude.{map, Option, Some, ◌≡◌, List, [], ℕ, ◌++◌, ◌∷◌}
 use Rattle.pattern_files.specs.Groups as groups
 use Rattle.pattern_files.specs.Groups.{Lexed, Found, GroupWord}
 use Rattle.pattern_files.specs.declared.tex.Lexer.{Lexer}
@@ -13,7 +13,7 @@ use Rattle.pattern_files.specs.declared.fault.WordFault.{WordFault}
 use Rattle.hyphenation_commons.specs.declared.dictionary.Entry.{Entry}
 use Rattle.pattern_files.specs.declared.fault.LineFault.{LineFault}
 use Rattle.pattern_files.specs.declared.fault.LineFault.TheVariants.{NoMemory, OnLine}
-use Rattle.pattern_files.specs.Converting.{Spelled}
+use Rattle.pattern_files.specs.Converting.{SpeltWords}
 
 -- A word as definitions see it.
 abbrev pub word_view : Word → GroupWord
@@ -49,9 +49,9 @@ IsLineFault NoMemory fault = Unit {0}
 IsLineFault (OnLine line cause) fault = fault ≡ Some (line, cause)
 
 -- A key with its entries more.
-abbrev pub with_key : {C B : Type 0} → Spelled C B → List ℕ × List (Entry C) → Spelled C B
+abbrev pub with_key : {C B : Type 0} → SpeltWords C B → List ℕ × List (Entry C) → SpeltWords C B
 with_key now key = record { patterns = now.patterns ++ key ∷ []; exceptions = now.exceptions }
 
 -- A word with its breaks more.
-abbrev pub with_word : {C B : Type 0} → Spelled C B → List ℕ × List B → Spelled C B
+abbrev pub with_word : {C B : Type 0} → SpeltWords C B → List ℕ × List B → SpeltWords C B
 with_word now word = record { patterns = now.patterns; exceptions = now.exceptions ++ word ∷ [] }

@@ -1,5 +1,5 @@
 use Rattle.std.proofs.Common.{subst}
-use Rattle.hyphenation_commons.specs.Break.{plain}
+use Rattle.hyphenation_commons.specs.Break.{plain_break}
 use Rattle.hyphenation_segments.specs.Fits.{Fits}
 use Rattle.hyphenation.specs.Opportunities.{no_change, rules_of, all_breaks_of}
 use Rattle.hyphenation.proofs.FittedBreaks.{breaks_fit}
@@ -11,6 +11,6 @@ pub returns : goal.returns
 returns c = λ text u.
     let dictionary = c.args.dictionary.now in
     let kept = c.invariant.ensures in
-    given_back (all_breaks_of (rules_of no_change plain dictionary))
-    (λ word v. subst (Fits word) (fitted_alike dictionary word kept v) (breaks_fit no_change plain dictionary word kept v))
+    given_back (all_breaks_of (rules_of no_change plain_break dictionary))
+    (λ word v. subst (Fits word) (fitted_alike dictionary word kept v) (breaks_fit no_change plain_break dictionary word kept v))
     (breaks_plain dictionary) text u

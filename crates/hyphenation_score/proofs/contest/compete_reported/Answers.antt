@@ -1,6 +1,6 @@
 use Rattle.std.proofs.Common.{◌≡◌, ◌+◌, ◌-◌, ◌<◌, ℕ, length, take, ap, refl, sym, subst, arith, ◌∙◌}
 use Rattle.std.proofs.lemmas.List.{length-drop}
-use Rattle.hyphenation_trie.specs.Trie.{node_text, key_at}
+use Rattle.hyphenation_trie.specs.Trie.{node_text, entries_of_key}
 use Rattle.hyphenation_trie.specs.Private.Links.{keys_in}
 use Rattle.hyphenation_trie.proofs.Suffixes.{depth_pos, Ends-whole, Ends-trans}
 use Rattle.hyphenation_score.specs.Scoring.{frame}
@@ -61,8 +61,8 @@ loop-node-preserved g c =
       key = report.key;
       lengths = c.compete.auto.starts ∙ inv.lengths ∙ sym c.compete.auto.bests;
       holds = λ i lt.
-          let old = subst (λ (x : ℕ). Holds (key_at tree) framed (i + 1) (Asked framed c.args.end x) (best_of c.loop-node.bests c.loop-node.starts i)) (sym start_is) (inv.holds i (omega (arith, c.compete.auto.bests))) in
-          subst (λ n. Holds (key_at tree) framed (i + 1) (Asked framed c.args.end (c.args.end - length (node_text tree to))) n) (sym (c.compete.ensures i (omega (arith, c.compete.auto.bests))))
+          let old = subst (λ (x : ℕ). Holds (entries_of_key tree) framed (i + 1) (Asked framed c.args.end x) (best_of c.loop-node.bests c.loop-node.starts i)) (sym start_is) (inv.holds i (omega (arith, c.compete.auto.bests))) in
+          subst (λ n. Holds (entries_of_key tree) framed (i + 1) (Asked framed c.args.end (c.args.end - length (node_text tree to))) n) (sym (c.compete.ensures i (omega (arith, c.compete.auto.bests))))
           (met_next tree framed c.args.end (i + 1) at to start c.entries-entries.result.now (best_of c.loop-node.bests c.loop-node.starts i) c.requires.end ends pos report c.entries-entries.ensures.entries start_is old);
       reported = omega (arith, counted, more, inv.reported);
       few = omega (arith, counted, inv.few);

@@ -1,7 +1,7 @@
 use Rattle.std.proofs.Common.{◌≡◌, ℕ, ◌+◌, ◌-◌, ◌<◌, ◌≤◌, length}
 use Rattle.std.specs.Prelude.{IsSome}
-use Rattle.hyphenation_trie.specs.Trie.{node_text, key_at}
-use Rattle.hyphenation_trie.specs.Links.{Ends}
+use Rattle.hyphenation_trie.specs.Trie.{node_text, entries_of_key}
+use Rattle.hyphenation_trie.specs.Links.{EndsWith}
 use Rattle.hyphenation_trie.specs.Private.Links.{keys_in}
 use Rattle.hyphenation_score.specs.Scoring.{frame}
 use Rattle.hyphenation_score.specs.Winners.{Holds}
@@ -11,10 +11,10 @@ use Rattle.hyphenation_score.proofs.contest.compete_reported.Given as goal
 abbrev pub invariant-loop-node : goal.invariant-loop-node
 invariant-loop-node g l = record {
   within : l.node < length l.automaton.texts;
-  ends : Ends (node_text l.automaton l.from) (node_text l.automaton l.node);
-  key : 0 < l.node → IsSome (key_at l.automaton (node_text l.automaton l.node));
+  ends : EndsWith (node_text l.automaton l.from) (node_text l.automaton l.node);
+  key : 0 < l.node → IsSome (entries_of_key l.automaton (node_text l.automaton l.node));
   lengths : length l.starts ≡ length l.bests;
-  holds : (i : ℕ) → i < length l.bests → Holds (key_at l.automaton) (frame l.word) (i + 1) (Asked (frame l.word) l.end (l.end - length (node_text l.automaton l.node))) (best_of l.bests l.starts i);
+  holds : (i : ℕ) → i < length l.bests → Holds (entries_of_key l.automaton) (frame l.word) (i + 1) (Asked (frame l.word) l.end (l.end - length (node_text l.automaton l.node))) (best_of l.bests l.starts i);
   reported : l.count.reported ≡ l.fn.count.reported + keys_in l.automaton (node_text l.automaton l.from) (length (node_text l.automaton l.from) - length (node_text l.automaton l.node));
   few : l.count.reported + length (node_text l.automaton l.node) ≤ l.fn.count.reported + length (node_text l.automaton l.from);
   made : l.count.made ≡ l.fn.count.made;

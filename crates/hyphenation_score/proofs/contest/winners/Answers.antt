@@ -3,8 +3,8 @@ use Rattle.std.proofs.Math.Nat.{mul-le-mul_right}
 use Rattle.std.proofs.lemmas.Bool.{cases_eq}
 use Rattle.std.proofs.lemmas.List.{length-map}
 use Rattle.std.specs.Option.{option_copied}
-use Rattle.hyphenation_commons.specs.Dictionary.{keys_of, longest_key}
-use Rattle.hyphenation_trie.specs.Trie.{key_at}
+use Rattle.hyphenation_commons.specs.Dictionary.{entries_of_keys, longest_key}
+use Rattle.hyphenation_trie.specs.Trie.{entries_of_key}
 use Rattle.hyphenation_score.specs.Scoring.{frame, winners}
 use Rattle.hyphenation_score.specs.OnePass.{occurrences}
 use Rattle.hyphenation_score.proofs.NoKeys.{none_at_all}
@@ -14,14 +14,14 @@ use Rattle.hyphenation_score.proofs.contest.winners.Goals as goal
 
 pub returns-clause-winners : goal.returns-clause-winners
 returns-clause-winners g c =
-    let keys = keys_of c.args.dictionary.now in
-    let known = key_at c.patterns.result.now in
+    let keys = entries_of_keys c.args.dictionary.now in
+    let known = entries_of_key c.patterns.result.now in
     ok_same c.winners_in.result (λ v. map option_copied v.items) (winners known c.as_bytes.result.now) (winners keys c.args.word.now)
     (ap (winners known) c.as_bytes.ensures.value ∙ winners_same known keys c.args.word.now (λ text. sym (c.patterns.ensures.known text))) c.winners_in.ensures.winners
 
 pub returns-clause-places : goal.returns-clause-places
 returns-clause-places g c =
-    let keys = keys_of c.args.dictionary.now in
+    let keys = entries_of_keys c.args.dictionary.now in
     ok_then c.winners_in.result (λ v. map option_copied v.items ≡ winners keys c.args.word.now) (λ v. length v.items ≡ length c.args.word.now - 1)
     (λ v is. sym (length-map v.items option_copied) ∙ ap length is ∙ length-winners keys c.args.word.now) (returns-clause-winners g c)
 
@@ -47,14 +47,14 @@ returns-clause-most g c =
 
 pub returns-clause-reported : goal.returns-clause-reported
 returns-clause-reported g c =
-    let keys = keys_of c.args.dictionary.now in
-    let known = key_at c.patterns.result.now in
+    let keys = entries_of_keys c.args.dictionary.now in
+    let known = entries_of_key c.patterns.result.now in
     let same = ap (λ w. occurrences known (frame w)) c.as_bytes.ensures.value ∙ occurrences_same known keys (frame c.args.word.now) (λ text. sym (c.patterns.ensures.known text)) in
     rw (← same) c.winners_in.ensures.reported
 
 pub returns-clause-visited : goal.returns-clause-visited
 returns-clause-visited g c =
-    let keys = keys_of c.args.dictionary.now in
-    let known = key_at c.patterns.result.now in
+    let keys = entries_of_keys c.args.dictionary.now in
+    let known = entries_of_key c.patterns.result.now in
     let same = ap (λ w. occurrences known (frame w)) c.as_bytes.ensures.value ∙ occurrences_same known keys (frame c.args.word.now) (λ text. sym (c.patterns.ensures.known text)) in
     rw (← same) c.winners_in.ensures.visited

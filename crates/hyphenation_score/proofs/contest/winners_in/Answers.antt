@@ -4,7 +4,7 @@ use Rattle.std.specs.List.{range_with_len, sum_by}
 use Rattle.std.proofs.Math.Nat.{mul-le-mul_right}
 use Rattle.std.proofs.lemmas.List.{length-append, length-take, take_at, length-map, get_or-map, ext_get_or}
 use Rattle.std.proofs.lemmas.List.FromFn.{length-map-range_with_len, get_or-map-range_with_len}
-use Rattle.hyphenation_trie.specs.Trie.{node_text, key_at}
+use Rattle.hyphenation_trie.specs.Trie.{node_text, entries_of_key}
 use Rattle.hyphenation_trie.proofs.Suffixes.{longest_more}
 use Rattle.hyphenation_score.specs.Scoring.{frame, winner_at}
 use Rattle.hyphenation_score.specs.OnePass.{keys_ending}
@@ -35,7 +35,7 @@ compete_reported-requires-clause-room g c =
 
 pub compete_reported-requires-clause-holds : goal.compete_reported-requires-clause-holds
 compete_reported-requires-clause-holds g c = λ i lt.
-    let keys = key_at c.args.automaton.now in
+    let keys = entries_of_key c.args.automaton.now in
     let framed = frame c.args.word.now in
     let one = c.deref_mut.ensures.value in
     let two = c.deref_mut-in-loop-at.ensures.value in
@@ -45,7 +45,7 @@ compete_reported-requires-clause-holds g c = λ i lt.
 pub loop-at-preserved : goal.loop-at-preserved
 loop-at-preserved g c =
     let tree = c.args.automaton.now in
-    let keys = key_at tree in
+    let keys = entries_of_key tree in
     let framed = frame c.args.word.now in
     let lt : c.loop-at.at < length framed = omega (arith, length-frame c.args.word.now) in
     let next = longest_more tree c.invariant.ensures (take c.loop-at.at framed) c.framed_at.result c.loop-at.node c.step-node.result c.loop-at.invariant.longest c.step-node.ensures.longest in
@@ -76,7 +76,7 @@ loop-at-preserved g c =
           omega arith;
       least = let h = c.step-node.ensures.least in let was = c.loop-at.invariant.least in let made = c.compete_reported.ensures.made in omega arith;
       reported =
-          let f = λ (end : ℕ). keys_ending (key_at tree) framed end in
+          let f = λ (end : ℕ). keys_ending (entries_of_key tree) framed end in
           let more = sum_more f 1 c.loop-at.at ∙ ap (λ (k : ℕ). sum_by f (range_with_len 1 c.loop-at.at) + f k) last in
           let is = counted_is tree framed (c.loop-at.at + 1) c.step-node.result inside longest in
           omega (arith, c.compete_reported.ensures.reported, c.step-node.ensures.reported, c.loop-at.invariant.reported, more, is);
@@ -94,7 +94,7 @@ returns-clause-winners g c =
     let framed = frame c.args.word.now in
     let items = c.loop-at.bests.items in
     let n : ℕ = length c.args.word.now - 1 in
-    let f = λ (p : ℕ). winner_at (key_at tree) c.args.word.now p in
+    let f = λ (p : ℕ). winner_at (entries_of_key tree) c.args.word.now p in
     ext_get_or None (map option_copied items) (map f (range_with_len 1 n)) (length-map items option_copied ∙ c.loop-at.invariant.len ∙ sym (length-map-range_with_len f 1 n))
     (λ i lt.
     let within : i < length items = omega (arith, length-map items option_copied) in

@@ -1,5 +1,5 @@
 use Rattle.std.proofs.Common.{◌≡◌, ◌+◌, ◌<◌, ◌∷◌, [], ℕ, List, false, max, length, take, slice_index, refl, ap, sym, subst, ◌∙◌, arith, add-one}
-use Rattle.hyphenation_trie.specs.Trie.{node_text, key_at}
+use Rattle.hyphenation_trie.specs.Trie.{node_text, entries_of_key}
 use Rattle.std.proofs.Math.Seq.{get_or-append_seam}
 use Rattle.std.proofs.lemmas.Bool.{or_parts}
 use Rattle.std.proofs.lemmas.List.{get_or_append_left}
@@ -53,7 +53,7 @@ loop-at-preserved g c =
     let trie = c.invariant.ensures in
     let r = c.read-next.ensures in
     let two : c.loop-at.at + 2 ≡ (c.loop-at.at + 1) + 1 = omega arith in
-    let raised = subst (λ k. (i : ℕ) → i < length c.loop-at.scores → slice_index c.read-next.new.values i ≡ max (slice_index c.loop-at.scores i) (greatest_value (entries_of_ends (key_at tree) (node_text tree c.read-next.result.0) k (i + 1)))) two r.values in
+    let raised = subst (λ k. (i : ℕ) → i < length c.loop-at.scores → slice_index c.read-next.new.values i ≡ max (slice_index c.loop-at.scores i) (greatest_value (entries_of_ends (entries_of_key tree) (node_text tree c.read-next.result.0) k (i + 1)))) two r.values in
     let passed = passed_more tree word trie c.requires.begins (c.loop-at.at + 1) c.loop-at.node (slice_index word c.loop-at.at) c.read-next.result.0 c.loop-at.scores c.read-next.new.values _ _ _ _ c.read-next.new.count.made c.read-next.new.count.reported (omega arith) (word_byte word c.loop-at.at (omega arith)) c.loop-at.invariant.passed r.longest c.read-next.auto.values raised r.least r.most r.alone r.reported in
     record {
       len = c.read-next.auto.values ∙ c.loop-at.invariant.len;
@@ -61,7 +61,7 @@ loop-at-preserved g c =
       unchanged = λ no.
           let parts = or_parts c.loop-at.changes c.read-next.result.1 no in
           none_to_more g.C.Payload.change_of tree word (c.loop-at.at + 1) c.read-next.result.0 (omega (arith, length-frame word)) passed.longest (c.loop-at.invariant.unchanged parts.0)
-          (subst (λ (k : ℕ). (p : ℕ) → carry_change g.C.Payload.change_of (entries_of_ends (key_at tree) (node_text tree c.read-next.result.0) k p) ≡ false) two (r.unchanged parts.1));
+          (subst (λ (k : ℕ). (p : ℕ) → carry_change g.C.Payload.change_of (entries_of_ends (entries_of_key tree) (node_text tree c.read-next.result.0) k p) ≡ false) two (r.unchanged parts.1));
     }
 
 pub read-met-requires-clause-from : goal.read-met-requires-clause-from
@@ -85,7 +85,7 @@ all g c =
     let ends : c.loop-at.at ≡ length word = omega arith in
     let two : (length word + 1) + 1 ≡ length word + 2 = omega arith in
     let last = subst (λ k. Passed tree word (k + 1) c.loop-at.node c.loop-at.scores c.args.count.now.made c.args.count.now.reported c.loop-at.count.made c.loop-at.count.reported) ends c.loop-at.invariant.passed in
-    let raised = subst (λ k. (i : ℕ) → i < length c.loop-at.scores → slice_index c.read-met.new.values i ≡ max (slice_index c.loop-at.scores i) (greatest_value (entries_of_ends (key_at tree) (node_text tree c.read-met.result.0) k (i + 1)))) (sym two) r.values in
+    let raised = subst (λ k. (i : ℕ) → i < length c.loop-at.scores → slice_index c.read-met.new.values i ≡ max (slice_index c.loop-at.scores i) (greatest_value (entries_of_ends (entries_of_key tree) (node_text tree c.read-met.result.0) k (i + 1)))) (sym two) r.values in
     subst (λ k. Passed tree word k c.read-met.result.0 c.read-met.new.values c.args.count.now.made c.args.count.now.reported c.read-met.new.count.made c.read-met.new.count.reported) two
     (passed_more tree word c.invariant.ensures c.requires.begins (length word + 1) c.loop-at.node 46 c.read-met.result.0 c.loop-at.scores c.read-met.new.values _ _ _ _ c.read-met.new.count.made c.read-met.new.count.reported (omega arith) (last_byte word) last r.longest c.read-met.auto.values raised r.least r.most r.alone r.reported)
 
@@ -115,6 +115,6 @@ returns-clause-unchanged g c = λ no p.
     let longest = subst (λ (k : ℕ). IsLongest tree.texts (take k (frame word)) c.read-met.result.0) two (all g c).longest in
     let ends : c.loop-at.at ≡ length word = omega arith in
     let before = subst (λ (k : ℕ). NoneTo change_of tree word (k + 1)) ends (c.loop-at.invariant.unchanged parts.0) in
-    let last = subst (λ (k : ℕ). (q : ℕ) → carry_change change_of (entries_of_ends (key_at tree) (node_text tree c.read-met.result.0) k q) ≡ false) two (c.read-met.ensures.unchanged parts.1) in
+    let last = subst (λ (k : ℕ). (q : ℕ) → carry_change change_of (entries_of_ends (entries_of_key tree) (node_text tree c.read-met.result.0) k q) ≡ false) two (c.read-met.ensures.unchanged parts.1) in
     none_bears change_of tree word
     (subst (λ (k : ℕ). NoneTo change_of tree word k) framed (none_to_more change_of tree word (length word + 1) c.read-met.result.0 (omega (arith, framed)) longest before last)) p

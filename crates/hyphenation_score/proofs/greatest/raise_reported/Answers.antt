@@ -2,7 +2,7 @@ use Rattle.std.proofs.Common.{◌≡◌, ◌+◌, ◌-◌, ◌<◌, max, ℕ, So
 use Rattle.std.specs.List.{flat_map, range_with_len}
 use Rattle.std.proofs.lemmas.Bool.{or_parts}
 use Rattle.std.proofs.lemmas.List.{length-drop}
-use Rattle.hyphenation_trie.specs.Trie.{node_text, key_at}
+use Rattle.hyphenation_trie.specs.Trie.{node_text, entries_of_key}
 use Rattle.hyphenation_trie.specs.Private.Links.{keys_in}
 use Rattle.hyphenation_trie.proofs.Suffixes.{depth_pos, Ends-whole, Ends-trans}
 use Rattle.hyphenation_score.specs.Scoring.{greatest_value}
@@ -75,7 +75,7 @@ returns-clause-values g c = λ i lt.
     let zero_is : c.loop-node.node ≡ 0 = omega arith in
     let nil : length (node_text tree c.loop-node.node) ≡ 0 = ap (λ (k : ℕ). length (node_text tree k)) zero_is ∙ ap length c.invariant.ensures.root in
     let whole : length t - length (node_text tree c.loop-node.node) ≡ length t = omega arith in
-    c.loop-node.invariant.values i (omega arith) ∙ ap (λ (k : ℕ). max (slice_index c.args.values.now i) (greatest_value (flat_map (λ d. entries_of_end (key_at tree) t c.args.end (i + 1) d) (range_with_len 0 k)))) whole
+    c.loop-node.invariant.values i (omega arith) ∙ ap (λ (k : ℕ). max (slice_index c.args.values.now i) (greatest_value (flat_map (λ d. entries_of_end (entries_of_key tree) t c.args.end (i + 1) d) (range_with_len 0 k)))) whole
 
 pub returns-clause-reported : goal.returns-clause-reported
 returns-clause-reported g c =
@@ -93,4 +93,4 @@ returns-clause-unchanged g c = λ no p.
     let zero_is : c.loop-node.node ≡ 0 = omega arith in
     let nil : length (node_text tree c.loop-node.node) ≡ 0 = ap (λ (k : ℕ). length (node_text tree k)) zero_is ∙ ap length c.invariant.ensures.root in
     let whole : length t - length (node_text tree c.loop-node.node) ≡ length t = omega arith in
-    ap (λ (k : ℕ). carry_change g.C.Payload.change_of (flat_map (λ d. entries_of_end (key_at tree) t c.args.end p d) (range_with_len 0 k))) (sym whole) ∙ c.loop-node.invariant.unchanged no p
+    ap (λ (k : ℕ). carry_change g.C.Payload.change_of (flat_map (λ d. entries_of_end (entries_of_key tree) t c.args.end p d) (range_with_len 0 k))) (sym whole) ∙ c.loop-node.invariant.unchanged no p

@@ -1,8 +1,8 @@
 use Rattle.std.proofs.Common.{◌≡◌, ◌+◌, ◌-◌, ℕ, length, sym, ap, ◌∙◌, arith, inl, inr}
 use Rattle.std.proofs.Math.Nat.{mul-le-mul_right}
 use Rattle.std.proofs.lemmas.Bool.{cases_eq}
-use Rattle.hyphenation_commons.specs.Dictionary.{keys_of, longest_key}
-use Rattle.hyphenation_trie.specs.Trie.{key_at}
+use Rattle.hyphenation_commons.specs.Dictionary.{entries_of_keys, longest_key}
+use Rattle.hyphenation_trie.specs.Trie.{entries_of_key}
 use Rattle.hyphenation_score.specs.Scoring.{frame, values}
 use Rattle.hyphenation_score.specs.OnePass.{occurrences}
 use Rattle.hyphenation_score.proofs.NoKeys.{none_at_all}
@@ -12,14 +12,14 @@ use Rattle.hyphenation_score.proofs.greatest.values.Goals as goal
 
 pub returns-clause-values : goal.returns-clause-values
 returns-clause-values g c =
-    let keys = keys_of c.args.dictionary.now in
-    let known = key_at c.patterns.result.now in
+    let keys = entries_of_keys c.args.dictionary.now in
+    let known = entries_of_key c.patterns.result.now in
     ok_same c.values_in.result (λ v. v.items) (values known c.as_bytes.result.now) (values keys c.args.word.now)
     (ap (values known) c.as_bytes.ensures.value ∙ values_same known keys c.args.word.now (λ text. sym (c.patterns.ensures.known text))) c.values_in.ensures.values
 
 pub returns-clause-places : goal.returns-clause-places
 returns-clause-places g c =
-    let keys = keys_of c.args.dictionary.now in
+    let keys = entries_of_keys c.args.dictionary.now in
     ok_then c.values_in.result (λ v. v.items ≡ values keys c.args.word.now) (λ v. length v.items ≡ length c.args.word.now - 1)
     (λ v is. ap length is ∙ length-values keys c.args.word.now) (returns-clause-values g c)
 
@@ -45,14 +45,14 @@ returns-clause-most g c =
 
 pub returns-clause-reported : goal.returns-clause-reported
 returns-clause-reported g c =
-    let keys = keys_of c.args.dictionary.now in
-    let known = key_at c.patterns.result.now in
+    let keys = entries_of_keys c.args.dictionary.now in
+    let known = entries_of_key c.patterns.result.now in
     let same = ap (λ w. occurrences known (frame w)) c.as_bytes.ensures.value ∙ occurrences_same known keys (frame c.args.word.now) (λ text. sym (c.patterns.ensures.known text)) in
     rw (← same) c.values_in.ensures.reported
 
 pub returns-clause-visited : goal.returns-clause-visited
 returns-clause-visited g c =
-    let keys = keys_of c.args.dictionary.now in
-    let known = key_at c.patterns.result.now in
+    let keys = entries_of_keys c.args.dictionary.now in
+    let known = entries_of_key c.patterns.result.now in
     let same = ap (λ w. occurrences known (frame w)) c.as_bytes.ensures.value ∙ occurrences_same known keys (frame c.args.word.now) (λ text. sym (c.patterns.ensures.known text)) in
     rw (← same) c.values_in.ensures.visited

@@ -1,6 +1,6 @@
 use Rattle.std.proofs.Common.{ap, ◌∙◌}
 use Rattle.std.proofs.lemmas.Option.{IfSome_then}
-use Rattle.hyphenation_commons.specs.Break.{plain}
+use Rattle.hyphenation_commons.specs.Break.{plain_break}
 use Rattle.hyphenation.specs.Opportunities.{no_change, rules_of, all_breaks_of}
 use Rattle.linefill.specs.Lines.{lines_by}
 use Rattle.dictionary_text.specs.Canonical.{with_line_feeds}
@@ -11,5 +11,5 @@ returns-clause-lines g c =
     let columns = c.args.columns in
     let given = c.in_ok-dictionary.dictionary in
     IfSome_then (g.D.Read.remaining c.args.reader.now) c.in_ok-dictionary.ensures.bytes (λ bytes loaded. IfSome_then (g.I.Read.remaining c.args.input.now) c.in_ok-text.ensures.read (λ text read.
-    c.in_ok-filled.ensures ∙ ap (λ t. with_line_feeds (lines_by (all_breaks_of (rules_of no_change plain given)) t columns)) (c.deref.ensures ∙ read)
-    ∙ ap (λ d. with_line_feeds (lines_by (all_breaks_of (rules_of no_change plain d)) text columns)) loaded.1))
+    c.in_ok-filled.ensures ∙ ap (λ t. with_line_feeds (lines_by (all_breaks_of (rules_of no_change plain_break given)) t columns)) (c.deref.ensures ∙ read)
+    ∙ ap (λ d. with_line_feeds (lines_by (all_breaks_of (rules_of no_change plain_break d)) text columns)) loaded.1))

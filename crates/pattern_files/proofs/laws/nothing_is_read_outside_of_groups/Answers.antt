@@ -1,5 +1,4 @@
 use Rattle.std.proofs.Common.{◌≡◌, ◌∙◌, ap, List, ℕ, fold, []}
-use Rattle.std.specs.Prelude.{codes}
 use Rattle.pattern_files.specs.Groups.{Found, Piece, pieces_of, with_piece, nothing_found}
 use Rattle.pattern_files.specs.TexFiles.{IsOutside}
 use Rattle.pattern_files.specs.declared.group.Place.TheVariants.{Outside}

@@ -1,5 +1,5 @@
-use Rattle.std.proofs.Common.{◌∙◌, ap, List, []}
-use Rattle.pattern_files.specs.Groups.{Piece, plain_words, pieces_of}
+use Rattle.std.proofs.Common.{◌∙◌, ap, List}
+use Rattle.pattern_files.specs.Groups.{Piece, pieces_of}
 use Rattle.pattern_files.proofs.Lexing.{pieces-lex}
 use Rattle.pattern_files.proofs.Grouping.{plain-picked, picked}
 use Rattle.pattern_files.proofs.Between.{words-inside}

@@ -2,21 +2,21 @@ use Rattle.std.proofs.Common.{◌≡◌, ◌∙◌, if◌then◌else◌, ℕ, Bo
 use Rattle.std.specs.Prelude.{IsUtf8}
 use Rattle.std.specs.Str.{is_utf8}
 use Rattle.std.proofs.lemmas.Str.{IsUtf8-from_is_utf8, is_utf8-from_IsUtf8}
-use Rattle.hyphenation.specs.Folding.{fold}
+use Rattle.hyphenation.specs.Folding.{fold_case}
 use Rattle.pattern_files.specs.Spelling.{folded_text}
 use Rattle.pattern_files.proofs.spelling.folded.Goals as goal
 
-good : (text same : List ℕ) → IsUtf8 text → same ≡ text → fold same ≡ folded_text text
-good text same u e = ap fold e ∙ sym (by (is_utf8 text) (is_utf8-from_IsUtf8 text u))
+good : (text same : List ℕ) → IsUtf8 text → same ≡ text → fold_case same ≡ folded_text text
+good text same u e = ap fold_case e ∙ sym (by (is_utf8 text) (is_utf8-from_IsUtf8 text u))
   where
-    by : (t : Bool) → t ≡ true → (if t then fold text else text) ≡ fold text
+    by : (t : Bool) → t ≡ true → (if t then fold_case text else text) ≡ fold_case text
     by true h = refl
     by false h = absurd cc
 
 kept : (text : List ℕ) → ¬ (IsUtf8 text) → text ≡ folded_text text
 kept text bad = sym (by (is_utf8 text) (IsUtf8-from_is_utf8 text))
   where
-    by : (t : Bool) → (t ≡ true → IsUtf8 text) → (if t then fold text else text) ≡ text
+    by : (t : Bool) → (t ≡ true → IsUtf8 text) → (if t then fold_case text else text) ≡ text
     by true h = absurd (bad (h refl))
     by false h = refl
 

@@ -1,17 +1,17 @@
 use Rattle.std.proofs.Common.{◌∙◌, sym, ap}
 use Rattle.std.specs.Str.{is_utf8}
-use Rattle.hyphenation_commons.specs.Break.{plain}
+use Rattle.hyphenation_commons.specs.Break.{plain_break}
 use Rattle.pattern_files.proofs.Words.{either, bad_breaks, good_breaks}
 use Rattle.pattern_files.proofs.spelling.read_breaks.Goals as goal
 
 pub returns-then-not-fits-clause-refused : goal.returns-then-not-fits-clause-refused
 returns-then-not-fits-clause-refused g c =
-    bad_breaks g.B.Break.meaning g.B.Listing.listing_of c.args.text.now c.deref.result.now c.deref-in-Some.result.now c.fits.result (λ place. either (g.met.B.Listing.kept (plain place)))
+    bad_breaks g.B.Break.meaning g.B.Listing.listing_of c.args.text.now c.deref.result.now c.deref-in-Some.result.now c.fits.result (λ place. either (g.met.B.Listing.kept (plain_break place)))
     (c.deref.ensures ∙ c.in-Some.ensures.some ∙ c.in_ok-word.ensures.letters) (c.deref-in-Some.ensures.value ∙ c.in_ok-word.ensures.breaks)
     (sym (ap is_utf8 c.in_ok-word.ensures.letters) ∙ c.in-Some.ensures.good) c.fits.ensures c.if-not-fits.true
 
 pub returns-else-not-fits-clause-good : goal.returns-else-not-fits-clause-good
 returns-else-not-fits-clause-good g c =
-    good_breaks g.B.Break.meaning g.B.Listing.listing_of c.args.text.now c.deref.result.now c.deref-in-Some.result.now c.fits.result (λ place. either (g.met.B.Listing.kept (plain place)))
+    good_breaks g.B.Break.meaning g.B.Listing.listing_of c.args.text.now c.deref.result.now c.deref-in-Some.result.now c.fits.result (λ place. either (g.met.B.Listing.kept (plain_break place)))
     (c.deref.ensures ∙ c.in-Some.ensures.some ∙ c.in_ok-word.ensures.letters) (c.deref-in-Some.ensures.value ∙ c.in_ok-word.ensures.breaks)
     (sym (ap is_utf8 c.in_ok-word.ensures.letters) ∙ c.in-Some.ensures.good) c.fits.ensures c.if-not-fits.false

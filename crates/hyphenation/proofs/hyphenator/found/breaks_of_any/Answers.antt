@@ -1,6 +1,6 @@
 use Rattle.std.proofs.Common.{◌≡◌, ℕ, List, map, length, IsUtf8, refl, sym, ap, subst, ◌∙◌, arith}
 use Rattle.std.specs.List.Sorted.{IsNonDecreasingBy}
-use Rattle.hyphenation_commons.specs.Break.{plain}
+use Rattle.hyphenation_commons.specs.Break.{plain_break}
 use Rattle.hyphenation.specs.declared.case_folding.Shift.{Shift}
 use Rattle.hyphenation.specs.Fitting.{kept_breaks}
 use Rattle.hyphenation.specs.Private.Fitting.{is_steady_by}
@@ -23,7 +23,7 @@ returns-in-Some g c =
     let found = rw c.in-Some.is at c.in_ok-places.ensures.found in
     let some = rw c.in-Some.is at c.in_ok-places.ensures.some in
     ok_then c.unchanged.result _ _
-    (λ v h. soft_breaks_are (rules_of g.F.Payload.Payload.change_of g.F.Listing.Break.meaning c.args.dictionary.now) word (map m v.items) (some.0 refl) (h ∙ ap (map plain) found))
+    (λ v h. soft_breaks_are (rules_of g.F.Payload.Payload.change_of g.F.Listing.Break.meaning c.args.dictionary.now) word (map m v.items) (some.0 refl) (h ∙ ap (map plain_break) found))
     c.unchanged.ensures
 
 -- Any other word.

@@ -1,7 +1,7 @@
 use Rattle.std.proofs.Common.{[], map, sym, ap, subst, ◌∙◌}
 use Rattle.hyphenation.specs.Fitting.{kept_breaks}
 use Rattle.hyphenation.specs.Private.Fitting.{is_steady_by}
-use Rattle.hyphenation.specs.Folding.{fold}
+use Rattle.hyphenation.specs.Folding.{fold_case}
 use Rattle.hyphenation.specs.Opportunities.{rules_of, opportunities, Ascending}
 use Rattle.hyphenation.proofs.SmallLetters.{small_fold, small_breaks}
 use Rattle.hyphenation_score.proofs.ValuesInOrder.{ok_then}
@@ -13,7 +13,7 @@ returns g c =
     let rules = rules_of g.F.Payload.Payload.change_of g.F.Listing.Break.meaning c.args.dictionary.now in
     let same = small_fold word c.utf8.word c.requires in
     let found = c.in_ok-found.ensures in
-    let ascend : Ascending (fold word) (opportunities rules (fold word)) = subst (λ t. Ascending t (opportunities rules t)) (sym same) (subst (Ascending word) found.breaks found.ascend) in
+    let ascend : Ascending (fold_case word) (opportunities rules (fold_case word)) = subst (λ t. Ascending t (opportunities rules t)) (sym same) (subst (Ascending word) found.breaks found.ascend) in
     ok_then c.kept.result _ _
     (λ v is. small_breaks rules word (map g.F.Break.meaning v.items) c.utf8.word c.requires ascend (is ∙ ap (kept_breaks (is_steady_by _ [])) found.breaks))
     c.kept.ensures

@@ -1,5 +1,5 @@
 use Rattle.std.proofs.Common.{◌∙◌, ap, map, option_copied}
-use Rattle.hyphenation_trie.specs.Trie.{key_at}
+use Rattle.hyphenation_trie.specs.Trie.{entries_of_key}
 use Rattle.hyphenation_score.specs.Scoring.{winners}
 use Rattle.hyphenation.proofs.BreaksFound.{won_allowed}
 use Rattle.hyphenation_score.proofs.ValuesInOrder.{ok_then}
@@ -7,7 +7,7 @@ use Rattle.hyphenation.proofs.hyphenator.won.won_breaks.Goals as goal
 
 pub returns : goal.returns
 returns g c =
-    let keys = key_at c.args.patterns.now in
+    let keys = entries_of_key c.args.patterns.now in
     ok_then c.won_within.result _ _
     (λ v h. h ∙ won_allowed g.F.Payload.Payload.change_of keys c.args.word.now c.args.bounds _ (ap (map option_copied) c.deref.ensures.value ∙ c.in_ok-winners.ensures.winners ∙ ap (winners keys) c.as_bytes.ensures.value))
     c.won_within.ensures

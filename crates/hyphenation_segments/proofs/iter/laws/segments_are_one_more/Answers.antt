@@ -1,6 +1,6 @@
-use Rattle.hyphenation_commons.specs.Break.{plain}
+use Rattle.hyphenation_commons.specs.Break.{plain_break}
 use Rattle.hyphenation_segments.proofs.SegmentSteps.{segments_count}
 use Rattle.hyphenation_segments.proofs.iter.laws.segments_are_one_more.Goals as goal
 
 pub returns : goal.returns
-returns c = λ text breaks. segments_count text (plain 0) breaks
+returns c = λ text breaks. segments_count text (plain_break 0) breaks

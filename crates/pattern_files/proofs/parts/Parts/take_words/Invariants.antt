@@ -1,10 +1,10 @@
 use Rattle.std.proofs.Common.{◌≡◌, map, drop}
-use Rattle.pattern_files.specs.Converting.{words_spelled, one_after_other, first_fault}
+use Rattle.pattern_files.specs.Converting.{words_spelt, one_after_other, first_fault}
 use Rattle.pattern_files.specs.Private.Read.{word_view}
 use Rattle.pattern_files.proofs.parts.Parts.take_words.Given as goal
 
 abbrev pub invariant-loop-word : goal.invariant-loop-word
 invariant-loop-word g l = record {
   fault : first_fault (map word_view l.words) ≡ first_fault (map word_view (drop l.word-index l.words));
-  taken : one_after_other l.self (words_spelled g.C.Payload.payload_of g.B.Listing.listing_of (map word_view (drop l.word-index l.words))) ≡ one_after_other l.initial.self (words_spelled g.C.Payload.payload_of g.B.Listing.listing_of (map word_view l.words));
+  taken : one_after_other l.self (words_spelt g.C.Payload.payload_of g.B.Listing.listing_of (map word_view (drop l.word-index l.words))) ≡ one_after_other l.initial.self (words_spelt g.C.Payload.payload_of g.B.Listing.listing_of (map word_view l.words));
 }

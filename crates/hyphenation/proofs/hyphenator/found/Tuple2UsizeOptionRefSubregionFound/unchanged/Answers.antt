@@ -1,6 +1,6 @@
 use Rattle.std.proofs.Common.{ℕ, None, Option, Bor, map, take, ap, ◌∙◌, refl}
 use Rattle.std.proofs.lemmas.List.{take_all}
-use Rattle.hyphenation_commons.specs.Break.{Change, plain}
+use Rattle.hyphenation_commons.specs.Break.{Change, plain_break}
 use Rattle.hyphenation.specs.Private.Opportunities.{lent_break}
 use Rattle.hyphenation.proofs.FittedBreaks.{made_plain}
 use Rattle.hyphenation.proofs.hyphenator.found.Tuple2UsizeOptionRefSubregionFound.unchanged.Goals as goal
@@ -11,4 +11,4 @@ made place = (place, None)
 pub returns : goal.returns
 returns c =
     let places = c.deref-place-items.result.now in
-    ap (map lent_break) c.loop-place.invariant ∙ made_plain lent_break made (take c.loop-place.place-index places) (λ p. refl) ∙ ap (map plain) (take_all c.loop-place.place-index places c.loop-place-test.false ∙ c.deref-place-items.ensures.value)
+    ap (map lent_break) c.loop-place.invariant ∙ made_plain lent_break made (take c.loop-place.place-index places) (λ p. refl) ∙ ap (map plain_break) (take_all c.loop-place.place-index places c.loop-place-test.false ∙ c.deref-place-items.ensures.value)

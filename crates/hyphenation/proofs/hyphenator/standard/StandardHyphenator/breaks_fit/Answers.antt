@@ -1,5 +1,5 @@
 use Rattle.std.proofs.Common.{subst}
-use Rattle.hyphenation_commons.specs.Break.{plain}
+use Rattle.hyphenation_commons.specs.Break.{plain_break}
 use Rattle.hyphenation_segments.specs.Fits.{Fits}
 use Rattle.hyphenation.specs.Opportunities.{no_change, Ascending}
 use Rattle.hyphenation.proofs.FittedBreaks.{breaks_fit, breaks_ascend}
@@ -9,9 +9,9 @@ use Rattle.hyphenation.proofs.hyphenator.standard.StandardHyphenator.breaks_fit.
 pub returns-clause-fit : goal.returns-clause-fit
 returns-clause-fit c = λ word u.
     let kept = c.invariant.ensures in
-    subst (Fits word) (fitted_alike c.args.self.now word kept u) (breaks_fit no_change plain c.args.self.now word kept u)
+    subst (Fits word) (fitted_alike c.args.self.now word kept u) (breaks_fit no_change plain_break c.args.self.now word kept u)
 
 pub returns-clause-ascend : goal.returns-clause-ascend
 returns-clause-ascend c = λ word u.
     let kept = c.invariant.ensures in
-    subst (Ascending word) (fitted_alike c.args.self.now word kept u) (breaks_ascend no_change plain c.args.self.now word kept u)
+    subst (Ascending word) (fitted_alike c.args.self.now word kept u) (breaks_ascend no_change plain_break c.args.self.now word kept u)
