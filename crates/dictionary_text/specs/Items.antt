@@ -77,9 +77,8 @@ entries_of_line version line =
 
 -- What a `p` line spells: its key with its entries.
 abbrev pub pattern_of_line : Version → List ℕ → Option (List ℕ × List (Entry (Option Change)))
-pattern_of_line version line = if is_pattern_line line then Some
-    (key_of_line version line, entries_of_line version line)
-    else None
+pattern_of_line version line =
+    if is_pattern_line line then Some (key_of_line version line, entries_of_line version line) else None
 
 -- What an `e` line spells: its word with its listed breaks.
 abbrev pub exception_of_line : List ℕ → Option (List ℕ × List Break)

@@ -75,8 +75,8 @@ fails form number line Value = is_pattern_line line && is_none (elements_of form
 fails form number line Pattern = is_pattern_line line && two_values false (pattern_elements form.version line)
 fails form number line NoLetters = is_pattern_line line && list_all (λ b. b == 46) (key_of_line form.version line)
 fails form number line Number = is_item_line line && has_bad_number (later_tokens_of line)
-fails form number line Place = is_item_line line && has_bad_place (counted_text form.version line)
-    (later_tokens_of line)
+fails form number line Place =
+    is_item_line line && has_bad_place (counted_text form.version line) (later_tokens_of line)
 fails form number line Change =
     is_item_line line
     && has_bad_change form (is_pattern_line line) (pattern_elements form.version line) (counted_text form.version line)
@@ -93,8 +93,8 @@ own_cause form number line =
 
 -- An earlier line spells the text.
 abbrev pub stands_in : (List ℕ → Option (List ℕ)) → List (List ℕ) → List ℕ → Bool
-stands_in spells earlier text = list_any (λ line. option_map_or (λ other. is_same other text)
-    (spells line) false) earlier
+stands_in spells earlier text =
+    list_any (λ line. option_map_or (λ other. is_same other text) (spells line) false) earlier
 
 -- The last two tests: the key or the word stands in an earlier line.
 abbrev pub repetition : Version → List (List ℕ) → List ℕ → Option Cause

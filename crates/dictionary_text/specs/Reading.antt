@@ -17,8 +17,8 @@ abbrev pub map_of_lines : {X : Type 0} → (List ℕ → Option (List ℕ × X))
 map_of_lines spells lines = finite.from_entries (filter_map spells lines)
 
 -- The same said of each text in another way.
-abbrev pub spelling_as : {X Y : Type 0} → (X → Y) → (List ℕ → Option (List ℕ × List X)) → List ℕ → Option (List ℕ
-    × List Y)
+abbrev pub spelling_as : {X Y : Type 0} → (X → Y) → (List ℕ → Option (List ℕ × List X))
+    → List ℕ → Option (List ℕ × List Y)
 spelling_as say spells line = option_map (λ x. (x.0, map say x.1)) (spells line)
 
 -- An entry as a dictionary of one kind holds it.
