@@ -1,8 +1,11 @@
-//! What no clause says of the whole: words scored and broken, long ones and awkward ones among them, by tests.
+//! What no clause says of the whole: words scored and broken, long ones and awkward ones among them, by tests; and
+//! beside what a second implementation answers, for dictionaries made by chance.
 #![tactic(auto)]
 
 #[cfg(test)]
 mod awkward;
+#[cfg(test)]
+mod by_definition;
 #[cfg(test)]
 mod changed_scores;
 #[cfg(test)]

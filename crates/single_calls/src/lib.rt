@@ -1,7 +1,9 @@
-//! Tests of single public calls of the libraries. They stand apart from the crates that have the calls, since a crate
-//! with tests is proved twice.
+//! Tests of single public calls of the libraries, of the programs' commands, and of the callers in `uses`. They stand
+//! apart from the crates that have the calls, since a crate with tests is proved twice.
 #![tactic(auto)]
 
+#[cfg(test)]
+mod callers;
 #[cfg(test)]
 mod dictionary_texts;
 #[cfg(test)]
@@ -14,6 +16,8 @@ mod folding;
 mod lines;
 #[cfg(test)]
 mod long_patterns;
+#[cfg(test)]
+mod programs;
 #[cfg(test)]
 mod readme;
 #[cfg(test)]

@@ -61,25 +61,3 @@ pub fn discretionaries<'t, B: Break>(
     }
     Ok(all)
 }
-
-#[cfg(test)]
-mod tests {
-    use super::discretionaries;
-    use hyphenation::extended::Extended;
-    use hyphenation::{Hyphenator, Load};
-    use std::test::Fail;
-
-    #[test]
-    fn changed_letters_are_set_at_a_break_alone(rt: HostRuntime) -> Result<(), Fail> {
-        let mut text =
-            &b"hyphenation 1 extended\nlanguage hu\nminima 2 2\ne asszonnyal 2,1,2,2,szsz\n"[..];
-        let dictionary = Extended::any_from_reader(rt.alloc(), &mut text)?;
-        let word = dictionary.hyphenate(rt.alloc(), "asszonnyal")?;
-        let all = discretionaries(rt.alloc(), &word, "-")?;
-        assert_eq!(rt; all.len(), 1);
-        assert_eq!(rt; all[0].before.as_str(), "sz-");
-        assert_eq!(rt; all[0].after.as_str(), "sz");
-        assert_eq!(rt; all[0].unbroken, "ssz");
-        Ok(())
-    }
-}

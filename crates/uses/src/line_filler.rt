@@ -52,22 +52,3 @@ pub fn break_to_fit<'h, 't, H: Hyphenator<'h, Opportunity = usize>>(
         None => Ok(None),
     }
 }
-
-#[cfg(test)]
-mod tests {
-    use super::break_to_fit;
-    use hyphenation::{Load, Standard};
-    use std::test::Fail;
-
-    #[test]
-    fn the_last_break_with_room_is_taken(rt: HostRuntime) -> Result<(), Fail> {
-        let mut text =
-            &b"hyphenation 1 standard\nlanguage en-us\nminima 2 3\ne hyphenation 2 6 7\n"[..];
-        let dictionary = Standard::any_from_reader(rt.alloc(), &mut text)?;
-        let found = break_to_fit(rt.alloc(), &dictionary, "Hyphenation", 7)?;
-        assert!(rt; found == Some(("Hyphen", "ation")));
-        let none = break_to_fit(rt.alloc(), &dictionary, "Hyphenation", 2)?;
-        assert!(rt; none.is_none());
-        Ok(())
-    }
-}

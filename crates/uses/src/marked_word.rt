@@ -25,26 +25,3 @@ pub fn marked_word<'h, H: Hyphenator<'h>>(
     push_marked(&mut marked, &word, mark)?;
     Ok(marked)
 }
-
-#[cfg(test)]
-mod tests {
-    use super::marked_word;
-    use hyphenation::extended::Extended;
-    use hyphenation::{Load, Standard};
-    use std::test::Fail;
-
-    #[test]
-    fn breaks_of_both_kinds_are_marked(rt: HostRuntime) -> Result<(), Fail> {
-        let mut text =
-            &b"hyphenation 1 standard\nlanguage en-us\nminima 2 3\ne hyphenation 2 6 7\n"[..];
-        let english = Standard::any_from_reader(rt.alloc(), &mut text)?;
-        let word = marked_word(rt.alloc(), &english, "Hyphenation", "-")?;
-        assert_eq!(rt; word.as_str(), "Hy-phen-a-tion");
-        let mut text =
-            &b"hyphenation 1 extended\nlanguage hu\nminima 2 2\ne asszonnyal 2,1,2,2,szsz 6,1,2,2,nyny\n"[..];
-        let hungarian = Extended::any_from_reader(rt.alloc(), &mut text)?;
-        let word = marked_word(rt.alloc(), &hungarian, "asszonnyal", "=")?;
-        assert_eq!(rt; word.as_str(), "asz=szony=nyal");
-        Ok(())
-    }
-}

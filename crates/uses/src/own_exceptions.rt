@@ -50,26 +50,3 @@ pub fn list_and_write<W: Write>(
     dictionary.to_writer(alloc, writer)?;
     Ok(true)
 }
-
-#[cfg(test)]
-mod tests {
-    use super::list_and_write;
-    use hyphenation::{Load, Standard};
-    use std::test::Fail;
-
-    #[test]
-    fn a_word_is_listed_and_kept(rt: HostRuntime) -> std::result::Result<(), Fail> {
-        let alloc = rt.alloc();
-        let mut text = &b"hyphenation 1 standard\nlanguage en-us\nminima 2 3\np a1b\n"[..];
-        let mut dictionary = Standard::any_from_reader(alloc, &mut text)?;
-        let mut written = Vec::new(alloc);
-        let inside = Vec::from_slice(alloc, &[1])?;
-        assert!(rt; !list_and_write(alloc, &mut dictionary, "é", inside, &mut written)?);
-        assert!(rt; written.is_empty());
-        let places = Vec::from_slice(alloc, &[2])?;
-        assert!(rt; list_and_write(alloc, &mut dictionary, "table", places, &mut written)?);
-        let wanted = b"hyphenation 1 standard\nlanguage en-us\nminima 2 3\np a1b\ne table 2\n";
-        assert_eq!(rt; written.as_slice(), wanted.as_slice());
-        Ok(())
-    }
-}

@@ -63,20 +63,3 @@ pub fn fill_paragraphs<'h, H: Hyphenator<'h, Opportunity = usize>>(
     }
     Ok(page)
 }
-
-#[cfg(test)]
-mod tests {
-    use super::fill_paragraphs;
-    use hyphenation::{Load, Standard};
-    use std::test::Fail;
-
-    #[test]
-    fn each_paragraph_is_filled_by_itself(rt: HostRuntime) -> Result<(), Fail> {
-        let mut text =
-            &b"hyphenation 1 standard\nlanguage en-us\nminima 2 3\ne noble 2\ne accents 2\n"[..];
-        let dictionary = Standard::any_from_reader(rt.alloc(), &mut text)?;
-        let page = fill_paragraphs(rt.alloc(), &dictionary, "I know\r\n\nnoble accents", 10)?;
-        assert_eq!(rt; page.as_str(), "I know\n\nnoble ac-\ncents\n");
-        Ok(())
-    }
-}

@@ -47,22 +47,3 @@ pub fn with_soft_hyphens<'h, H: Hyphenator<'h, Opportunity = usize>>(
     }
     Ok(page)
 }
-
-#[cfg(test)]
-mod tests {
-    use super::with_soft_hyphens;
-    use hyphenation::{Load, Standard};
-    use std::test::Fail;
-
-    #[test]
-    fn words_get_soft_hyphens_once(rt: HostRuntime) -> Result<(), Fail> {
-        let mut text =
-            &b"hyphenation 1 standard\nlanguage en-us\nminima 2 3\ne hyphenation 2 6 7\n"[..];
-        let dictionary = Standard::any_from_reader(rt.alloc(), &mut text)?;
-        let page = with_soft_hyphens(rt.alloc(), &dictionary, "On hyphenation.")?;
-        assert_eq!(rt; page.as_str(), "On hy\u{ad}phen\u{ad}a\u{ad}tion.");
-        let again = with_soft_hyphens(rt.alloc(), &dictionary, &page)?;
-        assert_eq!(rt; again.as_str(), page.as_str());
-        Ok(())
-    }
-}

@@ -1,9 +1,8 @@
-//! The program's messages and statuses.
+//! The words, the messages and the statuses of the program `hyphenate-convert`: files of hyphenation patterns into a
+//! dictionary text.
 
-#[cfg(test)]
-mod tests;
+mod request;
 
-use crate::request::{Misfit, Request, Sort, form_of};
 use hyphenation::engine::Kind;
 use hyphenation::load::{Error, Load};
 use hyphenation_commons::dictionary::{Listing, Payload};
@@ -14,12 +13,14 @@ use pattern_files::group::{File, Form};
 use pattern_files::libreoffice::convert_dic;
 use pattern_files::notes::Note;
 use pattern_files::told::minima_for;
+use request::{Misfit, Request, Sort, form_of};
 use std::alloc::{AllocError, Global};
 use std::fs::Files;
 use std::io::{ErrorKind, Read, Write};
 use std::{fs, io};
 
-const USAGE: &str =
+/// What is said of words of no form.
+pub const USAGE: &str =
     "usage: hyphenate-convert KIND CODE LEFT RIGHT FILE..\n       FILE: one .dic; or .tex, .pat.txt and .hyp.txt. LEFT and RIGHT: 0 to 255, or - for what the file says\n";
 
 /// Why nothing, or not all, was written.

@@ -1,21 +1,23 @@
-//! One call of the library, chosen by its name, whose requests for memory are those between two reads of standard
-//! input.
+//! A program for scripts: it makes one call of the library, chosen by its name, or does work that is measured.
 //!
-//! It is for the script `tests/refused-memory`, which has each of these requests refused in turn. The dictionary and
-//! all else that the call needs is there before the first read; what the call answered, and what it left, is written
-//! after the second one, on one line, which begins with `no memory` where the call said so.
+//! The requests for memory of the call are those between two reads of standard input: `tests/refused-memory` has each
+//! of them refused in turn. The dictionary and all else that the call needs is there before the first read; what the
+//! call answered, and what it left, is written after the second one, on one line, which begins with `no memory` where
+//! the call said so. After the word `measure` stand the words of a task, whose instructions `bench/measure` counts.
 #![tactic(auto)]
 
 mod asked;
 mod changed;
+mod measured;
 mod quiet;
 mod texts;
 mod whole;
 
+use commands::with_words;
 use std::alloc::Global;
-use std::io::{ErrorKind, Read, Write};
+use std::io;
+use std::io::{Read, Write};
 use std::process::ExitCode;
-use std::{env, io};
 
 /// Reads a byte: the first such read begins the part that counts, and the second one ends it.
 fn step<G: Read>(gate: &mut G) {
@@ -45,16 +47,22 @@ fn call<G: Read, O: Write>(
     }
 }
 
-fn call_of_words(rt: &HostRuntime) -> io::Result<()> {
-    match env::args(rt)?.skip(1).next() {
-        Some(name) => call(rt.alloc(), &name, &mut rt.stdin(), &mut rt.stdout()),
-        None => Err(io::Error::from(ErrorKind::InvalidInput)),
+/// Does what the words ask for; the status.
+fn answer(rt: &HostRuntime, words: &[&str]) -> io::Result<u8> {
+    match words {
+        ["measure", task @ ..] => measured::measure(rt, task),
+        [name] => {
+            call(rt.alloc(), name, &mut rt.stdin(), &mut rt.stdout())?;
+            Ok(0)
+        }
+        _ => Ok(2),
     }
 }
 
 fn main(rt: HostRuntime) -> ExitCode {
-    match call_of_words(&rt) {
-        Ok(()) => ExitCode::from(0),
-        Err(_) => ExitCode::from(1),
+    let answered = with_words(&rt, |words| answer(&rt, words));
+    match answered {
+        Ok(Ok(status)) => ExitCode::from(status),
+        _ => ExitCode::from(1),
     }
 }

@@ -1,11 +1,11 @@
-use super::*;
-use std::alloc::AllocError;
-use std::fmt::Display;
-use std::test::Fail;
-use std::{env, process};
+//! What `hyphenate` writes and says.
 
-const FIRKIN: &str =
-    "hyphenation 1 standard\nlanguage en-gb\nminima 2 3\np .fi2\np i2r\np r2k\np r5kin\np k1in\np k2in.\n";
+use answers::{DOUBLED, FIRKIN, holds};
+use commands::hyphenate::{answer, report_words};
+use std::alloc::{AllocError, Global};
+use std::io::{ErrorKind, Read, Write};
+use std::test::Fail;
+use std::{env, fs, io, process};
 
 /// What the program writes and says for its words, and its status.
 #[derive(Drop)]
@@ -67,16 +67,6 @@ fn file(rt: &HostRuntime, name: &str, bytes: &[u8]) -> Result<String, Fail> {
     let path = format!(in rt.alloc(); "{}/hyphenate-test-{id}-{name}", folder.as_path().display())?;
     fs::write(rt, path.as_str(), bytes)?;
     Ok(path)
-}
-
-/// Fails, and names the case, where something does not hold. A test that ends so is proved sooner than one with an
-/// assertion of the kit's.
-fn holds<C: Display + Drop>(is_so: bool, case: C) -> Result<(), Fail> {
-    if is_so {
-        Ok(())
-    } else {
-        Err(Fail::new(format_args!("it does not hold: {case}")))
-    }
 }
 
 /// Fails where the program does not answer these words so.
@@ -489,9 +479,6 @@ fn a_text_that_cannot_be_written_is_told(rt: HostRuntime) -> Result<(), Fail> {
     tells_the_output(&rt, "unwritten", FIRKIN, &before, &["-"], b"firkin")
 }
 
-const DOUBLED: &str =
-    "hyphenation 1 extended\nlanguage hu\nminima 2 2\ne asszonnyal 2,1,2,2,szsz 6,1,2,2,nyny\n";
-
 #[test]
 fn a_text_is_hyphenated_by_an_extended_dictionary(rt: HostRuntime) -> Result<(), Fail> {
     let text = b"Az asszonnyal.\r\n";
@@ -609,13 +596,6 @@ fn a_text_is_not_filled_by_another_language(rt: HostRuntime) -> Result<(), Fail>
     Ok(())
 }
 
-/// Whether a run's want of memory is told, with its status.
-fn is_memory_told(alloc: Global) -> bool {
-    let mut faults: Vec<u8> = Vec::new(alloc);
-    let status = report("path", &RunError::Memory, &mut faults);
-    status == 6 && faults.as_slice() == b"hyphenate: no memory\n".as_slice()
-}
-
 /// The status of words that can't be had for that fault.
 fn status_of_words(alloc: Global, kind: ErrorKind) -> u8 {
     let mut faults: Vec<u8> = Vec::new(alloc);
@@ -623,15 +603,7 @@ fn status_of_words(alloc: Global, kind: ErrorKind) -> u8 {
 }
 
 #[test]
-fn want_of_memory_and_words_that_are_not_utf8_have_their_status(
-    rt: HostRuntime,
-) -> Result<(), Fail> {
-    holds(is_memory_told(rt.alloc()), "a run's want of memory is told")?;
-    let opening = opening_fault(io::Error::from(ErrorKind::OutOfMemory));
-    holds(
-        matches!(opening, RunError::Memory),
-        "an opening's want of memory is a run's",
-    )?;
+fn words_that_cannot_be_had_have_their_status(rt: HostRuntime) -> Result<(), Fail> {
     holds(
         status_of_words(rt.alloc(), ErrorKind::OutOfMemory) == 6,
         "words that want memory have the status 6",

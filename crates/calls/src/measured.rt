@@ -3,7 +3,6 @@
 //! It has no clock: `bench/measure` runs it and counts its instructions. Each task does all that the one before it in
 //! `Task` does, but that scoring and hyphenating stand side by side, so what a task takes is the difference of two
 //! runs.
-#![tactic(auto)]
 
 use hyphenation::engine::Kind;
 use hyphenation::extended::Extended;
@@ -11,10 +10,10 @@ use hyphenation::load::{Error, Result};
 use hyphenation::score::Score;
 use hyphenation::{Hyphenator, Load, Standard};
 use std::alloc::Global;
-use std::process::ExitCode;
-use std::{env, fs, io};
+use std::{fs, io};
 
-const USAGE: &str = "usage: bench_words load|words|score|hyphenate|memory KIND DICTIONARY WORDS\n";
+const USAGE: &str =
+    "usage: calls measure load|words|score|hyphenate|memory KIND DICTIONARY WORDS\n";
 
 /// What is done with a loaded dictionary, and with a list of words, one a line.
 #[derive(Clone, Copy)]
@@ -110,8 +109,8 @@ fn measured(rt: &HostRuntime, task: Task, kind: Kind, path: &str, list: &str) ->
     }
 }
 
-/// Does what the words ask for, and writes the number that it counts.
-fn answer(rt: &HostRuntime, words: &[&str]) -> io::Result<u8> {
+/// Does the task that the words after `measure` name, and writes the number that it counts; the status.
+pub fn measure(rt: &HostRuntime, words: &[&str]) -> io::Result<u8> {
     let [task, kind, path, list] = words else {
         eprint!(rt; "{USAGE}")?;
         return Ok(2);
@@ -126,19 +125,8 @@ fn answer(rt: &HostRuntime, words: &[&str]) -> io::Result<u8> {
             Ok(0)
         }
         Err(error) => {
-            eprintln!(rt; "bench_words: {error}")?;
+            eprintln!(rt; "calls: {error}")?;
             Ok(3)
         }
     }
-}
-
-/// The words after the program's name are taken, and answered.
-fn answered(rt: &HostRuntime) -> io::Result<u8> {
-    let words: Vec<String> = env::args(rt)?.skip(1).collect(rt.alloc())?;
-    let words: Vec<&str> = words.iter().map(|word| word.as_str()).collect(rt.alloc())?;
-    answer(rt, &words)
-}
-
-fn main(rt: HostRuntime) -> ExitCode {
-    ExitCode::from(answered(&rt).unwrap_or(5))
 }

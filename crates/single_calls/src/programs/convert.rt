@@ -1,7 +1,9 @@
-use super::*;
-use std::fmt::Display;
+//! What `hyphenate-convert` writes and says.
+
+use answers::holds;
+use commands::convert::{USAGE, answer};
 use std::test::Fail;
-use std::{env, process};
+use std::{env, fs, process};
 
 /// What the program writes and says for its words, and its status.
 #[derive(Drop)]
@@ -9,16 +11,6 @@ struct Answer {
     status: u8,
     output: Vec<u8>,
     faults: Vec<u8>,
-}
-
-/// Fails, and names the case, where something does not hold. A test that ends so is proved sooner than one with an
-/// assertion of the kit's.
-fn holds<C: Display + Drop>(is_so: bool, case: C) -> Result<(), Fail> {
-    if is_so {
-        Ok(())
-    } else {
-        Err(Fail::new(format_args!("it does not hold: {case}")))
-    }
 }
 
 fn answer_to(rt: &HostRuntime, words: &[&str]) -> Answer {

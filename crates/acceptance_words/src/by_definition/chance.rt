@@ -1,6 +1,6 @@
 //! Dictionaries and words by chance, the same at each run.
 
-use crate::book::{Book, Change, Cut, Listing, Pattern, Value};
+use crate::by_definition::book::{Book, Change, Cut, Listing, Pattern, Value};
 use std::alloc::{AllocError, Global};
 
 fn capital(c: char) -> char {

@@ -1,7 +1,7 @@
 //! The library beside the second hand.
 
-use crate::book::{Book, Cut};
-use crate::chance::Dice;
+use crate::by_definition::book::{Book, Cut};
+use crate::by_definition::chance::Dice;
 use hyphenation::extended::{Extended, Subregion};
 use hyphenation::hyphenator::Break;
 use hyphenation::load::Load;

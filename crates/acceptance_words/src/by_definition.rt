@@ -1,10 +1,6 @@
 //! A second hand: words scored and hyphenated in the definitions' plain words, every key compared at every place,
 //! beside what the library answers, over dictionaries and words made by chance.
-#![tactic(auto)]
 
-#[cfg(test)]
 mod book;
-#[cfg(test)]
 mod chance;
-#[cfg(test)]
 mod compared;

@@ -1,0 +1,20 @@
+//! What the programs `hyphenate`, `hyphenate-canonical` and `hyphenate-convert` do with their words: each has a module
+//! with its messages and its statuses, and `main` of the program hands its words to `answer` there.
+#![tactic(auto)]
+
+pub mod canonical;
+pub mod convert;
+pub mod hyphenate;
+
+use std::env::Env;
+use std::{env, io};
+
+/// What a call makes of the words after the program's name; or that they can't be had, since one is not UTF-8, or
+/// memory is wanting.
+pub fn with_words<R: Env + Alloc, T, F: FnOnce(&[&str]) -> T>(rt: &R, call: F) -> io::Result<T>
+    requires { F.IsAlwaysCallable call }
+{
+    let words: Vec<String<R::A>, R::A> = env::args(rt)?.skip(1).collect(rt.alloc())?;
+    let words: Vec<&str, R::A> = words.iter().map(|word| word.as_str()).collect(rt.alloc())?;
+    Ok(call(&words))
+}
