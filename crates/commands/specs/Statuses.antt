@@ -1,13 +1,6 @@
--- The statuses that the program `hyphenate` ends with.
-use Rattle.std.specs.Prelude.{ℕ}
-use Rattle.hyphenation.specs.declared.engine.RunError.{RunError}
-use Rattle.hyphenation.specs.declared.engine.RunError.TheVariants.{Dictionary, Edit, TextNotUtf8, Input, Output, Memory}
+-- The statuses that the programs end with.
+use Rattle.std.specs.Prelude.{◌≢◌, ℕ}
 
--- The status of a run that failed so.
-abbrev pub status_of : RunError → ℕ
-status_of (Dictionary e) = 3
-status_of (Edit number) = 2
-status_of TextNotUtf8 = 4
-status_of (Input e) = 5
-status_of (Output e) = 5
-status_of Memory = 6
+-- This holds where a program ends with a status other than 0, for done, and 5, for a fault of reading or writing.
+abbrev pub BeforeOutput : ℕ → Type 0 → Type 0
+BeforeOutput status P = status ≢ 0 → status ≢ 5 → P

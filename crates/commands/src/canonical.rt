@@ -1,9 +1,13 @@
 //! The words, the messages and the statuses of the program `hyphenate-canonical`: a dictionary text, of the kind that
 //! the one word names, is put in order.
 
-ghost use Rattle.std.specs.Prelude.{◌≡◌, None, OnOk, IfErr, IfSome};
+ghost use Rattle.std.specs.Prelude.{◌≡◌, None, OnOk, IfErr, IfSome, IsSome};
 ghost use Rattle.std.specs.Io.KnownBytes.{Appends};
+ghost use Rattle.dictionary_text.specs.Judging.{refusal_of};
 ghost use Rattle.hyphenation.specs.Load.{Tells};
+ghost use Rattle.commands.specs.Canonical.{kind_of_words, reordered};
+ghost use Rattle.commands.specs.Statuses.{BeforeOutput};
+ghost use Rattle.commands.specs.Private.Statuses.{status_of_error, UnlessFault};
 
 use hyphenation::Standard;
 use hyphenation::engine::Kind;
@@ -15,6 +19,16 @@ use std::io::{ErrorKind, Read, Write};
 
 /// What is said of words of no form.
 pub const USAGE: &str = "usage: hyphenate-canonical KIND\n";
+
+/// The kind that the words name.
+fn kind_of(words: &[&str]) -> Option<Kind>
+    ensures { result ≡ kind_of_words words.now }
+{
+    match words {
+        [name] => Kind::from_name(name),
+        _ => None,
+    }
+}
 
 /// Reads a dictionary text, and writes the canonical text of its dictionary.
 fn put_in_order<D: Load + Drop, R: Read, W: Write>(
@@ -28,41 +42,71 @@ fn put_in_order<D: Load + Drop, R: Read, W: Write>(
         × Appends (W.contents output.old) (W.contents output.new) (D.canonical dictionary))) }
     ensures refused { IfErr result (λ e. IfSome (R.remaining input.old) (λ bytes.
         Tells (D.refusal bytes) (Unit {0}) (λ _ _. ⊥) e)) }
+    ensures untouched { UnlessFault result (output.new ≡ output.old) }
 {
     let dictionary = D::any_from_reader(alloc, input)?;
     dictionary.to_writer(alloc, output)
 }
 
+/// The same by the kind of the text.
+fn put_kind_in_order<R: Read, W: Write>(
+    alloc: Global,
+    kind: Kind,
+    input: &mut R,
+    output: &mut W,
+) -> Result<()>
+    ensures accepted { OnOk result (IfSome (R.remaining input.old) (λ bytes. refusal_of kind bytes ≡ None)) }
+    ensures written { OnOk result (IfSome (R.remaining input.old) (λ bytes.
+        Appends (W.contents output.old) (W.contents output.new) (reordered kind bytes))) }
+    ensures refused { IfErr result (λ e. IfSome (R.remaining input.old) (λ bytes.
+        Tells (refusal_of kind bytes) (Unit {0}) (λ _ _. ⊥) e)) }
+    ensures untouched { UnlessFault result (output.new ≡ output.old) }
+{
+    match kind {
+        Kind::Standard => put_in_order::<Standard, R, W>(alloc, input, output),
+        Kind::Extended => put_in_order::<Extended, R, W>(alloc, input, output),
+    }
+}
+
+/// Writes why nothing, or not all, was written, and gives the status. That the message can't be written changes
+/// nothing.
+fn report<E: Write>(error: &Error, faults: &mut E) -> u8
+    ensures { result ≡ status_of_error error.now }
+{
+    let _ = writeln!(faults, "hyphenate-canonical: {error}");
+    match error {
+        Error::IO(_) => 5,
+        Error::Memory(_) => 6,
+        _ => 3,
+    }
+}
+
 /// Does what the words ask for, and gives the status to end with: 0 where it is done; 2 where the words are not one
 /// kind; 3 where the text is refused; 5 where it can't be read, or the result can't be written; 6 where memory is
-/// wanting.
+/// wanting. What is wrong is written to `faults`. The output is as it was but where the status is 0 or 5.
 pub fn answer<R: Read, W: Write, E: Write>(
     alloc: Global,
     words: &[&str],
     input: &mut R,
     output: &mut W,
     faults: &mut E,
-) -> u8 {
-    let kind = match words {
-        [name] => Kind::from_name(name),
-        _ => None,
+) -> u8
+    ensures usage { kind_of_words words.now ≡ None → (result ≡ 2) × (input.new ≡ input.old) }
+    ensures accepted { result ≡ 0 → IfSome (kind_of_words words.now) (λ kind. IfSome (R.remaining input.old) (λ bytes.
+        refusal_of kind bytes ≡ None)) }
+    ensures written { result ≡ 0 → IfSome (kind_of_words words.now) (λ kind. IfSome (R.remaining input.old) (λ bytes.
+        Appends (W.contents output.old) (W.contents output.new) (reordered kind bytes))) }
+    ensures refused { result ≡ 3 → IfSome (kind_of_words words.now) (λ kind. IfSome (R.remaining input.old) (λ bytes.
+        IsSome (refusal_of kind bytes))) }
+    ensures untouched { BeforeOutput result (output.new ≡ output.old) }
+{
+    let Some(kind) = kind_of(words) else {
+        let _ = faults.write_all(USAGE.as_bytes());
+        return 2;
     };
-    let end = match kind {
-        Some(Kind::Standard) => put_in_order::<Standard, R, W>(alloc, input, output),
-        Some(Kind::Extended) => put_in_order::<Extended, R, W>(alloc, input, output),
-        None => {
-            let _ = faults.write_all(USAGE.as_bytes());
-            return 2;
-        }
-    };
-    let Err(error) = end else {
-        return 0;
-    };
-    let _ = writeln!(faults, "hyphenate-canonical: {error}");
-    match error {
-        Error::IO(_) => 5,
-        Error::Memory(_) => 6,
-        _ => 3,
+    match put_kind_in_order(alloc, kind, input, output) {
+        Ok(()) => 0,
+        Err(error) => report(&error, faults),
     }
 }
 

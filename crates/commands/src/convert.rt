@@ -1,6 +1,9 @@
 //! The words, the messages and the statuses of the program `hyphenate-convert`: files of hyphenation patterns into a
 //! dictionary text.
 
+ghost use Rattle.std.specs.Prelude.{◌≡◌, ◌⊎◌, IfErr};
+ghost use Rattle.commands.specs.Statuses.{BeforeOutput};
+
 mod request;
 
 use hyphenation::engine::Kind;
@@ -134,11 +137,18 @@ fn convert_files<C: Payload, B: Listing>(
     }
 }
 
-/// What went wrong in the writing.
-fn failure_of(error: Error) -> Failure {
-    match error {
-        Error::Memory(_) => Failure::Memory,
-        _ => Failure::Writing,
+/// Writes a dictionary as its text, which is whole before any of it is written.
+fn write_text<D: Load, O: Write>(
+    alloc: Global,
+    dictionary: &D,
+    output: &mut O,
+) -> Result<(), Failure>
+    ensures { IfErr result (λ failure. (failure ≡ Failure.Writing) ⊎ (output.new ≡ output.old)) }
+{
+    match dictionary.to_writer(alloc, output) {
+        Ok(()) => Ok(()),
+        Err(Error::Memory(_)) => Err(Failure::Memory),
+        Err(_) => Err(Failure::Writing),
     }
 }
 
@@ -148,14 +158,16 @@ fn run<F: Files, O: Write>(
     alloc: Global,
     request: &Request<'_>,
     output: &mut O,
-) -> Result<Vec<Note>, Failure> {
+) -> Result<Vec<Note>, Failure>
+    ensures { IfErr result (λ failure. (failure ≡ Failure.Writing) ⊎ (output.new ≡ output.old)) }
+{
     let bytes = read_files(rt, alloc, request.paths)?;
     match request.kind {
         Kind::Standard => {
             let Converted { dictionary, notes } = convert_files::<(), usize>(
                 alloc, request, false, &bytes,
             )?;
-            dictionary.to_writer(alloc, output).map_err(failure_of)?;
+            write_text(alloc, &dictionary, output)?;
             Ok(notes)
         }
         Kind::Extended => {
@@ -163,7 +175,7 @@ fn run<F: Files, O: Write>(
                 Option<Subregion>,
                 (usize, Option<Subregion>),
             >(alloc, request, true, &bytes)?;
-            dictionary.to_writer(alloc, output).map_err(failure_of)?;
+            write_text(alloc, &dictionary, output)?;
             Ok(notes)
         }
     }
@@ -189,7 +201,9 @@ fn report_memory<E: Write>(faults: &mut E) -> u8 {
 }
 
 /// Writes why nothing was written, and gives the status.
-fn report<E: Write>(paths: &[&str], failure: &Failure, faults: &mut E) -> u8 {
+fn report<E: Write>(paths: &[&str], failure: &Failure, faults: &mut E) -> u8
+    ensures { failure.now ≡ Failure.Writing → result ≡ 5 }
+{
     match failure {
         Failure::Reading(index, e) => {
             let path = paths.get(*index).copied().unwrap_or("");
@@ -255,14 +269,17 @@ fn report_misfit<E: Write>(words: &[&str], misfit: Misfit, faults: &mut E) -> u8
 
 /// Does what the words ask for, and gives the status to end with: 0 where it is done; 2 where the words are of no
 /// form, or the minima are missing; 3 where a file can't be opened, read or understood; 5 where the result can't be
-/// written; 6 where memory is wanting.
+/// written; 6 where memory is wanting. What is wrong, and what was left out or decided, is written to `faults`. The
+/// output is as it was but where the status is 0 or 5.
 pub fn answer<F: Files, O: Write, E: Write>(
     rt: &F,
     alloc: Global,
     words: &[&str],
     output: &mut O,
     faults: &mut E,
-) -> u8 {
+) -> u8
+    ensures untouched { BeforeOutput result (output.new ≡ output.old) }
+{
     let request = match Request::from_words(words) {
         Ok(request) => request,
         Err(misfit) => return report_misfit(words, misfit, faults),
