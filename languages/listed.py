@@ -1,0 +1,64 @@
+"""What languages/list says, where the files of its rows are, and where the programs are."""
+
+import glob
+import os
+from collections import namedtuple
+
+HERE = os.path.dirname(os.path.realpath(__file__))
+ROOT = os.path.dirname(HERE)
+
+# The folders in which Debian's packages have files of patterns. A file is taken from the first folder that has it.
+KNOWN_FOLDERS = (
+    "/usr/share/cargo/registry/hyphenation-*/patterns",
+    "/usr/share/texlive/texmf-dist/tex/generic/hyph-utf8/patterns/txt",
+    "/usr/share/texlive/texmf-dist/tex/generic/hyph-utf8/patterns/tex",
+    "/usr/share/hyphen",
+)
+
+Row = namedtuple("Row", "language code kind left right preferred files")
+
+
+def rows():
+    """The rows of languages/list, in its order."""
+    found = []
+    with open(os.path.join(HERE, "list"), encoding="utf-8") as lines:
+        for line in lines:
+            if line.strip() and not line.startswith("#"):
+                language, code, kind, left, right, mark, *files = line.split()
+                found.append(Row(language.replace("_", " "), code, kind, left, right, mark == "prefer", files))
+    return found
+
+
+def choices():
+    """For each code and kind its rows, the preferred one first, the others in the list's order."""
+    found = {}
+    for row in rows():
+        found.setdefault((row.code, row.kind), []).append(row)
+    for same in found.values():
+        same.sort(key=lambda row: not row.preferred)
+    return found
+
+
+def folders(given):
+    """The folders to search: those that the user gives, then the known ones."""
+    known = [folder for pattern in KNOWN_FOLDERS for folder in sorted(glob.glob(pattern))]
+    return [*given, *known]
+
+
+def paths_of(row, searched):
+    """The paths of a row's files, all in one folder, or None. Files of two folders may be of two versions."""
+    for folder in searched:
+        paths = [os.path.join(folder, file) for file in row.files]
+        if all(os.path.isfile(path) for path in paths):
+            return paths
+    return None
+
+
+def program(name):
+    """The path of a program: in the folder HYPHENATE_BIN, else this repository's launcher."""
+    return os.path.join(os.environ.get("HYPHENATE_BIN") or ROOT, name)
+
+
+def convert_words(row, paths):
+    """The call of hyphenate-convert for a row."""
+    return [program("hyphenate-convert"), row.kind, row.code, row.left, row.right, *paths]
