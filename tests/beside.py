@@ -1,0 +1,174 @@
+"""The breaks of this library and of another one, for LibreOffice's .dic files and lists of words."""
+
+import argparse
+import os
+import subprocess
+import sys
+import tempfile
+import unicodedata
+from collections import namedtuple
+
+ROOT = os.path.dirname(os.path.dirname(os.path.realpath(__file__)))
+
+# No word that is compared has it: words have only letters.
+MARK = "="
+LEAST_LETTERS = 4
+
+# What Python calls a charset by another name.
+CODECS = {"microsoft-cp1251": "cp1251"}
+
+Compared = namedtuple("Compared", "words same differing")
+
+
+def program(name):
+    """The path of a program: in the folder HYPHENATE_BIN, else this repository's launcher."""
+    return os.path.join(os.environ.get("HYPHENATE_BIN") or ROOT, name)
+
+
+def charset_of(dic):
+    """The charset that a .dic names in its first line. Libhyphen compares bytes where that names none; so does Latin-1."""
+    with open(dic, "rb") as file:
+        name = file.readline().strip().decode("latin-1")
+    name = CODECS.get(name, name)
+    try:
+        "".encode(name)
+    except LookupError:
+        return "latin-1"
+    return name
+
+
+def text_of(bytes_):
+    """The text of a list of words. Debian's lists are UTF-8 or Latin-1, and don't say which."""
+    try:
+        return bytes_.decode("utf-8")
+    except UnicodeDecodeError:
+        return bytes_.decode("latin-1")
+
+
+def lines_of(path, charset):
+    """The lines of a file. No other characters than line feeds part them."""
+    with open(path, "rb") as file:
+        return file.read().decode(charset).rstrip("\n").split("\n")
+
+
+def spelling_charset(affixes):
+    """The charset that a hunspell dictionary names in its .aff."""
+    with open(affixes, "rb") as file:
+        for line in file:
+            # A byte order mark may stand before the first line.
+            words = line.lstrip(b"\xef\xbb\xbf").split()
+            if len(words) == 2 and words[0] == b"SET":
+                name = words[1].decode("latin-1")
+                return CODECS.get(name, name)
+    return "latin-1"
+
+
+def listed_words(path):
+    """The lines of a list of words; of a hunspell dictionary (.dic beside an .aff) what stands before the / of each."""
+    with open(path, "rb") as file:
+        bytes_ = file.read()
+    affixes = path[: -len(".dic")] + ".aff"
+    if not (path.endswith(".dic") and os.path.isfile(affixes)):
+        return text_of(bytes_).splitlines()
+    lines = bytes_.decode(spelling_charset(affixes), errors="replace").splitlines()
+    return [line.split("/")[0].split("\t")[0] for line in lines[1:]]
+
+
+def has_only_letters(word):
+    """Whether a word has only letters, and marks that belong to letters, as in Hindi."""
+    return word.isalpha() or all(unicodedata.category(char)[0] in "LM" for char in word)
+
+
+def can_be_written(word, charset):
+    try:
+        word.encode(charset)
+    except UnicodeEncodeError:
+        return False
+    return True
+
+
+def chosen_words(path, charset, number):
+    """That many words, evenly from a list: in small letters, of at least four letters, of nothing but letters.
+
+    A word that the charset can't write is none that the other library can be asked about.
+    """
+    small = (word.strip().lower() for word in listed_words(path))
+    fitting = (word for word in small if len(word) >= LEAST_LETTERS and has_only_letters(word))
+    words = list(dict.fromkeys(word for word in fitting if can_be_written(word, charset)))
+    if len(words) <= number:
+        return words
+    return [words[index * len(words) // number] for index in range(number)]
+
+
+class Refused(Exception):
+    """A program of ours ended with a status other than 0: what it said."""
+
+
+def run(words, **how):
+    """The output of a program of ours."""
+    ran = subprocess.run(words, capture_output=True, check=False, **how)
+    if ran.returncode:
+        said = ran.stderr.decode(errors="replace").strip()
+        raise Refused(said or f"{words[0]} ended with status {ran.returncode}")
+    return ran.stdout
+
+
+def our_breaks(dic, kind, words):
+    """Each word with our breaks marked, by one call of hyphenate; and the dictionary's minima."""
+    with tempfile.TemporaryDirectory() as folder:
+        path = os.path.join(folder, "dictionary.txt")
+        text = run([program("hyphenate-convert"), kind, "xx", "-", "-", dic])
+        with open(path, "wb") as file:
+            file.write(text)
+        lines = "".join(f"{word}\n" for word in words).encode()
+        marked = run([program("hyphenate"), kind, "xx", path, MARK], input=lines).decode().split("\n")[:-1]
+    left, right = text.split(b"\n")[2].split()[1:]
+    return marked, int(left), int(right)
+
+
+def marked_at(word, places):
+    """A word with the mark at each of the places, which count characters."""
+    pieces = [word[begin:end] for begin, end in zip([0, *places], [*places, len(word)])]
+    return MARK.join(pieces)
+
+
+def compare(theirs, dic, list_path, kind="standard", number=5000):
+    """Compares the breaks of words. `theirs(dic, kind, words, left, right)` gives each word with the other's breaks marked."""
+    words = chosen_words(list_path, charset_of(dic), number)
+    ours, left, right = our_breaks(dic, kind, words)
+    others = theirs(dic, kind, words, left, right)
+    differing = [triple for triple in zip(words, ours, others) if triple[1] != triple[2]]
+    return Compared(len(words), len(words) - len(differing), differing)
+
+
+def parser_of(name, text):
+    """What reads the arguments that both scripts take."""
+    raw = argparse.RawDescriptionHelpFormatter
+    parser = argparse.ArgumentParser(prog=f"tests/{name}", description=text, formatter_class=raw)
+    parser.add_argument("files", nargs="*", metavar="FILE", help="DIC WORDS DIC WORDS ..: each .dic with a list of words")
+    parser.add_argument("--kind", choices=["standard", "extended"], default="standard", help="the kind of dictionary")
+    parser.add_argument("--words", type=int, default=5000, metavar="N", help="how many words of each list (5000)")
+    parser.add_argument("--show", type=int, default=0, metavar="N", help="how many of the differing words to show (0)")
+    return parser
+
+
+def status_of(main):
+    """The status to end with: 0 where all breaks are the same, 1 where some differ, 2 where nothing could be compared."""
+    try:
+        return 0 if main() else 1
+    except (OSError, Refused) as error:
+        print(error, file=sys.stderr)
+        return 2
+
+
+def compare_all(theirs, given):
+    """Compares what the arguments name, and prints what is found; whether all words have the same breaks."""
+    all_same = True
+    for dic, list_path in zip(given.files[::2], given.files[1::2]):
+        found = compare(theirs, dic, list_path, given.kind, given.words)
+        name = f"{os.path.basename(dic)} {given.kind}, {os.path.basename(list_path)}"
+        print(f"{name}: {found.same} of {found.words} words have the same breaks", flush=True)
+        for word, our, their in found.differing[: given.show]:
+            print(f"  {word}: here {our}, there {their}")
+        all_same = all_same and not found.differing
+    return all_same
