@@ -195,6 +195,19 @@ fn words_of_no_form_are_answered_by_the_usage(rt: HostRuntime) -> Result<(), Fai
     answers_by_usage(&rt, &cases)
 }
 
+/// Whether the program writes this for the one argument, says nothing else, and ends with 0.
+fn writes(rt: &HostRuntime, argument: &str, text: &str) -> bool {
+    let answer = answer_to(rt, &[argument]);
+    answer.status == 0 && answer.output.as_slice() == text.as_bytes() && answer.faults.is_empty()
+}
+
+#[test]
+fn the_version_and_the_usage_are_told(rt: HostRuntime) -> Result<(), Fail> {
+    let version = writes(&rt, "--version", "hyphenate-convert 0.1.0\n");
+    holds(version, "--version")?;
+    holds(writes(&rt, "--help", USAGE), "--help")
+}
+
 /// Whether files of these paths are refused before they are read, with a message that ends so.
 fn is_misfit(rt: &HostRuntime, first: &str, second: &str, message: &str) -> bool {
     let answer = answer_to(rt, &["standard", "xx", "2", "3", first, second]);
