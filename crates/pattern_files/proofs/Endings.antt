@@ -1,29 +1,17 @@
 -- Which nodes the beginnings of a key have, and which endings of a text can exceed it.
-use Rattle.std.proofs.Common.{◌≡◌, ℕ, zero, suc, ◌+◌, ◌-◌, ◌<◌, ◌≤◌, ◌==◌, ◌&&◌, ◌||◌, Bool, true, false, cond, List, [], ◌∷◌, ◌++◌, length, take, drop, filter, get_or, Option, Some, None, refl, sym, ap, subst, ◌∙◌, arith}
+use Rattle.std.proofs.Common.{◌≡◌, ℕ, zero, suc, ◌+◌, ◌-◌, ◌<◌, ◌≤◌, ◌==◌, ◌||◌, Bool, true, false, List, [], ◌∷◌, ◌++◌, length, take, drop, filter, get_or, Option, Some, None, refl, sym, ap, ◌∙◌, arith}
 use Rattle.std.specs.Prelude.{nat_eq, nat_lt, if◌then◌else◌, IsSome, unwrap_or, slice_index_or}
-use Rattle.std.specs.Cmp.Lexicographic.{pointwise}
+use Rattle.std.specs.Cmp.Lexicographic.{pointwise, same_text}
 use Rattle.std.specs.List.{list_any, range_with_len}
-use Rattle.std.proofs.lemmas.Bool.{eqb-true}
 use Rattle.std.proofs.lemmas.List.{length-append, length-take, length-drop, take_more, take_all, take-take, take-append-le, drop-drop}
 use Rattle.hyphenation_commons.specs.Dictionary.{Patterns}
 use Rattle.hyphenation_commons.specs.declared.dictionary.Entry.{Entry}
 use Rattle.hyphenation_trie.specs.Trie.{Tree, node_text, entries_at, entries_of_key, IsTrie}
 use Rattle.hyphenation_trie.specs.Links.{EndsWith, IsLongest, IsReport}
 use Rattle.hyphenation_score.specs.Scoring.{greatest_value}
-use Rattle.pattern_files.specs.Longest.{is_exceeded, is_exceeded_from, own_value}
+use Rattle.pattern_files.specs.Longest.{is_exceeded_from, own_value}
 
 -- ---- The nodes of a key's beginnings.
-
--- texts that are the same byte by byte are one
-same_text : (t q : List ℕ) → pointwise nat_eq t q ≡ true → t ≡ q
-same_text [] [] e = refl
-same_text [] (y ∷ ys) e = cc
-same_text (x ∷ xs) [] e = cc
-same_text (x ∷ xs) (y ∷ ys) e = by (nat_eq x y) refl e (same_text xs ys)
-  where
-    by : (b : Bool) → nat_eq x y ≡ b → (b && pointwise nat_eq xs ys) ≡ true → (pointwise nat_eq xs ys ≡ true → xs ≡ ys) → x ∷ xs ≡ y ∷ ys
-    by true h e rest = λ i. eqb-true x y h i ∷ rest e i
-    by false h e rest = cc
 
 -- what stands at an index, one later with an element before
 later : (t : List ℕ) (ts : List (List ℕ)) (q : List ℕ) → ((k : ℕ) × (k < length ts) × (slice_index_or ts k [] ≡ q)) → (k : ℕ) × (k < suc (length ts)) × (slice_index_or (t ∷ ts) k [] ≡ q)
@@ -37,7 +25,7 @@ node_at {E} (t ∷ ts) (e ∷ es) q some = by (pointwise nat_eq t q) refl some (
   where
     by : (b : Bool) → pointwise nat_eq t q ≡ b → IsSome (if b then e else entries_at ts es q) → (IsSome (entries_at ts es q) → (k : ℕ) × (k < suc (length ts)) × (slice_index_or (t ∷ ts) k [] ≡ q))
         → (k : ℕ) × (k < suc (length ts)) × (slice_index_or (t ∷ ts) k [] ≡ q)
-    by true h some rest = (zero, omega arith, same_text t q h)
+    by true h some rest = (zero, omega arith, same_text t q (sym h))
     by false h some rest = rest some
 
 -- the node before one whose text begins a key

@@ -4,3 +4,5 @@ pub mod Lexing
 pub mod Grouping
 pub mod Between
 pub mod Endings
+pub mod LongestBeginnings
+pub mod WithoutChanges

@@ -1,7 +1,7 @@
 //! The patterns of a `.dic`, all of its levels together.
 
-use crate::carried::carried;
 use crate::change::{Change, change_of};
+use crate::changes::carried;
 use crate::fault::LineFault;
 use crate::longest::hides_value;
 use crate::notes::{Note, Spot, What, add_note};

@@ -20,8 +20,8 @@
 //! format's own words which; [`told`] has what TeX's files say of themselves, and what there is to note of them.
 #![tactic(auto)]
 
-mod carried;
 mod change;
+pub mod changes;
 mod charset;
 pub mod convert;
 pub mod fault;

@@ -15,9 +15,10 @@ ghost use Rattle.std.specs.Prelude.{◌≡◌, ◌+◌, ◌<◌, ◌==◌, nat_l
 ghost use Rattle.std.specs.List.{list_any};
 ghost use Rattle.hyphenation_trie.specs.Trie.{node_text, entries_of_key};
 ghost use Rattle.hyphenation_score.specs.Scoring.{greatest_value};
-ghost use Rattle.pattern_files.specs.Longest.{is_exceeded, hides_value};
+ghost use Rattle.pattern_files.specs.Longest.{is_exceeded, hides_value, ClosedReadAlike};
 
 use hyphenation_commons::dictionary::Entry;
+use hyphenation_score::laws::{value_is_borne, value_is_greatest};
 use hyphenation_trie::{Automaton, LookUps};
 
 /// The greatest value that entries give to the place `start + place`; 0 where none does.
@@ -91,4 +92,13 @@ pub fn hides_value<C: Drop>(automaton: &Automaton<Entry<C>>, key: &[u8]) -> bool
         }
     }
     false
+}
+
+/// A law. In closed patterns, of which none hides a value, the greatest value over all patterns is the one that the
+/// longest beginnings alone give.
+pub fn closed_patterns_read_alike<C>()
+    ensures { ClosedReadAlike C }
+{
+    value_is_greatest::<C>();
+    value_is_borne::<C>();
 }

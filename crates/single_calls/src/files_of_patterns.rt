@@ -91,6 +91,31 @@ fn of_a_repeated_key_the_last_counts(rt: HostRuntime) -> Result<(), Fail> {
 }
 
 #[test]
+fn a_language_may_have_no_exceptions(rt: HostRuntime) -> Result<(), Fail> {
+    let patterns = File {
+        form: Form::Plain(Group::Patterns),
+        bytes: b"a1b\n",
+    };
+    let exceptions = File {
+        form: Form::Plain(Group::Exceptions),
+        bytes: b"",
+    };
+    let text = standard_text(rt.alloc(), &[patterns, exceptions])?;
+    let wanted = format!(in rt.alloc(); "{HEAD}p a1b\n")?;
+    same_bytes("no exceptions", &text, wanted.as_bytes())?;
+    let empty = File {
+        form: Form::Plain(Group::Patterns),
+        bytes: b"",
+    };
+    let wanted = Some(Refusal::Fault {
+        file: 1,
+        line: 1,
+        cause: Cause::Nothing,
+    });
+    same(&refusal(rt.alloc(), &[exceptions, empty]), &wanted)
+}
+
+#[test]
 fn the_first_fault_is_told(rt: HostRuntime) -> Result<(), Fail> {
     let cases: [(Form, &[u8], usize, Cause); 13] = [
         (Form::Tex, b"\\patterns{\na1b\n", 1, Cause::Unclosed),

@@ -1,6 +1,6 @@
 use Rattle.std.proofs.Common.{◌≡◌, ◌+◌, ◌-◌, ◌||◌, ℕ, Bool, true, false, List, length, take, refl, sym, ap, ◌∙◌, arith}
 use Rattle.std.specs.List.{list_any, range_with_len}
-use Rattle.hyphenation_trie.specs.Trie.{node_text, entries_of_key}
+use Rattle.hyphenation_trie.specs.Trie.{entries_of_key}
 use Rattle.pattern_files.specs.Longest.{is_exceeded}
 use Rattle.pattern_files.proofs.Endings.{any_first, step_along}
 use Rattle.pattern_files.proofs.longest.hides_value.Goals as goal

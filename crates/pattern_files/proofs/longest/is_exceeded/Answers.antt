@@ -1,8 +1,7 @@
-use Rattle.std.proofs.Common.{◌≡◌, ◌+◌, ◌-◌, ◌<◌, ◌||◌, ℕ, Bool, true, false, length, drop, sym, ap, ◌∙◌, arith}
+use Rattle.std.proofs.Common.{◌≡◌, ◌+◌, ◌-◌, ◌||◌, ℕ, Bool, true, false, length, drop, sym, ap, ◌∙◌, arith}
 use Rattle.std.proofs.lemmas.List.{length-drop}
 use Rattle.std.specs.List.{list_any, range_with_len}
 use Rattle.hyphenation_trie.specs.Trie.{node_text, entries_of_key}
-use Rattle.hyphenation_trie.specs.Links.{EndsWith}
 use Rattle.pattern_files.specs.Longest.{is_exceeded_from}
 use Rattle.pattern_files.proofs.Endings.{any_first, next_ending, exceeded_from, ends_self, ends_rest, node_some}
 use Rattle.pattern_files.proofs.longest.is_exceeded.Goals as goal

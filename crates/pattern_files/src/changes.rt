@@ -1,10 +1,14 @@
 //! What a dictionary keeps of a value that has a change.
+//!
+//! An extended dictionary keeps the change. A standard one can't, and there the value forbids the break: a word that
+//! loses or gains letters at a break would be broken wrongly without them.
 
 ghost use Rattle.std.specs.Prelude.{◌≡◌, ◌<◌};
-ghost use Rattle.pattern_files.specs.Changes.{to_even, carried_entry};
+ghost use Rattle.pattern_files.specs.Changes.{to_even, carried_entry, KindsKeep, NoBreakLosesItsChange};
 
 use hyphenation_commons::dictionary::{Entry, Payload};
 use hyphenation_commons::extended::Subregion;
+use hyphenation_score::laws::{value_is_borne, value_is_greatest, winner_is_first};
 
 /// An odd value's next even number; an even value itself.
 fn to_even(value: u8) -> u8
@@ -35,4 +39,21 @@ pub fn carried<C: Payload>(entry: Entry<Option<Subregion>>) -> Entry<C>
         value,
         change,
     }
+}
+
+/// A law. A standard dictionary carries no change, an extended one each change as it is.
+pub fn kinds_keep()
+    ensures { KindsKeep }
+{}
+
+/// A law. Where patterns without their changes allow a break, the patterns with them allow one there by the same value,
+/// and it changes nothing.
+pub fn no_break_loses_its_change()
+    ensures { NoBreakLosesItsChange }
+{
+    value_is_greatest::<()>();
+    value_is_borne::<()>();
+    value_is_greatest::<Option<Subregion>>();
+    value_is_borne::<Option<Subregion>>();
+    winner_is_first::<Option<Subregion>>();
 }
