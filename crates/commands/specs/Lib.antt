@@ -1,3 +1,4 @@
 pub mod Statuses
+pub mod About
 pub mod Canonical
 pub mod Private

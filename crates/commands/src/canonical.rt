@@ -1,14 +1,17 @@
 //! The words, the messages and the statuses of the program `hyphenate-canonical`: a dictionary text, of the kind that
 //! the one word names, is put in order.
 
-ghost use Rattle.std.specs.Prelude.{◌≡◌, None, OnOk, IfErr, IfSome, IsSome};
+ghost use Rattle.std.specs.Prelude.{◌≡◌, ◌⊎◌, None, OnOk, IfErr, IfSome, IsSome};
 ghost use Rattle.std.specs.Io.KnownBytes.{Appends};
 ghost use Rattle.dictionary_text.specs.Judging.{refusal_of};
 ghost use Rattle.hyphenation.specs.Load.{Tells};
+ghost use Rattle.commands.specs.About.{own_text};
 ghost use Rattle.commands.specs.Canonical.{kind_of_words, reordered};
 ghost use Rattle.commands.specs.Statuses.{BeforeOutput};
 ghost use Rattle.commands.specs.Private.Statuses.{status_of_error, UnlessFault};
 
+use crate::VERSION;
+use crate::about::answer_of_itself;
 use hyphenation::Standard;
 use hyphenation::engine::Kind;
 use hyphenation::extended::Extended;
@@ -17,8 +20,12 @@ use std::alloc::Global;
 use std::io;
 use std::io::{ErrorKind, Read, Write};
 
-/// What is said of words of no form.
-pub const USAGE: &str = "usage: hyphenate-canonical KIND\n";
+/// The name of the program.
+pub const NAME: &str = "hyphenate-canonical";
+
+/// What is said of words of no form, and for `--help`.
+pub const USAGE: &str =
+    "usage: hyphenate-canonical KIND\n       hyphenate-canonical --help\n       hyphenate-canonical --version\n";
 
 /// The kind that the words name.
 fn kind_of(words: &[&str]) -> Option<Kind>
@@ -82,8 +89,9 @@ fn report<E: Write>(error: &Error, faults: &mut E) -> u8
 }
 
 /// Does what the words ask for, and gives the status to end with: 0 where it is done; 2 where the words are not one
-/// kind; 3 where the text is refused; 5 where it can't be read, or the result can't be written; 6 where memory is
-/// wanting. What is wrong is written to `faults`. The output is as it was but where the status is 0 or 5.
+/// kind, `--help` or `--version`; 3 where the text is refused; 5 where it can't be read, or the result can't be
+/// written; 6 where memory is wanting. What is wrong is written to `faults`. The output is as it was but where the
+/// status is 0 or 5.
 pub fn answer<R: Read, W: Write, E: Write>(
     alloc: Global,
     words: &[&str],
@@ -91,7 +99,11 @@ pub fn answer<R: Read, W: Write, E: Write>(
     output: &mut W,
     faults: &mut E,
 ) -> u8
-    ensures usage { kind_of_words words.now ≡ None → (result ≡ 2) × (input.new ≡ input.old) }
+    ensures usage { kind_of_words words.now ≡ None → own_text NAME.now VERSION.now USAGE.now words.now ≡ None →
+        (result ≡ 2) × (input.new ≡ input.old) }
+    ensures said { kind_of_words words.now ≡ None → IfSome (own_text NAME.now VERSION.now USAGE.now words.now) (λ text.
+        (input.new ≡ input.old) × ((result ≡ 5)
+        ⊎ ((result ≡ 0) × Appends (W.contents output.old) (W.contents output.new) text))) }
     ensures accepted { result ≡ 0 → IfSome (kind_of_words words.now) (λ kind. IfSome (R.remaining input.old) (λ bytes.
         refusal_of kind bytes ≡ None)) }
     ensures written { result ≡ 0 → IfSome (kind_of_words words.now) (λ kind. IfSome (R.remaining input.old) (λ bytes.
@@ -101,8 +113,13 @@ pub fn answer<R: Read, W: Write, E: Write>(
     ensures untouched { BeforeOutput result (output.new ≡ output.old) }
 {
     let Some(kind) = kind_of(words) else {
-        let _ = faults.write_all(USAGE.as_bytes());
-        return 2;
+        return match answer_of_itself(NAME, USAGE, words, output) {
+            Some(status) => status,
+            None => {
+                let _ = faults.write_all(USAGE.as_bytes());
+                2
+            }
+        };
     };
     match put_kind_in_order(alloc, kind, input, output) {
         Ok(()) => 0,

@@ -1,11 +1,15 @@
 //! The words, the messages and the statuses of the program `hyphenate-convert`: files of hyphenation patterns into a
 //! dictionary text.
 
-ghost use Rattle.std.specs.Prelude.{◌≡◌, ◌⊎◌, IfErr};
+ghost use Rattle.std.specs.Prelude.{◌≡◌, ◌⊎◌, IfErr, IfSome};
+ghost use Rattle.std.specs.Io.KnownBytes.{Appends};
+ghost use Rattle.commands.specs.About.{own_text};
 ghost use Rattle.commands.specs.Statuses.{BeforeOutput};
 
 mod request;
 
+use crate::VERSION;
+use crate::about::answer_of_itself;
 use hyphenation::engine::Kind;
 use hyphenation::load::{Error, Load};
 use hyphenation_commons::dictionary::{Listing, Payload};
@@ -22,9 +26,12 @@ use std::fs::Files;
 use std::io::{ErrorKind, Read, Write};
 use std::{fs, io};
 
-/// What is said of words of no form.
+/// The name of the program.
+pub const NAME: &str = "hyphenate-convert";
+
+/// What is said of words of no form, and for `--help`.
 pub const USAGE: &str =
-    "usage: hyphenate-convert KIND CODE LEFT RIGHT FILE..\n       FILE: one .dic; or .tex, .pat.txt and .hyp.txt. LEFT and RIGHT: 0 to 255, or - for what the file says\n";
+    "usage: hyphenate-convert KIND CODE LEFT RIGHT FILE..\n       hyphenate-convert --help\n       hyphenate-convert --version\n       FILE: one .dic; or .tex, .pat.txt and .hyp.txt. LEFT and RIGHT: 0 to 255, or - for what the file says\n";
 
 /// Why nothing, or not all, was written.
 #[derive(Debug, Drop)]
@@ -114,7 +121,6 @@ fn convert_tex<C: Payload, B: Listing>(
 fn convert_files<C: Payload, B: Listing>(
     alloc: Global,
     request: &Request<'_>,
-    changes: bool,
     bytes: &[Vec<u8>],
 ) -> Result<Converted<C, B>, Failure> {
     match request.sort {
@@ -127,7 +133,6 @@ fn convert_files<C: Payload, B: Listing>(
             let converted = convert_dic(
                 alloc,
                 request.language,
-                changes,
                 request.left,
                 request.right,
                 first,
@@ -165,7 +170,7 @@ fn run<F: Files, O: Write>(
     match request.kind {
         Kind::Standard => {
             let Converted { dictionary, notes } = convert_files::<(), usize>(
-                alloc, request, false, &bytes,
+                alloc, request, &bytes,
             )?;
             write_text(alloc, &dictionary, output)?;
             Ok(notes)
@@ -174,7 +179,7 @@ fn run<F: Files, O: Write>(
             let Converted { dictionary, notes } = convert_files::<
                 Option<Subregion>,
                 (usize, Option<Subregion>),
-            >(alloc, request, true, &bytes)?;
+            >(alloc, request, &bytes)?;
             write_text(alloc, &dictionary, output)?;
             Ok(notes)
         }
@@ -278,8 +283,13 @@ pub fn answer<F: Files, O: Write, E: Write>(
     output: &mut O,
     faults: &mut E,
 ) -> u8
+    ensures said { IfSome (own_text NAME.now VERSION.now USAGE.now words.now) (λ text.
+        (result ≡ 5) ⊎ ((result ≡ 0) × Appends (O.contents output.old) (O.contents output.new) text)) }
     ensures untouched { BeforeOutput result (output.new ≡ output.old) }
 {
+    if let Some(status) = answer_of_itself(NAME, USAGE, words, output) {
+        return status;
+    }
     let request = match Request::from_words(words) {
         Ok(request) => request,
         Err(misfit) => return report_misfit(words, misfit, faults),

@@ -2,12 +2,16 @@
 //! with its messages and its statuses, and `main` of the program hands its words to `answer` there.
 #![tactic(auto)]
 
+mod about;
 pub mod canonical;
 pub mod convert;
 pub mod hyphenate;
 
 use std::env::Env;
 use std::{env, io};
+
+/// The version of the three programs. The file `VERSION` has the same, and `tests/figures` compares them.
+pub const VERSION: &str = "0.1.0";
 
 /// What a call makes of the words after the program's name; or that they can't be had, since one is not UTF-8, or
 /// memory is wanting.

@@ -93,6 +93,32 @@ fn a_text_is_put_in_order_or_its_fault_is_told(rt: HostRuntime) -> Result<(), Fa
     answers_all(rt.alloc(), &cases)
 }
 
+/// Whether the program writes this for the one argument, from an input that it leaves, and ends with 0.
+fn writes(alloc: Global, argument: &str, text: &str) -> bool {
+    let mut input = HEAD.as_bytes();
+    let mut output: Vec<u8> = Vec::new(alloc);
+    let mut faults: Vec<u8> = Vec::new(alloc);
+    let status = answer(alloc, &[argument], &mut input, &mut output, &mut faults);
+    status == 0
+        && input.len() == HEAD.len()
+        && output.as_slice() == text.as_bytes()
+        && faults.is_empty()
+}
+
+#[test]
+fn the_version_and_the_usage_are_told(rt: HostRuntime) -> Result<(), Fail> {
+    let version = "hyphenate-canonical 0.1.0\n";
+    if !writes(rt.alloc(), "--version", version) {
+        return Err(Fail::from("--version is answered otherwise"));
+    }
+    let usage =
+        "usage: hyphenate-canonical KIND\n       hyphenate-canonical --help\n       hyphenate-canonical --version\n";
+    if !writes(rt.alloc(), "--help", usage) {
+        return Err(Fail::from("--help is answered otherwise"));
+    }
+    Ok(())
+}
+
 /// Whether words that can't be had for that fault have this status and this message.
 fn tells(alloc: Global, kind: ErrorKind, status: u8, message: &str) -> bool {
     let mut faults: Vec<u8> = Vec::new(alloc);

@@ -82,10 +82,10 @@ fn a_file_of_each_form_is_converted(rt: HostRuntime) -> Result<(), Fail> {
         "c.tex",
     )?;
     let dic = "UTF-8\nLEFTHYPHENMIN 2\nRIGHTHYPHENMIN 3\nNEXTLEVEL\na1b\nab1c/b=b,2,1\n";
-    let levels =
-        "d.dic:4: note: two levels (LibreOffice hyphenates parts of compounds apart): joined (1)\n";
+    let change =
+        "d.dic:6: note: a pattern with a change: a standard dictionary forbids that break (1)\n";
     holds(
-        converts(&rt, "d.dic", dic, ("-", "-"), "p a1b\n", levels)?,
+        converts(&rt, "d.dic", dic, ("-", "-"), "p a1b\np ab2c\n", change)?,
         "d.dic",
     )
 }
@@ -193,6 +193,19 @@ fn words_of_no_form_are_answered_by_the_usage(rt: HostRuntime) -> Result<(), Fai
         &["latin", "xx", "2", "3", "a.dic"],
     ];
     answers_by_usage(&rt, &cases)
+}
+
+/// Whether the program writes this for the one argument, says nothing else, and ends with 0.
+fn writes(rt: &HostRuntime, argument: &str, text: &str) -> bool {
+    let answer = answer_to(rt, &[argument]);
+    answer.status == 0 && answer.output.as_slice() == text.as_bytes() && answer.faults.is_empty()
+}
+
+#[test]
+fn the_version_and_the_usage_are_told(rt: HostRuntime) -> Result<(), Fail> {
+    let version = writes(&rt, "--version", "hyphenate-convert 0.1.0\n");
+    holds(version, "--version")?;
+    holds(writes(&rt, "--help", USAGE), "--help")
 }
 
 /// Whether files of these paths are refused before they are read, with a message that ends so.

@@ -1,0 +1,100 @@
+# What the launcher, ./install and the scripts share: which programs are proved and built, and how that is done.
+# A script that reads this has set `root`, the folder of the repository, and `called`, its own name.
+# shellcheck shell=bash disable=SC2154
+
+# crate_of PROGRAM: the crate of a program, in `crate`.
+crate_of() {
+  case $1 in
+    hyphenate) crate=hyphenate_program ;;
+    *) crate=${1//-/_} ;;
+  esac
+}
+
+# file_of PROGRAM: the file of a program, in `file`. It is there once the program is built.
+file_of() {
+  crate_of "$1"
+  file=$root/crates/$crate/out/$crate
+}
+
+# The crates that each crate uses, by crates.txt. Those of the toolchain have no line there.
+declare -A uses=()
+while IFS=: read -r left right; do
+  case $left in
+    '' | '#'*) ;;
+    *) uses[$left]=$right ;;
+  esac
+done <"$root/crates.txt"
+
+# order_of CRATE..: adds the crates and all that they use to the list `order`, each after those that it uses.
+order_of() {
+  local it below
+  for it; do
+    [[ -v "uses[$it]" && " ${order[*]-} " != *" $it "* ]] || continue
+    read -ra below <<<"${uses[$it]}"
+    order_of "${below[@]}"
+    order+=("$it")
+  done
+}
+
+# is_current PROGRAM: whether the program is built, and no source of it is newer.
+is_current() {
+  local -a order=()
+  local newer
+  file_of "$1"
+  [ -x "$file" ] || return 1
+  order_of "$crate"
+  newer=$(find "$root/crates.txt" "${order[@]/#/$root/crates/}" -name out -prune -o \
+    -type f \( -name '*.rt' -o -name '*.antt' -o -name crates.txt \) -newer "$file" -print -quit)
+  [ -z "$newer" ]
+}
+
+# has_toolchain: whether there is a command rt; else says that there is none.
+has_toolchain() {
+  command -v rt >/dev/null && return
+  echo "$called: the toolchain is missing: there is no command rt" >&2
+  return 1
+}
+
+# prove PROGRAM..: proves and builds the programs that are not current, with a line on standard error for each crate.
+# It returns 1 where one is not proved and built, and says why.
+prove() {
+  local -a order=() missing=()
+  local it log done=0
+  for it; do
+    is_current "$it" || missing+=("$it")
+  done
+  [ ${#missing[@]} != 0 ] || return 0
+  has_toolchain || return 1
+  for it in "${missing[@]}"; do
+    crate_of "$it"
+    order_of "$crate"
+  done
+  echo "$called: proving and building ${missing[*]}; from nothing, all programs took $INSTALL" >&2
+  log=$(mktemp)
+  for it in "${order[@]}"; do
+    done=$((done + 1))
+    echo "$called: proving $it ($done of ${#order[@]})" >&2
+    prove_crate "$it" >"$log" 2>&1 </dev/null || {
+      tail -n 30 "$log" >&2
+      echo "$called: $it was not proved and built; all of what was said is in $log" >&2
+      return 1
+    }
+  done
+  rm -f "$log"
+}
+
+# prove_crate CRATE: proves and builds one crate, whose libraries are built.
+prove_crate() (
+  cd "$root/crates/$1" || exit 1
+  if [ -e src/lib.rt ]; then
+    rt lib
+    exit
+  fi
+  rm -f "out/$1"
+  # a run without arguments ends with the usage, so its status says nothing; the program is there if it was proved
+  rt run || true
+  [ -x "out/$1" ]
+)
+
+# shellcheck source=proof-times
+. "$root/proof-times"
