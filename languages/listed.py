@@ -1,11 +1,13 @@
-"""What languages/list says, where the files of its rows are, and where the programs are."""
+"""What languages/list says, and where the files of its rows are."""
 
 import glob
 import os
+import sys
 from collections import namedtuple
 
 HERE = os.path.dirname(os.path.realpath(__file__))
-ROOT = os.path.dirname(HERE)
+sys.path.insert(0, os.path.join(os.path.dirname(HERE), "tools"))
+from programs import ROOT, program, prove  # noqa: E402, F401
 
 # The folders in which Debian's packages have files of patterns. A file is taken from the first folder that has it.
 KNOWN_FOLDERS = (
@@ -52,11 +54,6 @@ def paths_of(row, searched):
         if all(os.path.isfile(path) for path in paths):
             return paths
     return None
-
-
-def program(name):
-    """The path of a program: in the folder HYPHENATE_BIN, else this repository's launcher."""
-    return os.path.join(os.environ.get("HYPHENATE_BIN") or ROOT, name)
 
 
 def convert_words(row, paths):

@@ -8,7 +8,8 @@ import tempfile
 import unicodedata
 from collections import namedtuple
 
-ROOT = os.path.dirname(os.path.dirname(os.path.realpath(__file__)))
+sys.path.insert(0, os.path.join(os.path.dirname(os.path.realpath(__file__)), "..", "tools"))
+from programs import program, prove  # noqa: E402
 
 # No word that is compared has it: words have only letters.
 MARK = "="
@@ -18,11 +19,6 @@ LEAST_LETTERS = 4
 CODECS = {"microsoft-cp1251": "cp1251"}
 
 Compared = namedtuple("Compared", "words same differing")
-
-
-def program(name):
-    """The path of a program: in the folder HYPHENATE_BIN, else this repository's launcher."""
-    return os.path.join(os.environ.get("HYPHENATE_BIN") or ROOT, name)
 
 
 def charset_of(dic):
@@ -152,10 +148,10 @@ def parser_of(name, text):
     return parser
 
 
-def status_of(main):
-    """The status to end with: 0 where all breaks are the same, 1 where some differ, 2 where nothing could be compared."""
+def status_of(name, main):
+    """Proves the programs where that is wanted, and does the work of a script of that name. The status to end with: 0 where all breaks are the same, 1 where some differ, 2 where nothing could be compared."""
     try:
-        return 0 if main() else 1
+        return 0 if main(lambda: prove(name, "hyphenate-convert", "hyphenate")) else 1
     except (OSError, Refused) as error:
         print(error, file=sys.stderr)
         return 2
