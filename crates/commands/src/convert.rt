@@ -121,7 +121,6 @@ fn convert_tex<C: Payload, B: Listing>(
 fn convert_files<C: Payload, B: Listing>(
     alloc: Global,
     request: &Request<'_>,
-    changes: bool,
     bytes: &[Vec<u8>],
 ) -> Result<Converted<C, B>, Failure> {
     match request.sort {
@@ -134,7 +133,6 @@ fn convert_files<C: Payload, B: Listing>(
             let converted = convert_dic(
                 alloc,
                 request.language,
-                changes,
                 request.left,
                 request.right,
                 first,
@@ -172,7 +170,7 @@ fn run<F: Files, O: Write>(
     match request.kind {
         Kind::Standard => {
             let Converted { dictionary, notes } = convert_files::<(), usize>(
-                alloc, request, false, &bytes,
+                alloc, request, &bytes,
             )?;
             write_text(alloc, &dictionary, output)?;
             Ok(notes)
@@ -181,7 +179,7 @@ fn run<F: Files, O: Write>(
             let Converted { dictionary, notes } = convert_files::<
                 Option<Subregion>,
                 (usize, Option<Subregion>),
-            >(alloc, request, true, &bytes)?;
+            >(alloc, request, &bytes)?;
             write_text(alloc, &dictionary, output)?;
             Ok(notes)
         }

@@ -3,3 +3,6 @@ pub mod Words
 pub mod Lexing
 pub mod Grouping
 pub mod Between
+pub mod Endings
+pub mod LongestBeginnings
+pub mod WithoutChanges

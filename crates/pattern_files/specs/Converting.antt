@@ -15,6 +15,7 @@ use Rattle.pattern_files.specs.declared.fault.Refusal.TheVariants.{Memory, Fault
 use Rattle.pattern_files.specs.declared.group.Form.{Form}
 use Rattle.pattern_files.specs.declared.group.Form.TheVariants.{Tex, Plain}
 use Rattle.pattern_files.specs.declared.group.File.{File}
+use Rattle.pattern_files.specs.declared.group.Group.TheVariants.{Exceptions}
 
 -- Keys with entries and words with breaks, in the order in which files have them.
 pub record SpeltWords (C B : Type 0) : Type 0 where
@@ -51,16 +52,18 @@ first_fault [] = None
 first_fault (word ∷ words) =
     option_or (option_map (λ cause. (word.line, cause)) (word_cause word.group word.text)) (first_fault words)
 
--- A file without a pattern and without an exception is faulty.
-abbrev pub empty_fault : List GroupWord → Option (ℕ × Cause)
-empty_fault [] = Some (1, Nothing)
-empty_fault (word ∷ words) = None
+-- A file without a pattern and without an exception is faulty, but for a plain file of exceptions: a language may have
+-- none.
+abbrev pub empty_fault : Form → List GroupWord → Option (ℕ × Cause)
+empty_fault (Plain Exceptions) words = None
+empty_fault form [] = Some (1, Nothing)
+empty_fault form (word ∷ words) = None
 
 -- A file's first fault: that of a word of its groups, or else of the groups, or else that it has no words.
 abbrev pub file_fault : Form → List ℕ → Option (ℕ × Cause)
 file_fault form bytes =
     option_or (option_or (first_fault (words_of form bytes)) (group_fault form bytes))
-    (empty_fault (words_of form bytes))
+    (empty_fault form (words_of form bytes))
 
 -- The first fault of files: the number of the file, the line and the cause.
 abbrev pub fault_from : ℕ → List File → Option (ℕ × (ℕ × Cause))

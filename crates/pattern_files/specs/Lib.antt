@@ -2,4 +2,6 @@ pub mod Spelling
 pub mod Groups
 pub mod Converting
 pub mod TexFiles
+pub mod Longest
+pub mod Changes
 pub mod Private

@@ -1,11 +1,11 @@
 //! TeX's files and plain ones, made into a dictionary.
 
-ghost use Rattle.std.specs.Prelude.{◌≡◌, IfOk, OnOk, IfErr, None};
-ghost use Rattle.pattern_files.specs.Converting.{words_spelt, one_after_other, spelt_in, file_fault, fault_from, contents_of_files, words_of, IsRefusalOf};
+ghost use Rattle.std.specs.Prelude.{◌≡◌, ◌↔◌, [], IsTrue, IfOk, OnOk, IfErr, None};
+ghost use Rattle.pattern_files.specs.Converting.{words_spelt, one_after_other, spelt_in, empty_fault, file_fault, fault_from, contents_of_files, words_of, IsRefusalOf};
 ghost use Rattle.pattern_files.specs.Private.Read.{IsLineFault};
 
 use crate::fault::{Cause, LineFault, Refusal};
-use crate::group::{File, Form};
+use crate::group::{File, Form, Group};
 use crate::notes::Note;
 use crate::parts::Parts;
 use crate::tex::words_of;
@@ -13,6 +13,16 @@ use crate::told::notes_of;
 use hyphenation_commons::dictionary::{Dictionary, Listing, Payload};
 use hyphenation_commons::language::Language;
 use std::alloc::Global;
+
+/// Whether a file of that form may have no words: a language may have no exceptions.
+fn may_be_empty(form: Form) -> bool
+    ensures { IsTrue result ↔ (empty_fault form [] ≡ None) }
+{
+    match form {
+        Form::Plain(Group::Exceptions) => true,
+        Form::Plain(Group::Patterns) | Form::Tex => false,
+    }
+}
 
 /// Takes in what a file spells.
 fn take_file<C: Payload, B: Listing>(
@@ -30,7 +40,10 @@ fn take_file<C: Payload, B: Listing>(
     parts.take_words(alloc, &words)?;
     match fault {
         Some((line, cause)) => Err(LineFault::OnLine(line, cause)),
-        None if words.is_empty() => Err(LineFault::OnLine(1, Cause::Nothing)),
+        None if words.is_empty() && !may_be_empty(form) => Err(LineFault::OnLine(
+            1,
+            Cause::Nothing,
+        )),
         None => Ok(()),
     }
 }

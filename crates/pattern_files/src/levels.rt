@@ -1,13 +1,15 @@
 //! The patterns of a `.dic`, all of its levels together.
 
 use crate::change::{Change, change_of};
+use crate::changes::carried;
 use crate::fault::LineFault;
+use crate::longest::hides_value;
 use crate::notes::{Note, Spot, What, add_note};
 use crate::parts::Parts;
 use hyphenation_commons::dictionary::{Entry, Listing, Payload};
 use hyphenation_commons::extended::Subregion;
 use hyphenation_commons::maker::fits_key;
-use hyphenation_trie::in_32_bits;
+use hyphenation_trie::{Automaton, Trie, in_32_bits};
 use std::alloc::{AllocError, Global};
 use std::collections::BTreeMap;
 
@@ -23,6 +25,8 @@ pub(crate) struct Value {
 struct Pattern {
     values: Vec<Value>,
     change: Option<Change>,
+    /// The line that spells it, or that of NOHYPHEN.
+    line: usize,
 }
 
 /// What letters and digits spell.
@@ -77,11 +81,18 @@ fn at_slash(line: &str) -> (&str, Option<&str>) {
 }
 
 /// The value 8 at both ends of a key of that length, and within what there was.
-fn forbidding(alloc: Global, len: usize, old: Option<Pattern>) -> Result<Pattern, AllocError> {
+fn forbidding(
+    alloc: Global,
+    len: usize,
+    line: usize,
+    old: Option<Pattern>,
+) -> Result<Pattern, AllocError> {
     let mut values = Vec::new(alloc);
     values.push(Value { place: 0, value: 8 })?;
     let mut change = None;
+    let mut line = line;
     if let Some(old) = old {
+        line = old.line;
         for value in old.values.iter() {
             if 0 < value.place && value.place < len {
                 values.push(*value)?;
@@ -93,14 +104,16 @@ fn forbidding(alloc: Global, len: usize, old: Option<Pattern>) -> Result<Pattern
         place: len,
         value: 8,
     })?;
-    Ok(Pattern { values, change })
+    Ok(Pattern {
+        values,
+        change,
+        line,
+    })
 }
 
 /// The patterns so far.
 #[derive(Drop)]
 pub(crate) struct Levels {
-    /// Whether patterns with changes are taken.
-    changes: bool,
     patterns: BTreeMap<Vec<u8>, Pattern>,
     pub left: Option<u8>,
     pub right: Option<u8>,
@@ -108,10 +121,9 @@ pub(crate) struct Levels {
 }
 
 impl Levels {
-    /// No patterns yet; whether changes are taken.
-    pub(crate) fn new(alloc: Global, changes: bool) -> Levels {
+    /// No patterns yet.
+    pub(crate) fn new(alloc: Global) -> Levels {
         Levels {
-            changes,
             patterns: BTreeMap::new(alloc),
             left: None,
             right: None,
@@ -137,9 +149,6 @@ impl Levels {
         line: usize,
     ) -> Result<(), AllocError> {
         let (body, change) = at_slash(text);
-        if change.is_some() && !self.changes {
-            return self.note(What::ChangeLeftOut, line);
-        }
         let spelling = spelling_of(alloc, body.as_bytes())?;
         if spelling.twice {
             self.note(What::TwoValues, line)?;
@@ -185,7 +194,14 @@ impl Levels {
         }
         if self
             .patterns
-            .insert(key, Pattern { values, change })?
+            .insert(
+                key,
+                Pattern {
+                    values,
+                    change,
+                    line,
+                },
+            )?
             .is_some()
         {
             self.note(What::Repeated, line)?;
@@ -194,13 +210,41 @@ impl Levels {
     }
 
     /// Lets no break stand directly before or after a text: its values there are at least 8, and even.
-    pub(crate) fn forbid(&mut self, alloc: Global, text: &str) -> Result<(), AllocError> {
+    pub(crate) fn forbid(
+        &mut self,
+        alloc: Global,
+        text: &str,
+        line: usize,
+    ) -> Result<(), AllocError> {
         if !has_letters(text.as_bytes()) {
             return Ok(());
         }
         let key = Vec::from_slice(alloc, text.as_bytes())?;
-        let pattern = forbidding(alloc, text.len(), self.patterns.remove(text.as_bytes()))?;
+        let old = self.patterns.remove(text.as_bytes());
+        let pattern = forbidding(alloc, text.len(), line, old)?;
         self.patterns.insert(key, pattern)?;
+        Ok(())
+    }
+
+    /// The patterns with their values, as a text is searched for them.
+    fn automaton(&self, alloc: Global) -> Result<Automaton<Entry<()>>, AllocError> {
+        let mut trie = Trie::new(alloc)?;
+        for (key, pattern) in self.patterns.iter() {
+            let mut entries = plain_entries(alloc, &pattern.values)?;
+            trie.insert(key, &mut entries)?;
+        }
+        trie.freeze(alloc)
+    }
+
+    /// Notes each pattern that hides a value of a shorter one from LibreOffice.
+    pub(crate) fn note_hiding(&mut self, alloc: Global) -> Result<(), AllocError> {
+        let automaton = self.automaton(alloc)?;
+        for (key, pattern) in self.patterns.iter() {
+            if hides_value(&automaton, key) {
+                let line = pattern.line;
+                add_note(&mut self.notes, What::HidesValue, Spot { file: 0, line })?;
+            }
+        }
         Ok(())
     }
 
@@ -210,16 +254,42 @@ impl Levels {
         alloc: Global,
     ) -> Result<Parts<C, B>, LineFault> {
         let mut parts = Parts::new(alloc);
-        let mut unfit = false;
         for (key, pattern) in self.patterns.iter() {
-            let took = take_part(alloc, &mut parts, key, pattern)?;
-            unfit = unfit || !took;
-        }
-        if unfit {
-            self.note(What::Unfit, 1)?;
+            let line = pattern.line;
+            let entries = entries_of::<C>(alloc, pattern)?;
+            if pattern.change.is_some() && !has_change(&entries) {
+                add_note(
+                    &mut self.notes,
+                    What::ChangeForbidden,
+                    Spot { file: 0, line },
+                )?;
+            }
+            if !take_part(alloc, &mut parts, key, entries)? {
+                add_note(&mut self.notes, What::Unfit, Spot { file: 0, line })?;
+            }
         }
         Ok(parts)
     }
+}
+
+/// Values without changes, as entries of a key.
+fn plain_entries(alloc: Global, values: &[Value]) -> Result<Vec<Entry<()>>, AllocError> {
+    let mut entries = Vec::new(alloc);
+    for value in values {
+        entries.push(Entry {
+            place: in_32_bits(value.place)?,
+            value: value.value,
+            change: (),
+        })?;
+    }
+    Ok(entries)
+}
+
+/// Whether one of the entries carries a change.
+fn has_change<C: Payload>(entries: &[Entry<C>]) -> bool {
+    entries
+        .iter()
+        .any(|entry| entry.change.as_change().is_some())
 }
 
 /// The change of a value, where it is at that place.
@@ -231,37 +301,33 @@ fn change_at(
     let Some(change) = change else {
         return Ok(None);
     };
-    if change.place != place || !change.substitution.is_char_boundary(change.breakpoint) {
-        return Ok(None);
-    }
     let substitution = change.substitution.clone()?;
-    if !substitution.is_char_boundary(change.breakpoint) {
+    if change.place != place || !substitution.is_char_boundary(change.breakpoint) {
         return Ok(None);
     }
     Ok(Some(Subregion::new(change.left, change.right, substitution, change.breakpoint)))
 }
 
-/// The entries of a key.
+/// The entries of a key, as a kind of dictionary keeps them.
 fn entries_of<C: Payload>(alloc: Global, pattern: &Pattern) -> Result<Vec<Entry<C>>, AllocError> {
     let mut entries = Vec::new(alloc);
     for value in pattern.values.iter() {
-        entries.push(Entry {
+        entries.push(carried(Entry {
             place: in_32_bits(value.place)?,
             value: value.value,
-            change: C::from_change(change_at(alloc, &pattern.change, value.place)?),
-        })?;
+            change: change_at(alloc, &pattern.change, value.place)?,
+        }))?;
     }
     Ok(entries)
 }
 
-/// Takes in a pattern, if it fits a dictionary. Whether it does.
+/// Takes in a key with its entries, if they fit a dictionary. Whether they do.
 fn take_part<C: Payload, B: Listing>(
     alloc: Global,
     parts: &mut Parts<C, B>,
     key: &[u8],
-    pattern: &Pattern,
+    entries: Vec<Entry<C>>,
 ) -> Result<bool, AllocError> {
-    let entries = entries_of::<C>(alloc, pattern)?;
     let Ok(key) = std::str::from_utf8(key) else {
         return Ok(false);
     };

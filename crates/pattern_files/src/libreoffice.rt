@@ -1,8 +1,9 @@
 //! LibreOffice's `hyph_*.dic`: a charset, settings, and patterns in one or two levels.
 //!
 //! What is said of a key twice is said by the last line, and of two digits in one place the last counts, as in
-//! LibreOffice. The two levels are joined, and all patterns that match a word count, as TeX has it: LibreOffice itself
-//! takes only the longest beginning of a pattern that ends at a letter.
+//! LibreOffice. The two levels are joined, and all patterns that stand in a word count, as in TeX. LibreOffice itself
+//! lets only the longest beginning of a pattern count that ends at a letter; [`crate::longest`] tells where that
+//! differs.
 
 ghost use Rattle.std.specs.Prelude.{◌≡◌, IfOk, IfErr, IfSome};
 ghost use Rattle.pattern_files.specs.Converting.{IsOfFile};
@@ -57,10 +58,12 @@ fn minimum_of(text: &str, line: usize) -> Result<Option<u8>, LineFault> {
 /// What the lines said of all levels.
 #[derive(Clone, Copy, Debug)]
 struct Settings<'a> {
-    /// The texts, with a comma between them, at which no break is to stand.
-    no_hyphen: &'a str,
+    /// The texts, with a comma between them, at which no break is to stand, and their line.
+    no_hyphen: (&'a str, usize),
     /// The line that begins the second level.
     level: Option<usize>,
+    /// Whether a pattern stands in the first level, and in the second.
+    has_patterns: (bool, bool),
 }
 
 /// Takes in a line.
@@ -77,32 +80,58 @@ fn take_line<'a>(
         Line::Right(text) => levels.right = minimum_of(text, number)?,
         Line::Level => settings.level = Some(number),
         Line::NoHyphen(texts) => {
-            settings.no_hyphen = texts;
+            settings.no_hyphen = (texts, number);
             levels.note(What::NoHyphen, number)?;
         }
         Line::Other => levels.note(What::Setting, number)?,
-        Line::Pattern(line) => levels.take_pattern(alloc, line, number)?,
+        Line::Pattern(line) => {
+            match settings.level {
+                None => settings.has_patterns.0 = true,
+                Some(_) => settings.has_patterns.1 = true,
+            }
+            levels.take_pattern(alloc, line, number)?;
+        }
     }
     Ok(())
 }
 
-/// Takes in what stands after line 1.
-fn take_lines(alloc: Global, levels: &mut Levels, text: &str) -> Result<(), LineFault> {
-    let mut settings = Settings {
-        no_hyphen: "",
-        level: None,
-    };
-    for (index, line) in text.split('\n').enumerate() {
-        take_line(alloc, levels, &mut settings, line, index.saturating_add(2))?;
-    }
-    for text in settings.no_hyphen.split(',') {
-        levels.forbid(alloc, text.trim())?;
-    }
-    match settings.level {
-        Some(line) => levels.note(What::TwoLevels, line)?,
-        None => levels.note(What::NoLevels, 1)?,
+/// Notes what the levels mean for LibreOffice. Where only one of them has patterns, they mean the same here.
+fn note_levels(levels: &mut Levels, settings: Settings<'_>) -> Result<(), LineFault> {
+    match (settings.level, settings.has_patterns) {
+        (None, _) => levels.note(What::NoLevels, 1)?,
+        (Some(line), (true, true)) => levels.note(What::TwoLevels, line)?,
+        (Some(_), _) => {}
     }
     Ok(())
+}
+
+/// Takes in lines, of which the first has that number.
+fn take_lines(
+    alloc: Global,
+    levels: &mut Levels,
+    text: &str,
+    first: usize,
+) -> Result<(), LineFault> {
+    let mut settings = Settings {
+        no_hyphen: ("", first),
+        level: None,
+        has_patterns: (false, false),
+    };
+    for (index, line) in text.split('\n').enumerate() {
+        take_line(
+            alloc,
+            levels,
+            &mut settings,
+            line,
+            index.saturating_add(first),
+        )?;
+    }
+    levels.note_hiding(alloc)?;
+    let (texts, line) = settings.no_hyphen;
+    for text in texts.split(',') {
+        levels.forbid(alloc, text.trim(), line)?;
+    }
+    note_levels(levels, settings)
 }
 
 /// Line 1, and what stands after it.
@@ -113,14 +142,32 @@ fn first_line(bytes: &[u8]) -> (&[u8], &[u8]) {
     }
 }
 
+/// Whether line 1 names a charset, known or not: it begins with a capital letter, or as a charset of Windows does, and is
+/// no setting.
+fn names_charset(line: &[u8]) -> bool {
+    let Ok(text) = std::str::from_utf8(line) else {
+        return false;
+    };
+    let is_name = text.starts_with(|c: char| c.is_ascii_uppercase())
+        || text.starts_with("microsoft-");
+    is_name && matches!(line_of(text), Line::Pattern(_))
+}
+
 /// Takes in a file.
 fn take(alloc: Global, levels: &mut Levels, bytes: &[u8]) -> Result<(), LineFault> {
     let (first, rest) = first_line(bytes);
-    let Some(charset) = Charset::from_name(first.trim_ascii()) else {
-        return Err(LineFault::OnLine(1, Cause::Charset));
-    };
-    let text = text_of(alloc, charset, rest, 2)?;
-    take_lines(alloc, levels, &text)?;
+    match Charset::from_name(first.trim_ascii()) {
+        Some(charset) => {
+            let text = text_of(alloc, charset, rest, 2)?;
+            take_lines(alloc, levels, &text, 2)?;
+        }
+        None if names_charset(first) => return Err(LineFault::OnLine(1, Cause::Charset)),
+        None => {
+            levels.note(What::NoCharset, 1)?;
+            let text = text_of(alloc, Charset::Latin1, bytes, 1)?;
+            take_lines(alloc, levels, &text, 1)?;
+        }
+    }
     if levels.is_empty() {
         return Err(LineFault::OnLine(1, Cause::Nothing));
     }
@@ -153,13 +200,11 @@ fn minimum(given: Option<u8>, told: Option<u8>) -> u8
 
 /// Makes a dictionary of a `.dic`. Minima that are not given are those of the file, or 2, as LibreOffice has it.
 ///
-/// Patterns with changes are taken where `changes` says so, else left out, which is noted. It is to say so for extended
-/// dictionaries alone: a standard one would hold such a pattern without its change. The refusal names the first fault:
-/// the line and the cause.
+/// An extended dictionary has the changes of the file's patterns. A standard one can't have them: there such a pattern
+/// forbids the break that it would change, which is noted. The refusal names the first fault: the line and the cause.
 pub fn convert_dic<C: Payload, B: Listing>(
     alloc: Global,
     language: Language,
-    changes: bool,
     left: Option<u8>,
     right: Option<u8>,
     bytes: &[u8],
@@ -169,7 +214,7 @@ pub fn convert_dic<C: Payload, B: Listing>(
     ensures second { IfOk result (λ found. IfSome right (λ given. found.dictionary.right ≡ given)) }
     ensures refused { IfErr result (λ refusal. IsOfFile 0 refusal) }
 {
-    let mut levels = Levels::new(alloc, changes);
+    let mut levels = Levels::new(alloc);
     take(alloc, &mut levels, bytes).map_err(refusal_of)?;
     if left.or(levels.left).is_none() || right.or(levels.right).is_none() {
         levels.note(What::NoMinima, 1)?;

@@ -18,7 +18,9 @@ pub enum What {
     TwoLevels,
     NoMinima,
     NoHyphen,
-    ChangeLeftOut,
+    NoCharset,
+    HidesValue,
+    ChangeForbidden,
     ChangeNumber,
     ChangeParts,
     ChangeWithoutEquals,
@@ -41,10 +43,14 @@ impl fmt::Display for What {
             What::NoLevels =>
                 "no NEXTLEVEL: the breaks that LibreOffice itself adds at - and ' are not there",
             What::TwoLevels =>
-                "two levels (LibreOffice hyphenates parts of compounds apart): joined",
+                "two levels, joined: LibreOffice hyphenates parts of compounds apart, so its breaks may differ",
             What::NoMinima => "no minima in the file: 2 and 2, as LibreOffice takes them",
             What::NoHyphen => "NOHYPHEN: said by patterns with the value 8 at both sides",
-            What::ChangeLeftOut => "a pattern with a change, left out: a standard text has none",
+            What::NoCharset => "no charset on line 1: read as ISO8859-1, as LibreOffice reads it",
+            What::HidesValue =>
+                "a pattern that hides a shorter one from LibreOffice, so its breaks may differ",
+            What::ChangeForbidden =>
+                "a pattern with a change: a standard dictionary forbids that break",
             What::ChangeNumber => "a change with a bad number, left out with its pattern",
             What::ChangeParts => "a change with a wrong number of parts, left out with its pattern",
             What::ChangeWithoutEquals =>
@@ -73,11 +79,14 @@ pub struct Note {
     pub times: u64,
 }
 
-/// Counts one more, where it was noted before.
-fn is_counted(notes: &mut [Note], what: What) -> bool {
+/// Counts one more, where it was noted before. The note's line is the first of all.
+fn is_counted(notes: &mut [Note], what: What, at: Spot) -> bool {
     for note in notes {
         if note.what == what {
             note.times = note.times.saturating_add(1);
+            if at.file == note.first.file && at.line < note.first.line {
+                note.first = at;
+            }
             return true;
         }
     }
@@ -86,7 +95,7 @@ fn is_counted(notes: &mut [Note], what: What) -> bool {
 
 /// Notes something.
 pub(crate) fn add_note(notes: &mut Vec<Note>, what: What, at: Spot) -> Result<(), AllocError> {
-    if is_counted(notes, what) {
+    if is_counted(notes, what, at) {
         return Ok(());
     }
     notes.push(Note {

@@ -91,6 +91,31 @@ fn of_a_repeated_key_the_last_counts(rt: HostRuntime) -> Result<(), Fail> {
 }
 
 #[test]
+fn a_language_may_have_no_exceptions(rt: HostRuntime) -> Result<(), Fail> {
+    let patterns = File {
+        form: Form::Plain(Group::Patterns),
+        bytes: b"a1b\n",
+    };
+    let exceptions = File {
+        form: Form::Plain(Group::Exceptions),
+        bytes: b"",
+    };
+    let text = standard_text(rt.alloc(), &[patterns, exceptions])?;
+    let wanted = format!(in rt.alloc(); "{HEAD}p a1b\n")?;
+    same_bytes("no exceptions", &text, wanted.as_bytes())?;
+    let empty = File {
+        form: Form::Plain(Group::Patterns),
+        bytes: b"",
+    };
+    let wanted = Some(Refusal::Fault {
+        file: 1,
+        line: 1,
+        cause: Cause::Nothing,
+    });
+    same(&refusal(rt.alloc(), &[exceptions, empty]), &wanted)
+}
+
+#[test]
 fn the_first_fault_is_told(rt: HostRuntime) -> Result<(), Fail> {
     let cases: [(Form, &[u8], usize, Cause); 13] = [
         (Form::Tex, b"\\patterns{\na1b\n", 1, Cause::Unclosed),
@@ -175,7 +200,6 @@ fn a_dic_gives_its_changes_to_an_extended_dictionary(rt: HostRuntime) -> Result<
     let converted = convert_dic::<Option<Subregion>, (usize, Option<Subregion>)>(
         rt.alloc(),
         Language::hungarian(),
-        true,
         None,
         None,
         bytes,
@@ -198,7 +222,6 @@ fn a_dic_of_a_legacy_charset_takes_the_last_of_repeated_lines(rt: HostRuntime) -
     let converted = convert_dic::<(), usize>(
         rt.alloc(),
         Language::english_us(),
-        false,
         Some(2),
         Some(3),
         bytes,
@@ -213,10 +236,90 @@ fn a_dic_of_a_legacy_charset_takes_the_last_of_repeated_lines(rt: HostRuntime) -
     }
 }
 
+/// The text of the standard dictionary that a .dic gives, with the minima 2 and 3, and what is noted of it.
+fn standard_of_dic(alloc: Global, bytes: &[u8]) -> Result<(Vec<u8>, Vec<(What, usize, u64)>), Fail> {
+    let language = Language::english_us();
+    let converted = convert_dic::<(), usize>(alloc, language, Some(2), Some(3), bytes);
+    match converted {
+        Ok(converted) => {
+            let text = write_standard(alloc, &converted.dictionary)?;
+            let noted = converted
+                .notes
+                .iter()
+                .map(|n| (n.what, n.first.line, n.times))
+                .collect(alloc)?;
+            Ok((text, noted))
+        }
+        Err(refusal) => Err(refusal.into()),
+    }
+}
+
+#[test]
+fn a_standard_dictionary_forbids_the_breaks_that_a_dic_changes(rt: HostRuntime) -> Result<(), Fail> {
+    let bytes = b"UTF-8\nn1n\n.tin1nye/ny=,4,1\nn9nyel/ny=,1,1\n1k1\n";
+    let (text, noted) = standard_of_dic(rt.alloc(), bytes)?;
+    let wanted = format!(in rt.alloc(); "{HEAD}p .tin2nye\np 1k1\np n1n\np n{{10}}nyel\n")?;
+    let wanted = wanted.as_str().replacen(rt.alloc(), "hyphenation 1", "hyphenation 2", 1)?;
+    same_bytes("a standard text", &text, wanted.as_bytes())?;
+    let forbids = noted
+        .iter()
+        .find(|note| matches!(note.0, What::ChangeForbidden));
+    same(&forbids.copied(), &Some((What::ChangeForbidden, 3, 2)))
+}
+
+#[test]
+fn a_pattern_that_hides_a_value_from_libreoffice_is_noted(rt: HostRuntime) -> Result<(), Fail> {
+    // the patterns from line 2 on, and the first line and the number of those that hide a value
+    let cases: [(&[u8], Option<(usize, u64)>); 9] = [
+        (b"a1b\nxab2c\n", Some((3, 1))),
+        (b"a1b\nxab2c\nxa1b\n", None),
+        (b"a1b\nxab2c\nxa2b\n", None),
+        (b"a3b\nxab2c\nxa2b\n", Some((3, 2))),
+        (b"a1b\nx1ab\n", Some((3, 1))),
+        (b"xabc\nb1\nab1\nd2xab2c\nxab\n", Some((2, 3))),
+        (b"1b\na2b1\nxa2b1\n", None),
+        (b"a1b\na1b1c\na1b1cd\n", None),
+        (b"b1c\nabc\nbc1d\n", Some((3, 1))),
+    ];
+    for (patterns, wanted) in cases {
+        let mut bytes = Vec::from_slice(rt.alloc(), b"UTF-8\n")?;
+        bytes.extend_from_slice(patterns)?;
+        let (_, noted) = standard_of_dic(rt.alloc(), &bytes)?;
+        let hides = noted.iter().find(|note| matches!(note.0, What::HidesValue));
+        let hides = hides.map(|note| (note.1, note.2));
+        same_in(patterns.escape_ascii(), &hides, &wanted)?;
+    }
+    Ok(())
+}
+
+#[test]
+fn two_levels_are_noted_where_both_have_patterns(rt: HostRuntime) -> Result<(), Fail> {
+    let cases: [(&[u8], Option<usize>); 3] = [
+        (b"UTF-8\n1-1\nNEXTLEVEL\na1b\n", Some(3)),
+        (b"UTF-8\nNOHYPHEN -\nNEXTLEVEL\na1b\n", None),
+        (b"UTF-8\na1b\nNEXTLEVEL\n% nothing\n", None),
+    ];
+    for (bytes, wanted) in cases {
+        let (_, noted) = standard_of_dic(rt.alloc(), bytes)?;
+        let levels = noted.iter().find(|note| matches!(note.0, What::TwoLevels));
+        same_in(bytes.escape_ascii(), &levels.map(|note| note.1), &wanted)?;
+    }
+    Ok(())
+}
+
+#[test]
+fn a_dic_without_a_charset_line_is_read_in_latin_1(rt: HostRuntime) -> Result<(), Fail> {
+    let (text, noted) = standard_of_dic(rt.alloc(), b"a1\xe4\nLEFTHYPHENMIN 1\n.b2\n")?;
+    let wanted = format!(in rt.alloc(); "{HEAD}p .b2\np a1ä\n")?;
+    same_bytes("a standard text", &text, wanted.as_bytes())?;
+    let charset = noted.iter().find(|note| matches!(note.0, What::NoCharset));
+    same(&charset.copied(), &Some((What::NoCharset, 1, 1)))
+}
+
 /// Why a .dic is refused.
 fn refusal_of_dic(alloc: Global, bytes: &[u8]) -> Option<Refusal> {
     let language = Language::english_us();
-    convert_dic::<(), usize>(alloc, language, false, None, None, bytes).err()
+    convert_dic::<(), usize>(alloc, language, None, None, bytes).err()
 }
 
 #[test]

@@ -82,10 +82,10 @@ fn a_file_of_each_form_is_converted(rt: HostRuntime) -> Result<(), Fail> {
         "c.tex",
     )?;
     let dic = "UTF-8\nLEFTHYPHENMIN 2\nRIGHTHYPHENMIN 3\nNEXTLEVEL\na1b\nab1c/b=b,2,1\n";
-    let levels =
-        "d.dic:4: note: two levels (LibreOffice hyphenates parts of compounds apart): joined (1)\n";
+    let change =
+        "d.dic:6: note: a pattern with a change: a standard dictionary forbids that break (1)\n";
     holds(
-        converts(&rt, "d.dic", dic, ("-", "-"), "p a1b\n", levels)?,
+        converts(&rt, "d.dic", dic, ("-", "-"), "p a1b\np ab2c\n", change)?,
         "d.dic",
     )
 }
