@@ -237,7 +237,10 @@ fn a_dic_of_a_legacy_charset_takes_the_last_of_repeated_lines(rt: HostRuntime) -
 }
 
 /// The text of the standard dictionary that a .dic gives, with the minima 2 and 3, and what is noted of it.
-fn standard_of_dic(alloc: Global, bytes: &[u8]) -> Result<(Vec<u8>, Vec<(What, usize, u64)>), Fail> {
+fn standard_of_dic(
+    alloc: Global,
+    bytes: &[u8],
+) -> Result<(Vec<u8>, Vec<(What, usize, u64)>), Fail> {
     let language = Language::english_us();
     let converted = convert_dic::<(), usize>(alloc, language, Some(2), Some(3), bytes);
     match converted {
@@ -255,11 +258,15 @@ fn standard_of_dic(alloc: Global, bytes: &[u8]) -> Result<(Vec<u8>, Vec<(What, u
 }
 
 #[test]
-fn a_standard_dictionary_forbids_the_breaks_that_a_dic_changes(rt: HostRuntime) -> Result<(), Fail> {
+fn a_standard_dictionary_forbids_the_breaks_that_a_dic_changes(
+    rt: HostRuntime,
+) -> Result<(), Fail> {
     let bytes = b"UTF-8\nn1n\n.tin1nye/ny=,4,1\nn9nyel/ny=,1,1\n1k1\n";
     let (text, noted) = standard_of_dic(rt.alloc(), bytes)?;
     let wanted = format!(in rt.alloc(); "{HEAD}p .tin2nye\np 1k1\np n1n\np n{{10}}nyel\n")?;
-    let wanted = wanted.as_str().replacen(rt.alloc(), "hyphenation 1", "hyphenation 2", 1)?;
+    let wanted = wanted
+        .as_str()
+        .replacen(rt.alloc(), "hyphenation 1", "hyphenation 2", 1)?;
     same_bytes("a standard text", &text, wanted.as_bytes())?;
     let forbids = noted
         .iter()
