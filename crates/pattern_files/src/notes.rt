@@ -46,7 +46,8 @@ impl fmt::Display for What {
                 "two levels, joined: LibreOffice hyphenates parts of compounds apart, so its breaks may differ",
             What::NoMinima => "no minima in the file: 2 and 2, as LibreOffice takes them",
             What::NoHyphen => "NOHYPHEN: said by patterns with the value 8 at both sides",
-            What::NoCharset => "no charset on line 1: read as ISO8859-1, as LibreOffice reads it",
+            What::NoCharset =>
+                "no charset on line 1: read as ISO8859-1, as in LibreOffice, and line 1 as any other",
             What::HidesValue =>
                 "a pattern that hides a shorter one from LibreOffice, so its breaks may differ",
             What::ChangeForbidden =>

@@ -26,9 +26,11 @@ pub(crate) struct Minima {
     pub(crate) right: Option<u8>,
 }
 
-/// The number after a name, in a comment.
+/// The number after a name, in a comment. A remark may stand after it.
 fn setting_of(comment: &str, name: &str) -> Option<u8> {
-    match comment.strip_prefix(name)?.trim().parse::<u8>() {
+    let told = comment.strip_prefix(name)?.trim();
+    let (number, _remark) = told.split_once(' ').unwrap_or((told, ""));
+    match number.parse::<u8>() {
         Ok(number) => Some(number),
         Err(_) => None,
     }

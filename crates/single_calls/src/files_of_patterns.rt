@@ -189,6 +189,16 @@ fn a_tex_file_tells_its_minima(rt: HostRuntime) -> Result<(), Fail> {
     let form = Form::Tex;
     let told = minima_for(None, None, &[File { form, bytes: head }]);
     same(&told, &Some((2, 3)))?;
+    let remark = b"% hyphenmins:\n% typesetting:\n% left: 2 # 1 is also possible\n% right: 2\n";
+    let told = minima_for(
+        None,
+        None,
+        &[File {
+            form,
+            bytes: remark,
+        }],
+    );
+    same(&told, &Some((2, 2)))?;
     let bytes = b"\\patterns{a1b}";
     same(&minima_for(None, None, &[File { form, bytes }]), &None)
 }
