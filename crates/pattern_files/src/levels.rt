@@ -1,5 +1,8 @@
 //! The patterns of a `.dic`, all of its levels together.
 
+ghost use Rattle.std.specs.Prelude.{◌≡◌, ◌<◌, All, IfOk};
+ghost use Rattle.pattern_files.specs.Private.Read.{change_there, entries_kept};
+
 use crate::change::{Change, change_of};
 use crate::changes::carried;
 use crate::fault::LineFault;
@@ -297,7 +300,9 @@ fn change_at(
     alloc: Global,
     change: &Option<Change>,
     place: usize,
-) -> Result<Option<Subregion>, AllocError> {
+) -> Result<Option<Subregion>, AllocError>
+    ensures { IfOk result (λ found. found ≡ change_there change.now place) }
+{
     let Some(change) = change else {
         return Ok(None);
     };
@@ -308,10 +313,13 @@ fn change_at(
     Ok(Some(Subregion::new(change.left, change.right, substitution, change.breakpoint)))
 }
 
-/// The entries of a key, as a kind of dictionary keeps them.
-fn entries_of<C: Payload>(alloc: Global, pattern: &Pattern) -> Result<Vec<Entry<C>>, AllocError> {
+/// The entries of a key, as a kind of dictionary keeps them. Values are digits, and so below 255.
+fn entries_of<C: Payload>(alloc: Global, pattern: &Pattern) -> Result<Vec<Entry<C>>, AllocError>
+    ensures { All (λ v. v.value < 255) pattern.now.values.items → IfOk result (λ entries.
+        entries.items ≡ entries_kept C.change_of C.payload_of pattern.now) }
+{
     let mut entries = Vec::new(alloc);
-    for value in pattern.values.iter() {
+    for value in &pattern.values {
         entries.push(carried(Entry {
             place: in_32_bits(value.place)?,
             value: value.value,
