@@ -13,7 +13,7 @@ mod quiet;
 mod texts;
 mod whole;
 
-use commands::with_words;
+use command_line::with_words;
 use std::alloc::Global;
 use std::io;
 use std::io::{Read, Write};

@@ -5,8 +5,8 @@
 //! `commands::canonical::answer`, which does all and which tests call.
 #![tactic(auto)]
 
-use commands::canonical::{answer, report_words};
-use commands::with_words;
+use canonical_command::{answer, report_words};
+use command_line::with_words;
 use std::process::ExitCode;
 
 fn main(rt: HostRuntime) -> ExitCode {

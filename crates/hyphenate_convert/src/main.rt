@@ -3,8 +3,8 @@
 //! `main` hands its words to `commands::convert::answer`, which does all and which tests call.
 #![tactic(auto)]
 
-use commands::convert::{answer, report_words};
-use commands::with_words;
+use convert_command::{answer, report_words};
+use command_line::with_words;
 use std::process::ExitCode;
 
 fn main(rt: HostRuntime) -> ExitCode {

@@ -1,23 +1,23 @@
 -- What is written of a word's score, and when a run is refused.
 use Rattle.std.specs.Prelude.{◌≡◌, ◌≢◌, ℕ, List, [], ◌∷◌, ◌++◌, map, decimal, IsUtf8, None, Result, Ok, Err, Option, Some, unwrap_or, slice_index_or}
 use Rattle.std.specs.List.{join_with_byte}
-use Rattle.hyphenation_commons.specs.Break.{Break, plain_break}
-use Rattle.hyphenation_commons.specs.Dictionary.{entries_of_keys}
-use Rattle.dictionary_text.specs.Edits.{after_edits, first_refused}
-use Rattle.dictionary_text.specs.Lines.{lines_of, language_of}
-use Rattle.dictionary_text.specs.Reading.{place_as_listing, break_as_listing, standard_contents, extended_contents}
-use Rattle.dictionary_text.specs.declared.form.Kind.{Kind}
-use Rattle.dictionary_text.specs.declared.form.Kind.TheVariants.{Standard, Extended}
-use Rattle.dictionary_text.specs.declared.Cause.{Cause}
-use Rattle.dictionary_text.specs.declared.Error.{Error}
-use Rattle.dictionary_text.specs.declared.Error.TheVariants.{Deserialization, IO, LanguageMismatch, Memory as NoMemory}
+use Rattle.hyphenation_breaks.specs.Break.{Break, plain_break}
+use Rattle.hyphenation_breaks.specs.Dictionary.{entries_of_keys}
+use Rattle.hyphenation_reader.specs.Edits.{after_edits, first_refused}
+use Rattle.hyphenation_grammar.specs.Lines.{lines_of, language_of}
+use Rattle.hyphenation_grammar.specs.Reading.{place_as_listing, break_as_listing, standard_contents, extended_contents}
+use Rattle.hyphenation_grammar.specs.declared.form.Kind.{Kind}
+use Rattle.hyphenation_grammar.specs.declared.form.Kind.TheVariants.{Standard, Extended}
+use Rattle.hyphenation_grammar.specs.declared.Cause.{Cause}
+use Rattle.hyphenation_grammar.specs.declared.Error.{Error}
+use Rattle.hyphenation_grammar.specs.declared.Error.TheVariants.{Deserialization, IO, LanguageMismatch, Memory as NoMemory}
 use Rattle.hyphenation.specs.declared.engine.RunError.{RunError}
 use Rattle.hyphenation.specs.declared.engine.RunError.TheVariants.{Dictionary, Edit, TextNotUtf8, Input, Output, Memory}
 use Rattle.std.specs.IoError.{error_kind}
 use Rattle.std.specs.declared.io.ErrorKind.TheVariants.{OutOfMemory}
-use Rattle.hyphenation.specs.Fitting.{fitted_breaks_of}
-use Rattle.hyphenation.specs.Load.{TellsIn}
-use Rattle.hyphenation.specs.Opportunities.{no_change, own_break, rules_of, all_breaks_of}
+use Rattle.hyphenation_hyphenator.specs.Fitting.{fitted_breaks_of}
+use Rattle.hyphenation_load.specs.Load.{TellsIn}
+use Rattle.hyphenation_hyphenator.specs.Opportunities.{no_change, own_break, rules_of, all_breaks_of}
 use Rattle.hyphenation_score.specs.Scoring.{own_change, values}
 
 -- Values in decimal, one space between, and a line feed.

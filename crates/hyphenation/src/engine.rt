@@ -3,21 +3,21 @@
 ghost use Rattle.std.specs.Prelude.{◌≡◌, ◌++◌, OnOk, IfOk, IfErr, IfSome, decimal, map};
 ghost use Rattle.std.specs.String.{string_bytes};
 ghost use Rattle.std.specs.Io.KnownBytes.{Appends};
-ghost use Rattle.hyphenation_commons.specs.Dictionary.{entries_of_keys};
-ghost use Rattle.dictionary_text.specs.Judging.{refusal_of};
+ghost use Rattle.hyphenation_breaks.specs.Dictionary.{entries_of_keys};
+ghost use Rattle.hyphenation_grammar.specs.Judging.{refusal_of};
 ghost use Rattle.hyphenation_score.specs.Scoring.{values};
 ghost use Rattle.hyphenation.specs.Engine.{score_line, values_by, breaks_by, IsOfScore, JudgesDictionary, JudgesEdits, JudgesText, BeforeReading, BeforeWriting, HoldsNoWant};
 ghost use Rattle.hyphenation.specs.Private.Engine.{space_before, IsUnwritten};
-ghost use Rattle.hyphenation.specs.Hyphenated.{hyphenated_text};
+ghost use Rattle.hyphenation_hyphenator.specs.Hyphenated.{hyphenated_text};
 
 mod whole;
 
-use crate::load::{Error, Load};
-pub use dictionary_text::form::Kind;
-pub use dictionary_text::number_of;
-use hyphenation_commons::dictionary::{Extended, Standard};
-use hyphenation_commons::extended::Subregion;
-use hyphenation_commons::language::Language;
+use hyphenation_load::{Error, Load};
+pub use hyphenation_grammar::form::Kind;
+pub use hyphenation_grammar::number_of;
+use hyphenation_dictionary::dictionary::{Extended, Standard};
+use hyphenation_breaks::extended::Subregion;
+use hyphenation_breaks::language::Language;
 use hyphenation_score::Score;
 use std::alloc::{AllocError, Global};
 use std::io;

@@ -7,11 +7,11 @@ use Rattle.std.proofs.lemmas.Bool.{cases_eq, or_from, or_parts}
 use Rattle.std.proofs.lemmas.List.Folds.{list_any-append}
 use Rattle.std.proofs.lemmas.Grind.{flat_map-append}
 use Rattle.std.proofs.lemmas.List.{append-nil}
-use Rattle.hyphenation_commons.specs.Break.{Change}
-use Rattle.hyphenation_commons.specs.Dictionary.{Patterns}
+use Rattle.hyphenation_breaks.specs.Break.{Change}
+use Rattle.hyphenation_breaks.specs.Dictionary.{Patterns}
 use Rattle.hyphenation_trie.specs.Links.{EndsWith, IsLongest, IsReport}
 use Rattle.hyphenation_trie.specs.Trie.{Tree, node_text, entries_of_key}
-use Rattle.hyphenation_commons.specs.declared.dictionary.Entry.{Entry}
+use Rattle.hyphenation_breaks.specs.declared.entry.Entry.{Entry}
 use Rattle.hyphenation_score.specs.Private.OnePass.{entries_of_end, entries_of_ends}
 use Rattle.hyphenation_score.specs.OnePass.{carry_change}
 use Rattle.hyphenation_score.specs.Scoring.{frame, bearers_between, bearers_from, bearers, greatest_value, winner_at}

@@ -3,8 +3,8 @@ use Rattle.std.proofs.Common.{◌≡◌, ℕ, zero, suc, ◌+◌, ◌<◌, ◌�
 use Rattle.std.specs.List.{flat_map, range_with_len}
 use Rattle.std.proofs.lemmas.List.{map-append}
 use Rattle.std.proofs.lemmas.Grind.{fold-append}
-use Rattle.hyphenation_commons.specs.declared.dictionary.Entry.{Entry}
-use Rattle.hyphenation_commons.specs.Dictionary.{greatest}
+use Rattle.hyphenation_breaks.specs.declared.entry.Entry.{Entry}
+use Rattle.hyphenation_breaks.specs.Dictionary.{greatest}
 use Rattle.hyphenation_score.specs.Scoring.{greatest_value}
 
 pub greatest_from : (a : ℕ) (ns : List ℕ) → fold max a ns ≡ max a (greatest ns)

@@ -6,7 +6,7 @@ use Rattle.std.specs.Ordering.{nat_cmp, eq_by_cmp}
 use Rattle.std.specs.Cmp.Lexicographic.{slice_cmp, texts_ties}
 use Rattle.std.specs.FinMap as finite
 use Rattle.std.specs.FinMap.{contains_key-keys}
-use Rattle.hyphenation_commons.specs.Dictionary.{Contents, entries_of_keys, greatest, longest_key}
+use Rattle.hyphenation_breaks.specs.Dictionary.{Contents, entries_of_keys, greatest, longest_key}
 use Rattle.hyphenation_score.proofs.GreatestValues.{greatest_from}
 use Rattle.hyphenation_trie.proofs.TrieNodes.{same_text}
 

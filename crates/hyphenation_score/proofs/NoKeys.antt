@@ -2,10 +2,10 @@
 use Rattle.std.proofs.Common.{◌≡◌, ℕ, List, Option, Some, None, refl, sym, subst, arith}
 use Rattle.std.specs.Prelude.{IsSome}
 use Rattle.std.proofs.lemmas.List.{nil_from_length}
-use Rattle.hyphenation_commons.specs.Break.{Break, Change}
-use Rattle.hyphenation_commons.specs.Dictionary.{Contents, entries_of_keys, longest_key}
-use Rattle.hyphenation_commons.specs.Invariant.{IsDictionary}
-use Rattle.hyphenation_commons.specs.declared.dictionary.Entry.{Entry}
+use Rattle.hyphenation_breaks.specs.Break.{Break, Change}
+use Rattle.hyphenation_breaks.specs.Dictionary.{Contents, entries_of_keys, longest_key}
+use Rattle.hyphenation_breaks.specs.Invariant.{IsDictionary}
+use Rattle.hyphenation_breaks.specs.declared.entry.Entry.{Entry}
 use Rattle.hyphenation_score.proofs.Longest.{no_longer}
 
 pub none_at_all : {C B : Type 0} (change_of : C → Option Change) (break_of : B → Break) (contents : Contents C B) → IsDictionary change_of break_of contents → longest_key contents ≡ 0 → (q : List ℕ) → entries_of_keys contents q ≡ None

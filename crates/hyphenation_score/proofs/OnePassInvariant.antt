@@ -7,7 +7,7 @@ use Rattle.std.proofs.lemmas.List.FromFn.{length-map-range_with_len, get_or-map-
 use Rattle.hyphenation_trie.specs.Trie.{Tree, node_text, entries_of_key, IsTrie, EachBeginsKey}
 use Rattle.hyphenation_trie.specs.Links.{IsLongest}
 use Rattle.hyphenation_trie.specs.Private.Links.{keys_in}
-use Rattle.hyphenation_commons.specs.declared.dictionary.Entry.{Entry}
+use Rattle.hyphenation_breaks.specs.declared.entry.Entry.{Entry}
 use Rattle.hyphenation_trie.proofs.Suffixes.{longest_more, Ends-refl}
 use Rattle.hyphenation_score.specs.Scoring.{frame, greatest_value, value_at, values}
 use Rattle.hyphenation_score.specs.OnePass.{keys_ending, occurrences}

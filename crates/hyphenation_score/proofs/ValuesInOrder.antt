@@ -4,8 +4,8 @@ use Rattle.std.specs.Prelude.{IfOk, slice_get}
 use Rattle.std.proofs.lemmas.Simd.{map-map}
 use Rattle.std.proofs.lemmas.Option.{slice_get-get_or}
 use Rattle.std.proofs.lemmas.List.FromFn.{length-map-range_with_len, get_or-map-range_with_len}
-use Rattle.hyphenation_commons.specs.Break.{Change}
-use Rattle.hyphenation_commons.specs.Dictionary.{Patterns}
+use Rattle.hyphenation_breaks.specs.Break.{Change}
+use Rattle.hyphenation_breaks.specs.Dictionary.{Patterns}
 use Rattle.hyphenation_score.specs.Scoring.{frame, places, bearers, value_at, winner_at, value_of, values, winners, Scored, score_of_winner, scored_pair, scores}
 use Rattle.hyphenation_score.proofs.FirstGreatest.{value_of-first}
 

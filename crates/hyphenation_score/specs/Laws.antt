@@ -1,7 +1,7 @@
 -- What is true of all values and winners, in terms of single keys.
 use Rattle.std.specs.Prelude.{◌≡◌, ℕ, ◌+◌, ◌-◌, ◌<◌, ◌≤◌, ◌⊎◌, ◌↔◌, List, length, slice_get, Some, None}
-use Rattle.hyphenation_commons.specs.Dictionary.{Patterns}
-use Rattle.hyphenation_commons.specs.declared.dictionary.Entry.{Entry}
+use Rattle.hyphenation_breaks.specs.Dictionary.{Patterns}
+use Rattle.hyphenation_breaks.specs.declared.entry.Entry.{Entry}
 use Rattle.hyphenation_score.specs.Scoring.{frame, value_at, values, winner_at, winners}
 use Rattle.hyphenation_score.specs.Winners.{Best, IsPair, Holds, Bears, Wins}
 

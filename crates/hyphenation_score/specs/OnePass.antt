@@ -1,9 +1,9 @@
 -- Keys by their ends, as one pass over the frame meets them.
 use Rattle.std.specs.Prelude.{ℕ, Bool, List, length, slice_range, Option, is_some, count_by}
 use Rattle.std.specs.List.{list_any, range_with_len, sum_by}
-use Rattle.hyphenation_commons.specs.Break.{Change}
-use Rattle.hyphenation_commons.specs.Dictionary.{Patterns}
-use Rattle.hyphenation_commons.specs.declared.dictionary.Entry.{Entry}
+use Rattle.hyphenation_breaks.specs.Break.{Change}
+use Rattle.hyphenation_breaks.specs.Dictionary.{Patterns}
+use Rattle.hyphenation_breaks.specs.declared.entry.Entry.{Entry}
 
 -- How many keys end there in the frame, the empty one not counted.
 abbrev pub keys_ending : {C : Type 0} → Patterns C → List ℕ → ℕ → ℕ

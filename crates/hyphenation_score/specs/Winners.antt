@@ -1,7 +1,7 @@
 -- What bears on a place and wins it, in terms of single keys; and the winner as one pass finds it: keys by their ends.
 use Rattle.std.specs.Prelude.{◌≡◌, ℕ, ◌<◌, ◌≤◌, ◌⊎◌, List, length, Option, Some, None, slice_range, ◌+◌}
-use Rattle.hyphenation_commons.specs.Dictionary.{Patterns}
-use Rattle.hyphenation_commons.specs.declared.dictionary.Entry.{Entry}
+use Rattle.hyphenation_breaks.specs.Dictionary.{Patterns}
+use Rattle.hyphenation_breaks.specs.declared.entry.Entry.{Entry}
 use Rattle.hyphenation_score.specs.Scoring.{bearers_between, first_greatest, greatest_value, frame}
 use Rattle.std.specs.List.{IsAmong}
 

@@ -4,7 +4,7 @@
 //! the best entry so far, where its key starts. Of two that start at one byte the shorter is met first.
 
 ghost use Rattle.std.specs.Prelude.{◌≡◌, ◌+◌, ◌-◌, ◌*◌, ◌<◌, ◌≤◌, ◌^◌, ◌==◌, if◌then◌else◌, ℕ, List, None, Some, length, filter, map, take, option_copied, IfOk, OnOk};
-ghost use Rattle.hyphenation_commons.specs.Dictionary.{entries_of_keys, longest_key};
+ghost use Rattle.hyphenation_breaks.specs.Dictionary.{entries_of_keys, longest_key};
 ghost use Rattle.hyphenation_trie.specs.Links.{IsLongest};
 ghost use Rattle.hyphenation_trie.specs.Private.Links.{keys_in};
 ghost use Rattle.hyphenation_trie.specs.Trie.{node_text, entries_of_key, EachBeginsKey};
@@ -14,8 +14,10 @@ ghost use Rattle.hyphenation_score.specs.Winners.{Holds};
 ghost use Rattle.hyphenation_score.specs.Private.Winners.{best_of, meets, Sane, Asked};
 
 use super::framed_at;
-use hyphenation_commons::breaks::Break;
-use hyphenation_commons::dictionary::{Dictionary, Entry, Payload};
+use hyphenation_breaks::breaks::Break;
+use hyphenation_breaks::entry::{Entry, Payload};
+use hyphenation_dictionary::dictionary::Dictionary;
+use hyphenation_dictionary::search::automaton_of;
 use hyphenation_trie::{Automaton, LookUps};
 use std::alloc::{AllocError, Global};
 
@@ -190,5 +192,5 @@ pub fn winners<'d, C: Payload, B: Break>(
         + occurrences (entries_of_keys dictionary.now) (frame word.now) }
 {
     dictionary.invariant();
-    winners_in(alloc, dictionary.patterns(), word.as_bytes(), count)
+    winners_in(alloc, automaton_of(dictionary), word.as_bytes(), count)
 }

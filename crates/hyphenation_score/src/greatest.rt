@@ -5,7 +5,7 @@
 //! values alone say where the word may be broken.
 
 ghost use Rattle.std.specs.Prelude.{◌≡◌, ◌+◌, ◌-◌, ◌*◌, ◌<◌, ◌≤◌, ◌^◌, ◌==◌, ◌++◌, ◌∷◌, [], if◌then◌else◌, max, ℕ, List, None, false, length, filter, slice_index, is_some, IfOk, OnOk};
-ghost use Rattle.hyphenation_commons.specs.Dictionary.{entries_of_keys, longest_key};
+ghost use Rattle.hyphenation_breaks.specs.Dictionary.{entries_of_keys, longest_key};
 ghost use Rattle.hyphenation_trie.specs.Links.{IsLongest};
 ghost use Rattle.hyphenation_trie.specs.Private.Links.{keys_in};
 ghost use Rattle.hyphenation_trie.specs.Trie.{node_text, entries_of_key, EachBeginsKey};
@@ -13,8 +13,10 @@ ghost use Rattle.hyphenation_score.specs.OnePass.{occurrences, carry_change};
 ghost use Rattle.hyphenation_score.specs.Private.OnePass.{entries_of_ends};
 ghost use Rattle.hyphenation_score.specs.Scoring.{frame, bearers, greatest_value, values};
 
-use hyphenation_commons::breaks::Break;
-use hyphenation_commons::dictionary::{Dictionary, Entry, Payload};
+use hyphenation_breaks::breaks::Break;
+use hyphenation_breaks::entry::{Entry, Payload};
+use hyphenation_dictionary::dictionary::Dictionary;
+use hyphenation_dictionary::search::automaton_of;
 use hyphenation_trie::{Automaton, LookUps};
 use std::alloc::{AllocError, Global};
 
@@ -274,5 +276,5 @@ pub(super) fn values<C: Payload, B: Break>(
         + occurrences (entries_of_keys dictionary.now) (frame word.now) }
 {
     dictionary.invariant();
-    values_in(alloc, dictionary.patterns(), word.as_bytes(), count)
+    values_in(alloc, automaton_of(dictionary), word.as_bytes(), count)
 }

@@ -25,7 +25,7 @@
 #![tactic(auto)]
 
 ghost use Rattle.std.specs.Prelude.{◌≡◌, ◌↔◌, ◌+◌, ◌-◌, ◌*◌, ◌%◌, ◌<◌, ◌≤◌, ◌^◌, length, map, slice_index, option_copied, IfOk, OnOk, IsTrue};
-ghost use Rattle.hyphenation_commons.specs.Dictionary.{entries_of_keys, longest_key};
+ghost use Rattle.hyphenation_breaks.specs.Dictionary.{entries_of_keys, longest_key};
 ghost use Rattle.hyphenation_score.specs.OnePass.{occurrences};
 ghost use Rattle.hyphenation_score.specs.Scoring.{own_change, score_of_winner, scores, scored_pair, frame, values, plain_value};
 
@@ -37,8 +37,9 @@ pub mod laws;
 pub use contest::{winners, winners_in};
 pub use greatest::raise_all;
 use greatest::values;
-use hyphenation_commons::dictionary::{Entry, Extended, Standard};
-use hyphenation_commons::extended::Subregion;
+use hyphenation_breaks::entry::Entry;
+use hyphenation_breaks::extended::Subregion;
+use hyphenation_dictionary::dictionary::{Extended, Standard};
 pub use hyphenation_trie::LookUps;
 use std::alloc::{AllocError, Global};
 
@@ -110,7 +111,7 @@ pub trait Score<'d> {
 
 impl<'d> Score<'d> for Standard {
     ghost use Rattle.std.specs.Prelude.{None, map};
-    ghost use Rattle.hyphenation_commons.specs.Dictionary.{entries_of_keys, longest_key};
+    ghost use Rattle.hyphenation_breaks.specs.Dictionary.{entries_of_keys, longest_key};
     ghost use Rattle.hyphenation_score.specs.OnePass.{occurrences};
     ghost use Rattle.hyphenation_score.specs.Scoring.{frame, values, plain_value};
 
@@ -222,7 +223,7 @@ fn scores<'d>(
 }
 
 impl<'d> Score<'d> for Extended {
-    ghost use Rattle.hyphenation_commons.specs.Dictionary.{entries_of_keys, longest_key};
+    ghost use Rattle.hyphenation_breaks.specs.Dictionary.{entries_of_keys, longest_key};
     ghost use Rattle.hyphenation_score.specs.Scoring.{own_change, frame, scores, scored_pair};
     ghost use Rattle.hyphenation_score.specs.OnePass.{occurrences};
 

@@ -3,7 +3,7 @@ use Rattle.std.proofs.Common.{◌≡◌, ℕ, ◌+◌, ◌-◌, ◌≤◌, List,
 use Rattle.std.specs.List.{concat, slice_range}
 use Rattle.std.proofs.Math.Seq.{drop-cons}
 use Rattle.std.proofs.lemmas.Str.{IsCharBoundary-start}
-use Rattle.hyphenation_commons.specs.Break.{Break, plain_break, begin_of, end_of, before_of, after_of}
+use Rattle.hyphenation_breaks.specs.Break.{Break, plain_break, begin_of, end_of, before_of, after_of}
 use Rattle.hyphenation_segments.specs.Fits.{Stands, FitsFrom, Fits}
 use Rattle.hyphenation_segments.specs.Segments.{segments_after, marked_segments, mark_if_more}
 use Rattle.hyphenation_segments.proofs.SegmentsJoin.{more_come, last_segment}

@@ -2,7 +2,7 @@
 use Rattle.std.proofs.Common.{◌≡◌, ℕ, ◌+◌, ◌≤◌, ◌↔◌, Bool, false, List, [], ◌∷◌, length, map, subst, sym, ap, arith, refl, Option, Some, IfSome, Result, Ok, Err, IfOk}
 use Rattle.std.specs.Cow.{cow_str_bytes, IsBorrowedStr}
 use Rattle.std.specs.declared.borrow.CowStr.{CowStr}
-use Rattle.hyphenation_commons.specs.Break.{Break, plain_break, end_of}
+use Rattle.hyphenation_breaks.specs.Break.{Break, plain_break, end_of}
 use Rattle.hyphenation_segments.specs.Fits.{FitsFrom, Stands}
 use Rattle.hyphenation_segments.specs.ChangedSegments.{made_segments_after, text_held}
 use Rattle.hyphenation_segments.specs.Private.ChangedSegments.{last_break, FitsAfterLast, made_segments_from}

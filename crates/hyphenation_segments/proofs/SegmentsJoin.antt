@@ -4,7 +4,7 @@ use Rattle.std.specs.List.{concat, slice_range}
 use Rattle.std.proofs.Math.Nat.{sub-zero}
 use Rattle.std.proofs.lemmas.List.{drop_all, drop-append-le, drop-take, length-take-le}
 use Rattle.std.proofs.lemmas.List.Folds.{drop_split}
-use Rattle.hyphenation_commons.specs.Break.{Break, plain_break}
+use Rattle.hyphenation_breaks.specs.Break.{Break, plain_break}
 use Rattle.hyphenation_segments.specs.Fits.{FitsFrom}
 use Rattle.hyphenation_segments.specs.Segments.{segment_between, segments_after, mark_if_more, marked_segments}
 use Rattle.hyphenation_segments.specs.Laws.{break_number, with_marks}

@@ -2,7 +2,7 @@
 use Rattle.std.specs.Prelude.{◌≡◌, ℕ, ◌||◌, ◌↔◌, Bool, false, List, [], ◌∷◌, length, Option, None, Some, MatchOption, Result, Ok, Err, IfOk, IsOk}
 use Rattle.std.specs.Cow.{cow_str_bytes, IsBorrowedStr}
 use Rattle.std.specs.declared.borrow.CowStr.{CowStr}
-use Rattle.hyphenation_commons.specs.Break.{Break, plain_break, is_changed}
+use Rattle.hyphenation_breaks.specs.Break.{Break, plain_break, is_changed}
 use Rattle.hyphenation_segments.specs.Segments.{segment_between}
 
 -- The segments after a break, each with whether it is made anew: whether a break beside it has a change.

@@ -1,7 +1,7 @@
 -- The breaks that fit a text.
 use Rattle.std.specs.Prelude.{ℕ, ◌+◌, ◌≤◌, List, [], ◌∷◌, ⊤}
 use Rattle.std.specs.Str.{IsCharBoundary}
-use Rattle.hyphenation_commons.specs.Break.{Break, left_of, begin_of, end_of}
+use Rattle.hyphenation_breaks.specs.Break.{Break, left_of, begin_of, end_of}
 
 -- A break stands in a text: its place is no less than the least one; its range begins within the text, and no earlier
 -- than the range before it ends; and its place and both ends of its range are character boundaries of the text.

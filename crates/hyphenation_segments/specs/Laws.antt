@@ -1,7 +1,7 @@
 -- What is true of all segments.
 use Rattle.std.specs.Prelude.{◌≡◌, ℕ, ◌+◌, ◌≤◌, List, map, length, slice_get, Some, [], drop, slice_index_or, take, ◌++◌, ◌∷◌}
 use Rattle.std.specs.List.{concat}
-use Rattle.hyphenation_commons.specs.Break.{Break, plain_break}
+use Rattle.hyphenation_breaks.specs.Break.{Break, plain_break}
 use Rattle.hyphenation_segments.specs.Fits.{Fits}
 use Rattle.hyphenation_segments.specs.ChangedSegments.{made_segments}
 use Rattle.hyphenation_segments.specs.Segments.{segments, segment_between, marked_segments}

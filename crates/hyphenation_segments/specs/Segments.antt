@@ -1,7 +1,7 @@
 -- The segments of a text, and their marks.
 use Rattle.std.specs.Prelude.{ℕ, List, [], ◌∷◌, ◌++◌, length, slice_range}
 use Rattle.std.specs.List.{concat}
-use Rattle.hyphenation_commons.specs.Break.{Break, plain_break, begin_of, end_of, before_of, after_of}
+use Rattle.hyphenation_breaks.specs.Break.{Break, plain_break, begin_of, end_of, before_of, after_of}
 
 -- What stands between two breaks: the second half of the change before it, the text between the two ranges, and the
 -- first half of the change after it.

@@ -5,7 +5,7 @@
 //! with its mark. [`push_marked`] writes them all after a text at once.
 
 ghost use Rattle.std.specs.Prelude.{◌≡◌, ℕ, List, Bool, false, Option, Some, None, length, IsSome, MatchResult};
-ghost use Rattle.hyphenation_commons.specs.Break.{Break};
+ghost use Rattle.hyphenation_breaks.specs.Break.{Break};
 ghost use Rattle.hyphenation_segments.specs.Remaining.{TakesFirst, TakesFirstOrRefuses};
 
 mod changed;
@@ -15,7 +15,7 @@ mod marks;
 mod plain;
 
 pub use changed::SegmentsExt;
-use hyphenation_commons::breaks::Break;
+use hyphenation_breaks::breaks::Break;
 pub use joined::push_marked;
 pub use marks::{Hyphenating, Iter};
 pub use plain::Segments;

@@ -1,11 +1,11 @@
 //! Words, and the breaks that fit them.
 
 ghost use Rattle.std.specs.Prelude.{◌≡◌, ◌↔◌, map, IsTrue, IfOk, MatchOption};
-ghost use Rattle.hyphenation_commons.specs.Break.{end_of};
+ghost use Rattle.hyphenation_breaks.specs.Break.{end_of};
 ghost use Rattle.hyphenation_segments.specs.Fits.{Fits, Stands};
 ghost use Rattle.hyphenation_segments.specs.Private.Fits.{FitsFrom-prop};
 
-use hyphenation_commons::breaks::Break;
+use hyphenation_breaks::breaks::Break;
 use std::alloc::{AllocError, Global};
 
 /// A word with the breaks that fit it, as `Word::fits` says.

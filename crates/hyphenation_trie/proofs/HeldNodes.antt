@@ -6,8 +6,8 @@ use Rattle.hyphenation_trie.specs.Private.Links.{parent_of}
 use Rattle.hyphenation_trie.specs.Private.States.{IsHeld, froms_by, span_in}
 use Rattle.hyphenation_trie.specs.Private.Trie.{tree_of, texts_of, with_child, AreWithin, IsWithin}
 use Rattle.hyphenation_trie.specs.Trie.{IsTrie}
-use Rattle.hyphenation_trie.specs.declared.Span.{Span}
-use Rattle.hyphenation_trie.specs.declared.frozen.State.{State}
+use Rattle.hyphenation_trie.specs.declared.state.Span.{Span}
+use Rattle.hyphenation_trie.specs.declared.state.State.{State}
 use Rattle.hyphenation_trie.proofs.FrozenTrie.{length-froms_by, froms_by-push, first-push}
 use Rattle.hyphenation_trie.proofs.TrieNodes.{IsTrie-seen, seen-grown, length-texts_of, all_within-more, all_within-push, all_within-set}
 

@@ -8,10 +8,10 @@ use Rattle.hyphenation_trie.specs.Private.Links.{IsFrozen}
 use Rattle.hyphenation_trie.specs.Private.States.{no_reports, links_with, froms_by, texts_by, span_in, unlinked, HasStates}
 use Rattle.hyphenation_trie.specs.Trie.{Tree, node_text, entries_of_key}
 use Rattle.hyphenation_trie.specs.Private.Trie.{tree_of, entries_there, IsWithin, AreWithin}
-use Rattle.hyphenation_trie.specs.declared.Span.{Span}
+use Rattle.hyphenation_trie.specs.declared.state.Span.{Span}
 use Rattle.hyphenation_trie.specs.declared.frozen.Moves.{Moves}
 use Rattle.hyphenation_trie.specs.declared.frozen.Reports.{Reports}
-use Rattle.hyphenation_trie.specs.declared.frozen.State.{State}
+use Rattle.hyphenation_trie.specs.declared.state.State.{State}
 use Rattle.hyphenation_trie.specs.declared.rows.Cell.{Cell}
 use Rattle.hyphenation_trie.proofs.TrieNodes.{entries_at-here}
 

@@ -11,7 +11,7 @@ use Rattle.std.specs.Option.{option_map}
 use Rattle.std.specs.List.{slice_range}
 use Rattle.std.proofs.Math.Seq.{drop-append_seam, take-length}
 use Rattle.std.specs.Cmp.Lexicographic.{pointwise}
-use Rattle.hyphenation_trie.specs.declared.Span.{Span}
+use Rattle.hyphenation_trie.specs.declared.state.Span.{Span}
 
 length-fold : (acc : List (List ℕ)) (fs : List (Option (ℕ × ℕ))) → length (fold with_node_text acc fs) ≡ length acc + length fs
 length-fold acc [] = omega arith

@@ -1,4 +1,1 @@
 -- What private functions and proofs are stated by. No contract of a public call cites it, so it is not for signing.
-pub mod Filling
-pub mod Open
-pub mod WordBreaks

@@ -3,16 +3,16 @@
 ghost use Rattle.std.specs.Prelude.{◌≡◌, [], OnOk, IfOk, IfErr, IfSome, map};
 ghost use Rattle.std.specs.String.{string_bytes};
 ghost use Rattle.std.specs.Io.KnownBytes.{Appends};
-ghost use Rattle.hyphenation_commons.specs.Break.{plain_break};
-ghost use Rattle.dictionary_text.specs.Judging.{refusal_of};
+ghost use Rattle.hyphenation_breaks.specs.Break.{plain_break};
+ghost use Rattle.hyphenation_grammar.specs.Judging.{refusal_of};
 ghost use Rattle.hyphenation.specs.Engine.{JudgesDictionary, JudgesEdits, JudgesText, BeforeReading, BeforeWriting, HoldsNoWant};
 ghost use Rattle.hyphenation.specs.Private.Engine.{IsUnwritten};
-ghost use Rattle.hyphenation.specs.Opportunities.{no_change, rules_of, all_breaks_of};
-ghost use Rattle.linefill.specs.Lines.{lines_by};
+ghost use Rattle.hyphenation_hyphenator.specs.Opportunities.{no_change, rules_of, all_breaks_of};
+ghost use Rattle.line_filling.specs.Lines.{lines_by};
 ghost use Rattle.linefill.specs.Run.{lines_by_bytes};
-ghost use Rattle.dictionary_text.specs.Canonical.{with_line_feeds};
+ghost use Rattle.hyphenation_writer.specs.Canonical.{with_line_feeds};
 
-use crate::filling::fill;
+use line_filling::fill;
 use hyphenation::engine::{Kind, RunError, read_input};
 use hyphenation::{Language, Load, Standard};
 use std::alloc::{AllocError, Global};

@@ -2,7 +2,7 @@
 use Rattle.std.proofs.Common.{◌≡◌, ◌∙◌, ℕ, ◌+◌, ◌==◌, ◌||◌, Bool, true, false, if◌then◌else◌, List, [], ◌∷◌, ◌++◌, map, fold, length, refl, sym, ap, append_assoc, Some, None}
 use Rattle.std.proofs.lemmas.List.{append-nil, map-append}
 use Rattle.std.specs.Prelude.{codes}
-use Rattle.dictionary_text.specs.Lines.{is_same}
+use Rattle.hyphenation_grammar.specs.Lines.{is_same}
 use Rattle.hyphenation_trie.proofs.TrieNodes.{same_text}
 use Rattle.pattern_files.specs.Groups.{Piece, GroupWord, Found, place_after, with_piece, with_piece_outside, with_piece_at, closed_at, groups, nothing_found, with_plain, plain_words}
 use Rattle.pattern_files.specs.declared.fault.Cause.TheVariants.{Input}

@@ -4,7 +4,7 @@ use Rattle.std.proofs.lemmas.List.Sums.{fold-append}
 use Rattle.std.specs.Prelude.{codes}
 use Rattle.pattern_files.specs.Converting.{words_of, group_fault}
 use Rattle.pattern_files.specs.Groups.{groups, plain_words, Piece, Lexed, with_piece_ended, with_byte, nothing_lexed, pieces_of, is_space}
-use Rattle.dictionary_text.specs.Tokens.{is_brace}
+use Rattle.hyphenation_grammar.specs.Tokens.{is_brace}
 use Rattle.pattern_files.specs.declared.group.Form.{Form}
 use Rattle.pattern_files.specs.declared.group.Form.TheVariants.{Tex, Plain}
 use Rattle.pattern_files.specs.TexFiles.{HasNo}

@@ -9,8 +9,8 @@ use Rattle.std.specs.Cmp.Lexicographic.{slice_cmp, pointwise, nat_list_eq_equiv,
 use Rattle.std.specs.FinMap as finite
 use Rattle.std.specs.List.{list_any, range_with_len, starts_with, IsAmong}
 use Rattle.std.specs.Ordering.{eq_by_cmp}
-use Rattle.hyphenation_commons.specs.Dictionary.{Patterns, TextMap, greatest}
-use Rattle.hyphenation_commons.specs.declared.dictionary.Entry.{Entry}
+use Rattle.hyphenation_breaks.specs.Dictionary.{Patterns, TextMap, greatest}
+use Rattle.hyphenation_breaks.specs.declared.entry.Entry.{Entry}
 use Rattle.hyphenation_score.specs.Laws.{ValueIsBorne, ValueIsGreatest}
 use Rattle.hyphenation_score.specs.Scoring.{frame, greatest_value, value_at}
 use Rattle.hyphenation_score.specs.Winners.{Bears}

@@ -5,9 +5,9 @@ use Rattle.std.specs.Prelude.{is_some, option_map, slice_range, if◌then◌else
 use Rattle.std.specs.List.{IsAmong}
 use Rattle.std.specs.Option.{option_and_then}
 use Rattle.std.proofs.lemmas.List.{length-map, get_or-map}
-use Rattle.hyphenation_commons.specs.Break.{Change}
-use Rattle.hyphenation_commons.specs.Dictionary.{Patterns}
-use Rattle.hyphenation_commons.specs.declared.dictionary.Entry.{Entry}
+use Rattle.hyphenation_breaks.specs.Break.{Change}
+use Rattle.hyphenation_breaks.specs.Dictionary.{Patterns}
+use Rattle.hyphenation_breaks.specs.declared.entry.Entry.{Entry}
 use Rattle.hyphenation_score.specs.Laws.{ValueIsGreatest, ValueIsBorne, WinnerIsFirst}
 use Rattle.hyphenation_score.specs.Scoring.{frame, value_at, winner_at}
 use Rattle.hyphenation_score.specs.Winners.{Bears}

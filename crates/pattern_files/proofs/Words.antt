@@ -3,10 +3,10 @@ use Rattle.std.proofs.Common.{◌≡◌, ◌⊎◌, ◌∙◌, ℕ, ◌&&◌, Bo
 use Rattle.std.specs.Prelude.{IsTrue, ◌↔◌}
 use Rattle.std.specs.List.{list_all}
 use Rattle.std.specs.Str.{is_utf8}
-use Rattle.hyphenation_commons.specs.Break.{Break, Change, plain_break, ascend_on}
-use Rattle.hyphenation_commons.specs.Invariant.{has_letter, are_entries, are_listed, is_value, stays_within, lists_within}
-use Rattle.hyphenation_commons.specs.Maker.{fits_key}
-use Rattle.hyphenation_commons.specs.declared.dictionary.Entry.{Entry}
+use Rattle.hyphenation_breaks.specs.Break.{Break, Change, plain_break, ascend_on}
+use Rattle.hyphenation_breaks.specs.Invariant.{has_letter, are_entries, are_listed, is_value, stays_within, lists_within}
+use Rattle.hyphenation_dictionary.specs.Maker.{fits_key}
+use Rattle.hyphenation_breaks.specs.declared.entry.Entry.{Entry}
 use Rattle.pattern_files.specs.Spelling.{letters, digit_values, entries_of_digits, entry_without_change, carries_nothing, unhyphenated, hyphens_from, breaks_of_hyphens, letter_cause}
 use Rattle.pattern_files.specs.declared.fault.Cause.TheVariants.{NotUtf8}
 use Rattle.pattern_files.specs.declared.group.Group.TheVariants.{Patterns, Exceptions}

@@ -2,9 +2,9 @@
 -- Source: L. Németh, Automatic non-standard hyphenation in OpenOffice.org, TUGboat 27:1 (2006).
 use Rattle.std.specs.Prelude.{◌≡◌, ℕ, ◌+◌, ◌%◌, ◌&&◌, not, List, map, Option, None, option_map, is_some, if◌then◌else◌}
 use Rattle.std.specs.Option.{option_and_then}
-use Rattle.hyphenation_commons.specs.Break.{Change}
-use Rattle.hyphenation_commons.specs.Dictionary.{Patterns}
-use Rattle.hyphenation_commons.specs.declared.dictionary.Entry.{Entry}
+use Rattle.hyphenation_breaks.specs.Break.{Change}
+use Rattle.hyphenation_breaks.specs.Dictionary.{Patterns}
+use Rattle.hyphenation_breaks.specs.declared.entry.Entry.{Entry}
 use Rattle.hyphenation_score.specs.Scoring.{value_at, winner_at}
 
 -- An odd number's next even number; an even number itself.

@@ -2,10 +2,10 @@
 use Rattle.std.specs.Prelude.{◌≡◌, ℕ, ◌+◌, List, [], ◌∷◌, ◌++◌, Option, Some, None, option_map}
 use Rattle.std.specs.Option.{option_or}
 use Rattle.std.specs.List.{filter_map}
-use Rattle.hyphenation_commons.specs.Break.{Break, Change}
-use Rattle.hyphenation_commons.specs.Dictionary.{Contents}
-use Rattle.hyphenation_commons.specs.Maker.{map_of_pairs}
-use Rattle.hyphenation_commons.specs.declared.dictionary.Entry.{Entry}
+use Rattle.hyphenation_breaks.specs.Break.{Break, Change}
+use Rattle.hyphenation_breaks.specs.Dictionary.{Contents}
+use Rattle.hyphenation_dictionary.specs.Maker.{map_of_pairs}
+use Rattle.hyphenation_breaks.specs.declared.entry.Entry.{Entry}
 use Rattle.pattern_files.specs.Groups.{GroupWord, groups, plain_words, pieces_of}
 use Rattle.pattern_files.specs.Spelling.{word_cause, pattern_in, exception_in}
 use Rattle.pattern_files.specs.declared.fault.Cause.{Cause}

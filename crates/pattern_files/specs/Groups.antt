@@ -2,8 +2,8 @@
 -- A file is read byte by byte into pieces, and its pieces one by one into the words of its groups, as TeX reads it.
 -- Source: D. E. Knuth, The TeXbook, appendix H; the files of hyph-utf8.
 use Rattle.std.specs.Prelude.{ℕ, ◌+◌, ◌==◌, ◌||◌, Bool, true, false, if◌then◌else◌, List, [], ◌∷◌, ◌++◌, fold, length, codes, Option, Some, None}
-use Rattle.dictionary_text.specs.Lines.{is_same}
-use Rattle.dictionary_text.specs.Tokens.{is_brace}
+use Rattle.hyphenation_grammar.specs.Lines.{is_same}
+use Rattle.hyphenation_grammar.specs.Tokens.{is_brace}
 use Rattle.pattern_files.specs.declared.fault.Cause.{Cause}
 use Rattle.pattern_files.specs.declared.fault.Cause.TheVariants.{Input, Unclosed}
 use Rattle.pattern_files.specs.declared.group.Group.{Group}

@@ -4,8 +4,8 @@
 use Rattle.std.specs.Prelude.{◌≡◌, ℕ, ◌+◌, ◌-◌, ◌<◌, ◌≤◌, ◌⊎◌, ◌==◌, nat_eq, nat_lt, Bool, false, List, [], length, take, drop, filter, slice_range, unwrap_or, IsSome, IsTrue}
 use Rattle.std.specs.List.{list_any, range_with_len, starts_with}
 use Rattle.std.specs.FinMap as finite
-use Rattle.hyphenation_commons.specs.Dictionary.{Patterns, TextMap}
-use Rattle.hyphenation_commons.specs.declared.dictionary.Entry.{Entry}
+use Rattle.hyphenation_breaks.specs.Dictionary.{Patterns, TextMap}
+use Rattle.hyphenation_breaks.specs.declared.entry.Entry.{Entry}
 use Rattle.hyphenation_score.specs.Scoring.{frame, greatest_value, value_at}
 use Rattle.hyphenation_score.specs.Winners.{Bears}
 

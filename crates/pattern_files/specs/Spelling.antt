@@ -4,11 +4,11 @@ use Rattle.std.specs.Prelude.{ℕ, ◌+◌, ◌-◌, ◌==◌, ◌&&◌, ◌||�
 use Rattle.std.specs.Option.{option_or}
 use Rattle.std.specs.List.{list_any}
 use Rattle.std.specs.Str.{is_utf8}
-use Rattle.hyphenation.specs.Folding.{fold_case}
-use Rattle.hyphenation_commons.specs.Break.{Break, Change, plain_break}
-use Rattle.dictionary_text.specs.Lines.{is_digit}
-use Rattle.hyphenation_commons.specs.Invariant.{has_letter, are_entries, are_listed}
-use Rattle.hyphenation_commons.specs.declared.dictionary.Entry.{Entry}
+use Rattle.hyphenation_hyphenator.specs.Folding.{fold_case}
+use Rattle.hyphenation_breaks.specs.Break.{Break, Change, plain_break}
+use Rattle.hyphenation_grammar.specs.Lines.{is_digit}
+use Rattle.hyphenation_breaks.specs.Invariant.{has_letter, are_entries, are_listed}
+use Rattle.hyphenation_breaks.specs.declared.entry.Entry.{Entry}
 use Rattle.pattern_files.specs.declared.fault.Cause.{Cause}
 use Rattle.pattern_files.specs.declared.fault.Cause.TheVariants.{Command, EightBit, Sign, TwoInOnePlace, NoLetters, NotUtf8}
 use Rattle.pattern_files.specs.declared.group.Group.{Group}

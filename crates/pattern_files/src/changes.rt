@@ -6,8 +6,8 @@
 ghost use Rattle.std.specs.Prelude.{◌≡◌, ◌<◌};
 ghost use Rattle.pattern_files.specs.Changes.{to_even, carried_entry, KindsKeep, NoBreakLosesItsChange};
 
-use hyphenation_commons::dictionary::{Entry, Payload};
-use hyphenation_commons::extended::Subregion;
+use hyphenation_breaks::entry::{Entry, Payload};
+use hyphenation_breaks::extended::Subregion;
 use hyphenation_score::laws::{value_is_borne, value_is_greatest, winner_is_first};
 
 /// An odd value's next even number; an even value itself.

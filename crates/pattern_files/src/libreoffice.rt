@@ -13,8 +13,8 @@ use crate::convert::Converted;
 use crate::fault::{Cause, LineFault, Refusal};
 use crate::levels::Levels;
 use crate::notes::What;
-use hyphenation_commons::dictionary::{Listing, Payload};
-use hyphenation_commons::language::Language;
+use hyphenation_breaks::entry::{Listing, Payload};
+use hyphenation_breaks::language::Language;
 use std::alloc::Global;
 
 /// What a line of such a file is.

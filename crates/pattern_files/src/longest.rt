@@ -17,7 +17,7 @@ ghost use Rattle.hyphenation_trie.specs.Trie.{node_text, entries_of_key};
 ghost use Rattle.hyphenation_score.specs.Scoring.{greatest_value};
 ghost use Rattle.pattern_files.specs.Longest.{is_exceeded, hides_value, ClosedReadAlike};
 
-use hyphenation_commons::dictionary::Entry;
+use hyphenation_breaks::entry::Entry;
 use hyphenation_score::laws::{value_is_borne, value_is_greatest};
 use hyphenation_trie::{Automaton, LookUps};
 

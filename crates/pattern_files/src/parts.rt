@@ -2,8 +2,8 @@
 
 ghost use Rattle.std.specs.Prelude.{◌≡◌, [], ◌∷◌, ◌++◌, IfOk, OnOk, OnErr, IfErr, IsTrue, None, map};
 ghost use Rattle.std.specs.String.{string_bytes};
-ghost use Rattle.hyphenation_commons.specs.Invariant.{are_listed};
-ghost use Rattle.hyphenation_commons.specs.Maker.{fits_key};
+ghost use Rattle.hyphenation_breaks.specs.Invariant.{are_listed};
+ghost use Rattle.hyphenation_dictionary.specs.Maker.{fits_key};
 ghost use Rattle.pattern_files.specs.Converting.{words_spelt, one_after_other, contents_made, first_fault};
 ghost use Rattle.pattern_files.specs.Private.Read.{word_view, IsWordFault, with_key, with_word, IsLineFault};
 ghost use Rattle.pattern_files.specs.Spelling.{word_cause};
@@ -11,9 +11,10 @@ ghost use Rattle.pattern_files.specs.Spelling.{word_cause};
 use crate::fault::{LineFault, WordFault};
 use crate::group::{Group, Word};
 use crate::spelling::{read_exception, read_pattern};
-use hyphenation_commons::dictionary::{Dictionary, Entry, Listing, Payload};
-use hyphenation_commons::language::Language;
-use hyphenation_commons::maker::make;
+use hyphenation_dictionary::dictionary::Dictionary;
+use hyphenation_breaks::entry::{Entry, Listing, Payload};
+use hyphenation_breaks::language::Language;
+use hyphenation_dictionary::maker::make;
 use std::alloc::{AllocError, Global};
 use std::marker::Model;
 
@@ -27,8 +28,8 @@ pub struct Parts<C: Payload, B: Listing> {
 impl<C: Payload, B: Listing> Model for Parts<C, B> {
     ghost use Rattle.std.specs.Prelude.{map, All, IsTrue};
     ghost use Rattle.std.specs.String.{string_bytes};
-    ghost use Rattle.hyphenation_commons.specs.Invariant.{are_listed};
-    ghost use Rattle.hyphenation_commons.specs.Maker.{pair_of, fits_key};
+    ghost use Rattle.hyphenation_breaks.specs.Invariant.{are_listed};
+    ghost use Rattle.hyphenation_dictionary.specs.Maker.{pair_of, fits_key};
     ghost use Rattle.pattern_files.specs.Converting.{SpeltWords};
 
     ghost Value = { SpeltWords C B };

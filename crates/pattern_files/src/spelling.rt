@@ -4,19 +4,21 @@ ghost use Rattle.std.specs.Prelude.{◌≡◌, ◌++◌, false, true, map, IfOk,
 ghost use Rattle.std.specs.List.{list_any};
 ghost use Rattle.std.specs.Str.{is_utf8};
 ghost use Rattle.std.specs.String.{string_bytes};
-ghost use Rattle.hyphenation.specs.Folding.{fold_case};
-ghost use Rattle.hyphenation_commons.specs.Invariant.{has_letter, are_listed};
-ghost use Rattle.hyphenation_commons.specs.Maker.{pair_of, fits_key};
+ghost use Rattle.hyphenation_hyphenator.specs.Folding.{fold_case};
+ghost use Rattle.hyphenation_breaks.specs.Invariant.{has_letter, are_listed};
+ghost use Rattle.hyphenation_dictionary.specs.Maker.{pair_of, fits_key};
 ghost use Rattle.pattern_files.specs.Spelling.{value_of_digit, entry_without_change, folded_text, letter_cause, letters, entries_of_digits, unhyphenated, breaks_of_hyphens, pattern_in, exception_in, is_command, is_caret, is_sign, says_place, two_in_one_place, sign_cause, word_cause};
 ghost use Rattle.pattern_files.specs.Private.Read.{IsWordFault};
-ghost use Rattle.dictionary_text.specs.Lines.{is_digit};
+ghost use Rattle.hyphenation_grammar.specs.Lines.{is_digit};
 ghost use Rattle.pattern_files.specs.declared.group.Group.TheVariants.{Patterns, Exceptions};
 
 use crate::fault::{Cause, WordFault};
 use crate::group::Group;
-use hyphenation::case_folding::refold;
-use hyphenation_commons::dictionary::{Dictionary, Entry, Listing, Payload};
-use hyphenation_commons::maker::fits_key;
+use hyphenation_grammar::lines::is_utf8;
+use hyphenation_hyphenator::case_folding::refold;
+use hyphenation_dictionary::dictionary::Dictionary;
+use hyphenation_breaks::entry::{Entry, Listing, Payload};
+use hyphenation_dictionary::maker::fits_key;
 use hyphenation_trie::in_32_bits;
 use std::alloc::{AllocError, Global};
 
@@ -165,13 +167,6 @@ fn has_letter(key: &[u8]) -> bool
         }
     }
     false
-}
-
-/// Whether bytes are UTF-8.
-fn is_utf8(bytes: &[u8]) -> bool
-    ensures { result ≡ is_utf8 bytes.now }
-{
-    std::str::from_utf8(bytes).is_ok()
 }
 
 /// The text of bytes, where they are UTF-8.

@@ -1,10 +1,10 @@
 //! TeX's files and plain ones: which of their words are patterns and exceptions.
 
 ghost use Rattle.std.specs.Prelude.{◌≡◌, ◌+◌, ◌<◌, ◌^◌, IfOk, OnOk, map, fold};
-ghost use Rattle.dictionary_text.specs.Lines.{is_same};
+ghost use Rattle.hyphenation_grammar.specs.Lines.{is_same};
 ghost use Rattle.pattern_files.specs.Converting.{words_of, group_fault};
 ghost use Rattle.pattern_files.specs.Groups.{is_space, with_piece_outside, closed_at, with_read_byte, with_piece_ended, with_byte, pieces_of, place_after, with_piece, with_plain, nothing_found, nothing_lexed, groups, plain_words};
-ghost use Rattle.dictionary_text.specs.Tokens.{is_brace};
+ghost use Rattle.hyphenation_grammar.specs.Tokens.{is_brace};
 ghost use Rattle.pattern_files.specs.Private.Read.{piece_view, lexer_view, scan_view, word_view};
 
 use crate::fault::Cause;

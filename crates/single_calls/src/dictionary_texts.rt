@@ -1,11 +1,11 @@
 //! Dictionary texts read, and written again.
 
 use answers::{holds, same, same_bytes};
-use dictionary_text::Cause;
-use dictionary_text::reader::{Refusal, read_extended, read_standard};
-use dictionary_text::writer::{write_extended, write_standard};
-use hyphenation_commons::dictionary::{Extended, Standard};
-use hyphenation_commons::extended::Subregion;
+use hyphenation_grammar::Cause;
+use hyphenation_reader::reader::{Refusal, read_extended, read_standard};
+use hyphenation_writer::writer::{write_extended, write_standard};
+use hyphenation_dictionary::dictionary::{Extended, Standard};
+use hyphenation_breaks::extended::Subregion;
 use std::alloc::{AllocError, Global};
 use std::test::Fail;
 

@@ -1,11 +1,11 @@
 //! Edits of the exceptions of a dictionary, judged and done one by one.
 
 use answers::{holds, same, same_in};
-use dictionary_text::edits::apply_edit;
-use dictionary_text::form::Kind;
-use dictionary_text::reader::{read_extended, read_standard};
-use hyphenation_commons::dictionary::{Extended, Standard};
-use hyphenation_commons::extended::Subregion;
+use hyphenation_reader::edits::apply_edit;
+use hyphenation_grammar::form::Kind;
+use hyphenation_reader::reader::{read_extended, read_standard};
+use hyphenation_dictionary::dictionary::{Extended, Standard};
+use hyphenation_breaks::extended::Subregion;
 use std::alloc::Global;
 use std::test::Fail;
 

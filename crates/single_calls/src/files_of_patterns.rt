@@ -1,10 +1,10 @@
 //! Small files, and the dictionary texts that they give.
 
 use answers::{same, same_bytes, same_in};
-use dictionary_text::writer::{write_extended, write_standard};
-use hyphenation_commons::dictionary::{Extended, Standard};
-use hyphenation_commons::extended::Subregion;
-use hyphenation_commons::language::Language;
+use hyphenation_writer::writer::{write_extended, write_standard};
+use hyphenation_dictionary::dictionary::{Extended, Standard};
+use hyphenation_breaks::extended::Subregion;
+use hyphenation_breaks::language::Language;
 use pattern_files::convert::{Converted, convert, convert_with_notes};
 use pattern_files::fault::{Cause, Refusal};
 use pattern_files::group::{File, Form, Group};

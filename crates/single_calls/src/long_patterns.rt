@@ -1,11 +1,11 @@
 //! Patterns with a change at each of twenty thousand places.
 
 use answers::{holds, same};
-use dictionary_text::Cause;
-use dictionary_text::reader::{Refusal, read_extended};
+use hyphenation_grammar::Cause;
+use hyphenation_reader::reader::{Refusal, read_extended};
 use hyphenation::score::Score;
-use hyphenation_commons::dictionary::Extended;
-use hyphenation_commons::extended::Subregion;
+use hyphenation_dictionary::dictionary::Extended;
+use hyphenation_breaks::extended::Subregion;
 use std::alloc::{AllocError, Global};
 use std::test::Fail;
 

@@ -1,6 +1,6 @@
 -- Each of the breaks that fit a text stands in it.
 use Rattle.std.proofs.Common.{ℕ, ◌≡◌, ◌+◌, ◌<◌, List, [], ◌∷◌, map, length, refl, sym, ap, subst, arith, slice_index, get_or, IsCharBoundary, zero, suc}
-use Rattle.hyphenation_commons.specs.Break.{Break, plain_break, end_of}
+use Rattle.hyphenation_breaks.specs.Break.{Break, plain_break, end_of}
 use Rattle.hyphenation_segments.specs.Fits.{FitsFrom, Stands}
 use Rattle.uses.specs.Room.{places_of}
 

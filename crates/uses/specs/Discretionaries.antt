@@ -2,7 +2,7 @@
 -- Source: D. E. Knuth, The TeXbook (1984), chapter 14, on discretionary breaks.
 use Rattle.std.specs.Prelude.{ℕ, List, ◌++◌}
 use Rattle.std.specs.List.{slice_range}
-use Rattle.hyphenation_commons.specs.Break.{Break, begin_of, end_of, before_of, after_of}
+use Rattle.hyphenation_breaks.specs.Break.{Break, begin_of, end_of, before_of, after_of}
 
 -- The text at the line's end, that at the next line's beginning, and that where the line is not broken.
 pub record Parts : Type 0 where

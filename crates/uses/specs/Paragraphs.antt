@@ -1,6 +1,6 @@
 -- What is written of a paragraph.
 use Rattle.std.specs.Prelude.{ℕ, List, [], ◌∷◌, ◌++◌}
-use Rattle.dictionary_text.specs.Canonical.{with_line_feeds}
+use Rattle.hyphenation_writer.specs.Canonical.{with_line_feeds}
 
 -- The line feed of a paragraph that has no lines.
 abbrev pub empty_line : List ℕ → List ℕ

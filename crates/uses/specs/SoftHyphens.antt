@@ -1,8 +1,8 @@
 -- A text with soft hyphens put in.
 use Rattle.std.specs.Prelude.{ℕ, List, [], ◌∷◌}
-use Rattle.hyphenation_commons.specs.Break.{Break}
+use Rattle.hyphenation_breaks.specs.Break.{Break}
 use Rattle.hyphenation_segments.specs.Segments.{marked_word}
-use Rattle.hyphenation.specs.SoftHyphens.{soft_hyphens}
+use Rattle.hyphenation_hyphenator.specs.SoftHyphens.{soft_hyphens}
 
 -- U+00AD in UTF-8.
 abbrev pub soft_hyphen : List ℕ

@@ -3,10 +3,10 @@
 ghost use Rattle.std.specs.Prelude.{◌≡◌, ◌⊎◌, IfErr, IfOk, IsOk, IsTrue, OnErr, not};
 ghost use Rattle.std.specs.FinMap as finite;
 ghost use Rattle.std.specs.Io.KnownBytes.{Appends};
-ghost use Rattle.hyphenation_commons.specs.Break.{plain_break};
-ghost use Rattle.dictionary_text.specs.Canonical.{standard_text};
-ghost use Rattle.hyphenation_commons.specs.Invariant.{are_listed};
-ghost use Rattle.hyphenation.specs.Load.{IfMemory, IsOfWriting};
+ghost use Rattle.hyphenation_breaks.specs.Break.{plain_break};
+ghost use Rattle.hyphenation_writer.specs.Canonical.{standard_text};
+ghost use Rattle.hyphenation_breaks.specs.Invariant.{are_listed};
+ghost use Rattle.hyphenation_load.specs.Load.{IfMemory, IsOfWriting};
 
 use hyphenation::load::{Error, Result};
 use hyphenation::{Load, Standard};

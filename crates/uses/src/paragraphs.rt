@@ -4,8 +4,8 @@ ghost use Rattle.std.specs.Prelude.{◌≡◌, ◌++◌, OnOk, IfOk, map};
 ghost use Rattle.std.specs.List.{flat_map};
 ghost use Rattle.std.specs.Str.Lines.{lines};
 ghost use Rattle.std.specs.String.{string_bytes};
-ghost use Rattle.linefill.specs.Lines.{lines_by};
-ghost use Rattle.dictionary_text.specs.Canonical.{with_line_feeds};
+ghost use Rattle.line_filling.specs.Lines.{lines_by};
+ghost use Rattle.hyphenation_writer.specs.Canonical.{with_line_feeds};
 ghost use Rattle.uses.specs.Paragraphs.{paragraph_text};
 
 use hyphenation::Hyphenator;

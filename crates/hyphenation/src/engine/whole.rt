@@ -4,22 +4,22 @@ ghost use Rattle.std.specs.Prelude.{◌≡◌, ◌≢◌, List, ℕ, IsTrue, IfE
 ghost use Rattle.std.specs.Io.KnownBytes.{IsAtEnd};
 ghost use Rattle.std.specs.IoError.{error_kind};
 ghost use Rattle.std.specs.String.{string_bytes};
-ghost use Rattle.hyphenation_commons.specs.Break.{Break};
-ghost use Rattle.dictionary_text.specs.Edits.{is_good_edit};
-ghost use Rattle.dictionary_text.specs.Judging.{refusal_of};
+ghost use Rattle.hyphenation_breaks.specs.Break.{Break};
+ghost use Rattle.hyphenation_reader.specs.Edits.{is_good_edit};
+ghost use Rattle.hyphenation_grammar.specs.Judging.{refusal_of};
 ghost use Rattle.hyphenation.specs.Engine.{BeforeReading, IsOfInput, IsOfText, JudgesDictionary, JudgesEdits, JudgesText, HoldsNoWant, language_in};
 ghost use Rattle.hyphenation.specs.Private.Engine.{IsOfEdits, IsUnwritten};
-ghost use Rattle.hyphenation.specs.Hyphenated.{hyphenated_text};
-ghost use Rattle.hyphenation.specs.Load.{ReadsIn, IsNoWant};
+ghost use Rattle.hyphenation_hyphenator.specs.Hyphenated.{hyphenated_text};
+ghost use Rattle.hyphenation_load.specs.Load.{ReadsIn, IsNoWant};
 
 use super::RunError;
-use crate::load;
-use crate::load::{Load, read_all};
-use crate::text::hyphenated_text;
-use dictionary_text::edits::apply_edit;
-use dictionary_text::form::Kind;
-use hyphenation_commons::dictionary::{Extended, Standard};
-use hyphenation_commons::language::Language;
+use hyphenation_load;
+use hyphenation_load::{Load, read_all};
+use hyphenation_hyphenator::text::hyphenated_text;
+use hyphenation_reader::edits::apply_edit;
+use hyphenation_grammar::form::Kind;
+use hyphenation_dictionary::dictionary::{Extended, Standard};
+use hyphenation_breaks::language::Language;
 use std::alloc::{AllocError, Global};
 use std::io;
 use std::io::{ErrorKind, Read};
@@ -29,8 +29,8 @@ use std::io::{ErrorKind, Read};
 /// Of a dictionary that a function has loaded itself it can't be said that it is a `Hyphenator<'h>` for the time that
 /// the function lends it, so each kind says here what it does.
 pub(super) trait WholeTexts: Drop {
-    ghost use Rattle.hyphenation_commons.specs.Break.{Break};
-    ghost use Rattle.dictionary_text.specs.declared.form.Kind.{Kind};
+    ghost use Rattle.hyphenation_breaks.specs.Break.{Break};
+    ghost use Rattle.hyphenation_grammar.specs.declared.form.Kind.{Kind};
 
     /// The kind.
     ghost kind: { Kind };
@@ -45,7 +45,7 @@ pub(super) trait WholeTexts: Drop {
     ghost breaks_of: { Self → List ℕ → List Break };
 
     /// The dictionary of a language that a reader's bytes give.
-    fn load<D: Read>(alloc: Global, lang: Language, reader: &mut D) -> load::Result<Self>
+    fn load<D: Read>(alloc: Global, lang: Language, reader: &mut D) -> hyphenation_load::Result<Self>
         ensures bytes { IfSome (D.remaining reader.old) (λ bytes.
             ReadsIn (refusal_of kind) (λ bytes given. given ≡ contents bytes) language_in lang bytes result) }
         ensures kind { IfErr result IsNoWant };
@@ -62,11 +62,11 @@ pub(super) trait WholeTexts: Drop {
 }
 
 impl WholeTexts for Standard {
-    ghost use Rattle.dictionary_text.specs.declared.form.Kind.TheVariants.{Standard as OfStandard};
-    ghost use Rattle.hyphenation_commons.specs.Break.{plain_break};
-    ghost use Rattle.dictionary_text.specs.Edits.{after_edit};
-    ghost use Rattle.dictionary_text.specs.Reading.{place_as_listing, standard_contents};
-    ghost use Rattle.hyphenation.specs.Opportunities.{no_change, rules_of, all_breaks_of};
+    ghost use Rattle.hyphenation_grammar.specs.declared.form.Kind.TheVariants.{Standard as OfStandard};
+    ghost use Rattle.hyphenation_breaks.specs.Break.{plain_break};
+    ghost use Rattle.hyphenation_reader.specs.Edits.{after_edit};
+    ghost use Rattle.hyphenation_grammar.specs.Reading.{place_as_listing, standard_contents};
+    ghost use Rattle.hyphenation_hyphenator.specs.Opportunities.{no_change, rules_of, all_breaks_of};
 
     ghost kind = { OfStandard };
 
@@ -76,7 +76,7 @@ impl WholeTexts for Standard {
 
     ghost breaks_of = { λ dictionary word. all_breaks_of (rules_of no_change plain_break dictionary) word };
 
-    fn load<D: Read>(alloc: Global, lang: Language, reader: &mut D) -> load::Result<Standard> {
+    fn load<D: Read>(alloc: Global, lang: Language, reader: &mut D) -> hyphenation_load::Result<Standard> {
         Standard::from_reader(alloc, lang, reader)
     }
 
@@ -90,11 +90,11 @@ impl WholeTexts for Standard {
 }
 
 impl WholeTexts for Extended {
-    ghost use Rattle.dictionary_text.specs.declared.form.Kind.TheVariants.{Extended as OfExtended};
-    ghost use Rattle.dictionary_text.specs.Edits.{after_edit};
-    ghost use Rattle.dictionary_text.specs.Reading.{break_as_listing, extended_contents};
-    ghost use Rattle.hyphenation.specs.Fitting.{fitted_breaks_of};
-    ghost use Rattle.hyphenation.specs.Opportunities.{own_break, rules_of};
+    ghost use Rattle.hyphenation_grammar.specs.declared.form.Kind.TheVariants.{Extended as OfExtended};
+    ghost use Rattle.hyphenation_reader.specs.Edits.{after_edit};
+    ghost use Rattle.hyphenation_grammar.specs.Reading.{break_as_listing, extended_contents};
+    ghost use Rattle.hyphenation_hyphenator.specs.Fitting.{fitted_breaks_of};
+    ghost use Rattle.hyphenation_hyphenator.specs.Opportunities.{own_break, rules_of};
     ghost use Rattle.hyphenation_score.specs.Scoring.{own_change};
 
     ghost kind = { OfExtended };
@@ -105,7 +105,7 @@ impl WholeTexts for Extended {
 
     ghost breaks_of = { λ dictionary word. fitted_breaks_of (rules_of own_change own_break dictionary) word };
 
-    fn load<D: Read>(alloc: Global, lang: Language, reader: &mut D) -> load::Result<Extended> {
+    fn load<D: Read>(alloc: Global, lang: Language, reader: &mut D) -> hyphenation_load::Result<Extended> {
         Extended::from_reader(alloc, lang, reader)
     }
 

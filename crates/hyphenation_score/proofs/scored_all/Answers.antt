@@ -1,6 +1,6 @@
 use Rattle.std.proofs.Common.{Option, Bor, option_copied}
-use Rattle.hyphenation_commons.specs.Break.{Change}
-use Rattle.hyphenation_commons.specs.declared.dictionary.Entry.{Entry}
+use Rattle.hyphenation_breaks.specs.Break.{Change}
+use Rattle.hyphenation_breaks.specs.declared.entry.Entry.{Entry}
 use Rattle.hyphenation_score.specs.Scoring.{own_change, score_of_winner, scored_pair}
 use Rattle.hyphenation_score.proofs.ScoredWinners.{mapped_more}
 use Rattle.hyphenation_score.proofs.scored_all.Goals as goal

@@ -1,7 +1,7 @@
 use Rattle.std.proofs.Common.{◌∙◌, sym, ap, length, Option, Bor, option_copied, map}
 use Rattle.std.proofs.lemmas.List.{length-map}
-use Rattle.hyphenation_commons.specs.Break.{Change}
-use Rattle.hyphenation_commons.specs.declared.dictionary.Entry.{Entry}
+use Rattle.hyphenation_breaks.specs.Break.{Change}
+use Rattle.hyphenation_breaks.specs.declared.entry.Entry.{Entry}
 use Rattle.hyphenation_score.specs.Scoring.{own_change, score_of_winner, scored_pair}
 use Rattle.hyphenation_score.proofs.ScoredWinners.{scored_winners}
 use Rattle.hyphenation_score.proofs.ValuesInOrder.{ok_then}

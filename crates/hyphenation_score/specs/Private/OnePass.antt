@@ -1,8 +1,8 @@
 -- Keys by their ends, as one pass over the frame meets them: what private functions and proofs need of it beside, and no public contract cites.
 use Rattle.std.specs.Prelude.{ℕ, ◌+◌, ◌-◌, ◌==◌, List, [], length, drop, filter, unwrap_or}
 use Rattle.std.specs.List.{flat_map, range_with_len}
-use Rattle.hyphenation_commons.specs.Dictionary.{Patterns}
-use Rattle.hyphenation_commons.specs.declared.dictionary.Entry.{Entry}
+use Rattle.hyphenation_breaks.specs.Dictionary.{Patterns}
+use Rattle.hyphenation_breaks.specs.declared.entry.Entry.{Entry}
 
 -- The entries that bear on the word's place p, of the key that is this text, which ends at that end, without its first d bytes.
 abbrev pub entries_of_end : {C : Type 0} → Patterns C → List ℕ → ℕ → ℕ → ℕ → List (Entry C)

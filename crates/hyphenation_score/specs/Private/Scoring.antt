@@ -1,7 +1,7 @@
 -- Which keys stand in a word, which values they give to its places, and which entry wins each place: what private functions and proofs need of it beside, and no public contract cites.
 use Rattle.std.specs.Prelude.{ℕ, nat_lt, if◌then◌else◌, List, Option, None, option_copied, slice_index_or}
 use Rattle.std.specs.Borrow.{Bor}
-use Rattle.hyphenation_commons.specs.declared.dictionary.Entry.{Entry}
+use Rattle.hyphenation_breaks.specs.declared.entry.Entry.{Entry}
 use Rattle.hyphenation_score.specs.Scoring.{value_of}
 
 -- Of two, the second where its value is greater, and else the first.

@@ -1,6 +1,6 @@
 -- The winner of a place, as one pass finds it: what private functions and proofs need of it beside, and no public contract cites.
 use Rattle.std.specs.Prelude.{◌≡◌, ℕ, ◌<◌, ◌⊎◌, ◌&&◌, ◌||◌, nat_lt, nat_eq, if◌then◌else◌, Bool, List, Option, Some, None, slice_index}
-use Rattle.hyphenation_commons.specs.declared.dictionary.Entry.{Entry}
+use Rattle.hyphenation_breaks.specs.declared.entry.Entry.{Entry}
 use Rattle.std.specs.Borrow.{Bor}
 use Rattle.hyphenation_score.specs.Scoring.{value_of}
 use Rattle.hyphenation_score.specs.Private.Scoring.{best_at}

@@ -4,7 +4,7 @@ use Rattle.std.specs.Cow.{cow_str_bytes, IsBorrowedStr}
 use Rattle.std.specs.Option.{is_some}
 use Rattle.std.specs.Str.{IsCharBoundary}
 use Rattle.std.specs.declared.borrow.CowStr.{CowStr}
-use Rattle.hyphenation_commons.specs.Break.{Break, Change, plain_break, end_of, before_of, after_of}
+use Rattle.hyphenation_breaks.specs.Break.{Break, Change, plain_break, end_of, before_of, after_of}
 use Rattle.hyphenation_segments.specs.Fits.{FitsFrom}
 use Rattle.hyphenation_segments.specs.ChangedSegments.{made_segments_after}
 

@@ -2,7 +2,7 @@
 use Rattle.std.specs.Prelude.{ℕ, ◌+◌, List, [], ◌∷◌}
 use Rattle.std.specs.Coded.{×_prop, Unit-prop}
 use Rattle.std.proofs.Props.{props}
-use Rattle.hyphenation_commons.specs.Break.{Break, end_of}
+use Rattle.hyphenation_breaks.specs.Break.{Break, end_of}
 use Rattle.hyphenation_segments.specs.Fits.{Stands, FitsFrom}
 
 -- Any two proofs that a break stands in a text, or that breaks fit it, are equal.

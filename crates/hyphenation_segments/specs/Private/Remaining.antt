@@ -1,7 +1,7 @@
 -- Lists that are still to come: what private functions and proofs need of it beside, and no public contract cites.
 use Rattle.std.specs.Prelude.{◌≡◌, ℕ, Bool, false, List, [], ⊤, Option, None, Some}
 use Rattle.std.specs.Str.{IsCharBoundary}
-use Rattle.hyphenation_commons.specs.Break.{Break, plain_break}
+use Rattle.hyphenation_breaks.specs.Break.{Break, plain_break}
 use Rattle.hyphenation_segments.specs.Fits.{FitsFrom}
 use Rattle.hyphenation_segments.specs.Segments.{segments_after}
 

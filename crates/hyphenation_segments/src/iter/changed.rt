@@ -11,7 +11,7 @@ ghost use Rattle.hyphenation_segments.specs.ChangedSegments.{made_segments, Give
 ghost use Rattle.hyphenation_segments.specs.Private.ChangedSegments.{IsSegmentMade, change_of_last};
 
 use crate::iter::{Breaks, Pulled, Texts};
-use hyphenation_commons::breaks::Break;
+use hyphenation_breaks::breaks::Break;
 use std::alloc::{AllocError, Global};
 use std::borrow::CowStr;
 use std::marker::Model;

@@ -4,12 +4,12 @@ ghost use Rattle.std.specs.Prelude.{◌≡◌, ◌++◌, map, slice_range, IfOk,
 ghost use Rattle.std.specs.Io.{StartsWith};
 ghost use Rattle.std.specs.Str.{IsCharBoundary};
 ghost use Rattle.std.specs.String.{string_bytes};
-ghost use Rattle.hyphenation_commons.specs.Break.{begin_of, end_of, before_of, after_of};
+ghost use Rattle.hyphenation_breaks.specs.Break.{begin_of, end_of, before_of, after_of};
 ghost use Rattle.hyphenation_segments.specs.Fits.{Fits, Stands};
 ghost use Rattle.hyphenation_segments.specs.Segments.{marked_word};
 
 use crate::words::Word;
-use hyphenation_commons::breaks::Break;
+use hyphenation_breaks::breaks::Break;
 use std::alloc::AllocError;
 
 /// Appends what stands between a place and the end of a break's range, with the mark at the break. Where the range

@@ -4,14 +4,14 @@ ghost use Rattle.std.specs.Prelude.{◌≡◌, ℕ, ◌++◌, List, map, length,
 ghost use Rattle.std.specs.Iterator.{item_count, UpTo, at_most};
 ghost use Rattle.std.specs.Iterator.SizeHint.{IsWithinCount};
 ghost use Rattle.std.specs.String.{string_bytes};
-ghost use Rattle.hyphenation_commons.specs.Break.{plain_break};
+ghost use Rattle.hyphenation_breaks.specs.Break.{plain_break};
 ghost use Rattle.hyphenation_segments.specs.Segments.{marked_segments, mark_if_more, segments};
 ghost use Rattle.hyphenation_segments.specs.Remaining.{GivesMarked};
 ghost use Rattle.hyphenation_segments.specs.ChangedSegments.{made_segments};
 
 use crate::iter::{SegmentText, Segments, SegmentsExt, Texts};
 use crate::words::Word;
-use hyphenation_commons::extended::Subregion;
+use hyphenation_breaks::extended::Subregion;
 use std::alloc::{AllocError, Global};
 use std::iter::Copied;
 use std::marker::Model;
@@ -180,7 +180,7 @@ impl<'t> IntoIterator for Word<'t, usize> {
 
 impl<'t> IntoIterator for Word<'t, (usize, Option<&'t Subregion>)> {
     ghost use Rattle.std.specs.Option.{option_copied};
-    ghost use Rattle.hyphenation_commons.specs.Break.{break_at};
+    ghost use Rattle.hyphenation_breaks.specs.Break.{break_at};
 
     type Item = Result<String, AllocError>;
 

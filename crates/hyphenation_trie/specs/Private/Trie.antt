@@ -2,7 +2,7 @@
 use Rattle.std.specs.Prelude.{◌≡◌, ℕ, ◌+◌, ◌<◌, List, [], ◌∷◌, ◌++◌, length, map, fold, Option, Some, None, slice_index_or, ◌≤◌, ◌⊎◌, slice_set}
 use Rattle.std.specs.Option.{option_map}
 use Rattle.std.specs.List.{slice_range}
-use Rattle.hyphenation_trie.specs.declared.Span.{Span}
+use Rattle.hyphenation_trie.specs.declared.state.Span.{Span}
 use Rattle.hyphenation_trie.specs.Trie.{Tree, node_text}
 
 -- With one node more, of no key.

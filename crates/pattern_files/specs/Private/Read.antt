@@ -10,13 +10,13 @@ use Rattle.pattern_files.specs.declared.group.Word.{Word}
 use Rattle.pattern_files.specs.declared.fault.Cause.{Cause}
 use Rattle.pattern_files.specs.declared.fault.WordFault.TheVariants.{Fails, Memory}
 use Rattle.pattern_files.specs.declared.fault.WordFault.{WordFault}
-use Rattle.hyphenation_commons.specs.declared.dictionary.Entry.{Entry}
+use Rattle.hyphenation_breaks.specs.declared.entry.Entry.{Entry}
 use Rattle.pattern_files.specs.declared.fault.LineFault.{LineFault}
 use Rattle.pattern_files.specs.declared.fault.LineFault.TheVariants.{NoMemory, OnLine}
 use Rattle.pattern_files.specs.Converting.{SpeltWords}
 use Rattle.std.specs.Prelude.{None, ◌==◌, ◌&&◌, if◌then◌else◌}
 use Rattle.std.specs.String.{string_bytes}
-use Rattle.hyphenation_commons.specs.Break.{Change, is_boundary}
+use Rattle.hyphenation_breaks.specs.Break.{Change, is_boundary}
 use Rattle.pattern_files.specs.Changes.{carried_entry}
 use Rattle.pattern_files.specs.declared.change.Change as held
 use Rattle.pattern_files.specs.declared.levels.Pattern.{Pattern}

@@ -1,6 +1,6 @@
 //! What `hyphenate-canonical` writes and says.
 
-use commands::canonical::{USAGE, answer, report_words};
+use canonical_command::{USAGE, answer, report_words};
 use std::alloc::{AllocError, Global};
 use std::io;
 use std::io::ErrorKind;

@@ -1,7 +1,7 @@
 //! What `hyphenate-convert` writes and says.
 
 use answers::holds;
-use commands::convert::{USAGE, answer};
+use convert_command::{USAGE, answer};
 use std::test::Fail;
 use std::{env, fs, process};
 

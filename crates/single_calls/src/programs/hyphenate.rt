@@ -1,7 +1,7 @@
 //! What `hyphenate` writes and says.
 
 use answers::{DOUBLED, FIRKIN, holds};
-use commands::hyphenate::{answer, report_words};
+use hyphenate_command::{answer, report_words};
 use std::alloc::{AllocError, Global};
 use std::io::{ErrorKind, Read, Write};
 use std::test::Fail;

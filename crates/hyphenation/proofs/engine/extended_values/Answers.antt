@@ -1,6 +1,6 @@
 use Rattle.std.proofs.Common.{◌∙◌, ap}
 use Rattle.std.proofs.lemmas.Option.{IfSome_then}
-use Rattle.hyphenation_commons.specs.Dictionary.{entries_of_keys}
+use Rattle.hyphenation_breaks.specs.Dictionary.{entries_of_keys}
 use Rattle.hyphenation_score.specs.Scoring.{values}
 use Rattle.hyphenation.proofs.engine.extended_values.Goals as goal
 

@@ -1,5 +1,5 @@
 use Rattle.std.proofs.Common.{◌∙◌, ap, map}
-use Rattle.hyphenation_commons.specs.Dictionary.{entries_of_keys}
+use Rattle.hyphenation_breaks.specs.Dictionary.{entries_of_keys}
 use Rattle.hyphenation_score.specs.Scoring.{own_change}
 use Rattle.hyphenation_score.proofs.ValuesInOrder.{values-of-scores}
 use Rattle.hyphenation.proofs.engine.values_of.Goals as goal

@@ -3,7 +3,7 @@ use Rattle.std.proofs.Math.Nat.{mul-le-mul_right}
 use Rattle.std.proofs.lemmas.Bool.{cases_eq}
 use Rattle.std.proofs.lemmas.List.{length-map}
 use Rattle.std.specs.Option.{option_copied}
-use Rattle.hyphenation_commons.specs.Dictionary.{entries_of_keys, longest_key}
+use Rattle.hyphenation_breaks.specs.Dictionary.{entries_of_keys, longest_key}
 use Rattle.hyphenation_trie.specs.Trie.{entries_of_key}
 use Rattle.hyphenation_score.specs.Scoring.{frame, winners}
 use Rattle.hyphenation_score.specs.OnePass.{occurrences}
@@ -15,9 +15,9 @@ use Rattle.hyphenation_score.proofs.contest.winners.Goals as goal
 pub returns-clause-winners : goal.returns-clause-winners
 returns-clause-winners g c =
     let keys = entries_of_keys c.args.dictionary.now in
-    let known = entries_of_key c.patterns.result.now in
+    let known = entries_of_key c.automaton_of.result.now in
     ok_same c.winners_in.result (λ v. map option_copied v.items) (winners known c.as_bytes.result.now) (winners keys c.args.word.now)
-    (ap (winners known) c.as_bytes.ensures.value ∙ winners_same known keys c.args.word.now (λ text. sym (c.patterns.ensures.known text))) c.winners_in.ensures.winners
+    (ap (winners known) c.as_bytes.ensures.value ∙ winners_same known keys c.args.word.now (λ text. sym (c.automaton_of.ensures.known text))) c.winners_in.ensures.winners
 
 pub returns-clause-places : goal.returns-clause-places
 returns-clause-places g c =
@@ -36,7 +36,7 @@ returns-clause-most g c =
     elim (cases_eq (longest_key contents) 0) [
       | inl zero_is ↦
           let none = none_at_all g.C.Payload.change_of g.B.Break.meaning contents c.invariant.ensures zero_is in
-          let alone = c.winners_in.ensures.alone (λ q. sym (c.patterns.ensures.known q) ∙ none q) in
+          let alone = c.winners_in.ensures.alone (λ q. sym (c.automaton_of.ensures.known q) ∙ none q) in
           let times = mul-le-mul_right {m = 1} {n = longest_key contents + 1} (word + 2) (omega arith) in
           omega arith
       | inr apart ↦
@@ -48,13 +48,13 @@ returns-clause-most g c =
 pub returns-clause-reported : goal.returns-clause-reported
 returns-clause-reported g c =
     let keys = entries_of_keys c.args.dictionary.now in
-    let known = entries_of_key c.patterns.result.now in
-    let same = ap (λ w. occurrences known (frame w)) c.as_bytes.ensures.value ∙ occurrences_same known keys (frame c.args.word.now) (λ text. sym (c.patterns.ensures.known text)) in
+    let known = entries_of_key c.automaton_of.result.now in
+    let same = ap (λ w. occurrences known (frame w)) c.as_bytes.ensures.value ∙ occurrences_same known keys (frame c.args.word.now) (λ text. sym (c.automaton_of.ensures.known text)) in
     rw (← same) c.winners_in.ensures.reported
 
 pub returns-clause-visited : goal.returns-clause-visited
 returns-clause-visited g c =
     let keys = entries_of_keys c.args.dictionary.now in
-    let known = entries_of_key c.patterns.result.now in
-    let same = ap (λ w. occurrences known (frame w)) c.as_bytes.ensures.value ∙ occurrences_same known keys (frame c.args.word.now) (λ text. sym (c.patterns.ensures.known text)) in
+    let known = entries_of_key c.automaton_of.result.now in
+    let same = ap (λ w. occurrences known (frame w)) c.as_bytes.ensures.value ∙ occurrences_same known keys (frame c.args.word.now) (λ text. sym (c.automaton_of.ensures.known text)) in
     rw (← same) c.winners_in.ensures.visited

@@ -1,5 +1,5 @@
 use Rattle.std.proofs.Common.{◌≡◌, ℕ, List, sym, ◌∙◌, inl, inr}
-use Rattle.hyphenation_commons.specs.Dictionary.{Patterns}
+use Rattle.hyphenation_breaks.specs.Dictionary.{Patterns}
 use Rattle.hyphenation_score.specs.Scoring.{frame, winner_at}
 use Rattle.hyphenation_score.specs.Winners.{Best, IsPair, Holds}
 use Rattle.hyphenation_score.proofs.WinnersMet.{winner_is, winner_none}

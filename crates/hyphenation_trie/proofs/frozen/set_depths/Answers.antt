@@ -2,7 +2,7 @@ use Rattle.std.proofs.Common.{◌≡◌, ◌∙◌, ℕ, ◌<◌, ap, arith, len
 use Rattle.std.proofs.Math.Seq.{map-set_same}
 use Rattle.std.proofs.lemmas.List.{length-set}
 use Rattle.hyphenation_trie.specs.Private.States.{span_in}
-use Rattle.hyphenation_trie.specs.declared.frozen.State.{State}
+use Rattle.hyphenation_trie.specs.declared.state.State.{State}
 use Rattle.hyphenation_trie.proofs.States.{one_more}
 use Rattle.hyphenation_trie.proofs.frozen.set_depths.Goals as goal
 

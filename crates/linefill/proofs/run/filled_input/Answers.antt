@@ -1,9 +1,9 @@
 use Rattle.std.proofs.Common.{ap, ◌∙◌}
 use Rattle.std.proofs.lemmas.Option.{IfSome_then}
-use Rattle.hyphenation_commons.specs.Break.{plain_break}
-use Rattle.hyphenation.specs.Opportunities.{no_change, rules_of, all_breaks_of}
-use Rattle.linefill.specs.Lines.{lines_by}
-use Rattle.dictionary_text.specs.Canonical.{with_line_feeds}
+use Rattle.hyphenation_breaks.specs.Break.{plain_break}
+use Rattle.hyphenation_hyphenator.specs.Opportunities.{no_change, rules_of, all_breaks_of}
+use Rattle.line_filling.specs.Lines.{lines_by}
+use Rattle.hyphenation_writer.specs.Canonical.{with_line_feeds}
 use Rattle.linefill.proofs.run.filled_input.Goals as goal
 
 pub returns-clause-lines : goal.returns-clause-lines

@@ -2,7 +2,7 @@ use Rattle.std.proofs.Common.{◌≡◌, ◌∙◌, if◌then◌else◌, ℕ, Bo
 use Rattle.std.specs.Prelude.{IsUtf8}
 use Rattle.std.specs.Str.{is_utf8}
 use Rattle.std.proofs.lemmas.Str.{IsUtf8-from_is_utf8, is_utf8-from_IsUtf8}
-use Rattle.hyphenation.specs.Folding.{fold_case}
+use Rattle.hyphenation_hyphenator.specs.Folding.{fold_case}
 use Rattle.pattern_files.specs.Spelling.{folded_text}
 use Rattle.pattern_files.proofs.spelling.folded.Goals as goal
 

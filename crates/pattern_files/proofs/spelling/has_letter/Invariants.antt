@@ -1,5 +1,5 @@
 use Rattle.std.proofs.Common.{◌≡◌, drop}
-use Rattle.hyphenation_commons.specs.Invariant.{has_letter}
+use Rattle.hyphenation_breaks.specs.Invariant.{has_letter}
 use Rattle.pattern_files.proofs.spelling.has_letter.Given as goal
 
 abbrev pub invariant-loop-b : goal.invariant-loop-b

@@ -1,5 +1,5 @@
 use Rattle.std.proofs.Common.{◌≡◌, ◌++◌, map, length, drop}
-use Rattle.hyphenation_commons.specs.Break.{plain_break}
+use Rattle.hyphenation_breaks.specs.Break.{plain_break}
 use Rattle.pattern_files.specs.Spelling.{unhyphenated, breaks_of_hyphens, hyphens_from}
 use Rattle.pattern_files.proofs.spelling.letters_and_breaks.Given as goal
 

@@ -1,6 +1,6 @@
 use Rattle.std.proofs.Common.{◌∙◌, sym, ap}
 use Rattle.std.specs.Str.{is_utf8}
-use Rattle.hyphenation_commons.specs.Break.{plain_break}
+use Rattle.hyphenation_breaks.specs.Break.{plain_break}
 use Rattle.pattern_files.proofs.Words.{either, bad_breaks, good_breaks}
 use Rattle.pattern_files.proofs.spelling.read_breaks.Goals as goal
 

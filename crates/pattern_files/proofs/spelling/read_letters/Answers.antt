@@ -1,6 +1,6 @@
 use Rattle.std.proofs.Common.{◌∙◌, sym, ap, None}
 use Rattle.std.specs.Str.{is_utf8}
-use Rattle.hyphenation_commons.specs.Invariant.{has_letter}
+use Rattle.hyphenation_breaks.specs.Invariant.{has_letter}
 use Rattle.pattern_files.proofs.Words.{either, bad_entries, good_entries}
 use Rattle.pattern_files.proofs.spelling.read_letters.Goals as goal
 

@@ -3,7 +3,7 @@ use Rattle.std.proofs.lemmas.Iterator.Consumers.{YieldsList-end}
 use Rattle.std.proofs.lemmas.Iterator.Splits.{YieldsList-from_lines}
 use Rattle.std.specs.List.{flat_map}
 use Rattle.std.specs.Str.Iter.{lines_rest}
-use Rattle.linefill.specs.Lines.{lines_by}
+use Rattle.line_filling.specs.Lines.{lines_by}
 use Rattle.uses.specs.Paragraphs.{paragraph_text}
 use Rattle.uses.proofs.paragraphs.fill_paragraphs.Goals as goal
 

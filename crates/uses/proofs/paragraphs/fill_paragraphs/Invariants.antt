@@ -1,7 +1,7 @@
 use Rattle.std.proofs.Common.{◌≡◌, map}
 use Rattle.std.specs.List.{flat_map}
 use Rattle.std.specs.String.{string_bytes}
-use Rattle.linefill.specs.Lines.{lines_by}
+use Rattle.line_filling.specs.Lines.{lines_by}
 use Rattle.uses.specs.Paragraphs.{paragraph_text}
 use Rattle.uses.proofs.paragraphs.fill_paragraphs.Given as goal
 

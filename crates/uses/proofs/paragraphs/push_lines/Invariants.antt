@@ -1,6 +1,6 @@
 use Rattle.std.proofs.Common.{◌≡◌, ◌++◌, map, take}
 use Rattle.std.specs.String.{string_bytes}
-use Rattle.dictionary_text.specs.Canonical.{with_line_feeds}
+use Rattle.hyphenation_writer.specs.Canonical.{with_line_feeds}
 use Rattle.uses.proofs.paragraphs.push_lines.Given as goal
 
 abbrev pub invariant-loop-line : goal.invariant-loop-line

@@ -1,5 +1,5 @@
 use Rattle.std.proofs.Common.{◌≡◌, ◌+◌, map, take, drop, fold}
-use Rattle.dictionary_text.specs.Edits.{first_refused_from, first_refused}
+use Rattle.hyphenation_reader.specs.Edits.{first_refused_from, first_refused}
 use Rattle.hyphenation.proofs.engine.whole.edit_all.Given as goal
 
 abbrev pub invariant-loop-index : goal.invariant-loop-index

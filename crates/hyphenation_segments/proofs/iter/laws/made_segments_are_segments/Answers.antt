@@ -1,4 +1,4 @@
-use Rattle.hyphenation_commons.specs.Break.{plain_break}
+use Rattle.hyphenation_breaks.specs.Break.{plain_break}
 use Rattle.hyphenation_segments.proofs.SegmentSteps.{texts_made}
 use Rattle.hyphenation_segments.proofs.iter.laws.made_segments_are_segments.Goals as goal
 

@@ -1,4 +1,4 @@
-use Rattle.hyphenation_commons.specs.Break.{plain_break}
+use Rattle.hyphenation_breaks.specs.Break.{plain_break}
 use Rattle.hyphenation_segments.proofs.SegmentsJoin.{neighbours}
 use Rattle.hyphenation_segments.proofs.iter.laws.segments_are_given_by_neighbours.Goals as goal
 

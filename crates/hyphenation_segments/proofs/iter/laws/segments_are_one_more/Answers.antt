@@ -1,4 +1,4 @@
-use Rattle.hyphenation_commons.specs.Break.{plain_break}
+use Rattle.hyphenation_breaks.specs.Break.{plain_break}
 use Rattle.hyphenation_segments.proofs.SegmentSteps.{segments_count}
 use Rattle.hyphenation_segments.proofs.iter.laws.segments_are_one_more.Goals as goal
 

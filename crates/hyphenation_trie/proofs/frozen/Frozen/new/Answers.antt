@@ -4,7 +4,7 @@ use Rattle.hyphenation_trie.specs.Private.Links.{IsFrozen}
 use Rattle.hyphenation_trie.specs.Private.States.{no_reports, links_with, unlinked, HasStates, froms_by, span_in}
 use Rattle.hyphenation_trie.specs.Trie.{Tree}
 use Rattle.hyphenation_trie.specs.Private.Trie.{tree_of, IsWithin}
-use Rattle.hyphenation_trie.specs.declared.Span.{Span}
+use Rattle.hyphenation_trie.specs.declared.state.Span.{Span}
 use Rattle.hyphenation_trie.specs.declared.frozen.Moves.{Moves}
 use Rattle.hyphenation_trie.specs.declared.frozen.Reports.{Reports}
 use Rattle.std.specs.Prelude.{replicate}

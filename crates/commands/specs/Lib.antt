@@ -1,4 +1,0 @@
-pub mod Statuses
-pub mod About
-pub mod Canonical
-pub mod Private

@@ -1,8 +1,0 @@
-use Rattle.dictionary_text.specs.Edits.{as_line}
-use Rattle.dictionary_text.proofs.EditsLemmas.{may_be_listed}
-use Rattle.dictionary_text.proofs.edits.add.Goals as goal
-
-pub insert_exception-requires : goal.insert_exception-requires
-insert_exception-requires g c =
-    may_be_listed c.args.kind g.B.Listing.listing_of g.B.Break.meaning g.met.B.Listing.kept (as_line c.args.exception.now) c.in_ok-read_exception.field-0 (c.in-Some.word, c.in-Some.listed) c.in-Some.is
-    c.in_ok-read_exception.ensures

@@ -1,8 +1,0 @@
-use Rattle.std.proofs.Common.{ap}
-use Rattle.dictionary_text.specs.Canonical.{canonical_text_of}
-use Rattle.dictionary_text.proofs.CanonicalRead.{canonical-contents}
-use Rattle.dictionary_text.proofs.laws.canonical_is_written_again.Goals as goal
-
-pub returns : goal.returns
-returns g c = λ kind payload_of listing_of change_of break_of contents exact kept.
-    ap (canonical_text_of kind change_of break_of) (canonical-contents kind payload_of listing_of change_of break_of exact contents kept)

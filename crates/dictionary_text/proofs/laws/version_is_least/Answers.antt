@@ -1,5 +1,0 @@
-use Rattle.dictionary_text.proofs.LeastVersion.{version-least}
-use Rattle.dictionary_text.proofs.laws.version_is_least.Goals as goal
-
-pub returns : goal.returns
-returns g c = λ kind change_of break_of contents. version-least kind change_of break_of contents

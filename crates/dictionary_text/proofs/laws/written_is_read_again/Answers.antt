@@ -1,8 +1,0 @@
-use Rattle.dictionary_text.proofs.CanonicalRead.{canonical-accepted, canonical-contents}
-use Rattle.dictionary_text.proofs.laws.written_is_read_again.Goals as goal
-
-pub returns : goal.returns
-returns g c = record {
-  accepted = λ kind payload_of listing_of change_of break_of contents exact kept. canonical-accepted kind payload_of listing_of change_of break_of exact contents kept;
-  equal = λ kind payload_of listing_of change_of break_of contents exact kept. canonical-contents kind payload_of listing_of change_of break_of exact contents kept;
-}

@@ -1,5 +1,0 @@
-use Rattle.dictionary_text.proofs.LanguageLine.{no_language}
-use Rattle.dictionary_text.proofs.lines.language_of.Goals as goal
-
-pub returns-in-Err : goal.returns-in-Err
-returns-in-Err c = no_language c.args.line.now c.in_ok-code.code.now c.in_ok-code.ensures c.in-Err.ensures.cases.0

@@ -1,7 +1,0 @@
-use Rattle.std.proofs.Common.{◌≡◌, map, drop, is_some}
-use Rattle.std.specs.List.{list_all}
-use Rattle.dictionary_text.specs.Tokens.{text_spelt}
-use Rattle.dictionary_text.proofs.tokens.are_texts.Given as goal
-
-abbrev pub invariant-loop-part : goal.invariant-loop-part
-invariant-loop-part l = list_all (λ written. is_some (text_spelt written)) (map (λ part. part.now) (drop l.part-index l.parts)) ≡ list_all (λ written. is_some (text_spelt written)) (map (λ part. part.now) l.parts)

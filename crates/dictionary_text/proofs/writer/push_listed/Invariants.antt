@@ -1,6 +1,0 @@
-use Rattle.std.proofs.Common.{◌≡◌, ◌++◌, drop, map}
-use Rattle.dictionary_text.specs.Canonical.{later_tokens}
-use Rattle.dictionary_text.proofs.writer.push_listed.Given as goal
-
-abbrev pub invariant-loop-b : goal.invariant-loop-b
-invariant-loop-b g l = l.text.items ++ later_tokens (map g.B.Break.meaning (drop l.b-index l.listed)) ≡ l.initial.text.items ++ later_tokens (map g.B.Break.meaning l.listed)

@@ -1,5 +1,0 @@
-use Rattle.hyphenation.proofs.ExceptionRemoval.{undone}
-use Rattle.hyphenation.proofs.hyphenator.laws.removal_undoes_an_addition.Goals as goal
-
-pub returns : goal.returns
-returns g c = λ exceptions word listed none. undone exceptions word listed none

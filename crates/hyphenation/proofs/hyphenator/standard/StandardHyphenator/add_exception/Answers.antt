@@ -1,9 +1,0 @@
-use Rattle.std.specs.String.{string_bytes}
-use Rattle.hyphenation_commons.specs.Break.{plain_break}
-use Rattle.hyphenation.specs.Opportunities.{no_change}
-use Rattle.hyphenation.proofs.Standard.{lists_inserted, on_ok_then}
-use Rattle.hyphenation.proofs.hyphenator.standard.StandardHyphenator.add_exception.Goals as goal
-
-pub returns-clause-lists : goal.returns-clause-lists
-returns-clause-lists c =
-    on_ok_then c.insert_exception.result _ _ (λ same. rw same (lists_inserted no_change plain_break c.args.self.now (string_bytes c.args.lowercase_word) c.args.ops.items)) c.insert_exception.ensures.ok

@@ -1,7 +1,0 @@
-use Rattle.hyphenation_commons.specs.Break.{plain_break}
-use Rattle.hyphenation.specs.Opportunities.{no_change}
-use Rattle.hyphenation.proofs.Standard.{lists_removed}
-use Rattle.hyphenation.proofs.hyphenator.standard.StandardHyphenator.remove_exception.Goals as goal
-
-pub returns-clause-lists : goal.returns-clause-lists
-returns-clause-lists c = rw c.remove_exception.ensures.removed (lists_removed no_change plain_break c.args.self.now c.args.word.now)

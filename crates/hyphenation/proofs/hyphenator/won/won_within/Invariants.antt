@@ -1,9 +1,0 @@
-use Rattle.std.proofs.Common.{◌≡◌, map, filter, option_copied}
-use Rattle.std.specs.List.{range_with_len}
-use Rattle.hyphenation_commons.specs.declared.dictionary.Entry.{Entry}
-use Rattle.hyphenation.specs.Private.Opportunities.{won_break, is_won}
-use Rattle.hyphenation.proofs.hyphenator.won.won_within.Given as goal
-
-abbrev pub invariant-loop-index : goal.invariant-loop-index
-invariant-loop-index g l =
-    map g.F.Break.meaning l.breaks.items ≡ map (won_break g.F.Payload.Payload.change_of (map (option_copied {T = Entry g.row.F-Payload.Denot}) l.winners)) (filter (is_won (map (option_copied {T = Entry g.row.F-Payload.Denot}) l.winners) l.bounds) (range_with_len 0 l.index))

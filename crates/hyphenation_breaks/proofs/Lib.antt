@@ -1,0 +1,3 @@
+pub mod LanguageCodes
+pub mod PlacesInOrder
+pub mod Changes

@@ -1,0 +1,56 @@
+-- What is asked of all listed breaks, and of all entries of a key, asked of one after the other: so a loop asks it.
+use Rattle.std.proofs.Common.{◌≡◌, ℕ, ◌+◌, Bool, true, false, ◌&&◌, nat_le, List, [], ◌∷◌, map, Option, refl, ap, ◌∙◌}
+use Rattle.std.specs.List.{list_all}
+use Rattle.hyphenation_breaks.specs.Break.{Break, Change, ascend_on, is_boundary}
+use Rattle.hyphenation_breaks.specs.Invariant.{is_value, stays_within, lists_within}
+use Rattle.hyphenation_breaks.specs.declared.entry.Entry.{Entry}
+
+pub map_twice : {X Y Z : Type 0} (f : Y → Z) (h : X → Y) (xs : List X) → map f (map h xs) ≡ map (λ x. f (h x)) xs
+map_twice f h [] = refl
+map_twice f h (x ∷ xs) = ap (λ ys. f (h x) ∷ ys) (map_twice f h xs)
+
+-- two tests of each, in one pass
+apart : (a b c d : Bool) → ((a && b) && (c && d)) ≡ (a && c && (b && d))
+apart true b true d = refl
+apart true true false d = refl
+apart true false false d = refl
+apart false b c d = refl
+
+-- from a least place on
+abbrev pub listed_from : {B : Type 0} → (B → Break) → List ℕ → ℕ → List B → Bool
+listed_from break_of word least [] = true
+listed_from break_of word least (b ∷ bs) =
+    nat_le least (break_of b).place && is_boundary word (break_of b).place && lists_within word (break_of b).place (break_of b).change
+    && listed_from break_of word ((break_of b).place + 1) bs
+
+pub listed_in_order : {B : Type 0} (break_of : B → Break) (word : List ℕ) (least : ℕ) (listed : List B)
+    → (ascend_on word least (map (λ b. (break_of b).place) listed) && list_all (λ b. lists_within word (break_of b).place (break_of b).change) listed) ≡ listed_from break_of word least listed
+listed_in_order break_of word least [] = refl
+listed_in_order break_of word least (b ∷ bs) =
+    let p = (break_of b).place in
+    let within = lists_within word p (break_of b).change in
+    apart (nat_le least p && is_boundary word p) (ascend_on word (p + 1) (map (λ b. (break_of b).place) bs)) within (list_all (λ b. lists_within word (break_of b).place (break_of b).change) bs)
+    ∙ ap (λ (rest : Bool). nat_le least p && is_boundary word p && within && rest) (listed_in_order break_of word (p + 1) bs)
+
+abbrev pub is_entry : {C : Type 0} → (C → Option Change) → List ℕ → Entry C → Bool
+is_entry change_of key e = is_value e.value && stays_within key e.place (change_of e.change)
+
+abbrev pub entries_from : {C : Type 0} → (C → Option Change) → List ℕ → ℕ → List (Entry C) → Bool
+entries_from change_of key least [] = true
+entries_from change_of key least (e ∷ es) =
+    nat_le least e.place && is_boundary key e.place && is_value e.value && stays_within key e.place (change_of e.change) && entries_from change_of key (e.place + 1) es
+
+-- the four tests of an entry
+grouped : (a b c d : Bool) → (a && (b && c) && d) ≡ (a && b && c && d)
+grouped true b c d = refl
+grouped false b c d = refl
+
+pub entries_in_order : {C : Type 0} (change_of : C → Option Change) (key : List ℕ) (least : ℕ) (es : List (Entry C))
+    → (ascend_on key least (map (λ e. e.place) es) && list_all (is_entry change_of key) es) ≡ entries_from change_of key least es
+entries_in_order change_of key least [] = refl
+entries_in_order change_of key least (e ∷ es) =
+    let stands = nat_le least e.place && is_boundary key e.place in
+    let stays = stays_within key e.place (change_of e.change) in
+    apart stands (ascend_on key (e.place + 1) (map (λ e. e.place) es)) (is_entry change_of key e) (list_all (is_entry change_of key) es)
+    ∙ ap (λ (rest : Bool). stands && is_entry change_of key e && rest) (entries_in_order change_of key (e.place + 1) es)
+    ∙ grouped stands (is_value e.value) stays (entries_from change_of key (e.place + 1) es)

@@ -1,0 +1,5 @@
+pub mod Language
+pub mod Break
+pub mod Dictionary
+pub mod Invariant
+pub mod Private

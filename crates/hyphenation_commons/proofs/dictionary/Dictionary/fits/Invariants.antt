@@ -1,7 +1,0 @@
-use Rattle.std.proofs.Common.{◌≡◌, drop}
-use Rattle.hyphenation_commons.specs.Invariant.{are_listed}
-use Rattle.hyphenation_commons.proofs.PlacesInOrder.{listed_from}
-use Rattle.hyphenation_commons.proofs.dictionary.Dictionary.fits.Given as goal
-
-abbrev pub invariant-loop-b : goal.invariant-loop-b
-invariant-loop-b g l = listed_from g.B.Break.meaning l.word l.least (drop l.b-index l.listed) ≡ are_listed g.B.Break.meaning l.word l.listed

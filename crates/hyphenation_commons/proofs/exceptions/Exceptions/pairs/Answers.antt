@@ -1,5 +1,0 @@
-use Rattle.std.proofs.Common.{rules}
-use Rattle.hyphenation_commons.proofs.exceptions.Exceptions.pairs.Goals as goal
-
-pub returns : goal.returns
-returns g c = rw (← c.self.view_is) (search rules)

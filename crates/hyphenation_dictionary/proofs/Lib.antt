@@ -1,0 +1,5 @@
+pub mod ExceptionsLemmas
+pub mod SpotMarks
+pub mod InvariantLemmas
+pub mod PatternsLemmas
+pub mod MakerInvariant

@@ -1,0 +1,15 @@
+use Rattle.std.proofs.Common.{◌∙◌, ap}
+use Rattle.std.specs.FinMap as finite
+use Rattle.hyphenation_dictionary.specs.Parts.{patterns_of}
+use Rattle.hyphenation_dictionary.proofs.MakerInvariant.{one_more}
+use Rattle.hyphenation_dictionary.proofs.PatternsLemmas.{patterns_of-insert}
+use Rattle.hyphenation_dictionary.proofs.maker.trie_of.Goals as goal
+
+pub loop-key-preserved : goal.loop-key-preserved
+loop-key-preserved g c =
+    let inserted = patterns_of-insert c.loop-key.trie c.insert.new.self c.as_bytes.result.now c.in-Some.entries.items c.invariant.ensures c.invariant-in-loop-key.ensures c.in_ok-insert.ensures.ok in
+    record {
+      keys = one_more (patterns_of c.loop-key.trie) (patterns_of c.insert.new.self) (c.in-Some.key, c.in-Some.entries) _ _ _
+          (inserted ∙ ap (λ k. finite.insert (patterns_of c.loop-key.trie) k c.in-Some.entries.items) c.as_bytes.ensures.value) c.in-Some.ensures.steps.0 c.loop-key.invariant.keys;
+      begins = c.in_ok-insert.ensures.begins c.loop-key.invariant.begins;
+    }

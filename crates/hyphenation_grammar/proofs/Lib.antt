@@ -1,0 +1,10 @@
+pub mod AsciiSplits
+pub mod LinesSplit
+pub mod LanguageLine
+pub mod LaterTokens
+pub mod Numbers
+pub mod TokenParts
+pub mod TokenUtf8
+pub mod WordUtf8
+pub mod PatternBytes
+pub mod Utf8

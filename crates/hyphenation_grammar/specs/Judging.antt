@@ -1,0 +1,130 @@
+-- The tests of a line, and the refusal of a text.
+use Rattle.std.specs.Prelude.{ℕ, ◌+◌, ◌==◌, ◌&&◌, ◌||◌, nat_lt, Bool, true, false, not, if◌then◌else◌, List, [], ◌∷◌, ◌++◌, length, map, codes, Option, Some, None, is_some, is_none, option_map, find}
+use Rattle.std.specs.List.{list_all, list_any}
+use Rattle.std.specs.Option.{option_or, option_map_or}
+use Rattle.std.specs.Str.{is_utf8}
+use Rattle.hyphenation_breaks.specs.Break.{ascend_on, keeps_within}
+use Rattle.hyphenation_grammar.specs.Form.{head_line, form_of}
+use Rattle.hyphenation_grammar.specs.Lines.{is_same, starts_with, language_of, minima_of, is_number, lines_of}
+use Rattle.hyphenation_grammar.specs.Tokens.{elements_of, pattern_bytes, text_spelt, two_values, has_comma, numerals_of, is_readable, place_of_token, is_whole, change_of_token, values_from}
+use Rattle.hyphenation_grammar.specs.Items.{is_pattern_line, is_exception_line, first_token_of, later_tokens_of, pattern_elements, key_of_line, word_of_line, counted_text, key_spelt, word_spelt}
+use Rattle.hyphenation_grammar.specs.declared.tokens.PatternElement.{PatternElement}
+use Rattle.hyphenation_grammar.specs.declared.form.Form.{Form}
+use Rattle.hyphenation_grammar.specs.declared.form.Kind.{Kind}
+use Rattle.hyphenation_grammar.specs.declared.form.Kind.TheVariants.{Standard, Extended}
+use Rattle.hyphenation_grammar.specs.declared.form.Version.{Version}
+use Rattle.hyphenation_grammar.specs.declared.Cause.{Cause}
+use Rattle.hyphenation_grammar.specs.declared.Cause.TheVariants.{NotUtf8, Header, Language, Minima, UnknownLine, Token, Value, Pattern, NoLetters, Number, Place, Change, RepeatedPattern, RepeatedException}
+
+-- The line is a `p` or an `e` line.
+abbrev pub is_item_line : List ℕ → Bool
+is_item_line line = is_pattern_line line || is_exception_line line
+
+-- The four sorts of later lines.
+abbrev pub is_known : List ℕ → Bool
+is_known line = length line == 0 || starts_with (codes "#") line || is_item_line line
+
+-- Its first token is not empty, and can be read.
+abbrev pub is_readable_first : Version → List ℕ → Bool
+is_readable_first version line =
+    nat_lt 0 (length (first_token_of line))
+    && (if is_pattern_line line then is_some (pattern_bytes version (first_token_of line))
+    else is_some (text_spelt (first_token_of line)))
+
+-- The kind is extended.
+abbrev pub is_extended : Kind → Bool
+is_extended Standard = false
+is_extended Extended = true
+
+-- A value other than 0 stands at the place.
+abbrev pub has_value_at : List PatternElement → ℕ → Bool
+has_value_at elements place = list_any (λ v. v.0 == place) (values_from 0 elements)
+
+-- Without a comma a later token belongs in an `e` line; with one it is a whole change, of an extended text, that keeps
+-- within the key or word, and in a `p` line a value other than 0 stands at its place.
+abbrev pub is_good_later_token : Form → Bool → List PatternElement → List ℕ → List ℕ → Bool
+is_good_later_token form in_pattern elements text token =
+    if has_comma token then is_extended form.kind && is_whole token
+    && keeps_within text (place_of_token token) (change_of_token token)
+    && (not in_pattern || has_value_at elements (place_of_token token))
+    else not in_pattern
+
+-- Of a later token, a part that has to be a number is none.
+abbrev pub has_bad_number : List (List ℕ) → Bool
+has_bad_number later = not (list_all (λ token. list_all is_number (numerals_of token)) later)
+
+-- The places do not ascend on the character boundaries of the text that they count in.
+abbrev pub has_bad_place : List ℕ → List (List ℕ) → Bool
+has_bad_place text later = not (ascend_on text 0 (map place_of_token later))
+
+-- A later token does not belong in such a line.
+abbrev pub has_bad_change : Form → Bool → List PatternElement → List ℕ → List (List ℕ) → Bool
+has_bad_change form in_pattern elements text later =
+    not (list_all (is_good_later_token form in_pattern elements text) later)
+
+-- Whether the line of that number fails the test of that cause, whatever stands before it.
+abbrev pub fails : Form → ℕ → List ℕ → Cause → Bool
+fails form number line NotUtf8 = not (is_utf8 line)
+fails form number line Header = number == 1 && not (is_same line (head_line form))
+fails form number line Language = number == 2 && is_none (language_of line)
+fails form number line Minima = number == 3 && is_none (minima_of line)
+fails form number line UnknownLine = nat_lt 3 number && not (is_known line)
+fails form number line Token =
+    is_item_line line && not (is_readable_first form.version line && list_all is_readable (later_tokens_of line))
+fails form number line Value = is_pattern_line line && is_none (elements_of form.version (first_token_of line))
+fails form number line Pattern = is_pattern_line line && two_values false (pattern_elements form.version line)
+fails form number line NoLetters = is_pattern_line line && list_all (λ b. b == 46) (key_of_line form.version line)
+fails form number line Number = is_item_line line && has_bad_number (later_tokens_of line)
+fails form number line Place =
+    is_item_line line && has_bad_place (counted_text form.version line) (later_tokens_of line)
+fails form number line Change =
+    is_item_line line
+    && has_bad_change form (is_pattern_line line) (pattern_elements form.version line) (counted_text form.version line)
+    (later_tokens_of line)
+fails form number line RepeatedPattern = false
+fails form number line RepeatedException = false
+
+-- The first test that the line fails by itself.
+abbrev pub own_cause : Form → ℕ → List ℕ → Option Cause
+own_cause form number line =
+    find (fails form number line)
+    (NotUtf8 ∷ Header ∷ Language ∷ Minima ∷ UnknownLine ∷ Token ∷ Value ∷ Pattern ∷ NoLetters ∷ Number ∷ Place
+    ∷ Change ∷ [])
+
+-- An earlier line spells the text.
+abbrev pub stands_in : (List ℕ → Option (List ℕ)) → List (List ℕ) → List ℕ → Bool
+stands_in spells earlier text =
+    list_any (λ line. option_map_or (λ other. is_same other text) (spells line) false) earlier
+
+-- The last two tests: the key or the word stands in an earlier line.
+abbrev pub repetition : Version → List (List ℕ) → List ℕ → Option Cause
+repetition version earlier line =
+    if is_pattern_line line && stands_in (key_spelt version) earlier (key_of_line version line)
+    then Some RepeatedPattern
+    else (if is_exception_line line && stands_in word_spelt earlier (word_of_line line)
+    then Some RepeatedException
+    else None)
+
+-- The first of all tests that a line after those earlier ones fails.
+abbrev pub cause_of : Form → List (List ℕ) → List ℕ → Option Cause
+cause_of form earlier line = option_or (own_cause form (length earlier + 1) line) (repetition form.version earlier line)
+
+-- The head line that is missing after so many lines.
+abbrev pub missing_head : ℕ → Option Cause
+missing_head n =
+    if n == 0 then Some Header else (if n == 1 then Some Language else (if n == 2 then Some Minima else None))
+
+-- The number and the cause of the first fault among the lines that follow the earlier ones.
+abbrev pub fault_after : Form → List (List ℕ) → List (List ℕ) → Option (ℕ × Cause)
+fault_after form earlier [] = option_map (λ cause. (length earlier + 1, cause)) (missing_head (length earlier))
+fault_after form earlier (line ∷ lines) =
+    option_or (option_map (λ cause. (length earlier + 1, cause)) (cause_of form earlier line))
+    (fault_after form (earlier ++ line ∷ []) lines)
+
+-- The first fault of the lines of a text of that kind; their first one says the version.
+abbrev pub fault_of : Kind → List (List ℕ) → Option (ℕ × Cause)
+fault_of kind lines = fault_after (form_of kind lines) [] lines
+
+-- The refusal of a text of that kind; none where it is accepted.
+abbrev pub refusal_of : Kind → List ℕ → Option (ℕ × Cause)
+refusal_of kind bytes = fault_of kind (lines_of bytes)

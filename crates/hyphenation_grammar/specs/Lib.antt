@@ -1,0 +1,9 @@
+pub mod Form
+pub mod Lines
+pub mod Tokens
+pub mod Items
+pub mod Judging
+pub mod Reading
+pub mod Messages
+pub mod Parsed
+pub mod Private

@@ -1,0 +1,117 @@
+-- What one pass over a token finds, for the crate that judges lines: there it is proved to be what Items and Judging say.
+use Rattle.std.specs.Prelude.{ℕ, ◌==◌, ◌-◌, ◌||◌, ◌&&◌, nat_lt, Bool, true, false, if◌then◌else◌, List, [], ◌∷◌, ◌++◌, length, fold, take, drop, slice_index_or, Option, Some, None, is_some, option_map, option_and_then}
+use Rattle.std.specs.List.{list_all}
+use Rattle.std.specs.declared.vec.Vec.{Vec}
+use Rattle.hyphenation_breaks.specs.Break.{Change, is_boundary}
+use Rattle.hyphenation_grammar.specs.Lines.{is_number, number, number_of}
+use Rattle.hyphenation_grammar.specs.Tokens.{is_readable, parts_of, pattern_bytes, step_at, text_spelt}
+use Rattle.hyphenation_grammar.specs.declared.pattern.PatternToken.{PatternToken}
+use Rattle.hyphenation_grammar.specs.declared.tokens.LaterToken.{LaterToken}
+use Rattle.hyphenation_grammar.specs.declared.tokens.LaterToken.TheVariants.{NoNumber, Unsound, Sound}
+use Rattle.hyphenation_grammar.specs.declared.form.Version.{Version}
+use Rattle.hyphenation_grammar.specs.declared.tokens.EscapedByte.{EscapedByte}
+use Rattle.hyphenation_grammar.specs.declared.tokens.PatternElement.{PatternElement}
+use Rattle.hyphenation_grammar.specs.declared.tokens.PatternElement.TheVariants.{Letter, Value}
+
+-- What the bytes of a pattern say, as far as they are read: the key, the values other than 0 at their places, whether two values
+-- stand in succession, whether a value is bad, and the digits after a brace that is still open.
+pub record ReadPattern : Type 0 where
+  pub key : List ℕ
+  pub values : List (ℕ × ℕ)
+  pub ends_in_value : Bool
+  pub has_two_values : Bool
+  pub has_bad_value : Bool
+  pub digits : Option (List ℕ)
+
+abbrev pub nothing_read : ReadPattern
+nothing_read =
+    record {
+      key = [];
+      values = [];
+      ends_in_value = false;
+      has_two_values = false;
+      has_bad_value = false;
+      digits = None;
+    }
+
+-- Some brace opens or closes no value.
+abbrev pub is_bad : ReadPattern → Bool
+is_bad r = r.has_bad_value || is_some r.digits
+
+-- One element more; a value stands after the letters before it.
+abbrev pub with_element : ReadPattern → PatternElement → ReadPattern
+with_element r (Letter b) = record r { key = r.key ++ b ∷ []; ends_in_value = false }
+with_element r (Value v) =
+    record r {
+      values = if v == 0 then r.values else r.values ++ (length r.key, v) ∷ [];
+      ends_in_value = true;
+      has_two_values = r.has_two_values || r.ends_in_value;
+    }
+
+-- What a byte leaves: the digits in braces then, and the elements that it adds; or a bad value.
+abbrev pub with_step : ReadPattern → Option (Option (List ℕ) × List PatternElement) → ReadPattern
+with_step r None = record r { has_bad_value = true; digits = None }
+with_step r (Some step) = record (fold with_element r step.1) { digits = step.0 }
+
+-- One byte more.
+abbrev pub with_spelt : Version → ReadPattern → EscapedByte → ReadPattern
+with_spelt version r spelt = with_step r (step_at version r.digits spelt)
+
+abbrev pub digits_of : {X Y : Type 0} → Option (Vec X Y) → Option (List X)
+digits_of digits = option_map (λ v. v.items) digits
+
+abbrev pub pattern_view : PatternToken → ReadPattern
+pattern_view p = record {
+  key = p.key.items;
+  values = p.values.items;
+  ends_in_value = p.ends_in_value;
+  has_two_values = p.has_two_values;
+  has_bad_value = p.has_bad_value;
+  digits = digits_of p.digits;
+}
+
+abbrev pub read_pattern : Version → List ℕ → Option ReadPattern
+read_pattern version token = option_map (fold (with_spelt version) nothing_read) (pattern_bytes version token)
+
+-- A part of a later token.
+abbrev pub part_at : List (List ℕ) → ℕ → List ℕ
+part_at parts i = slice_index_or parts i []
+
+-- A change of these numbers, if it is broken between characters of its substitution.
+abbrev pub change_with : ℕ → ℕ → ℕ → List ℕ → Option Change
+change_with left right breakpoint substitution =
+    if is_boundary substitution breakpoint
+    then Some (record { left = left; right = right; substitution = substitution; breakpoint = breakpoint })
+    else None
+
+-- The change that parts say, if they are all there and it is broken so.
+abbrev pub sound_change : List (List ℕ) → Option Change
+sound_change parts =
+    if length parts == 5 && nat_lt 0 (length (part_at parts 4))
+    then option_and_then (λ left. option_and_then
+    (λ right. option_and_then (λ breakpoint. option_and_then (λ substitution. change_with left right breakpoint
+    substitution)
+    (text_spelt (part_at parts 4))) (number_of (part_at parts 3))) (number_of (part_at parts 2)))
+    (number_of (part_at parts 1))
+    else None
+
+abbrev pub token_with : ℕ → Option Change → LaterToken
+token_with place None = Unsound place
+token_with place (Some change) = Sound place (Some change)
+
+-- What two parts or more say.
+abbrev pub parted_token_said : List (List ℕ) → LaterToken
+parted_token_said parts =
+    if list_all is_number (take (length parts - 1) parts)
+    then token_with (number (part_at parts 0)) (sound_change parts)
+    else NoNumber
+
+-- What parts say.
+abbrev pub token_said : List (List ℕ) → LaterToken
+token_said parts =
+    if nat_lt 1 (length parts) then parted_token_said parts
+    else (if list_all is_number parts then Sound (number (part_at parts 0)) None else NoNumber)
+
+-- What a later token says.
+abbrev pub later_token : List ℕ → Option LaterToken
+later_token token = if is_readable token then Some (token_said (parts_of token)) else None

@@ -1,0 +1,44 @@
+//! The form of a dictionary text: its kind and its version.
+
+/// The kind of a dictionary: whether its breaks may change letters.
+#[derive(Clone, Copy, Debug, PartialEq, Eq)]
+pub enum Kind {
+    /// Breaks change nothing.
+    Standard,
+    /// Breaks may change the letters around them.
+    Extended,
+}
+
+impl Kind {
+    ghost use Rattle.std.specs.Prelude.{◌≡◌};
+    ghost use Rattle.hyphenation_grammar.specs.Form.{kind_of_name};
+
+    /// The kind of that name: `standard` or `extended`.
+    pub fn from_name(name: &str) -> Option<Kind>
+        ensures { result ≡ kind_of_name name.now }
+    {
+        if name == "standard" {
+            Some(Kind::Standard)
+        } else if name == "extended" {
+            Some(Kind::Extended)
+        } else {
+            None
+        }
+    }
+}
+
+/// The version of a dictionary text, which says how a pattern's values are written.
+#[derive(Clone, Copy, Debug, PartialEq, Eq)]
+pub enum Version {
+    /// Values from 0 to 9, each a digit.
+    First,
+    /// Values from 0 to 255: from 10 on they stand in braces, as in `a{11}b`.
+    Second,
+}
+
+/// What decides how a text is read: the kind that is asked for, and the version that its first line names.
+#[derive(Clone, Copy, Debug, PartialEq, Eq)]
+pub struct Form {
+    pub kind: Kind,
+    pub version: Version,
+}

@@ -1,0 +1,217 @@
+//! Lines, numbers and the three head lines.
+
+ghost use Rattle.std.specs.Prelude.{◌≡◌, ◌==◌, ◌^◌, ◌<◌, ◌∷◌, [], IsUtf8, IfOk, IfSome, IfNone, position, length, map, option_map, nat_lt, true, if◌then◌else◌, Some, None};
+ghost use Rattle.std.specs.List.{list_all, slice_split};
+ghost use Rattle.std.specs.Str.{is_utf8};
+ghost use Rattle.hyphenation_grammar.specs.Form.{head_line, head_of, version_by};
+ghost use Rattle.hyphenation_grammar.specs.Lines.{lines_of, strip_prefix, starts_with, is_digit, has_no_leading_zero, number_of, with_digit, language_of, minima_of, small_of, two_small, is_same};
+ghost use Rattle.hyphenation_grammar.specs.Private.Lines.{tokens_after, value_below};
+
+use crate::form::{Form, Kind, Version};
+use hyphenation_breaks::language::Language;
+use std::alloc::{AllocError, Global};
+
+/// The first line of a text, and what stands after the line feed that ends it. The lines of a text are what
+/// stands between line feeds, without an empty one at the end.
+pub fn next_line(text: &[u8]) -> Option<(&[u8], &[u8])>
+    ensures none { IfNone result (lines_of text.now ≡ []) }
+    ensures first { IfSome result (λ x. lines_of text.now ≡ x.0.now ∷ lines_of x.1.now) }
+    ensures utf8 { IsUtf8 text.now → IfSome result (λ x. IsUtf8 x.0.now × IsUtf8 x.1.now) }
+    ensures shorter { IfSome result (λ x. length x.1.now < length text.now) }
+{
+    if text.is_empty() {
+        return None;
+    }
+    match feed(text) {
+        None => Some((text, &text[text.len()..])),
+        Some(at) => Some((&text[..at], &text[at + 1..])),
+    }
+}
+
+/// Where the first line feed stands.
+fn feed(text: &[u8]) -> Option<usize>
+    ensures { result ≡ position (λ b. b == 10) text.now }
+{
+    text.iter().position(|b| *b == b'\n')
+}
+
+/// What stands between spaces.
+pub fn between_spaces(alloc: Global, text: &[u8]) -> Result<Vec<&[u8]>, AllocError>
+    ensures { IfOk result (λ v. map (λ token. token.now) v.items ≡ slice_split (λ b. b == 32) text.now) }
+{
+    text.split(|b| *b == b' ').collect(alloc)
+}
+
+/// Where the first space stands.
+fn space(text: &[u8]) -> Option<usize>
+    ensures { result ≡ position (λ b. b == 32) text.now }
+{
+    text.iter().position(|b| *b == b' ')
+}
+
+/// The first token of a text, and what stands after the space that ends it, if there is one.
+pub fn first_token(text: &[u8]) -> (&[u8], Option<&[u8]>)
+    ensures parts { slice_split (λ b. b == 32) text.now
+        ≡ result.0.now ∷ tokens_after (option_map (λ rest. rest.now) result.1) }
+    ensures utf8 { IsUtf8 text.now → IsUtf8 result.0.now × IfSome result.1 (λ rest. IsUtf8 rest.now) }
+    ensures shorter { IfSome result.1 (λ rest. length rest.now < length text.now) }
+{
+    match space(text) {
+        None => (text, None),
+        Some(at) => (&text[..at], Some(&text[at + 1..])),
+    }
+}
+
+/// What stands after a beginning, if the text begins so.
+pub fn strip_prefix<'t>(start: &[u8], text: &'t [u8]) -> Option<&'t [u8]>
+    ensures { option_map (λ rest. rest.now) result ≡ strip_prefix start.now text.now }
+{
+    text.strip_prefix(start)
+}
+
+/// Whether the text begins so.
+pub fn starts_with(start: &[u8], text: &[u8]) -> bool
+    ensures { result ≡ starts_with start.now text.now }
+{
+    strip_prefix(start, text).is_some()
+}
+
+/// Whether a line is line 1 of a text of that form.
+pub fn is_head(form: Form, line: &[u8]) -> bool
+    ensures { result ≡ is_same line.now (head_line form) }
+{
+    line == head_of(form.kind, form.version)
+}
+
+/// Line 1 of a text of that kind and version.
+pub fn head_of(kind: Kind, version: Version) -> &'static [u8]
+    ensures { result.now ≡ head_of kind version }
+{
+    match (kind, version) {
+        (Kind::Standard, Version::First) => b"hyphenation 1 standard".as_slice(),
+        (Kind::Standard, Version::Second) => b"hyphenation 2 standard".as_slice(),
+        (Kind::Extended, Version::First) => b"hyphenation 1 extended".as_slice(),
+        (Kind::Extended, Version::Second) => b"hyphenation 2 extended".as_slice(),
+    }
+}
+
+/// The version that a first line names in a text of that kind; the first one where it names none.
+pub fn version_by(kind: Kind, line: &[u8]) -> Version
+    ensures { result ≡ version_by kind line.now }
+{
+    if line == head_of(kind, Version::Second) {
+        Version::Second
+    } else {
+        Version::First
+    }
+}
+
+/// The language of line 2.
+pub fn language_of(line: &[u8]) -> Option<Language>
+    ensures { result ≡ language_of line.now }
+{
+    let code = strip_prefix(b"language ", line)?;
+    match std::str::from_utf8(code) {
+        Ok(code) => Language::from_code(code),
+        Err(_) => None,
+    }
+}
+
+/// The two minima of line 3.
+pub fn minima_of(alloc: Global, line: &[u8]) -> Result<Option<(u8, u8)>, AllocError>
+    ensures { IfOk result (λ found. found ≡ minima_of line.now) }
+{
+    match strip_prefix(b"minima ", line) {
+        None => Ok(None),
+        Some(rest) => {
+            let parts = between_spaces(alloc, rest)?;
+            Ok(two_small(&parts))
+        }
+    }
+}
+
+/// Two numbers from 0 to 255, where there are exactly two parts.
+fn two_small(parts: &[&[u8]]) -> Option<(u8, u8)>
+    ensures { result ≡ two_small (map (λ part. part.now) parts.now) }
+{
+    if parts.len() != 2 {
+        return None;
+    }
+    match (small(parts[0]), small(parts[1])) {
+        (Some(left), Some(right)) => Some((left, right)),
+        _ => None,
+    }
+}
+
+/// A number from 0 to 255.
+pub fn small(text: &[u8]) -> Option<u8>
+    ensures { result ≡ small_of text.now }
+{
+    let value = number_of(text)?;
+    u8::try_from(value).ok()
+}
+
+/// The number that a text spells: `0`, or digits without a leading zero, below 2^64; `None` of any other text.
+pub fn number_of(text: &[u8]) -> Option<usize>
+    ensures { result ≡ number_of text.now }
+{
+    if !are_digits(text) || !has_no_leading_zero(text) {
+        return None;
+    }
+    digits_value(text)
+}
+
+/// Whether a byte is a digit of ASCII.
+fn is_digit(byte: u8) -> bool
+    ensures { result ≡ is_digit byte }
+{
+    byte.is_ascii_digit()
+}
+
+/// Whether all bytes are digits.
+fn are_digits(text: &[u8]) -> bool
+    ensures { result ≡ list_all is_digit text.now }
+{
+    text.iter().all(|byte| is_digit(*byte))
+}
+
+/// Whether a text is not empty, and begins with no zero unless that stands alone.
+fn has_no_leading_zero(text: &[u8]) -> bool
+    ensures { result ≡ has_no_leading_zero text.now }
+{
+    match text {
+        [] => false,
+        [first, rest @ ..] => *first != b'0' || rest.is_empty(),
+    }
+}
+
+/// The number of a row of digits, if it is below 2^64.
+fn digits_value(text: &[u8]) -> Option<usize>
+    requires { list_all is_digit text.now ≡ true }
+    ensures { result ≡ value_below text.now }
+{
+    let mut value: usize = 0;
+    for byte in text {
+        match with_digit(value, *byte) {
+            None => return None,
+            Some(next) => value = next,
+        }
+    }
+    Some(value)
+}
+
+/// The value with one digit more at its end, where it is below 2^64.
+fn with_digit(value: usize, digit: u8) -> Option<usize>
+    requires { is_digit digit ≡ true }
+    ensures { result ≡ (if nat_lt (with_digit value digit) (2 ^ 64) then Some (with_digit value digit) else None) }
+{
+    let units = usize::from(digit - b'0');
+    value.checked_mul(10)?.checked_add(units)
+}
+
+/// Whether a text is UTF-8.
+pub fn is_utf8(text: &[u8]) -> bool
+    ensures { result ≡ is_utf8 text.now }
+{
+    std::str::from_utf8(text).is_ok()
+}

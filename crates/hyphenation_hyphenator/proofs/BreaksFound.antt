@@ -1,0 +1,140 @@
+-- The steps of finding, carrying and keeping breaks.
+use Rattle.std.proofs.Common.{◌≡◌, ℕ, zero, suc, ◌+◌, ◌-◌, ◌<◌, ◌≤◌, ◌&&◌, Bool, true, false, cond, nat_le, List, [], ◌∷◌, ◌++◌, length, map, filter, take, drop, get_or, Option, Some, None, refl, sym, ap, subst, ◌∙◌, arith}
+use Rattle.std.specs.List.{slice_index_or, range_with_len}
+use Rattle.std.specs.FinMap as finite
+use Rattle.std.specs.Option.{IfSome, option_map, option_and_then}
+use Rattle.std.specs.Str.{IsUtf8}
+use Rattle.std.proofs.Math.ListN.{set}
+use Rattle.std.proofs.lemmas.List.{take_more, take_all, drop_all, map-append, map-set, get_or-map, append-nil}
+use Rattle.std.proofs.lemmas.List.Edits.{map_over_more}
+use Rattle.std.proofs.lemmas.List.Elements.{filter-append}
+use Rattle.std.proofs.lemmas.List.FromFn.{get_or-map-range_with_len, length-map-range_with_len}
+use Rattle.std.proofs.lemmas.List.Sums.{fold-append}
+use Rattle.hyphenation_breaks.specs.Break.{Break, Change, begin_of, break_at}
+use Rattle.hyphenation_breaks.specs.Dictionary.{Contents, Patterns}
+use Rattle.hyphenation_breaks.specs.Invariant.{IsDictionary}
+use Rattle.hyphenation_breaks.specs.declared.entry.Entry.{Entry}
+use Rattle.hyphenation_hyphenator.specs.Fitting.{keep_break, kept_breaks}
+use Rattle.hyphenation_hyphenator.specs.Opportunities.{within, breaks_within, is_odd, winning_break, breaks_at_odd_values, rules_of, by_patterns, by_exception, Ascending}
+use Rattle.hyphenation_hyphenator.specs.Private.Opportunities.{won_at, won_break, is_won, won_within}
+use Rattle.hyphenation_score.specs.Scoring.{frame, bearers, value_of, value_at, winner_at, winners}
+use Rattle.hyphenation_score.proofs.FirstGreatest.{value_of-first}
+use Rattle.hyphenation_hyphenator.proofs.Fitting.{EndsAt}
+use Rattle.hyphenation_hyphenator.proofs.NumberedCharacters.{picked_more}
+use Rattle.hyphenation_hyphenator.proofs.RulesAscend.{rules_are_sound, by_patterns_ascend, by_exception_ascends}
+
+pub some_if : {X : Type 0} (t : Bool) (x y : X) → Some x ≡ cond t (Some y) None → (t ≡ true) × (x ≡ y)
+some_if true x y h = (refl, cc)
+some_if false x y h = absurd cc
+
+pub none_if : {X : Type 0} (t : Bool) (y : X) → None ≡ cond t (Some y) None → t ≡ false
+none_if true y h = absurd cc
+none_if false y h = refl
+
+-- One more break may be kept.
+pub kept_more : {X : Type 0} (test : Break → Bool) (m : X → Break) (xs : List X) (i : ℕ) (x : X) (kept : List Break) (last_end : ℕ) → i < length xs → x ≡ get_or xs i x
+    → kept ≡ kept_breaks test (map m (take i xs)) → EndsAt kept last_end → kept_breaks test (map m (take (i + 1) xs)) ≡ cond (test (m x) && nat_le last_end (begin_of (m x))) (kept ++ m x ∷ []) kept
+kept_more {X} test m xs i x kept last_end lt at is ends =
+    ap (λ ys. kept_breaks test (map m ys)) (take_more xs i x lt) ∙ ap (kept_breaks test) (map-append m (take i xs) (get_or xs i x ∷ []))
+    ∙ fold-append (keep_break test) [] (map m (take i xs)) (m (get_or xs i x) ∷ [])
+    ∙ ap (λ k. keep_break test k (m (get_or xs i x))) (sym is)
+    ∙ ap (λ (y : X). keep_break test kept (m y)) (sym at)
+    ∙ ap (λ t. cond (test (m x) && t) (kept ++ m x ∷ []) kept) (ends (m x))
+
+-- One more listed break may be within bounds.
+pub listed_more : {X : Type 0} (m : X → Break) (xs : List X) (i : ℕ) (x : X) (bounds : ℕ × ℕ) (breaks : List Break) → i < length xs → x ≡ get_or xs i x
+    → breaks ≡ breaks_within (map m (take i xs)) bounds → breaks_within (map m (take (i + 1) xs)) bounds ≡ breaks ++ cond (within bounds (m x).place) (m x ∷ []) []
+listed_more {X} m xs i x bounds breaks lt at is =
+    ap (λ ys. breaks_within (map m ys) bounds) (take_more xs i x lt) ∙ ap (λ bs. breaks_within bs bounds) (map-append m (take i xs) (get_or xs i x ∷ []))
+    ∙ filter-append (λ b. within bounds b.place) (map m (take i xs)) (m (get_or xs i x) ∷ [])
+    ∙ ap (λ bs. bs ++ cond (within bounds (m (get_or xs i x)).place) (m (get_or xs i x) ∷ []) []) (sym is)
+    ∙ ap (λ (y : X). breaks ++ cond (within bounds (m y).place) (m y ∷ []) []) (sym at)
+
+-- One more break is written over.
+pub written_more : {X : Type 0} (f : Break → Break) (m : X → Break) (all : List Break) (items : List X) (i : ℕ) (x new : X) → i < length all → i < length items
+    → map m items ≡ map f (take i all) ++ drop i all → x ≡ get_or items i x → m new ≡ f (m x) → map m (set items i new) ≡ map f (take (i + 1) all) ++ drop (i + 1) all
+written_more f m all items i x new lt in_items is at written =
+    map-set m items i new ∙ ap (set (map m items) i) written
+    ∙ map_over_more f all (map m items) i (m x) lt is (ap m at ∙ sym (get_or-map m items i x (m x) in_items))
+
+pub all_written_over : (f : Break → Break) (all : List Break) (i : ℕ) → length all ≤ i → map f (take i all) ++ drop i all ≡ map f all
+all_written_over f all i h = ap (λ xs. map f xs ++ drop i all) (take_all i all h) ∙ ap (λ xs. map f all ++ xs) (drop_all i all h) ∙ append-nil (map f all)
+
+-- One more place may be won.
+pub won_more : {C : Type 0} (change_of : C → Option Change) (winners : List (Option (Entry C))) (bounds : ℕ × ℕ) (i : ℕ) (breaks : List Break)
+    → breaks ≡ map (won_break change_of winners) (filter (is_won winners bounds) (range_with_len 0 i))
+    → map (won_break change_of winners) (filter (is_won winners bounds) (range_with_len 0 (i + 1))) ≡ breaks ++ cond (is_won winners bounds i) (won_break change_of winners i ∷ []) []
+won_more change_of winners bounds i breaks is =
+    picked_more (won_break change_of winners) (is_won winners bounds) i ∙ ap (λ bs. bs ++ cond (is_won winners bounds i) (won_break change_of winners i ∷ []) []) (sym is)
+
+pub is_won_at : {C : Type 0} (change_of : C → Option Change) (winners : List (Option (Entry C))) (bounds : ℕ × ℕ) (i : ℕ) (breaks : List Break) (b : Break) (winner : Option (Entry C))
+    → winner ≡ slice_index_or winners i None → breaks ≡ map (won_break change_of winners) (filter (is_won winners bounds) (range_with_len 0 i)) → Some b ≡ won_at change_of (i + 1) winner bounds
+    → breaks ++ b ∷ [] ≡ map (won_break change_of winners) (filter (is_won winners bounds) (range_with_len 0 (i + 1)))
+is_won_at {C} change_of winners bounds i breaks b winner at is e =
+    let here : Some b ≡ cond (is_won winners bounds i) (Some (won_break change_of winners i)) None = e ∙ ap (λ w. won_at change_of (i + 1) w bounds) at in
+    let found = some_if (is_won winners bounds i) b (won_break change_of winners i) here in
+    ap (λ y. breaks ++ y ∷ []) found.1 ∙ sym (won_more change_of winners bounds i breaks is ∙ ap (λ t. breaks ++ cond t (won_break change_of winners i ∷ []) []) found.0)
+
+pub is_not_won : {C : Type 0} (change_of : C → Option Change) (winners : List (Option (Entry C))) (bounds : ℕ × ℕ) (i : ℕ) (breaks : List Break) (winner : Option (Entry C))
+    → winner ≡ slice_index_or winners i None → breaks ≡ map (won_break change_of winners) (filter (is_won winners bounds) (range_with_len 0 i)) → None ≡ won_at change_of (i + 1) winner bounds
+    → breaks ≡ map (won_break change_of winners) (filter (is_won winners bounds) (range_with_len 0 (i + 1)))
+is_not_won change_of winners bounds i breaks winner at is e =
+    let here : None ≡ cond (is_won winners bounds i) (Some (won_break change_of winners i)) None = e ∙ ap (λ w. won_at change_of (i + 1) w bounds) at in
+    let no = none_if (is_won winners bounds i) (won_break change_of winners i) here in
+    sym (won_more change_of winners bounds i breaks is ∙ ap (λ t. breaks ++ cond t (won_break change_of winners i ∷ []) []) no ∙ append-nil breaks)
+
+-- ---- what is found, by the rules of a dictionary
+
+same_won : (f g : ℕ → Break) (test odd : ℕ → Bool) (bounds : ℕ × ℕ) → ((p : ℕ) → (g p).place ≡ p) → (a n : ℕ)
+    → ((i : ℕ) → a ≤ i → i < a + n → (f i ≡ g (i + 1)) × (test i ≡ (odd (i + 1) && within bounds (i + 1))))
+    → map f (filter test (range_with_len a n)) ≡ breaks_within (map g (filter odd (range_with_len (a + 1) n))) bounds
+same_won f g test odd bounds placed a zero agree = refl
+same_won f g test odd bounds placed a (suc n) agree =
+    let front = filter test (range_with_len (a + 1) n) in
+    let back = filter odd (range_with_len ((a + 1) + 1) n) in
+    let after = breaks_within (map g back) bounds in
+    let rest : map f front ≡ after = same_won f g test odd bounds placed (a + 1) n (λ i l h. agree i (omega arith) (omega arith)) in
+    let here = agree a (omega arith) (omega arith) in
+    let both : map f (cond (within bounds (a + 1)) (a ∷ front) front) ≡ cond (within bounds (g (a + 1)).place) (g (a + 1) ∷ after) after =
+    elim (within bounds (a + 1)) as (λ w. map f (cond w (a ∷ front) front) ≡ cond w (g (a + 1) ∷ after) after) [ true ↦ ap (λ b. b ∷ map f front) here.0 ∙ ap (λ bs. g (a + 1) ∷ bs) rest | false ↦ rest ]
+    ∙ ap (λ p. cond (within bounds p) (g (a + 1) ∷ after) after) (sym (placed (a + 1))) in
+    ap (λ t. map f (cond t (a ∷ front) front)) here.1
+    ∙ elim (odd (a + 1)) as (λ o. map f (cond (o && within bounds (a + 1)) (a ∷ front) front) ≡ breaks_within (map g (cond o ((a + 1) ∷ back) back)) bounds) [ true ↦ both | false ↦ rest ]
+
+-- The places that are won within bounds are the breaks that the keys allow.
+pub won_allowed : {C : Type 0} (change_of : C → Option Change) (keys : Patterns C) (word : List ℕ) (bounds : ℕ × ℕ) (found : List (Option (Entry C)))
+    → found ≡ winners keys word → won_within change_of found bounds ≡ breaks_within (breaks_at_odd_values change_of keys word) bounds
+won_allowed {C} change_of keys word bounds found is =
+    let n = length word - 1 in
+    let ws : List (Option (Entry C)) = winners keys word in
+    let count : length ws ≡ n = length-map-range_with_len (λ p. winner_at keys word p) 1 n in
+    let at : (i : ℕ) → i < n → slice_index_or ws i None ≡ winner_at keys word (i + 1) = λ i lt. get_or-map-range_with_len (λ p. winner_at keys word p) 1 n i (i + 1) None lt (omega arith) in
+    ap (λ (vs : List (Option (Entry C))). won_within change_of vs bounds) is
+    ∙ ap (λ m. map (won_break change_of ws) (filter (is_won ws bounds) (range_with_len 0 m))) count
+    ∙ same_won (won_break change_of ws) (winning_break change_of keys word) (is_won ws bounds) (λ place. is_odd (value_at keys word place)) bounds (λ _. refl) 0 n
+    (λ i l h.
+    let winner : slice_index_or ws i None ≡ winner_at keys word (i + 1) = at i (omega arith) in (
+      ap (λ w. break_at (i + 1) (option_and_then (λ entry. change_of entry.change) w)) winner,
+      ap (λ w. is_odd (value_of w) && within bounds (i + 1)) winner ∙ ap (λ v. is_odd v && within bounds (i + 1)) (value_of-first (bearers keys (frame word) (i + 1))),
+    ))
+
+-- What is found for an exception.
+pub exception_is : {C B : Type 0} (change_of : C → Option Change) (break_of : B → Break) (contents : Contents C B) (word : List ℕ) (listed : List B) (found : List Break) (bounds : ℕ × ℕ) → finite.get contents.exceptions word ≡ Some listed
+    → found ≡ breaks_within (map break_of listed) bounds → Some found ≡ by_exception (rules_of change_of break_of contents) word bounds
+exception_is change_of break_of contents word listed found bounds is e = ap Some e ∙ ap (λ o. option_map (λ l. breaks_within l bounds) (option_map (map break_of) o)) (sym is)
+
+pub found_ascend : {C B : Type 0} (change_of : C → Option Change) (break_of : B → Break) (contents : Contents C B) (word : List ℕ) (bounds : ℕ × ℕ) (found : List Break) → IsDictionary change_of break_of contents → IsUtf8 word
+    → Some found ≡ by_exception (rules_of change_of break_of contents) word bounds → Ascending word found
+found_ascend change_of break_of contents word bounds found kept u is =
+    subst (λ o. IfSome o (λ listed. Ascending word listed)) (sym is) (by_exception_ascends (rules_of change_of break_of contents) word bounds (rules_are_sound change_of break_of contents word kept u))
+
+-- Listed breaks within bounds ascend.
+pub listed_ascend : {C B : Type 0} (change_of : C → Option Change) (break_of : B → Break) (contents : Contents C B) (word : List ℕ) (listed : List B) (bounds : ℕ × ℕ) (found : List Break) → IsDictionary change_of break_of contents → IsUtf8 word
+    → finite.get contents.exceptions word ≡ Some listed → found ≡ breaks_within (map break_of listed) bounds → Ascending word found
+listed_ascend change_of break_of contents word listed bounds found kept u is e =
+    found_ascend change_of break_of contents word bounds found kept u (exception_is change_of break_of contents word listed found bounds is e)
+
+pub won_ascend : {C B : Type 0} (change_of : C → Option Change) (break_of : B → Break) (contents : Contents C B) (word : List ℕ) (bounds : ℕ × ℕ) (found : List Break) → IsDictionary change_of break_of contents → IsUtf8 word
+    → found ≡ by_patterns (rules_of change_of break_of contents) word bounds → Ascending word found
+won_ascend change_of break_of contents word bounds found kept u is =
+    subst (Ascending word) (sym is) (by_patterns_ascend (rules_of change_of break_of contents) word bounds (rules_are_sound change_of break_of contents word kept u))

@@ -1,0 +1,22 @@
+use Rattle.std.proofs.Common.{◌≡◌, true, false, ap, sym, ◌∙◌, arith, slice_index}
+use Rattle.std.specs.Char.{is_ascii_lowercase}
+use Rattle.hyphenation_hyphenator.specs.Private.SmallLetters.{are_small_letters}
+use Rattle.hyphenation_hyphenator.proofs.SmallLetters.{after_lower, no_lower}
+use Rattle.hyphenation_hyphenator.proofs.case_folding.are_small_letters.Goals as goal
+
+pub returns-then-not-is_ascii_lowercase : goal.returns-then-not-is_ascii_lowercase
+returns-then-not-is_ascii_lowercase c =
+    let bytes = c.as_bytes-bytes.result.now in
+    let at = c.loop-at.at in
+    let other : is_ascii_lowercase (slice_index bytes at) ≡ false = sym c.is_ascii_lowercase.ensures.value ∙ c.if-not-is_ascii_lowercase.true in
+    sym (ap are_small_letters (sym c.as_bytes-bytes.ensures.value) ∙ c.loop-at.invariant.same ∙ no_lower bytes at (omega arith) c.if-first-lt128.true other)
+
+pub loop-at-preserved-then-first-lt128 : goal.loop-at-preserved-then-first-lt128
+loop-at-preserved-then-first-lt128 c =
+    let bytes = c.as_bytes-bytes.result.now in
+    let at = c.loop-at.at in
+    let lower : is_ascii_lowercase (slice_index bytes at) ≡ true = sym c.is_ascii_lowercase.ensures.value ∙ c.if-not-is_ascii_lowercase.false in
+    record {
+      within = omega arith;
+      same = c.loop-at.invariant.same ∙ after_lower bytes at (omega arith) c.if-first-lt128.true lower;
+    }

@@ -1,0 +1,9 @@
+pub mod Places
+pub mod Boundaries
+pub mod Folding
+pub mod SoftHyphens
+pub mod Hyphenated
+pub mod Opportunities
+pub mod Fitting
+pub mod Laws
+pub mod Private

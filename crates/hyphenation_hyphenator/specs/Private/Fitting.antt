@@ -1,0 +1,14 @@
+-- Which breaks of a folded word are kept, so that they fit the word as written: what private functions and proofs need of it beside, and no public contract cites.
+use Rattle.std.specs.Prelude.{ℕ, ◌&&◌, not, nat_le, nat_lt, Bool, List}
+use Rattle.std.specs.List.{list_any}
+use Rattle.hyphenation_breaks.specs.Break.{Break, left_of, begin_of, end_of}
+use Rattle.hyphenation_hyphenator.specs.declared.case_folding.Shift.{Shift}
+
+-- A shift begins from begin on and before end.
+abbrev pub holds_shift : List Shift → ℕ → ℕ → Bool
+holds_shift shifts begin end = list_any (λ shift. nat_le begin shift.index && nat_lt shift.index end) shifts
+
+-- The range of a break lies in a folded word of so many bytes, and holds no shift.
+abbrev pub is_steady_by : ℕ → List Shift → Break → Bool
+is_steady_by size shifts b =
+    nat_le (left_of b.change) b.place && nat_le (end_of b) size && not (holds_shift shifts (begin_of b) (end_of b))

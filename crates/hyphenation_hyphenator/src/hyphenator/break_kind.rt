@@ -1,0 +1,153 @@
+//! What the breaks of each kind of dictionary are made of.
+
+ghost use Rattle.std.specs.Prelude.{◌≡◌, ◌+◌, ◌-◌, ◌<◌, Option, None, IfOk, length, map};
+ghost use Rattle.std.specs.List.Sorted.{IsNonDecreasingBy};
+ghost use Rattle.hyphenation_breaks.specs.Break.{plain_break, break_at};
+ghost use Rattle.hyphenation_hyphenator.specs.Fitting.{kept_breaks};
+ghost use Rattle.hyphenation_hyphenator.specs.Private.Fitting.{is_steady_by};
+ghost use Rattle.hyphenation_hyphenator.specs.Opportunities.{Ascending};
+ghost use Rattle.hyphenation_hyphenator.specs.Private.Opportunities.{lent_break};
+
+use super::fitting::{change_nothing, fit};
+use crate::case_folding::Shift;
+use hyphenation_breaks::breaks::Break;
+use hyphenation_breaks::entry::{Entry, Payload};
+use hyphenation_breaks::extended::Subregion;
+use std::alloc::{AllocError, Global};
+
+/// A break that a dictionary finds, made of what the dictionary holds.
+pub(crate) trait Found<'h>: Break + Copy {
+    /// What the values of the dictionary carry.
+    type Payload: Payload;
+
+    /// The breaks of its exceptions.
+    type Listing: Break;
+
+    /// The break at a place that changes nothing.
+    fn plain(place: usize) -> Self
+        ensures { Self.meaning result ≡ plain_break place };
+
+    /// The break at a place that an entry wins.
+    fn won(place: usize, entry: &'h Entry<Self::Payload>) -> Self
+        ensures { Self.meaning result ≡ break_at place (Self.Payload.change_of entry.now.change) };
+
+    /// A listed break.
+    fn listed(listed: &'h Self::Listing) -> Self
+        ensures { Self.meaning result ≡ Self.Listing.meaning listed.now };
+
+    /// The same break at another place.
+    fn moved(self, place: usize) -> Self
+        ensures { Self.meaning result ≡ break_at place (Self.meaning self).change };
+
+    /// Breaks that change nothing.
+    fn unchanged(alloc: Global, places: Vec<usize>) -> Result<Vec<Self>, AllocError>
+        ensures { IfOk result (λ v. map Self.meaning v.items ≡ map plain_break places.items) };
+
+    /// Those of the breaks of a folded word that are kept, so that they fit the word as written.
+    ///
+    /// The shifts stand in the order of their indices, and the places of the breaks ascend.
+    fn kept(
+        alloc: Global,
+        folded: &str,
+        shifts: &[Shift],
+        breaks: Vec<Self>,
+    ) -> Result<Vec<Self>, AllocError>
+        requires order { IsNonDecreasingBy (λ shift. shift.index) shifts.now }
+        requires ascend { Ascending folded.now (map Self.meaning breaks.items) }
+        ensures { IfOk result (λ v. map Self.meaning v.items
+            ≡ kept_breaks (is_steady_by (length folded.now) shifts.now) (map Self.meaning breaks.items)) };
+}
+
+impl<'h> Found<'h> for usize {
+    type Payload = ();
+
+    type Listing = usize;
+
+    fn plain(place: usize) -> usize {
+        place
+    }
+
+    fn won(place: usize, _entry: &'h Entry<()>) -> usize {
+        place
+    }
+
+    fn listed(listed: &'h usize) -> usize {
+        *listed
+    }
+
+    fn moved(self, place: usize) -> usize {
+        place
+    }
+
+    fn unchanged(_alloc: Global, places: Vec<usize>) -> Result<Vec<usize>, AllocError> {
+        Ok(places)
+    }
+
+    /// What changes nothing fits as it is.
+    fn kept(
+        _alloc: Global,
+        _folded: &str,
+        _shifts: &[Shift],
+        breaks: Vec<usize>,
+    ) -> Result<Vec<usize>, AllocError>
+        requires order { IsNonDecreasingBy (λ shift. shift.index) _shifts.now }
+        requires ascend { Ascending _folded.now (map plain_break breaks.items) }
+        ensures { IfOk result (λ v.
+            map plain_break v.items ≡ kept_breaks (is_steady_by (length _folded.now) _shifts.now)
+            (map plain_break breaks.items)) }
+    {
+        Ok(breaks)
+    }
+}
+
+impl<'h> Found<'h> for (usize, Option<&'h Subregion>) {
+    type Payload = Option<Subregion>;
+
+    type Listing = (usize, Option<Subregion>);
+
+    fn plain(place: usize) -> (usize, Option<&'h Subregion>) {
+        (place, None)
+    }
+
+    fn won(place: usize, entry: &'h Entry<Option<Subregion>>) -> (usize, Option<&'h Subregion>) {
+        (place, entry.change.as_ref())
+    }
+
+    fn listed(listed: &'h (usize, Option<Subregion>)) -> (usize, Option<&'h Subregion>) {
+        (listed.0, listed.1.as_ref())
+    }
+
+    fn moved(self, place: usize) -> (usize, Option<&'h Subregion>) {
+        (place, self.1)
+    }
+
+    fn unchanged(
+        alloc: Global,
+        places: Vec<usize>,
+    ) -> Result<Vec<(usize, Option<&'h Subregion>)>, AllocError> {
+        let mut breaks = Vec::new(alloc);
+        for place in &places {
+            breaks.push((*place, None))?;
+        }
+        Ok(breaks)
+    }
+
+    fn kept(
+        alloc: Global,
+        folded: &str,
+        shifts: &[Shift],
+        breaks: Vec<(usize, Option<&'h Subregion>)>,
+    ) -> Result<Vec<(usize, Option<&'h Subregion>)>, AllocError>
+        requires order { IsNonDecreasingBy (λ shift. shift.index) shifts.now }
+        requires ascend { Ascending folded.now (map lent_break breaks.items) }
+        ensures { IfOk result (λ v.
+            map lent_break v.items
+            ≡ kept_breaks (is_steady_by (length folded.now) shifts.now) (map lent_break breaks.entry.items)) }
+    {
+        // What changes nothing fits as it is.
+        if change_nothing(&breaks) {
+            return Ok(breaks);
+        }
+        fit(alloc, folded.len(), shifts, &breaks)
+    }
+}

@@ -1,0 +1,127 @@
+//! How an extended dictionary hyphenates.
+
+ghost use Rattle.std.specs.Prelude.{◌≡◌, ◌≤◌, ℕ, List, IsTrue, Option, Some, None, IfSome, IfOk, OnOk, OnErr, map};
+ghost use Rattle.std.specs.Str.{IsCharBoundary, IsUtf8};
+ghost use Rattle.std.specs.FinMap as finite;
+ghost use Rattle.std.specs.Option.{option_map};
+ghost use Rattle.std.specs.String.{string_bytes};
+ghost use Rattle.hyphenation_breaks.specs.Invariant.{are_listed};
+ghost use Rattle.hyphenation_segments.specs.Fits.{Fits};
+ghost use Rattle.hyphenation_hyphenator.specs.Fitting.{fitted_breaks_of};
+ghost use Rattle.hyphenation_hyphenator.specs.Opportunities.{own_break, rules_of, boundaries_by, Ascending, ListsAnew};
+ghost use Rattle.hyphenation_score.specs.Scoring.{own_change};
+
+use super::word_paths::{breaks, exception, exception_within, opportunities, opportunities_within};
+use super::{Hyphenator, boundaries_of};
+use hyphenation_breaks::extended::Subregion;
+use hyphenation_dictionary::dictionary::Extended;
+use std::alloc::{AllocError, Global};
+
+impl<'h> Hyphenator<'h> for Extended {
+    ghost use Rattle.hyphenation_hyphenator.specs.Fitting.{fitted_breaks_of};
+    ghost use Rattle.hyphenation_hyphenator.specs.Opportunities.{own_break, rules_of};
+    ghost use Rattle.hyphenation_score.specs.Scoring.{own_change};
+
+    type Opportunity = (usize, Option<&'h Subregion>);
+
+    type Exact = (usize, Option<Subregion>);
+
+    ghost rules = { rules_of own_change own_break };
+
+    ghost breaks_of = { λ dictionary word. fitted_breaks_of (rules_of own_change own_break dictionary) word };
+
+    fn breaks_fit(&self)
+        ensures fit { (word : List ℕ) → IsUtf8 word
+            → Fits word (fitted_breaks_of (rules_of own_change own_break self.now) word) }
+        ensures ascend { (word : List ℕ) → IsUtf8 word
+            → Ascending word (fitted_breaks_of (rules_of own_change own_break self.now) word) }
+    {
+        self.invariant();
+    }
+
+    fn unbreakable_chars(&self) -> (usize, usize)
+        ensures { result ≡ (rules_of own_change own_break self.now).minima }
+    {
+        self.minima()
+    }
+
+    fn boundaries(&self, word: &str) -> Option<(usize, usize)>
+        ensures value { result ≡ boundaries_by (rules_of own_change own_break self.now) word.now }
+        ensures ordered { IfSome result (λ bounds. bounds.0 ≤ bounds.1) }
+        ensures left { IfSome result (λ bounds. IsCharBoundary word.now bounds.0) }
+        ensures right { IfSome result (λ bounds. IsCharBoundary word.now bounds.1) }
+    {
+        boundaries_of(self.minima(), word)
+    }
+
+    fn opportunities_within(
+        &'h self,
+        alloc: Global,
+        lowercase_word: &str,
+        bounds: (usize, usize),
+    ) -> Result<Vec<(usize, Option<&'h Subregion>)>, AllocError> {
+        opportunities_within(alloc, self, lowercase_word, bounds)
+    }
+
+    fn exception_within(
+        &'h self,
+        alloc: Global,
+        lowercase_word: &str,
+        bounds: (usize, usize),
+    ) -> Result<Option<Vec<(usize, Option<&'h Subregion>)>>, AllocError> {
+        exception_within(alloc, self, lowercase_word, bounds)
+    }
+
+    fn exception(
+        &'h self,
+        alloc: Global,
+        lowercase_word: &str,
+    ) -> Result<Option<Vec<(usize, Option<&'h Subregion>)>>, AllocError> {
+        exception(alloc, self, lowercase_word)
+    }
+
+    fn opportunities(
+        &'h self,
+        alloc: Global,
+        lowercase_word: &str,
+    ) -> Result<Vec<(usize, Option<&'h Subregion>)>, AllocError> {
+        opportunities(alloc, self, lowercase_word)
+    }
+
+    fn add_exception(
+        &mut self,
+        lowercase_word: String,
+        ops: Vec<(usize, Option<Subregion>)>,
+    ) -> Result<Option<Vec<(usize, Option<Subregion>)>>, AllocError>
+        requires { IsTrue (are_listed own_break (string_bytes lowercase_word) ops.items) }
+        ensures lists { OnOk result (ListsAnew (rules_of own_change own_break self.old)
+            (rules_of own_change own_break self.new) (string_bytes lowercase_word) (Some (map own_break ops.items))) }
+        ensures old { IfOk result (λ old.
+            option_map (λ v. map own_break v.items) old
+            ≡ (rules_of own_change own_break self.old).listed (string_bytes lowercase_word)) }
+        ensures err { OnErr result (self.new ≡ self.old) }
+        ensures contents { OnOk result (self.new ≡ record self.old
+            { exceptions = finite.insert self.old.exceptions (string_bytes lowercase_word) ops.items }) }
+    {
+        self.insert_exception(lowercase_word, ops)
+    }
+
+    fn remove_exception(&mut self, word: &str) -> Option<Vec<(usize, Option<Subregion>)>>
+        ensures lists { ListsAnew (rules_of own_change own_break self.old)
+            (rules_of own_change own_break self.new) word.now
+            None }
+        ensures old { option_map (λ v. map own_break v.items) result
+            ≡ (rules_of own_change own_break self.old).listed word.now }
+        ensures contents { self.new ≡ record self.old { exceptions = finite.remove self.old.exceptions word.now } }
+    {
+        self.remove_exception(word)
+    }
+
+    fn breaks(
+        &'h self,
+        alloc: Global,
+        word: &str,
+    ) -> Result<Vec<(usize, Option<&'h Subregion>)>, AllocError> {
+        breaks(alloc, self, word)
+    }
+}

@@ -1,0 +1,107 @@
+//! How a standard dictionary hyphenates.
+
+ghost use Rattle.std.specs.Prelude.{◌≡◌, IsTrue, Some, None, IfOk, OnOk, OnErr, map};
+ghost use Rattle.std.specs.Option.{option_map};
+ghost use Rattle.std.specs.String.{string_bytes};
+ghost use Rattle.std.specs.FinMap as finite;
+ghost use Rattle.hyphenation_breaks.specs.Break.{plain_break};
+ghost use Rattle.hyphenation_breaks.specs.Invariant.{are_listed};
+ghost use Rattle.hyphenation_hyphenator.specs.Opportunities.{no_change, rules_of, ListsAnew};
+
+use super::word_paths::{breaks, exception, exception_within, opportunities, opportunities_within};
+use super::{Hyphenator, boundaries_of};
+use hyphenation_dictionary::dictionary::Standard;
+use std::alloc::{AllocError, Global};
+
+impl<'h> Hyphenator<'h> for Standard {
+    ghost use Rattle.hyphenation_breaks.specs.Break.{plain_break};
+    ghost use Rattle.hyphenation_hyphenator.specs.Opportunities.{no_change, rules_of, all_breaks_of};
+
+    type Opportunity = usize;
+
+    type Exact = usize;
+
+    ghost rules = { rules_of no_change plain_break };
+
+    ghost breaks_of = { λ dictionary word. all_breaks_of (rules_of no_change plain_break dictionary) word };
+
+    fn breaks_fit(&self) {
+        self.invariant();
+    }
+
+    fn unbreakable_chars(&self) -> (usize, usize) {
+        self.minima()
+    }
+
+    fn boundaries(&self, word: &str) -> Option<(usize, usize)> {
+        boundaries_of(self.minima(), word)
+    }
+
+    fn opportunities_within(
+        &'h self,
+        alloc: Global,
+        lowercase_word: &str,
+        bounds: (usize, usize),
+    ) -> Result<Vec<usize>, AllocError> {
+        opportunities_within(alloc, self, lowercase_word, bounds)
+    }
+
+    fn exception_within(
+        &'h self,
+        alloc: Global,
+        lowercase_word: &str,
+        bounds: (usize, usize),
+    ) -> Result<Option<Vec<usize>>, AllocError> {
+        exception_within(alloc, self, lowercase_word, bounds)
+    }
+
+    fn exception(
+        &'h self,
+        alloc: Global,
+        lowercase_word: &str,
+    ) -> Result<Option<Vec<usize>>, AllocError> {
+        exception(alloc, self, lowercase_word)
+    }
+
+    fn opportunities(
+        &'h self,
+        alloc: Global,
+        lowercase_word: &str,
+    ) -> Result<Vec<usize>, AllocError> {
+        opportunities(alloc, self, lowercase_word)
+    }
+
+    fn add_exception(
+        &mut self,
+        lowercase_word: String,
+        ops: Vec<usize>,
+    ) -> Result<Option<Vec<usize>>, AllocError>
+        requires { IsTrue (are_listed plain_break (string_bytes lowercase_word) ops.items) }
+        ensures lists { OnOk result (ListsAnew (rules_of no_change plain_break self.old)
+            (rules_of no_change plain_break self.new)
+            (string_bytes lowercase_word) (Some (map plain_break ops.items))) }
+        ensures old { IfOk result (λ old.
+            option_map (λ v. map plain_break v.items) old
+            ≡ (rules_of no_change plain_break self.old).listed (string_bytes lowercase_word)) }
+        ensures err { OnErr result (self.new ≡ self.old) }
+        ensures contents { OnOk result (self.new ≡ record self.old
+            { exceptions = finite.insert self.old.exceptions (string_bytes lowercase_word) ops.items }) }
+    {
+        self.insert_exception(lowercase_word, ops)
+    }
+
+    fn remove_exception(&mut self, word: &str) -> Option<Vec<usize>>
+        ensures lists { ListsAnew (rules_of no_change plain_break self.old)
+            (rules_of no_change plain_break self.new) word.now None }
+        ensures old { option_map (λ v. map plain_break v.items) result
+            ≡ (rules_of no_change plain_break self.old).listed word.now }
+        ensures contents { self.new ≡ record self.old { exceptions = finite.remove self.old.exceptions word.now } }
+    {
+        self.remove_exception(word)
+    }
+
+    fn breaks(&'h self, alloc: Global, word: &str) -> Result<Vec<usize>, AllocError> {
+        self.invariant();
+        breaks(alloc, self, word)
+    }
+}

@@ -1,0 +1,294 @@
+//! How the breaks of a word are found, for both kinds of dictionaries.
+
+ghost use Rattle.std.specs.Prelude.{◌≡◌, ◌≤◌, [], true, ◌-◌, ◌<◌, ◌&&◌, Option, Some, None, IfOk, OnOk, IfSome, length, map};
+ghost use Rattle.std.specs.Char.{is_ascii_lowercase};
+ghost use Rattle.std.specs.List.{list_all};
+ghost use Rattle.std.specs.List.Sorted.{IsNonDecreasingBy};
+ghost use Rattle.std.specs.Option.{option_map};
+ghost use Rattle.std.specs.Str.{IsAscii};
+ghost use Rattle.hyphenation_segments.specs.Fits.{Fits};
+ghost use Rattle.hyphenation_hyphenator.specs.Fitting.{kept_breaks, fitted_breaks_of, KeepRanges};
+ghost use Rattle.hyphenation_hyphenator.specs.Private.Fitting.{is_steady_by};
+ghost use Rattle.hyphenation_hyphenator.specs.Private.SmallLetters.{are_small_letters};
+ghost use Rattle.hyphenation_hyphenator.specs.Opportunities.{within, breaks_within, rules_of, by_patterns, by_exception, exception_within_boundaries, opportunities_in, opportunities, Ascending};
+ghost use Rattle.hyphenation_hyphenator.specs.Private.Opportunities.{realigned_break};
+
+use super::boundaries::boundaries_of_ascii;
+use super::boundaries_of;
+use super::break_kind::Found;
+use super::letters::are_letters;
+use super::pattern_breaks::{allowed_breaks, is_within};
+use crate::case_folding::{Shift, are_small_letters, realign_in_order, refold};
+use crate::soft_hyphens::soft_hyphen_indices;
+use hyphenation_breaks::breaks::Break;
+use hyphenation_breaks::entry::{Entry, Payload};
+use hyphenation_dictionary::dictionary::Dictionary;
+use hyphenation_dictionary::search::automaton_of;
+use std::alloc::{AllocError, Global};
+use std::str;
+
+/// The listed breaks that are within bounds, in a function of its own, since few words are listed.
+#[inline(never)]
+fn listed_within<'h, F: Found<'h>>(
+    alloc: Global,
+    listed: &'h [F::Listing],
+    bounds: (usize, usize),
+) -> Result<Vec<F>, AllocError>
+    ensures { IfOk result (λ v. map F.meaning v.items ≡ breaks_within (map F.Listing.meaning listed.now) bounds) }
+{
+    let mut breaks = Vec::new(alloc);
+    for b in listed {
+        if is_within(bounds, b.place()) {
+            breaks.push(F::listed(b))?;
+        }
+    }
+    Ok(breaks)
+}
+
+/// The breaks that patterns allow from the first bound to the second.
+#[inline(always)]
+pub(crate) fn opportunities_within<'h, F: Found<'h>>(
+    alloc: Global,
+    dictionary: &'h Dictionary<F::Payload, F::Listing>,
+    lowercase_word: &str,
+    bounds: (usize, usize),
+) -> Result<Vec<F>, AllocError>
+    ensures breaks { IfOk result (λ v.
+        map F.meaning v.items
+        ≡ by_patterns (rules_of F.Payload.change_of F.Listing.meaning dictionary.now) lowercase_word.now bounds) }
+    ensures ascend { IfOk result (λ v. Ascending lowercase_word.now (map F.meaning v.items)) }
+{
+    dictionary.invariant();
+    allowed_breaks(alloc, automaton_of(dictionary), lowercase_word, bounds)
+}
+
+/// The breaks listed for a word from the first bound to the second.
+#[inline(always)]
+pub(crate) fn exception_within<'h, F: Found<'h>>(
+    alloc: Global,
+    dictionary: &'h Dictionary<F::Payload, F::Listing>,
+    lowercase_word: &str,
+    bounds: (usize, usize),
+) -> Result<Option<Vec<F>>, AllocError>
+    ensures breaks { IfOk result (λ found.
+        option_map (λ v. map F.meaning v.items) found
+        ≡ by_exception (rules_of F.Payload.change_of F.Listing.meaning dictionary.now) lowercase_word.now bounds) }
+    ensures ascend { IfOk result (λ found. IfSome found (λ v. Ascending lowercase_word.now (map F.meaning v.items))) }
+{
+    dictionary.invariant();
+    match dictionary.listed(lowercase_word) {
+        Some(listed) => Ok(Some(listed_within(alloc, listed, bounds)?)),
+        None => Ok(None),
+    }
+}
+
+/// The breaks listed for a word, within its boundaries.
+pub(crate) fn exception<'h, F: Found<'h>>(
+    alloc: Global,
+    dictionary: &'h Dictionary<F::Payload, F::Listing>,
+    lowercase_word: &str,
+) -> Result<Option<Vec<F>>, AllocError>
+    ensures breaks { IfOk result (λ found.
+        option_map (λ v. map F.meaning v.items) found
+        ≡ exception_within_boundaries
+        (rules_of F.Payload.change_of F.Listing.meaning dictionary.now) lowercase_word.now) }
+    ensures ascend { IfOk result (λ found. IfSome found (λ v. Ascending lowercase_word.now (map F.meaning v.items))) }
+{
+    match boundaries_of(dictionary.minima(), lowercase_word) {
+        Some(bounds) => exception_within(alloc, dictionary, lowercase_word, bounds),
+        None => Ok(None),
+    }
+}
+
+/// The breaks from the first bound to the second: those that are listed, where the word is an exception, and else those
+/// that the patterns allow.
+///
+/// It looks for the exception itself: the answer of `exception_within`, a list or none or want of memory, would cost
+/// each word that is no exception.
+#[inline(always)]
+fn opportunities_in<'h, F: Found<'h>>(
+    alloc: Global,
+    dictionary: &'h Dictionary<F::Payload, F::Listing>,
+    lowercase_word: &str,
+    bounds: (usize, usize),
+) -> Result<Vec<F>, AllocError>
+    ensures breaks { IfOk result (λ v.
+        map F.meaning v.items
+        ≡ opportunities_in (rules_of F.Payload.change_of F.Listing.meaning dictionary.now) lowercase_word.now bounds) }
+    ensures ascend { IfOk result (λ v. Ascending lowercase_word.now (map F.meaning v.items)) }
+{
+    dictionary.invariant();
+    match dictionary.listed(lowercase_word) {
+        Some(listed) => listed_within(alloc, listed, bounds),
+        None => opportunities_within(alloc, dictionary, lowercase_word, bounds),
+    }
+}
+
+/// The breaks of a word in small letters, within its boundaries.
+#[inline(always)]
+pub(crate) fn opportunities<'h, F: Found<'h>>(
+    alloc: Global,
+    dictionary: &'h Dictionary<F::Payload, F::Listing>,
+    lowercase_word: &str,
+) -> Result<Vec<F>, AllocError>
+    ensures breaks { IfOk result (λ v.
+        map F.meaning v.items
+        ≡ opportunities (rules_of F.Payload.change_of F.Listing.meaning dictionary.now) lowercase_word.now) }
+    ensures ascend { IfOk result (λ v. Ascending lowercase_word.now (map F.meaning v.items)) }
+{
+    let Some(bounds) = boundaries_of(dictionary.minima(), lowercase_word) else {
+        return Ok(Vec::new(alloc));
+    };
+    opportunities_in(alloc, dictionary, lowercase_word, bounds)
+}
+
+/// Carries each break of a folded word back to the word as written, by the shifts of the folding,
+/// which stand in the order of their indices.
+pub(crate) fn realign_all<'h, F: Found<'h>>(breaks: &mut [F], shifts: &[Shift])
+    requires { IsNonDecreasingBy (λ shift. shift.index) shifts.now }
+    ensures { map F.meaning breaks.new ≡ map (realigned_break shifts.now) (map F.meaning breaks.old) }
+{
+    for b in breaks {
+        *b = b.moved(realign_in_order(b.place(), shifts));
+    }
+}
+
+/// The breaks of a word of ASCII in small letters that are kept where its folding moved nothing.
+#[inline(always)]
+fn unmoved_breaks<'h, F: Found<'h>>(
+    alloc: Global,
+    dictionary: &'h Dictionary<F::Payload, F::Listing>,
+    lowercase_word: &str,
+) -> Result<Vec<F>, AllocError>
+    requires { IsAscii lowercase_word.now }
+    ensures { IfOk result (λ v.
+        map F.meaning v.items
+        ≡ kept_breaks (is_steady_by (length lowercase_word.now) [])
+        (opportunities (rules_of F.Payload.change_of F.Listing.meaning dictionary.now) lowercase_word.now)) }
+{
+    let Some(bounds) = boundaries_of_ascii(dictionary.minima(), lowercase_word) else {
+        return Ok(Vec::new(alloc));
+    };
+    let found = opportunities_in(alloc, dictionary, lowercase_word, bounds)?;
+    F::kept(alloc, lowercase_word, &[], found)
+}
+
+/// The breaks of a word of the letters a to z.
+#[inline(never)]
+fn breaks_of_letters<'h, F: Found<'h>>(
+    alloc: Global,
+    dictionary: &'h Dictionary<F::Payload, F::Listing>,
+    word: &str,
+) -> Result<Vec<F>, AllocError>
+    requires { list_all is_ascii_lowercase word.now ≡ true }
+    ensures { IfOk result (λ v.
+        map F.meaning v.items
+        ≡ fitted_breaks_of (rules_of F.Payload.change_of F.Listing.meaning dictionary.now) word.now) }
+{
+    dictionary.invariant();
+    unmoved_breaks(alloc, dictionary, word)
+}
+
+/// The breaks of a word of ASCII, which is folded on the stack.
+#[inline(never)]
+fn breaks_of_ascii<'h, F: Found<'h>>(
+    alloc: Global,
+    dictionary: &'h Dictionary<F::Payload, F::Listing>,
+    word: &str,
+) -> Result<Vec<F>, AllocError>
+    requires ascii { IsAscii word.now }
+    requires short { length word.now ≤ 64 }
+    ensures { IfOk result (λ v.
+        map F.meaning v.items
+        ≡ fitted_breaks_of (rules_of F.Payload.change_of F.Listing.meaning dictionary.now) word.now) }
+{
+    dictionary.invariant();
+    let mut room = [0u8; 64];
+    let folded = &mut room[..word.len()];
+    folded.copy_from_slice(word.as_bytes());
+    folded.make_ascii_lowercase();
+    let text = str::from_utf8(folded).unwrap();
+    unmoved_breaks(alloc, dictionary, text)
+}
+
+/// The breaks of a word of small letters, which folds to itself.
+#[inline(never)]
+fn breaks_of_small_letters<'h, F: Found<'h>>(
+    alloc: Global,
+    dictionary: &'h Dictionary<F::Payload, F::Listing>,
+    word: &str,
+) -> Result<Vec<F>, AllocError>
+    requires { are_small_letters word.now ≡ true }
+    ensures { IfOk result (λ v.
+        map F.meaning v.items
+        ≡ fitted_breaks_of (rules_of F.Payload.change_of F.Listing.meaning dictionary.now) word.now) }
+{
+    let found = opportunities(alloc, dictionary, word)?;
+    F::kept(alloc, word, &[], found)
+}
+
+/// The opportunities of a word that was folded, in a function of its own: the pass needs all registers, which the road
+/// of any word would save around it.
+#[inline(never)]
+fn folded_opportunities<'h, F: Found<'h>>(
+    alloc: Global,
+    dictionary: &'h Dictionary<F::Payload, F::Listing>,
+    folded: &str,
+) -> Result<Vec<F>, AllocError>
+    ensures breaks { IfOk result (λ v.
+        map F.meaning v.items
+        ≡ opportunities (rules_of F.Payload.change_of F.Listing.meaning dictionary.now) folded.now) }
+    ensures ascend { IfOk result (λ v. Ascending folded.now (map F.meaning v.items)) }
+{
+    opportunities(alloc, dictionary, folded)
+}
+
+/// The breaks of any word.
+#[inline(never)]
+fn breaks_of_any<'h, F: Found<'h>>(
+    alloc: Global,
+    dictionary: &'h Dictionary<F::Payload, F::Listing>,
+    word: &str,
+) -> Result<Vec<F>, AllocError>
+    ensures { IfOk result (λ v.
+        map F.meaning v.items
+        ≡ fitted_breaks_of (rules_of F.Payload.change_of F.Listing.meaning dictionary.now) word.now) }
+{
+    if let Some(places) = soft_hyphen_indices(alloc, word)? {
+        return F::unchanged(alloc, places);
+    }
+    let (folded, shifts) = refold(alloc, word)?;
+    let text = folded.as_str();
+    let found = folded_opportunities(alloc, dictionary, text)?;
+    let mut breaks = F::kept(alloc, text, &shifts, found)?;
+    realign_all(&mut breaks, &shifts);
+    Ok(breaks)
+}
+
+/// The breaks of a word as written.
+///
+/// Most words are of small letters, which fold to themselves, or of ASCII: those have no soft hyphens, and their
+/// folding moves no place.
+#[inline(always)]
+pub(crate) fn breaks<'h, F: Found<'h>>(
+    alloc: Global,
+    dictionary: &'h Dictionary<F::Payload, F::Listing>,
+    word: &str,
+) -> Result<Vec<F>, AllocError>
+    ensures breaks { IfOk result (λ v.
+        map F.meaning v.items
+        ≡ fitted_breaks_of (rules_of F.Payload.change_of F.Listing.meaning dictionary.now) word.now) }
+    ensures fits { IfOk result (λ v. Fits word.now (map F.meaning v.items)) }
+    ensures ranges { OnOk result (KeepRanges (rules_of F.Payload.change_of F.Listing.meaning dictionary.now) word.now) }
+{
+    dictionary.invariant();
+    if are_letters(word.as_bytes()) {
+        breaks_of_letters(alloc, dictionary, word)
+    } else if are_small_letters(word) {
+        breaks_of_small_letters(alloc, dictionary, word)
+    } else if word.len() <= 64 && word.is_ascii() {
+        breaks_of_ascii(alloc, dictionary, word)
+    } else {
+        breaks_of_any(alloc, dictionary, word)
+    }
+}

@@ -1,0 +1,10 @@
+//! How the breaks of words are found, and whole texts hyphenated.
+//!
+//! [`case_folding`] folds a word to small letters; [`hyphenator`] finds the breaks of a word, by soft hyphens,
+//! exceptions and patterns; [`text`] hyphenates a text piece by piece. Nothing here knows how dictionaries are read.
+#![tactic(auto)]
+
+pub mod case_folding;
+pub mod hyphenator;
+mod soft_hyphens;
+pub mod text;

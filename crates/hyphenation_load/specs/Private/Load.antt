@@ -1,0 +1,27 @@
+-- What loading a dictionary from bytes answers: what private functions and proofs need of it beside, and no public contract cites.
+use Rattle.std.specs.Prelude.{◌≡◌, ◌≢◌, ℕ, List, Result, Ok, Err, alloc_error}
+use Rattle.std.specs.IoError.{error_kind}
+use Rattle.std.specs.declared.io.ErrorKind.TheVariants.{OutOfMemory}
+use Rattle.hyphenation_breaks.specs.Dictionary.{Contents}
+use Rattle.hyphenation_grammar.specs.declared.Error.{Error}
+use Rattle.hyphenation_grammar.specs.declared.Error.TheVariants.{Deserialization, IO, LanguageMismatch, Memory}
+use Rattle.hyphenation_reader.specs.declared.reader.Refusal.{Refusal}
+use Rattle.hyphenation_reader.specs.declared.reader.Refusal.TheVariants.{Memory as Wanting, Fault}
+
+-- The dictionary, exactly where its language is the asked one; else the asked and the found code.
+abbrev pub IsOfLanguage : {C B : Type 0} → List ℕ → Contents C B → Result (Contents C B) Error → Type 0
+IsOfLanguage asked dictionary (Ok given) = (given ≡ dictionary) × (dictionary.language ≡ asked)
+IsOfLanguage asked dictionary (Err (LanguageMismatch expected found)) =
+    (expected ≡ asked) × (found ≡ dictionary.language) × (found ≢ asked)
+IsOfLanguage asked dictionary (Err _) = ⊥
+
+-- The refusal of a text as an error of loading.
+abbrev pub error_of : Refusal → Error
+error_of Wanting = Memory alloc_error
+error_of (Fault line cause) = Deserialization line cause
+
+-- A fault of reading as an error of loading: want of memory, or the fault.
+abbrev pub IsOfReading : Error → Type 0
+IsOfReading (IO e) = error_kind e ≢ OutOfMemory
+IsOfReading (Memory e) = Unit {0}
+IsOfReading _ = ⊥

@@ -1,0 +1,79 @@
+-- The tests of a line: those before Token, and those from it on.
+use Rattle.std.proofs.Common.{◌≡◌, ◌∙◌, ◌<◌, ℕ, Bool, true, false, cond, eqb, not, ◌&&◌, arith, List, ◌∷◌, [], drop, Option, Some, None, refl, sym, ap, subst, is_some}
+use Rattle.std.specs.Prelude.{IsUtf8, codes, Result, Ok, Err, MatchResult, IfErr}
+use Rattle.std.specs.Option.{option_or}
+use Rattle.std.specs.Str.{is_utf8}
+use Rattle.std.proofs.lemmas.Str.{IsUtf8-from_is_utf8}
+use Rattle.hyphenation_grammar.specs.declared.form.Form.{Form}
+use Rattle.hyphenation_grammar.specs.Judging.{own_cause, fails}
+use Rattle.hyphenation_reader.specs.Private.Judging.{before_item}
+use Rattle.hyphenation_grammar.specs.Lines.{strip_prefix, starts_with}
+use Rattle.hyphenation_reader.specs.Private.LineAnswers.{IsFault, item_cause}
+use Rattle.hyphenation_reader.specs.declared.items.Fault.{Fault}
+use Rattle.hyphenation_grammar.specs.declared.Cause.{Cause}
+use Rattle.hyphenation_grammar.specs.declared.Cause.TheVariants.{NotUtf8, Header, Language, Minima, UnknownLine}
+use Rattle.hyphenation_grammar.proofs.AsciiSplits.{split_ascii, same_byte}
+use Rattle.hyphenation_reader.proofs.LineCauses.{begun}
+
+five : (a b c d e : Bool) (rest : Option Cause)
+    → cond a (Some NotUtf8) (cond b (Some Header) (cond c (Some Language) (cond d (Some Minima) (cond e (Some UnknownLine) rest))))
+    ≡ option_or (cond a (Some NotUtf8) (cond b (Some Header) (cond c (Some Language) (cond d (Some Minima) (cond e (Some UnknownLine) None))))) rest
+five true b c d e rest = refl
+five false true c d e rest = refl
+five false false true d e rest = refl
+five false false false true e rest = refl
+five false false false false true rest = refl
+five false false false false false rest = refl
+
+pub halves : (form : Form) (number : ℕ) (line : List ℕ) → own_cause form number line ≡ option_or (before_item form number line) (item_cause form line)
+halves form number line =
+    five (fails form number line NotUtf8) (fails form number line Header) (fails form number line Language) (fails form number line Minima) (fails form number line UnknownLine) (item_cause form line)
+
+pub early : (form : Form) (number : ℕ) (line : List ℕ) (cause : Cause) → Some cause ≡ before_item form number line → own_cause form number line ≡ Some cause
+early form number line cause e = halves form number line ∙ ap (λ (o : Option Cause). option_or o (item_cause form line)) (sym e)
+
+-- it is UTF-8, and so is what stands after the beginning of an exception
+utf8_by : (t : Bool) (rest : Option Cause) → cond (not t) (Some NotUtf8) rest ≡ None → t ≡ true
+utf8_by true rest e = refl
+utf8_by false rest e = absurd cc
+
+line-utf8 : (form : Form) (number : ℕ) (line : List ℕ) → before_item form number line ≡ None → IsUtf8 line
+line-utf8 form number line e =
+    IsUtf8-from_is_utf8 line (utf8_by (is_utf8 line) (cond (fails form number line Header) (Some Header) (cond (fails form number line Language) (Some Language) (cond (fails form number line Minima) (Some Minima) (cond (fails form number line UnknownLine) (Some UnknownLine) None)))) e)
+
+both_bytes : (a b : Bool) (d : List ℕ) → is_some (cond (a && (b && true)) (Some d) None) ≡ true → (a ≡ true) × (b ≡ true)
+both_bytes true true d e = (refl, refl)
+both_bytes true false d e = absurd cc
+both_bytes false b d e = absurd cc
+
+after-utf8 : (letter : ℕ) → letter < 128 → (line : List ℕ) → IsUtf8 line → starts_with (letter ∷ 32 ∷ []) line ≡ true → IsUtf8 (drop 2 line)
+after-utf8 letter small [] u e = absurd cc
+after-utf8 letter small (b ∷ []) u e = absurd (short (eqb b letter) [] e)
+  where
+    short : (t : Bool) (d : List ℕ) → is_some (cond (t && false) (Some d) None) ≡ true → ⊥
+    short true d e = cc
+    short false d e = cc
+after-utf8 letter small (b ∷ d ∷ rest) u e =
+    let two = both_bytes (eqb b letter) (eqb d 32) rest e in
+    (split_ascii [] d rest (same_byte d 32 two.1 (omega arith)) (split_ascii [] b (d ∷ rest) (same_byte b letter two.0 small) u).1).1
+
+none_of : (o : Option Cause) → ((x : Cause) → o ≡ Some x → ⊥) → o ≡ None
+none_of None never = refl
+none_of (Some x) never = absurd (never x refl)
+
+pub exception-utf8 : (form : Form) (number : ℕ) (line text : List ℕ) (found : Option Cause) → ((x : Cause) → found ≡ Some x → ⊥) → found ≡ before_item form number line → Some text ≡ strip_prefix (codes "e ") line → IsUtf8 text
+exception-utf8 form number line text found never is start =
+    let b = begun (codes "e ") line text start in
+    subst IsUtf8 b.1 (after-utf8 101 (omega arith) line (line-utf8 form number line (sym is ∙ none_of found never)) b.0)
+
+pub pattern-utf8 : (form : Form) (number : ℕ) (line text : List ℕ) (found : Option Cause) → ((x : Cause) → found ≡ Some x → ⊥) → found ≡ before_item form number line → Some text ≡ strip_prefix (codes "p ") line → IsUtf8 text
+pattern-utf8 form number line text found never is start =
+    let b = begun (codes "p ") line text start in
+    subst IsUtf8 b.1 (after-utf8 112 (omega arith) line (line-utf8 form number line (sym is ∙ none_of found never)) b.0)
+
+-- a line that passes the first five tests fails the first of the others
+pub refused_late : {X : Type 0} (form : Form) (number : ℕ) (line : List ℕ) (found : Option Cause) → ((x : Cause) → found ≡ Some x → ⊥) → found ≡ before_item form number line
+    → (P : X → Type 0) (r : Result X Fault) → MatchResult r P (λ fault. IsFault fault (item_cause form line)) → IfErr r (λ fault. IsFault fault (own_cause form number line))
+refused_late form number line found never is P (Ok x) h = tt
+refused_late form number line found never is P (Err fault) h =
+    subst (IsFault fault) (sym (halves form number line ∙ ap (λ (o : Option Cause). option_or o (item_cause form line)) (sym is ∙ none_of found never))) h

@@ -1,0 +1,13 @@
+pub mod JudgingAnyOrder
+pub mod LineCauses
+pub mod EditsLemmas
+pub mod ItemsOfLines
+pub mod JudgingHead
+pub mod MatchedEntries
+pub mod JudgingLine
+pub mod ReadingOrder
+pub mod SomeLine
+pub mod LineInvariant
+pub mod ReadTokens
+pub mod ReadingLines
+pub mod ReadingInvariant

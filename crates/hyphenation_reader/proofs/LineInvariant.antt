@@ -1,0 +1,409 @@
+-- What a line that fails no test of its own spells: well-formed keys with their entries, and words with their listed breaks.
+use Rattle.std.proofs.Common.{◌≡◌, ℕ, ◌+◌, ◌-◌, ◌^◌, ◌<◌, ◌≤◌, Bool, true, false, cond, not, ◌==◌, ◌&&◌, ◌||◌, eqb, nat_le, nat_lt, nat_eq, List, [], ◌∷◌, ◌++◌, length, map, take, drop, get_or, Option, Some, None, is_some, unwrap_or, refl, sym, ap, subst, ◌∙◌, append_assoc, arith, length-append}
+use Rattle.std.specs.Prelude.{IsUtf8, IsCharBoundary, codes}
+use Rattle.std.specs.Option.{option_map, option_and_then, is_none}
+use Rattle.std.specs.List.{find, list_all}
+use Rattle.std.specs.Str.{is_utf8}
+use Rattle.std.proofs.lemmas.List.{get_or_past}
+use Rattle.std.proofs.lemmas.Bool.{and_from, and_parts}
+use Rattle.std.proofs.lemmas.Bool.Decides.{nat_tests}
+use Rattle.std.proofs.lemmas.Str.{IsUtf8-from_is_utf8, is_utf8-from_IsUtf8, IsUtf8-nil, IsCharBoundary-at_seam}
+use Rattle.hyphenation_breaks.specs.Break.{Break, Change, ascend_on, is_boundary, keeps_within}
+use Rattle.std.specs.Cmp.{first_so, second_so}
+use Rattle.hyphenation_grammar.specs.declared.form.Form.{Form}
+use Rattle.hyphenation_breaks.specs.Invariant.{fits_usize, can_be_said, is_value, stays_within, lists_within, are_listed, IsPattern, IsException}
+use Rattle.hyphenation_grammar.specs.Lines.{is_same, starts_with, is_digit, has_no_leading_zero, is_number, is_small, number}
+use Rattle.hyphenation_grammar.specs.Tokens.{escaped_bytes_of, bytes_of, element_of, is_raw, is_raw_digit, braced_value, step_outside, step_inside, elements_from, elements_of, pattern_bytes, text_spelt, key_of, values_from, two_values, has_comma, parts_of, numerals_of, place_of_token, change_of_token, is_whole}
+use Rattle.hyphenation_grammar.specs.Items.{is_pattern_line, is_exception_line, tokens_of, first_token_of, later_tokens_of, pattern_elements, key_of_line, word_of_line, counted_text, break_of_token, breaks_of_line, change_at, entries_of_line}
+use Rattle.hyphenation_grammar.specs.Judging.{is_item_line, is_extended, has_value_at, is_good_later_token, fails, own_cause}
+use Rattle.hyphenation_breaks.specs.declared.entry.Entry.{Entry}
+use Rattle.hyphenation_grammar.specs.declared.Cause.TheVariants.{NotUtf8, Header, Language, Minima, UnknownLine, Token, Value as BadValue, Pattern, NoLetters, Number, Place, Change as BadChange}
+use Rattle.hyphenation_grammar.specs.declared.form.Version.{Version}
+use Rattle.hyphenation_grammar.specs.declared.form.Version.TheVariants.{First, Second}
+use Rattle.hyphenation_grammar.specs.declared.tokens.EscapedByte.{EscapedByte}
+use Rattle.hyphenation_grammar.specs.declared.tokens.PatternElement.{PatternElement}
+use Rattle.hyphenation_grammar.specs.declared.tokens.PatternElement.TheVariants.{Letter, Value}
+use Rattle.hyphenation_grammar.specs.declared.tokens.Escapes.TheVariants.{Plain}
+use Rattle.hyphenation_grammar.proofs.AsciiSplits.{AllUtf8, split_ascii, same_byte, split-utf8, first-utf8, part-utf8}
+use Rattle.hyphenation_breaks.proofs.PlacesInOrder.{entries_from, entries_in_order}
+use Rattle.hyphenation_reader.proofs.LineCauses.{in_front, five}
+use Rattle.hyphenation_grammar.proofs.TokenUtf8.{AreSeams, seams-utf8, marks-seams, read-utf8}
+
+either_left : (a b : Bool) → a ≡ true → (a || b) ≡ true
+either_left true b e = refl
+either_left false b e = absurd cc
+
+either_right : (a b : Bool) → b ≡ true → (a || b) ≡ true
+either_right true b e = refl
+either_right false b e = e
+
+pub off_right : (a b : Bool) → (a && b) ≡ false → a ≡ true → b ≡ false
+off_right true b e h = e
+off_right false b e h = absurd cc
+
+on_from_not : (b : Bool) → not b ≡ false → b ≡ true
+on_from_not true e = refl
+on_from_not false e = absurd cc
+
+not_off : (b : Bool) → b ≡ false → not b ≡ true
+not_off true e = absurd cc
+not_off false e = refl
+
+pub found_none : {X : Type 0} (p : X → Bool) (x : X) (xs : List X) → find p (x ∷ xs) ≡ None → (p x ≡ false) × (find p xs ≡ None)
+found_none {X} p x xs e = by (p x) refl e
+  where
+    by : (t : Bool) → p x ≡ t → cond t (Some x) (find p xs) ≡ None → (p x ≡ false) × (find p xs ≡ None)
+    by true is h = absurd cc
+    by false is h = (is, h)
+
+-- the tests that such a line passes
+pub record Passes (form : Form) (number : ℕ) (line : List ℕ) : Type 0 where
+  pub utf8 : fails form number line NotUtf8 ≡ false
+  pub header : fails form number line Header ≡ false
+  pub language : fails form number line Language ≡ false
+  pub minima : fails form number line Minima ≡ false
+  pub known : fails form number line UnknownLine ≡ false
+  pub token : fails form number line Token ≡ false
+  pub value : fails form number line BadValue ≡ false
+  pub pattern : fails form number line Pattern ≡ false
+  pub letters : fails form number line NoLetters ≡ false
+  pub numbers : fails form number line Number ≡ false
+  pub place : fails form number line Place ≡ false
+  pub change : fails form number line BadChange ≡ false
+
+pub passes : (form : Form) (number : ℕ) (line : List ℕ) → own_cause form number line ≡ None → Passes form number line
+passes form number line e =
+    let utf8 = found_none (fails form number line) NotUtf8 (Header ∷ Language ∷ Minima ∷ UnknownLine ∷ Token ∷ BadValue ∷ Pattern ∷ NoLetters ∷ Number ∷ Place ∷ BadChange ∷ []) e in
+    let header = found_none (fails form number line) Header (Language ∷ Minima ∷ UnknownLine ∷ Token ∷ BadValue ∷ Pattern ∷ NoLetters ∷ Number ∷ Place ∷ BadChange ∷ []) utf8.1 in
+    let language = found_none (fails form number line) Language (Minima ∷ UnknownLine ∷ Token ∷ BadValue ∷ Pattern ∷ NoLetters ∷ Number ∷ Place ∷ BadChange ∷ []) header.1 in
+    let minima = found_none (fails form number line) Minima (UnknownLine ∷ Token ∷ BadValue ∷ Pattern ∷ NoLetters ∷ Number ∷ Place ∷ BadChange ∷ []) language.1 in
+    let known = found_none (fails form number line) UnknownLine (Token ∷ BadValue ∷ Pattern ∷ NoLetters ∷ Number ∷ Place ∷ BadChange ∷ []) minima.1 in
+    let token = found_none (fails form number line) Token (BadValue ∷ Pattern ∷ NoLetters ∷ Number ∷ Place ∷ BadChange ∷ []) known.1 in
+    let value = found_none (fails form number line) BadValue (Pattern ∷ NoLetters ∷ Number ∷ Place ∷ BadChange ∷ []) token.1 in
+    let pattern = found_none (fails form number line) Pattern (NoLetters ∷ Number ∷ Place ∷ BadChange ∷ []) value.1 in
+    let letters = found_none (fails form number line) NoLetters (Number ∷ Place ∷ BadChange ∷ []) pattern.1 in
+    let numbers = found_none (fails form number line) Number (Place ∷ BadChange ∷ []) letters.1 in
+    let place = found_none (fails form number line) Place (BadChange ∷ []) numbers.1 in
+    let change = found_none (fails form number line) BadChange [] place.1 in
+    record { utf8 = utf8.0; header = header.0; language = language.0; minima = minima.0; known = known.0; token = token.0; value = value.0; pattern = pattern.0; letters = letters.0; numbers = numbers.0; place = place.0; change = change.0 }
+
+-- what stands after two ASCII bytes
+after_two : (a b : ℕ) → a < 128 → b < 128 → (line : List ℕ) → starts_with (a ∷ b ∷ []) line ≡ true → IsUtf8 line → IsUtf8 (drop 2 line)
+after_two a b sa sb [] e u = absurd cc
+after_two a b sa sb (x ∷ []) e u = by (nat_eq x a) e
+  where
+    by : (t : Bool) → is_some (cond {A = Option (List ℕ)} (t && false) (Some []) None) ≡ true → IsUtf8 []
+    by true h = absurd cc
+    by false h = absurd cc
+after_two a b sa sb (x ∷ y ∷ rest) e u = by (nat_eq x a) (nat_eq y b) refl refl e
+  where
+    by : (s t : Bool) → nat_eq x a ≡ s → nat_eq y b ≡ t → is_some (cond {A = Option (List ℕ)} (s && (t && true)) (Some rest) None) ≡ true → IsUtf8 rest
+    by true true es et h = (split_ascii [] y rest (same_byte y b et sb) (split_ascii [] x (y ∷ rest) (same_byte x a es sa) u).1).1
+    by true false es et h = absurd cc
+    by false t es et h = absurd cc
+
+-- no line is of both sorts
+apart : (line : List ℕ) → is_exception_line line ≡ true → is_pattern_line line ≡ false
+apart [] e = absurd cc
+apart (x ∷ []) e = by (nat_eq x 112) (nat_eq x 101) e
+  where
+    by : (s t : Bool) → is_some (cond {A = Option (List ℕ)} (t && false) (Some []) None) ≡ true → is_some (cond {A = Option (List ℕ)} (s && false) (Some []) None) ≡ false
+    by s true h = absurd cc
+    by s false h = absurd cc
+apart (x ∷ y ∷ rest) e = by (nat_eq x 112) (nat_eq x 101) (nat_eq y 32) refl refl e
+  where
+    clash : nat_eq x 112 ≡ true → nat_eq x 101 ≡ true → ⊥
+    clash p q = grind (arith, nat_tests)
+
+    by : (s t r : Bool) → nat_eq x 112 ≡ s → nat_eq x 101 ≡ t → is_some (cond {A = Option (List ℕ)} (t && (r && true)) (Some rest) None) ≡ true → is_some (cond {A = Option (List ℕ)} (s && (r && true)) (Some rest) None) ≡ false
+    by true true r es et h = absurd (clash es et)
+    by true false r es et h = absurd cc
+    by false t r es et h = refl
+
+pub boundary_test : (text : List ℕ) (at : ℕ) → IsCharBoundary text at → is_boundary text at ≡ true
+boundary_test text at h = by (h.1) (get_or_past text at 0)
+  where
+    by : (at < length text → 128 ≤ get_or text at 0 → 192 ≤ get_or text at 0) → (length text ≤ at → get_or text at 0 ≡ 0) → is_boundary text at ≡ true
+    by lead past = let in_text : at ≤ length text = h.0 in grind (arith, nat_tests)
+
+text_read : (token : List ℕ) → IsUtf8 token → IsUtf8 (unwrap_or (text_spelt token) [])
+text_read token u = by (is_same token (codes "\\e")) (escaped_bytes_of Plain token) refl
+  where
+    by : (t : Bool) (o : Option (List EscapedByte)) → escaped_bytes_of Plain token ≡ o → IsUtf8 (unwrap_or (cond {A = Option (List ℕ)} t (Some []) (option_map bytes_of o)) [])
+    by true o is = IsUtf8-nil
+    by false None is = IsUtf8-nil
+    by false (Some ss) is = read-utf8 Plain token ss u is
+
+-- what a token that can be read and has numbers says
+abbrev pub has_numbers : List ℕ → Bool
+has_numbers token = list_all is_number (numerals_of token)
+
+number_short : (text : List ℕ) → is_number text ≡ true → fits_usize (number text) ≡ true
+number_short text e = second_so (list_all is_digit text && has_no_leading_zero text) (nat_lt (number text) (2 ^ 64)) e
+
+first_short : (ps : List (List ℕ)) → list_all is_number ps ≡ true → fits_usize (number (get_or ps 0 [])) ≡ true
+first_short [] e = refl
+first_short (p ∷ ps) e = number_short p (first_so (is_number p) (list_all is_number ps) e)
+
+more_than_one : (n : ℕ) → nat_lt 1 n ≡ true → 1 < n
+more_than_one n e = grind (arith, nat_tests)
+
+place_short : (token : List ℕ) → has_numbers token ≡ true → fits_usize (place_of_token token) ≡ true
+place_short token e = by (has_comma token) refl e
+  where
+    by : (t : Bool) → has_comma token ≡ t → list_all is_number (cond t (take (length (parts_of token) - 1) (parts_of token)) (parts_of token)) ≡ true → fits_usize (place_of_token token) ≡ true
+    by true is h =
+        let two = more_than_one (length (parts_of token)) is in
+        number_short (get_or (parts_of token) 0 []) (in_front is_number (parts_of token) (length (parts_of token) - 1) 0 h (omega arith) (omega arith))
+    by false is h = first_short (parts_of token) h
+
+four : (a b c d : Bool) → a ≡ true → b ≡ true → c ≡ true → d ≡ true → (a && b && c && d) ≡ true
+four a b c d x y z w = rw (x, y, z, w) refl
+
+change_said : (token : List ℕ) → IsUtf8 token → has_comma token ≡ true → has_numbers token ≡ true → is_whole token ≡ true → can_be_said (change_of_token token) ≡ true
+change_said token u comma e whole =
+    let n : length (parts_of token) ≡ 5 = five (parts_of token) (first_so (length (parts_of token) == 5) (nat_lt 0 (length (get_or (parts_of token) 4 []))) whole) in
+    let h : list_all is_number (take (length (parts_of token) - 1) (parts_of token)) ≡ true = subst (λ (t : Bool). list_all is_number (cond t (take (length (parts_of token) - 1) (parts_of token)) (parts_of token)) ≡ true) comma e in
+    four (fits_usize (change_of_token token).left) (fits_usize (change_of_token token).right) (fits_usize (change_of_token token).breakpoint) (is_utf8 (change_of_token token).substitution)
+    (number_short (get_or (parts_of token) 1 []) (in_front is_number (parts_of token) (length (parts_of token) - 1) 1 h (omega arith) (omega arith)))
+    (number_short (get_or (parts_of token) 2 []) (in_front is_number (parts_of token) (length (parts_of token) - 1) 2 h (omega arith) (omega arith)))
+    (number_short (get_or (parts_of token) 3 []) (in_front is_number (parts_of token) (length (parts_of token) - 1) 3 h (omega arith) (omega arith)))
+    (is_utf8-from_IsUtf8 (change_of_token token).substitution (text_read (get_or (parts_of token) 4 []) (part-utf8 4 4 token u)))
+
+three : (a b c : Bool) → a ≡ true → b ≡ true → c ≡ true → (a && b && c) ≡ true
+three a b c x y z = rw (x, y, z) refl
+
+-- a change that a good token says can be said, and keeps within the text
+module _ (form : Form) (in_pattern : Bool) (marks : List PatternElement) (text : List ℕ) where
+  stays : (token : List ℕ) → IsUtf8 token → has_numbers token ≡ true → is_good_later_token form in_pattern marks text token ≡ true → stays_within text (place_of_token token) (break_of_token token).change ≡ true
+  stays token u numbers e = by (has_comma token) refl e
+    where
+      by : (t : Bool) → has_comma token ≡ t → cond t (is_extended form.kind && is_whole token && keeps_within text (place_of_token token) (change_of_token token) && (not in_pattern || has_value_at marks (place_of_token token))) (not in_pattern) ≡ true
+          → stays_within text (place_of_token token) (cond t (Some (change_of_token token)) None) ≡ true
+      by true is h =
+          let most = first_so (is_extended form.kind && is_whole token && keeps_within text (place_of_token token) (change_of_token token)) (not in_pattern || has_value_at marks (place_of_token token)) h in
+          let whole = second_so (is_extended form.kind) (is_whole token) (first_so (is_extended form.kind && is_whole token) (keeps_within text (place_of_token token) (change_of_token token)) most) in
+          three (fits_usize (place_of_token token)) (can_be_said (change_of_token token)) (keeps_within text (place_of_token token) (change_of_token token)) (place_short token numbers) (change_said token u is numbers whole)
+          (second_so (is_extended form.kind && is_whole token) (keeps_within text (place_of_token token) (change_of_token token)) most)
+      by false is h = refl
+
+  pub changes-stay : (later : List (List ℕ)) → AllUtf8 later → list_all has_numbers later ≡ true → list_all (is_good_later_token form in_pattern marks text) later ≡ true → (place : ℕ)
+      → stays_within text place (change_at place (map break_of_token later)) ≡ true
+  changes-stay [] u n e place = refl
+  changes-stay (token ∷ later) u n e place =
+      by (eqb (place_of_token token) place) refl (changes-stay later u.1 (second_so (has_numbers token) (list_all has_numbers later) n) (second_so (is_good_later_token form in_pattern marks text token) (list_all (is_good_later_token form in_pattern marks text) later) e) place)
+    where
+      equal : (a b : ℕ) → eqb a b ≡ true → a ≡ b
+      equal a b h = grind (arith, nat_tests)
+
+      by : (t : Bool) → eqb (place_of_token token) place ≡ t → stays_within text place (change_at place (map break_of_token later)) ≡ true → stays_within text place (cond t (break_of_token token).change (change_at place (map break_of_token later))) ≡ true
+      by true is more =
+          subst (λ (at : ℕ). stays_within text at (break_of_token token).change ≡ true) (equal (place_of_token token) place is)
+          (stays token u.0 (first_so (has_numbers token) (list_all has_numbers later) n) (first_so (is_good_later_token form in_pattern marks text token) (list_all (is_good_later_token form in_pattern marks text) later) e))
+      by false is more = more
+
+  token-places : (later : List (List ℕ)) → map (λ b. b.place) (map break_of_token later) ≡ map place_of_token later
+  token-places [] = refl
+  token-places (token ∷ later) = ap (λ places. place_of_token token ∷ places) (token-places later)
+
+  tokens-stay : (later : List (List ℕ)) → AllUtf8 later → list_all has_numbers later ≡ true → list_all (is_good_later_token form in_pattern marks text) later ≡ true
+      → list_all (λ b. lists_within text b.place b.change) (map break_of_token later) ≡ true
+  tokens-stay [] u n good = refl
+  tokens-stay (token ∷ later) u n good =
+      let numbers = and_parts (has_numbers token) (list_all has_numbers later) n in
+      let all = and_parts (is_good_later_token form in_pattern marks text token) (list_all (is_good_later_token form in_pattern marks text) later) good in
+      and_from (lists_within text (place_of_token token) (break_of_token token).change) (list_all (λ b. lists_within text b.place b.change) (map break_of_token later))
+      (and_from (fits_usize (place_of_token token)) (stays_within text (place_of_token token) (break_of_token token).change) (place_short token numbers.0) (stays token u.0 numbers.0 all.0))
+      (tokens-stay later u.1 numbers.1 all.1)
+
+  pub listed-stand : (later : List (List ℕ)) → AllUtf8 later → list_all has_numbers later ≡ true → ascend_on text 0 (map place_of_token later) ≡ true → list_all (is_good_later_token form in_pattern marks text) later ≡ true
+      → are_listed (λ b. b) text (map break_of_token later) ≡ true
+  listed-stand later u n places good =
+      and_from (ascend_on text 0 (map (λ b. b.place) (map break_of_token later))) (list_all (λ b. lists_within text b.place b.change) (map break_of_token later))
+      (ap (ascend_on text 0) (token-places later) ∙ places) (tokens-stay later u n good)
+
+-- values are digits
+abbrev AreSmall : List PatternElement → Type 0
+AreSmall [] = Unit {0}
+AreSmall (Letter b ∷ ms) = AreSmall ms
+AreSmall (Value v ∷ ms) = (v ≤ 255) × AreSmall ms
+
+mark-small : (s : EscapedByte) (ms : List PatternElement) → AreSmall ms → AreSmall (element_of s ∷ ms)
+mark-small s ms more = by (not s.escaped && is_digit s.byte) refl
+  where
+    small : is_digit s.byte ≡ true → s.byte - 48 ≤ 255
+    small e = grind (arith, nat_tests)
+
+    by : (t : Bool) → (not s.escaped && is_digit s.byte) ≡ t → AreSmall (cond t (Value (s.byte - 48)) (Letter s.byte) ∷ ms)
+    by true e = (small (second_so (not s.escaped) (is_digit s.byte) e), more)
+    by false e = more
+
+-- or numbers in braces
+abbrev AreSmallThen : Option (List PatternElement) → Type 0
+AreSmallThen None = Unit {0}
+AreSmallThen (Some ms) = AreSmall ms
+
+abbrev rest_of : Version → List EscapedByte → Option (List ℕ) × List PatternElement → Option (List PatternElement)
+rest_of version ss step = option_map (λ marks. step.1 ++ marks) (elements_from version step.0 ss)
+
+letters-small : (s : EscapedByte) (o : Option (List PatternElement)) → AreSmallThen o → AreSmallThen (option_map (λ marks. (element_of s ∷ []) ++ marks) o)
+letters-small s None h = tt
+letters-small s (Some ms) h = mark-small s ms h
+
+nothing-small : (o : Option (List PatternElement)) → AreSmallThen o → AreSmallThen (option_map (λ marks. [] ++ marks) o)
+nothing-small None h = tt
+nothing-small (Some ms) h = h
+
+value-small : (v : ℕ) → v ≤ 255 → (o : Option (List PatternElement)) → AreSmallThen o → AreSmallThen (option_map (λ marks. (Value v ∷ []) ++ marks) o)
+value-small v small None h = tt
+value-small v small (Some ms) h = (small, h)
+
+byte_small : (n : ℕ) → nat_le n 255 ≡ true → n ≤ 255
+byte_small n e = grind (arith, nat_tests)
+
+braced-small : (ss : List EscapedByte) → AreSmallThen (elements_from Second None ss) → (digits : List ℕ) → AreSmallThen (option_and_then (rest_of Second ss) (option_map (λ value. (None, Value value ∷ [])) (braced_value digits)))
+braced-small ss more digits = by (is_small digits) (nat_le 10 (number digits)) refl
+  where
+    by : (t u : Bool) → is_small digits ≡ t
+        → AreSmallThen (option_and_then (rest_of Second ss) (option_map (λ value. (None, Value value ∷ [])) (option_and_then (λ value. cond (nat_le 10 value) (Some value) None) (cond t (Some (number digits)) None))))
+    by false u is = tt
+    by true u is = at (nat_le 10 (number digits))
+      where
+        at : (w : Bool) → AreSmallThen (option_and_then (rest_of Second ss) (option_map (λ value. (None, Value value ∷ [])) (cond w (Some (number digits)) None)))
+        at true = value-small (number digits) (byte_small (number digits) (second_so (is_number digits) (nat_le (number digits) 255) is)) (elements_from Second None ss) more
+        at false = tt
+
+outside-small : (s : EscapedByte) (ss : List EscapedByte) → ((digits : Option (List ℕ)) → AreSmallThen (elements_from Second digits ss)) → AreSmallThen (option_and_then (rest_of Second ss) (step_outside s))
+outside-small s ss more = by (is_raw 123 s) (is_raw 125 s)
+  where
+    by : (t u : Bool) → AreSmallThen (option_and_then (rest_of Second ss) (cond t (Some (Some [], [])) (cond u None (Some (None, element_of s ∷ [])))))
+    by true u = nothing-small (elements_from Second (Some []) ss) (more (Some []))
+    by false true = tt
+    by false false = letters-small s (elements_from Second None ss) (more None)
+
+inside-small : (s : EscapedByte) (ss : List EscapedByte) (digits : List ℕ) → ((digits : Option (List ℕ)) → AreSmallThen (elements_from Second digits ss)) → AreSmallThen (option_and_then (rest_of Second ss) (step_inside digits s))
+inside-small s ss digits more = by (is_raw 125 s) (is_raw_digit s)
+  where
+    by : (t d : Bool) → AreSmallThen (option_and_then (rest_of Second ss) (cond t (option_map (λ value. (None, Value value ∷ [])) (braced_value digits)) (cond d (Some (Some (digits ++ s.byte ∷ []), [])) None)))
+    by true d = braced-small ss (more None) digits
+    by false true = nothing-small (elements_from Second (Some (digits ++ s.byte ∷ [])) ss) (more (Some (digits ++ s.byte ∷ [])))
+    by false false = tt
+
+all-small : (version : Version) (ss : List EscapedByte) (digits : Option (List ℕ)) → AreSmallThen (elements_from version digits ss)
+all-small version [] None = tt
+all-small version [] (Some digits) = tt
+all-small First (s ∷ ss) digits = letters-small s (elements_from First digits ss) (all-small First ss digits)
+all-small Second (s ∷ ss) None = outside-small s ss (all-small Second ss)
+all-small Second (s ∷ ss) (Some digits) = inside-small s ss digits (all-small Second ss)
+
+values-small : (version : Version) (token : List ℕ) → AreSmall (unwrap_or (elements_of version token) [])
+values-small version token = by (pattern_bytes version token)
+  where
+    marked : (o : Option (List PatternElement)) → AreSmallThen o → AreSmall (unwrap_or o [])
+    marked None h = tt
+    marked (Some ms) h = h
+
+    by : (o : Option (List EscapedByte)) → AreSmall (unwrap_or (option_and_then (elements_from version None) o) [])
+    by None = tt
+    by (Some ss) = marked (elements_from version None ss) (all-small version ss None)
+
+-- the values of marks between which the key is parted on its characters
+module _ (key : List ℕ) (said : List Break) (within : (place : ℕ) → stays_within key place (change_at place said) ≡ true) where
+  abbrev entry : ℕ × ℕ → Entry (Option Change)
+  entry v = record { place = v.0; value = v.1; change = change_at v.0 said }
+
+  all_four : (a b c d e : Bool) → a ≡ true → b ≡ true → c ≡ true → d ≡ true → e ≡ true → (a && b && c && d && e) ≡ true
+  all_four a b c d e p q r s t = rw (p, q, r, s, t) refl
+
+  not_above : (a b : ℕ) → a ≤ b → nat_le a b ≡ true
+  not_above a b h = grind (arith, nat_tests)
+
+  positive : (v : ℕ) → eqb v 0 ≡ false → v ≤ 255 → is_value v ≡ true
+  positive v h le = grind (arith, nat_tests)
+
+  on_seam : (q rest : List ℕ) (at : ℕ) → key ≡ q ++ rest → length q ≡ at → IsUtf8 rest → is_boundary key at ≡ true
+  on_seam q rest at is len u = boundary_test key at (subst (λ (n : ℕ). IsCharBoundary key n) len (IsCharBoundary-at_seam key q rest is u))
+
+  pub values-stand : (q p : List ℕ) (ms : List PatternElement) (at least : ℕ) (after : Bool) → key ≡ q ++ key_of ms → length q ≡ at → AreSeams p ms → AreSmall ms → two_values after ms ≡ false → least ≤ at + cond after 1 0
+      → entries_from (λ c. c) key least (map entry (values_from at ms)) ≡ true
+  values-stand q p [] at least after is len seams small alone le = refl
+  values-stand q p (Letter b ∷ ms) at least after is len seams small alone le =
+      values-stand (q ++ b ∷ []) (p ++ b ∷ []) ms (at + 1) least false (is ∙ sym (append_assoc q (b ∷ []) (key_of ms))) (omega (arith, length-append q (b ∷ []))) seams small (quiet after alone) (reach after le)
+    where
+      quiet : (t : Bool) → ((t && false) || two_values false ms) ≡ false → two_values false ms ≡ false
+      quiet true h = h
+      quiet false h = h
+
+      reach : (t : Bool) → least ≤ at + cond t 1 0 → least ≤ at + 1 + 0
+      reach true h = omega arith
+      reach false h = omega arith
+  values-stand q p (Value v ∷ ms) at least true is len seams small alone le = absurd cc
+  values-stand q p (Value v ∷ ms) at least false is len seams small alone le =
+      by (eqb v 0) refl
+      (values-stand q [] ms at least true is len seams.1 small.1 alone (omega arith))
+      (values-stand q [] ms at (at + 1) true is len seams.1 small.1 alone (omega arith))
+    where
+      by : (t : Bool) → eqb v 0 ≡ t → entries_from (λ c. c) key least (map entry (values_from at ms)) ≡ true → entries_from (λ c. c) key (at + 1) (map entry (values_from at ms)) ≡ true
+          → entries_from (λ c. c) key least (map entry (cond t (values_from at ms) ((at, v) ∷ values_from at ms))) ≡ true
+      by true e none more = none
+      by false e none more =
+          all_four (nat_le least at) (is_boundary key at) (is_value v) (stays_within key at (change_at at said)) (entries_from (λ c. c) key (at + 1) (map entry (values_from at ms)))
+          (not_above least at (omega arith)) (on_seam q (key_of ms) at is len (seams-utf8 [] ms seams.1)) (positive v e small.0) (within at) more
+
+marks_read : (version : Version) (token : List ℕ) → IsUtf8 token → is_none (elements_of version token) ≡ false → AreSeams [] (unwrap_or (elements_of version token) [])
+marks_read version token u e = by (elements_of version token) refl e
+  where
+    by : (o : Option (List PatternElement)) → elements_of version token ≡ o → is_none o ≡ false → AreSeams [] (unwrap_or o [])
+    by None is h = absurd cc
+    by (Some ms) is h = marks-seams version token ms u is
+
+module _ (form : Form) (number : ℕ) (line : List ℕ) (none : own_cause form number line ≡ None) where
+  passed : Passes form number line
+  passed = passes form number line none
+
+  line-utf8 : IsUtf8 line
+  line-utf8 = IsUtf8-from_is_utf8 line (on_from_not (is_utf8 line) passed.utf8)
+
+  first-token-utf8 : IsUtf8 (drop 2 line) → IsUtf8 (first_token_of line)
+  first-token-utf8 u = first-utf8 (tokens_of line) (split-utf8 32 (drop 2 line) (omega arith) u)
+
+  later-utf8 : IsUtf8 (drop 2 line) → AllUtf8 (later_tokens_of line)
+  later-utf8 u = after_first (tokens_of line) (split-utf8 32 (drop 2 line) (omega arith) u)
+    where
+      after_first : (ts : List (List ℕ)) → AllUtf8 ts → AllUtf8 (drop 1 ts)
+      after_first [] h = tt
+      after_first (t ∷ ts) h = h.1
+
+  item_test : (bad : Bool) → (is_item_line line && not bad) ≡ false → is_item_line line ≡ true → bad ≡ true
+  item_test bad e item = on_from_not bad (off_right (is_item_line line) (not bad) e item)
+
+  pub pattern-kept : is_pattern_line line ≡ true → IsPattern (λ c. c) (key_of_line form.version line) (entries_of_line form.version line)
+  pattern-kept sort =
+      let item : is_item_line line ≡ true = either_left (is_pattern_line line) (is_exception_line line) sort in
+      let marks : is_none (elements_of form.version (first_token_of line)) ≡ false = off_right (is_pattern_line line) (is_none (elements_of form.version (first_token_of line))) passed.value sort in
+      let rest : IsUtf8 (drop 2 line) = after_two 112 32 (omega arith) (omega arith) line sort line-utf8 in
+      let seams : AreSeams [] (pattern_elements form.version line) = marks_read form.version (first_token_of line) (first-token-utf8 rest) marks in
+      let numbers : list_all has_numbers (later_tokens_of line) ≡ true = item_test (list_all has_numbers (later_tokens_of line)) passed.numbers item in
+      let good : list_all (is_good_later_token form (is_pattern_line line) (pattern_elements form.version line) (counted_text form.version line)) (later_tokens_of line) ≡ true = item_test (list_all (is_good_later_token form (is_pattern_line line) (pattern_elements form.version line) (counted_text form.version line)) (later_tokens_of line)) passed.change item in
+      let by_key : list_all (is_good_later_token form (is_pattern_line line) (pattern_elements form.version line) (key_of_line form.version line)) (later_tokens_of line) ≡ true = subst (λ (t : Bool). list_all (is_good_later_token form (is_pattern_line line) (pattern_elements form.version line) (cond t (key_of_line form.version line) (word_of_line line))) (later_tokens_of line) ≡ true) sort good in
+      record {
+        utf8 = seams-utf8 [] (pattern_elements form.version line) seams;
+        letter = not_off (list_all (λ b. b == 46) (key_of_line form.version line)) (off_right (is_pattern_line line) (list_all (λ b. b == 46) (key_of_line form.version line)) passed.letters sort);
+        ascend = entries_in_order (λ c. c) (key_of_line form.version line) 0 (entries_of_line form.version line)
+            ∙ values-stand (key_of_line form.version line) (breaks_of_line line) (changes-stay form (is_pattern_line line) (pattern_elements form.version line) (key_of_line form.version line) (later_tokens_of line) (later-utf8 rest) numbers by_key) [] [] (pattern_elements form.version line) 0 0 false refl refl seams (values-small form.version (first_token_of line))
+            (off_right (is_pattern_line line) (two_values false (pattern_elements form.version line)) passed.pattern sort) (omega arith);
+      }
+
+  pub exception-kept : is_exception_line line ≡ true → IsException (λ b. b) (word_of_line line) (breaks_of_line line)
+  exception-kept sort =
+      let item : is_item_line line ≡ true = either_right (is_pattern_line line) (is_exception_line line) sort in
+      let off : is_pattern_line line ≡ false = apart line sort in
+      let places : ascend_on (counted_text form.version line) 0 (map place_of_token (later_tokens_of line)) ≡ true = item_test (ascend_on (counted_text form.version line) 0 (map place_of_token (later_tokens_of line))) passed.place item in
+      let good : list_all (is_good_later_token form (is_pattern_line line) (pattern_elements form.version line) (counted_text form.version line)) (later_tokens_of line) ≡ true = item_test (list_all (is_good_later_token form (is_pattern_line line) (pattern_elements form.version line) (counted_text form.version line)) (later_tokens_of line)) passed.change item in
+      let rest : IsUtf8 (drop 2 line) = after_two 101 32 (omega arith) (omega arith) line sort line-utf8 in
+      let numbers : list_all has_numbers (later_tokens_of line) ≡ true = item_test (list_all has_numbers (later_tokens_of line)) passed.numbers item in
+      let is : counted_text form.version line ≡ word_of_line line = ap (λ (t : Bool). cond t (key_of_line form.version line) (word_of_line line)) off in
+      record {
+        utf8 = text_read (first_token_of line) (first-token-utf8 rest);
+        ascend = subst (λ (text : List ℕ). are_listed (λ b. b) text (breaks_of_line line) ≡ true) is (listed-stand form (is_pattern_line line) (pattern_elements form.version line) (counted_text form.version line) (later_tokens_of line) (later-utf8 rest) numbers places good);
+      }

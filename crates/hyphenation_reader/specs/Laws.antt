@@ -1,0 +1,90 @@
+-- What is true of all texts that are read, and of edits, of either kind and in either version.
+-- In each law payload_of and listing_of say what a kind of dictionary holds of a change and of a listed break, and
+-- change_of and break_of say what that means; so one law is of all kinds.
+use Rattle.std.specs.Prelude.{◌≡◌, ℕ, ◌≤◌, ◌↔◌, All, Any, Contains, List, [], ◌∷◌, Option, Some, None, slice_index_or, IsUtf8, find, if◌then◌else◌, map, unwrap_or}
+use Rattle.std.specs.List.Sorted.{IsPermutation}
+use Rattle.std.specs.FinMap as finite
+use Rattle.hyphenation_breaks.specs.Break.{Break, Change}
+use Rattle.hyphenation_breaks.specs.Dictionary.{Contents}
+use Rattle.hyphenation_grammar.specs.Form.{head_of, version_of}
+use Rattle.hyphenation_breaks.specs.Invariant.{IsDictionary}
+use Rattle.hyphenation_grammar.specs.Items.{pattern_of_line, exception_of_line, breaks_of_line, word_of_line}
+use Rattle.hyphenation_grammar.specs.Judging.{fault_of, refusal_of, fails}
+use Rattle.hyphenation_grammar.specs.Lines.{lines_of, is_same}
+use Rattle.hyphenation_grammar.specs.Reading.{contents_of, spelling_as, entry_as}
+use Rattle.hyphenation_breaks.specs.declared.entry.Entry.{Entry}
+use Rattle.hyphenation_grammar.specs.declared.form.Kind.{Kind}
+use Rattle.hyphenation_grammar.specs.declared.form.Version.TheVariants.{First}
+use Rattle.hyphenation_grammar.specs.declared.form.Kind.TheVariants.{Standard}
+use Rattle.hyphenation_grammar.specs.declared.Cause.TheVariants.{Token, Number, Place, Change as BadChange}
+use Rattle.hyphenation_grammar.specs.declared.form.Version.{Version}
+use Rattle.hyphenation_reader.specs.Edits.{after_edits, as_line, cause_in, edit_line, form_in, is_addition}
+use Rattle.std.specs.Option.{option_or}
+
+-- A key has exactly the entries that some `p` line spells for it.
+abbrev pub KeysAreSpelt : Type 0 → Type 0 → Type 0
+KeysAreSpelt C B =
+    (kind : Kind) (payload_of : Option Change → C) (listing_of : Break → B) (lines : List (List ℕ)) (key : List ℕ)
+    (entries : List (Entry C)) → fault_of kind lines ≡ None
+    → (finite.get (contents_of kind payload_of listing_of lines).patterns key ≡ Some entries)
+    ↔ Any (λ line. spelling_as (entry_as payload_of) (pattern_of_line (version_of kind lines)) line
+    ≡ Some (key, entries))
+    lines
+
+-- A word has exactly the list that some `e` line spells for it.
+abbrev pub WordsAreSpelt : Type 0 → Type 0 → Type 0
+WordsAreSpelt C B =
+    (kind : Kind) (payload_of : Option Change → C) (listing_of : Break → B) (lines : List (List ℕ)) (word : List ℕ)
+    (listed : List B) → fault_of kind lines ≡ None
+    → (finite.get (contents_of kind payload_of listing_of lines).exceptions word ≡ Some listed)
+    ↔ Any (λ line. spelling_as listing_of exception_of_line line ≡ Some (word, listed)) lines
+
+-- Two accepted texts of the same lines after the third, in whatever order, give the same dictionary.
+abbrev pub OrderMeansNothing : Type 0 → Type 0 → Type 0
+OrderMeansNothing C B =
+    (kind : Kind) (payload_of : Option Change → C) (listing_of : Break → B) (first second third : List ℕ)
+    (ls ms : List (List ℕ))
+    → fault_of kind (first ∷ second ∷ third ∷ ls) ≡ None → fault_of kind (first ∷ second ∷ third ∷ ms) ≡ None
+    → ((line : List ℕ) → Contains ls line ↔ Contains ms line)
+    → contents_of kind payload_of listing_of (first ∷ second ∷ third ∷ ls)
+    ≡ contents_of kind payload_of listing_of (first ∷ second ∷ third ∷ ms)
+
+-- After the third line the lines of an accepted text may stand in any order: it stays accepted.
+abbrev pub AcceptedInAnyOrder : Type 0
+AcceptedInAnyOrder =
+    (kind : Kind) (first second third : List ℕ) (ls ms : List (List ℕ)) → IsPermutation ls ms
+    → fault_of kind (first ∷ second ∷ third ∷ ls) ≡ None → fault_of kind (first ∷ second ∷ third ∷ ms) ≡ None
+
+-- The word that an edit names.
+abbrev pub word_named : List ℕ → List ℕ
+word_named edit = word_of_line (edit_line edit)
+
+-- What an edit says of its word: the breaks that are listed for it, or that it is no exception.
+abbrev pub said_of_word : {B : Type 0} → (Break → B) → List ℕ → Option (List B)
+said_of_word listing_of edit =
+    if is_addition edit then Some (map listing_of (breaks_of_line (edit_line edit))) else None
+
+-- What the last edit that names a word says of it; none, where no edit names it.
+abbrev pub last_said_of : {B : Type 0} → (Break → B) → List ℕ → List (List ℕ) → Option (Option (List B))
+last_said_of listing_of word [] = None
+last_said_of listing_of word (edit ∷ edits) =
+    option_or (last_said_of listing_of word edits)
+    (if is_same (word_named edit) word then Some (said_of_word listing_of edit) else None)
+
+-- Of the edits that name a word the last one decides, and where there is none, the dictionary before them.
+abbrev pub LastDecides : Type 0 → Type 0 → Type 0
+LastDecides C B = (listing_of : Break → B) (dictionary : Contents C B) (edits : List (List ℕ)) (word : List ℕ) →
+    finite.get (after_edits listing_of dictionary edits).exceptions word
+    ≡ unwrap_or (last_said_of listing_of word edits) (finite.get dictionary.exceptions word)
+
+-- Both versions judge the line of an edit alike.
+abbrev pub VersionsAgree : Type 0
+VersionsAgree =
+    (kind : Kind) (version : Version) (edit : List ℕ)
+    → cause_in kind version (edit_line edit) ≡ cause_in kind First (edit_line edit)
+
+-- Of all tests the line of an exception can fail these by itself.
+abbrev pub FourTests : Type 0
+FourTests = (kind : Kind) (version : Version) (exception : List ℕ) → IsUtf8 exception →
+    cause_in kind version (as_line exception)
+    ≡ find (fails (form_in kind version) 4 (as_line exception)) (Token ∷ Number ∷ Place ∷ BadChange ∷ [])

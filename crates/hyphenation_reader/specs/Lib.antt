@@ -1,0 +1,4 @@
+pub mod Refusals
+pub mod Edits
+pub mod Laws
+pub mod Private

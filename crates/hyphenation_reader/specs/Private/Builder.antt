@@ -1,0 +1,51 @@
+-- What a reader holds of the lines so far.
+-- Private functions of the reader cite this, and no public contract does: it follows their steps, and they are proved equal to Items and Judging.
+use Rattle.std.specs.Prelude.{◌≡◌, ◌<◌, Bool, true, not, ℕ, List, [], length, take, drop, slice_index_or, if◌then◌else◌, Option, Some, None}
+use Rattle.std.specs.FinMap as finite
+use Rattle.std.specs.String.{string_bytes}
+use Rattle.hyphenation_dictionary.specs.Parts.{patterns_of}
+use Rattle.hyphenation_grammar.specs.Reading.{SpeltItems}
+use Rattle.hyphenation_grammar.specs.Judging.{fault_after, is_item_line}
+use Rattle.std.specs.List.{list_all}
+use Rattle.hyphenation_grammar.specs.Lines.{language_of, minima_of}
+use Rattle.hyphenation_grammar.specs.declared.form.Form.{Form}
+use Rattle.hyphenation_grammar.specs.declared.Cause.{Cause}
+use Rattle.hyphenation_grammar.specs.declared.Cause.TheVariants.{RepeatedPattern, RepeatedException}
+use Rattle.hyphenation_reader.specs.declared.items.Item.{Item}
+use Rattle.hyphenation_reader.specs.declared.items.Item.TheVariants.{Nothing, Pattern, Exception}
+use Rattle.hyphenation_reader.specs.declared.reader.Builder.{Builder}
+
+-- Keys with their entries, and words with their listed breaks.
+abbrev pub items_held : {C B : Type 0} → Builder C B → SpeltItems C B
+items_held builder = record { patterns = patterns_of builder.patterns; exceptions = builder.exceptions }
+
+-- Before any line.
+abbrev pub no_items : {C B : Type 0} → SpeltItems C B
+no_items = record { patterns = finite.from_entries []; exceptions = finite.from_entries [] }
+
+-- An item more.
+abbrev pub with_item : {C B : Type 0} → SpeltItems C B → Item C B → SpeltItems C B
+with_item s Nothing = s
+with_item s (Pattern key entries) =
+    record { patterns = finite.insert s.patterns key.items entries.items; exceptions = s.exceptions }
+with_item s (Exception word listed) =
+    record { patterns = s.patterns; exceptions = finite.insert s.exceptions (string_bytes word) listed.items }
+
+-- The cause for which an item repeats what is held.
+abbrev pub repeated_by : {C B : Type 0} → SpeltItems C B → Item C B → Option Cause
+repeated_by s Nothing = None
+repeated_by s (Pattern key entries) = if finite.contains_key s.patterns key.items then Some RepeatedPattern else None
+repeated_by s (Exception word listed) =
+    if finite.contains_key s.exceptions (string_bytes word) then Some RepeatedException else None
+
+-- The lines spell no item.
+abbrev pub are_idle : List (List ℕ) → Bool
+are_idle lines = list_all (λ line. not (is_item_line line)) lines
+
+-- The lines begin with three good head lines, which spell no item; the second and the third say these.
+pub record HasHead (form : Form) (lines : List (List ℕ)) (language : List ℕ) (minima : ℕ × ℕ) : Type 0 where
+  pub long : 2 < length lines
+  pub second : language_of (slice_index_or lines 1 []) ≡ Some language
+  pub third : minima_of (slice_index_or lines 2 []) ≡ Some minima
+  pub goes_on : fault_after form [] lines ≡ fault_after form (take 3 lines) (drop 3 lines)
+  pub idle : are_idle (take 3 lines) ≡ true

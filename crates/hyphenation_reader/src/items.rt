@@ -1,0 +1,578 @@
+//! What one line spells, or the first test that it fails by itself.
+
+ghost use Rattle.std.specs.Prelude.{◌≡◌, ◌==◌, IfOk, IfErr, IfSome, IsTrue, OnOk, None, Some, IsUtf8, List, ℕ, codes, false, is_some, map, nat_lt, option_map, true};
+ghost use Rattle.std.specs.List.{list_all, slice_split};
+ghost use Rattle.std.specs.Str.{is_utf8};
+ghost use Rattle.std.specs.String.{string_bytes};
+ghost use Rattle.hyphenation_breaks.specs.Break.{ascend_on, keeps_within};
+ghost use Rattle.hyphenation_grammar.specs.Judging.{is_extended, is_known, own_cause};
+ghost use Rattle.hyphenation_reader.specs.Private.Judging.{before_item};
+ghost use Rattle.hyphenation_grammar.specs.Lines.{strip_prefix};
+ghost use Rattle.hyphenation_grammar.specs.Private.Lines.{tokens_after};
+ghost use Rattle.hyphenation_reader.specs.Private.Matched.{ascend, cause_before_match, first_at, have_values, suits_form_in_pattern, left_at, from_next};
+ghost use Rattle.hyphenation_grammar.specs.Parsed.{pattern_view};
+ghost use Rattle.hyphenation_reader.specs.Private.Parsed.{exception_parts, no_later, pattern_parts, read_later, later_view};
+ghost use Rattle.hyphenation_reader.specs.Private.LineAnswers.{Answers, IsFault, AnswersException, IsItemOf, breaks_listed, entries_of, exception_cause, suits_word, suits_form, places_cause};
+
+use hyphenation_breaks::entry::{Entry, Listing, Payload};
+use hyphenation_breaks::extended::Subregion;
+use hyphenation_grammar::Cause;
+use hyphenation_grammar::form::{Form, Kind, Version};
+use hyphenation_grammar::lines::{
+    first_token, is_head, is_utf8, language_of, minima_of, starts_with, strip_prefix,
+};
+use hyphenation_grammar::pattern::{PatternRoom, PatternToken, pattern_of};
+use hyphenation_grammar::tokens::{LaterToken, is_boundary, later_token, string_of};
+use hyphenation_trie::in_32_bits;
+use std::alloc::{AllocError, Global};
+use std::mem;
+use std::vec::IntoIter;
+
+/// What a line spells.
+#[derive(Drop)]
+pub(crate) enum Item<C: Drop, B: Drop> {
+    /// A head line, an empty line or a comment.
+    Nothing,
+    /// A key with its entries.
+    Pattern {
+        key: Vec<u8>,
+        entries: Vec<Entry<C>>,
+    },
+    /// A word with its listed breaks.
+    Exception {
+        word: String,
+        listed: Vec<B>,
+    },
+}
+
+/// Lists that one line filled and a later one may fill again, so that not each line asks for memory. What stands
+/// in them means nothing.
+#[derive(Drop)]
+pub(crate) struct Scratch<C: Drop> {
+    /// A pattern's key.
+    pub key: Vec<u8>,
+    /// A pattern's values.
+    pub values: Vec<(usize, u8)>,
+    /// The entries of a key.
+    pub entries: Vec<Entry<C>>,
+}
+
+impl<C: Drop> Scratch<C> {
+    /// Lists without room yet.
+    pub(crate) fn new(alloc: Global) -> Self {
+        Scratch {
+            key: Vec::new(alloc),
+            values: Vec::new(alloc),
+            entries: Vec::new(alloc),
+        }
+    }
+
+    /// The lists for a pattern's token.
+    fn pattern_room(&mut self, alloc: Global) -> PatternRoom {
+        PatternRoom {
+            key: mem::replace(&mut self.key, Vec::new(alloc)),
+            values: mem::replace(&mut self.values, Vec::new(alloc)),
+        }
+    }
+
+    /// The list for the entries of a key.
+    fn entries_room(&mut self, alloc: Global) -> Vec<Entry<C>> {
+        mem::replace(&mut self.entries, Vec::new(alloc))
+    }
+}
+
+/// Why a line is not read.
+#[derive(Debug, Drop)]
+pub(crate) enum Fault {
+    /// Memory was refused.
+    Memory,
+    /// The line fails this test, and none before it.
+    Fails(Cause),
+}
+
+impl From<AllocError> for Fault {
+    ghost use Rattle.std.specs.Prelude.{◌≡◌};
+    ghost use Rattle.hyphenation_reader.specs.declared.items.Fault.TheVariants.{Memory};
+
+    ghost from_gives = { λ _ e. e ≡ Memory };
+
+    fn from(_error: AllocError) -> Fault {
+        Fault::Memory
+    }
+}
+
+/// The item that a line spells, or the first test that it fails by itself, in a text of a form. The caller may know
+/// already that the line is UTF-8.
+pub(crate) fn item_of<C: Payload, B: Listing>(
+    alloc: Global,
+    form: Form,
+    number: usize,
+    line: &[u8],
+    known: bool,
+    scratch: &mut Scratch<C>,
+) -> Result<Item<C, B>, Fault>
+    requires utf8 { known ≡ true → IsUtf8 line.now }
+    ensures passes { OnOk result (own_cause form number line.now ≡ None) }
+    ensures says { IfOk result (λ item. IsItemOf form.version C.payload_of B.listing_of item line.now) }
+    ensures refused { IfErr result (λ fault. IsFault fault (own_cause form number line.now)) }
+{
+    if let Some(cause) = before_item(alloc, form, number, line, known)? {
+        return Err(Fault::Fails(cause));
+    }
+    match strip_prefix(b"p ", line) {
+        Some(text) => pattern_item(alloc, form, text, scratch),
+        None => match strip_prefix(b"e ", line) {
+            Some(text) => exception_item(alloc, form, text),
+            None => Ok(Item::Nothing),
+        },
+    }
+}
+
+/// The first test before Token that a line fails.
+#[inline(always)]
+fn before_item(
+    alloc: Global,
+    form: Form,
+    number: usize,
+    line: &[u8],
+    known: bool,
+) -> Result<Option<Cause>, AllocError>
+    requires { known ≡ true → IsUtf8 line.now }
+    ensures { IfOk result (λ cause. cause ≡ before_item form number line.now) }
+{
+    if !is_utf8_line(line, known) {
+        return Ok(Some(Cause::NotUtf8));
+    }
+    if number == 1 && !is_head(form, line) {
+        return Ok(Some(Cause::Header));
+    }
+    if number == 2 && language_of(line).is_none() {
+        return Ok(Some(Cause::Language));
+    }
+    if number == 3 && minima_of(alloc, line)?.is_none() {
+        return Ok(Some(Cause::Minima));
+    }
+    if number > 3 && !is_known(line) {
+        return Ok(Some(Cause::UnknownLine));
+    }
+    Ok(None)
+}
+
+/// Whether a line is UTF-8, where that may be known already.
+fn is_utf8_line(line: &[u8], known: bool) -> bool
+    requires { known ≡ true → IsUtf8 line.now }
+    ensures { result ≡ is_utf8 line.now }
+{
+    known || is_utf8(line)
+}
+
+/// Whether a line after the third is of one of the four sorts.
+fn is_known(line: &[u8]) -> bool
+    ensures { result ≡ is_known line.now }
+{
+    line.is_empty()
+        || starts_with(b"#", line)
+        || starts_with(b"p ", line)
+        || starts_with(b"e ", line)
+}
+
+/// The item of a `p` line, of which the text stands after `p `.
+fn pattern_item<C: Payload, B: Listing>(
+    alloc: Global,
+    form: Form,
+    text: &[u8],
+    scratch: &mut Scratch<C>,
+) -> Result<Item<C, B>, Fault>
+    requires { IsUtf8 text.now }
+    ensures { (line : List ℕ) → Some text.now ≡ strip_prefix (codes "p ") line
+        → Answers form C.payload_of B.listing_of line result }
+{
+    let room = scratch.pattern_room(alloc);
+    let Some((pattern, later)) = pattern_parts(alloc, form.version, text, room)? else {
+        return Err(Fault::Fails(Cause::Token));
+    };
+    if let Some(cause) = pattern_cause(form, &pattern, &later) {
+        return Err(Fault::Fails(cause));
+    }
+    let room = scratch.entries_room(alloc);
+    let Some(entries) = matched(&pattern.values, later.listed, room)? else {
+        return Err(Fault::Fails(Cause::Change));
+    };
+    scratch.values = pattern.values;
+    Ok(Item::Pattern {
+        key: pattern.key,
+        entries,
+    })
+}
+
+// Inlined, so that what a pattern says is not moved about; so are the two tests of each pattern.
+/// The first token of a `p` line and its later ones, where each can be read.
+#[inline(always)]
+fn pattern_parts(
+    alloc: Global,
+    version: Version,
+    text: &[u8],
+    room: PatternRoom,
+) -> Result<Option<(PatternToken, Later)>, AllocError>
+    requires { IsUtf8 text.now }
+    ensures { IfOk result (λ found.
+        option_map (λ x. (pattern_view x.0, later_view x.1)) found
+        ≡ pattern_parts version (slice_split (λ b. b == 32) text.now)) }
+{
+    let (first, later) = first_token(text);
+    if first.is_empty() {
+        return Ok(None);
+    }
+    let Some(pattern) = pattern_of(alloc, version, first, room)? else {
+        return Ok(None);
+    };
+    // Most patterns have one token alone.
+    if later.is_none() {
+        return Ok(Some((pattern, Later::none(alloc))));
+    }
+    let Some(later) = later_of(alloc, later)? else {
+        return Ok(None);
+    };
+    Ok(Some((pattern, later)))
+}
+
+/// The first test after Token that a `p` line fails, but for the values that its changes are to have.
+#[inline(always)]
+fn pattern_cause(form: Form, pattern: &PatternToken, later: &Later) -> Option<Cause>
+    ensures { result ≡ cause_before_match form (pattern_view pattern.now) (later_view later.now) }
+{
+    if pattern.is_bad() {
+        return Some(Cause::Value);
+    }
+    if pattern.has_two_values {
+        return Some(Cause::Pattern);
+    }
+    if is_dots(&pattern.key) {
+        return Some(Cause::NoLetters);
+    }
+    if let Some(cause) = places_cause(&pattern.key, later) {
+        return Some(cause);
+    }
+    if !later.are_sound || !suit_form_in_pattern(form, &pattern.key, &later.listed) {
+        return Some(Cause::Change);
+    }
+    None
+}
+
+/// Whether a key is dots alone.
+fn is_dots(key: &[u8]) -> bool
+    ensures { result ≡ list_all (λ b. b == 46) key.now }
+{
+    key.iter().all(|byte| *byte == b'.')
+}
+
+/// Whether each may be listed for a key, be there a value at its place or not.
+fn suit_form_in_pattern(form: Form, key: &[u8], listed: &[(usize, Option<Subregion>)]) -> bool
+    ensures { result ≡ list_all (suits_form_in_pattern form key.now) listed.now }
+{
+    for b in listed {
+        if !suits_form_in_pattern(form, key, b) {
+            return false;
+        }
+    }
+    true
+}
+
+/// Whether it is a change, of an extended text, that keeps within the key.
+fn suits_form_in_pattern(form: Form, key: &[u8], b: &(usize, Option<Subregion>)) -> bool
+    ensures { result ≡ suits_form_in_pattern form key.now b.now }
+{
+    let place = b.0;
+    match &b.1 {
+        None => false,
+        Some(change) => suits_form(form, key, place, change),
+    }
+}
+
+/// Whether the text is extended, and the change keeps within the key or the word.
+fn suits_form(form: Form, text: &[u8], place: usize, change: &Subregion) -> bool
+    ensures { result ≡ suits_form form text.now place change.now }
+{
+    is_extended(form) && keeps_within(text, place, change)
+}
+
+/// Whether a text of that form may have changes.
+fn is_extended(form: Form) -> bool
+    ensures { result ≡ is_extended form.kind }
+{
+    match form.kind {
+        Kind::Standard => false,
+        Kind::Extended => true,
+    }
+}
+
+/// Whether the ends of a change's range stand in a text between its characters.
+fn keeps_within(text: &[u8], place: usize, change: &Subregion) -> bool
+    ensures { result ≡ keeps_within text.now place change.now }
+{
+    change.invariant();
+    match change.range_at(place) {
+        None => false,
+        Some((begin, end)) => is_boundary(text, begin) && is_boundary(text, end),
+    }
+}
+
+/// The entries of values, each with the change that is listed at its place, in the room of the last list; none where
+/// one is listed at a place without a value. The caller owes that the places ascend in both: so one pass is enough.
+fn matched<C: Payload>(
+    values: &[(usize, u8)],
+    listed: Vec<(usize, Option<Subregion>)>,
+    room: Vec<Entry<C>>,
+) -> Result<Option<Vec<Entry<C>>>, AllocError>
+    requires values { IsTrue (ascend 0 values.now) }
+    requires listed { IsTrue (ascend 0 listed.items) }
+    ensures known { IfOk result (λ found. is_some found ≡ have_values values.now listed.items) }
+    ensures entries { IfOk result (λ found.
+        IfSome found (λ es. es.items ≡ entries_of C.payload_of values.now listed.items)) }
+{
+    let mut entries = room;
+    entries.clear();
+    let mut rest = listed.into_iter();
+    let mut next = rest.next();
+    for value in values {
+        let change = taken_at(value.0, &mut next, &mut rest);
+        let place = in_32_bits(value.0)?;
+        entries.push(Entry {
+            place,
+            value: value.1,
+            change: C::from_change(change),
+        })?;
+    }
+    if next.is_some() {
+        return Ok(None);
+    }
+    Ok(Some(entries))
+}
+
+/// Takes the change that is listed next, if it is listed at the place, and goes on to the one after it.
+fn taken_at(
+    place: usize,
+    next: &mut Option<(usize, Option<Subregion>)>,
+    rest: &mut IntoIter<(usize, Option<Subregion>)>,
+) -> Option<Subregion>
+    ensures taken { result ≡ first_at place (from_next next.old rest.old.rest.items) }
+    ensures left { from_next next.new rest.new.rest.items ≡ left_at place (from_next next.old rest.old.rest.items) }
+{
+    match next.take() {
+        Some((at, change)) if at == place => {
+            *next = rest.next();
+            change
+        }
+        other => {
+            *next = other;
+            None
+        }
+    }
+}
+
+/// The item of an `e` line, of which the text stands after `e `.
+fn exception_item<C: Payload, B: Listing>(
+    alloc: Global,
+    form: Form,
+    text: &[u8],
+) -> Result<Item<C, B>, Fault>
+    requires { IsUtf8 text.now }
+    ensures { (line : List ℕ) → Some text.now ≡ strip_prefix (codes "e ") line
+        → Answers form C.payload_of B.listing_of line result }
+{
+    let (word, listed) = exception_of(alloc, form, text)?;
+    Ok(Item::Exception { word, listed })
+}
+
+/// The word of an `e` line, of which the text stands after `e `, and its listed breaks.
+pub(crate) fn exception_of<B: Listing>(
+    alloc: Global,
+    form: Form,
+    text: &[u8],
+) -> Result<(String, Vec<B>), Fault>
+    requires { IsUtf8 text.now }
+    ensures { (line : List ℕ) → Some text.now ≡ strip_prefix (codes "e ") line
+        → AnswersException form B.listing_of line result }
+{
+    let Some((word, later)) = exception_parts(alloc, text)? else {
+        return Err(Fault::Fails(Cause::Token));
+    };
+    if let Some(cause) = exception_cause(form, word.as_bytes(), &later) {
+        return Err(Fault::Fails(cause));
+    }
+    let listed = listed_of(alloc, later.listed)?;
+    Ok((word, listed))
+}
+
+/// The word of an `e` line and its later tokens, where each can be read.
+#[inline(always)]
+fn exception_parts(alloc: Global, text: &[u8]) -> Result<Option<(String, Later)>, AllocError>
+    requires { IsUtf8 text.now }
+    ensures { IfOk result (λ found.
+        option_map (λ x. (string_bytes x.0, later_view x.1)) found
+        ≡ exception_parts (slice_split (λ b. b == 32) text.now)) }
+{
+    let (first, later) = first_token(text);
+    if first.is_empty() {
+        return Ok(None);
+    }
+    let Some(word) = string_of(alloc, first)? else {
+        return Ok(None);
+    };
+    let Some(later) = later_of(alloc, later)? else {
+        return Ok(None);
+    };
+    Ok(Some((word, later)))
+}
+
+/// The first test after Token that an `e` line fails.
+fn exception_cause(form: Form, word: &[u8], later: &Later) -> Option<Cause>
+    ensures { result ≡ exception_cause form word.now (later_view later.now) }
+{
+    if let Some(cause) = places_cause(word, later) {
+        return Some(cause);
+    }
+    if !later.are_sound || !all_fit_word(form, word, &later.listed) {
+        return Some(Cause::Change);
+    }
+    None
+}
+
+/// Whether each may be listed for a word.
+fn all_fit_word(form: Form, word: &[u8], listed: &[(usize, Option<Subregion>)]) -> bool
+    ensures { result ≡ list_all (suits_word form word.now) listed.now }
+{
+    for b in listed {
+        if !fits_word(form, word, b) {
+            return false;
+        }
+    }
+    true
+}
+
+/// Whether the change of a break, where there is one, may be listed for a word.
+fn fits_word(form: Form, word: &[u8], b: &(usize, Option<Subregion>)) -> bool
+    ensures { result ≡ suits_word form word.now b.now }
+{
+    let place = b.0;
+    match &b.1 {
+        None => true,
+        Some(change) => suits_form(form, word, place, change),
+    }
+}
+
+/// Breaks as a dictionary lists them.
+fn listed_of<B: Listing>(
+    alloc: Global,
+    listed: Vec<(usize, Option<Subregion>)>,
+) -> Result<Vec<B>, AllocError>
+    ensures { IfOk result (λ found. found.items ≡ map B.listing_of (breaks_listed listed.items)) }
+{
+    let mut found = Vec::with_capacity(alloc, listed.len())?;
+    for (place, change) in listed {
+        found.push(B::from_place(place, change))?;
+    }
+    Ok(found)
+}
+
+/// What the later tokens of a line say, as far as they are read.
+#[derive(Drop)]
+struct Later {
+    /// Their places, each with its change, as far as the parts are numbers.
+    listed: Vec<(usize, Option<Subregion>)>,
+    /// Whether each part is a number that has to be one.
+    are_numbers: bool,
+    /// Whether the changes are whole, and broken between characters.
+    are_sound: bool,
+}
+
+impl Later {
+    ghost use Rattle.std.specs.Prelude.{◌≡◌, IfOk, OnOk};
+    ghost use Rattle.hyphenation_reader.specs.Private.Parsed.{no_later, later_view, with_token};
+
+    /// What no token says.
+    fn none(alloc: Global) -> Self
+        ensures { later_view result ≡ no_later }
+    {
+        Later {
+            listed: Vec::new(alloc),
+            are_numbers: true,
+            are_sound: true,
+        }
+    }
+
+    /// The same, with room for so many tokens.
+    fn with_room(alloc: Global, count: usize) -> Result<Self, AllocError>
+        ensures { IfOk result (λ later. later_view later ≡ no_later) }
+    {
+        Ok(Later {
+            listed: Vec::with_capacity(alloc, count)?,
+            are_numbers: true,
+            are_sound: true,
+        })
+    }
+
+    /// One token more.
+    fn add(&mut self, token: LaterToken) -> Result<(), AllocError>
+        ensures { OnOk result (later_view self.new ≡ with_token (later_view self.old) token) }
+    {
+        match token {
+            LaterToken::NoNumber => self.are_numbers = false,
+            LaterToken::Unsound(place) => {
+                self.listed.push((place, None))?;
+                self.are_sound = false;
+            }
+            LaterToken::Sound(place, change) => self.listed.push((place, change))?,
+        }
+        Ok(())
+    }
+}
+
+/// What the tokens after a space say, where each can be read; nothing where there is no space.
+#[inline]
+fn later_of(alloc: Global, after: Option<&[u8]>) -> Result<Option<Later>, AllocError>
+    requires { IfSome after (λ text. IsUtf8 text.now) }
+    ensures { IfOk result (λ found.
+        option_map later_view found ≡ read_later no_later (tokens_after (option_map (λ text. text.now) after.entry))) }
+{
+    // Each token but the last takes two bytes or more, with the space after it.
+    let count = after.map_or(0, |text| (text.len() / 2 + 1).min(8));
+    let mut later = Later::with_room(alloc, count)?;
+    let mut rest = after;
+    while let Some(text) = rest {
+        let (token, more) = first_token(text);
+        match later_token(alloc, token)? {
+            Some(token) => later.add(token)?,
+            None => return Ok(None),
+        }
+        rest = more;
+    }
+    Ok(Some(later))
+}
+
+/// The first of the tests Number and Place that later tokens fail, whose places count in the text.
+fn places_cause(text: &[u8], later: &Later) -> Option<Cause>
+    ensures { result ≡ places_cause text.now (later_view later.now) }
+{
+    if !later.are_numbers {
+        return Some(Cause::Number);
+    }
+    if !are_places(text, &later.listed) {
+        return Some(Cause::Place);
+    }
+    None
+}
+
+/// Whether places ascend, each on a character boundary of the text.
+fn are_places(text: &[u8], listed: &[(usize, Option<Subregion>)]) -> bool
+    ensures { result ≡ ascend_on text.now 0 (map (λ b. b.0) listed.now) }
+{
+    let mut least: usize = 0;
+    for b in listed {
+        if b.0 < least || !is_boundary(text, b.0) {
+            return false;
+        }
+        least = b.0 + 1;
+    }
+    true
+}

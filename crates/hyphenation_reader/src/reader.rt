@@ -1,0 +1,370 @@
+//! Whole texts: one pass over the lines, which judges each, takes its item in and sees by that whether an
+//! earlier line spells the same.
+
+ghost use Rattle.std.specs.Prelude.{◌≡◌, ◌+◌, [], None, Some, IfOk, IfErr, IsUtf8, ◌<◌, ◌≤◌, true, take, drop, OnOk, length};
+ghost use Rattle.std.specs.FinMap as finite;
+ghost use Rattle.std.specs.String.{string_bytes};
+ghost use Rattle.hyphenation_reader.specs.Private.Builder.{HasHead, are_idle, items_held, no_items, with_item, repeated_by};
+ghost use Rattle.hyphenation_grammar.specs.Form.{form_of};
+ghost use Rattle.hyphenation_grammar.specs.Lines.{lines_of, language_of, minima_of};
+ghost use Rattle.hyphenation_grammar.specs.Judging.{own_cause, fault_after, refusal_of};
+ghost use Rattle.hyphenation_reader.specs.Private.Judging.{before_item};
+ghost use Rattle.hyphenation_grammar.specs.Reading.{items_of_lines, contents_in, contents_of, standard_contents, extended_contents};
+ghost use Rattle.hyphenation_reader.specs.Refusals.{IsRefusal};
+ghost use Rattle.hyphenation_reader.specs.Private.Refusals.{at_number};
+ghost use Rattle.hyphenation_reader.specs.Private.LineAnswers.{IsItemOf};
+ghost use Rattle.hyphenation_trie.specs.Trie.{EachBeginsKey};
+
+use crate::items::{Fault, Item, Scratch, item_of};
+use hyphenation_breaks::entry::{Entry, Listing, Payload};
+use hyphenation_breaks::language::Language;
+use hyphenation_dictionary::dictionary::{Dictionary, Extended, Standard};
+use hyphenation_dictionary::exceptions::Exceptions;
+use hyphenation_dictionary::parts;
+use hyphenation_grammar::Cause;
+use hyphenation_grammar::form::{Form, Kind, Version};
+use hyphenation_grammar::lines::{is_head, is_utf8, language_of, minima_of, next_line, version_by};
+use hyphenation_trie::Trie;
+use std::alloc::{AllocError, Global};
+
+/// Why a text gives no dictionary.
+#[derive(Debug, Drop)]
+pub enum Refusal {
+    /// Memory was refused.
+    Memory,
+    /// The first fault of the text: the number of its line, from 1, and the first test that the line fails. A
+    /// line 1, 2 or 3 that is missing counts as the line after the last one.
+    Fault { line: usize, cause: Cause },
+}
+
+impl From<AllocError> for Refusal {
+    ghost use Rattle.std.specs.Prelude.{◌≡◌};
+    ghost use Rattle.hyphenation_reader.specs.declared.reader.Refusal.TheVariants.{Memory};
+
+    ghost from_gives = { λ _ e. e ≡ Memory };
+
+    fn from(_error: AllocError) -> Refusal {
+        Refusal::Memory
+    }
+}
+
+/// What the lines so far spell.
+#[derive(Drop)]
+struct Builder<C: Payload, B: Listing> {
+    patterns: Trie<Entry<C>>,
+    exceptions: Exceptions<B>,
+}
+
+impl<C: Payload, B: Listing> Builder<C, B> {
+    /// Nothing yet, with room for a text of so many bytes: a text of patterns has six to eight bytes for each node,
+    /// and seldom more than one exception in 40 bytes.
+    fn new(alloc: Global, bytes: usize) -> Result<Builder<C, B>, AllocError>
+        ensures empty { IfOk result (λ builder. items_held builder ≡ no_items) }
+        ensures begins { IfOk result (λ builder. EachBeginsKey builder.patterns) }
+    {
+        Ok(Builder {
+            patterns: Trie::with_room(alloc, bytes / 6)?,
+            exceptions: Exceptions::with_room(alloc, bytes / 40)?,
+        })
+    }
+
+    /// Takes in a key with its entries, in place of those that it had. Whether it had any.
+    fn add_pattern(&mut self, key: &[u8], entries: &mut Vec<Entry<C>>) -> Result<bool, AllocError>
+        ensures had { IfOk result (λ had. had ≡ finite.contains_key (items_held self.old).patterns key.now) }
+        ensures patterns { OnOk result ((items_held self.new).patterns
+            ≡ finite.insert (items_held self.old).patterns key.now
+            entries.old.items) }
+        ensures exceptions { self.new.exceptions ≡ self.old.exceptions }
+        ensures begins { OnOk result (EachBeginsKey self.old.patterns → EachBeginsKey self.new.patterns) }
+    {
+        self.patterns.invariant();
+        let had = self.patterns.insert(key, entries)?;
+        self.patterns.invariant();
+        Ok(had)
+    }
+
+    /// Takes in a word with its listed breaks, in place of those that it had. Whether it had any.
+    fn add_exception(&mut self, word: String, listed: Vec<B>) -> Result<bool, AllocError>
+        ensures had { IfOk result (λ had. had
+            ≡ finite.contains_key (items_held self.old).exceptions (string_bytes word)) }
+        ensures exceptions { OnOk result ((items_held self.new).exceptions
+            ≡ finite.insert (items_held self.old).exceptions
+            (string_bytes word) listed.items) }
+        ensures patterns { self.new.patterns ≡ self.old.patterns }
+    {
+        let old = self.exceptions.insert(word, listed)?;
+        Ok(old.is_some())
+    }
+
+    /// Takes in what a line spells, and gives lists back that can be filled again. The cause, where an earlier line
+    /// spells its key or its word.
+    fn add(
+        &mut self,
+        item: Item<C, B>,
+        scratch: &mut Scratch<C>,
+    ) -> Result<Option<Cause>, AllocError>
+        ensures cause { IfOk result (λ cause. cause ≡ repeated_by (items_held self.old) item) }
+        ensures added { OnOk result (items_held self.new ≡ with_item (items_held self.old) item) }
+        ensures begins { OnOk result (EachBeginsKey self.old.patterns → EachBeginsKey self.new.patterns) }
+    {
+        match item {
+            Item::Nothing => Ok(None),
+            Item::Pattern { key, mut entries } => {
+                let had = self.add_pattern(&key, &mut entries)?;
+                scratch.key = key;
+                scratch.entries = entries;
+                Ok(had.then_some(Cause::RepeatedPattern))
+            }
+            Item::Exception { word, listed } => {
+                let had = self.add_exception(word, listed)?;
+                Ok(had.then_some(Cause::RepeatedException))
+            }
+        }
+    }
+}
+
+/// The item of the line of that number.
+fn item_at<C: Payload, B: Listing>(
+    alloc: Global,
+    form: Form,
+    number: usize,
+    line: &[u8],
+    known: bool,
+    scratch: &mut Scratch<C>,
+) -> Result<Item<C, B>, Refusal>
+    requires utf8 { known ≡ true → IsUtf8 line.now }
+    ensures passes { OnOk result (own_cause form number line.now ≡ None) }
+    ensures says { IfOk result (λ item. IsItemOf form.version C.payload_of B.listing_of item line.now) }
+    ensures refused { IfErr result (λ refusal. IsRefusal refusal (at_number number (own_cause form number line.now))) }
+{
+    match item_of(alloc, form, number, line, known, scratch) {
+        Ok(item) => Ok(item),
+        Err(Fault::Memory) => Err(Refusal::Memory),
+        Err(Fault::Fails(cause)) => Err(Refusal::Fault {
+            line: number,
+            cause,
+        }),
+    }
+}
+
+/// What the three head lines say.
+#[derive(Drop)]
+struct Head {
+    language: Language,
+    left: u8,
+    right: u8,
+}
+
+/// Judges line 1.
+fn read_first(form: Form, line: &[u8]) -> Result<(), Refusal>
+    ensures passes { OnOk result (before_item form 1 line.now ≡ None) }
+    ensures refused { IfErr result (λ refusal. IsRefusal refusal (at_number 1 (before_item form 1 line.now))) }
+{
+    if !is_utf8(line) {
+        return Err(Refusal::Fault {
+            line: 1,
+            cause: Cause::NotUtf8,
+        });
+    }
+    if !is_head(form, line) {
+        return Err(Refusal::Fault {
+            line: 1,
+            cause: Cause::Header,
+        });
+    }
+    Ok(())
+}
+
+/// The language of line 2.
+fn read_language(form: Form, line: &[u8]) -> Result<Language, Refusal>
+    ensures passes { OnOk result (before_item form 2 line.now ≡ None) }
+    ensures says { IfOk result (λ language. language_of line.now ≡ Some language) }
+    ensures refused { IfErr result (λ refusal. IsRefusal refusal (at_number 2 (before_item form 2 line.now))) }
+{
+    if !is_utf8(line) {
+        return Err(Refusal::Fault {
+            line: 2,
+            cause: Cause::NotUtf8,
+        });
+    }
+    match language_of(line) {
+        Some(language) => Ok(language),
+        None => Err(Refusal::Fault {
+            line: 2,
+            cause: Cause::Language,
+        }),
+    }
+}
+
+/// The minima of line 3.
+fn read_minima(alloc: Global, form: Form, line: &[u8]) -> Result<(u8, u8), Refusal>
+    ensures passes { OnOk result (before_item form 3 line.now ≡ None) }
+    ensures says { IfOk result (λ minima. minima_of line.now ≡ Some minima) }
+    ensures refused { IfErr result (λ refusal. IsRefusal refusal (at_number 3 (before_item form 3 line.now))) }
+{
+    if !is_utf8(line) {
+        return Err(Refusal::Fault {
+            line: 3,
+            cause: Cause::NotUtf8,
+        });
+    }
+    match minima_of(alloc, line)? {
+        Some(minima) => Ok(minima),
+        None => Err(Refusal::Fault {
+            line: 3,
+            cause: Cause::Minima,
+        }),
+    }
+}
+
+/// What the head lines say, or the first fault among them; a missing one is one.
+fn read_head(alloc: Global, form: Form, bytes: &[u8]) -> Result<Head, Refusal>
+    ensures says { IfOk result (λ head. HasHead form (lines_of bytes.now) head.language (head.left, head.right)) }
+    ensures refused { IfErr result (λ refusal. IsRefusal refusal (fault_after form [] (lines_of bytes.now))) }
+{
+    let Some((first, rest)) = next_line(bytes) else {
+        return Err(Refusal::Fault {
+            line: 1,
+            cause: Cause::Header,
+        });
+    };
+    read_first(form, first)?;
+    let Some((second, rest)) = next_line(rest) else {
+        return Err(Refusal::Fault {
+            line: 2,
+            cause: Cause::Language,
+        });
+    };
+    let language = read_language(form, second)?;
+    let Some((third, _)) = next_line(rest) else {
+        return Err(Refusal::Fault {
+            line: 3,
+            cause: Cause::Minima,
+        });
+    };
+    let (left, right) = read_minima(alloc, form, third)?;
+    Ok(Head {
+        language,
+        left,
+        right,
+    })
+}
+
+/// What stands after the three head lines.
+fn after_head(bytes: &[u8]) -> &[u8]
+    requires { 2 < length (lines_of bytes.now) }
+    ensures lines { drop 3 (lines_of bytes.now) ≡ lines_of result.now }
+    ensures utf8 { IsUtf8 bytes.now → IsUtf8 result.now }
+    ensures shorter { 3 + length result.now ≤ length bytes.now }
+{
+    let (_, rest) = next_line(bytes).unwrap();
+    let (_, rest) = next_line(rest).unwrap();
+    let (_, rest) = next_line(rest).unwrap();
+    rest
+}
+
+/// What the lines after the head spell together, or the first fault among them.
+fn read_lines<C: Payload, B: Listing>(
+    alloc: Global,
+    form: Form,
+    bytes: &[u8],
+) -> Result<Builder<C, B>, Refusal>
+    requires long { 2 < length (lines_of bytes.now) }
+    requires head { fault_after form [] (lines_of bytes.now)
+        ≡ fault_after form (take 3 (lines_of bytes.now)) (drop 3 (lines_of bytes.now)) }
+    requires idle { are_idle (take 3 (lines_of bytes.now)) ≡ true }
+    ensures accepted { OnOk result (fault_after form [] (lines_of bytes.now) ≡ None) }
+    ensures spelt { IfOk result (λ builder. items_held builder
+        ≡ items_of_lines form.version C.payload_of B.listing_of (lines_of bytes.now)) }
+    ensures begins { IfOk result (λ builder. EachBeginsKey builder.patterns) }
+    ensures refused { IfErr result (λ refusal. IsRefusal refusal (fault_after form [] (lines_of bytes.now))) }
+{
+    let mut builder = Builder::new(alloc, bytes.len())?;
+    let mut scratch = Scratch::new(alloc);
+    // Where the whole text is UTF-8, as it is wherever none is refused for that, so is each line, and none is tested.
+    let known = is_utf8(bytes);
+    let mut rest = after_head(bytes);
+    let mut count: usize = 3;
+    while let Some((line, after)) = next_line(rest) {
+        let item = item_at(alloc, form, count + 1, line, known, &mut scratch)?;
+        if let Some(cause) = builder.add(item, &mut scratch)? {
+            return Err(Refusal::Fault {
+                line: count + 1,
+                cause,
+            });
+        }
+        count += 1;
+        rest = after;
+    }
+    Ok(builder)
+}
+
+/// The dictionary of an accepted text: what its head lines say, and what all its lines spell.
+fn dictionary_of<C: Payload, B: Listing>(
+    alloc: Global,
+    form: Form,
+    bytes: &[u8],
+    head: Head,
+    builder: Builder<C, B>,
+) -> Result<Dictionary<C, B>, AllocError>
+    requires accepted { fault_after form [] (lines_of bytes.now) ≡ None }
+    requires head { HasHead form (lines_of bytes.now) head.language (head.left, head.right) }
+    requires spelt { items_held builder ≡ items_of_lines form.version C.payload_of B.listing_of (lines_of bytes.now) }
+    requires begins { EachBeginsKey builder.patterns }
+    ensures { IfOk result (λ dictionary. dictionary
+        ≡ contents_in form.version C.payload_of B.listing_of (lines_of bytes.now)) }
+{
+    let Builder {
+        patterns,
+        exceptions,
+    } = builder;
+    let patterns = patterns.freeze(alloc)?;
+    Ok(parts::dictionary_of(head.language, head.left, head.right, patterns, exceptions))
+}
+
+/// The form of a text of that kind: its first line says the version.
+fn form_of(kind: Kind, bytes: &[u8]) -> Form
+    ensures { result ≡ form_of kind (lines_of bytes.now) }
+{
+    let version = match next_line(bytes) {
+        Some((line, _)) => version_by(kind, line),
+        None => Version::First,
+    };
+    Form { kind, version }
+}
+
+/// Reads a dictionary from its text of a kind, in either version, looking at each line once. A refusal names the
+/// first line that fails a test, and the first test that it fails; one for want of memory says nothing of the text.
+/// The kind is to be that of the dictionary that is made: of another one changes are refused, or dropped.
+pub fn read_text<C: Payload, B: Listing>(
+    alloc: Global,
+    kind: Kind,
+    bytes: &[u8],
+) -> Result<Dictionary<C, B>, Refusal>
+    ensures accepted { OnOk result (refusal_of kind bytes.now ≡ None) }
+    ensures contents { IfOk result (λ d. d ≡ contents_of kind C.payload_of B.listing_of (lines_of bytes.now)) }
+    ensures refused { IfErr result (λ refusal. IsRefusal refusal (refusal_of kind bytes.now)) }
+{
+    let form = form_of(kind, bytes);
+    let head = read_head(alloc, form, bytes)?;
+    let builder = read_lines(alloc, form, bytes)?;
+    Ok(dictionary_of(alloc, form, bytes, head, builder)?)
+}
+
+/// Reads a standard dictionary.
+pub fn read_standard(alloc: Global, bytes: &[u8]) -> Result<Standard, Refusal>
+    ensures accepted { OnOk result (refusal_of Kind.Standard bytes.now ≡ None) }
+    ensures contents { IfOk result (λ d. d ≡ standard_contents bytes.now) }
+    ensures refused { IfErr result (λ refusal. IsRefusal refusal (refusal_of Kind.Standard bytes.now)) }
+{
+    read_text(alloc, Kind::Standard, bytes)
+}
+
+/// Reads an extended dictionary.
+pub fn read_extended(alloc: Global, bytes: &[u8]) -> Result<Extended, Refusal>
+    ensures accepted { OnOk result (refusal_of Kind.Extended bytes.now ≡ None) }
+    ensures contents { IfOk result (λ d. d ≡ extended_contents bytes.now) }
+    ensures refused { IfErr result (λ refusal. IsRefusal refusal (refusal_of Kind.Extended bytes.now)) }
+{
+    read_text(alloc, Kind::Extended, bytes)
+}

@@ -1,0 +1,210 @@
+//! A trie that grows: keys with their entries are put in, one after another.
+
+ghost use Rattle.std.specs.Prelude.{◌≡◌, ◌≢◌, ◌+◌, ◌<◌, ◌++◌, [], ◌∷◌, ℕ, List, length, None, Some, IfOk, OnOk, OnErr, if◌then◌else◌, nat_eq, is_some, IfSome, IfNone};
+ghost use Rattle.std.specs.Cmp.Lexicographic.{pointwise};
+ghost use Rattle.hyphenation_trie.specs.Trie.{node_text, entries_of_key, IsTrie, AddsFront, KeepsNodes, EachBeginsKey};
+ghost use Rattle.hyphenation_trie.specs.Private.Trie.{with_child, Grows, with_entries};
+
+use crate::chains::Chains;
+use crate::in_32_bits;
+use crate::state::{Span, State};
+use std::alloc::{AllocError, Global};
+use std::fmt;
+use std::marker::Model;
+
+/// Keys, each with its entries.
+#[derive(Drop)]
+pub struct Trie<E> {
+    /// The parent of each node, and the byte that leads from it to the node. The root comes first, with 0 for both, and
+    /// each other node is later than its parent.
+    pub(crate) parents: Vec<u32>,
+    pub(crate) bytes: Vec<u8>,
+    /// What a search asks of each node. As yet it is known where its entries stand, and no more.
+    pub(crate) states: Vec<State>,
+    /// The entries of all keys, in one list, so that a key costs no allocation of its own. Those that a key had
+    /// before it was given others stay here, unused.
+    pub(crate) entries: Vec<E>,
+    /// The children of each node. In a text whose keys stand in order the child that is asked for is the last one or
+    /// new.
+    pub(crate) children: Chains,
+}
+
+impl<E> Model for Trie<E> {
+    ghost use Rattle.std.specs.Prelude.{map, length};
+    ghost use Rattle.hyphenation_trie.specs.Trie.{Tree};
+    ghost use Rattle.hyphenation_trie.specs.Private.States.{froms_by, span_in, IsHeld};
+    ghost use Rattle.hyphenation_trie.specs.Private.Trie.{tree_of};
+
+    ghost Value = { Tree E };
+
+    ghost view = { λ t. tree_of (froms_by t.parents.items t.bytes.items) (map span_in t.states.items) t.entries.items };
+
+    ghost invariant = { λ t.
+        IsHeld t.parents.items t.bytes.items t.states.items t.children.last.items t.children.before.items
+        (length t.entries.items) };
+}
+
+impl<E: Drop> Trie<E> {
+    /// The trie of no key: the root alone. The only error is memory.
+    pub fn new(alloc: Global) -> Result<Self, AllocError>
+        ensures { IfOk result (λ trie. trie ≡ record { texts = [] ∷ []; entries = None ∷ [] }) }
+    {
+        Self::with_room(alloc, 0)
+    }
+
+    /// The trie of no key, with room for so many nodes. The only error is memory.
+    ///
+    /// Room that is not used costs addresses and no memory. It saves the copies that growing makes.
+    pub fn with_room(alloc: Global, nodes: usize) -> Result<Self, AllocError>
+        ensures { IfOk result (λ trie. trie ≡ record { texts = [] ∷ []; entries = None ∷ [] }) }
+    {
+        let children = Chains::with_room(alloc, nodes)?;
+        let mut parents = Vec::with_capacity(alloc, nodes)?;
+        let mut bytes = Vec::with_capacity(alloc, nodes)?;
+        let mut states = Vec::with_capacity(alloc, nodes)?;
+        let entries = Vec::with_capacity(alloc, nodes)?;
+        parents.push(0)?;
+        bytes.push(0)?;
+        states.push(State::bare())?;
+        Ok(Trie {
+            parents,
+            bytes,
+            states,
+            entries,
+            children,
+        })
+    }
+
+    /// Moves these entries to a key, in place of those that it had. Whether it was a key.
+    ///
+    /// No other key changes, and the list is empty then and can be filled again. The only error is memory, and then
+    /// each key and the list are as before.
+    pub fn insert(&mut self, key: &[u8], entries: &mut Vec<E>) -> Result<bool, AllocError>
+        ensures ok { OnOk result ((q : List ℕ) → entries_of_key self.new q ≡
+            (if pointwise nat_eq key.now q then Some entries.old.items else entries_of_key self.old q)) }
+        ensures had { IfOk result (λ had. had ≡ is_some (entries_of_key self.old key.now)) }
+        ensures moved { OnOk result (entries.new.items ≡ []) }
+        ensures begins { OnOk result (EachBeginsKey self.old → EachBeginsKey self.new) }
+        ensures err { OnErr result ((q : List ℕ) → entries_of_key self.new q ≡ entries_of_key self.old q) }
+        ensures unmoved { OnErr result (entries.new.items ≡ entries.old.items) }
+        ensures adds { AddsFront self.old self.new key.now }
+        ensures nodes { KeepsNodes self.old self.new }
+    {
+        let node = self.path(key)?;
+        self.invariant();
+        let had = self.set_entries(node, entries)?;
+        Ok(had)
+    }
+
+    /// What is true of each trie, for a proof. The call does nothing.
+    pub fn invariant(&self)
+        ensures { IsTrie self.now }
+    {
+        // The look at a field opens what the type holds.
+        let _nodes = &self.states;
+    }
+
+    /// The root: the node of the empty text.
+    fn root(&self) -> u32
+        ensures root { result ≡ 0 }
+        ensures node { result < length self.now.texts }
+        ensures text { node_text self.now result ≡ [] }
+    {
+        self.invariant();
+        0
+    }
+
+    /// The child of a node at a byte.
+    fn child_of(&self, node: u32, byte: u8) -> Option<u32>
+        requires { node < length self.now.texts }
+        ensures found { IfSome result (λ j.
+            (j < length self.now.texts) × (node_text self.now j ≡ node_text self.now node ++ byte ∷ [])) }
+        ensures none { IfNone result ((j : ℕ) → j < length self.now.texts
+            → node_text self.now j ≢ node_text self.now node
+            ++ byte ∷ []) }
+    {
+        let mut child = self.children.last[node as usize];
+        while child != 0 {
+            if self.bytes[child as usize] == byte {
+                return Some(child);
+            }
+            child = self.children.before[child as usize];
+        }
+        None
+    }
+
+    /// A new child of a node.
+    fn grow(&mut self, node: u32, byte: u8) -> Result<u32, AllocError>
+        requires node { node < length self.old.texts }
+        requires absent { (j : ℕ) → j < length self.old.texts
+            → node_text self.old j ≢ node_text self.old node ++ byte ∷ [] }
+        ensures ok { IfOk result (λ j. (j ≡ length self.old.texts) × (self.new ≡ with_child self.old node byte)) }
+        ensures err { OnErr result (self.new ≡ self.old) }
+    {
+        let count = self.states.len();
+        if count > u32::MAX as usize {
+            return Err(AllocError);
+        }
+        let child = count as u32;
+        // Room first, so that no chain has a node that is then refused.
+        self.parents.reserve(1)?;
+        self.bytes.reserve(1)?;
+        self.states.reserve(1)?;
+        self.children.add(node as usize, child)?;
+        self.parents.push(node).unwrap();
+        self.bytes.push(byte).unwrap();
+        self.states.push(State::bare()).unwrap();
+        Ok(child)
+    }
+
+    /// The child of a node at a byte, made where there is none.
+    fn step(&mut self, node: u32, byte: u8) -> Result<u32, AllocError>
+        requires { node < length self.old.texts }
+        ensures ok { IfOk result (λ j.
+            (j < length self.new.texts) × (node_text self.new j ≡ node_text self.old node ++ byte ∷ [])) }
+        ensures grows { Grows self.old self.new (node_text self.old node ++ byte ∷ []) }
+    {
+        match self.child_of(node, byte) {
+            Some(child) => Ok(child),
+            None => self.grow(node, byte),
+        }
+    }
+
+    /// The node of a text, made where there is none.
+    fn path(&mut self, text: &[u8]) -> Result<u32, AllocError>
+        ensures ok { IfOk result (λ j. (j < length self.new.texts) × (node_text self.new j ≡ text.now)) }
+        ensures keys { (q : List ℕ) → entries_of_key self.new q ≡ entries_of_key self.old q }
+        ensures adds { AddsFront self.old self.new text.now }
+        ensures nodes { KeepsNodes self.old self.new }
+    {
+        let mut node = self.root();
+        for byte in text {
+            self.invariant();
+            node = self.step(node, *byte)?;
+        }
+        Ok(node)
+    }
+
+    /// Moves these entries to a node, in place of those that it had. Whether it had any.
+    fn set_entries(&mut self, node: u32, entries: &mut Vec<E>) -> Result<bool, AllocError>
+        requires { node < length self.old.texts }
+        ensures set { OnOk result (self.new ≡ with_entries self.old node entries.old.items) }
+        ensures had { IfOk result (λ had. had ≡ is_some (entries_of_key self.old (node_text self.old node))) }
+        ensures moved { OnOk result (entries.new.items ≡ []) }
+        ensures err { OnErr result (self.new ≡ self.old) }
+        ensures unmoved { OnErr result (entries.new.items ≡ entries.old.items) }
+    {
+        let start = in_32_bits(self.entries.len())?;
+        let count = in_32_bits(entries.len())?;
+        self.entries.append(entries)?;
+        Ok(self.states[node as usize].set_span(Span { start, count }))
+    }
+}
+
+impl<E> fmt::Debug for Trie<E> {
+    fn fmt<W: fmt::Write>(&self, f: &mut fmt::Formatter<W>) -> fmt::Result {
+        f.debug_struct("Trie")
+            .field("nodes", &self.states.len())
+            .finish()
+    }
+}

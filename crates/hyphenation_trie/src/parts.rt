@@ -1,0 +1,18 @@
+//! What a trie is made of, for the crates that write dictionary texts. No search calls this, and no crate exports it to
+//! users: a search comes to the entries of a key by the counted calls of [`Automaton`] alone.
+
+ghost use Rattle.std.specs.Prelude.{◌≡◌, IfOk};
+ghost use Rattle.hyphenation_trie.specs.Keys.{pairs_of, key_views};
+
+use crate::Automaton;
+use std::alloc::{AllocError, Global};
+
+/// The keys of a trie, each with its entries, in no order that means anything. The only error is memory.
+pub fn keys_of<E: Drop>(
+    automaton: &Automaton<E>,
+    alloc: Global,
+) -> Result<Vec<(Vec<u8>, &[E])>, AllocError>
+    ensures { IfOk result (λ keys. key_views keys.items ≡ pairs_of automaton.now.texts automaton.now.entries) }
+{
+    automaton.trie.keys(alloc)
+}

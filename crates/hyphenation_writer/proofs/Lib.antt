@@ -1,0 +1,12 @@
+pub mod HoldsExactly
+pub mod PatternElements
+pub mod TextMapOrder
+pub mod CanonicalTokens
+pub mod Decimals
+pub mod SpelledBytes
+pub mod SpelledUtf8
+pub mod CanonicalLaterTokens
+pub mod CanonicalLines
+pub mod CanonicalAccepted
+pub mod CanonicalRead
+pub mod LeastVersion

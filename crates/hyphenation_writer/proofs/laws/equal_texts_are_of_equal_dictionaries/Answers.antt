@@ -1,0 +1,11 @@
+use Rattle.std.proofs.Common.{ap, ◌∙◌, sym}
+use Rattle.hyphenation_grammar.specs.Lines.{lines_of}
+use Rattle.hyphenation_grammar.specs.Reading.{contents_of}
+use Rattle.hyphenation_writer.proofs.CanonicalRead.{canonical-contents}
+use Rattle.hyphenation_writer.proofs.laws.equal_texts_are_of_equal_dictionaries.Goals as goal
+
+pub returns : goal.returns
+returns g c = λ kind payload_of listing_of change_of break_of contents others exact kept other same.
+    sym (canonical-contents kind payload_of listing_of change_of break_of exact contents kept)
+    ∙ ap (λ text. contents_of kind payload_of listing_of (lines_of text)) same
+    ∙ canonical-contents kind payload_of listing_of change_of break_of exact others other

@@ -1,0 +1,176 @@
+-- A text with the breaks that a dictionary finds in its pieces, from its start to its end.
+use Rattle.std.proofs.Common.{◌≡◌, ℕ, zero, suc, ◌+◌, ◌-◌, ◌<◌, ◌≤◌, ◌==◌, nat_lt, Bool, true, false, cond, List, [], ◌∷◌, ◌++◌, length, map, drop, get_or, chars, slice_range, refl, sym, ap, subst, ◌∙◌, arith, inl, inr}
+use Rattle.std.specs.List.{flat_map, All, concat}
+use Rattle.std.specs.Str.{IsUtf8, IsCharBoundary}
+use Rattle.std.proofs.lemmas.Bool.{false_from_ne_true, cases_lt, or_cases, or_left, false≢true, eqb-true, leb-true}
+use Rattle.std.proofs.lemmas.List.{drop_all, get_or-drop}
+use Rattle.std.proofs.lemmas.List.Edits.{get_or-between}
+use Rattle.std.proofs.lemmas.List.Elements.{All-nil, All-cons, All-head, All-tail}
+use Rattle.std.proofs.lemmas.List.Folds.{list_any-append, drop_split}
+use Rattle.std.proofs.lemmas.Str.{IsCharBoundary-start, IsUtf8-between}
+use Rattle.hyphenation_breaks.specs.Break.{Break, plain_break}
+use Rattle.hyphenation_hyphenator.specs.Opportunities.{Ascending}
+use Rattle.hyphenation_hyphenator.proofs.Ascending.{Ascend, ascend_from_test}
+use Rattle.unicode_segmentation.specs.Segments.{with_offsets}
+use Rattle.unicode_segmentation.specs.Word.{is_word_break, word_bounds}
+use Rattle.unicode_segmentation.proofs.SegmentsLemmas.{IsPieceOf, All-IsPieceOf}
+use Rattle.line_filling.specs.Cuts.{is_in, breaks_in, word_breaks, is_plain, is_cut, cuts_after}
+use Rattle.line_filling.specs.Ends.{EachFits, AreEnds}
+use Rattle.line_filling.specs.Lines.{line, width, fits, line_ends, lines_to, parts_to, DividesFitting}
+use Rattle.line_filling.specs.Private.Filling.{State, remaining_ends, all_lines}
+use Rattle.line_filling.specs.Private.WordBreaks.{in_hand, remaining_pieces, Rise, Follow, IsSmall, HasBreaksAfter}
+use Rattle.line_filling.specs.declared.word_breaks.WordBreaks.{WordBreaks}
+use Rattle.line_filling.proofs.Division.{Shortens, stays_ahead, are_ends}
+use Rattle.line_filling.proofs.CutRows.{row_end, row_is}
+use Rattle.line_filling.proofs.FillWalk.{IsSound, end_is_cut, cut_boundary}
+use Rattle.line_filling.proofs.Widths.{shorter}
+
+-- Of each word the breaks ascend strictly, on its character boundaries.
+abbrev pub AreAscending : (List ℕ → List Break) → Type 0
+AreAscending breaks_of = (word : List ℕ) → IsUtf8 word → Ascending word (breaks_of word)
+
+-- ---- the breaks of one piece
+
+in_piece : (text : List ℕ) (x : ℕ × List ℕ) (b : ℕ) → IsPieceOf text x → IsCharBoundary x.1 b → IsCharBoundary text (x.0 + b)
+in_piece text x b is at =
+    elim (cases_lt b (length x.1)) [
+      | inr last ↦ subst (λ n. IsCharBoundary text (x.0 + n)) (omega (arith, at.0)) is.end
+      | inl lt ↦
+          let same : get_or x.1 b 0 ≡ get_or text (x.0 + b) 0 = ap (λ s. get_or s b 0) is.bytes ∙ get_or-between text x.0 (x.0 + length x.1) b 0 (omega arith) in
+          (omega (arith, is.end.0), λ _ high. omega (arith, at.1 lt (omega (arith, same)), same))
+    ]
+
+piece_utf8 : (text : List ℕ) (x : ℕ × List ℕ) → IsUtf8 text → IsPieceOf text x → IsUtf8 x.1
+piece_utf8 text x u is = subst IsUtf8 (sym is.bytes) (IsUtf8-between text x.0 (x.0 + length x.1) u (omega arith) is.start is.end)
+
+placed_boundary : (text : List ℕ) (x : ℕ × List ℕ) (least p : ℕ) (bs : List Break) → IsPieceOf text x → Ascend x.1 least (map (λ b. b.place) bs) → is_in p (map (λ b. x.0 + b.place) bs) ≡ true → IsCharBoundary text p
+placed_boundary text x least p [] is a i = absurd (false≢true i)
+placed_boundary text x least p (b ∷ bs) is a i =
+    elim (or_cases (p == (x.0 + b.place)) (is_in p (map (λ c. x.0 + c.place) bs)) i) [
+      | inl same ↦ subst (IsCharBoundary text) (sym (eqb-true p (x.0 + b.place) same)) (in_piece text x b.place is a.1)
+      | inr later ↦ placed_boundary text x (b.place + 1) p bs is a.2 later
+    ]
+
+piece_rises : (x : ℕ × List ℕ) (least from : ℕ) (bs : List Break) → from ≤ x.0 + least → from ≤ x.0 + length x.1 → Ascend x.1 least (map (λ b. b.place) bs) → Rise from (x.0 + length x.1) (map (λ b. x.0 + b.place) bs)
+piece_rises x least from [] e top a = top
+piece_rises x least from (b ∷ bs) e top a = (omega (arith, a.0, e), piece_rises x (b.place + 1) (x.0 + b.place) bs (omega arith) (omega (arith, a.1.0)) a.2)
+
+pub placed : (offset : ℕ) (bs : List ℕ) → map (λ b. offset + b) bs ≡ map (λ b. offset + b.place) (map plain_break bs)
+placed offset [] = refl
+placed offset (b ∷ bs) = ap (λ ps. (offset + b) ∷ ps) (placed offset bs)
+
+-- ---- the pieces of a text
+
+-- Each piece begins and ends between characters of the text, and is the text between.
+abbrev pub ArePieces : List ℕ → List (ℕ × List ℕ) → Type 0
+ArePieces text [] = Unit {0}
+ArePieces text (x ∷ xs) = IsPieceOf text x × ArePieces text xs
+
+are_pieces : (text : List ℕ) (xs : List (ℕ × List ℕ)) → All (IsPieceOf text) xs → ArePieces text xs
+are_pieces text [] all = tt
+are_pieces text (x ∷ xs) all = (All-head (IsPieceOf text) x xs all, are_pieces text xs (All-tail (IsPieceOf text) x xs all))
+
+all_pieces : (text : List ℕ) → IsUtf8 text → ArePieces text (with_offsets 0 (word_bounds text))
+all_pieces text u = are_pieces text (with_offsets 0 (word_bounds text)) (All-IsPieceOf is_word_break text u)
+
+follow : (breaks_of : List ℕ → List Break) (text : List ℕ) (at : ℕ) (ps : List (List ℕ)) → IsUtf8 text → AreAscending breaks_of → at ≤ length text → ArePieces text (with_offsets at ps) → Follow breaks_of at (length text) (with_offsets at ps)
+unfolding with_offsets
+follow breaks_of text at [] u ascend within are = within
+follow breaks_of text at (p ∷ ps) u ascend within are =
+    let x : ℕ × List ℕ = (at, p) in (
+      omega arith,
+      piece_rises x 0 at (breaks_of p) (omega arith) (omega arith) (ascend_from_test p 0 (map (λ b. b.place) (breaks_of p)) (ascend p (piece_utf8 text x u are.0))),
+      follow breaks_of text (at + length p) ps u ascend are.0.end.0 are.1,
+    )
+
+in_some_piece : (breaks_of : List ℕ → List Break) (text : List ℕ) (xs : List (ℕ × List ℕ)) (p : ℕ) → IsUtf8 text → AreAscending breaks_of → ArePieces text xs → is_in p (flat_map (breaks_in breaks_of) xs) ≡ true → IsCharBoundary text p
+in_some_piece breaks_of text [] p u ascend are i = absurd (false≢true i)
+in_some_piece breaks_of text (x ∷ xs) p u ascend are i =
+    let here = breaks_in breaks_of x in
+    let rest = flat_map (breaks_in breaks_of) xs in
+    elim (or_cases (is_in p here) (is_in p rest) (sym (list_any-append (λ b. p == b) here rest) ∙ i)) [
+      | inl first ↦ placed_boundary text x 0 p (breaks_of x.1) are.0 (ascend_from_test x.1 0 (map (λ b. b.place) (breaks_of x.1)) (ascend x.1 (piece_utf8 text x u are.0))) first
+      | inr later ↦ in_some_piece breaks_of text xs p u ascend are.1 later
+    ]
+
+pub sound : (breaks_of : List ℕ → List Break) (text : List ℕ) → IsUtf8 text → AreAscending breaks_of → IsSound text (word_breaks breaks_of text)
+sound breaks_of text u ascend = record { utf8 = u; boundary = λ p i. in_some_piece breaks_of text (with_offsets 0 (word_bounds text)) p u ascend (all_pieces text u) i }
+
+-- All breaks of a text are to come at its start.
+pub at_start : (breaks_of : List ℕ → List Break) (text : List ℕ) (b : WordBreaks) → IsUtf8 text → AreAscending breaks_of → IsSmall (length text) → in_hand b ≡ [] → remaining_pieces b ≡ with_offsets 0 (word_bounds text) → b.reached ≡ 0 → HasBreaksAfter breaks_of text 0 b
+at_start breaks_of text b u ascend small hand pieces reached =
+    record {
+      order = record {
+        end = length text;
+        small = small;
+        hand = subst (Rise 0 b.reached) (sym hand) (omega arith);
+        pieces = subst (λ at. Follow breaks_of at (length text) (remaining_pieces b)) (sym reached) (subst (Follow breaks_of 0 (length text)) (sym pieces) (follow breaks_of text 0 (word_bounds text) u ascend (omega arith) (all_pieces text u)));
+      };
+      stay = λ p lt. ap (λ ps. is_in p (ps ++ flat_map (breaks_in breaks_of) (remaining_pieces b))) hand ∙ ap (λ xs. is_in p (flat_map (breaks_in breaks_of) xs)) pieces;
+    }
+
+pub after_later : (breaks_of : List ℕ → List Break) (text : List ℕ) (from later : ℕ) (b : WordBreaks) → from ≤ later → HasBreaksAfter breaks_of text from b → HasBreaksAfter breaks_of text later b
+after_later breaks_of text from later b le h = record { order = h.order; stay = λ p lt. h.stay p (omega arith) }
+
+pub plain_boundary : (text : List ℕ) (place : ℕ) → IsUtf8 text → 0 < place → is_plain text place ≡ true → IsCharBoundary text place
+plain_boundary text place u some plain_break = cut_boundary text 0 [] place (record { utf8 = u; boundary = λ p i. absurd (false≢true i) }) some (or_left (is_plain text place) (is_in place []) plain_break)
+
+-- Where no byte is a space, no place after it is plain, but the end of the text.
+pub not_plain : (text : List ℕ) (from n : ℕ) → ((k : ℕ) → k < n → get_or (drop from text) k 0 ≡ 32 → ⊥) → (p : ℕ) → from < p → p < from + n + 1 → p < length text → is_plain text p ≡ false
+not_plain text from n none p l u v =
+    let k = p - 1 - from in
+    let at : from + k ≡ p - 1 = omega arith in
+    let byte : get_or text (p - 1) 0 ≡ 32 → ⊥ = λ e. none k (omega arith) (get_or-drop from text k 0 ∙ ap (λ i. get_or text i 0) at ∙ e) in
+    false_from_ne_true (is_plain text p) (λ h. elim (or_cases (get_or text (p - 1) 0 == 32) (p == length text) h) [
+      | inl e ↦ byte (eqb-true (get_or text (p - 1) 0) 32 e)
+      | inr e ↦ omega (arith, eqb-true p (length text) e)
+    ])
+
+-- At the end of the text the last line is left.
+pub owed_at_end : (text : List ℕ) (columns : ℕ) (breaks : List ℕ) (s : State) → s.end ≡ length text → all_lines text columns breaks s ≡ s.done ++ cond (nat_lt s.start s.end) (line text s.start s.end ∷ []) []
+owed_at_end text columns breaks s e =
+    ap (λ cs. s.done ++ lines_to text s.start (remaining_ends (fits text columns) s.start s.end cs)) (ap (cuts_after text breaks) e ∙ row_end (is_cut text breaks) (length text))
+    ∙ ap (λ xs. s.done ++ xs) (elim (nat_lt s.start s.end) as (λ b. lines_to text s.start (cond b (s.end ∷ []) []) ≡ cond b (line text s.start s.end ∷ []) []) [ true ↦ refl | false ↦ refl ])
+
+-- ---- the laws
+
+any_cut_boundary : (text : List ℕ) (columns : ℕ) (breaks : List ℕ) (p : ℕ) → IsSound text breaks → is_cut text breaks p ≡ true → IsCharBoundary text p
+any_cut_boundary text columns breaks zero good cut = IsCharBoundary-start text good.utf8
+any_cut_boundary text columns breaks (suc p) good cut = cut_boundary text columns breaks (suc p) good (omega arith) cut
+
+pub fewest : (text : List ℕ) (columns : ℕ) (breaks row_of : List ℕ) → IsSound text breaks → DividesFitting text columns breaks row_of
+    → (length (line_ends text columns breaks) ≤ length row_of) × EachFits (fits text columns) 0 (line_ends text columns breaks)
+fewest text columns breaks row_of good d =
+    let test = is_cut text breaks in
+    let n = length text in
+    let start = IsCharBoundary-start text good.utf8 in
+    let laws : Shortens (IsCharBoundary text) test (fits text columns) n =
+    record {
+      starts = λ c cut. any_cut_boundary text columns breaks c good cut;
+      shorter = λ a b c at bt ab bc cut f. shorter text columns a b c good.utf8 ab bc at bt (any_cut_boundary text columns breaks c good cut) f;
+    } in
+    stays_ahead (IsCharBoundary text) test (fits text columns) n 0 0 0 (cuts_after text breaks 0) row_of laws start start (omega arith) (omega arith) (row_is test n 0 (omega arith) (end_is_cut text columns breaks)) (inl refl) d.0 d.1
+
+pub right_ends : (text : List ℕ) (columns : ℕ) (breaks : List ℕ) → IsSound text breaks → AreEnds (is_cut text breaks) (fits text columns) (length text) 0 (line_ends text columns breaks)
+right_ends text columns breaks good =
+    are_ends (IsCharBoundary text) (is_cut text breaks) (fits text columns) (length text) 0 0 (cuts_after text breaks 0) (λ p cut. (any_cut_boundary text columns breaks p good cut).0) (omega arith)
+    (row_is (is_cut text breaks) (length text) 0 (omega arith) (end_is_cut text columns breaks)) (inl refl)
+
+pub count_lines : (text : List ℕ) (start : ℕ) (es : List ℕ) → length (lines_to text start es) ≡ length es
+count_lines text start [] = refl
+count_lines text start (e ∷ es) = ap suc (count_lines text e es)
+
+pub narrow_lines : (text : List ℕ) (columns start : ℕ) (es : List ℕ) → EachFits (fits text columns) start es → All (λ line. length (chars line) ≤ columns) (lines_to text start es)
+narrow_lines text columns start [] f = All-nil (λ line. length (chars line) ≤ columns)
+narrow_lines text columns start (e ∷ es) f =
+    All-cons (λ line. length (chars line) ≤ columns) (line text start e) (lines_to text e es) (leb-true (width text start e) columns f.0) (narrow_lines text columns e es f.1)
+
+parts_join : (test : ℕ → Bool) (line_fits : ℕ → ℕ → Bool) (text : List ℕ) (start : ℕ) (es : List ℕ) → AreEnds test line_fits (length text) start es → concat (parts_to text start es) ≡ drop start text
+parts_join test line_fits text start [] h = sym (drop_all start text (omega (arith, h)))
+parts_join test line_fits text start (e ∷ es) h =
+    let after : start ≤ e = elim h.0 [ inl g ↦ omega (arith, g.after) | inr l ↦ omega (arith, l.after) ] in
+    ap (λ s. slice_range text start e ++ s) (parts_join test line_fits text e es h.1) ∙ sym (drop_split text start e after)
+
+-- Without their marks the lines join to the text.
+pub join_to_text : (text : List ℕ) (columns : ℕ) (breaks : List ℕ) → IsSound text breaks → concat (parts_to text 0 (line_ends text columns breaks)) ≡ text
+join_to_text text columns breaks good = parts_join (is_cut text breaks) (fits text columns) text 0 (line_ends text columns breaks) (right_ends text columns breaks good)

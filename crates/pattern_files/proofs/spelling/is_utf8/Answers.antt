@@ -1,6 +1,0 @@
-use Rattle.std.proofs.Common.{◌∙◌}
-use Rattle.dictionary_text.proofs.Utf8.{tells}
-use Rattle.pattern_files.proofs.spelling.is_utf8.Goals as goal
-
-pub returns : goal.returns
-returns c = c.is_ok.ensures.value ∙ tells c.from_utf8.result c.args.bytes.now _ _ c.from_utf8.ensures.cases
