@@ -4,8 +4,7 @@
 
 ghost use Rattle.std.specs.Prelude.{◌≡◌, ◌≢◌};
 ghost use Rattle.std.specs.IoError.{error_kind};
-ghost use Rattle.hyphenation.specs.Engine.{BeforeWriting};
-ghost use Rattle.hyphenation.specs.Private.Engine.{IsUnwritten};
+ghost use Rattle.hyphenation.specs.Engine.{BeforeWriting, IsUnwritten};
 ghost use Rattle.command_line.specs.Statuses.{BeforeOutput};
 ghost use Rattle.hyphenate_command.specs.Private.Statuses.{status_of};
 

@@ -60,6 +60,15 @@ BeforeWriting (Err (Input e)) P = P
 BeforeWriting (Err (Output e)) P = Unit {0}
 BeforeWriting (Err Memory) P = P
 
+-- A run that is refused other than by its writing.
+abbrev pub IsUnwritten : RunError → Type 0
+IsUnwritten (Dictionary e) = Unit {0}
+IsUnwritten (Edit number) = Unit {0}
+IsUnwritten TextNotUtf8 = Unit {0}
+IsUnwritten (Input e) = Unit {0}
+IsUnwritten (Output e) = ⊥
+IsUnwritten Memory = Unit {0}
+
 -- What a fault of loading makes of a run.
 abbrev pub run_error : Error → RunError
 run_error (Deserialization line cause) = Dictionary (Deserialization line cause)

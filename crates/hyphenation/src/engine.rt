@@ -6,8 +6,8 @@ ghost use Rattle.std.specs.Io.KnownBytes.{Appends};
 ghost use Rattle.hyphenation_breaks.specs.Dictionary.{entries_of_keys};
 ghost use Rattle.hyphenation_grammar.specs.Judging.{refusal_of};
 ghost use Rattle.hyphenation_score.specs.Scoring.{values};
-ghost use Rattle.hyphenation.specs.Engine.{score_line, values_by, breaks_by, IsOfScore, JudgesDictionary, JudgesEdits, JudgesText, BeforeReading, BeforeWriting, HoldsNoWant};
-ghost use Rattle.hyphenation.specs.Private.Engine.{space_before, IsUnwritten};
+ghost use Rattle.hyphenation.specs.Engine.{score_line, values_by, breaks_by, IsOfScore, JudgesDictionary, JudgesEdits, JudgesText, BeforeReading, BeforeWriting, HoldsNoWant, IsUnwritten};
+ghost use Rattle.hyphenation.specs.Private.Engine.{space_before};
 ghost use Rattle.hyphenation_hyphenator.specs.Hyphenated.{hyphenated_text};
 
 mod whole;

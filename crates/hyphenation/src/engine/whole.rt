@@ -7,8 +7,8 @@ ghost use Rattle.std.specs.String.{string_bytes};
 ghost use Rattle.hyphenation_breaks.specs.Break.{Break};
 ghost use Rattle.hyphenation_reader.specs.Edits.{is_good_edit};
 ghost use Rattle.hyphenation_grammar.specs.Judging.{refusal_of};
-ghost use Rattle.hyphenation.specs.Engine.{BeforeReading, IsOfInput, IsOfText, JudgesDictionary, JudgesEdits, JudgesText, HoldsNoWant, language_in};
-ghost use Rattle.hyphenation.specs.Private.Engine.{IsOfEdits, IsUnwritten};
+ghost use Rattle.hyphenation.specs.Engine.{BeforeReading, IsOfInput, IsOfText, JudgesDictionary, JudgesEdits, JudgesText, HoldsNoWant, IsUnwritten, language_in};
+ghost use Rattle.hyphenation.specs.Private.Engine.{IsOfEdits};
 ghost use Rattle.hyphenation_hyphenator.specs.Hyphenated.{hyphenated_text};
 ghost use Rattle.hyphenation_load.specs.Load.{ReadsIn, IsNoWant};
 
