@@ -10,6 +10,7 @@ use Rattle.std.proofs.lemmas.List.{append-nil}
 use Rattle.hyphenation_breaks.specs.Break.{Change}
 use Rattle.hyphenation_breaks.specs.Dictionary.{Patterns}
 use Rattle.hyphenation_trie.specs.Links.{EndsWith, IsLongest, IsReport}
+use Rattle.hyphenation_trie.specs.Laws.{KeysHaveNodes}
 use Rattle.hyphenation_trie.specs.Trie.{Tree, node_text, entries_of_key}
 use Rattle.hyphenation_breaks.specs.declared.entry.Entry.{Entry}
 use Rattle.hyphenation_score.specs.Private.OnePass.{entries_of_end, entries_of_ends}
@@ -77,10 +78,10 @@ module _ {C : Type 0} (change_of : C → Option Change) where
   NoneTo tree word most = (p end : ℕ) → 1 ≤ end → end ≤ most → carry_change change_of (ending_at (entries_of_key tree) (frame word) p end) ≡ false
 
   -- One byte more.
-  pub none_to_more : (tree : Tree (Entry C)) (word : List ℕ) (at node : ℕ) → at + 1 ≤ length (frame word) → IsLongest tree.texts (take (at + 1) (frame word)) node → NoneTo tree word at
+  pub none_to_more : (tree : Tree (Entry C)) → KeysHaveNodes (Entry C) → (word : List ℕ) (at node : ℕ) → at + 1 ≤ length (frame word) → IsLongest tree.texts (take (at + 1) (frame word)) node → NoneTo tree word at
       → ((p : ℕ) → carry_change change_of (entries_of_ends (entries_of_key tree) (node_text tree node) (at + 1) p) ≡ false) → NoneTo tree word (at + 1)
-  none_to_more tree word at node within longest before here = λ p end low high. elim (cases_eq end (at + 1)) [
-    | inl is ↦ ap (λ (e : ℕ). carry_change change_of (ending_at (entries_of_key tree) (frame word) p e)) is ∙ ap (carry_change change_of) (ending_is tree (frame word) (at + 1) p node within longest) ∙ here p
+  none_to_more tree nodes word at node within longest before here = λ p end low high. elim (cases_eq end (at + 1)) [
+    | inl is ↦ ap (λ (e : ℕ). carry_change change_of (ending_at (entries_of_key tree) (frame word) p e)) is ∙ ap (carry_change change_of) (ending_is tree nodes (frame word) (at + 1) p node within longest) ∙ here p
     | inr apart ↦ before p end low (omega arith)
   ]
 

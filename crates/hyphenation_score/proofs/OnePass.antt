@@ -8,10 +8,9 @@ use Rattle.std.proofs.lemmas.List.{length-append, take_more, length-take, length
 use Rattle.std.proofs.lemmas.Grind.{flat_map-append, common_steps}
 use Rattle.hyphenation_breaks.specs.declared.entry.Entry.{Entry}
 use Rattle.hyphenation_breaks.specs.Dictionary.{Patterns}
-use Rattle.hyphenation_trie.specs.Trie.{Tree, node_text, entries_of_key, EachBeginsKey}
-use Rattle.hyphenation_trie.specs.Links.{EndsWith, IsLongest, IsReport}
-use Rattle.hyphenation_trie.specs.Private.Links.{keys_in}
-use Rattle.hyphenation_trie.proofs.KeyNodes.{node_of_key}
+use Rattle.hyphenation_trie.specs.Trie.{Tree, node_text, entries_of_key, IsTrie, EachBeginsKey}
+use Rattle.hyphenation_trie.specs.Links.{EndsWith, IsLongest, IsReport, keys_in}
+use Rattle.hyphenation_trie.specs.Laws.{KeysHaveNodes}
 use Rattle.hyphenation_score.specs.Scoring.{frame, greatest_value, bearers_between, bearers_from, bearers, values}
 use Rattle.hyphenation_score.specs.OnePass.{keys_ending, occurrences}
 use Rattle.hyphenation_score.specs.Private.OnePass.{entries_of_end, entries_of_ends}
@@ -49,6 +48,17 @@ Ends-drop t k le =
     let n : length t - length (drop k t) ≡ k = omega arith in
     (omega arith, ap (λ (m : ℕ). drop m t) n)
 
+pub Ends-trans : (t u s : List ℕ) → EndsWith t u → EndsWith u s → EndsWith t s
+Ends-trans t u s eu es =
+    let n : (length t - length u) + (length u - length s) ≡ length t - length s = omega (arith, eu.0, es.0) in
+    (omega (arith, eu.0, es.0), ap (λ (k : ℕ). drop k t) (sym n) ∙ sym (drop-drop (length u - length s) (length t - length u) t) ∙ ap (λ (x : List ℕ). drop (length u - length s) x) eu.1 ∙ es.1)
+
+-- only the root has an empty text
+pub depth_pos : {E : Type 0} (tree : Tree E) → IsTrie tree → (j : ℕ) → 0 < j → j < length tree.texts → 0 < length (node_text tree j)
+depth_pos tree trie j pos lj =
+    let up = trie.closed j pos lj in
+    omega (arith, ap length up.3, length-append (node_text tree up.0) (up.1 ∷ []))
+
 -- what a node of the path has
 pub piece_is : {C : Type 0} (tree : Tree (Entry C)) (t : List ℕ) (end p at depth : ℕ) (o : Option (List (Entry C))) → EndsWith t (node_text tree at) → length t ≤ end → depth ≡ length (node_text tree at) → o ≡ entries_of_key tree (node_text tree at)
     → entries_of_end (entries_of_key tree) t end p (length t - length (node_text tree at)) ≡ filter (λ entry. (end - depth) + entry.place == p + 1) (unwrap_or o [])
@@ -75,10 +85,21 @@ slice_is framed s e le =
     let n : s + (e - s) ≡ e = omega arith in
     sym (ap (λ (k : ℕ). drop s (take k framed)) (sym n) ∙ drop-take s (e - s) framed)
 
+-- no key is longer that ends a text than the longest node
+none_longer : {E : Type 0} (tree : Tree E) → KeysHaveNodes E → (t : List ℕ) (node k : ℕ) → IsLongest tree.texts t node → k < length t - length (node_text tree node) → entries_of_key tree (drop k t) ≡ None
+none_longer {E} tree nodes t node k longest high =
+    elim (entries_of_key tree (drop k t)) as (λ o. entries_of_key tree (drop k t) ≡ o → o ≡ None) [
+      | None ↦ λ is. refl
+      | Some es ↦ λ is.
+          let n = nodes tree (drop k t) (subst (λ (o : Option (List E)). IsSome o) (sym is) refl) in
+          let most = longest.most n.0 n.1 (subst (λ (x : List ℕ). EndsWith t x) (sym n.2) (Ends-drop t k (omega arith))) in
+          absurd (omega (arith, ap length n.2, length-drop k t))
+    ] refl
+
 -- the keys that end there end the text of the longest node
-pub ending_is : {C : Type 0} (tree : Tree (Entry C)) (framed : List ℕ) (end p node : ℕ) → end ≤ length framed → IsLongest tree.texts (take end framed) node
+pub ending_is : {C : Type 0} (tree : Tree (Entry C)) → KeysHaveNodes (Entry C) → (framed : List ℕ) (end p node : ℕ) → end ≤ length framed → IsLongest tree.texts (take end framed) node
     → ending_at (entries_of_key tree) framed p end ≡ entries_of_ends (entries_of_key tree) (node_text tree node) end p
-ending_is {C} tree framed end p node le longest =
+ending_is {C} tree nodes framed end p node le longest =
     let T : List ℕ = take end framed in
     let t : List ℕ = node_text tree node in
     let len : length T ≡ end = omega (arith, length-take end framed) in
@@ -86,14 +107,7 @@ ending_is {C} tree framed end p node le longest =
     let e0 : ℕ = end - length t in
     let f = λ (start : ℕ). bearers_between (entries_of_key tree) framed p start end in
     let front : flat_map f (range_with_len 0 e0) ≡ [] = flat_map_none f 0 e0 (λ k low high.
-    ap (λ o. filter (λ entry. k + entry.place == p + 1) (unwrap_or o [])) (ap (entries_of_key tree) (slice_is framed k end (omega arith)) ∙
-    elim (entries_of_key tree (drop k T)) as (λ o. entries_of_key tree (drop k T) ≡ o → o ≡ None) [
-      | None ↦ λ is. refl
-      | Some es ↦ λ is.
-          let n = node_of_key tree.texts tree.entries (drop k T) (subst (λ (o : Option (List (Entry C))). IsSome o) (sym is) refl) in
-          let most = longest.most n.0 n.1 (subst (λ (x : List ℕ). EndsWith T x) (sym n.2) (Ends-drop T k (omega arith))) in
-          absurd (omega (arith, ap length n.2, length-drop k T))
-    ] refl)) in
+    ap (λ o. filter (λ entry. k + entry.place == p + 1) (unwrap_or o [])) (ap (entries_of_key tree) (slice_is framed k end (omega arith)) ∙ none_longer tree nodes T node k longest (omega arith))) in
     let parts : range_with_len 0 end ≡ range_with_len 0 e0 ++ range_with_len e0 (length t) =
     ap (range_with_len 0) (omega arith) ∙ range-append 0 e0 (length t) ∙ ap (λ (k : ℕ). range_with_len 0 e0 ++ range_with_len k (length t)) (omega arith) in
     ap (flat_map f) parts ∙ flat_map-append f (range_with_len 0 e0) (range_with_len e0 (length t)) ∙ ap (λ xs. xs ++ flat_map f (range_with_len e0 (length t))) front
@@ -256,9 +270,9 @@ pub keys_in_most : {E : Type 0} (tree : Tree E) (t : List ℕ) (n : ℕ) → key
 keys_in_most tree t n = count_most (λ d. is_some (entries_of_key tree (drop d t))) 0 n
 
 -- the keys that end there are those that end the text of the longest node
-pub counted_is : {C : Type 0} (tree : Tree (Entry C)) (framed : List ℕ) (end node : ℕ) → end ≤ length framed → IsLongest tree.texts (take end framed) node
+pub counted_is : {C : Type 0} (tree : Tree (Entry C)) → KeysHaveNodes (Entry C) → (framed : List ℕ) (end node : ℕ) → end ≤ length framed → IsLongest tree.texts (take end framed) node
     → keys_ending (entries_of_key tree) framed end ≡ keys_in tree (node_text tree node) (length (node_text tree node))
-counted_is {C} tree framed end node le longest =
+counted_is {C} tree nodes framed end node le longest =
     let T : List ℕ = take end framed in
     let t : List ℕ = node_text tree node in
     let len : length T ≡ end = omega (arith, length-take end framed) in
@@ -267,14 +281,7 @@ counted_is {C} tree framed end node le longest =
     let p = λ (start : ℕ). is_some (entries_of_key tree (slice_range framed start end)) in
     let q = λ (d : ℕ). is_some (entries_of_key tree (drop d t)) in
     let front : count_by p (range_with_len 0 e0) ≡ 0 = count_none p 0 e0 (λ k low high.
-    ap is_some (ap (entries_of_key tree) (slice_is framed k end (omega arith)) ∙
-    elim (entries_of_key tree (drop k T)) as (λ o. entries_of_key tree (drop k T) ≡ o → o ≡ None) [
-      | None ↦ λ is. refl
-      | Some es ↦ λ is.
-          let n = node_of_key tree.texts tree.entries (drop k T) (subst (λ (o : Option (List (Entry C))). IsSome o) (sym is) refl) in
-          let most = longest.most n.0 n.1 (subst (λ (x : List ℕ). EndsWith T x) (sym n.2) (Ends-drop T k (omega arith))) in
-          absurd (omega (arith, ap length n.2, length-drop k T))
-    ] refl)) in
+    ap is_some (ap (entries_of_key tree) (slice_is framed k end (omega arith)) ∙ none_longer tree nodes T node k longest (omega arith))) in
     let parts : range_with_len 0 end ≡ range_with_len 0 e0 ++ range_with_len e0 (length t) =
     ap (range_with_len 0) (omega arith) ∙ range-append 0 e0 (length t) ∙ ap (λ (k : ℕ). range_with_len 0 e0 ++ range_with_len k (length t)) (omega arith) in
     ap (count_by p) parts ∙ count_append p (range_with_len 0 e0) (range_with_len e0 (length t)) ∙ ap (λ (x : ℕ). x + count_by p (range_with_len e0 (length t))) front ∙ zero-add (count_by p (range_with_len e0 (length t)))

@@ -5,10 +5,9 @@ use Rattle.std.proofs.Math.Nat.{mul-le-mul_right}
 use Rattle.std.proofs.lemmas.List.{length-take, ext_get_or}
 use Rattle.std.proofs.lemmas.List.FromFn.{length-map-range_with_len, get_or-map-range_with_len}
 use Rattle.hyphenation_trie.specs.Trie.{Tree, node_text, entries_of_key, IsTrie, EachBeginsKey}
-use Rattle.hyphenation_trie.specs.Links.{IsLongest}
-use Rattle.hyphenation_trie.specs.Private.Links.{keys_in}
+use Rattle.hyphenation_trie.specs.Links.{IsLongest, keys_in}
 use Rattle.hyphenation_breaks.specs.declared.entry.Entry.{Entry}
-use Rattle.hyphenation_trie.proofs.Suffixes.{longest_more, Ends-refl}
+use Rattle.hyphenation_trie.specs.Laws.{KeysHaveNodes, LongestGoesOn}
 use Rattle.hyphenation_score.specs.Scoring.{frame, greatest_value, value_at, values}
 use Rattle.hyphenation_score.specs.OnePass.{keys_ending, occurrences}
 use Rattle.hyphenation_score.specs.Private.OnePass.{entries_of_ends}
@@ -32,7 +31,7 @@ module _ {C : Type 0} (tree : Tree (Entry C)) (word : List ℕ) (trie : IsTrie t
   passed_none vals made reported zeros =
       let nil : length (node_text tree 0) ≡ 0 = ap length trie.root in
       record {
-        longest = record { within = trie.some; ends = subst (λ (s : List ℕ). (length s ≤ 0) × (drop (0 - length s) [] ≡ s)) (sym trie.root) (Ends-refl []); most = λ k lk ends. omega (arith, ends.0) };
+        longest = record { within = trie.some; ends = subst (λ (s : List ℕ). (length s ≤ 0) × (drop (0 - length s) [] ≡ s)) (sym trie.root) (omega arith, refl); most = λ k lk ends. omega (arith, ends.0) };
         vals_are = zeros;
         most = omega arith;
         alone = λ none. omega arith;
@@ -50,7 +49,7 @@ module _ {C : Type 0} (tree : Tree (Entry C)) (word : List ℕ) (trie : IsTrie t
       let times = mul-le-mul_right {m = at} {n = 9223372036854775810} (length word + 2) (omega arith) in
       (omega (arith, p.most), omega (arith, p.few))
 
-  pub passed_more : EachBeginsKey tree → (at from byte node : ℕ) (old new : List ℕ) (m0 r0 m r m' r' : ℕ)
+  pub passed_more : KeysHaveNodes (Entry C) → LongestGoesOn (Entry C) → EachBeginsKey tree → (at from byte node : ℕ) (old new : List ℕ) (m0 r0 m r m' r' : ℕ)
       → at < length word + 2 → byte ≡ slice_index (frame word) at
       → Passed tree word at from old m0 r0 m r
       → IsLongest tree.texts (node_text tree from ++ byte ∷ []) node
@@ -59,9 +58,9 @@ module _ {C : Type 0} (tree : Tree (Entry C)) (word : List ℕ) (trie : IsTrie t
       → m + 1 ≤ m' → m' + length (node_text tree node) ≤ m + length (node_text tree from) + 2 → m' ≤ m + length (node_text tree from) + 1
       → r' ≡ r + keys_in tree (node_text tree node) (length (node_text tree node))
       → Passed tree word (at + 1) node new m0 r0 m' r'
-  passed_more begins at from byte node old new m0 r0 m r m' r' inside byte_is p step len raised least most alone counted =
+  passed_more nodes goes_on begins at from byte node old new m0 r0 m r m' r' inside byte_is p step len raised least most alone counted =
       let lt : at < length framed = omega (arith, length-frame word) in
-      let next = longest_more tree trie (take at framed) byte from node p.longest step in
+      let next = goes_on tree trie (take at framed) byte from node p.longest step in
       let longest = read_more tree.texts framed (take at framed) at byte node lt byte_is refl next in
       let last : 1 + at ≡ at + 1 = omega arith in
       let within : at + 1 ≤ length framed = omega arith in
@@ -70,7 +69,7 @@ module _ {C : Type 0} (tree : Tree (Entry C)) (word : List ℕ) (trie : IsTrie t
         vals_are = λ i low.
             let ends = λ (end : ℕ). ending_at (entries_of_key tree) framed (i + 1) end in
             let more = greatest_more ends 1 at ∙ ap (λ (k : ℕ). max (greatest_value (flat_map ends (range_with_len 1 at))) (greatest_value (ends k))) last in
-            let is = ending_is tree framed (at + 1) (i + 1) node within longest in
+            let is = ending_is tree nodes framed (at + 1) (i + 1) node within longest in
             raised i (omega arith)
             ∙ ap (λ (v : ℕ). max v (greatest_value (entries_of_ends (entries_of_key tree) (node_text tree node) (at + 1) (i + 1)))) (p.vals_are i (omega arith))
             ∙ ap (λ es. max (greatest_value (flat_map ends (range_with_len 1 at))) (greatest_value es)) (sym is) ∙ sym more;
@@ -84,7 +83,7 @@ module _ {C : Type 0} (tree : Tree (Entry C)) (word : List ℕ) (trie : IsTrie t
         reported_is =
             let f = λ (end : ℕ). keys_ending (entries_of_key tree) framed end in
             let more = sum_more f 1 at ∙ ap (λ (k : ℕ). sum_by f (range_with_len 1 at) + f k) last in
-            let is = counted_is tree framed (at + 1) node within longest in
+            let is = counted_is tree nodes framed (at + 1) node within longest in
             omega (arith, counted, p.reported_is, more, is);
         few =
             let was = p.few in

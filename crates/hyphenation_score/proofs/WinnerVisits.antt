@@ -6,7 +6,7 @@ use Rattle.std.proofs.lemmas.List.{length-take, length-drop}
 use Rattle.hyphenation_breaks.specs.declared.entry.Entry.{Entry}
 use Rattle.hyphenation_trie.specs.Trie.{Tree, node_text, entries_of_key}
 use Rattle.hyphenation_trie.specs.Links.{EndsWith, IsLongest, IsReport}
-use Rattle.hyphenation_trie.proofs.LinksMade.{report_next}
+use Rattle.hyphenation_trie.specs.Laws.{LongestHasReport}
 use Rattle.hyphenation_score.specs.Scoring.{greatest_value, first_greatest, bearers_between, bearers}
 use Rattle.hyphenation_score.specs.Winners.{IsPair, Best, Holds}
 use Rattle.hyphenation_score.specs.Private.Winners.{meets, Asked}
@@ -32,12 +32,12 @@ skip tree framed p end low high now le holds none = holds_skip (entries_of_key t
     ])
 
 -- before the first report
-pub met_first : {C : Type 0} (tree : Tree (Entry C)) (framed : List ℕ) (end p from to : ℕ) (now : Best C) → end ≤ length framed → IsLongest tree.texts (take end framed) from → IsReport tree (node_text tree from) to
+pub met_first : {C : Type 0} → LongestHasReport (Entry C) → (tree : Tree (Entry C)) (framed : List ℕ) (end p from to : ℕ) (now : Best C) → end ≤ length framed → IsLongest tree.texts (take end framed) from → IsReport tree (node_text tree from) to
     → Holds (entries_of_key tree) framed p (Asked framed end 0) now → Holds (entries_of_key tree) framed p (Asked framed end (end - length (node_text tree to))) now
-met_first tree framed end p from to now le longest report holds =
+met_first has_report tree framed end p from to now le longest report holds =
     let T : List ℕ = take end framed in
     let len : length T ≡ end = omega (arith, length-take end framed) in
-    let whole = report_next tree (0 ∷ T) from to longest report in
+    let whole = has_report tree T from to longest report in
     skip tree framed p end 0 (end - length (node_text tree to)) now (omega arith) holds (λ s low high below. whole.none s (omega arith))
 
 -- one report

@@ -5,8 +5,7 @@
 
 ghost use Rattle.std.specs.Prelude.{◌≡◌, ◌+◌, ◌-◌, ◌*◌, ◌<◌, ◌≤◌, ◌^◌, ◌==◌, if◌then◌else◌, ℕ, List, None, Some, length, filter, map, take, option_copied, IfOk, OnOk};
 ghost use Rattle.hyphenation_breaks.specs.Dictionary.{entries_of_keys, longest_key};
-ghost use Rattle.hyphenation_trie.specs.Links.{IsLongest};
-ghost use Rattle.hyphenation_trie.specs.Private.Links.{keys_in};
+ghost use Rattle.hyphenation_trie.specs.Links.{IsLongest, keys_in};
 ghost use Rattle.hyphenation_trie.specs.Trie.{node_text, entries_of_key, EachBeginsKey};
 ghost use Rattle.hyphenation_score.specs.Scoring.{frame, first_greatest, winners};
 ghost use Rattle.hyphenation_score.specs.OnePass.{occurrences};
@@ -18,6 +17,7 @@ use hyphenation_breaks::breaks::Break;
 use hyphenation_breaks::entry::{Entry, Payload};
 use hyphenation_dictionary::dictionary::Dictionary;
 use hyphenation_dictionary::search::automaton_of;
+use hyphenation_trie::laws::{keys_have_nodes, longest_goes_on, longest_has_report};
 use hyphenation_trie::{Automaton, LookUps};
 use std::alloc::{AllocError, Global};
 
@@ -110,6 +110,7 @@ fn compete_reported<'d, C: Drop>(
     ensures made { count.new.made ≡ count.old.made }
 {
     automaton.invariant();
+    longest_has_report::<Entry<C>>();
     let mut node = automaton.report(from);
     while node != 0 {
         let entries = automaton.entries(node, count);
@@ -148,6 +149,8 @@ pub fn winners_in<'d, C: Drop>(
     let mut bests: Vec<Option<&'d Entry<C>>> = vec![in alloc; None; places]?;
     let mut starts = vec![in alloc; 0usize; places]?;
     automaton.invariant();
+    keys_have_nodes::<Entry<C>>();
+    longest_goes_on::<Entry<C>>();
     let mut node = automaton.root();
     for at in 0..word.len() + 2 {
         node = automaton.step(node, framed_at(word, at), count);

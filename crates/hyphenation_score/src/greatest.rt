@@ -6,8 +6,7 @@
 
 ghost use Rattle.std.specs.Prelude.{◌≡◌, ◌+◌, ◌-◌, ◌*◌, ◌<◌, ◌≤◌, ◌^◌, ◌==◌, ◌++◌, ◌∷◌, [], if◌then◌else◌, max, ℕ, List, None, false, length, filter, slice_index, is_some, IfOk, OnOk};
 ghost use Rattle.hyphenation_breaks.specs.Dictionary.{entries_of_keys, longest_key};
-ghost use Rattle.hyphenation_trie.specs.Links.{IsLongest};
-ghost use Rattle.hyphenation_trie.specs.Private.Links.{keys_in};
+ghost use Rattle.hyphenation_trie.specs.Links.{IsLongest, keys_in};
 ghost use Rattle.hyphenation_trie.specs.Trie.{node_text, entries_of_key, EachBeginsKey};
 ghost use Rattle.hyphenation_score.specs.OnePass.{occurrences, carry_change};
 ghost use Rattle.hyphenation_score.specs.Private.OnePass.{entries_of_ends};
@@ -17,6 +16,7 @@ use hyphenation_breaks::breaks::Break;
 use hyphenation_breaks::entry::{Entry, Payload};
 use hyphenation_dictionary::dictionary::Dictionary;
 use hyphenation_dictionary::search::automaton_of;
+use hyphenation_trie::laws::{keys_have_nodes, longest_goes_on};
 use hyphenation_trie::{Automaton, LookUps};
 use std::alloc::{AllocError, Global};
 
@@ -209,6 +209,8 @@ pub fn raise_all<C: Payload>(
         + occurrences (entries_of_key automaton.now) (frame word.now) }
 {
     automaton.invariant();
+    keys_have_nodes::<Entry<C>>();
+    longest_goes_on::<Entry<C>>();
     // The dots of the frame are read before the word and after it.
     let root = automaton.root();
     let (mut node, mut changes) = read(automaton, root, b'.', 1, scores, count);

@@ -2,4 +2,5 @@ pub mod Counts
 pub mod Trie
 pub mod Links
 pub mod Keys
+pub mod Laws
 pub mod Private

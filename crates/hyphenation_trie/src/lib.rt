@@ -29,6 +29,7 @@ mod automaton;
 mod chains;
 mod frozen;
 mod growing;
+pub mod laws;
 mod look_ups;
 pub mod parts;
 mod rows;

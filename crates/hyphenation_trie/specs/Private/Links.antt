@@ -1,7 +1,6 @@
 -- Links between the nodes of a trie: from a node to one whose text ends the node's: what private functions and proofs need of it beside, and no public contract cites.
-use Rattle.std.specs.Prelude.{◌≡◌, ◌≢◌, ℕ, ◌+◌, ◌<◌, ◌≤◌, List, [], ◌∷◌, ◌++◌, length, drop, slice_index, slice_index_or, Option, is_some, Some, None, count_by}
-use Rattle.std.specs.List.{range_with_len}
-use Rattle.hyphenation_trie.specs.Trie.{Tree, node_text, entries_of_key, IsTrie}
+use Rattle.std.specs.Prelude.{◌≡◌, ◌≢◌, ℕ, ◌+◌, ◌<◌, ◌≤◌, List, [], ◌∷◌, ◌++◌, length, slice_index, slice_index_or, Option, Some, None}
+use Rattle.hyphenation_trie.specs.Trie.{Tree, node_text, IsTrie}
 use Rattle.hyphenation_trie.specs.declared.rows.Cell.{Cell}
 use Rattle.hyphenation_trie.specs.Private.Rows.{edge_in}
 
@@ -9,10 +8,6 @@ use Rattle.hyphenation_trie.specs.Private.Rows.{edge_in}
 pub record HasDepths (texts : List (List ℕ)) (depths : List ℕ) : Type 0 where
   pub lengths : length depths ≡ length texts
   pub each : (j : ℕ) → j < length texts → slice_index depths j ≡ length (slice_index_or texts j [])
-
--- How many of the n longest ends of a text are keys.
-abbrev pub keys_in : {E : Type 0} → Tree E → List ℕ → ℕ → ℕ
-keys_in tree text n = count_by (λ d. is_some (entries_of_key tree (drop d text))) (range_with_len 0 n)
 
 -- The parent of each node but the root stands before it, and its text is the parent's with one byte more.
 pub record HasParents (texts : List (List ℕ)) (parents bytes : List ℕ) : Type 0 where

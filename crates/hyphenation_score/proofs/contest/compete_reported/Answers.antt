@@ -1,12 +1,11 @@
-use Rattle.std.proofs.Common.{◌≡◌, ◌+◌, ◌-◌, ◌<◌, ℕ, length, take, ap, refl, sym, subst, arith, ◌∙◌}
+use Rattle.std.proofs.Common.{◌≡◌, ◌+◌, ◌-◌, ◌<◌, ℕ, length, take, drop, ap, refl, sym, subst, arith, ◌∙◌}
 use Rattle.std.proofs.lemmas.List.{length-drop}
 use Rattle.hyphenation_trie.specs.Trie.{node_text, entries_of_key}
-use Rattle.hyphenation_trie.specs.Private.Links.{keys_in}
-use Rattle.hyphenation_trie.proofs.Suffixes.{depth_pos, Ends-whole, Ends-trans}
+use Rattle.hyphenation_trie.specs.Links.{keys_in}
 use Rattle.hyphenation_score.specs.Scoring.{frame}
 use Rattle.hyphenation_score.specs.Winners.{Holds}
 use Rattle.hyphenation_score.specs.Private.Winners.{best_of, Asked}
-use Rattle.hyphenation_score.proofs.OnePass.{none_next, counted_first, counted_more}
+use Rattle.hyphenation_score.proofs.OnePass.{Ends-drop, Ends-trans, depth_pos, none_next, counted_first, counted_more}
 use Rattle.hyphenation_score.proofs.WinnersMet.{holds_sane}
 use Rattle.hyphenation_score.proofs.WinnerVisits.{met_first, met_next, met_all}
 use Rattle.hyphenation_score.proofs.contest.compete_reported.Goals as goal
@@ -21,7 +20,7 @@ loop-node-init g c =
       ends = report.ends;
       key = report.key;
       lengths = c.requires.lengths;
-      holds = λ i lt. met_first tree (frame c.args.word.now) c.args.end (i + 1) c.args.from c.report-node.result (best_of c.args.bests.now c.args.starts.now i) c.requires.end c.requires.longest report (c.requires.holds i lt);
+      holds = λ i lt. met_first c.longest_has_report.ensures tree (frame c.args.word.now) c.args.end (i + 1) c.args.from c.report-node.result (best_of c.args.bests.now c.args.starts.now i) c.requires.end c.requires.longest report (c.requires.holds i lt);
       reported = omega (arith, counted_first tree t _ report);
       few = omega (arith, report.ends.0);
       made = refl;
@@ -57,7 +56,7 @@ loop-node-preserved g c =
     let start_is : start ≡ c.args.end - length (node_text tree at) = ap (λ (x : ℕ). c.args.end - x) c.depth.ensures in
     record {
       within = report.within;
-      ends = Ends-trans t (node_text tree at) (node_text tree to) inv.ends (Ends-whole (node_text tree at) (node_text tree to) report.ends);
+      ends = Ends-trans t (node_text tree at) (node_text tree to) inv.ends (Ends-trans (node_text tree at) (drop 1 (node_text tree at)) (node_text tree to) (Ends-drop (node_text tree at) 1 pos) report.ends);
       key = report.key;
       lengths = c.compete.auto.starts ∙ inv.lengths ∙ sym c.compete.auto.bests;
       holds = λ i lt.

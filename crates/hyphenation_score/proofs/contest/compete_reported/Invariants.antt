@@ -1,8 +1,7 @@
 use Rattle.std.proofs.Common.{◌≡◌, ℕ, ◌+◌, ◌-◌, ◌<◌, ◌≤◌, length}
 use Rattle.std.specs.Prelude.{IsSome}
 use Rattle.hyphenation_trie.specs.Trie.{node_text, entries_of_key}
-use Rattle.hyphenation_trie.specs.Links.{EndsWith}
-use Rattle.hyphenation_trie.specs.Private.Links.{keys_in}
+use Rattle.hyphenation_trie.specs.Links.{EndsWith, keys_in}
 use Rattle.hyphenation_score.specs.Scoring.{frame}
 use Rattle.hyphenation_score.specs.Winners.{Holds}
 use Rattle.hyphenation_score.specs.Private.Winners.{best_of, Asked}

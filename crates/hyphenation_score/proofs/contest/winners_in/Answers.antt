@@ -5,7 +5,6 @@ use Rattle.std.proofs.Math.Nat.{mul-le-mul_right}
 use Rattle.std.proofs.lemmas.List.{length-append, length-take, take_at, length-map, get_or-map, ext_get_or}
 use Rattle.std.proofs.lemmas.List.FromFn.{length-map-range_with_len, get_or-map-range_with_len}
 use Rattle.hyphenation_trie.specs.Trie.{node_text, entries_of_key}
-use Rattle.hyphenation_trie.proofs.Suffixes.{longest_more}
 use Rattle.hyphenation_score.specs.Scoring.{frame, winner_at}
 use Rattle.hyphenation_score.specs.OnePass.{keys_ending}
 use Rattle.hyphenation_score.specs.Winners.{Holds}
@@ -19,7 +18,7 @@ compete_reported-requires-clause-longest g c =
     let tree = c.args.automaton.now in
     let framed = frame c.args.word.now in
     let lt : c.loop-at.at < length framed = omega (arith, length-frame c.args.word.now) in
-    let next = longest_more tree c.invariant.ensures (take c.loop-at.at framed) c.framed_at.result c.loop-at.node c.step-node.result c.loop-at.invariant.longest c.step-node.ensures.longest in
+    let next = c.longest_goes_on.ensures tree c.invariant.ensures (take c.loop-at.at framed) c.framed_at.result c.loop-at.node c.step-node.result c.loop-at.invariant.longest c.step-node.ensures.longest in
     read_more tree.texts framed (take c.loop-at.at framed) c.loop-at.at c.framed_at.result c.step-node.result lt c.framed_at.ensures refl next
 
 pub compete_reported-requires-clause-end : goal.compete_reported-requires-clause-end
@@ -48,7 +47,7 @@ loop-at-preserved g c =
     let keys = entries_of_key tree in
     let framed = frame c.args.word.now in
     let lt : c.loop-at.at < length framed = omega (arith, length-frame c.args.word.now) in
-    let next = longest_more tree c.invariant.ensures (take c.loop-at.at framed) c.framed_at.result c.loop-at.node c.step-node.result c.loop-at.invariant.longest c.step-node.ensures.longest in
+    let next = c.longest_goes_on.ensures tree c.invariant.ensures (take c.loop-at.at framed) c.framed_at.result c.loop-at.node c.step-node.result c.loop-at.invariant.longest c.step-node.ensures.longest in
     let longest = read_more tree.texts framed (take c.loop-at.at framed) c.loop-at.at c.framed_at.result c.step-node.result lt c.framed_at.ensures refl next in
     let bests = c.compete_reported.new.bests in
     let starts = c.compete_reported.new.starts in
@@ -78,7 +77,7 @@ loop-at-preserved g c =
       reported =
           let f = λ (end : ℕ). keys_ending (entries_of_key tree) framed end in
           let more = sum_more f 1 c.loop-at.at ∙ ap (λ (k : ℕ). sum_by f (range_with_len 1 c.loop-at.at) + f k) last in
-          let is = counted_is tree framed (c.loop-at.at + 1) c.step-node.result inside longest in
+          let is = counted_is tree c.keys_have_nodes.ensures framed (c.loop-at.at + 1) c.step-node.result inside longest in
           omega (arith, c.compete_reported.ensures.reported, c.step-node.ensures.reported, c.loop-at.invariant.reported, more, is);
       few =
           let was = c.loop-at.invariant.few in

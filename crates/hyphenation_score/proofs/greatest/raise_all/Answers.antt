@@ -26,11 +26,11 @@ loop-at-init g c =
     let none = subst (λ k. Passed tree word 0 k c.args.scores.now c.args.count.now.made c.args.count.now.reported c.args.count.now.made c.args.count.now.reported) (sym c.root-root.ensures.root)
     (passed_none tree word trie c.args.scores.now c.args.count.now.made c.args.count.now.reported c.requires.zeros) in
     let r = c.read-node.ensures in
-    let passed = passed_more tree word trie c.requires.begins 0 c.root-root.result 46 c.read-node.result.0 c.args.scores.now c.read-node.new.values _ _ _ _ c.read-node.new.count.made c.read-node.new.count.reported (omega arith) refl none r.longest c.read-node.auto.values r.values r.least r.most r.alone r.reported in
+    let passed = passed_more tree word trie c.keys_have_nodes.ensures c.longest_goes_on.ensures c.requires.begins 0 c.root-root.result 46 c.read-node.result.0 c.args.scores.now c.read-node.new.values _ _ _ _ c.read-node.new.count.made c.read-node.new.count.reported (omega arith) refl none r.longest c.read-node.auto.values r.values r.least r.most r.alone r.reported in
     record {
       len = c.read-node.auto.values;
       passed = passed;
-      unchanged = λ no. none_to_more g.C.Payload.change_of tree word 0 c.read-node.result.0 (omega (arith, length-frame word)) passed.longest (λ p end low high. absurd (omega arith)) (r.unchanged no);
+      unchanged = λ no. none_to_more g.C.Payload.change_of tree c.keys_have_nodes.ensures word 0 c.read-node.result.0 (omega (arith, length-frame word)) passed.longest (λ p end low high. absurd (omega arith)) (r.unchanged no);
     }
 
 pub read-next-requires-clause-from : goal.read-next-requires-clause-from
@@ -54,13 +54,13 @@ loop-at-preserved g c =
     let r = c.read-next.ensures in
     let two : c.loop-at.at + 2 ≡ (c.loop-at.at + 1) + 1 = omega arith in
     let raised = subst (λ k. (i : ℕ) → i < length c.loop-at.scores → slice_index c.read-next.new.values i ≡ max (slice_index c.loop-at.scores i) (greatest_value (entries_of_ends (entries_of_key tree) (node_text tree c.read-next.result.0) k (i + 1)))) two r.values in
-    let passed = passed_more tree word trie c.requires.begins (c.loop-at.at + 1) c.loop-at.node (slice_index word c.loop-at.at) c.read-next.result.0 c.loop-at.scores c.read-next.new.values _ _ _ _ c.read-next.new.count.made c.read-next.new.count.reported (omega arith) (word_byte word c.loop-at.at (omega arith)) c.loop-at.invariant.passed r.longest c.read-next.auto.values raised r.least r.most r.alone r.reported in
+    let passed = passed_more tree word trie c.keys_have_nodes.ensures c.longest_goes_on.ensures c.requires.begins (c.loop-at.at + 1) c.loop-at.node (slice_index word c.loop-at.at) c.read-next.result.0 c.loop-at.scores c.read-next.new.values _ _ _ _ c.read-next.new.count.made c.read-next.new.count.reported (omega arith) (word_byte word c.loop-at.at (omega arith)) c.loop-at.invariant.passed r.longest c.read-next.auto.values raised r.least r.most r.alone r.reported in
     record {
       len = c.read-next.auto.values ∙ c.loop-at.invariant.len;
       passed = passed;
       unchanged = λ no.
           let parts = or_parts c.loop-at.changes c.read-next.result.1 no in
-          none_to_more g.C.Payload.change_of tree word (c.loop-at.at + 1) c.read-next.result.0 (omega (arith, length-frame word)) passed.longest (c.loop-at.invariant.unchanged parts.0)
+          none_to_more g.C.Payload.change_of tree c.keys_have_nodes.ensures word (c.loop-at.at + 1) c.read-next.result.0 (omega (arith, length-frame word)) passed.longest (c.loop-at.invariant.unchanged parts.0)
           (subst (λ (k : ℕ). (p : ℕ) → carry_change g.C.Payload.change_of (entries_of_ends (entries_of_key tree) (node_text tree c.read-next.result.0) k p) ≡ false) two (r.unchanged parts.1));
     }
 
@@ -87,7 +87,7 @@ all g c =
     let last = subst (λ k. Passed tree word (k + 1) c.loop-at.node c.loop-at.scores c.args.count.now.made c.args.count.now.reported c.loop-at.count.made c.loop-at.count.reported) ends c.loop-at.invariant.passed in
     let raised = subst (λ k. (i : ℕ) → i < length c.loop-at.scores → slice_index c.read-met.new.values i ≡ max (slice_index c.loop-at.scores i) (greatest_value (entries_of_ends (entries_of_key tree) (node_text tree c.read-met.result.0) k (i + 1)))) (sym two) r.values in
     subst (λ k. Passed tree word k c.read-met.result.0 c.read-met.new.values c.args.count.now.made c.args.count.now.reported c.read-met.new.count.made c.read-met.new.count.reported) two
-    (passed_more tree word c.invariant.ensures c.requires.begins (length word + 1) c.loop-at.node 46 c.read-met.result.0 c.loop-at.scores c.read-met.new.values _ _ _ _ c.read-met.new.count.made c.read-met.new.count.reported (omega arith) (last_byte word) last r.longest c.read-met.auto.values raised r.least r.most r.alone r.reported)
+    (passed_more tree word c.invariant.ensures c.keys_have_nodes.ensures c.longest_goes_on.ensures c.requires.begins (length word + 1) c.loop-at.node 46 c.read-met.result.0 c.loop-at.scores c.read-met.new.values _ _ _ _ c.read-met.new.count.made c.read-met.new.count.reported (omega arith) (last_byte word) last r.longest c.read-met.auto.values raised r.least r.most r.alone r.reported)
 
 pub returns-clause-values : goal.returns-clause-values
 returns-clause-values g c = passed_values c.args.automaton.now c.args.word.now c.invariant.ensures c.read-met.result.0 c.read-met.new.values _ _ _ _ (c.read-met.auto.values ∙ c.loop-at.invariant.len ∙ c.requires.places) (all g c)
@@ -117,4 +117,4 @@ returns-clause-unchanged g c = λ no p.
     let before = subst (λ (k : ℕ). NoneTo change_of tree word (k + 1)) ends (c.loop-at.invariant.unchanged parts.0) in
     let last = subst (λ (k : ℕ). (q : ℕ) → carry_change change_of (entries_of_ends (entries_of_key tree) (node_text tree c.read-met.result.0) k q) ≡ false) two (c.read-met.ensures.unchanged parts.1) in
     none_bears change_of tree word
-    (subst (λ (k : ℕ). NoneTo change_of tree word k) framed (none_to_more change_of tree word (length word + 1) c.read-met.result.0 (omega (arith, framed)) longest before last)) p
+    (subst (λ (k : ℕ). NoneTo change_of tree word k) framed (none_to_more change_of tree c.keys_have_nodes.ensures word (length word + 1) c.read-met.result.0 (omega (arith, framed)) longest before last)) p

@@ -1,15 +1,14 @@
-use Rattle.std.proofs.Common.{◌≡◌, ◌+◌, ◌-◌, ◌<◌, max, ℕ, Some, length, ap, refl, sym, arith, ◌∙◌, slice_index}
+use Rattle.std.proofs.Common.{◌≡◌, ◌+◌, ◌-◌, ◌<◌, max, ℕ, Some, length, drop, ap, refl, sym, arith, ◌∙◌, slice_index}
 use Rattle.std.specs.List.{flat_map, range_with_len}
 use Rattle.std.proofs.lemmas.Bool.{or_parts}
 use Rattle.std.proofs.lemmas.List.{length-drop}
 use Rattle.hyphenation_trie.specs.Trie.{node_text, entries_of_key}
-use Rattle.hyphenation_trie.specs.Private.Links.{keys_in}
-use Rattle.hyphenation_trie.proofs.Suffixes.{depth_pos, Ends-whole, Ends-trans}
+use Rattle.hyphenation_trie.specs.Links.{keys_in}
 use Rattle.hyphenation_score.specs.Scoring.{greatest_value}
 use Rattle.hyphenation_score.specs.Private.OnePass.{entries_of_end}
 use Rattle.hyphenation_score.specs.OnePass.{carry_change}
 use Rattle.hyphenation_score.proofs.CarriedChanges.{none_before, none_reported, none_filtered}
-use Rattle.hyphenation_score.proofs.OnePass.{piece_is, none_next, visit_more, visit_first, counted_first, counted_more}
+use Rattle.hyphenation_score.proofs.OnePass.{Ends-drop, Ends-trans, depth_pos, piece_is, none_next, visit_more, visit_first, counted_first, counted_more}
 use Rattle.hyphenation_score.proofs.greatest.raise_reported.Goals as goal
 
 pub loop-node-init : goal.loop-node-init
@@ -51,7 +50,7 @@ loop-node-preserved g c =
     let counted = ap (λ x. x.reported) c.entries-entries.ensures.counted in
     record {
       within = report.within;
-      ends = Ends-trans t (node_text tree at) (node_text tree to) inv.ends (Ends-whole (node_text tree at) (node_text tree to) report.ends);
+      ends = Ends-trans t (node_text tree at) (node_text tree to) inv.ends (Ends-trans (node_text tree at) (drop 1 (node_text tree at)) (node_text tree to) (Ends-drop (node_text tree at) 1 pos) report.ends);
       key = report.key;
       values = λ i lt. visit_more tree t c.args.end (i + 1) at to (slice_index c.args.values.now i) (slice_index c.loop-node.values i) (slice_index c.raise-changes.new.values i)
           inv.ends less none (inv.values i (omega arith))

@@ -2,8 +2,7 @@ use Rattle.std.proofs.Common.{◌≡◌, ℕ, ◌+◌, ◌-◌, ◌<◌, ◌≤�
 use Rattle.std.specs.Prelude.{IsSome}
 use Rattle.std.specs.List.{flat_map, range_with_len}
 use Rattle.hyphenation_trie.specs.Trie.{node_text, entries_of_key}
-use Rattle.hyphenation_trie.specs.Links.{EndsWith}
-use Rattle.hyphenation_trie.specs.Private.Links.{keys_in}
+use Rattle.hyphenation_trie.specs.Links.{EndsWith, keys_in}
 use Rattle.hyphenation_score.specs.Scoring.{greatest_value}
 use Rattle.hyphenation_score.specs.Private.OnePass.{entries_of_end}
 use Rattle.hyphenation_score.specs.OnePass.{carry_change}

@@ -1,0 +1,23 @@
+-- What is true of all tries, and of the links between their nodes.
+use Rattle.std.specs.Prelude.{◌≡◌, ℕ, ◌<◌, List, [], ◌∷◌, ◌++◌, length, IsSome}
+use Rattle.hyphenation_trie.specs.Trie.{Tree, node_text, entries_of_key, IsTrie}
+use Rattle.hyphenation_trie.specs.Links.{IsLongest, IsReport}
+
+-- Each key is the text of a node.
+abbrev pub KeysHaveNodes : Type 0 → Type 0
+KeysHaveNodes E =
+    (tree : Tree E) (key : List ℕ) → IsSome (entries_of_key tree key)
+    → (node : ℕ) × (node < length tree.texts) × (node_text tree node ≡ key)
+
+-- The longest that ends a text leads to the longest that ends the text with a byte more: no byte before it need be read
+-- again.
+abbrev pub LongestGoesOn : Type 0 → Type 0
+LongestGoesOn E =
+    (tree : Tree E) → IsTrie tree → (text : List ℕ) (byte node next : ℕ) → IsLongest tree.texts text node
+    → IsLongest tree.texts (node_text tree node ++ byte ∷ []) next → IsLongest tree.texts (text ++ byte ∷ []) next
+
+-- The longest key that ends a text ends the text of the longest node.
+abbrev pub LongestHasReport : Type 0 → Type 0
+LongestHasReport E =
+    (tree : Tree E) (text : List ℕ) (node report : ℕ) → IsLongest tree.texts text node
+    → IsReport tree (node_text tree node) report → IsReport tree text report
