@@ -16,10 +16,12 @@ ghost use Rattle.hyphenation_reader.specs.Private.LineAnswers.{IsItemOf};
 ghost use Rattle.hyphenation_trie.specs.Trie.{EachBeginsKey};
 
 use crate::items::{Fault, Item, Scratch, item_of};
+use crate::laws::spelt_is_sound;
 use hyphenation_breaks::entry::{Entry, Listing, Payload};
 use hyphenation_breaks::language::Language;
 use hyphenation_dictionary::dictionary::{Dictionary, Extended, Standard};
 use hyphenation_dictionary::exceptions::Exceptions;
+use hyphenation_dictionary::laws::{inserted_key_is_added, keys_are_looked_up};
 use hyphenation_dictionary::parts;
 use hyphenation_grammar::Cause;
 use hyphenation_grammar::form::{Form, Kind, Version};
@@ -77,6 +79,8 @@ impl<C: Payload, B: Listing> Builder<C, B> {
         ensures exceptions { self.new.exceptions ≡ self.old.exceptions }
         ensures begins { OnOk result (EachBeginsKey self.old.patterns → EachBeginsKey self.new.patterns) }
     {
+        keys_are_looked_up::<Entry<C>>();
+        inserted_key_is_added::<Entry<C>>();
         self.patterns.invariant();
         let had = self.patterns.insert(key, entries)?;
         self.patterns.invariant();
@@ -318,6 +322,7 @@ fn dictionary_of<C: Payload, B: Listing>(
         patterns,
         exceptions,
     } = builder;
+    spelt_is_sound();
     let patterns = patterns.freeze(alloc)?;
     Ok(parts::dictionary_of(head.language, head.left, head.right, patterns, exceptions))
 }
