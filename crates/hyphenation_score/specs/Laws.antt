@@ -1,8 +1,12 @@
 -- What is true of all values and winners, in terms of single keys.
-use Rattle.std.specs.Prelude.{◌≡◌, ℕ, ◌+◌, ◌-◌, ◌<◌, ◌≤◌, ◌⊎◌, ◌↔◌, List, length, slice_get, Some, None}
+use Rattle.std.specs.Prelude.{◌≡◌, ℕ, ◌+◌, ◌-◌, ◌<◌, ◌≤◌, ◌⊎◌, ◌↔◌, false, List, length, map, slice_get, Option, Some, None}
+use Rattle.std.specs.Borrow.{Bor}
+use Rattle.std.specs.Option.{option_and_then}
+use Rattle.hyphenation_breaks.specs.Break.{Change}
 use Rattle.hyphenation_breaks.specs.Dictionary.{Patterns}
 use Rattle.hyphenation_breaks.specs.declared.entry.Entry.{Entry}
-use Rattle.hyphenation_score.specs.Scoring.{frame, value_at, values, winner_at, winners}
+use Rattle.hyphenation_score.specs.OnePass.{carry_change}
+use Rattle.hyphenation_score.specs.Scoring.{frame, bearers, value_at, values, value_of, winner_at, winners, scored_pair, scores}
 use Rattle.hyphenation_score.specs.Winners.{Best, IsPair, Holds, Bears, Wins}
 
 -- A place's value is at least each value that bears on it.
@@ -64,3 +68,31 @@ abbrev pub BestOfAllWins : Type 0 → Type 0
 BestOfAllWins C =
     (keys : Patterns C) (word : List ℕ) (p : ℕ) (now : Best C) → Holds keys (frame word) p (IsPair (frame word)) now
     → now.0 ≡ winner_at keys word p
+
+-- The value of a place is its winner's; 0 without one.
+abbrev pub WinnerHasValue : Type 0 → Type 0
+WinnerHasValue C = (keys : Patterns C) (word : List ℕ) (p : ℕ) → value_of (winner_at keys word p) ≡ value_at keys word p
+
+-- The values of a word's scores are the word's values.
+abbrev pub ScoresHaveValues : Type 0 → Type 0
+ScoresHaveValues C =
+    (change_of : C → Option Change) (keys : Patterns C) (word : List ℕ) (pairs : List (ℕ × Option (Bor Change)))
+    → map scored_pair pairs ≡ scores change_of keys word → map (λ pair. pair.0) pairs ≡ values keys word
+
+-- Where no entry that bears on a place carries a change, its winner carries none.
+abbrev pub NoChangeIsWon : Type 0 → Type 0
+NoChangeIsWon C =
+    (change_of : C → Option Change) (keys : Patterns C) (word : List ℕ) (p : ℕ)
+    → carry_change change_of (bearers keys (frame word) p) ≡ false
+    → option_and_then (λ entry. change_of entry.change) (winner_at keys word p) ≡ None
+
+-- Patterns that know the same of each text give the same values and the same winners.
+abbrev pub SameKeysSameValues : Type 0 → Type 0
+SameKeysSameValues C =
+    (keys other : Patterns C) (word : List ℕ) → ((text : List ℕ) → keys text ≡ other text)
+    → values keys word ≡ values other word
+
+abbrev pub SameKeysSameWinners : Type 0 → Type 0
+SameKeysSameWinners C =
+    (keys other : Patterns C) (word : List ℕ) → ((text : List ℕ) → keys text ≡ other text)
+    → winners keys word ≡ winners other word

@@ -2,7 +2,7 @@
 //!
 //! Each function here does nothing: its contract is a law, which the check proves.
 
-ghost use Rattle.hyphenation_score.specs.Laws.{ValueIsGreatest, ValueIsBorne, WinnerIsMissing, WinnerIsFirst, FirstIsWinner, ValuesAreOneLess, ValuesAreOfPlaces, WinnersAreOneLess, WinnersAreOfPlaces, BestOfAllWins};
+ghost use Rattle.hyphenation_score.specs.Laws.{ValueIsGreatest, ValueIsBorne, WinnerIsMissing, WinnerIsFirst, FirstIsWinner, ValuesAreOneLess, ValuesAreOfPlaces, WinnersAreOneLess, WinnersAreOfPlaces, BestOfAllWins, WinnerHasValue, ScoresHaveValues, NoChangeIsWon, SameKeysSameValues, SameKeysSameWinners};
 
 /// A place's value is at least each value that bears on it.
 pub fn value_is_greatest<C>()
@@ -42,4 +42,25 @@ pub fn places_are_in_order<C>()
 /// What is best of all pairs of a start and an end gives the winner, though keys are met by their ends.
 pub fn best_of_all_wins<C>()
     ensures { BestOfAllWins C }
+{}
+
+/// The value of a place is its winner's, and 0 without one.
+pub fn winner_has_value<C>()
+    ensures { WinnerHasValue C }
+{}
+
+/// The values of a word's scores are the word's values.
+pub fn scores_have_values<C>()
+    ensures { ScoresHaveValues C }
+{}
+
+/// Where no entry that bears on a place carries a change, its winner carries none.
+pub fn no_change_is_won<C>()
+    ensures { NoChangeIsWon C }
+{}
+
+/// Patterns that know the same of each text give the same values and the same winners.
+pub fn same_keys_give_the_same<C>()
+    ensures values { SameKeysSameValues C }
+    ensures winners { SameKeysSameWinners C }
 {}
