@@ -19,6 +19,7 @@ use hyphenation_dictionary::dictionary::{Extended, Standard};
 use hyphenation_breaks::extended::Subregion;
 use hyphenation_breaks::language::Language;
 use hyphenation_score::Score;
+use hyphenation_score::laws::scores_have_values;
 use std::alloc::{AllocError, Global};
 use std::io;
 use std::io::{Read, Write};
@@ -101,6 +102,7 @@ fn values_alone(alloc: Global, scores: &[(u8, Option<&Subregion>)]) -> Result<Ve
 fn values_of(alloc: Global, dictionary: &Extended, word: &str) -> Result<Vec<u8>, AllocError>
     ensures { IfOk result (λ found. found.items ≡ values (entries_of_keys dictionary.now) word.now) }
 {
+    scores_have_values::<Option<Subregion>>();
     let scores = dictionary.score(alloc, word)?;
     let found = values_alone(alloc, &scores)?;
     Ok(found)

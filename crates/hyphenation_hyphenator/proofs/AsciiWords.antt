@@ -7,7 +7,6 @@ use Rattle.std.proofs.lemmas.Bool.{and_parts}
 use Rattle.std.proofs.lemmas.List.{length-map, length-take-le}
 use Rattle.std.proofs.lemmas.Str.{chars-IsAscii, encodes-IsAscii, encode_ascii, IsAscii-take, IsUtf8-from_ascii}
 use Rattle.std.proofs.lemmas.Str.Ascii.{IsAscii-cons, IsAscii-nil, IsAscii-map, lowercase_ascii}
-use Rattle.ucd_case.proofs.CaseFoldingLemmas.{simple_fold-ascii}
 use Rattle.unicode.specs.Binary.{is_uppercase}
 use Rattle.unicode.specs.CaseFolding.{simple_fold}
 use Rattle.hyphenation_breaks.specs.Break.{Break}
@@ -17,8 +16,9 @@ use Rattle.hyphenation_hyphenator.specs.Private.Fitting.{is_steady_by}
 use Rattle.hyphenation_hyphenator.specs.Folding.{fold_character, fold_case, carried_back, shifts_of}
 use Rattle.hyphenation_hyphenator.specs.Opportunities.{Rules, opportunities, Ascending}
 use Rattle.hyphenation_hyphenator.specs.Places.{place_of_character}
-use Rattle.hyphenation_hyphenator.proofs.AsciiLetters.{is_uppercase_ascii}
+use Rattle.hyphenation_hyphenator.proofs.CapitalRanges.{is_uppercase_ascii}
 use Rattle.hyphenation_hyphenator.proofs.CharacterPlaces.{bounds_met, bounds_missed}
+use Rattle.hyphenation_hyphenator.proofs.FoldingRows.{capitals_fold}
 use Rattle.hyphenation_hyphenator.proofs.Folds.{fold_stays}
 use Rattle.hyphenation_hyphenator.proofs.Shifts.{no_shifts}
 use Rattle.hyphenation_hyphenator.proofs.SoftHyphens.{none_in_ascii}
@@ -57,7 +57,10 @@ folds_small c lt =
     let other : (c == 0x130) ≡ false = grind (arith) in
     ap (λ b. cond b 0x69 (cond (is_uppercase c) (simple_fold c) c)) other
     ∙ elim (is_uppercase c) as (λ u. is_uppercase c ≡ u → cond u (simple_fold c) c ≡ to_ascii_lowercase c) [
-      | true ↦ λ is. simple_fold-ascii c lt
+      | true ↦ λ is.
+          let ends = and_parts (nat_le 65 c) (nat_le c 90) (is_uppercase_ascii c lt ∙ is) in
+          let last = leb-true c 90 ends.1 in
+          capitals_fold c (leb-true 65 c ends.0) (omega arith)
       | false ↦ λ is. sym (small_stays c (is_uppercase_ascii c lt ∙ is))
     ] refl
 

@@ -11,12 +11,12 @@ use Rattle.hyphenation_breaks.specs.Dictionary.{Contents, entries_of_keys}
 use Rattle.hyphenation_breaks.specs.Invariant.{IsDictionary, fits_usize, can_be_said, is_value, stays_within, lists_within}
 use Rattle.hyphenation_breaks.specs.declared.entry.Entry.{Entry}
 use Rattle.hyphenation_hyphenator.specs.Opportunities.{rules_of, is_odd, within, breaks_within, winning_break, by_patterns, by_exception, opportunities_in, opportunities, boundaries_by}
+use Rattle.hyphenation_score.specs.Laws.{ValueIsBorne, WinnerIsFirst}
 use Rattle.hyphenation_score.specs.Scoring.{frame, value_at, winner_at}
 use Rattle.hyphenation_hyphenator.proofs.Ascending.{boundary_from_test}
 use Rattle.hyphenation_hyphenator.proofs.Fitting.{Ranged, AreRanged}
 use Rattle.hyphenation_hyphenator.proofs.Occurrences.{occurrence_boundary, frame_is_utf8, unframed_boundary, value_boundary}
 use Rattle.hyphenation_hyphenator.proofs.RulesAscend.{odd_is_some}
-use Rattle.hyphenation_score.proofs.WinnerPlaces.{winner_wins}
 
 -- ---- exceptions
 
@@ -80,13 +80,13 @@ in_word word p start end at change u some within v place k = λ left last.
     )
 
 won_ranged : {C B : Type 0} (change_of : C → Option Change) (break_of : B → Break) (contents : Contents C B) (word : List ℕ) (p : ℕ)
-    → IsDictionary change_of break_of contents → IsUtf8 word → IsCharBoundary word p → Ranged word (winning_break change_of (entries_of_keys contents) word p)
-won_ranged {C} change_of break_of contents word p kept u at =
+    → WinnerIsFirst C → IsDictionary change_of break_of contents → IsUtf8 word → IsCharBoundary word p → Ranged word (winning_break change_of (entries_of_keys contents) word p)
+won_ranged {C} change_of break_of contents word p first kept u at =
     let keys = entries_of_keys contents in
     elim (winner_at keys word p) as (λ winner. winner_at keys word p ≡ winner → Ranged word (break_at p (option_and_then (λ entry. change_of entry.change) winner))) [
       | None ↦ λ _. unchanged_ranged word p at
       | Some entry ↦ λ is.
-          let wins = winner_wins keys word p entry is in
+          let wins = first keys word p entry is in
           let bears = wins.2.bears in
           let key = slice_range (frame word) wins.0 wins.1 in
           let pattern = kept.patterns key bears.entries bears.key in
@@ -116,12 +116,12 @@ within_ranged text (b ∷ bs) bounds r =
     elim (within bounds b.place) as (λ t. AreRanged text (cond t (b ∷ breaks_within bs bounds) (breaks_within bs bounds))) [ true ↦ (r.0, rest) | false ↦ rest ]
 
 patterns_ranged : {C B : Type 0} (change_of : C → Option Change) (break_of : B → Break) (contents : Contents C B) (word : List ℕ) (bounds : ℕ × ℕ)
-    → IsDictionary change_of break_of contents → IsUtf8 word → AreRanged word (by_patterns (rules_of change_of break_of contents) word bounds)
-patterns_ranged change_of break_of contents word bounds kept u =
+    → ValueIsBorne C → WinnerIsFirst C → IsDictionary change_of break_of contents → IsUtf8 word → AreRanged word (by_patterns (rules_of change_of break_of contents) word bounds)
+patterns_ranged change_of break_of contents word bounds borne first kept u =
     let keys = entries_of_keys contents in
     within_ranged word (map (winning_break change_of keys word) (filter (λ place. is_odd (value_at keys word place)) (range_with_len 1 (length word - 1)))) bounds
     (picked_ranged word (λ place. is_odd (value_at keys word place)) (winning_break change_of keys word) 1 (length word - 1)
-    (λ p lt odd. won_ranged change_of break_of contents word p kept u (value_boundary change_of break_of contents word p kept u (omega arith) (odd_is_some (value_at keys word p) odd))))
+    (λ p lt odd. won_ranged change_of break_of contents word p first kept u (value_boundary change_of break_of contents word p borne kept u (omega arith) (odd_is_some (value_at keys word p) odd))))
 
 exception_ranged : {C B : Type 0} (change_of : C → Option Change) (break_of : B → Break) (contents : Contents C B) (word : List ℕ) (bounds : ℕ × ℕ)
     → IsDictionary change_of break_of contents → IfSome (by_exception (rules_of change_of break_of contents) word bounds) (AreRanged word)
@@ -134,14 +134,14 @@ exception_ranged {C} {B} change_of break_of contents word bounds kept =
     ] refl
 
 pub opportunities_ranged : {C B : Type 0} (change_of : C → Option Change) (break_of : B → Break) (contents : Contents C B) (word : List ℕ)
-    → IsDictionary change_of break_of contents → IsUtf8 word → AreRanged word (opportunities (rules_of change_of break_of contents) word)
-opportunities_ranged change_of break_of contents word kept u =
+    → ValueIsBorne C → WinnerIsFirst C → IsDictionary change_of break_of contents → IsUtf8 word → AreRanged word (opportunities (rules_of change_of break_of contents) word)
+opportunities_ranged change_of break_of contents word borne first kept u =
     let rules = rules_of change_of break_of contents in
     elim (boundaries_by rules word) as (λ found. AreRanged word (option_map_or (opportunities_in rules word) found [])) [
       | None ↦ tt
       | Some bounds ↦
           elim (by_exception rules word bounds) as (λ found. IfSome found (AreRanged word) → AreRanged word (unwrap_or found (by_patterns rules word bounds))) [
-            | None ↦ λ _. patterns_ranged change_of break_of contents word bounds kept u
+            | None ↦ λ _. patterns_ranged change_of break_of contents word bounds borne first kept u
             | Some listed ↦ λ r. r
           ] (exception_ranged change_of break_of contents word bounds kept)
     ]

@@ -17,11 +17,11 @@ use Rattle.hyphenation_breaks.specs.declared.entry.Entry.{Entry}
 use Rattle.hyphenation_hyphenator.specs.Fitting.{keep_break, kept_breaks}
 use Rattle.hyphenation_hyphenator.specs.Opportunities.{within, breaks_within, is_odd, winning_break, breaks_at_odd_values, rules_of, by_patterns, by_exception, Ascending}
 use Rattle.hyphenation_hyphenator.specs.Private.Opportunities.{won_at, won_break, is_won, won_within}
-use Rattle.hyphenation_score.specs.Scoring.{frame, bearers, value_of, value_at, winner_at, winners}
-use Rattle.hyphenation_score.proofs.FirstGreatest.{value_of-first}
+use Rattle.hyphenation_score.specs.Laws.{ValueIsBorne, WinnerHasValue}
+use Rattle.hyphenation_score.specs.Scoring.{value_of, value_at, winner_at, winners}
 use Rattle.hyphenation_hyphenator.proofs.Fitting.{EndsAt}
 use Rattle.hyphenation_hyphenator.proofs.NumberedCharacters.{picked_more}
-use Rattle.hyphenation_hyphenator.proofs.RulesAscend.{rules_are_sound, by_patterns_ascend, by_exception_ascends}
+use Rattle.hyphenation_hyphenator.proofs.RulesAscend.{rules_are_sound, exceptions_ascend, by_patterns_ascend, by_exception_ascends}
 
 pub some_if : {X : Type 0} (t : Bool) (x y : X) → Some x ≡ cond t (Some y) None → (t ≡ true) × (x ≡ y)
 some_if true x y h = (refl, cc)
@@ -103,8 +103,8 @@ same_won f g test odd bounds placed a (suc n) agree =
 
 -- The places that are won within bounds are the breaks that the keys allow.
 pub won_allowed : {C : Type 0} (change_of : C → Option Change) (keys : Patterns C) (word : List ℕ) (bounds : ℕ × ℕ) (found : List (Option (Entry C)))
-    → found ≡ winners keys word → won_within change_of found bounds ≡ breaks_within (breaks_at_odd_values change_of keys word) bounds
-won_allowed {C} change_of keys word bounds found is =
+    → WinnerHasValue C → found ≡ winners keys word → won_within change_of found bounds ≡ breaks_within (breaks_at_odd_values change_of keys word) bounds
+won_allowed {C} change_of keys word bounds found has_value is =
     let n = length word - 1 in
     let ws : List (Option (Entry C)) = winners keys word in
     let count : length ws ≡ n = length-map-range_with_len (λ p. winner_at keys word p) 1 n in
@@ -115,7 +115,7 @@ won_allowed {C} change_of keys word bounds found is =
     (λ i l h.
     let winner : slice_index_or ws i None ≡ winner_at keys word (i + 1) = at i (omega arith) in (
       ap (λ w. break_at (i + 1) (option_and_then (λ entry. change_of entry.change) w)) winner,
-      ap (λ w. is_odd (value_of w) && within bounds (i + 1)) winner ∙ ap (λ v. is_odd v && within bounds (i + 1)) (value_of-first (bearers keys (frame word) (i + 1))),
+      ap (λ w. is_odd (value_of w) && within bounds (i + 1)) winner ∙ ap (λ v. is_odd v && within bounds (i + 1)) (has_value keys word (i + 1)),
     ))
 
 -- What is found for an exception.
@@ -123,18 +123,18 @@ pub exception_is : {C B : Type 0} (change_of : C → Option Change) (break_of : 
     → found ≡ breaks_within (map break_of listed) bounds → Some found ≡ by_exception (rules_of change_of break_of contents) word bounds
 exception_is change_of break_of contents word listed found bounds is e = ap Some e ∙ ap (λ o. option_map (λ l. breaks_within l bounds) (option_map (map break_of) o)) (sym is)
 
-pub found_ascend : {C B : Type 0} (change_of : C → Option Change) (break_of : B → Break) (contents : Contents C B) (word : List ℕ) (bounds : ℕ × ℕ) (found : List Break) → IsDictionary change_of break_of contents → IsUtf8 word
+pub found_ascend : {C B : Type 0} (change_of : C → Option Change) (break_of : B → Break) (contents : Contents C B) (word : List ℕ) (bounds : ℕ × ℕ) (found : List Break) → IsDictionary change_of break_of contents
     → Some found ≡ by_exception (rules_of change_of break_of contents) word bounds → Ascending word found
-found_ascend change_of break_of contents word bounds found kept u is =
-    subst (λ o. IfSome o (λ listed. Ascending word listed)) (sym is) (by_exception_ascends (rules_of change_of break_of contents) word bounds (rules_are_sound change_of break_of contents word kept u))
+found_ascend change_of break_of contents word bounds found kept is =
+    subst (λ o. IfSome o (λ listed. Ascending word listed)) (sym is) (by_exception_ascends (rules_of change_of break_of contents) word bounds (exceptions_ascend change_of break_of contents word kept))
 
 -- Listed breaks within bounds ascend.
-pub listed_ascend : {C B : Type 0} (change_of : C → Option Change) (break_of : B → Break) (contents : Contents C B) (word : List ℕ) (listed : List B) (bounds : ℕ × ℕ) (found : List Break) → IsDictionary change_of break_of contents → IsUtf8 word
+pub listed_ascend : {C B : Type 0} (change_of : C → Option Change) (break_of : B → Break) (contents : Contents C B) (word : List ℕ) (listed : List B) (bounds : ℕ × ℕ) (found : List Break) → IsDictionary change_of break_of contents
     → finite.get contents.exceptions word ≡ Some listed → found ≡ breaks_within (map break_of listed) bounds → Ascending word found
-listed_ascend change_of break_of contents word listed bounds found kept u is e =
-    found_ascend change_of break_of contents word bounds found kept u (exception_is change_of break_of contents word listed found bounds is e)
+listed_ascend change_of break_of contents word listed bounds found kept is e =
+    found_ascend change_of break_of contents word bounds found kept (exception_is change_of break_of contents word listed found bounds is e)
 
-pub won_ascend : {C B : Type 0} (change_of : C → Option Change) (break_of : B → Break) (contents : Contents C B) (word : List ℕ) (bounds : ℕ × ℕ) (found : List Break) → IsDictionary change_of break_of contents → IsUtf8 word
+pub won_ascend : {C B : Type 0} (change_of : C → Option Change) (break_of : B → Break) (contents : Contents C B) (word : List ℕ) (bounds : ℕ × ℕ) (found : List Break) → ValueIsBorne C → IsDictionary change_of break_of contents → IsUtf8 word
     → found ≡ by_patterns (rules_of change_of break_of contents) word bounds → Ascending word found
-won_ascend change_of break_of contents word bounds found kept u is =
-    subst (Ascending word) (sym is) (by_patterns_ascend (rules_of change_of break_of contents) word bounds (rules_are_sound change_of break_of contents word kept u))
+won_ascend change_of break_of contents word bounds found borne kept u is =
+    subst (Ascending word) (sym is) (by_patterns_ascend (rules_of change_of break_of contents) word bounds (rules_are_sound change_of break_of contents word borne kept u))

@@ -8,6 +8,7 @@ use Rattle.hyphenation_breaks.specs.Break.{Break, Change, plain_break}
 use Rattle.hyphenation_breaks.specs.Dictionary.{Contents}
 use Rattle.hyphenation_breaks.specs.Invariant.{IsDictionary}
 use Rattle.hyphenation_hyphenator.specs.declared.case_folding.Shift.{Shift}
+use Rattle.hyphenation_score.specs.Laws.{ValueIsBorne, WinnerIsFirst}
 use Rattle.hyphenation_segments.specs.Fits.{Fits}
 use Rattle.hyphenation_hyphenator.specs.Fitting.{kept_breaks, fitted_breaks, fitted_breaks_of, KeepRanges}
 use Rattle.hyphenation_hyphenator.specs.Private.Fitting.{is_steady_by}
@@ -71,15 +72,16 @@ soft_breaks_are rules word found some is =
     is ∙ sym (cond-false (length (soft_hyphens word) == 0) (map (break_carried_back word) (fitted_breaks word (opportunities rules (fold_case word)))) (map plain_break (soft_hyphens word)) (some_soft_hyphens (soft_hyphens word) some))
 
 -- The breaks that are kept of a dictionary's opportunities fit, and their ranges take as many bytes.
-module _ {C B : Type 0} (change_of : C → Option Change) (break_of : B → Break) (contents : Contents C B) (word : List ℕ) (kept : IsDictionary change_of break_of contents) (u : IsUtf8 word) where
+module _ {C B : Type 0} (change_of : C → Option Change) (break_of : B → Break) (contents : Contents C B) (word : List ℕ) (borne : ValueIsBorne C) (first : WinnerIsFirst C)
+    (kept : IsDictionary change_of break_of contents) (u : IsUtf8 word) where
   abbrev all : List Break
   all = opportunities (rules_of change_of break_of contents) (fold_case word)
 
   ascend : Ascending (fold_case word) all
-  ascend = opportunities_ascend (rules_of change_of break_of contents) (fold_case word) (rules_are_sound change_of break_of contents (fold_case word) kept (fold_is_utf8 word u))
+  ascend = opportunities_ascend (rules_of change_of break_of contents) (fold_case word) (rules_are_sound change_of break_of contents (fold_case word) borne kept (fold_is_utf8 word u))
 
   ranged : AreRanged (fold_case word) all
-  ranged = opportunities_ranged change_of break_of contents (fold_case word) kept (fold_is_utf8 word u)
+  ranged = opportunities_ranged change_of break_of contents (fold_case word) borne first kept (fold_is_utf8 word u)
 
   pub opportunities_fit : Fits word (map (break_carried_back word) (fitted_breaks word all))
   opportunities_fit = fitted_fit word all u ascend ranged

@@ -6,21 +6,15 @@ use Rattle.std.specs.Str.{IsUtf8, IsCharBoundary, all_scalars}
 use Rattle.std.proofs.lemmas.List.{length-take, take-map, length-map}
 use Rattle.std.proofs.lemmas.Str.{chars-encodes, scalars-chars, encodes-chars}
 use Rattle.ucd_table.specs.Rows.{in_ranges}
-use Rattle.ucd_table.proofs.Computing.{tables}
-use Rattle.ucd_table.proofs.RangedFacts.{values_ok, Stepped-at_values}
-use Rattle.ucd_case.proofs.CaseFoldingLemmas.{simple_folding_stepped}
 use Rattle.ucd_derived.specs.UppercaseRanges.{uppercase_ranges}
 use Rattle.unicode.specs.Binary.{is_uppercase}
 use Rattle.unicode.specs.CaseFolding.{simple_folding, simple_fold}
 use Rattle.hyphenation_hyphenator.specs.Places.{place_of_character}
 use Rattle.hyphenation_hyphenator.specs.Folding.{fold_character, fold_case, has_uppercase, carried_back}
+use Rattle.hyphenation_hyphenator.proofs.FoldingRows.{foldings_are_scalars}
 use Rattle.hyphenation_hyphenator.proofs.Places.{place_end, place_rises, place_reflects_order, place_of_boundary, boundary_within, characters_before, place_is_boundary, same_place}
 
 -- What the table folds to are characters.
-
-foldings_are_scalars : (c : ℕ) → all_scalars (simple_folding c) ≡ true
-unfolding tables values_ok simple_folding_stepped
-foldings_are_scalars = Stepped-at_values simple_folding simple_folding_stepped all_scalars refl
 
 first_is_scalar : (v : List ℕ) (c : ℕ) → all_scalars v ≡ true → IsScalar c → IsScalar (slice_index_or v 0 c)
 first_is_scalar [] c h s = s

@@ -3,10 +3,10 @@ pub mod PlacesFromEnd
 pub mod Places
 pub mod Ascending
 pub mod NumberedCharacters
+pub mod FoldingRows
 pub mod Folds
 pub mod Shifts
 pub mod Uppercase
-pub mod AsciiLetters
 pub mod Refolding
 pub mod SoftHyphens
 pub mod Occurrences
@@ -19,6 +19,7 @@ pub mod ShiftOrder
 pub mod FittedBreaks
 pub mod PlainBreaks
 pub mod UnmovedPlaces
+pub mod CapitalRanges
 pub mod AsciiWords
 pub mod SmallLetters
 pub mod OddPlaces

@@ -10,9 +10,9 @@ use Rattle.hyphenation_breaks.specs.Dictionary.{Contents, entries_of_keys}
 use Rattle.hyphenation_breaks.specs.Invariant.{IsDictionary}
 use Rattle.hyphenation_breaks.specs.declared.entry.Entry.{Entry}
 use Rattle.hyphenation_score.specs.Scoring.{frame, value_at}
+use Rattle.hyphenation_score.specs.Laws.{ValueIsBorne}
 use Rattle.hyphenation_score.specs.Winners.{Bears}
 use Rattle.hyphenation_hyphenator.proofs.Ascending.{boundary_from_test}
-use Rattle.hyphenation_score.proofs.WinnerPlaces.{value_borne}
 
 -- Where a text stands in a longer one, its boundaries are boundaries of the longer one.
 pub occurrence_boundary : (framed : List ℕ) (start end place : ℕ) → IsUtf8 framed → start < end → end ≤ length framed
@@ -69,9 +69,9 @@ bears_boundary change_of break_of contents word p start end entry kept u within 
 
 -- No value above 0 stands inside of a character.
 pub value_boundary : {C B : Type 0} (change_of : C → Option Change) (break_of : B → Break) (contents : Contents C B) (word : List ℕ) (p : ℕ)
-    → IsDictionary change_of break_of contents → IsUtf8 word → p ≤ length word → 0 < value_at (entries_of_keys contents) word p → IsCharBoundary word p
-value_boundary change_of break_of contents word p kept u within some =
-    elim (value_borne (entries_of_keys contents) word p) [
+    → ValueIsBorne C → IsDictionary change_of break_of contents → IsUtf8 word → p ≤ length word → 0 < value_at (entries_of_keys contents) word p → IsCharBoundary word p
+value_boundary change_of break_of contents word p borne_by kept u within some =
+    elim (borne_by (entries_of_keys contents) word p) [
       | inl nothing ↦ absurd (omega (arith, nothing))
       | inr borne ↦ bears_boundary change_of break_of contents word p borne.0 borne.1 borne.2 kept u within borne.3
     ]

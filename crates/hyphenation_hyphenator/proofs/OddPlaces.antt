@@ -9,14 +9,20 @@ use Rattle.std.proofs.lemmas.List.FromFn.{get_or-map-range_with_len, length-map-
 use Rattle.hyphenation_breaks.specs.Break.{Break, Change, plain_break, break_at}
 use Rattle.hyphenation_breaks.specs.Dictionary.{Patterns}
 use Rattle.hyphenation_hyphenator.specs.Opportunities.{is_odd, within, breaks_within, winning_break, breaks_at_odd_values}
+use Rattle.hyphenation_score.specs.Laws.{NoChangeIsWon}
 use Rattle.hyphenation_score.specs.OnePass.{carry_change}
 use Rattle.hyphenation_score.specs.Scoring.{frame, bearers, value_at, values}
-use Rattle.hyphenation_score.proofs.CarriedChanges.{none_wins}
-use Rattle.hyphenation_score.proofs.NumberRows.{range-append, range_more}
 
 pub none_of : (test : ℕ → Bool) (a n : ℕ) → ((p : ℕ) → a ≤ p → p < a + n → test p ≡ false) → filter test (range_with_len a n) ≡ []
 none_of test a zero h = refl
 none_of test a (suc n) h = rw (h a (omega arith) (omega arith)) (none_of test (a + 1) n (λ p low high. h p (omega arith) (omega arith)))
+
+range-append : (a m n : ℕ) → range_with_len a (m + n) ≡ range_with_len a m ++ range_with_len (a + m) n
+range-append a zero n = ap (range_with_len a) (omega arith) ∙ ap (λ (k : ℕ). range_with_len k n) (omega arith)
+range-append a (suc m) n =
+    let one : suc m + n ≡ suc (m + n) = omega arith in
+    let two : (a + 1) + m ≡ a + suc m = omega arith in
+    ap (range_with_len a) one ∙ ap (λ (zs : List ℕ). a ∷ zs) (range-append (a + 1) m n ∙ ap (λ (k : ℕ). range_with_len (a + 1) m ++ range_with_len k n) two)
 
 parts : (test : ℕ → Bool) (a m n : ℕ) → filter test (range_with_len a (m + n)) ≡ filter test (range_with_len a m) ++ filter test (range_with_len (a + m) n)
 parts test a m n = ap (filter test) (range-append a m n) ∙ filter-append test (range_with_len a m) (range_with_len (a + m) n)
@@ -64,7 +70,7 @@ outside values bounds first end p is_first is_end one (inr late) = elim (cases_l
 
 -- One more place of a row that is filtered.
 filtered_more : (test : ℕ → Bool) (first n : ℕ) → filter test (range_with_len first (n + 1)) ≡ filter test (range_with_len first n) ++ cond (test (first + n)) ((first + n) ∷ []) []
-filtered_more test first n = ap (filter test) (range_more first n) ∙ filter-append test (range_with_len first n) ((first + n) ∷ [])
+filtered_more test first n = ap (filter test) (range-append first n 1) ∙ filter-append test (range_with_len first n) ((first + n) ∷ [])
 
 next_is : (values items : List ℕ) (bounds : ℕ × ℕ) (first end at : ℕ) (is : Bool) → first ≡ max bounds.0 1 → end ≡ min (length values) bounds.1 → first ≤ at → at ≤ end
     → items ≡ filter (test_of values bounds) (range_with_len first (at - first))
@@ -122,9 +128,9 @@ same_breaks test odd break_to bounds is first (suc n) agree =
     ]
 
 -- The odd places within bounds are the breaks that the keys allow, where no entry that bears on a place carries a change.
-pub places_allowed : {C : Type 0} (change_of : C → Option Change) (keys : Patterns C) (word : List ℕ) (bounds : ℕ × ℕ) → ((p : ℕ) → carry_change change_of (bearers keys (frame word) p) ≡ false)
+pub places_allowed : {C : Type 0} (change_of : C → Option Change) (keys : Patterns C) (word : List ℕ) (bounds : ℕ × ℕ) → NoChangeIsWon C → ((p : ℕ) → carry_change change_of (bearers keys (frame word) p) ≡ false)
     → map plain_break (filter (test_of (values keys word) bounds) (range_with_len 1 (length (values keys word)))) ≡ breaks_within (breaks_at_odd_values change_of keys word) bounds
-places_allowed change_of keys word bounds none =
+places_allowed change_of keys word bounds none_wins none =
     let n = length word - 1 in
     let test : ℕ → Bool = test_of (values keys word) bounds in
     let count : length (values keys word) ≡ n = length-map-range_with_len (λ p. value_at keys word p) 1 n in

@@ -1,13 +1,26 @@
 -- The pieces of a text between word bounds, each given back as it is, join to the text.
-use Rattle.std.proofs.Common.{◌≡◌, ℕ, List, [], ◌∷◌, ◌++◌, map, length, refl, sym, ap, subst, ◌∙◌, append_assoc}
+use Rattle.std.proofs.Common.{◌≡◌, ℕ, List, [], ◌∷◌, ◌++◌, map, length, refl, sym, ap, subst, ◌∙◌, true, false, cond, append_assoc, append-nil}
 use Rattle.std.specs.Prelude.{encode_utf8, encode_utf8_all}
 use Rattle.std.specs.List.{concat, flat_map}
 use Rattle.std.specs.Str.{IsUtf8, chars}
 use Rattle.std.proofs.Math.Seq.{take-append_seam}
-use Rattle.std.proofs.lemmas.Str.{IsUtf8-past_char, IsUtf8-take, IsCharBoundary-at_seam}
-use Rattle.unicode_segmentation.specs.Segments.{cut, segments}
+use Rattle.std.proofs.lemmas.Str.{encodes-append, encodes-chars, IsUtf8-past_char, IsUtf8-take, IsCharBoundary-at_seam}
+use Rattle.unicode_segmentation.specs.Segments.{Rule, prepend, cut, segments}
 use Rattle.unicode_segmentation.specs.Word.{is_word_break, word_bounds}
-use Rattle.unicode_segmentation.proofs.SegmentsLemmas.{concat-segments}
+
+-- The bytes of a part that is put in front, and of what is cut.
+front_bytes : (part : List ℕ) (pieces : List (List ℕ)) → concat (map encode_utf8_all (prepend part pieces)) ≡ encode_utf8_all part ++ concat (map encode_utf8_all pieces)
+front_bytes part [] = refl
+front_bytes part (cs ∷ pieces) = ap (λ xs. xs ++ concat (map encode_utf8_all pieces)) (encodes-append part cs) ∙ append_assoc (encode_utf8_all part) (encode_utf8_all cs) (concat (map encode_utf8_all pieces))
+
+cut_bytes : (rule : Rule) (before cs after : List ℕ) → concat (map encode_utf8_all (cut rule before cs after)) ≡ encode_utf8_all cs
+unfolding cut
+cut_bytes rule before [] after = refl
+cut_bytes rule before (c ∷ cs) after =
+    let rest = cut rule (c ∷ before) cs after in
+    let bytes = encode_utf8_all (c ∷ []) ++ concat (map encode_utf8_all rest) in
+    elim (rule (c ∷ before) (cs ++ after)) as (λ b. concat (map encode_utf8_all (cond b ((c ∷ []) ∷ rest) (prepend (c ∷ []) rest))) ≡ bytes) [ true ↦ refl | false ↦ front_bytes (c ∷ []) rest ]
+    ∙ ap (λ x. x ++ concat (map encode_utf8_all rest)) (append-nil (encode_utf8 c)) ∙ ap (λ xs. encode_utf8 c ++ xs) (cut_bytes rule (c ∷ before) cs after)
 
 after_piece : (cs rest : List ℕ) → IsUtf8 (encode_utf8_all cs ++ rest) → IsUtf8 rest
 after_piece [] rest u = u
@@ -26,5 +39,5 @@ each_back f back (cs ∷ pieces) u =
 pub pieces_back : (f : List ℕ → List ℕ) → ((piece : List ℕ) → IsUtf8 piece → f piece ≡ piece) → (text : List ℕ) → IsUtf8 text → flat_map f (word_bounds text) ≡ text
 unfolding segments
 pieces_back f back text u =
-    let whole = concat-segments is_word_break text u in
+    let whole = cut_bytes is_word_break [] (chars text) [] ∙ encodes-chars text u in
     each_back f back (cut is_word_break [] (chars text) []) (subst IsUtf8 (sym whole) u) ∙ whole

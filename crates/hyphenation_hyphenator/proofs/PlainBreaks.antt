@@ -16,6 +16,7 @@ use Rattle.hyphenation_hyphenator.specs.Private.Opportunities.{lent_break}
 use Rattle.hyphenation_hyphenator.specs.Folding.{fold_case, carried_back, shifts_of}
 use Rattle.hyphenation_hyphenator.specs.Opportunities.{Rules, no_change, rules_of, within, breaks_within, winning_break, by_patterns, opportunities_in, opportunities, boundaries_by, all_breaks_of, breaks_as_written, break_carried_back, Ascending}
 use Rattle.hyphenation_hyphenator.specs.SoftHyphens.{soft_hyphens}
+use Rattle.hyphenation_score.specs.Laws.{ValueIsBorne}
 use Rattle.hyphenation_score.specs.Scoring.{winner_at}
 use Rattle.hyphenation_hyphenator.proofs.Fitting.{kept_from, kept_is, fitted_by_shifts}
 use Rattle.hyphenation_hyphenator.proofs.Folds.{fold_is_utf8}
@@ -112,8 +113,8 @@ module _ (contents : Contents (Unit {0}) ℕ) (word : List ℕ) where
       ]
 
   -- Its breaks are the same where they are fitted first.
-  pub fitted_alike : IsDictionary no_change plain_break contents → IsUtf8 word → fitted_breaks_of rules word ≡ all_breaks_of rules word
-  fitted_alike kept u =
+  pub fitted_alike : ValueIsBorne (Unit {0}) → IsDictionary no_change plain_break contents → IsUtf8 word → fitted_breaks_of rules word ≡ all_breaks_of rules word
+  fitted_alike borne kept u =
       let all = opportunities rules (fold_case word) in
-      let ascend : Ascending (fold_case word) all = opportunities_ascend rules (fold_case word) (rules_are_sound no_change plain_break contents (fold_case word) kept (fold_is_utf8 word u)) in
+      let ascend : Ascending (fold_case word) all = opportunities_ascend rules (fold_case word) (rules_are_sound no_change plain_break contents (fold_case word) borne kept (fold_is_utf8 word u)) in
       ap (breaks_as_written word) (sym (fitted_by_shifts word all) ∙ plain_kept (fold_case word) (shifts_of word) all ascend (opportunities_plain (fold_case word)))

@@ -8,11 +8,12 @@ use Rattle.std.specs.Str.{IsUtf8, IsCharBoundary}
 use Rattle.std.specs.FinMap as finite
 use Rattle.std.proofs.lemmas.Bool.{and_parts}
 use Rattle.std.proofs.lemmas.List.Elements.{All-head, All-tail}
+use mathlib.Core.List.{map-map}
 use Rattle.hyphenation_breaks.specs.Break.{Break, Change, plain_break, ascend_on, end_of}
 use Rattle.hyphenation_breaks.specs.Dictionary.{Contents, entries_of_keys}
 use Rattle.hyphenation_breaks.specs.Invariant.{IsDictionary, are_listed}
-use Rattle.hyphenation_breaks.proofs.PlacesInOrder.{map_twice}
 use Rattle.hyphenation_segments.specs.Fits.{Fits, FitsFrom}
+use Rattle.hyphenation_score.specs.Laws.{ValueIsBorne}
 use Rattle.hyphenation_score.specs.Scoring.{value_at}
 use Rattle.hyphenation_hyphenator.specs.Opportunities.{Rules, rules_of, is_odd, within, breaks_within, winning_break, by_patterns, by_exception, opportunities_in, opportunities, boundaries_by, exception_within_boundaries, Ascending}
 use Rattle.hyphenation_hyphenator.proofs.Ascending.{Ascend, ascend_from_test, ascend_fits, test_from_ascend}
@@ -53,7 +54,7 @@ pub record AreSound (rules : Rules) (word : List ℕ) : Type 0 where
 
 listed_ascend : {B : Type 0} (break_of : B → Break) (word : List ℕ) (listed : List B) → are_listed break_of word listed ≡ true → Ascending word (map break_of listed)
 listed_ascend break_of word listed h =
-    ap (ascend_on word 0) (map_twice (λ b. b.place) break_of listed) ∙ (and_parts (ascend_on word 0 (map (λ b. (break_of b).place) listed)) _ h).0
+    ap (ascend_on word 0) (map-map (λ b. b.place) break_of listed) ∙ (and_parts (ascend_on word 0 (map (λ b. (break_of b).place) listed)) _ h).0
 
 kept_ascend : (text : List ℕ) (test : ℕ → Bool) (break_to : ℕ → Break) → ((p : ℕ) → (break_to p).place ≡ p) → (first n least : ℕ) → least ≤ first
     → ((p : ℕ) → p < first + n → test p ≡ true → IsCharBoundary text p) → AscendFrom text least (map break_to (filter test (range_with_len first n)))
@@ -69,18 +70,23 @@ pub odd_is_some : (value : ℕ) → is_odd value ≡ true → 0 < value
 odd_is_some zero h = absurd cc
 odd_is_some (suc value) h = omega arith
 
+pub exceptions_ascend : {C B : Type 0} (change_of : C → Option Change) (break_of : B → Break) (contents : Contents C B) (word : List ℕ)
+    → IsDictionary change_of break_of contents → IfSome ((rules_of change_of break_of contents).listed word) (λ listed. Ascending word listed)
+exceptions_ascend {C} {B} change_of break_of contents word kept =
+    elim (finite.get contents.exceptions word) as (λ found. finite.get contents.exceptions word ≡ found → IfSome (option_map (map break_of) found) (λ listed. Ascending word listed)) [
+      | None ↦ λ _. tt
+      | Some listed ↦ λ is. listed_ascend break_of word listed (kept.exceptions word listed is).ascend
+    ] refl
+
 pub rules_are_sound : {C B : Type 0} (change_of : C → Option Change) (break_of : B → Break) (contents : Contents C B) (word : List ℕ)
-    → IsDictionary change_of break_of contents → IsUtf8 word → AreSound (rules_of change_of break_of contents) word
-rules_are_sound {C} {B} change_of break_of contents word kept u =
+    → ValueIsBorne C → IsDictionary change_of break_of contents → IsUtf8 word → AreSound (rules_of change_of break_of contents) word
+rules_are_sound {C} {B} change_of break_of contents word borne kept u =
     let keys = entries_of_keys contents in
     record {
-      listed = elim (finite.get contents.exceptions word) as (λ found. finite.get contents.exceptions word ≡ found → IfSome (option_map (map break_of) found) (λ listed. Ascending word listed)) [
-        | None ↦ λ _. tt
-        | Some listed ↦ λ is. listed_ascend break_of word listed (kept.exceptions word listed is).ascend
-      ] refl;
+      listed = exceptions_ascend change_of break_of contents word kept;
       allowed = to_ascending word ((rules_of change_of break_of contents).allowed word)
           (kept_ascend word (λ place. is_odd (value_at keys word place)) (winning_break change_of keys word) (λ _. refl) 1 (length word - 1) 0 (omega arith)
-          (λ p lt odd. value_boundary change_of break_of contents word p kept u (omega arith) (odd_is_some (value_at keys word p) odd)));
+          (λ p lt odd. value_boundary change_of break_of contents word p borne kept u (omega arith) (odd_is_some (value_at keys word p) odd)));
     }
 
 -- ---- what they give
@@ -88,18 +94,18 @@ rules_are_sound {C} {B} change_of break_of contents word kept u =
 pub by_patterns_ascend : (rules : Rules) (word : List ℕ) (bounds : ℕ × ℕ) → AreSound rules word → Ascending word (by_patterns rules word bounds)
 by_patterns_ascend rules word bounds sound = within_ascending word (rules.allowed word) bounds sound.allowed
 
-pub by_exception_ascends : (rules : Rules) (word : List ℕ) (bounds : ℕ × ℕ) → AreSound rules word → IfSome (by_exception rules word bounds) (λ listed. Ascending word listed)
-by_exception_ascends rules word bounds sound =
+pub by_exception_ascends : (rules : Rules) (word : List ℕ) (bounds : ℕ × ℕ) → IfSome (rules.listed word) (λ listed. Ascending word listed) → IfSome (by_exception rules word bounds) (λ listed. Ascending word listed)
+by_exception_ascends rules word bounds listed =
     elim (rules.listed word) as (λ found. IfSome found (λ listed. Ascending word listed) → IfSome (option_map (λ listed. breaks_within listed bounds) found) (λ listed. Ascending word listed)) [
       | None ↦ λ _. tt
       | Some listed ↦ λ a. within_ascending word listed bounds a
-    ] sound.listed
+    ] listed
 
 pub exception_ascends : (rules : Rules) (word : List ℕ) → AreSound rules word → IfSome (exception_within_boundaries rules word) (λ listed. Ascending word listed)
 exception_ascends rules word sound =
     elim (boundaries_by rules word) as (λ found. IfSome (option_and_then (by_exception rules word) found) (λ listed. Ascending word listed)) [
       | None ↦ tt
-      | Some bounds ↦ by_exception_ascends rules word bounds sound
+      | Some bounds ↦ by_exception_ascends rules word bounds sound.listed
     ]
 
 pub opportunities_ascend : (rules : Rules) (word : List ℕ) → AreSound rules word → Ascending word (opportunities rules word)
@@ -110,7 +116,7 @@ opportunities_ascend rules word sound =
           elim (by_exception rules word bounds) as (λ found. IfSome found (λ listed. Ascending word listed) → Ascending word (unwrap_or found (by_patterns rules word bounds))) [
             | None ↦ λ _. by_patterns_ascend rules word bounds sound
             | Some listed ↦ λ a. a
-          ] (by_exception_ascends rules word bounds sound)
+          ] (by_exception_ascends rules word bounds sound.listed)
     ]
 
 -- ---- increasing places

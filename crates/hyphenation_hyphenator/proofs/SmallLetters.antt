@@ -1,5 +1,5 @@
 -- Small letters are no capitals and no soft hyphens, and a word of them folds to itself.
-use Rattle.std.proofs.Common.{◌≡◌, ℕ, zero, suc, ◌+◌, ◌-◌, ◌*◌, ◌<◌, ◌≤◌, ◌==◌, ◌&&◌, ◌||◌, ◌⊎◌, not, Bool, true, false, cond, nat_le, leb-true, le-leb, eqb-true, List, [], ◌∷◌, length, take, drop, slice_index, refl, sym, ap, subst, ◌∙◌, arith, inl, inr}
+use Rattle.std.proofs.Common.{◌≡◌, ℕ, zero, suc, ◌+◌, ◌-◌, ◌*◌, ◌<◌, ◌≤◌, ◌==◌, ◌&&◌, ◌||◌, ◌⊎◌, Bool, true, false, cond, nat_le, leb-true, le-leb, eqb-true, List, [], ◌∷◌, length, take, drop, slice_index, refl, sym, ap, subst, ◌∙◌, arith, inl, inr}
 use Rattle.std.specs.Char.{is_ascii_lowercase}
 use Rattle.std.specs.List.{list_all, list_any}
 use Rattle.std.specs.Str.{IsUtf8, IsCharBoundary, chars, chars_after}
@@ -7,10 +7,8 @@ use Rattle.std.proofs.Math.Seq.{drop-cons}
 use Rattle.std.proofs.lemmas.Bool.{and_parts, or_cases, cases_lt, lt-ltb, le-ltb}
 use Rattle.std.proofs.lemmas.List.{drop_all}
 use Rattle.std.proofs.lemmas.Str.{chars-nil}
-use Rattle.ucd_table.proofs.Facts.{Stepped-below}
-use Rattle.ucd_derived.specs.Binary.{is_uppercase}
-use Rattle.ucd_derived.proofs.BinaryLemmas.{is_uppercase_stepped}
-use Rattle.ucd_derived.proofs.Computing.{ucd_derived}
+use Rattle.ucd_derived.specs.UppercaseRanges.{uppercase_ranges}
+use Rattle.unicode.specs.Binary.{is_uppercase}
 use Rattle.hyphenation_breaks.specs.Break.{Break}
 use Rattle.hyphenation_hyphenator.specs.Fitting.{kept_breaks, fitted_breaks_of}
 use Rattle.hyphenation_hyphenator.specs.Private.Fitting.{is_steady_by}
@@ -18,30 +16,12 @@ use Rattle.hyphenation_hyphenator.specs.Folding.{fold_case, carried_back}
 use Rattle.hyphenation_hyphenator.specs.Opportunities.{Rules, opportunities, Ascending}
 use Rattle.hyphenation_hyphenator.specs.Places.{place_of_character}
 use Rattle.hyphenation_hyphenator.specs.Private.SmallLetters.{is_small_letter, is_small_pair, are_small_letters}
+use Rattle.hyphenation_hyphenator.proofs.CapitalRanges.{none_upper_between}
 use Rattle.hyphenation_hyphenator.proofs.Folds.{fold_stays}
 use Rattle.hyphenation_hyphenator.proofs.Places.{place_of_boundary}
 use Rattle.hyphenation_hyphenator.proofs.Refolding.{stays_without_shifts}
 use Rattle.hyphenation_hyphenator.proofs.SoftHyphens.{none_at_all}
 use Rattle.hyphenation_hyphenator.proofs.UnmovedPlaces.{unmoved_breaks}
-
-ends_in : (low high c : ℕ) → high < 0x460 → (nat_le low c && nat_le c high) ≡ true → c < 0x460
-ends_in low high c h e = let last = leb-true c high (and_parts (nat_le low c) (nat_le c high) e).1 in omega arith
-
-small_below : (c : ℕ) → is_small_letter c ≡ true → c < 0x460
-small_below c e =
-    elim (or_cases (((nat_le 0x61 c && nat_le c 0x7A) || (nat_le 0xDF c && nat_le c 0xFF)) || (nat_le 0x430 c && nat_le c 0x45F)) (c == 0x151 || c == 0x171) e) [
-      | inl ranged ↦ elim (or_cases ((nat_le 0x61 c && nat_le c 0x7A) || (nat_le 0xDF c && nat_le c 0xFF)) (nat_le 0x430 c && nat_le c 0x45F) ranged) [
-        | inl latin ↦ elim (or_cases (nat_le 0x61 c && nat_le c 0x7A) (nat_le 0xDF c && nat_le c 0xFF) latin) [
-          | inl ascii ↦ ends_in 0x61 0x7A c (omega arith) ascii
-          | inr more ↦ ends_in 0xDF 0xFF c (omega arith) more
-        ]
-        | inr cyrillic ↦ ends_in 0x430 0x45F c (omega arith) cyrillic
-      ]
-      | inr alone ↦ elim (or_cases (c == 0x151) (c == 0x171) alone) [
-        | inl o ↦ let is = eqb-true c 0x151 o in omega arith
-        | inr u ↦ let is = eqb-true c 0x171 u in omega arith
-      ]
-    ]
 
 -- ---- by their bytes
 
@@ -193,18 +173,22 @@ letters_spelt (b ∷ c ∷ bs) e = elim (cases_lt b 0x80) [
       all_small ((b - 192) * 64 + (c - 128)) (chars bs) (chars (b ∷ c ∷ bs)) (chars_pair b c bs pair.0 pair.1) pair.2 (letters_spelt bs parts.1)
 ]
 
--- It is so of each number below, where it is tested.
-implies : (a b : Bool) → (not a || not b) ≡ true → a ≡ true → b ≡ false
-implies true true e h = absurd cc
-implies true false e h = refl
-implies false b e h = absurd cc
-
-tested : (c : ℕ) → c < 0x460 → (not (is_small_letter c) || not (is_uppercase c)) ≡ true
-unfolding ucd_derived
-tested c below = Stepped-below is_uppercase is_uppercase_stepped (λ x v. not (is_small_letter x) || not v) 0x460 refl c below
-
 pub small_not_upper : (c : ℕ) → is_small_letter c ≡ true → is_uppercase c ≡ false
-small_not_upper c e = implies (is_small_letter c) (is_uppercase c) (tested c (small_below c e)) e
+unfolding uppercase_ranges
+small_not_upper c e =
+    elim (or_cases (((nat_le 0x61 c && nat_le c 0x7A) || (nat_le 0xDF c && nat_le c 0xFF)) || (nat_le 0x430 c && nat_le c 0x45F)) (c == 0x151 || c == 0x171) e) [
+      | inl ranged ↦ elim (or_cases ((nat_le 0x61 c && nat_le c 0x7A) || (nat_le 0xDF c && nat_le c 0xFF)) (nat_le 0x430 c && nat_le c 0x45F) ranged) [
+        | inl latin ↦ elim (or_cases (nat_le 0x61 c && nat_le c 0x7A) (nat_le 0xDF c && nat_le c 0xFF) latin) [
+          | inl ascii ↦ let ends = ends_of 0x61 0x7A c ascii in none_upper_between 0x61 0x7A c refl ends.0 ends.1
+          | inr more ↦ let ends = ends_of 0xDF 0xFF c more in none_upper_between 0xDF 0xFF c refl ends.0 ends.1
+        ]
+        | inr cyrillic ↦ let ends = ends_of 0x430 0x45F c cyrillic in none_upper_between 0x430 0x45F c refl ends.0 ends.1
+      ]
+      | inr alone ↦ elim (or_cases (c == 0x151) (c == 0x171) alone) [
+        | inl o ↦ let is = eqb-true c 0x151 o in none_upper_between 0x151 0x151 c refl (omega arith) (omega arith)
+        | inr u ↦ let is = eqb-true c 0x171 u in none_upper_between 0x171 0x171 c refl (omega arith) (omega arith)
+      ]
+    ]
 
 small_not_soft : (c : ℕ) → is_small_letter c ≡ true → (c == 0xAD) ≡ false
 small_not_soft c e =

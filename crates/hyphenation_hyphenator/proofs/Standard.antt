@@ -1,11 +1,12 @@
 -- Breaks that are carried back, and the rules after an edit of the exceptions.
-use Rattle.std.proofs.Common.{◌≡◌, ◌≢◌, ℕ, ◌<◌, ◌^◌, ◌==◌, nat_eq, Result, Ok, Err, Bool, true, false, cond, List, [], ◌∷◌, length, map, take, chars, Option, Some, None, pos, ◌-ℤ◌, refl, ap, ◌∙◌}
+use Rattle.std.proofs.Common.{◌≡◌, ◌≢◌, ℕ, ◌<◌, ◌^◌, ◌==◌, nat_eq, Result, Ok, Err, Bool, true, false, cond, List, [], ◌∷◌, length, map, take, chars, Option, Some, None, pos, ◌-ℤ◌, refl, sym, ap, ◌∙◌}
 use Rattle.std.specs.Int.{saturate_unsigned, w64}
 use Rattle.std.specs.Option.{IsSome, option_map}
 use Rattle.std.specs.Result.{OnOk}
 use Rattle.std.specs.FinMap as finite
 use Rattle.std.specs.FinMap.{get-insert, get-remove}
-use Rattle.std.specs.Cmp.Lexicographic.{pointwise, nat_list_cmp_total}
+use Rattle.std.specs.Cmp.Lexicographic.{slice_cmp, pointwise, nat_list_cmp_total, nat_list_eq_equiv, texts_ties}
+use Rattle.std.specs.Ordering.{nat_cmp, eq_by_cmp}
 use Rattle.std.specs.Str.{IsUtf8, IsCharBoundary}
 use Rattle.hyphenation_breaks.specs.Break.{Break, Change}
 use Rattle.hyphenation_breaks.specs.Dictionary.{Contents}
@@ -13,7 +14,6 @@ use Rattle.hyphenation_hyphenator.specs.declared.case_folding.Shift.{Shift}
 use Rattle.hyphenation_hyphenator.specs.Places.{place_of_character}
 use Rattle.hyphenation_hyphenator.specs.Folding.{fold_case, carried_back, shifts_of, delta_below}
 use Rattle.hyphenation_hyphenator.specs.Opportunities.{rules_of, ListsAnew}
-use Rattle.hyphenation_dictionary.proofs.PatternsLemmas.{same_test}
 use Rattle.hyphenation_hyphenator.proofs.Folds.{fold_is_utf8}
 use Rattle.hyphenation_hyphenator.proofs.Places.{place_of_boundary}
 use Rattle.hyphenation_hyphenator.proofs.Shifts.{realigned}
@@ -37,6 +37,10 @@ no_soft_hyphens (x ∷ xs) h = absurd (h (λ e. cc))
 chosen_map : {B : Type 0} (break_of : B → Break) (b : Bool) (x y : Option (List B)) → option_map (map break_of) (cond b x y) ≡ cond b (option_map (map break_of) x) (option_map (map break_of) y)
 chosen_map break_of true x y = refl
 chosen_map break_of false x y = refl
+
+-- The test by which a finite map of texts looks up is the equality of their bytes.
+same_test : (a b : List ℕ) → eq_by_cmp (slice_cmp nat_cmp) a b ≡ pointwise nat_eq b a
+same_test a b = sym (texts_ties a b) ∙ nat_list_eq_equiv.symm a b
 
 -- Rules after an edit of the exceptions.
 pub lists_inserted : {C B : Type 0} (change_of : C → Option Change) (break_of : B → Break) (contents : Contents C B) (word : List ℕ) (listed : List B)

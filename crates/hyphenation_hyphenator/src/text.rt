@@ -9,6 +9,8 @@ ghost use Rattle.hyphenation_hyphenator.specs.Opportunities.{no_change, rules_of
 
 use crate::hyphenator::Hyphenator;
 use hyphenation_dictionary::dictionary::Standard;
+use hyphenation_score::laws::{value_is_borne, winner_is_first};
+use hyphenation_segments::iter::laws::segments_join;
 use hyphenation_segments::iter::push_marked;
 use std::alloc::{AllocError, Global};
 use unicode_segmentation::UnicodeSegmentation;
@@ -79,4 +81,7 @@ pub fn an_empty_mark_gives_the_text_back(dictionary: &Standard)
         → hyphenated_text (all_breaks_of (rules_of no_change plain_break dictionary.now)) [] text ≡ text }
 {
     dictionary.invariant();
+    value_is_borne::<()>();
+    winner_is_first::<()>();
+    segments_join();
 }

@@ -2,6 +2,8 @@ pub mod Division
 pub mod CutPassing
 pub mod CutRows
 pub mod FillWalk
+pub mod Pieces
+pub mod Slices
 pub mod TextBreaks
 pub mod Widths
 pub mod WordBreaks

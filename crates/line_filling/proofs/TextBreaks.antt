@@ -10,10 +10,10 @@ use Rattle.std.proofs.lemmas.List.Folds.{list_any-append, drop_split}
 use Rattle.std.proofs.lemmas.Str.{IsCharBoundary-start, IsUtf8-between}
 use Rattle.hyphenation_breaks.specs.Break.{Break, plain_break}
 use Rattle.hyphenation_hyphenator.specs.Opportunities.{Ascending}
-use Rattle.hyphenation_hyphenator.proofs.Ascending.{Ascend, ascend_from_test}
+use Rattle.hyphenation_hyphenator.specs.Laws.{FitWhereAscending}
+use Rattle.hyphenation_segments.specs.Fits.{FitsFrom}
 use Rattle.unicode_segmentation.specs.Segments.{with_offsets}
-use Rattle.unicode_segmentation.specs.Word.{is_word_break, word_bounds}
-use Rattle.unicode_segmentation.proofs.SegmentsLemmas.{IsPieceOf, All-IsPieceOf}
+use Rattle.unicode_segmentation.specs.Word.{word_bounds}
 use Rattle.line_filling.specs.Cuts.{is_in, breaks_in, word_breaks, is_plain, is_cut, cuts_after}
 use Rattle.line_filling.specs.Ends.{EachFits, AreEnds}
 use Rattle.line_filling.specs.Lines.{line, width, fits, line_ends, lines_to, parts_to, DividesFitting}
@@ -23,11 +23,24 @@ use Rattle.line_filling.specs.declared.word_breaks.WordBreaks.{WordBreaks}
 use Rattle.line_filling.proofs.Division.{Shortens, stays_ahead, are_ends}
 use Rattle.line_filling.proofs.CutRows.{row_end, row_is}
 use Rattle.line_filling.proofs.FillWalk.{IsSound, end_is_cut, cut_boundary}
+use Rattle.line_filling.proofs.Pieces.{IsPieceOf, ArePieces, all_pieces}
 use Rattle.line_filling.proofs.Widths.{shorter}
 
 -- Of each word the breaks ascend strictly, on its character boundaries.
 abbrev pub AreAscending : (List ℕ → List Break) → Type 0
 AreAscending breaks_of = (word : List ℕ) → IsUtf8 word → Ascending word (breaks_of word)
+
+-- By the law of the hyphenator: each place is no less than the least one, and a boundary.
+abbrev Ascend : List ℕ → ℕ → List ℕ → Type 0
+Ascend text least [] = Unit {0}
+Ascend text least (p ∷ ps) = (least ≤ p) × IsCharBoundary text p × Ascend text (p + 1) ps
+
+fits_ascend : (text : List ℕ) (last_end least : ℕ) (places : List ℕ) → FitsFrom text last_end least (map plain_break places) → Ascend text least places
+fits_ascend text last_end least [] f = tt
+fits_ascend text last_end least (p ∷ ps) f = (f.0.ascends, f.0.place, fits_ascend text (p + 0) (p + 1) ps f.1)
+
+ascends : (word : List ℕ) (breaks : List Break) → FitWhereAscending → Ascending word breaks → Ascend word 0 (map (λ b. b.place) breaks)
+ascends word breaks law a = let places = map (λ b. b.place) breaks in fits_ascend word 0 0 places ((law word places).1 a)
 
 -- ---- the breaks of one piece
 
@@ -61,50 +74,38 @@ placed offset (b ∷ bs) = ap (λ ps. (offset + b) ∷ ps) (placed offset bs)
 
 -- ---- the pieces of a text
 
--- Each piece begins and ends between characters of the text, and is the text between.
-abbrev pub ArePieces : List ℕ → List (ℕ × List ℕ) → Type 0
-ArePieces text [] = Unit {0}
-ArePieces text (x ∷ xs) = IsPieceOf text x × ArePieces text xs
-
-are_pieces : (text : List ℕ) (xs : List (ℕ × List ℕ)) → All (IsPieceOf text) xs → ArePieces text xs
-are_pieces text [] all = tt
-are_pieces text (x ∷ xs) all = (All-head (IsPieceOf text) x xs all, are_pieces text xs (All-tail (IsPieceOf text) x xs all))
-
-all_pieces : (text : List ℕ) → IsUtf8 text → ArePieces text (with_offsets 0 (word_bounds text))
-all_pieces text u = are_pieces text (with_offsets 0 (word_bounds text)) (All-IsPieceOf is_word_break text u)
-
-follow : (breaks_of : List ℕ → List Break) (text : List ℕ) (at : ℕ) (ps : List (List ℕ)) → IsUtf8 text → AreAscending breaks_of → at ≤ length text → ArePieces text (with_offsets at ps) → Follow breaks_of at (length text) (with_offsets at ps)
+follow : (breaks_of : List ℕ → List Break) (text : List ℕ) (at : ℕ) (ps : List (List ℕ)) → FitWhereAscending → IsUtf8 text → AreAscending breaks_of → at ≤ length text → ArePieces text (with_offsets at ps) → Follow breaks_of at (length text) (with_offsets at ps)
 unfolding with_offsets
-follow breaks_of text at [] u ascend within are = within
-follow breaks_of text at (p ∷ ps) u ascend within are =
+follow breaks_of text at [] law u ascend within are = within
+follow breaks_of text at (p ∷ ps) law u ascend within are =
     let x : ℕ × List ℕ = (at, p) in (
       omega arith,
-      piece_rises x 0 at (breaks_of p) (omega arith) (omega arith) (ascend_from_test p 0 (map (λ b. b.place) (breaks_of p)) (ascend p (piece_utf8 text x u are.0))),
-      follow breaks_of text (at + length p) ps u ascend are.0.end.0 are.1,
+      piece_rises x 0 at (breaks_of p) (omega arith) (omega arith) (ascends p (breaks_of p) law (ascend p (piece_utf8 text x u are.0))),
+      follow breaks_of text (at + length p) ps law u ascend are.0.end.0 are.1,
     )
 
-in_some_piece : (breaks_of : List ℕ → List Break) (text : List ℕ) (xs : List (ℕ × List ℕ)) (p : ℕ) → IsUtf8 text → AreAscending breaks_of → ArePieces text xs → is_in p (flat_map (breaks_in breaks_of) xs) ≡ true → IsCharBoundary text p
-in_some_piece breaks_of text [] p u ascend are i = absurd (false≢true i)
-in_some_piece breaks_of text (x ∷ xs) p u ascend are i =
+in_some_piece : (breaks_of : List ℕ → List Break) (text : List ℕ) (xs : List (ℕ × List ℕ)) (p : ℕ) → FitWhereAscending → IsUtf8 text → AreAscending breaks_of → ArePieces text xs → is_in p (flat_map (breaks_in breaks_of) xs) ≡ true → IsCharBoundary text p
+in_some_piece breaks_of text [] p law u ascend are i = absurd (false≢true i)
+in_some_piece breaks_of text (x ∷ xs) p law u ascend are i =
     let here = breaks_in breaks_of x in
     let rest = flat_map (breaks_in breaks_of) xs in
     elim (or_cases (is_in p here) (is_in p rest) (sym (list_any-append (λ b. p == b) here rest) ∙ i)) [
-      | inl first ↦ placed_boundary text x 0 p (breaks_of x.1) are.0 (ascend_from_test x.1 0 (map (λ b. b.place) (breaks_of x.1)) (ascend x.1 (piece_utf8 text x u are.0))) first
-      | inr later ↦ in_some_piece breaks_of text xs p u ascend are.1 later
+      | inl first ↦ placed_boundary text x 0 p (breaks_of x.1) are.0 (ascends x.1 (breaks_of x.1) law (ascend x.1 (piece_utf8 text x u are.0))) first
+      | inr later ↦ in_some_piece breaks_of text xs p law u ascend are.1 later
     ]
 
-pub sound : (breaks_of : List ℕ → List Break) (text : List ℕ) → IsUtf8 text → AreAscending breaks_of → IsSound text (word_breaks breaks_of text)
-sound breaks_of text u ascend = record { utf8 = u; boundary = λ p i. in_some_piece breaks_of text (with_offsets 0 (word_bounds text)) p u ascend (all_pieces text u) i }
+pub sound : (breaks_of : List ℕ → List Break) (text : List ℕ) → FitWhereAscending → IsUtf8 text → AreAscending breaks_of → IsSound text (word_breaks breaks_of text)
+sound breaks_of text law u ascend = record { utf8 = u; boundary = λ p i. in_some_piece breaks_of text (with_offsets 0 (word_bounds text)) p law u ascend (all_pieces text u) i }
 
 -- All breaks of a text are to come at its start.
-pub at_start : (breaks_of : List ℕ → List Break) (text : List ℕ) (b : WordBreaks) → IsUtf8 text → AreAscending breaks_of → IsSmall (length text) → in_hand b ≡ [] → remaining_pieces b ≡ with_offsets 0 (word_bounds text) → b.reached ≡ 0 → HasBreaksAfter breaks_of text 0 b
-at_start breaks_of text b u ascend small hand pieces reached =
+pub at_start : (breaks_of : List ℕ → List Break) (text : List ℕ) (b : WordBreaks) → FitWhereAscending → IsUtf8 text → AreAscending breaks_of → IsSmall (length text) → in_hand b ≡ [] → remaining_pieces b ≡ with_offsets 0 (word_bounds text) → b.reached ≡ 0 → HasBreaksAfter breaks_of text 0 b
+at_start breaks_of text b law u ascend small hand pieces reached =
     record {
       order = record {
         end = length text;
         small = small;
         hand = subst (Rise 0 b.reached) (sym hand) (omega arith);
-        pieces = subst (λ at. Follow breaks_of at (length text) (remaining_pieces b)) (sym reached) (subst (Follow breaks_of 0 (length text)) (sym pieces) (follow breaks_of text 0 (word_bounds text) u ascend (omega arith) (all_pieces text u)));
+        pieces = subst (λ at. Follow breaks_of at (length text) (remaining_pieces b)) (sym reached) (subst (Follow breaks_of 0 (length text)) (sym pieces) (follow breaks_of text 0 (word_bounds text) law u ascend (omega arith) (all_pieces text u)));
       };
       stay = λ p lt. ap (λ ps. is_in p (ps ++ flat_map (breaks_in breaks_of) (remaining_pieces b))) hand ∙ ap (λ xs. is_in p (flat_map (breaks_in breaks_of) xs)) pieces;
     }

@@ -4,9 +4,9 @@ use Rattle.std.specs.Str.{IsUtf8, IsCharBoundary, IsAscii}
 use Rattle.std.specs.Prelude.{encode_utf8_all}
 use Rattle.std.proofs.lemmas.Bool.{leb-true, le-leb, lt-leb, lt-ltb, le-ltb, cases_lt, cond-true, cond-false}
 use Rattle.std.proofs.lemmas.Str.{IsUtf8-between, chars-append, chars-nil, encodes-chars, chars-IsAscii, length-le-encodes}
-use Rattle.unicode_segmentation.proofs.TextLemmas.{slice_range_split, length-slice_range}
 use Rattle.line_filling.specs.Cuts.{is_plain}
 use Rattle.line_filling.specs.Lines.{mark_at, width, fits}
+use Rattle.line_filling.proofs.Slices.{slice_range_split, length-slice_range}
 
 -- How many characters stand between two places.
 abbrev pub between : List ℕ → ℕ → ℕ → ℕ

@@ -16,6 +16,7 @@ ghost use Rattle.line_filling.specs.Private.WordBreaks.{HasBreaksAfter};
 
 use crate::word_breaks::WordBreaks;
 use hyphenation_hyphenator::hyphenator::Hyphenator;
+use hyphenation_hyphenator::hyphenator::laws::plain_breaks_fit_where_ascending;
 use std::alloc::{AllocError, Global};
 
 /// The line that is being filled: it begins at `start`, and `end` is the last cut that was passed, at which it will
@@ -160,6 +161,7 @@ fn pass_breaks<'h, H: Hyphenator<'h, Opportunity = usize>>(
         (p : ℕ) → next.end < p → p < until
         → is_cut text.now (word_breaks (H.breaks_of dictionary.now) text.now) p ≡ false) }
 {
+    plain_breaks_fit_where_ascending();
     let mut current = current;
     while let Some(place) = breaks.first_after(
         *lines.allocator(),
@@ -186,6 +188,7 @@ fn fill_all<'h, H: Hyphenator<'h, Opportunity = usize>>(
     ensures { IfOk result (λ filled.
         map string_bytes filled.items ≡ lines_by (H.breaks_of dictionary.now) text.now columns) }
 {
+    plain_breaks_fit_where_ascending();
     let mut lines = Vec::new(alloc);
     let mut breaks = WordBreaks::new(alloc, text);
     let mut current = Open {
@@ -246,6 +249,7 @@ pub fn fill<'h, H: Hyphenator<'h, Opportunity = usize>>(
     ensures joins { IfOk result (λ _. JoinToText (H.breaks_of dictionary.now) text.now columns) }
 {
     dictionary.breaks_fit();
+    plain_breaks_fit_where_ascending();
     let filled = fill_all(alloc, dictionary, text, columns)?;
     Ok(filled)
 }

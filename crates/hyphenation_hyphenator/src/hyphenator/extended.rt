@@ -15,6 +15,7 @@ use super::word_paths::{breaks, exception, exception_within, opportunities, oppo
 use super::{Hyphenator, boundaries_of};
 use hyphenation_breaks::extended::Subregion;
 use hyphenation_dictionary::dictionary::Extended;
+use hyphenation_score::laws::{value_is_borne, winner_is_first};
 use std::alloc::{AllocError, Global};
 
 impl<'h> Hyphenator<'h> for Extended {
@@ -37,6 +38,8 @@ impl<'h> Hyphenator<'h> for Extended {
             → Ascending word (fitted_breaks_of (rules_of own_change own_break self.now) word) }
     {
         self.invariant();
+        value_is_borne::<Option<Subregion>>();
+        winner_is_first::<Option<Subregion>>();
     }
 
     fn unbreakable_chars(&self) -> (usize, usize)

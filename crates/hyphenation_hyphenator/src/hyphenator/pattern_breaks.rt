@@ -10,6 +10,7 @@ ghost use Rattle.std.specs.Option.{option_map};
 
 use super::break_kind::Found;
 use hyphenation_breaks::entry::Entry;
+use hyphenation_score::laws::{no_change_is_won, winner_has_value};
 use hyphenation_score::{LookUps, raise_all, winners_in};
 use hyphenation_trie::Automaton;
 use std::alloc::{AllocError, Global};
@@ -67,6 +68,7 @@ fn won_breaks<'h, F: Found<'h>>(
         map F.meaning v.items ≡ breaks_within (breaks_at_odd_values F.Payload.change_of
         (entries_of_key patterns.now) word.now) bounds) }
 {
+    winner_has_value::<F::Payload>();
     let mut count = LookUps::new();
     let winners = winners_in(alloc, patterns, word.as_bytes(), &mut count)?;
     won_within(alloc, &winners, bounds)
@@ -140,6 +142,7 @@ fn allowed_in<'h, F: Found<'h>>(
         // A change may win a place, so the entries have to compete. Few words are searched twice for it.
         return won_breaks(alloc, patterns, word, bounds);
     }
+    no_change_is_won::<F::Payload>();
     odd_breaks(alloc, room, bounds)
 }
 

@@ -11,6 +11,7 @@ ghost use Rattle.hyphenation_hyphenator.specs.Opportunities.{no_change, rules_of
 use super::word_paths::{breaks, exception, exception_within, opportunities, opportunities_within};
 use super::{Hyphenator, boundaries_of};
 use hyphenation_dictionary::dictionary::Standard;
+use hyphenation_score::laws::{value_is_borne, winner_is_first};
 use std::alloc::{AllocError, Global};
 
 impl<'h> Hyphenator<'h> for Standard {
@@ -27,6 +28,8 @@ impl<'h> Hyphenator<'h> for Standard {
 
     fn breaks_fit(&self) {
         self.invariant();
+        value_is_borne::<()>();
+        winner_is_first::<()>();
     }
 
     fn unbreakable_chars(&self) -> (usize, usize) {
@@ -102,6 +105,7 @@ impl<'h> Hyphenator<'h> for Standard {
 
     fn breaks(&'h self, alloc: Global, word: &str) -> Result<Vec<usize>, AllocError> {
         self.invariant();
+        value_is_borne::<()>();
         breaks(alloc, self, word)
     }
 }

@@ -24,6 +24,7 @@ use hyphenation_breaks::breaks::Break;
 use hyphenation_breaks::entry::{Entry, Payload};
 use hyphenation_dictionary::dictionary::Dictionary;
 use hyphenation_dictionary::search::automaton_of;
+use hyphenation_score::laws::{value_is_borne, winner_is_first};
 use std::alloc::{AllocError, Global};
 use std::str;
 
@@ -59,6 +60,7 @@ pub(crate) fn opportunities_within<'h, F: Found<'h>>(
     ensures ascend { IfOk result (λ v. Ascending lowercase_word.now (map F.meaning v.items)) }
 {
     dictionary.invariant();
+    value_is_borne::<F::Payload>();
     allowed_breaks(alloc, automaton_of(dictionary), lowercase_word, bounds)
 }
 
@@ -186,6 +188,7 @@ fn breaks_of_letters<'h, F: Found<'h>>(
         ≡ fitted_breaks_of (rules_of F.Payload.change_of F.Listing.meaning dictionary.now) word.now) }
 {
     dictionary.invariant();
+    value_is_borne::<F::Payload>();
     unmoved_breaks(alloc, dictionary, word)
 }
 
@@ -203,6 +206,7 @@ fn breaks_of_ascii<'h, F: Found<'h>>(
         ≡ fitted_breaks_of (rules_of F.Payload.change_of F.Listing.meaning dictionary.now) word.now) }
 {
     dictionary.invariant();
+    value_is_borne::<F::Payload>();
     let mut room = [0u8; 64];
     let folded = &mut room[..word.len()];
     folded.copy_from_slice(word.as_bytes());
@@ -282,6 +286,8 @@ pub(crate) fn breaks<'h, F: Found<'h>>(
     ensures ranges { OnOk result (KeepRanges (rules_of F.Payload.change_of F.Listing.meaning dictionary.now) word.now) }
 {
     dictionary.invariant();
+    value_is_borne::<F::Payload>();
+    winner_is_first::<F::Payload>();
     if are_letters(word.as_bytes()) {
         breaks_of_letters(alloc, dictionary, word)
     } else if are_small_letters(word) {

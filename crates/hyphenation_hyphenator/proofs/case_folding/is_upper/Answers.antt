@@ -1,5 +1,5 @@
 use Rattle.std.proofs.Common.{rules, tests, sym, ◌∙◌}
-use Rattle.hyphenation_hyphenator.proofs.AsciiLetters.{is_uppercase_ascii}
+use Rattle.hyphenation_hyphenator.proofs.CapitalRanges.{is_uppercase_ascii}
 use Rattle.hyphenation_hyphenator.proofs.SmallLetters.{small_not_upper}
 use Rattle.hyphenation_hyphenator.proofs.case_folding.is_upper.Goals as goal
 

@@ -11,6 +11,6 @@ pub returns : goal.returns
 returns c = λ text u.
     let dictionary = c.args.dictionary.now in
     let kept = c.invariant.ensures in
-    given_back (all_breaks_of (rules_of no_change plain_break dictionary))
-    (λ word v. subst (Fits word) (fitted_alike dictionary word kept v) (breaks_fit no_change plain_break dictionary word kept v))
+    given_back (all_breaks_of (rules_of no_change plain_break dictionary)) c.segments_join.ensures
+    (λ word v. subst (Fits word) (fitted_alike dictionary word c.value_is_borne.ensures kept v) (breaks_fit no_change plain_break dictionary word c.value_is_borne.ensures c.winner_is_first.ensures kept v))
     (breaks_plain dictionary) text u

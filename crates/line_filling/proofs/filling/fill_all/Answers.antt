@@ -19,7 +19,7 @@ loop-current-init g c =
     record {
       all = ap (λ xs. map string_bytes xs ++ lines text c.args.columns (word_breaks breaks_of text)) c.new-lines.ensures.items;
       line = record { order = omega arith; start = IsCharBoundary-start text c.utf8.text; end = IsCharBoundary-start text c.utf8.text; width = sym (ap length chars-nil) };
-      breaks = at_start breaks_of text c.new-breaks.result c.utf8.text c.requires.ascend (omega arith) c.new-breaks.ensures.hand c.new-breaks.ensures.pieces c.new-breaks.ensures.reached;
+      breaks = at_start breaks_of text c.new-breaks.result c.plain_breaks_fit_where_ascending.ensures c.utf8.text c.requires.ascend (omega arith) c.new-breaks.ensures.hand c.new-breaks.ensures.pieces c.new-breaks.ensures.reached;
     }
 
 pub count_to-width-requires-clause-place : goal.count_to-width-requires-clause-place
@@ -61,7 +61,7 @@ loop-current-preserved g c =
     let cut : is_cut text breaks next ≡ true = or_left (is_plain text next) (is_in next breaks) c.next_plain-next.ensures.plain in
     let then : state_of c.in_ok-current.current c.pass.new.lines.items ≡ after_cut text columns t next = c.in_ok-current.ensures.state in
     let reached : c.in_ok-current.current.end ≡ next = ap (λ (v : State). v.end) then ∙ passing_end text columns t next in
-    let goes = passing_owed text columns breaks t next (sound breaks_of text c.utf8.text c.requires.ascend) is passed.ensures.before cut (λ p l u h. false≢true (sym (passed.ensures.passed p l u) ∙ h)) in
+    let goes = passing_owed text columns breaks t next (sound breaks_of text c.plain_breaks_fit_where_ascending.ensures c.utf8.text c.requires.ascend) is passed.ensures.before cut (λ p l u h. false≢true (sym (passed.ensures.passed p l u) ∙ h)) in
     record {
       all = ap (all_lines text columns breaks) then ∙ goes ∙ passed.ensures.same ∙ before.all;
       line = c.in_ok-current.ensures.next;

@@ -1,13 +1,13 @@
 use Rattle.std.proofs.Common.{◌∙◌, ap, map, option_copied}
+use Rattle.std.proofs.lemmas.Result.{IfOk-weaker}
 use Rattle.hyphenation_trie.specs.Trie.{entries_of_key}
 use Rattle.hyphenation_score.specs.Scoring.{winners}
 use Rattle.hyphenation_hyphenator.proofs.BreaksFound.{won_allowed}
-use Rattle.hyphenation_score.proofs.ValuesInOrder.{ok_then}
 use Rattle.hyphenation_hyphenator.proofs.hyphenator.pattern_breaks.won_breaks.Goals as goal
 
 pub returns : goal.returns
 returns g c =
     let keys = entries_of_key c.args.patterns.now in
-    ok_then c.won_within.result _ _
-    (λ v h. h ∙ won_allowed g.F.Payload.Payload.change_of keys c.args.word.now c.args.bounds _ (ap (map option_copied) c.deref.ensures.value ∙ c.in_ok-winners.ensures.winners ∙ ap (winners keys) c.as_bytes.ensures.value))
+    IfOk-weaker c.won_within.result _ _
+    (λ v h. h ∙ won_allowed g.F.Payload.Payload.change_of keys c.args.word.now c.args.bounds _ c.winner_has_value.ensures (ap (map option_copied) c.deref.ensures.value ∙ c.in_ok-winners.ensures.winners ∙ ap (winners keys) c.as_bytes.ensures.value))
     c.won_within.ensures

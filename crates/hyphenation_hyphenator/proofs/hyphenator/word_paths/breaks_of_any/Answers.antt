@@ -1,5 +1,6 @@
 use Rattle.std.proofs.Common.{◌≡◌, ℕ, List, map, length, IsUtf8, refl, sym, ap, subst, ◌∙◌, arith}
 use Rattle.std.specs.List.Sorted.{IsNonDecreasingBy}
+use Rattle.std.proofs.lemmas.Result.{IfOk-weaker}
 use Rattle.hyphenation_breaks.specs.Break.{plain_break}
 use Rattle.hyphenation_hyphenator.specs.declared.case_folding.Shift.{Shift}
 use Rattle.hyphenation_hyphenator.specs.Fitting.{kept_breaks}
@@ -11,7 +12,6 @@ use Rattle.hyphenation_hyphenator.specs.SoftHyphens.{soft_hyphens}
 use Rattle.hyphenation_hyphenator.proofs.FittedBreaks.{whole_written, Carries, breaks_are, soft_breaks_are}
 use Rattle.hyphenation_hyphenator.proofs.ShiftOrder.{shifts_in_order}
 use Rattle.hyphenation_hyphenator.proofs.Standard.{no_soft_hyphens, none_is_not_some}
-use Rattle.hyphenation_score.proofs.ValuesInOrder.{ok_then}
 use Rattle.hyphenation_hyphenator.proofs.hyphenator.word_paths.breaks_of_any.Goals as goal
 
 -- A word with soft hyphens.
@@ -22,7 +22,7 @@ returns-in-Some g c =
     let word = c.args.word.now in
     let found = rw c.in-Some.is at c.in_ok-places.ensures.found in
     let some = rw c.in-Some.is at c.in_ok-places.ensures.some in
-    ok_then c.unchanged.result _ _
+    IfOk-weaker c.unchanged.result _ _
     (λ v h. soft_breaks_are (rules_of g.F.Payload.Payload.change_of g.F.Listing.Break.meaning c.args.dictionary.now) word (map m v.items) (some.0 refl) (h ∙ ap (map plain_break) found))
     c.unchanged.ensures
 

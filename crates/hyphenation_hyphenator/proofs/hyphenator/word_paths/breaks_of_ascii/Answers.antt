@@ -2,12 +2,12 @@ use Rattle.std.proofs.Common.{◌≡◌, ℕ, List, Result, Ok, Err, map, refl, 
 use Rattle.std.specs.Char.{to_ascii_lowercase}
 use Rattle.std.specs.Result.{IsOk, MatchResult}
 use Rattle.std.specs.Str.{IsAscii, IsUtf8}
+use Rattle.std.proofs.lemmas.Result.{IfOk-weaker}
 use Rattle.hyphenation_hyphenator.specs.Folding.{fold_case}
 use Rattle.hyphenation_hyphenator.specs.Opportunities.{rules_of}
 use Rattle.hyphenation_hyphenator.proofs.AsciiWords.{ascii_fold, fold_is_ascii, ascii_breaks}
 use Rattle.hyphenation_hyphenator.proofs.Folds.{fold_is_utf8}
 use Rattle.hyphenation_hyphenator.proofs.RulesAscend.{rules_are_sound, opportunities_ascend}
-use Rattle.hyphenation_score.proofs.ValuesInOrder.{ok_then}
 use Rattle.hyphenation_hyphenator.proofs.hyphenator.word_paths.breaks_of_ascii.Goals as goal
 
 reads : {X E : Type 0} (r : Result X E) (P : X → Type 0) (Q : E → Type 0) → ((e : E) → Q e → ⊥) → MatchResult r P Q → IsOk r
@@ -39,5 +39,5 @@ returns g c =
     let break_of = g.F.Listing.Break.meaning in
     let rules = rules_of change_of break_of c.args.dictionary.now in
     let text = (read_is c.from_utf8.result _ _ c.unwrap-text.result c.unwrap-text.ensures c.from_utf8.ensures.cases).0 in
-    let ascend = opportunities_ascend rules (fold_case word) (rules_are_sound change_of break_of c.args.dictionary.now (fold_case word) c.invariant.ensures (fold_is_utf8 word c.utf8.word)) in
-    ok_then c.unmoved_breaks.result _ _ (λ v is. ascii_breaks rules word c.unwrap-text.result.now (map g.F.Break.meaning v.items) c.requires.ascii (text ∙ small word _ _ _ c.requires.ascii c.make_ascii_lowercase.ensures.after c.copy_from_slice.ensures.after c.as_bytes.ensures.value) ascend is) c.unmoved_breaks.ensures
+    let ascend = opportunities_ascend rules (fold_case word) (rules_are_sound change_of break_of c.args.dictionary.now (fold_case word) c.value_is_borne.ensures c.invariant.ensures (fold_is_utf8 word c.utf8.word)) in
+    IfOk-weaker c.unmoved_breaks.result _ _ (λ v is. ascii_breaks rules word c.unwrap-text.result.now (map g.F.Break.meaning v.items) c.requires.ascii (text ∙ small word _ _ _ c.requires.ascii c.make_ascii_lowercase.ensures.after c.copy_from_slice.ensures.after c.as_bytes.ensures.value) ascend is) c.unmoved_breaks.ensures

@@ -1,10 +1,10 @@
 use Rattle.std.proofs.Common.{map, refl, sym}
+use Rattle.std.proofs.lemmas.Result.{IfOk-weaker}
 use Rattle.hyphenation_hyphenator.specs.Folding.{fold_case}
 use Rattle.hyphenation_hyphenator.specs.Opportunities.{rules_of}
 use Rattle.hyphenation_hyphenator.proofs.AsciiWords.{letters_ascii, letters_fold, ascii_breaks}
 use Rattle.hyphenation_hyphenator.proofs.Folds.{fold_is_utf8}
 use Rattle.hyphenation_hyphenator.proofs.RulesAscend.{rules_are_sound, opportunities_ascend}
-use Rattle.hyphenation_score.proofs.ValuesInOrder.{ok_then}
 use Rattle.hyphenation_hyphenator.proofs.hyphenator.word_paths.breaks_of_letters.Goals as goal
 
 pub unmoved_breaks-requires : goal.unmoved_breaks-requires
@@ -16,5 +16,5 @@ returns g c =
     let change_of = g.F.Payload.Payload.change_of in
     let break_of = g.F.Listing.Break.meaning in
     let rules = rules_of change_of break_of c.args.dictionary.now in
-    let ascend = opportunities_ascend rules (fold_case word) (rules_are_sound change_of break_of c.args.dictionary.now (fold_case word) c.invariant.ensures (fold_is_utf8 word c.utf8.word)) in
-    ok_then c.unmoved_breaks.result _ _ (λ v is. ascii_breaks rules word word (map g.F.Break.meaning v.items) (letters_ascii word c.requires) (sym (letters_fold word c.requires)) ascend is) c.unmoved_breaks.ensures
+    let ascend = opportunities_ascend rules (fold_case word) (rules_are_sound change_of break_of c.args.dictionary.now (fold_case word) c.value_is_borne.ensures c.invariant.ensures (fold_is_utf8 word c.utf8.word)) in
+    IfOk-weaker c.unmoved_breaks.result _ _ (λ v is. ascii_breaks rules word word (map g.F.Break.meaning v.items) (letters_ascii word c.requires) (sym (letters_fold word c.requires)) ascend is) c.unmoved_breaks.ensures

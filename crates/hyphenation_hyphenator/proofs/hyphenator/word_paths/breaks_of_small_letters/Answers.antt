@@ -1,10 +1,10 @@
 use Rattle.std.proofs.Common.{[], map, sym, ap, subst, ◌∙◌}
+use Rattle.std.proofs.lemmas.Result.{IfOk-weaker}
 use Rattle.hyphenation_hyphenator.specs.Fitting.{kept_breaks}
 use Rattle.hyphenation_hyphenator.specs.Private.Fitting.{is_steady_by}
 use Rattle.hyphenation_hyphenator.specs.Folding.{fold_case}
 use Rattle.hyphenation_hyphenator.specs.Opportunities.{rules_of, opportunities, Ascending}
 use Rattle.hyphenation_hyphenator.proofs.SmallLetters.{small_fold, small_breaks}
-use Rattle.hyphenation_score.proofs.ValuesInOrder.{ok_then}
 use Rattle.hyphenation_hyphenator.proofs.hyphenator.word_paths.breaks_of_small_letters.Goals as goal
 
 pub returns : goal.returns
@@ -14,6 +14,6 @@ returns g c =
     let same = small_fold word c.utf8.word c.requires in
     let found = c.in_ok-found.ensures in
     let ascend : Ascending (fold_case word) (opportunities rules (fold_case word)) = subst (λ t. Ascending t (opportunities rules t)) (sym same) (subst (Ascending word) found.breaks found.ascend) in
-    ok_then c.kept.result _ _
+    IfOk-weaker c.kept.result _ _
     (λ v is. small_breaks rules word (map g.F.Break.meaning v.items) c.utf8.word c.requires ascend (is ∙ ap (kept_breaks (is_steady_by _ [])) found.breaks))
     c.kept.ensures

@@ -10,5 +10,5 @@ returns-in_ok-listed_within-in-Some-clause-breaks g c =
 pub returns-in_ok-listed_within-in-Some-clause-ascend : goal.returns-in_ok-listed_within-in-Some-clause-ascend
 returns-in_ok-listed_within-in-Some-clause-ascend g c =
     listed_ascend g.F.Payload.Payload.change_of g.F.Listing.Break.meaning c.args.dictionary.now c.args.lowercase_word.now c.in-Some.listed.now c.args.bounds (map g.F.Break.meaning c.in_ok-listed_within-in-Some.field-0.items)
-    c.invariant.ensures c.utf8.lowercase_word
+    c.invariant.ensures
     (sym c.listed.ensures ∙ ap option_copied c.in-Some.is) c.in_ok-listed_within-in-Some.ensures
