@@ -1,16 +1,11 @@
 //! Whole texts: the pieces of a text between word bounds, each hyphenated.
 
-ghost use Rattle.std.specs.Prelude.{◌≡◌, ◌++◌, List, [], ℕ, IfOk, OnOk, OnErr, IsUtf8};
+ghost use Rattle.std.specs.Prelude.{◌≡◌, ◌++◌, IfOk, OnOk, OnErr};
 ghost use Rattle.std.specs.String.{string_bytes};
-ghost use Rattle.hyphenation_breaks.specs.Break.{plain_break};
 ghost use Rattle.hyphenation_segments.specs.Segments.{marked_word};
 ghost use Rattle.hyphenation_hyphenator.specs.Hyphenated.{hyphenated_text};
-ghost use Rattle.hyphenation_hyphenator.specs.Opportunities.{no_change, rules_of, all_breaks_of};
 
 use crate::hyphenator::Hyphenator;
-use hyphenation_dictionary::dictionary::Standard;
-use hyphenation_score::laws::{value_is_borne, winner_is_first};
-use hyphenation_segments::iter::laws::segments_join;
 use hyphenation_segments::iter::push_marked;
 use std::alloc::{AllocError, Global};
 use unicode_segmentation::UnicodeSegmentation;
@@ -71,17 +66,4 @@ pub fn hyphenate_text<'h, H: Hyphenator<'h>>(
 {
     let hyphenated = hyphenated_text(alloc, dictionary, text, mark)?;
     output.push_str(&hyphenated)
-}
-
-/// With an empty mark a standard dictionary gives each text back.
-///
-/// It is a law of all texts, and says it of the dictionary that is lent.
-pub fn an_empty_mark_gives_the_text_back(dictionary: &Standard)
-    ensures { (text : List ℕ) → IsUtf8 text
-        → hyphenated_text (all_breaks_of (rules_of no_change plain_break dictionary.now)) [] text ≡ text }
-{
-    dictionary.invariant();
-    value_is_borne::<()>();
-    winner_is_first::<()>();
-    segments_join();
 }

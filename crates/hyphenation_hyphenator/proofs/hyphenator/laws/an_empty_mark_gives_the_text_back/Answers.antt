@@ -5,7 +5,7 @@ use Rattle.hyphenation_hyphenator.specs.Opportunities.{no_change, rules_of, all_
 use Rattle.hyphenation_hyphenator.proofs.FittedBreaks.{breaks_fit}
 use Rattle.hyphenation_hyphenator.proofs.TextGivenBack.{given_back}
 use Rattle.hyphenation_hyphenator.proofs.PlainBreaks.{breaks_plain, fitted_alike}
-use Rattle.hyphenation_hyphenator.proofs.text.an_empty_mark_gives_the_text_back.Goals as goal
+use Rattle.hyphenation_hyphenator.proofs.hyphenator.laws.an_empty_mark_gives_the_text_back.Goals as goal
 
 pub returns : goal.returns
 returns c = λ text u.
