@@ -7,6 +7,7 @@ ghost use Rattle.hyphenation_trie.specs.Private.Trie.{with_child, Grows, with_en
 
 use crate::chains::Chains;
 use crate::in_32_bits;
+use crate::lists::begun;
 use crate::state::{Span, State};
 use std::alloc::{AllocError, Global};
 use std::fmt;
@@ -59,13 +60,10 @@ impl<E: Drop> Trie<E> {
         ensures { IfOk result (λ trie. trie ≡ record { texts = [] ∷ []; entries = None ∷ [] }) }
     {
         let children = Chains::with_room(alloc, nodes)?;
-        let mut parents = Vec::with_capacity(alloc, nodes)?;
-        let mut bytes = Vec::with_capacity(alloc, nodes)?;
-        let mut states = Vec::with_capacity(alloc, nodes)?;
+        let parents = begun(alloc, nodes, 0)?;
+        let bytes = begun(alloc, nodes, 0)?;
+        let states = begun(alloc, nodes, State::bare())?;
         let entries = Vec::with_capacity(alloc, nodes)?;
-        parents.push(0)?;
-        bytes.push(0)?;
-        states.push(State::bare())?;
         Ok(Trie {
             parents,
             bytes,

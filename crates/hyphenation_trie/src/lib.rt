@@ -30,6 +30,7 @@ mod chains;
 mod frozen;
 mod growing;
 pub mod laws;
+mod lists;
 mod look_ups;
 pub mod parts;
 mod rows;

@@ -8,6 +8,7 @@ ghost use Rattle.std.specs.Prelude.{◌≡◌, ◌+◌, ◌<◌, ◌≤◌, ◌�
 ghost use Rattle.hyphenation_trie.specs.Private.Rows.{child_in, AreChildren, OwnsNoChild, IsFreeRow, IsFullRow, HasRow};
 
 use super::in_32_bits;
+use super::lists::begun;
 use std::alloc::{AllocError, Global};
 
 /// A child of a node, and the node. A free cell's owner is no node, and the root stands for the children that it lacks.
@@ -334,8 +335,7 @@ pub(crate) fn rows_of(alloc: Global, children: &Children) -> Result<Rows, AllocE
 {
     let free = in_32_bits(children.parents.len())?;
     let mut cells = root_row(alloc, children)?;
-    let mut bases = Vec::with_capacity(alloc, children.parents.len())?;
-    bases.push(0)?;
+    let mut bases = begun(alloc, children.parents.len(), 0)?;
     let mut gaps = Gaps {
         low: cells.len(),
         top: cells.len(),

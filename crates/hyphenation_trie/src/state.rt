@@ -5,7 +5,7 @@ ghost use Rattle.std.specs.List.{slice_range};
 ghost use Rattle.hyphenation_trie.specs.Private.States.{span_in};
 
 /// Where the entries of a key stand among the entries of all keys.
-#[derive(Clone, Copy, Debug)]
+#[derive(Clone, Copy)]
 pub(crate) struct Span {
     pub(crate) start: u32,
     pub(crate) count: u32,
@@ -21,7 +21,7 @@ pub(crate) fn part<E>(entries: &[E], span: Span) -> &[E]
 }
 
 /// What is asked of a node where its text is a key.
-#[derive(Clone, Copy, Debug)]
+#[derive(Clone, Copy)]
 pub(crate) struct State {
     /// The number of bytes of its text.
     pub(crate) depth: u32,

@@ -1,9 +1,10 @@
-use Rattle.std.proofs.Common.{◌≡◌, ℕ, ◌+◌, ◌<◌, slice_index, Some, None, sym, ap, subst, ◌∙◌, arith, inl, inr}
+use Rattle.std.proofs.lemmas.Grind.{common_steps}
+use Rattle.std.proofs.Common.{◌≡◌, ℕ, ◌+◌, ◌<◌, slice_index, Some, None, sym, ap, subst, ◌∙◌, arith, inl, inr, refl}
 use Rattle.std.proofs.lemmas.Bool.{cases_eq, cases_lt}
 use Rattle.std.proofs.lemmas.List.{get_or_default}
 use Rattle.hyphenation_trie.specs.Private.Chains.{IsLastBelow}
 use Rattle.hyphenation_trie.specs.Private.Rows.{child_in}
-use Rattle.hyphenation_trie.proofs.ChainsGrow.{next_less}
+use Rattle.hyphenation_trie.proofs.ChainsGrow.{next_less, last_read}
 use Rattle.hyphenation_trie.proofs.rows.write_row.Goals as goal
 
 same_some : (a b : ℕ) → Some a ≡ Some b → a ≡ b
@@ -72,4 +73,43 @@ returns-clause-row c =
       room = omega (arith, c.requires.room, c.loop-child.auto.cells);
       mine = λ j pos lj is. inv.mine j (omega arith) lj is;
       only = λ c' j is pos. let w = inv.only c' j is pos in (omega (arith, w.0), w.1, w.2, w.3);
+    }
+
+pub index-child-requires : goal.index-child-requires
+index-child-requires c = grind (arith, common_steps)
+
+pub index-requires : goal.index-requires
+index-requires c = grind (arith, common_steps)
+
+pub overflow_add-at : goal.overflow_add-at
+overflow_add-at c = omega arith
+
+pub put-requires-clause-at : goal.put-requires-clause-at
+put-requires-clause-at c = grind (arith, common_steps)
+
+pub put-requires-clause-free : goal.put-requires-clause-free
+put-requires-clause-free c = grind (arith, common_steps)
+
+pub index-child-requires-in-loop-child : goal.index-child-requires-in-loop-child
+index-child-requires-in-loop-child c = grind (arith, common_steps)
+
+pub loop-child-smaller : goal.loop-child-smaller
+loop-child-smaller c = grind (arith, common_steps)
+
+pub returns-clause-kept : goal.returns-clause-kept
+returns-clause-kept c = grind (arith, common_steps)
+
+pub returns-clause-others : goal.returns-clause-others
+returns-clause-others c = grind (arith, common_steps)
+
+pub loop-child-init : goal.loop-child-init
+loop-child-init c =
+    let last = last_read c.args.children.now.parents.items c.args.children.now.last.items c.args.children.now.before.items c.args.node c.index-child.result.now c.requires.children.chained (omega (arith, c.requires.node, c.requires.children.nodes)) c.index-child.ensures in
+    record {
+      within = last.within;
+      mine = λ j low lj is. absurd (last.none j low lj is);
+      only = λ at j is pos. let none = c.requires.none at j is in absurd (omega (arith, none.0, none.1));
+      kept = λ at is. is;
+      others = λ i at free mine. refl;
+      free = λ j pos le is. let w = last.within (omega arith) in c.requires.fits j pos (omega (arith, w.0)) is;
     }

@@ -1,3 +1,4 @@
+use Rattle.std.proofs.lemmas.Grind.{common_steps}
 use Rattle.std.proofs.Common.{◌≡◌, ◌+◌, ◌∙◌, ℕ, List, ap, sym, arith, length, map}
 use Rattle.hyphenation_trie.specs.Private.Rows.{child_in, edge_in}
 use Rattle.hyphenation_trie.specs.Private.States.{froms_by, span_in}
@@ -42,3 +43,15 @@ pub returns-clause-none : goal.returns-clause-none
 returns-clause-none g c =
     let tree = tree_of (froms_by c.self.inside.parents.items c.self.inside.bytes.items) (map span_in c.self.inside.states.items) c.self.inside.entries.items in
     rw (← c.self.view_is) (found_none tree c.args.node c.args.byte c.find.result (found g c))
+
+pub look_up-requires : goal.look_up-requires
+look_up-requires g c = grind (arith, common_steps)
+
+pub index-requires : goal.index-requires
+index-requires g c = grind (arith, common_steps)
+
+pub returns-clause-counted : goal.returns-clause-counted
+returns-clause-counted g c = grind (arith, common_steps)
+
+pub returns-clause-found : goal.returns-clause-found
+returns-clause-found g c = grind (arith, common_steps)

@@ -1,3 +1,4 @@
+use Rattle.std.proofs.lemmas.Grind.{common_steps}
 use Rattle.std.proofs.Common.{◌∙◌, ap, arith, refl, length, map}
 use Rattle.hyphenation_trie.specs.Private.States.{links_of, froms_by, span_in}
 use Rattle.hyphenation_trie.specs.Private.Trie.{tree_of}
@@ -30,3 +31,9 @@ returns-clause-others g c = λ j apart.
     let new : Moves = record { base = old.base; link = c.args.links.link } in
     let reports : Reports = record { report = c.args.links.report; next_report = c.args.links.next_report } in
     links_kept c.self.inside.moves.items c.self.inside.reports.items c.args.node j new reports apart ∙ ap (λ t. links_of t j) c.self.view_is
+
+pub index_mut-requires : goal.index_mut-requires
+index_mut-requires g c = grind (arith, common_steps)
+
+pub index_mut-requires-2 : goal.index_mut-requires-2
+index_mut-requires-2 g c = grind (arith, common_steps)

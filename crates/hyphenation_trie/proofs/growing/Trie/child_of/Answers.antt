@@ -1,3 +1,4 @@
+use Rattle.std.proofs.lemmas.Grind.{common_steps}
 use Rattle.std.proofs.Common.{◌≡◌, ◌≢◌, ◌<◌, ℕ, ◌∙◌, refl, sym, ap, arith, List, length, get_or, Some, None}
 use Rattle.std.proofs.lemmas.List.{length-map, get_or_default}
 use Rattle.hyphenation_trie.specs.Private.Growing.{IsSought}
@@ -63,3 +64,9 @@ pub returns-clause-none : goal.returns-clause-none
 returns-clause-none g c =
     let asked = rw (← c.self.view_is) at c.requires in
     rw (← c.self.view_is) (sought-none _ _ _ c.args.node c.args.byte c.loop-child.child c.self.invariant.growing c.loop-child.invariant c.loop-child-test.false asked)
+
+pub index-child-requires-in-loop-child : goal.index-child-requires-in-loop-child
+index-child-requires-in-loop-child g c = grind (arith, common_steps)
+
+pub loop-child-smaller : goal.loop-child-smaller
+loop-child-smaller g c = grind (arith, common_steps)

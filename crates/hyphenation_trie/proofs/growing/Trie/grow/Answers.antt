@@ -1,3 +1,4 @@
+use Rattle.std.proofs.lemmas.Grind.{common_steps}
 use Rattle.std.proofs.Common.{length, sym, ◌∙◌, arith}
 use Rattle.hyphenation_trie.specs.Private.States.{froms_by}
 use Rattle.hyphenation_trie.proofs.GrowingNodes.{held-grow}
@@ -43,3 +44,60 @@ returns-clause-ok g c =
     let new_bytes = rw (c.unwrap-2.ensures, c.reserve-2.ensures.items) at c.push-2.ensures.items in
     let new_states = rw (c.unwrap-3.ensures, c.reserve-3.ensures.items) at c.push-3.ensures.items in
     rw (← c.self.view_is, new_parents, new_bytes, new_states) (count.0 ∙ sym (length-texts_of (froms_by parents bytes)), tree_more parents bytes states es c.args.node c.args.byte c.bare.result held c.bare.ensures)
+
+pub overflow_cast-t-15 : goal.overflow_cast-t-15
+overflow_cast-t-15 g c = omega arith
+
+pub same-self : goal.same-self
+same-self g c = grind (arith, common_steps)
+
+pub returns-then-count-clause-err : goal.returns-then-count-clause-err
+returns-then-count-clause-err g c = grind (arith, common_steps)
+
+pub overflow_cast-child : goal.overflow_cast-child
+overflow_cast-child g c = omega arith
+
+pub invariant_of-self : goal.invariant_of-self
+invariant_of-self g c = grind (arith, common_steps)
+
+pub returns-in_err-reserve-clause-ok : goal.returns-in_err-reserve-clause-ok
+returns-in_err-reserve-clause-ok g c = grind (arith, common_steps)
+
+pub returns-in_err-reserve-clause-err : goal.returns-in_err-reserve-clause-err
+returns-in_err-reserve-clause-err g c = grind (arith, common_steps)
+
+pub invariant_of-self-in_err-reserve-2 : goal.invariant_of-self-in_err-reserve-2
+invariant_of-self-in_err-reserve-2 g c = grind (arith, common_steps)
+
+pub returns-in_err-reserve-2-clause-ok : goal.returns-in_err-reserve-2-clause-ok
+returns-in_err-reserve-2-clause-ok g c = grind (arith, common_steps)
+
+pub returns-in_err-reserve-2-clause-err : goal.returns-in_err-reserve-2-clause-err
+returns-in_err-reserve-2-clause-err g c = grind (arith, common_steps)
+
+pub invariant_of-self-in_err-reserve-3 : goal.invariant_of-self-in_err-reserve-3
+invariant_of-self-in_err-reserve-3 g c = grind (arith, common_steps)
+
+pub returns-in_err-reserve-3-clause-ok : goal.returns-in_err-reserve-3-clause-ok
+returns-in_err-reserve-3-clause-ok g c = grind (arith, common_steps)
+
+pub returns-in_err-reserve-3-clause-err : goal.returns-in_err-reserve-3-clause-err
+returns-in_err-reserve-3-clause-err g c = grind (arith, common_steps)
+
+pub invariant_of-self-in_err-add : goal.invariant_of-self-in_err-add
+invariant_of-self-in_err-add g c = grind (arith, common_steps)
+
+pub returns-in_err-add-clause-ok : goal.returns-in_err-add-clause-ok
+returns-in_err-add-clause-ok g c = grind (arith, common_steps)
+
+pub returns-in_err-add-clause-err : goal.returns-in_err-add-clause-err
+returns-in_err-add-clause-err g c = grind (arith, common_steps)
+
+pub unwrap-requires : goal.unwrap-requires
+unwrap-requires g c = grind (arith, common_steps)
+
+pub unwrap-requires-2 : goal.unwrap-requires-2
+unwrap-requires-2 g c = grind (arith, common_steps)
+
+pub unwrap-requires-3 : goal.unwrap-requires-3
+unwrap-requires-3 g c = grind (arith, common_steps)
