@@ -1,14 +1,15 @@
 -- The tests of a line: those before Token, and those from it on.
-use Rattle.std.proofs.Common.{◌≡◌, ◌∙◌, ◌<◌, ℕ, Bool, true, false, cond, eqb, not, ◌&&◌, arith, List, ◌∷◌, [], ◌++◌, drop, Option, Some, None, refl, sym, ap, subst, is_some}
+use Rattle.std.proofs.Common.{◌≡◌, ◌∙◌, ◌<◌, ℕ, Bool, true, false, cond, eqb, nat_lt, not, ◌&&◌, arith, List, ◌∷◌, [], ◌++◌, drop, Option, Some, None, refl, sym, ap, subst, is_some}
 use Rattle.std.specs.Prelude.{IsUtf8, codes, Result, Ok, Err, MatchResult, IfErr}
 use Rattle.std.specs.Option.{option_or}
 use Rattle.std.specs.Str.{is_utf8}
 use Rattle.std.proofs.lemmas.Bool.{eqb-true}
+use Rattle.std.proofs.lemmas.Bool.Decides.{nat_tests}
 use Rattle.std.proofs.lemmas.Str.{IsUtf8-from_is_utf8, IsUtf8-past_char}
 use Rattle.std.proofs.lemmas.Str.Ascii.{encode_ascii}
 use Rattle.hyphenation_grammar.specs.declared.form.Form.{Form}
 use Rattle.hyphenation_grammar.specs.Judging.{own_cause, fails}
-use Rattle.hyphenation_reader.specs.Private.Judging.{before_item}
+use Rattle.hyphenation_reader.specs.Private.Judging.{before_item, early_cause}
 use Rattle.hyphenation_grammar.specs.Lines.{strip_prefix, starts_with}
 use Rattle.hyphenation_reader.specs.Private.LineAnswers.{IsFault, item_cause}
 use Rattle.hyphenation_reader.specs.declared.items.Fault.{Fault}
@@ -85,3 +86,16 @@ pub refused_late : {X : Type 0} (form : Form) (number : ℕ) (line : List ℕ) (
 refused_late form number line found never is P (Ok x) h = tt
 refused_late form number line found never is P (Err fault) h =
     subst (IsFault fault) (sym (halves form number line ∙ ap (λ (o : Option Cause). option_or o (item_cause form line)) (sym is ∙ none_of found never))) h
+
+-- the lines after the third are judged alike
+after_third : (form : Form) (number : ℕ) (line : List ℕ) → 3 < number → before_item form number line ≡ early_cause line
+after_third form number line late = rw (other 1 (omega arith), other 2 (omega arith), other 3 (omega arith), more) refl
+  where
+    other : (k : ℕ) → k < number → eqb number k ≡ false
+    other k h = grind (arith, nat_tests)
+
+    more : nat_lt 3 number ≡ true
+    more = grind (arith, nat_tests)
+
+pub alike : (form : Form) (number : ℕ) (line : List ℕ) → 3 < number → own_cause form number line ≡ own_cause form 4 line
+alike form number line late = halves form number line ∙ ap (λ (o : Option Cause). option_or o (item_cause form line)) (after_third form number line late) ∙ sym (halves form 4 line)
