@@ -135,6 +135,7 @@ exception_ranged {C} {B} change_of break_of contents word bounds kept =
 
 pub opportunities_ranged : {C B : Type 0} (change_of : C → Option Change) (break_of : B → Break) (contents : Contents C B) (word : List ℕ)
     → ValueIsBorne C → WinnerIsFirst C → IsDictionary change_of break_of contents → IsUtf8 word → AreRanged word (opportunities (rules_of change_of break_of contents) word)
+unfolding opportunities
 opportunities_ranged change_of break_of contents word borne first kept u =
     let rules = rules_of change_of break_of contents in
     elim (boundaries_by rules word) as (λ found. AreRanged word (option_map_or (opportunities_in rules word) found [])) [

@@ -93,6 +93,7 @@ module _ (contents : Contents (Unit {0}) ℕ) (word : List ℕ) where
   rules = rules_of no_change plain_break contents
 
   opportunities_plain : (text : List ℕ) → ArePlain (opportunities rules text)
+  unfolding opportunities
   opportunities_plain text =
       elim (boundaries_by rules text) as (λ found. ArePlain (option_map_or (opportunities_in rules text) found [])) [
         | None ↦ tt
@@ -105,6 +106,7 @@ module _ (contents : Contents (Unit {0}) ℕ) (word : List ℕ) where
 
   -- Its breaks change nothing.
   pub breaks_plain : ArePlain (all_breaks_of rules word)
+  unfolding breaks_as_written
   breaks_plain =
       let found : List Break = opportunities rules (fold_case word) in
       elim (length (soft_hyphens word) == 0) as (λ t. ArePlain (cond t (map (break_carried_back word) found) (map plain_break (soft_hyphens word)))) [
@@ -114,6 +116,7 @@ module _ (contents : Contents (Unit {0}) ℕ) (word : List ℕ) where
 
   -- Its breaks are the same where they are fitted first.
   pub fitted_alike : ValueIsBorne (Unit {0}) → IsDictionary no_change plain_break contents → IsUtf8 word → fitted_breaks_of rules word ≡ all_breaks_of rules word
+  unfolding fitted_breaks_of
   fitted_alike borne kept u =
       let all = opportunities rules (fold_case word) in
       let ascend : Ascending (fold_case word) all = opportunities_ascend rules (fold_case word) (rules_are_sound no_change plain_break contents (fold_case word) borne kept (fold_is_utf8 word u)) in

@@ -109,6 +109,7 @@ exception_ascends rules word sound =
     ]
 
 pub opportunities_ascend : (rules : Rules) (word : List ℕ) → AreSound rules word → Ascending word (opportunities rules word)
+unfolding opportunities
 opportunities_ascend rules word sound =
     elim (boundaries_by rules word) as (λ found. Ascending word (option_map_or (opportunities_in rules word) found [])) [
       | None ↦ refl

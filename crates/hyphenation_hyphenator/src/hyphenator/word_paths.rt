@@ -128,6 +128,7 @@ fn opportunities_in<'h, F: Found<'h>>(
 
 /// The breaks of a word in small letters, within its boundaries.
 #[inline(always)]
+#[tactic(auto, unfolding(crate::specs::Opportunities::opportunities))]
 pub(crate) fn opportunities<'h, F: Found<'h>>(
     alloc: Global,
     dictionary: &'h Dictionary<F::Payload, F::Listing>,
@@ -157,6 +158,7 @@ pub(crate) fn realign_all<'h, F: Found<'h>>(breaks: &mut [F], shifts: &[Shift])
 
 /// The breaks of a word of ASCII in small letters that are kept where its folding moved nothing.
 #[inline(always)]
+#[tactic(auto, unfolding(crate::specs::Opportunities::opportunities))]
 fn unmoved_breaks<'h, F: Found<'h>>(
     alloc: Global,
     dictionary: &'h Dictionary<F::Payload, F::Listing>,
