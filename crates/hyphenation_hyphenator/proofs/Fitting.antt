@@ -62,6 +62,7 @@ kept_with_end test kept last_end (b ∷ bs) ends =
     ] refl
 
 pub kept_is : (test : Break → Bool) (breaks : List Break) → kept_breaks test breaks ≡ kept_from test 0 breaks
+unfolding kept_breaks
 kept_is test breaks = kept_with_end test [] 0 breaks ends_at_start
 
 -- ---- ranges that hold no character whose number of bytes changes
@@ -250,6 +251,7 @@ pub held_by_shifts : (word : List ℕ) (begin end : ℕ) → holds_shift (shifts
 held_by_shifts word begin end = any_picked (shift_of word) (changes_length word) (λ shift. nat_le begin shift.index && nat_lt shift.index end) (range_with_len 0 (length (chars word)))
 
 pub steady_by_shifts : (word : List ℕ) (b : Break) → is_steady_by (length (fold_case word)) (shifts_of word) b ≡ is_steady word b
+unfolding is_steady_by
 steady_by_shifts word b = ap (λ t. nat_le (left_of b.change) b.place && nat_le (end_of b) (length (fold_case word)) && not t) (held_by_shifts word (begin_of b) (end_of b))
 
 kept_same : (test other : Break → Bool) (last_end : ℕ) (breaks : List Break) → ((b : Break) → test b ≡ other b) → kept_from test last_end breaks ≡ kept_from other last_end breaks
@@ -265,6 +267,7 @@ fitted_by_shifts word breaks = kept_is _ breaks ∙ kept_same _ _ 0 breaks (stea
 
 realigned_from : (word : List ℕ) (test : Break → Bool) (last_end low : ℕ) (breaks : List Break) → IsUtf8 word → length word < 2 ^ 64 → AscendFrom (fold_case word) low breaks
     → map (realigned_break (shifts_of word)) (kept_from test last_end breaks) ≡ map (break_carried_back word) (kept_from test last_end breaks)
+unfolding realigned_break
 realigned_from word test last_end low [] u l a = refl
 realigned_from word test last_end low (b ∷ bs) u l a =
     elim (test b && nat_le last_end (begin_of b)) as (λ t. map (realigned_break (shifts_of word)) (cond t (b ∷ kept_from test (end_of b) bs) (kept_from test last_end bs)) ≡ map (break_carried_back word) (cond t (b ∷ kept_from test (end_of b) bs) (kept_from test last_end bs))) [

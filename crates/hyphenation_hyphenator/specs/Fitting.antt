@@ -30,7 +30,7 @@ abbrev pub keep_break : (Break → Bool) → List Break → Break → List Break
 keep_break test kept b = if test b && is_after kept b then kept ++ b ∷ [] else kept
 
 -- The breaks that are kept, from the first on.
-abbrev pub kept_breaks : (Break → Bool) → List Break → List Break
+unfoldable pub kept_breaks : (Break → Bool) → List Break → List Break
 kept_breaks test breaks = lists.fold (keep_break test) [] breaks
 
 -- The breaks of the folded word that are kept.

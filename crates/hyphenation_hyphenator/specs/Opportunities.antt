@@ -42,7 +42,7 @@ winning_break change_of keys word place =
     record { place = place; change = option_and_then (λ entry. change_of entry.change) (winner_at keys word place) }
 
 -- A break at each place of an odd value, with the change of the place's winner, or none.
-abbrev pub breaks_at_odd_values : {C : Type 0} → (C → Option Change) → Patterns C → List ℕ → List Break
+unfoldable pub breaks_at_odd_values : {C : Type 0} → (C → Option Change) → Patterns C → List ℕ → List Break
 breaks_at_odd_values change_of keys word =
     map (winning_break change_of keys word) (filter (λ place. is_odd (value_at keys word place)) (places word))
 
