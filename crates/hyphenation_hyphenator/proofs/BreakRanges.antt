@@ -10,7 +10,7 @@ use Rattle.hyphenation_breaks.specs.Break.{Break, Change, break_at, ascend_on, i
 use Rattle.hyphenation_breaks.specs.Dictionary.{Contents, entries_of_keys}
 use Rattle.hyphenation_breaks.specs.Invariant.{IsDictionary, fits_usize, can_be_said, is_value, stays_within, lists_within}
 use Rattle.hyphenation_breaks.specs.declared.entry.Entry.{Entry}
-use Rattle.hyphenation_hyphenator.specs.Opportunities.{rules_of, is_odd, within, breaks_within, winning_break, by_patterns, by_exception, opportunities_in, opportunities, boundaries_by}
+use Rattle.hyphenation_hyphenator.specs.Opportunities.{rules_of, is_odd, within, breaks_within, winning_break, breaks_at_odd_values, by_patterns, by_exception, opportunities_in, opportunities, boundaries_by}
 use Rattle.hyphenation_score.specs.Laws.{ValueIsBorne, WinnerIsFirst}
 use Rattle.hyphenation_score.specs.Scoring.{frame, value_at, winner_at}
 use Rattle.hyphenation_hyphenator.proofs.Ascending.{boundary_from_test}
@@ -117,6 +117,7 @@ within_ranged text (b ∷ bs) bounds r =
 
 patterns_ranged : {C B : Type 0} (change_of : C → Option Change) (break_of : B → Break) (contents : Contents C B) (word : List ℕ) (bounds : ℕ × ℕ)
     → ValueIsBorne C → WinnerIsFirst C → IsDictionary change_of break_of contents → IsUtf8 word → AreRanged word (by_patterns (rules_of change_of break_of contents) word bounds)
+unfolding breaks_at_odd_values
 patterns_ranged change_of break_of contents word bounds borne first kept u =
     let keys = entries_of_keys contents in
     within_ranged word (map (winning_break change_of keys word) (filter (λ place. is_odd (value_at keys word place)) (range_with_len 1 (length word - 1)))) bounds
@@ -135,6 +136,7 @@ exception_ranged {C} {B} change_of break_of contents word bounds kept =
 
 pub opportunities_ranged : {C B : Type 0} (change_of : C → Option Change) (break_of : B → Break) (contents : Contents C B) (word : List ℕ)
     → ValueIsBorne C → WinnerIsFirst C → IsDictionary change_of break_of contents → IsUtf8 word → AreRanged word (opportunities (rules_of change_of break_of contents) word)
+unfolding opportunities
 opportunities_ranged change_of break_of contents word borne first kept u =
     let rules = rules_of change_of break_of contents in
     elim (boundaries_by rules word) as (λ found. AreRanged word (option_map_or (opportunities_in rules word) found [])) [

@@ -34,6 +34,7 @@ none_if false y h = refl
 -- One more break may be kept.
 pub kept_more : {X : Type 0} (test : Break → Bool) (m : X → Break) (xs : List X) (i : ℕ) (x : X) (kept : List Break) (last_end : ℕ) → i < length xs → x ≡ get_or xs i x
     → kept ≡ kept_breaks test (map m (take i xs)) → EndsAt kept last_end → kept_breaks test (map m (take (i + 1) xs)) ≡ cond (test (m x) && nat_le last_end (begin_of (m x))) (kept ++ m x ∷ []) kept
+unfolding kept_breaks
 kept_more {X} test m xs i x kept last_end lt at is ends =
     ap (λ ys. kept_breaks test (map m ys)) (take_more xs i x lt) ∙ ap (kept_breaks test) (map-append m (take i xs) (get_or xs i x ∷ []))
     ∙ fold-append (keep_break test) [] (map m (take i xs)) (m (get_or xs i x) ∷ [])
@@ -104,6 +105,7 @@ same_won f g test odd bounds placed a (suc n) agree =
 -- The places that are won within bounds are the breaks that the keys allow.
 pub won_allowed : {C : Type 0} (change_of : C → Option Change) (keys : Patterns C) (word : List ℕ) (bounds : ℕ × ℕ) (found : List (Option (Entry C)))
     → WinnerHasValue C → found ≡ winners keys word → won_within change_of found bounds ≡ breaks_within (breaks_at_odd_values change_of keys word) bounds
+unfolding breaks_at_odd_values
 won_allowed {C} change_of keys word bounds found has_value is =
     let n = length word - 1 in
     let ws : List (Option (Entry C)) = winners keys word in

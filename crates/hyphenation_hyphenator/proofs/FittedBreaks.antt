@@ -13,7 +13,7 @@ use Rattle.hyphenation_segments.specs.Fits.{Fits}
 use Rattle.hyphenation_hyphenator.specs.Fitting.{kept_breaks, fitted_breaks, fitted_breaks_of, KeepRanges}
 use Rattle.hyphenation_hyphenator.specs.Private.Fitting.{is_steady_by}
 use Rattle.hyphenation_hyphenator.specs.Folding.{fold_case, shifts_of}
-use Rattle.hyphenation_hyphenator.specs.Opportunities.{Rules, rules_of, opportunities, break_carried_back, Ascending}
+use Rattle.hyphenation_hyphenator.specs.Opportunities.{Rules, rules_of, opportunities, break_carried_back, Ascending, breaks_as_written}
 use Rattle.hyphenation_hyphenator.specs.Private.Opportunities.{realigned_break}
 use Rattle.hyphenation_hyphenator.specs.SoftHyphens.{soft_hyphens}
 use Rattle.hyphenation_hyphenator.proofs.Fitting.{AreRanged, fitted_fit, fitted_keep, fitted_by_shifts, fitted_realigned}
@@ -63,11 +63,13 @@ carried_fitted rules word folded size shifts found kept new u l c =
 
 pub breaks_are : (rules : Rules) (word folded : List ℕ) (size : ℕ) (shifts : List Shift) (found kept new : List Break) → IsUtf8 word → length word < 2 ^ 64 → (length (soft_hyphens word) == 0) ≡ true → Carries rules word folded size shifts found kept new
     → new ≡ fitted_breaks_of rules word
+unfolding fitted_breaks_of breaks_as_written
 breaks_are rules word folded size shifts found kept new u l none c =
     carried_fitted rules word folded size shifts found kept new u l c
     ∙ sym (cond-true (length (soft_hyphens word) == 0) (map (break_carried_back word) (fitted_breaks word (opportunities rules (fold_case word)))) (map plain_break (soft_hyphens word)) none)
 
 pub soft_breaks_are : (rules : Rules) (word : List ℕ) (found : List Break) → soft_hyphens word ≢ [] → found ≡ map plain_break (soft_hyphens word) → found ≡ fitted_breaks_of rules word
+unfolding fitted_breaks_of breaks_as_written
 soft_breaks_are rules word found some is =
     is ∙ sym (cond-false (length (soft_hyphens word) == 0) (map (break_carried_back word) (fitted_breaks word (opportunities rules (fold_case word)))) (map plain_break (soft_hyphens word)) (some_soft_hyphens (soft_hyphens word) some))
 
@@ -91,6 +93,7 @@ module _ {C B : Type 0} (change_of : C → Option Change) (break_of : B → Brea
 
   -- So do all breaks of the word as written, also where they are its soft hyphens.
   pub breaks_fit : Fits word (fitted_breaks_of (rules_of change_of break_of contents) word)
+  unfolding fitted_breaks_of breaks_as_written
   breaks_fit =
       cond_both (length (soft_hyphens word) == 0) (map (break_carried_back word) (fitted_breaks word all)) (map plain_break (soft_hyphens word)) (Fits word)
       (λ _. opportunities_fit) (λ _. increasing_fit word (soft_hyphens word) (ascending word) (within word u))

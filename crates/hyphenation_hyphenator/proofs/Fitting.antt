@@ -62,6 +62,7 @@ kept_with_end test kept last_end (b ∷ bs) ends =
     ] refl
 
 pub kept_is : (test : Break → Bool) (breaks : List Break) → kept_breaks test breaks ≡ kept_from test 0 breaks
+unfolding kept_breaks
 kept_is test breaks = kept_with_end test [] 0 breaks ends_at_start
 
 -- ---- ranges that hold no character whose number of bytes changes
@@ -210,6 +211,7 @@ kept_from_fits word last_end low least (b ∷ bs) u at a ranged from =
 
 -- Breaks that are kept fit the word as written when they are carried back.
 pub fitted_fit : (word : List ℕ) (breaks : List Break) → IsUtf8 word → Ascending (fold_case word) breaks → AreRanged (fold_case word) breaks → Fits word (map (break_carried_back word) (fitted_breaks word breaks))
+unfolding fitted_breaks
 fitted_fit word breaks u a ranged =
     let start : IsCharBoundary (fold_case word) 0 = IsCharBoundary-start (fold_case word) (fold_is_utf8 word u) in
     subst (λ bs. Fits word (map (break_carried_back word) bs)) (sym (kept_is (is_steady word) breaks))
@@ -231,6 +233,7 @@ kept_from_keep word last_end low (b ∷ bs) u a ranged =
     ] refl
 
 pub fitted_keep : (word : List ℕ) (breaks : List Break) → IsUtf8 word → Ascending (fold_case word) breaks → AreRanged (fold_case word) breaks → All (KeepsRange word) (fitted_breaks word breaks)
+unfolding fitted_breaks
 fitted_keep word breaks u a ranged = subst (All (KeepsRange word)) (sym (kept_is (is_steady word) breaks)) (kept_from_keep word 0 0 breaks u (from_ascending (fold_case word) breaks a) ranged)
 
 -- ---- the same by the shifts
@@ -248,6 +251,7 @@ pub held_by_shifts : (word : List ℕ) (begin end : ℕ) → holds_shift (shifts
 held_by_shifts word begin end = any_picked (shift_of word) (changes_length word) (λ shift. nat_le begin shift.index && nat_lt shift.index end) (range_with_len 0 (length (chars word)))
 
 pub steady_by_shifts : (word : List ℕ) (b : Break) → is_steady_by (length (fold_case word)) (shifts_of word) b ≡ is_steady word b
+unfolding is_steady_by
 steady_by_shifts word b = ap (λ t. nat_le (left_of b.change) b.place && nat_le (end_of b) (length (fold_case word)) && not t) (held_by_shifts word (begin_of b) (end_of b))
 
 kept_same : (test other : Break → Bool) (last_end : ℕ) (breaks : List Break) → ((b : Break) → test b ≡ other b) → kept_from test last_end breaks ≡ kept_from other last_end breaks
@@ -258,10 +262,12 @@ kept_same test other last_end (b ∷ bs) same =
     ∙ ap (λ rest. cond (other b && nat_le last_end (begin_of b)) (b ∷ kept_from other (end_of b) bs) rest) (kept_same test other last_end bs same)
 
 pub fitted_by_shifts : (word : List ℕ) (breaks : List Break) → kept_breaks (is_steady_by (length (fold_case word)) (shifts_of word)) breaks ≡ fitted_breaks word breaks
+unfolding fitted_breaks
 fitted_by_shifts word breaks = kept_is _ breaks ∙ kept_same _ _ 0 breaks (steady_by_shifts word) ∙ sym (kept_is (is_steady word) breaks)
 
 realigned_from : (word : List ℕ) (test : Break → Bool) (last_end low : ℕ) (breaks : List Break) → IsUtf8 word → length word < 2 ^ 64 → AscendFrom (fold_case word) low breaks
     → map (realigned_break (shifts_of word)) (kept_from test last_end breaks) ≡ map (break_carried_back word) (kept_from test last_end breaks)
+unfolding realigned_break
 realigned_from word test last_end low [] u l a = refl
 realigned_from word test last_end low (b ∷ bs) u l a =
     elim (test b && nat_le last_end (begin_of b)) as (λ t. map (realigned_break (shifts_of word)) (cond t (b ∷ kept_from test (end_of b) bs) (kept_from test last_end bs)) ≡ map (break_carried_back word) (cond t (b ∷ kept_from test (end_of b) bs) (kept_from test last_end bs))) [
@@ -273,5 +279,6 @@ realigned_from word test last_end low (b ∷ bs) u l a =
 
 -- Kept breaks that are realigned are carried back.
 pub fitted_realigned : (word : List ℕ) (breaks : List Break) → IsUtf8 word → length word < 2 ^ 64 → Ascending (fold_case word) breaks → map (realigned_break (shifts_of word)) (fitted_breaks word breaks) ≡ map (break_carried_back word) (fitted_breaks word breaks)
+unfolding fitted_breaks
 fitted_realigned word breaks u l a =
     ap (map (realigned_break (shifts_of word))) (kept_is (is_steady word) breaks) ∙ realigned_from word (is_steady word) 0 0 breaks u l (from_ascending (fold_case word) breaks a) ∙ ap (map (break_carried_back word)) (sym (kept_is (is_steady word) breaks))

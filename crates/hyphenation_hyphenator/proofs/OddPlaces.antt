@@ -130,6 +130,7 @@ same_breaks test odd break_to bounds is first (suc n) agree =
 -- The odd places within bounds are the breaks that the keys allow, where no entry that bears on a place carries a change.
 pub places_allowed : {C : Type 0} (change_of : C → Option Change) (keys : Patterns C) (word : List ℕ) (bounds : ℕ × ℕ) → NoChangeIsWon C → ((p : ℕ) → carry_change change_of (bearers keys (frame word) p) ≡ false)
     → map plain_break (filter (test_of (values keys word) bounds) (range_with_len 1 (length (values keys word)))) ≡ breaks_within (breaks_at_odd_values change_of keys word) bounds
+unfolding breaks_at_odd_values
 places_allowed change_of keys word bounds none_wins none =
     let n = length word - 1 in
     let test : ℕ → Bool = test_of (values keys word) bounds in

@@ -14,7 +14,7 @@ use Rattle.hyphenation_hyphenator.specs.Fitting.{kept_breaks, fitted_breaks_of}
 use Rattle.hyphenation_hyphenator.specs.Private.Fitting.{holds_shift, is_steady_by}
 use Rattle.hyphenation_hyphenator.specs.Private.Opportunities.{lent_break}
 use Rattle.hyphenation_hyphenator.specs.Folding.{fold_case, carried_back, shifts_of}
-use Rattle.hyphenation_hyphenator.specs.Opportunities.{Rules, no_change, rules_of, within, breaks_within, winning_break, by_patterns, opportunities_in, opportunities, boundaries_by, all_breaks_of, breaks_as_written, break_carried_back, Ascending}
+use Rattle.hyphenation_hyphenator.specs.Opportunities.{Rules, no_change, rules_of, within, breaks_within, winning_break, breaks_at_odd_values, by_patterns, opportunities_in, opportunities, boundaries_by, all_breaks_of, breaks_as_written, break_carried_back, Ascending}
 use Rattle.hyphenation_hyphenator.specs.SoftHyphens.{soft_hyphens}
 use Rattle.hyphenation_score.specs.Laws.{ValueIsBorne}
 use Rattle.hyphenation_score.specs.Scoring.{winner_at}
@@ -38,6 +38,7 @@ none_between place (s ∷ ss) =
     ] refl
 
 plain_is_steady : (size : ℕ) (shifts : List Shift) (place : ℕ) → place ≤ size → is_steady_by size shifts (plain_break place) ≡ true
+unfolding is_steady_by
 plain_is_steady size shifts place h =
     ap (λ t. (nat_le 0 place && t) && not (holds_shift shifts (place - 0) (place + 0))) (le-leb (place + 0) size (omega arith))
     ∙ ap (λ t. (t && true) && not (holds_shift shifts (place - 0) (place + 0))) (le-leb 0 place (omega arith))
@@ -93,6 +94,7 @@ module _ (contents : Contents (Unit {0}) ℕ) (word : List ℕ) where
   rules = rules_of no_change plain_break contents
 
   opportunities_plain : (text : List ℕ) → ArePlain (opportunities rules text)
+  unfolding opportunities breaks_at_odd_values
   opportunities_plain text =
       elim (boundaries_by rules text) as (λ found. ArePlain (option_map_or (opportunities_in rules text) found [])) [
         | None ↦ tt
@@ -105,6 +107,7 @@ module _ (contents : Contents (Unit {0}) ℕ) (word : List ℕ) where
 
   -- Its breaks change nothing.
   pub breaks_plain : ArePlain (all_breaks_of rules word)
+  unfolding breaks_as_written
   breaks_plain =
       let found : List Break = opportunities rules (fold_case word) in
       elim (length (soft_hyphens word) == 0) as (λ t. ArePlain (cond t (map (break_carried_back word) found) (map plain_break (soft_hyphens word)))) [
@@ -114,6 +117,7 @@ module _ (contents : Contents (Unit {0}) ℕ) (word : List ℕ) where
 
   -- Its breaks are the same where they are fitted first.
   pub fitted_alike : ValueIsBorne (Unit {0}) → IsDictionary no_change plain_break contents → IsUtf8 word → fitted_breaks_of rules word ≡ all_breaks_of rules word
+  unfolding fitted_breaks_of
   fitted_alike borne kept u =
       let all = opportunities rules (fold_case word) in
       let ascend : Ascending (fold_case word) all = opportunities_ascend rules (fold_case word) (rules_are_sound no_change plain_break contents (fold_case word) borne kept (fold_is_utf8 word u)) in

@@ -15,7 +15,7 @@ use Rattle.hyphenation_breaks.specs.Invariant.{IsDictionary, are_listed}
 use Rattle.hyphenation_segments.specs.Fits.{Fits, FitsFrom}
 use Rattle.hyphenation_score.specs.Laws.{ValueIsBorne}
 use Rattle.hyphenation_score.specs.Scoring.{value_at}
-use Rattle.hyphenation_hyphenator.specs.Opportunities.{Rules, rules_of, is_odd, within, breaks_within, winning_break, by_patterns, by_exception, opportunities_in, opportunities, boundaries_by, exception_within_boundaries, Ascending}
+use Rattle.hyphenation_hyphenator.specs.Opportunities.{Rules, rules_of, is_odd, within, breaks_within, winning_break, breaks_at_odd_values, by_patterns, by_exception, opportunities_in, opportunities, boundaries_by, exception_within_boundaries, Ascending}
 use Rattle.hyphenation_hyphenator.proofs.Ascending.{Ascend, ascend_from_test, ascend_fits, test_from_ascend}
 use Rattle.hyphenation_hyphenator.proofs.Occurrences.{value_boundary}
 
@@ -80,6 +80,7 @@ exceptions_ascend {C} {B} change_of break_of contents word kept =
 
 pub rules_are_sound : {C B : Type 0} (change_of : C → Option Change) (break_of : B → Break) (contents : Contents C B) (word : List ℕ)
     → ValueIsBorne C → IsDictionary change_of break_of contents → IsUtf8 word → AreSound (rules_of change_of break_of contents) word
+unfolding breaks_at_odd_values
 rules_are_sound {C} {B} change_of break_of contents word borne kept u =
     let keys = entries_of_keys contents in
     record {
@@ -109,6 +110,7 @@ exception_ascends rules word sound =
     ]
 
 pub opportunities_ascend : (rules : Rules) (word : List ℕ) → AreSound rules word → Ascending word (opportunities rules word)
+unfolding opportunities
 opportunities_ascend rules word sound =
     elim (boundaries_by rules word) as (λ found. Ascending word (option_map_or (opportunities_in rules word) found [])) [
       | None ↦ refl

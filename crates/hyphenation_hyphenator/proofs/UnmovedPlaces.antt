@@ -6,7 +6,7 @@ use Rattle.hyphenation_breaks.specs.Break.{Break, plain_break, begin_of, end_of}
 use Rattle.hyphenation_hyphenator.specs.Fitting.{is_steady, kept_breaks, fitted_breaks, fitted_breaks_of}
 use Rattle.hyphenation_hyphenator.specs.Private.Fitting.{is_steady_by}
 use Rattle.hyphenation_hyphenator.specs.Folding.{fold_case, carried_back, shifts_of}
-use Rattle.hyphenation_hyphenator.specs.Opportunities.{Rules, opportunities, break_carried_back, Ascending}
+use Rattle.hyphenation_hyphenator.specs.Opportunities.{Rules, opportunities, break_carried_back, Ascending, breaks_as_written}
 use Rattle.hyphenation_hyphenator.specs.SoftHyphens.{soft_hyphens}
 use Rattle.hyphenation_hyphenator.proofs.Fitting.{kept_from, kept_is, fitted_by_shifts}
 use Rattle.hyphenation_hyphenator.proofs.RulesAscend.{AscendFrom, from_ascending}
@@ -29,6 +29,7 @@ kept_stay word test last_end least (b ∷ bs) stays ascend =
 -- What is kept of the folded word's breaks, with no shifts, are the breaks of the word as written.
 pub unmoved_breaks : (rules : Rules) (word folded : List ℕ) (kept : List Break) → shifts_of word ≡ [] → soft_hyphens word ≡ [] → MovesNothing word → folded ≡ fold_case word → Ascending (fold_case word) (opportunities rules (fold_case word))
     → kept ≡ kept_breaks (is_steady_by (length folded) []) (opportunities rules folded) → kept ≡ fitted_breaks_of rules word
+unfolding fitted_breaks_of fitted_breaks breaks_as_written
 unmoved_breaks rules word folded kept no_shifts no_hyphens stays folded_is ascend is =
     let all = opportunities rules (fold_case word) in
     let kept_are : kept ≡ fitted_breaks word all =

@@ -30,15 +30,15 @@ abbrev pub keep_break : (Break → Bool) → List Break → Break → List Break
 keep_break test kept b = if test b && is_after kept b then kept ++ b ∷ [] else kept
 
 -- The breaks that are kept, from the first on.
-abbrev pub kept_breaks : (Break → Bool) → List Break → List Break
+unfoldable pub kept_breaks : (Break → Bool) → List Break → List Break
 kept_breaks test breaks = lists.fold (keep_break test) [] breaks
 
 -- The breaks of the folded word that are kept.
-abbrev pub fitted_breaks : List ℕ → List Break → List Break
+unfoldable pub fitted_breaks : List ℕ → List Break → List Break
 fitted_breaks word breaks = kept_breaks (is_steady word) breaks
 
 -- The breaks of a word as written, where those opportunities of the folded word that are kept are carried back.
-abbrev pub fitted_breaks_of : Rules → List ℕ → List Break
+unfoldable pub fitted_breaks_of : Rules → List ℕ → List Break
 fitted_breaks_of rules word = breaks_as_written word (fitted_breaks word (opportunities rules (fold_case word)))
 
 -- The range of a break of the folded word, carried back by its ends, is the range of the break carried back: it has as many bytes in the word as written.

@@ -42,7 +42,7 @@ winning_break change_of keys word place =
     record { place = place; change = option_and_then (λ entry. change_of entry.change) (winner_at keys word place) }
 
 -- A break at each place of an odd value, with the change of the place's winner, or none.
-abbrev pub breaks_at_odd_values : {C : Type 0} → (C → Option Change) → Patterns C → List ℕ → List Break
+unfoldable pub breaks_at_odd_values : {C : Type 0} → (C → Option Change) → Patterns C → List ℕ → List Break
 breaks_at_odd_values change_of keys word =
     map (winning_break change_of keys word) (filter (λ place. is_odd (value_at keys word place)) (places word))
 
@@ -81,7 +81,7 @@ abbrev pub opportunities_in : Rules → List ℕ → ℕ × ℕ → List Break
 opportunities_in rules word bounds = unwrap_or (by_exception rules word bounds) (by_patterns rules word bounds)
 
 -- The opportunities of a word in small letters: those within its boundaries, and none where it has no boundaries.
-abbrev pub opportunities : Rules → List ℕ → List Break
+unfoldable pub opportunities : Rules → List ℕ → List Break
 opportunities rules word = option_map_or (opportunities_in rules word) (boundaries_by rules word) []
 
 -- A break of the folded word is carried back to the word as written.
@@ -89,7 +89,7 @@ abbrev pub break_carried_back : List ℕ → Break → Break
 break_carried_back word b = record { place = carried_back word b.place; change = b.change }
 
 -- The breaks of a word as written: where its soft hyphens begin, if it has any, and else those of the folded word, carried back.
-abbrev pub breaks_as_written : List ℕ → List Break → List Break
+unfoldable pub breaks_as_written : List ℕ → List Break → List Break
 breaks_as_written word folded =
     if length (soft_hyphens word) == 0
     then map (break_carried_back word) folded

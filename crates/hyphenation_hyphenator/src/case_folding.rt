@@ -18,6 +18,7 @@ ghost use Rattle.std.specs.Cow.{cow_str_bytes, IsBorrowedStr};
 ghost use Rattle.std.specs.Int.{saturate_unsigned, w64};
 ghost use Rattle.std.specs.List.Sorted.{IsNonDecreasingBy};
 ghost use Rattle.std.specs.Str.{IsUtf8, IsCharBoundary};
+ghost use Rattle.std.specs.String.{string_bytes};
 ghost use Rattle.std.specs.Option.{option_copied, option_map_or};
 ghost use Rattle.std.specs.Str.Pattern.{HasPassingCharAt};
 ghost use Rattle.unicode.specs.Binary.{is_uppercase};
@@ -52,10 +53,27 @@ pub fn refold<'t>(alloc: Global, original: &'t str) -> Result<(CowStr<'t>, Vec<S
     ensures borrowed { IfOk result (λ r. IsBorrowedStr r.0 ↔ (has_uppercase original.now ≡ false)) }
     ensures lent { has_uppercase original.now ≡ false → IsOkAnd result (λ r. IsBorrowedStr r.0 × (r.1.items ≡ [])) }
 {
+    match first_uppercase(original) {
+        Some(start) => {
+            let (folded, shifts) = folded_from(alloc, original, start)?;
+            Ok((CowStr::Owned(folded), shifts))
+        }
+        None => Ok((CowStr::Borrowed(original), Vec::new(alloc))),
+    }
+}
+
+/// The folded word and its shifts, where no character before a place is Uppercase.
+fn folded_from(
+    alloc: Global,
+    original: &str,
+    start: usize,
+) -> Result<(String, Vec<Shift>), AllocError>
+    requires start { IsCharBoundary original.now start }
+    requires unchanged { has_uppercase (take start original.now) ≡ false }
+    ensures folded { IfOk result (λ r. string_bytes r.0 ≡ fold_case original.now) }
+    ensures shifts { IfOk result (λ r. r.1.items ≡ shifts_of original.now) }
+{
     let mut shifts = Vec::new(alloc);
-    let Some(start) = first_uppercase(original) else {
-        return Ok((CowStr::Borrowed(original), shifts));
-    };
     let (unchanged, rest) = original.split_at(start);
     // Most words fold to as many bytes.
     let mut folded = String::with_capacity(alloc, original.len())?;
@@ -71,7 +89,7 @@ pub fn refold<'t>(alloc: Global, original: &'t str) -> Result<(CowStr<'t>, Vec<S
             shifts.push(Shift { index, delta })?;
         }
     }
-    Ok((CowStr::Owned(folded), shifts))
+    Ok((folded, shifts))
 }
 
 /// The place of the first character that is Uppercase.

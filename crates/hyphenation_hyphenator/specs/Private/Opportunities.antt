@@ -36,5 +36,5 @@ won_within change_of winners bounds =
     map (won_break change_of winners) (filter (is_won winners bounds) (range_with_len 0 (length winners)))
 
 -- A break of the folded word is carried back by the shifts of the folding.
-abbrev pub realigned_break : List Shift → Break → Break
+unfoldable pub realigned_break : List Shift → Break → Break
 realigned_break shifts b = break_at (saturate_unsigned w64 (pos b.place -ℤ delta_below shifts b.place)) b.change

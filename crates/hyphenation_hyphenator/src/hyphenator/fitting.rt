@@ -34,6 +34,7 @@ fn holds_shift(shifts: &[Shift], begin: usize, end: usize) -> bool
 
 /// Where the range of a break ends, if it begins at the last end or after it, lies in a folded word of so many bytes
 /// and holds no character whose number of bytes the folding changed.
+#[tactic(auto, unfolding(crate::specs::Private::Fitting::is_steady_by))]
 fn steady_end<B: Break>(length: usize, shifts: &[Shift], last_end: usize, b: &B) -> Option<usize>
     requires { IsNonDecreasingBy (λ shift. shift.index) shifts.now }
     ensures { result

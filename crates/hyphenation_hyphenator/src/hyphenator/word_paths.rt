@@ -128,6 +128,7 @@ fn opportunities_in<'h, F: Found<'h>>(
 
 /// The breaks of a word in small letters, within its boundaries.
 #[inline(always)]
+#[tactic(auto, unfolding(crate::specs::Opportunities::opportunities))]
 pub(crate) fn opportunities<'h, F: Found<'h>>(
     alloc: Global,
     dictionary: &'h Dictionary<F::Payload, F::Listing>,
@@ -157,6 +158,7 @@ pub(crate) fn realign_all<'h, F: Found<'h>>(breaks: &mut [F], shifts: &[Shift])
 
 /// The breaks of a word of ASCII in small letters that are kept where its folding moved nothing.
 #[inline(always)]
+#[tactic(auto, unfolding(crate::specs::Opportunities::opportunities, crate::specs::Fitting::kept_breaks))]
 fn unmoved_breaks<'h, F: Found<'h>>(
     alloc: Global,
     dictionary: &'h Dictionary<F::Payload, F::Listing>,
@@ -247,6 +249,27 @@ fn folded_opportunities<'h, F: Found<'h>>(
     opportunities(alloc, dictionary, folded)
 }
 
+/// The breaks of a word that was folded, carried back by the shifts of the folding, which stand in the order of their
+/// indices.
+#[inline(always)]
+fn breaks_of_folded<'h, F: Found<'h>>(
+    alloc: Global,
+    dictionary: &'h Dictionary<F::Payload, F::Listing>,
+    folded: &str,
+    shifts: &[Shift],
+) -> Result<Vec<F>, AllocError>
+    requires { IsNonDecreasingBy (λ shift. shift.index) shifts.now }
+    ensures { IfOk result (λ v.
+        map F.meaning v.items
+        ≡ map (realigned_break shifts.now) (kept_breaks (is_steady_by (length folded.now) shifts.now)
+        (opportunities (rules_of F.Payload.change_of F.Listing.meaning dictionary.now) folded.now))) }
+{
+    let found = folded_opportunities(alloc, dictionary, folded)?;
+    let mut breaks = F::kept(alloc, folded, shifts, found)?;
+    realign_all(&mut breaks, shifts);
+    Ok(breaks)
+}
+
 /// The breaks of any word.
 #[inline(never)]
 fn breaks_of_any<'h, F: Found<'h>>(
@@ -258,15 +281,14 @@ fn breaks_of_any<'h, F: Found<'h>>(
         map F.meaning v.items
         ≡ fitted_breaks_of (rules_of F.Payload.change_of F.Listing.meaning dictionary.now) word.now) }
 {
+    dictionary.invariant();
+    value_is_borne::<F::Payload>();
     if let Some(places) = soft_hyphen_indices(alloc, word)? {
         return F::unchanged(alloc, places);
     }
     let (folded, shifts) = refold(alloc, word)?;
     let text = folded.as_str();
-    let found = folded_opportunities(alloc, dictionary, text)?;
-    let mut breaks = F::kept(alloc, text, &shifts, found)?;
-    realign_all(&mut breaks, &shifts);
-    Ok(breaks)
+    breaks_of_folded(alloc, dictionary, text, &shifts)
 }
 
 /// The breaks of a word as written.

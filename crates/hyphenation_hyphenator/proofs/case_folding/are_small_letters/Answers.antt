@@ -1,3 +1,4 @@
+use Rattle.std.proofs.lemmas.Grind.{common_steps}
 use Rattle.std.proofs.Common.{◌≡◌, true, false, ap, sym, ◌∙◌, arith, slice_index}
 use Rattle.std.specs.Char.{is_ascii_lowercase}
 use Rattle.hyphenation_hyphenator.specs.Private.SmallLetters.{are_small_letters}
@@ -20,3 +21,42 @@ loop-at-preserved-then-first-lt128 c =
       within = omega arith;
       same = c.loop-at.invariant.same ∙ after_lower bytes at (omega arith) c.if-first-lt128.true lower;
     }
+
+pub loop-at-init : goal.loop-at-init
+loop-at-init c = grind (arith, common_steps)
+
+pub bounds-bytes-at : goal.bounds-bytes-at
+bounds-bytes-at c = grind (arith, common_steps)
+
+pub overflow_add-at : goal.overflow_add-at
+overflow_add-at c = grind (arith, common_steps)
+
+pub loop-at-smaller-then-first-lt128 : goal.loop-at-smaller-then-first-lt128
+loop-at-smaller-then-first-lt128 c = grind (arith, common_steps)
+
+pub overflow_add-at-else-first-lt128 : goal.overflow_add-at-else-first-lt128
+overflow_add-at-else-first-lt128 c = grind (arith, common_steps)
+
+pub bounds-bytes-at-else-first-lt128 : goal.bounds-bytes-at-else-first-lt128
+bounds-bytes-at-else-first-lt128 c = grind (arith, common_steps)
+
+pub returns-then-not-is_small_pair : goal.returns-then-not-is_small_pair
+returns-then-not-is_small_pair c = grind (arith, common_steps)
+
+pub overflow_add-at-else-first-lt128-2 : goal.overflow_add-at-else-first-lt128-2
+overflow_add-at-else-first-lt128-2 c = grind (arith, common_steps)
+
+pub loop-at-smaller : goal.loop-at-smaller
+loop-at-smaller c = grind (arith, common_steps)
+
+pub loop-at-preserved : goal.loop-at-preserved
+loop-at-preserved c = grind (arith, common_steps)
+
+pub bounds-bytes-at-else-at-bytes : goal.bounds-bytes-at-else-at-bytes
+bounds-bytes-at-else-at-bytes c = grind (arith, common_steps)
+
+pub returns-then-at-bytes : goal.returns-then-at-bytes
+returns-then-at-bytes c = grind (arith, common_steps)
+
+pub returns-else-at-bytes : goal.returns-else-at-bytes
+returns-else-at-bytes c = grind (arith, common_steps)

@@ -1,3 +1,4 @@
+use Rattle.std.proofs.lemmas.Grind.{common_steps}
 use Rattle.std.proofs.Common.{rules, arith, refl, length, ◌<◌, ◌≡◌}
 use Rattle.std.specs.Str.{IsAscii}
 use Rattle.std.specs.Str.Iter.{char_indices_rest, char_indices_offset}
@@ -48,3 +49,24 @@ pub returns-then-is_ascii-clause-some : goal.returns-then-is_ascii-clause-some
 returns-then-is_ascii-clause-some c =
     let ascii : IsAscii c.args.word.now = search rules in
     (λ f. cc, λ some. absurd (some (none_in_ascii c.args.word.now ascii)))
+
+pub returns-then-is_ascii-clause-none : goal.returns-then-is_ascii-clause-none
+returns-then-is_ascii-clause-none c = grind (arith, common_steps)
+
+pub next-requires : goal.next-requires
+next-requires c = grind (arith, common_steps)
+
+pub returns-in_err-push-clause-found : goal.returns-in_err-push-clause-found
+returns-in_err-push-clause-found c = grind (arith, common_steps)
+
+pub returns-in_err-push-clause-some : goal.returns-in_err-push-clause-some
+returns-in_err-push-clause-some c = grind (arith, common_steps)
+
+pub returns-in_err-push-clause-ascending : goal.returns-in_err-push-clause-ascending
+returns-in_err-push-clause-ascending c = grind (arith, common_steps)
+
+pub returns-in_err-push-clause-within : goal.returns-in_err-push-clause-within
+returns-in_err-push-clause-within c = grind (arith, common_steps)
+
+pub returns-then-is_empty-clause-none : goal.returns-then-is_empty-clause-none
+returns-then-is_empty-clause-none c = grind (arith, common_steps)

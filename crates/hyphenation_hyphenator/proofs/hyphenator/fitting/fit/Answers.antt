@@ -10,6 +10,7 @@ use Rattle.hyphenation_hyphenator.proofs.hyphenator.fitting.fit.Goals.{in-Some+i
 use Rattle.hyphenation_hyphenator.proofs.hyphenator.fitting.fit.Goals as goal
 
 pub loop-b-init : goal.loop-b-init
+unfolding kept_breaks
 loop-b-init g c =
     let none : map g.B.Break.meaning c.new-kept.result.items ≡ [] = ap (map g.B.Break.meaning) c.new-kept.ensures.items in
     record { all = none; ends = subst (λ kept. EndsAt kept 0) (sym none) ends_at_start }

@@ -6,10 +6,10 @@ use Rattle.hyphenation_hyphenator.specs.declared.case_folding.Shift.{Shift}
 use Rattle.hyphenation_hyphenator.specs.Fitting.{kept_breaks}
 use Rattle.hyphenation_hyphenator.specs.Private.Fitting.{is_steady_by}
 use Rattle.hyphenation_hyphenator.specs.Folding.{shifts_of}
-use Rattle.hyphenation_hyphenator.specs.Opportunities.{rules_of}
-use Rattle.hyphenation_hyphenator.specs.Private.Opportunities.{realigned_break}
+use Rattle.hyphenation_hyphenator.specs.Opportunities.{rules_of, opportunities}
 use Rattle.hyphenation_hyphenator.specs.SoftHyphens.{soft_hyphens}
-use Rattle.hyphenation_hyphenator.proofs.FittedBreaks.{whole_written, Carries, breaks_are, soft_breaks_are}
+use Rattle.hyphenation_hyphenator.proofs.FittedBreaks.{breaks_are, soft_breaks_are}
+use Rattle.hyphenation_hyphenator.proofs.RulesAscend.{rules_are_sound, opportunities_ascend}
 use Rattle.hyphenation_hyphenator.proofs.ShiftOrder.{shifts_in_order}
 use Rattle.hyphenation_hyphenator.proofs.Standard.{no_soft_hyphens, none_is_not_some}
 use Rattle.hyphenation_hyphenator.proofs.hyphenator.word_paths.breaks_of_any.Goals as goal
@@ -31,32 +31,32 @@ returns-in-Some g c =
 in_order : (word : List ℕ) (shifts : List Shift) → IsUtf8 word → shifts ≡ shifts_of word → IsNonDecreasingBy (λ (s : Shift). s.index) shifts
 in_order word shifts u is = subst (IsNonDecreasingBy (λ (s : Shift). s.index)) (sym is) (shifts_in_order word u)
 
-pub kept-requires : goal.kept-requires
-kept-requires g c κs = ((refl, tt), (in_order c.args.word.now c.deref.result.now c.utf8.word (c.deref.ensures.value ∙ c.in_ok-folded.ensures.shifts), c.in_ok-found.ensures.ascend))
-
-pub realign_all-requires : goal.realign_all-requires
-realign_all-requires g c κs = ((refl, tt), in_order c.args.word.now c.deref-2.result.now c.utf8.word (c.deref-2.ensures.value ∙ c.in_ok-folded.ensures.shifts))
+pub breaks_of_folded-requires : goal.breaks_of_folded-requires
+breaks_of_folded-requires g c κs = ((refl, tt), in_order c.args.word.now c.deref.result.now c.utf8.word (c.deref.ensures.value ∙ c.in_ok-folded.ensures.shifts))
 
 pub returns : goal.returns
 returns g c =
     let m = g.F.Break.meaning in
+    let change_of = g.F.Payload.Payload.change_of in
+    let break_of = g.F.Listing.Break.meaning in
     let word = c.args.word.now in
     let contents = c.args.dictionary.now in
-    let rules = rules_of g.F.Payload.Payload.change_of g.F.Listing.Break.meaning contents in
+    let rules = rules_of change_of break_of contents in
     let text = c.as_str-text.result.now in
     let size = length text in
-    let shifts = c.in_ok-folded.shifts.items in
+    let shifts = c.deref.result.now in
+    let found = opportunities rules text in
+    let kept = kept_breaks (is_steady_by size shifts) found in
     let none = no_soft_hyphens (soft_hyphens word) (λ some. none_is_not_some c.in_ok-places.field-0 c.in_default.is (c.in_ok-places.ensures.some.1 some)) in
-    let payload_of : Carries rules word text size shifts (map m c.in_ok-found.found.items) (map m c.in_ok-breaks.breaks.items) (map m c.realign_all.new.breaks) =
-    record {
+    let sound = opportunities_ascend rules text (rules_are_sound change_of break_of contents text c.value_is_borne.ensures c.invariant.ensures c.as_str-text.utf8) in
+    IfOk-weaker c.breaks_of_folded.result _ _
+    (λ v is. breaks_are rules word text size shifts found kept (map m v.items) c.utf8.word (omega arith) none (record {
       folded_is = c.as_str-text.ensures.value ∙ c.in_ok-folded.ensures.folded;
       size_is = refl;
-      shifts_are = c.in_ok-folded.ensures.shifts;
-      found_are = c.in_ok-found.ensures.breaks;
-      ascend = c.in_ok-found.ensures.ascend;
-      kept_are = c.in_ok-breaks.ensures ∙ ap (λ s. kept_breaks (is_steady_by size s) (map m c.in_ok-found.found.items)) c.deref.ensures.value;
-      new_are = c.realign_all.ensures ∙ ap (λ s. map (realigned_break s) (map m c.deref_mut.result.now)) c.deref-2.ensures.value
-          ∙ ap (map (realigned_break shifts)) (ap (map m) c.deref_mut.ensures.value);
-    } in
-    let written = whole_written c.in_ok-breaks.breaks.len c.realign_all.new.breaks c.in_ok-breaks.breaks.items (c.realign_all.auto.breaks ∙ c.deref_mut.ensures.len) in
-    ap (map m) written ∙ breaks_are _ _ _ _ _ _ _ _ c.utf8.word (omega arith) none payload_of
+      shifts_are = c.deref.ensures.value ∙ c.in_ok-folded.ensures.shifts;
+      found_are = refl;
+      ascend = sound;
+      kept_are = refl;
+      new_are = is;
+    }))
+    c.breaks_of_folded.ensures

@@ -8,6 +8,7 @@ use Rattle.hyphenation_hyphenator.proofs.BreaksFound.{written_more, all_written_
 use Rattle.hyphenation_hyphenator.proofs.hyphenator.word_paths.realign_all.Goals as goal
 
 pub loop-b-preserved : goal.loop-b-preserved
+unfolding realigned_break
 loop-b-preserved g c =
     let m = g.F.Break.meaning in
     let shifts = c.args.shifts.now in

@@ -1,7 +1,7 @@
 use Rattle.std.proofs.Common.{string_bytes}
 use Rattle.std.specs.Str.Iter.{chars_rest}
 use Rattle.hyphenation_hyphenator.proofs.Refolding.{Refolding}
-use Rattle.hyphenation_hyphenator.proofs.case_folding.refold.Given as goal
+use Rattle.hyphenation_hyphenator.proofs.case_folding.folded_from.Given as goal
 
 abbrev pub invariant-loop-c : goal.invariant-loop-c
 invariant-loop-c l = record {

@@ -1,0 +1,21 @@
+use Rattle.std.proofs.Common.{map, length, refl, ap, ◌∙◌}
+use Rattle.hyphenation_hyphenator.specs.Fitting.{kept_breaks}
+use Rattle.hyphenation_hyphenator.specs.Private.Fitting.{is_steady_by}
+use Rattle.hyphenation_hyphenator.specs.Private.Opportunities.{realigned_break}
+use Rattle.hyphenation_hyphenator.proofs.FittedBreaks.{whole_written}
+use Rattle.hyphenation_hyphenator.proofs.hyphenator.word_paths.breaks_of_folded.Goals as goal
+
+pub kept-requires : goal.kept-requires
+kept-requires g c κs = ((refl, tt), (c.requires, c.in_ok-found.ensures.ascend))
+
+pub realign_all-requires : goal.realign_all-requires
+realign_all-requires g c κs = ((refl, tt), c.requires)
+
+pub returns : goal.returns
+returns g c =
+    let m = g.F.Break.meaning in
+    let shifts = c.args.shifts.now in
+    let size = length c.args.folded.now in
+    let written = whole_written c.in_ok-breaks.breaks.len c.realign_all.new.breaks c.in_ok-breaks.breaks.items (c.realign_all.auto.breaks ∙ c.deref_mut.ensures.len) in
+    ap (map m) written ∙ c.realign_all.ensures
+    ∙ ap (map (realigned_break shifts)) (ap (map m) c.deref_mut.ensures.value ∙ c.in_ok-breaks.ensures ∙ ap (kept_breaks (is_steady_by size shifts)) c.in_ok-found.ensures.breaks)
