@@ -3,7 +3,7 @@ use Rattle.std.proofs.Common.{◌≡◌, ◌∙◌, ℕ, ◌+◌, ◌==◌, ◌|
 use Rattle.std.proofs.lemmas.List.{append-nil, map-append}
 use Rattle.std.specs.Prelude.{codes}
 use Rattle.hyphenation_grammar.specs.Lines.{is_same}
-use Rattle.hyphenation_trie.proofs.TrieNodes.{same_text}
+use Rattle.std.proofs.lemmas.Slice.Eq.{bytes_eq-Decides}
 use Rattle.pattern_files.specs.Groups.{Piece, GroupWord, Found, place_after, with_piece, with_piece_outside, with_piece_at, closed_at, groups, nothing_found, with_plain, plain_words}
 use Rattle.pattern_files.specs.declared.fault.Cause.TheVariants.{Input}
 use Rattle.pattern_files.specs.declared.group.Group.{Group}
@@ -17,7 +17,7 @@ pub other : (a b : List ℕ) → (a ≡ b → ⊥) → is_same a b ≡ false
 other a b apart = by (is_same a b) refl
   where
     by : (t : Bool) → is_same a b ≡ t → is_same a b ≡ false
-    by true e = absurd (apart (same_text a b e))
+    by true e = absurd (apart ((bytes_eq-Decides a b).0 e))
     by false e = e
 
 abbrev pub found_at : List GroupWord → Place → Found
