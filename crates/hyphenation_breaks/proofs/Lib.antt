@@ -1,3 +1,4 @@
 pub mod LanguageCodes
 pub mod PlacesInOrder
 pub mod Changes
+pub mod Boundaries

@@ -3,11 +3,8 @@ use Rattle.std.proofs.Common.{◌≡◌, ℕ, ◌+◌, Bool, true, false, ◌&&�
 use Rattle.std.specs.List.{list_all}
 use Rattle.hyphenation_breaks.specs.Break.{Break, Change, ascend_on, is_boundary}
 use Rattle.hyphenation_breaks.specs.Invariant.{is_value, stays_within, lists_within}
+use Rattle.hyphenation_breaks.specs.Laws.{listed_from, is_entry, entries_from}
 use Rattle.hyphenation_breaks.specs.declared.entry.Entry.{Entry}
-
-pub map_twice : {X Y Z : Type 0} (f : Y → Z) (h : X → Y) (xs : List X) → map f (map h xs) ≡ map (λ x. f (h x)) xs
-map_twice f h [] = refl
-map_twice f h (x ∷ xs) = ap (λ ys. f (h x) ∷ ys) (map_twice f h xs)
 
 -- two tests of each, in one pass
 apart : (a b c d : Bool) → ((a && b) && (c && d)) ≡ (a && c && (b && d))
@@ -15,13 +12,6 @@ apart true b true d = refl
 apart true true false d = refl
 apart true false false d = refl
 apart false b c d = refl
-
--- from a least place on
-abbrev pub listed_from : {B : Type 0} → (B → Break) → List ℕ → ℕ → List B → Bool
-listed_from break_of word least [] = true
-listed_from break_of word least (b ∷ bs) =
-    nat_le least (break_of b).place && is_boundary word (break_of b).place && lists_within word (break_of b).place (break_of b).change
-    && listed_from break_of word ((break_of b).place + 1) bs
 
 pub listed_in_order : {B : Type 0} (break_of : B → Break) (word : List ℕ) (least : ℕ) (listed : List B)
     → (ascend_on word least (map (λ b. (break_of b).place) listed) && list_all (λ b. lists_within word (break_of b).place (break_of b).change) listed) ≡ listed_from break_of word least listed
@@ -31,14 +21,6 @@ listed_in_order break_of word least (b ∷ bs) =
     let within = lists_within word p (break_of b).change in
     apart (nat_le least p && is_boundary word p) (ascend_on word (p + 1) (map (λ b. (break_of b).place) bs)) within (list_all (λ b. lists_within word (break_of b).place (break_of b).change) bs)
     ∙ ap (λ (rest : Bool). nat_le least p && is_boundary word p && within && rest) (listed_in_order break_of word (p + 1) bs)
-
-abbrev pub is_entry : {C : Type 0} → (C → Option Change) → List ℕ → Entry C → Bool
-is_entry change_of key e = is_value e.value && stays_within key e.place (change_of e.change)
-
-abbrev pub entries_from : {C : Type 0} → (C → Option Change) → List ℕ → ℕ → List (Entry C) → Bool
-entries_from change_of key least [] = true
-entries_from change_of key least (e ∷ es) =
-    nat_le least e.place && is_boundary key e.place && is_value e.value && stays_within key e.place (change_of e.change) && entries_from change_of key (e.place + 1) es
 
 -- the four tests of an entry
 grouped : (a b c d : Bool) → (a && (b && c) && d) ≡ (a && b && c && d)

@@ -2,4 +2,5 @@ pub mod Language
 pub mod Break
 pub mod Dictionary
 pub mod Invariant
+pub mod Laws
 pub mod Private

@@ -6,3 +6,4 @@ pub mod breaks;
 pub mod entry;
 pub mod extended;
 pub mod language;
+pub mod laws;
