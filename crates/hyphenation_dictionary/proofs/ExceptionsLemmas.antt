@@ -13,7 +13,7 @@ use Rattle.std.specs.declared.string.String.{String}
 use Rattle.std.specs.declared.vec.Vec.{Vec}
 use Rattle.std.proofs.lemmas.Map.Text.{hash_map_updates_text}
 use Rattle.hyphenation_dictionary.specs.Private.Views.{exceptions_of}
-use Rattle.hyphenation_dictionary.proofs.PatternsLemmas.{same_test}
+use Rattle.hyphenation_dictionary.proofs.TextMaps.{same_test}
 
 mapped_either : {A X : Type 0} (f : A → X) (b : Bool) (x : A) (o : Option A) → option_map f (cond b (Some x) o) ≡ cond b (Some (f x)) (option_map f o)
 mapped_either f true x o = refl

@@ -1,47 +1,32 @@
 -- Edits of the exceptions keep what is always true of a dictionary.
-use Rattle.std.proofs.Common.{◌≡◌, ℕ, suc, ◌+◌, ◌<◌, ◌^◌, Bool, true, false, ◌&&◌, nat_le, arith, length, get_or, drop, drop-cons, List, Option, Some, None, refl, sym, ap, subst, ◌∙◌, inl, inr}
-use Rattle.std.specs.Prelude.{IsTrue, IsUtf8, ◌↔◌}
-use Rattle.std.specs.Str.{is_utf8}
-use Rattle.std.proofs.lemmas.Str.{is_utf8-from_IsUtf8}
+use Rattle.std.proofs.Common.{◌≡◌, ℕ, suc, ◌+◌, ◌<◌, Bool, true, false, ◌&&◌, nat_le, arith, length, get_or, drop, drop-cons, List, Option, refl, sym, ap, ◌∙◌}
+use Rattle.std.specs.Prelude.{IsTrue, ◌↔◌}
 use Rattle.std.proofs.lemmas.Bool.Decides.{nat_tests}
-use Rattle.std.specs.Ordering.{nat_cmp, eq_by_cmp}
-use Rattle.std.specs.Cmp.Lexicographic.{slice_cmp, nat_list_cmp_total}
 use Rattle.std.specs.FinMap as finite
-use Rattle.std.specs.FinMap.{get-insert, get-remove}
 use Rattle.hyphenation_breaks.specs.Break.{Break, Change, is_boundary}
 use Rattle.hyphenation_breaks.specs.Dictionary.{Contents}
-use Rattle.hyphenation_breaks.specs.Invariant.{IsDictionary, IsException, lists_within, fits_usize, can_be_said}
-use Rattle.hyphenation_breaks.proofs.PlacesInOrder.{listed_from}
-use Rattle.hyphenation_dictionary.proofs.PatternsLemmas.{same_test}
-use Rattle.hyphenation_trie.proofs.TrieNodes.{same_text, chosen}
+use Rattle.hyphenation_breaks.specs.Invariant.{IsDictionary, IsException, lists_within}
+use Rattle.hyphenation_breaks.specs.Laws.{listed_from}
+use Rattle.hyphenation_dictionary.proofs.TextMaps.{inserted, removed}
 
 pub IsKept-insert : {C B : Type 0} (change_of : C → Option Change) (break_of : B → Break) (contents : Contents C B) (word : List ℕ) (listed : List B)
     → IsDictionary change_of break_of contents → IsException break_of word listed → IsDictionary change_of break_of (record contents { exceptions = finite.insert contents.exceptions word listed })
-IsKept-insert {C} {B} change_of break_of contents word listed kept is = record {
+IsKept-insert change_of break_of contents word listed kept is = record {
   code = kept.code;
   left = kept.left;
   right = kept.right;
   patterns = kept.patterns;
-  exceptions = λ q found has. elim (chosen (eq_by_cmp (slice_cmp nat_cmp) q word) (Some listed) (finite.get contents.exceptions q) (Some found) (sym (get-insert nat_list_cmp_total contents.exceptions word listed q) ∙ has)) [
-    | inl h ↦
-        let same : word ≡ q = same_text word q (sym (same_test q word) ∙ h.0) in
-        let listing_of : listed ≡ found = cc in
-        subst (λ (w : List ℕ). IsException break_of w found) same (subst (λ (l : List B). IsException break_of word l) listing_of is)
-    | inr h ↦ kept.exceptions q found h.1
-  ];
+  exceptions = inserted (IsException break_of) contents.exceptions word listed kept.exceptions is;
 }
 
 pub IsKept-remove : {C B : Type 0} (change_of : C → Option Change) (break_of : B → Break) (contents : Contents C B) (word : List ℕ)
     → IsDictionary change_of break_of contents → IsDictionary change_of break_of (record contents { exceptions = finite.remove contents.exceptions word })
-IsKept-remove {C} {B} change_of break_of contents word kept = record {
+IsKept-remove change_of break_of contents word kept = record {
   code = kept.code;
   left = kept.left;
   right = kept.right;
   patterns = kept.patterns;
-  exceptions = λ q found has. elim (chosen (eq_by_cmp (slice_cmp nat_cmp) q word) None (finite.get contents.exceptions q) (Some found) (sym (get-remove nat_list_cmp_total contents.exceptions word q) ∙ has)) [
-    | inl h ↦ absurd cc
-    | inr h ↦ kept.exceptions q found h.1
-  ];
+  exceptions = removed (IsException break_of) contents.exceptions word kept.exceptions;
 }
 
 -- breaks that do not ascend, or do not stand in the word, are not listed

@@ -1,3 +1,4 @@
+pub mod TextMaps
 pub mod ExceptionsLemmas
 pub mod SpotMarks
 pub mod InvariantLemmas

@@ -1,10 +1,10 @@
 -- What is true of keys and words that a dictionary is made of is true of those that it then has.
-use Rattle.std.proofs.Common.{◌≡◌, ℕ, suc, zero, arith, Bool, true, false, ◌&&◌, List, [], ◌∷◌, map, fold, Option, Some, None, refl, sym, ap, subst, ◌∙◌, inl, inr}
+use Rattle.std.proofs.Common.{◌≡◌, ℕ, suc, zero, arith, Bool, true, false, ◌&&◌, List, [], ◌∷◌, map, fold, Option, Some, None, refl, sym, ap, ◌∙◌}
 use Rattle.std.specs.Prelude.{IsTrue, All}
-use Rattle.std.specs.Ordering.{nat_cmp, eq_by_cmp}
-use Rattle.std.specs.Cmp.Lexicographic.{slice_cmp, nat_list_cmp_total}
+use Rattle.std.specs.Ordering.{nat_cmp}
+use Rattle.std.specs.Cmp.Lexicographic.{slice_cmp}
 use Rattle.std.specs.FinMap as finite
-use Rattle.std.specs.FinMap.{get-insert, get-empty}
+use Rattle.std.specs.FinMap.{get-empty}
 use Rattle.std.specs.String.{string_bytes}
 use Rattle.std.specs.declared.string.String.{String}
 use Rattle.std.specs.declared.vec.Vec.{Vec}
@@ -14,22 +14,7 @@ use Rattle.hyphenation_breaks.specs.Dictionary.{TextMap}
 use Rattle.hyphenation_breaks.specs.Invariant.{IsPattern, IsException, are_listed, are_entries, has_letter}
 use Rattle.hyphenation_dictionary.specs.Maker.{with_pair, map_of_pairs, pair_of, fits_key}
 use Rattle.hyphenation_breaks.specs.declared.entry.Entry.{Entry}
-use Rattle.hyphenation_dictionary.proofs.PatternsLemmas.{same_test}
-use Rattle.hyphenation_trie.proofs.TrieNodes.{same_text, chosen}
-
--- each text of a map, with what is said of it, is so
-abbrev pub Holds : {X : Type 0} → (List ℕ → X → Type 0) → TextMap X → Type 0
-Holds {X} P texts = (q : List ℕ) (x : X) → finite.get texts q ≡ Some x → P q x
-
-inserted : {X : Type 0} (P : List ℕ → X → Type 0) (texts : TextMap X) (k : List ℕ) (v : X) → Holds P texts → P k v → Holds P (finite.insert texts k v)
-inserted {X} P texts k v all is q x has =
-    elim (chosen (eq_by_cmp (slice_cmp nat_cmp) q k) (Some v) (finite.get texts q) (Some x) (sym (get-insert nat_list_cmp_total texts k v q) ∙ has)) [
-      | inl h ↦
-          let same : k ≡ q = same_text k q (sym (same_test q k) ∙ h.0) in
-          let says : v ≡ x = cc in
-          subst (λ (w : List ℕ). P w x) same (subst (λ (y : X). P k y) says is)
-      | inr h ↦ all q x h.1
-    ]
+use Rattle.hyphenation_dictionary.proofs.TextMaps.{Holds, inserted}
 
 first_of : {X : Type 0} (P : X → Type 0) (x : X) (xs : List X) → All P (x ∷ xs) → P x
 first_of P x xs all = all 0 x (omega arith)

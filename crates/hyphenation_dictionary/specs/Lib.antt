@@ -1,3 +1,4 @@
 pub mod Parts
 pub mod Maker
+pub mod Laws
 pub mod Private

@@ -18,6 +18,7 @@ use hyphenation_breaks::breaks::{Break, stands_in};
 use hyphenation_breaks::entry::{Entry, Payload};
 use hyphenation_breaks::extended::Subregion;
 use hyphenation_breaks::language::Language;
+use hyphenation_breaks::laws::listed_in_order;
 use hyphenation_trie::Automaton;
 use std::alloc::{AllocError, Global};
 use std::fmt;
@@ -127,6 +128,7 @@ impl<C: Payload, B: Break> Dictionary<C, B> {
     pub fn fits(word: &str, listed: &[B]) -> bool
         ensures { IsTrue result ↔ IsTrue (are_listed B.meaning word.now listed.now) }
     {
+        listed_in_order::<B>();
         let mut least = 0;
         for b in listed {
             if b.place() < least {

@@ -4,6 +4,7 @@
 
 pub mod dictionary;
 pub mod exceptions;
+pub mod laws;
 pub mod maker;
 pub mod parts;
 pub mod search;

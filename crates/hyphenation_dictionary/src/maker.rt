@@ -16,6 +16,7 @@ use crate::parts::dictionary_of;
 use hyphenation_breaks::breaks::stands_in;
 use hyphenation_breaks::entry::{Entry, Listing, Payload};
 use hyphenation_breaks::language::Language;
+use hyphenation_breaks::laws::entries_in_order;
 use hyphenation_trie::Trie;
 use std::alloc::{AllocError, Global};
 
@@ -35,6 +36,7 @@ fn has_letter(key: &str) -> bool
 fn are_entries<C: Payload>(key: &str, entries: &[Entry<C>]) -> bool
     ensures { IsTrue result ↔ IsTrue (are_entries C.change_of key.now entries.now) }
 {
+    entries_in_order::<C>();
     let mut least = 0;
     for entry in entries {
         let place = entry.place as usize;

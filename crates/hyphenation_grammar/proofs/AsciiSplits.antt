@@ -1,7 +1,7 @@
 -- UTF-8 parted at ASCII bytes: by escapes, values and spaces.
 use Rattle.std.proofs.Common.{◌≡◌, ℕ, suc, zero, ◌+◌, ◌-◌, ◌<◌, ◌&&◌, nat_lt, Bool, true, false, cond, eqb, List, [], ◌∷◌, ◌++◌, length, get_or, refl, sym, subst, append_assoc, arith, length-append}
 use Rattle.std.specs.Prelude.{IsUtf8, IsCharBoundary}
-use Rattle.std.specs.List.{slice_split, onto_first}
+use Rattle.std.specs.List.{slice_split, onto_first, AllByRecursion}
 use Rattle.std.proofs.lemmas.Bool.Decides.{nat_tests}
 use Rattle.std.proofs.lemmas.List.{take_at, append-nil}
 use Rattle.std.proofs.Math.Seq.{get_or-append_seam, drop-append-add}
@@ -37,8 +37,7 @@ small_digit DigitsAndBraces b e = grind (arith, nat_tests)
 
 -- each of the texts
 abbrev pub AllUtf8 : List (List ℕ) → Type 0
-AllUtf8 [] = Unit {0}
-AllUtf8 (t ∷ ts) = IsUtf8 t × AllUtf8 ts
+AllUtf8 ts = AllByRecursion IsUtf8 ts
 
 abbrev with_front : List ℕ → List (List ℕ) → List (List ℕ)
 with_front p [] = p ∷ []
@@ -66,10 +65,6 @@ split_from c small p (b ∷ text) u = by (eqb b c) refl (λ v. split_from c smal
 -- what stands between ASCII bytes
 pub split-utf8 : (c : ℕ) (text : List ℕ) → c < 128 → IsUtf8 text → AllUtf8 (slice_split (λ b. eqb b c) text)
 split-utf8 c text small u = no_front (slice_split (λ b. eqb b c) text) (split_from c small [] text u)
-
-pub first-utf8 : (ts : List (List ℕ)) → AllUtf8 ts → IsUtf8 (get_or ts 0 [])
-first-utf8 [] h = IsUtf8-nil
-first-utf8 (t ∷ ts) h = h.0
 
 any-utf8 : (ts : List (List ℕ)) (k : ℕ) → AllUtf8 ts → IsUtf8 (get_or ts k [])
 any-utf8 [] k h = IsUtf8-nil

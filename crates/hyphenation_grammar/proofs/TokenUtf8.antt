@@ -1,12 +1,13 @@
 -- What is read of a UTF-8 token is UTF-8, and so is what stands between the values of a pattern.
-use Rattle.std.proofs.Common.{◌≡◌, ℕ, ◌-◌, ◌<◌, Bool, true, false, cond, not, ◌&&◌, eqb, List, [], ◌∷◌, ◌++◌, Option, Some, None, refl, sym, subst, append_assoc, arith}
-use Rattle.std.specs.Prelude.{IsUtf8}
+use Rattle.std.proofs.Common.{◌≡◌, ◌∙◌, ℕ, ◌+◌, ◌-◌, ◌<◌, Bool, true, false, cond, not, ◌&&◌, eqb, List, [], ◌∷◌, ◌++◌, Option, Some, None, refl, sym, subst, append_assoc, arith, length, length-append}
+use Rattle.std.specs.Prelude.{IsUtf8, IsCharBoundary}
+use Rattle.std.specs.List.{AllByRecursion}
 use Rattle.std.specs.Option.{option_map, option_and_then}
 use Rattle.std.proofs.lemmas.List.{append-nil}
 use Rattle.std.proofs.lemmas.Bool.Decides.{nat_tests}
-use Rattle.std.proofs.lemmas.Str.{IsUtf8-append}
+use Rattle.std.proofs.lemmas.Str.{IsUtf8-append, IsCharBoundary-at_seam}
 use Rattle.hyphenation_grammar.specs.Lines.{is_digit}
-use Rattle.hyphenation_grammar.specs.Tokens.{escaped_bytes_after, escaped_bytes_of, byte_of_escape, escaped_also, concatenation, bytes_added, bytes_of, element_of, key_of, is_raw, is_raw_digit, braced_value, step_outside, step_inside, elements_from, elements_of, pattern_escapes, pattern_bytes}
+use Rattle.hyphenation_grammar.specs.Tokens.{values_from, escaped_bytes_after, escaped_bytes_of, byte_of_escape, escaped_also, concatenation, bytes_added, bytes_of, element_of, key_of, is_raw, is_raw_digit, braced_value, step_outside, step_inside, elements_from, elements_of, pattern_escapes, pattern_bytes}
 use Rattle.hyphenation_grammar.specs.declared.form.Version.{Version}
 use Rattle.hyphenation_grammar.specs.declared.form.Version.TheVariants.{First, Second}
 use Rattle.hyphenation_grammar.specs.declared.tokens.Escapes.{Escapes}
@@ -203,3 +204,16 @@ marks-seams version token ms u e = by (pattern_bytes version token) refl e
 -- the bytes that a UTF-8 token is read as
 pub read-utf8 : (es : Escapes) (token : List ℕ) (ss : List EscapedByte) → IsUtf8 token → escaped_bytes_of es token ≡ Some ss → IsUtf8 (bytes_of ss)
 read-utf8 es token ss u e = spelt-utf8 [] ss (parted es token ss u e)
+
+-- where the values of a pattern stand, after some letters q of its key
+values-between : (key : List ℕ) (q p : List ℕ) (ms : List PatternElement) (at : ℕ) → key ≡ q ++ key_of ms → length q ≡ at → AreSeams p ms → AllByRecursion (λ v. IsCharBoundary key v.0) (values_from at ms)
+values-between key q p [] at is len seams = tt
+values-between key q p (Letter b ∷ ms) at is len seams = values-between key (q ++ b ∷ []) (p ++ b ∷ []) ms (at + 1) (is ∙ sym (append_assoc q (b ∷ []) (key_of ms))) (omega (arith, length-append q (b ∷ []))) seams
+values-between key q p (Value v ∷ ms) at is len seams = by (eqb v 0) (values-between key q [] ms at is len seams.1)
+  where
+    by : (t : Bool) → AllByRecursion (λ v. IsCharBoundary key v.0) (values_from at ms) → AllByRecursion (λ v. IsCharBoundary key v.0) (cond t (values_from at ms) ((at, v) ∷ values_from at ms))
+    by true more = more
+    by false more = (subst (λ (n : ℕ). IsCharBoundary key n) len (IsCharBoundary-at_seam key q (key_of ms) is (seams-utf8 [] ms seams.1)), more)
+
+pub keys-text : (version : Version) (token : List ℕ) (ms : List PatternElement) → IsUtf8 token → elements_of version token ≡ Some ms → IsUtf8 (key_of ms) × AllByRecursion (λ v. IsCharBoundary (key_of ms) v.0) (values_from 0 ms)
+keys-text version token ms u e = let seams = marks-seams version token ms u e in (seams-utf8 [] ms seams, values-between (key_of ms) [] [] ms 0 refl refl seams)

@@ -6,4 +6,5 @@ pub mod Judging
 pub mod Reading
 pub mod Messages
 pub mod Parsed
+pub mod Laws
 pub mod Private

@@ -14,6 +14,11 @@ without_empty_last (x ∷ y ∷ more) = x ∷ without_empty_last (y ∷ more)
 abbrev pub lines_of : List ℕ → List (List ℕ)
 lines_of bytes = without_empty_last (slice_split (λ b. b == 10) bytes)
 
+-- What stands between spaces, after a space if there is one.
+abbrev pub tokens_after : Option (List ℕ) → List (List ℕ)
+tokens_after None = []
+tokens_after (Some rest) = slice_split (λ b. b == 32) rest
+
 -- Two texts are the same, byte for byte.
 abbrev pub is_same : List ℕ → List ℕ → Bool
 is_same a b = pointwise nat_eq a b

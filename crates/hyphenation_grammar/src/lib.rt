@@ -7,6 +7,7 @@
 
 mod examples;
 pub mod form;
+pub mod laws;
 pub mod lines;
 pub mod pattern;
 pub mod tokens;

@@ -4,11 +4,12 @@ ghost use Rattle.std.specs.Prelude.{◌≡◌, ◌==◌, ◌^◌, ◌<◌, ◌�
 ghost use Rattle.std.specs.List.{list_all, slice_split};
 ghost use Rattle.std.specs.Str.{is_utf8};
 ghost use Rattle.hyphenation_grammar.specs.Form.{head_line, head_of, version_by};
-ghost use Rattle.hyphenation_grammar.specs.Lines.{lines_of, strip_prefix, starts_with, is_digit, has_no_leading_zero, number_of, with_digit, language_of, minima_of, small_of, two_small, is_same};
-ghost use Rattle.hyphenation_grammar.specs.Private.Lines.{tokens_after, value_below};
+ghost use Rattle.hyphenation_grammar.specs.Lines.{lines_of, tokens_after, strip_prefix, starts_with, is_digit, has_no_leading_zero, number_of, with_digit, language_of, minima_of, small_of, two_small, is_same};
+ghost use Rattle.hyphenation_grammar.specs.Private.Lines.{value_below};
 
 use crate::form::{Form, Kind, Version};
 use hyphenation_breaks::language::Language;
+use hyphenation_breaks::laws::codes_are_text;
 use std::alloc::{AllocError, Global};
 
 /// The first line of a text, and what stands after the line feed that ends it. The lines of a text are what
@@ -110,6 +111,7 @@ pub fn version_by(kind: Kind, line: &[u8]) -> Version
 pub fn language_of(line: &[u8]) -> Option<Language>
     ensures { result ≡ language_of line.now }
 {
+    codes_are_text();
     let code = strip_prefix(b"language ", line)?;
     match std::str::from_utf8(code) {
         Ok(code) => Language::from_code(code),

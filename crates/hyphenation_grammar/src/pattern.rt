@@ -1,6 +1,6 @@
 //! A pattern's token, read in one pass.
 
-ghost use Rattle.std.specs.Prelude.{◌≡◌, ◌≢◌, IfOk, false, option_map, true};
+ghost use Rattle.std.specs.Prelude.{◌≡◌, ◌≢◌, IfOk, None, Some, false, if◌then◌else◌, true};
 ghost use Rattle.hyphenation_grammar.specs.Lines.{is_digit};
 ghost use Rattle.hyphenation_grammar.specs.Parsed.{read_pattern, pattern_view};
 ghost use Rattle.hyphenation_grammar.specs.Tokens.{braced_value, pattern_escapes};
@@ -10,8 +10,8 @@ use crate::lines::small;
 use crate::tokens::{EscapedByte, Escapes, PatternElement, added, element_of};
 use std::alloc::{AllocError, Global};
 
-/// What a pattern's token says, as far as it is read.
-#[derive(Debug, Drop)]
+/// What a pattern's token says, as far as it is read. It may be read into again and again: its lists keep their room.
+#[derive(Drop)]
 pub struct PatternToken {
     /// The bytes that the letters spell.
     pub key: Vec<u8>,
@@ -27,36 +27,35 @@ pub struct PatternToken {
     pub digits: Option<Vec<u8>>,
 }
 
-/// Lists that a pattern's token filled and the next one may fill again. What stands in them means nothing.
-#[derive(Debug, Drop)]
-pub struct PatternRoom {
-    pub key: Vec<u8>,
-    pub values: Vec<(usize, u8)>,
-}
-
 impl PatternToken {
     ghost use Rattle.std.specs.Prelude.{◌≡◌, None, Some, IfOk, OnOk, fold, if◌then◌else◌, option_map};
     ghost use Rattle.hyphenation_grammar.specs.Parsed.{is_bad, pattern_view, nothing_read, with_element, with_spelt, with_step};
     ghost use Rattle.hyphenation_grammar.specs.Tokens.{bytes_added, step_inside, step_outside, pattern_escapes};
 
-    /// A token of which nothing is read yet.
-    fn unread(room: PatternRoom) -> Self
+    /// A token of which nothing is read, without room yet.
+    pub fn new(alloc: Global) -> Self
         ensures { pattern_view result ≡ nothing_read }
     {
-        let PatternRoom {
-            mut key,
-            mut values,
-        } = room;
-        key.clear();
-        values.clear();
         PatternToken {
-            key,
-            values,
+            key: Vec::new(alloc),
+            values: Vec::new(alloc),
             ends_in_value: false,
             has_two_values: false,
             has_bad_value: false,
             digits: None,
         }
+    }
+
+    /// As if nothing was read.
+    fn clear(&mut self)
+        ensures { pattern_view self.new ≡ nothing_read }
+    {
+        self.key.clear();
+        self.values.clear();
+        self.ends_in_value = false;
+        self.has_two_values = false;
+        self.has_bad_value = false;
+        self.digits = None;
     }
 
     /// Whether some brace opens or closes no value.
@@ -196,23 +195,25 @@ pub fn pattern_escapes(version: Version) -> Escapes
     }
 }
 
-/// What a pattern's token says, in the room of these lists; none where its escapes can't be read.
+/// Reads a pattern's token, in place of what was read before. False where its escapes can't be read; what is read then
+/// means nothing.
 #[inline(always)]
-pub fn pattern_of(
+pub fn read_pattern(
     alloc: Global,
     version: Version,
     token: &[u8],
-    room: PatternRoom,
-) -> Result<Option<PatternToken>, AllocError>
-    ensures { IfOk result (λ found. option_map pattern_view found ≡ read_pattern version token.now) }
+    pattern: &mut PatternToken,
+) -> Result<bool, AllocError>
+    ensures { IfOk result (λ is_read.
+        (if is_read then Some (pattern_view pattern.new) else None) ≡ read_pattern version token.now) }
 {
-    let mut pattern = PatternToken::unread(room);
+    pattern.clear();
     let mut after = false;
     for byte in token {
         if !pattern.read(alloc, version, after, *byte)? {
-            return Ok(None);
+            return Ok(false);
         }
         after = !after && *byte == b'\\';
     }
-    Ok(if after { None } else { Some(pattern) })
+    Ok(!after)
 }

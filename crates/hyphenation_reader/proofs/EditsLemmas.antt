@@ -9,11 +9,12 @@ use Rattle.std.specs.Str.{is_utf8}
 use Rattle.std.specs.String.{string_bytes}
 use Rattle.std.specs.declared.string.String.{String}
 use Rattle.std.specs.declared.vec.Vec.{Vec}
-use Rattle.std.proofs.lemmas.Str.{IsUtf8-append, is_utf8-from_IsUtf8}
+use Rattle.std.proofs.lemmas.Str.{IsUtf8-append, IsUtf8-from_ascii, is_utf8-from_IsUtf8}
+use Rattle.std.proofs.lemmas.Str.Ascii.{IsAscii-cons, IsAscii-nil}
 use Rattle.hyphenation_breaks.specs.Break.{Break, Change, plain_break}
 use Rattle.hyphenation_breaks.specs.Dictionary.{Contents}
 use Rattle.hyphenation_reader.specs.Edits.{as_line, form_in, is_addition, is_sound_line, edit_line, after_edit, after_edits}
-use Rattle.hyphenation_reader.specs.Laws.{said_of_word, word_named, last_said_of}
+use Rattle.hyphenation_reader.specs.Laws.{SpeltIsSound, said_of_word, word_named, last_said_of}
 use Rattle.hyphenation_reader.specs.Private.Edits.{ReadsException}
 use Rattle.hyphenation_grammar.specs.Items.{breaks_of_line}
 use Rattle.hyphenation_grammar.specs.Judging.{own_cause, is_known}
@@ -27,9 +28,8 @@ use Rattle.hyphenation_reader.specs.declared.items.Fault.{Fault}
 use Rattle.hyphenation_reader.specs.declared.items.Fault.TheVariants.{Fails}
 use Rattle.hyphenation_grammar.specs.declared.Cause.{Cause}
 use Rattle.hyphenation_grammar.specs.declared.Cause.TheVariants.{NotUtf8, UnknownLine}
-use Rattle.hyphenation_grammar.proofs.AsciiSplits.{split_ascii, one_ascii}
-use Rattle.hyphenation_reader.proofs.JudgingLine.{halves}
-use Rattle.hyphenation_dictionary.proofs.PatternsLemmas.{same_test}
+use Rattle.hyphenation_reader.proofs.JudgingLine.{halves, past_byte}
+use Rattle.hyphenation_reader.proofs.ItemsOfLines.{same_test}
 use Rattle.hyphenation_reader.proofs.ReadingInvariant.{exception_held}
 
 -- ---- the line of an exception fails none of the tests before Token
@@ -42,7 +42,7 @@ passed : (u k : Bool) → u ≡ true → k ≡ true → cond {A = Option Cause} 
 passed u k eu ek = rw (eu, ek) refl
 
 line-utf8 : (text : List ℕ) → IsUtf8 text → IsUtf8 (as_line text)
-line-utf8 text u = IsUtf8-append (101 ∷ []) (32 ∷ text) (one_ascii 101 (omega arith)) (IsUtf8-append (32 ∷ []) text (one_ascii 32 (omega arith)) u)
+line-utf8 text u = IsUtf8-append (101 ∷ 32 ∷ []) text (IsUtf8-from_ascii (101 ∷ 32 ∷ []) (IsAscii-cons 101 (32 ∷ []) (omega arith) (IsAscii-cons 32 [] (omega arith) IsAscii-nil))) u
 
 pub only_item : (form : Form) (text : List ℕ) → IsUtf8 text → own_cause form 4 (as_line text) ≡ item_cause form (as_line text)
 only_item form text u =
@@ -76,16 +76,16 @@ unread {B} {Y} {Z} kind listing_of text r u answers fault cause e fails =
     let h : item_cause form (as_line text) ≡ Some cause = subst (λ (s : Result (String Y × Vec B Z) Fault). AnswersException form listing_of (as_line text) s) (e ∙ ap Err fails) (answers (as_line text) refl) in
     some_cause (own_cause form 4 (as_line text)) cause (only_item form text u ∙ h)
 
-pub may_be_listed : {B Y Z : Type 0} (kind : Kind) (listing_of : Break → B) (break_of : B → Break) → ((b : Break) → (break_of (listing_of b) ≡ b) ⊎ (break_of (listing_of b) ≡ plain_break b.place))
+pub may_be_listed : {B Y Z : Type 0} → SpeltIsSound → (kind : Kind) (listing_of : Break → B) (break_of : B → Break) → ((b : Break) → (break_of (listing_of b) ≡ b) ⊎ (break_of (listing_of b) ≡ plain_break b.place))
     → (line : List ℕ) (found : Option (String Y × Vec B Z)) (x : String Y × Vec B Z) → found ≡ Some x → ReadsException kind listing_of found line → IsTrue (are_listed break_of (string_bytes x.0) x.1.items)
-may_be_listed {B} {Y} {Z} kind listing_of break_of kept line found x e reads =
+may_be_listed {B} {Y} {Z} sound kind listing_of break_of kept line found x e reads =
     let form = form_in kind First in
     let h : ReadsException kind listing_of (Some x) line = subst (λ (o : Option (String Y × Vec B Z)). ReadsException kind listing_of o line) e reads in
-    (exception_held (λ (c : Option Change). tt) listing_of (λ (u : Unit {0}). None) break_of (λ c. inr refl) kept form 4 line (string_bytes x.0) x.1.items (none_there (own_cause form 4 line) h.0) h.1).ascend
+    (exception_held sound (λ (c : Option Change). tt) listing_of (λ (u : Unit {0}). None) break_of (λ c. inr refl) kept form 4 line (string_bytes x.0) x.1.items (none_there (own_cause form 4 line) h.0) h.1).ascend
 
 -- what stands after a sign
 pub after_sign : (sign b : ℕ) (edit rest : List ℕ) → sign < 128 → b ≡ sign → edit ≡ b ∷ rest → IsUtf8 edit → IsUtf8 rest
-after_sign sign b edit rest small is e u = (split_ascii [] b rest (subst (λ (x : ℕ). x < 128) (sym is) small) (subst IsUtf8 e u)).1
+after_sign sign b edit rest small is e u = past_byte b rest (subst (λ (x : ℕ). x < 128) (sym is) small) (subst IsUtf8 e u)
 
 -- ---- the last edit that names a word decides
 

@@ -1,11 +1,11 @@
 -- What lines spell, one line more; and the tests of repetition by what was spelt.
-use Rattle.std.proofs.Common.{◌≡◌, ℕ, Bool, true, false, cond, ◌&&◌, ◌||◌, List, [], ◌∷◌, ◌++◌, map, Option, Some, None, is_some, refl, sym, ap, ◌∙◌}
+use Rattle.std.proofs.Common.{◌≡◌, ℕ, Bool, true, false, cond, ◌&&◌, ◌||◌, nat_eq, List, [], ◌∷◌, ◌++◌, map, Option, Some, None, is_some, refl, sym, ap, ◌∙◌}
 use Rattle.std.specs.Option.{option_map, option_map_or}
 use Rattle.std.specs.List.{filter_map, cons_option}
 use Rattle.std.proofs.lemmas.List.{append-nil}
 use Rattle.std.proofs.lemmas.List.Elements.{filter_map-append}
 use Rattle.std.specs.Ordering.{nat_cmp, eq_by_cmp}
-use Rattle.std.specs.Cmp.Lexicographic.{slice_cmp, nat_list_cmp_total}
+use Rattle.std.specs.Cmp.Lexicographic.{slice_cmp, pointwise, nat_list_cmp_total, nat_list_eq_equiv, texts_ties}
 use Rattle.std.specs.FinMap as finite
 use Rattle.std.specs.FinMap.{find, get-from_entries, from_entries_push, nat_cmp-IsAntisymmetric, slice_cmp-IsAntisymmetric}
 use Rattle.hyphenation_breaks.specs.Break.{Break, Change}
@@ -18,7 +18,10 @@ use Rattle.hyphenation_breaks.specs.declared.entry.Entry.{Entry}
 use Rattle.hyphenation_grammar.specs.declared.form.Version.{Version}
 use Rattle.hyphenation_grammar.specs.declared.Cause.{Cause}
 use Rattle.hyphenation_grammar.specs.declared.Cause.TheVariants.{RepeatedPattern, RepeatedException}
-use Rattle.hyphenation_dictionary.proofs.PatternsLemmas.{same_test}
+
+-- the test by which a finite map of texts looks up is the equality of their bytes
+pub same_test : (a b : List ℕ) → eq_by_cmp (slice_cmp nat_cmp) a b ≡ pointwise nat_eq b a
+same_test a b = sym (texts_ties a b) ∙ nat_list_eq_equiv.symm a b
 
 -- a text stands among the entries where it is spelt in a line
 standing : {X : Type 0} (spells : List ℕ → Option (List ℕ × X)) (earlier : List (List ℕ)) (q : List ℕ)

@@ -31,7 +31,7 @@ use Rattle.hyphenation_reader.proofs.LineCauses.{causes, by_tokens, front, off}
 use Rattle.hyphenation_reader.proofs.JudgingLine.{halves}
 use Rattle.hyphenation_reader.proofs.LineInvariant.{found_none}
 use Rattle.std.specs.Cmp.{first_so, second_so}
-use Rattle.hyphenation_trie.proofs.TrieNodes.{same_text}
+use Rattle.std.specs.Cmp.Lexicographic.{bytes_decides}
 
 -- a line of neither sort
 pub record IsIdle (line : List ℕ) : Type 0 where
@@ -75,7 +75,7 @@ first-idle : (form : Form) (line : List ℕ) → before_item form 1 line ≡ Non
 first-idle form line e =
     let utf8 = found_none (fails form 1 line) NotUtf8 (Header ∷ Language ∷ Minima ∷ UnknownLine ∷ []) e in
     let here = found_none (fails form 1 line) Header (Language ∷ Minima ∷ UnknownLine ∷ []) utf8.1 in
-    subst IsIdle (sym (same_text line (head_line form) (on_from_not (is_same line (head_line form)) here.0))) (by form.kind form.version)
+    subst IsIdle (sym ((bytes_decides line (head_line form)).0 (on_from_not (is_same line (head_line form)) here.0))) (by form.kind form.version)
   where
     on_from_not : (b : Bool) → not b ≡ false → b ≡ true
     on_from_not true h = refl

@@ -1,18 +1,20 @@
 -- The tests of a line: those before Token, and those from it on.
-use Rattle.std.proofs.Common.{◌≡◌, ◌∙◌, ◌<◌, ℕ, Bool, true, false, cond, eqb, not, ◌&&◌, arith, List, ◌∷◌, [], drop, Option, Some, None, refl, sym, ap, subst, is_some}
+use Rattle.std.proofs.Common.{◌≡◌, ◌∙◌, ◌<◌, ℕ, Bool, true, false, cond, eqb, nat_lt, not, ◌&&◌, arith, List, ◌∷◌, [], ◌++◌, drop, Option, Some, None, refl, sym, ap, subst, is_some}
 use Rattle.std.specs.Prelude.{IsUtf8, codes, Result, Ok, Err, MatchResult, IfErr}
 use Rattle.std.specs.Option.{option_or}
 use Rattle.std.specs.Str.{is_utf8}
-use Rattle.std.proofs.lemmas.Str.{IsUtf8-from_is_utf8}
+use Rattle.std.proofs.lemmas.Bool.{eqb-true}
+use Rattle.std.proofs.lemmas.Bool.Decides.{nat_tests}
+use Rattle.std.proofs.lemmas.Str.{IsUtf8-from_is_utf8, IsUtf8-past_char}
+use Rattle.std.proofs.lemmas.Str.Ascii.{encode_ascii}
 use Rattle.hyphenation_grammar.specs.declared.form.Form.{Form}
 use Rattle.hyphenation_grammar.specs.Judging.{own_cause, fails}
-use Rattle.hyphenation_reader.specs.Private.Judging.{before_item}
+use Rattle.hyphenation_reader.specs.Private.Judging.{before_item, early_cause}
 use Rattle.hyphenation_grammar.specs.Lines.{strip_prefix, starts_with}
 use Rattle.hyphenation_reader.specs.Private.LineAnswers.{IsFault, item_cause}
 use Rattle.hyphenation_reader.specs.declared.items.Fault.{Fault}
 use Rattle.hyphenation_grammar.specs.declared.Cause.{Cause}
 use Rattle.hyphenation_grammar.specs.declared.Cause.TheVariants.{NotUtf8, Header, Language, Minima, UnknownLine}
-use Rattle.hyphenation_grammar.proofs.AsciiSplits.{split_ascii, same_byte}
 use Rattle.hyphenation_reader.proofs.LineCauses.{begun}
 
 five : (a b c d e : Bool) (rest : Option Cause)
@@ -41,12 +43,19 @@ line-utf8 : (form : Form) (number : ℕ) (line : List ℕ) → before_item form 
 line-utf8 form number line e =
     IsUtf8-from_is_utf8 line (utf8_by (is_utf8 line) (cond (fails form number line Header) (Some Header) (cond (fails form number line Language) (Some Language) (cond (fails form number line Minima) (Some Minima) (cond (fails form number line UnknownLine) (Some UnknownLine) None)))) e)
 
+-- what stands after a byte of ASCII
+pub past_byte : (b : ℕ) (rest : List ℕ) → b < 128 → IsUtf8 (b ∷ rest) → IsUtf8 rest
+past_byte b rest small u = IsUtf8-past_char (b ∷ rest) rest b u (ap (λ (t : List ℕ). t ++ rest) (sym (encode_ascii b small)))
+
+same_byte : (a b : ℕ) → eqb a b ≡ true → b < 128 → a < 128
+same_byte a b e small = subst (λ (x : ℕ). x < 128) (sym (eqb-true a b e)) small
+
 both_bytes : (a b : Bool) (d : List ℕ) → is_some (cond (a && (b && true)) (Some d) None) ≡ true → (a ≡ true) × (b ≡ true)
 both_bytes true true d e = (refl, refl)
 both_bytes true false d e = absurd cc
 both_bytes false b d e = absurd cc
 
-after-utf8 : (letter : ℕ) → letter < 128 → (line : List ℕ) → IsUtf8 line → starts_with (letter ∷ 32 ∷ []) line ≡ true → IsUtf8 (drop 2 line)
+pub after-utf8 : (letter : ℕ) → letter < 128 → (line : List ℕ) → IsUtf8 line → starts_with (letter ∷ 32 ∷ []) line ≡ true → IsUtf8 (drop 2 line)
 after-utf8 letter small [] u e = absurd cc
 after-utf8 letter small (b ∷ []) u e = absurd (short (eqb b letter) [] e)
   where
@@ -55,7 +64,7 @@ after-utf8 letter small (b ∷ []) u e = absurd (short (eqb b letter) [] e)
     short false d e = cc
 after-utf8 letter small (b ∷ d ∷ rest) u e =
     let two = both_bytes (eqb b letter) (eqb d 32) rest e in
-    (split_ascii [] d rest (same_byte d 32 two.1 (omega arith)) (split_ascii [] b (d ∷ rest) (same_byte b letter two.0 small) u).1).1
+    past_byte d rest (same_byte d 32 two.1 (omega arith)) (past_byte b (d ∷ rest) (same_byte b letter two.0 small) u)
 
 none_of : (o : Option Cause) → ((x : Cause) → o ≡ Some x → ⊥) → o ≡ None
 none_of None never = refl
@@ -77,3 +86,16 @@ pub refused_late : {X : Type 0} (form : Form) (number : ℕ) (line : List ℕ) (
 refused_late form number line found never is P (Ok x) h = tt
 refused_late form number line found never is P (Err fault) h =
     subst (IsFault fault) (sym (halves form number line ∙ ap (λ (o : Option Cause). option_or o (item_cause form line)) (sym is ∙ none_of found never))) h
+
+-- the lines after the third are judged alike
+after_third : (form : Form) (number : ℕ) (line : List ℕ) → 3 < number → before_item form number line ≡ early_cause line
+after_third form number line late = rw (other 1 (omega arith), other 2 (omega arith), other 3 (omega arith), more) refl
+  where
+    other : (k : ℕ) → k < number → eqb number k ≡ false
+    other k h = grind (arith, nat_tests)
+
+    more : nat_lt 3 number ≡ true
+    more = grind (arith, nat_tests)
+
+pub alike : (form : Form) (number : ℕ) (line : List ℕ) → 3 < number → own_cause form number line ≡ own_cause form 4 line
+alike form number line late = halves form number line ∙ ap (λ (o : Option Cause). option_or o (item_cause form line)) (after_third form number line late) ∙ sym (halves form 4 line)

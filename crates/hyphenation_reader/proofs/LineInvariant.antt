@@ -1,19 +1,18 @@
 -- What a line that fails no test of its own spells: well-formed keys with their entries, and words with their listed breaks.
-use Rattle.std.proofs.Common.{◌≡◌, ℕ, ◌+◌, ◌-◌, ◌^◌, ◌<◌, ◌≤◌, Bool, true, false, cond, not, ◌==◌, ◌&&◌, ◌||◌, eqb, nat_le, nat_lt, nat_eq, List, [], ◌∷◌, ◌++◌, length, map, take, drop, get_or, Option, Some, None, is_some, unwrap_or, refl, sym, ap, subst, ◌∙◌, append_assoc, arith, length-append}
-use Rattle.std.specs.Prelude.{IsUtf8, IsCharBoundary, codes}
+use Rattle.std.proofs.Common.{◌≡◌, ℕ, ◌+◌, ◌-◌, ◌^◌, ◌<◌, ◌≤◌, Bool, true, false, cond, not, ◌==◌, ◌&&◌, ◌||◌, eqb, nat_le, nat_lt, nat_eq, List, [], ◌∷◌, ◌++◌, length, map, take, drop, get_or, Option, Some, None, is_some, unwrap_or, refl, ap, subst, ◌∙◌, arith}
+use Rattle.std.specs.Prelude.{IsUtf8, IsCharBoundary}
 use Rattle.std.specs.Option.{option_map, option_and_then, is_none}
-use Rattle.std.specs.List.{find, list_all}
+use Rattle.std.specs.List.{find, list_all, AllByRecursion}
 use Rattle.std.specs.Str.{is_utf8}
-use Rattle.std.proofs.lemmas.List.{get_or_past}
 use Rattle.std.proofs.lemmas.Bool.{and_from, and_parts}
 use Rattle.std.proofs.lemmas.Bool.Decides.{nat_tests}
-use Rattle.std.proofs.lemmas.Str.{IsUtf8-from_is_utf8, is_utf8-from_IsUtf8, IsUtf8-nil, IsCharBoundary-at_seam}
+use Rattle.std.proofs.lemmas.Str.{IsUtf8-from_is_utf8, is_utf8-from_IsUtf8, IsUtf8-nil}
 use Rattle.hyphenation_breaks.specs.Break.{Break, Change, ascend_on, is_boundary, keeps_within}
 use Rattle.std.specs.Cmp.{first_so, second_so}
 use Rattle.hyphenation_grammar.specs.declared.form.Form.{Form}
 use Rattle.hyphenation_breaks.specs.Invariant.{fits_usize, can_be_said, is_value, stays_within, lists_within, are_listed, IsPattern, IsException}
-use Rattle.hyphenation_grammar.specs.Lines.{is_same, starts_with, is_digit, has_no_leading_zero, is_number, is_small, number}
-use Rattle.hyphenation_grammar.specs.Tokens.{escaped_bytes_of, bytes_of, element_of, is_raw, is_raw_digit, braced_value, step_outside, step_inside, elements_from, elements_of, pattern_bytes, text_spelt, key_of, values_from, two_values, has_comma, parts_of, numerals_of, place_of_token, change_of_token, is_whole}
+use Rattle.hyphenation_grammar.specs.Lines.{is_digit, has_no_leading_zero, is_number, is_small, number}
+use Rattle.hyphenation_grammar.specs.Tokens.{element_of, is_raw, is_raw_digit, braced_value, step_outside, step_inside, elements_from, elements_of, pattern_bytes, text_spelt, key_of, values_from, two_values, has_comma, parts_of, numerals_of, place_of_token, change_of_token, is_whole}
 use Rattle.hyphenation_grammar.specs.Items.{is_pattern_line, is_exception_line, tokens_of, first_token_of, later_tokens_of, pattern_elements, key_of_line, word_of_line, counted_text, break_of_token, breaks_of_line, change_at, entries_of_line}
 use Rattle.hyphenation_grammar.specs.Judging.{is_item_line, is_extended, has_value_at, is_good_later_token, fails, own_cause}
 use Rattle.hyphenation_breaks.specs.declared.entry.Entry.{Entry}
@@ -23,11 +22,10 @@ use Rattle.hyphenation_grammar.specs.declared.form.Version.TheVariants.{First, S
 use Rattle.hyphenation_grammar.specs.declared.tokens.EscapedByte.{EscapedByte}
 use Rattle.hyphenation_grammar.specs.declared.tokens.PatternElement.{PatternElement}
 use Rattle.hyphenation_grammar.specs.declared.tokens.PatternElement.TheVariants.{Letter, Value}
-use Rattle.hyphenation_grammar.specs.declared.tokens.Escapes.TheVariants.{Plain}
-use Rattle.hyphenation_grammar.proofs.AsciiSplits.{AllUtf8, split_ascii, same_byte, split-utf8, first-utf8, part-utf8}
-use Rattle.hyphenation_breaks.proofs.PlacesInOrder.{entries_from, entries_in_order}
+use Rattle.hyphenation_grammar.specs.Laws.{PiecesAreText, PartsAreText, SpeltIsText, KeysAreText}
+use Rattle.hyphenation_breaks.specs.Laws.{BoundaryIsOfChars, EntriesInOrder, entries_from}
+use Rattle.hyphenation_reader.proofs.JudgingLine.{after-utf8}
 use Rattle.hyphenation_reader.proofs.LineCauses.{in_front, five}
-use Rattle.hyphenation_grammar.proofs.TokenUtf8.{AreSeams, seams-utf8, marks-seams, read-utf8}
 
 either_left : (a b : Bool) → a ≡ true → (a || b) ≡ true
 either_left true b e = refl
@@ -87,20 +85,22 @@ passes form number line e =
     let change = found_none (fails form number line) BadChange [] place.1 in
     record { utf8 = utf8.0; header = header.0; language = language.0; minima = minima.0; known = known.0; token = token.0; value = value.0; pattern = pattern.0; letters = letters.0; numbers = numbers.0; place = place.0; change = change.0 }
 
--- what stands after two ASCII bytes
-after_two : (a b : ℕ) → a < 128 → b < 128 → (line : List ℕ) → starts_with (a ∷ b ∷ []) line ≡ true → IsUtf8 line → IsUtf8 (drop 2 line)
-after_two a b sa sb [] e u = absurd cc
-after_two a b sa sb (x ∷ []) e u = by (nat_eq x a) e
-  where
-    by : (t : Bool) → is_some (cond {A = Option (List ℕ)} (t && false) (Some []) None) ≡ true → IsUtf8 []
-    by true h = absurd cc
-    by false h = absurd cc
-after_two a b sa sb (x ∷ y ∷ rest) e u = by (nat_eq x a) (nat_eq y b) refl refl e
-  where
-    by : (s t : Bool) → nat_eq x a ≡ s → nat_eq y b ≡ t → is_some (cond {A = Option (List ℕ)} (s && (t && true)) (Some rest) None) ≡ true → IsUtf8 rest
-    by true true es et h = (split_ascii [] y rest (same_byte y b et sb) (split_ascii [] x (y ∷ rest) (same_byte x a es sa) u).1).1
-    by true false es et h = absurd cc
-    by false t es et h = absurd cc
+-- what is known of texts, from the crates below
+pub record TextLaws : Type 0 where
+  pub pieces : PiecesAreText
+  pub parts : PartsAreText
+  pub spelt : SpeltIsText
+  pub keys : KeysAreText
+  pub boundary : BoundaryIsOfChars
+  pub order : EntriesInOrder (Option Change)
+
+-- each of the texts
+abbrev AllUtf8 : List (List ℕ) → Type 0
+AllUtf8 ts = AllByRecursion IsUtf8 ts
+
+first-utf8 : (ts : List (List ℕ)) → AllUtf8 ts → IsUtf8 (get_or ts 0 [])
+first-utf8 [] h = IsUtf8-nil
+first-utf8 (t ∷ ts) h = h.0
 
 -- no line is of both sorts
 apart : (line : List ℕ) → is_exception_line line ≡ true → is_pattern_line line ≡ false
@@ -120,19 +120,12 @@ apart (x ∷ y ∷ rest) e = by (nat_eq x 112) (nat_eq x 101) (nat_eq y 32) refl
     by true false r es et h = absurd cc
     by false t r es et h = refl
 
-pub boundary_test : (text : List ℕ) (at : ℕ) → IsCharBoundary text at → is_boundary text at ≡ true
-boundary_test text at h = by (h.1) (get_or_past text at 0)
+text_read : TextLaws → (token : List ℕ) → IsUtf8 token → IsUtf8 (unwrap_or (text_spelt token) [])
+text_read laws token u = by (text_spelt token) refl
   where
-    by : (at < length text → 128 ≤ get_or text at 0 → 192 ≤ get_or text at 0) → (length text ≤ at → get_or text at 0 ≡ 0) → is_boundary text at ≡ true
-    by lead past = let in_text : at ≤ length text = h.0 in grind (arith, nat_tests)
-
-text_read : (token : List ℕ) → IsUtf8 token → IsUtf8 (unwrap_or (text_spelt token) [])
-text_read token u = by (is_same token (codes "\\e")) (escaped_bytes_of Plain token) refl
-  where
-    by : (t : Bool) (o : Option (List EscapedByte)) → escaped_bytes_of Plain token ≡ o → IsUtf8 (unwrap_or (cond {A = Option (List ℕ)} t (Some []) (option_map bytes_of o)) [])
-    by true o is = IsUtf8-nil
-    by false None is = IsUtf8-nil
-    by false (Some ss) is = read-utf8 Plain token ss u is
+    by : (o : Option (List ℕ)) → text_spelt token ≡ o → IsUtf8 (unwrap_or o [])
+    by None is = IsUtf8-nil
+    by (Some text) is = laws.spelt token text u is
 
 -- what a token that can be read and has numbers says
 abbrev pub has_numbers : List ℕ → Bool
@@ -160,21 +153,21 @@ place_short token e = by (has_comma token) refl e
 four : (a b c d : Bool) → a ≡ true → b ≡ true → c ≡ true → d ≡ true → (a && b && c && d) ≡ true
 four a b c d x y z w = rw (x, y, z, w) refl
 
-change_said : (token : List ℕ) → IsUtf8 token → has_comma token ≡ true → has_numbers token ≡ true → is_whole token ≡ true → can_be_said (change_of_token token) ≡ true
-change_said token u comma e whole =
+change_said : TextLaws → (token : List ℕ) → IsUtf8 token → has_comma token ≡ true → has_numbers token ≡ true → is_whole token ≡ true → can_be_said (change_of_token token) ≡ true
+change_said laws token u comma e whole =
     let n : length (parts_of token) ≡ 5 = five (parts_of token) (first_so (length (parts_of token) == 5) (nat_lt 0 (length (get_or (parts_of token) 4 []))) whole) in
     let h : list_all is_number (take (length (parts_of token) - 1) (parts_of token)) ≡ true = subst (λ (t : Bool). list_all is_number (cond t (take (length (parts_of token) - 1) (parts_of token)) (parts_of token)) ≡ true) comma e in
     four (fits_usize (change_of_token token).left) (fits_usize (change_of_token token).right) (fits_usize (change_of_token token).breakpoint) (is_utf8 (change_of_token token).substitution)
     (number_short (get_or (parts_of token) 1 []) (in_front is_number (parts_of token) (length (parts_of token) - 1) 1 h (omega arith) (omega arith)))
     (number_short (get_or (parts_of token) 2 []) (in_front is_number (parts_of token) (length (parts_of token) - 1) 2 h (omega arith) (omega arith)))
     (number_short (get_or (parts_of token) 3 []) (in_front is_number (parts_of token) (length (parts_of token) - 1) 3 h (omega arith) (omega arith)))
-    (is_utf8-from_IsUtf8 (change_of_token token).substitution (text_read (get_or (parts_of token) 4 []) (part-utf8 4 4 token u)))
+    (is_utf8-from_IsUtf8 (change_of_token token).substitution (text_read laws (get_or (parts_of token) 4 []) (laws.parts 4 token u)))
 
 three : (a b c : Bool) → a ≡ true → b ≡ true → c ≡ true → (a && b && c) ≡ true
 three a b c x y z = rw (x, y, z) refl
 
 -- a change that a good token says can be said, and keeps within the text
-module _ (form : Form) (in_pattern : Bool) (marks : List PatternElement) (text : List ℕ) where
+module _ (laws : TextLaws) (form : Form) (in_pattern : Bool) (marks : List PatternElement) (text : List ℕ) where
   stays : (token : List ℕ) → IsUtf8 token → has_numbers token ≡ true → is_good_later_token form in_pattern marks text token ≡ true → stays_within text (place_of_token token) (break_of_token token).change ≡ true
   stays token u numbers e = by (has_comma token) refl e
     where
@@ -183,7 +176,7 @@ module _ (form : Form) (in_pattern : Bool) (marks : List PatternElement) (text :
       by true is h =
           let most = first_so (is_extended form.kind && is_whole token && keeps_within text (place_of_token token) (change_of_token token)) (not in_pattern || has_value_at marks (place_of_token token)) h in
           let whole = second_so (is_extended form.kind) (is_whole token) (first_so (is_extended form.kind && is_whole token) (keeps_within text (place_of_token token) (change_of_token token)) most) in
-          three (fits_usize (place_of_token token)) (can_be_said (change_of_token token)) (keeps_within text (place_of_token token) (change_of_token token)) (place_short token numbers) (change_said token u is numbers whole)
+          three (fits_usize (place_of_token token)) (can_be_said (change_of_token token)) (keeps_within text (place_of_token token) (change_of_token token)) (place_short token numbers) (change_said laws token u is numbers whole)
           (second_so (is_extended form.kind && is_whole token) (keeps_within text (place_of_token token) (change_of_token token)) most)
       by false is h = refl
 
@@ -308,7 +301,7 @@ values-small version token = by (pattern_bytes version token)
     by (Some ss) = marked (elements_from version None ss) (all-small version ss None)
 
 -- the values of marks between which the key is parted on its characters
-module _ (key : List ℕ) (said : List Break) (within : (place : ℕ) → stays_within key place (change_at place said) ≡ true) where
+module _ (laws : TextLaws) (key : List ℕ) (said : List Break) (within : (place : ℕ) → stays_within key place (change_at place said) ≡ true) where
   abbrev entry : ℕ × ℕ → Entry (Option Change)
   entry v = record { place = v.0; value = v.1; change = change_at v.0 said }
 
@@ -321,14 +314,16 @@ module _ (key : List ℕ) (said : List Break) (within : (place : ℕ) → stays_
   positive : (v : ℕ) → eqb v 0 ≡ false → v ≤ 255 → is_value v ≡ true
   positive v h le = grind (arith, nat_tests)
 
-  on_seam : (q rest : List ℕ) (at : ℕ) → key ≡ q ++ rest → length q ≡ at → IsUtf8 rest → is_boundary key at ≡ true
-  on_seam q rest at is len u = boundary_test key at (subst (λ (n : ℕ). IsCharBoundary key n) len (IsCharBoundary-at_seam key q rest is u))
+  -- each place on a boundary
+  abbrev AreBetween : List (ℕ × ℕ) → Type 0
+  AreBetween values = AllByRecursion (λ v. IsCharBoundary key v.0) values
 
-  pub values-stand : (q p : List ℕ) (ms : List PatternElement) (at least : ℕ) (after : Bool) → key ≡ q ++ key_of ms → length q ≡ at → AreSeams p ms → AreSmall ms → two_values after ms ≡ false → least ≤ at + cond after 1 0
-      → entries_from (λ c. c) key least (map entry (values_from at ms)) ≡ true
-  values-stand q p [] at least after is len seams small alone le = refl
-  values-stand q p (Letter b ∷ ms) at least after is len seams small alone le =
-      values-stand (q ++ b ∷ []) (p ++ b ∷ []) ms (at + 1) least false (is ∙ sym (append_assoc q (b ∷ []) (key_of ms))) (omega (arith, length-append q (b ∷ []))) seams small (quiet after alone) (reach after le)
+  abbrev Stand : ℕ → List (ℕ × ℕ) → Type 0
+  Stand least values = entries_from (λ c. c) key least (map entry values) ≡ true
+
+  values-stand : (ms : List PatternElement) (at least : ℕ) (after : Bool) → AreBetween (values_from at ms) → AreSmall ms → two_values after ms ≡ false → least ≤ at + cond after 1 0 → Stand least (values_from at ms)
+  values-stand [] at least after between small alone le = refl
+  values-stand (Letter b ∷ ms) at least after between small alone le = values-stand ms (at + 1) least false between small (quiet after alone) (reach after le)
     where
       quiet : (t : Bool) → ((t && false) || two_values false ms) ≡ false → two_values false ms ≡ false
       quiet true h = h
@@ -337,27 +332,26 @@ module _ (key : List ℕ) (said : List Break) (within : (place : ℕ) → stays_
       reach : (t : Bool) → least ≤ at + cond t 1 0 → least ≤ at + 1 + 0
       reach true h = omega arith
       reach false h = omega arith
-  values-stand q p (Value v ∷ ms) at least true is len seams small alone le = absurd cc
-  values-stand q p (Value v ∷ ms) at least false is len seams small alone le =
-      by (eqb v 0) refl
-      (values-stand q [] ms at least true is len seams.1 small.1 alone (omega arith))
-      (values-stand q [] ms at (at + 1) true is len seams.1 small.1 alone (omega arith))
+  values-stand (Value v ∷ ms) at least true between small alone le = absurd cc
+  values-stand (Value v ∷ ms) at least false between small alone le =
+      by (eqb v 0) refl between (λ h. values-stand ms at least true h small.1 alone (omega arith)) (λ h. values-stand ms at (at + 1) true h small.1 alone (omega arith))
     where
-      by : (t : Bool) → eqb v 0 ≡ t → entries_from (λ c. c) key least (map entry (values_from at ms)) ≡ true → entries_from (λ c. c) key (at + 1) (map entry (values_from at ms)) ≡ true
-          → entries_from (λ c. c) key least (map entry (cond t (values_from at ms) ((at, v) ∷ values_from at ms))) ≡ true
-      by true e none more = none
-      by false e none more =
+      by : (t : Bool) → eqb v 0 ≡ t → AreBetween (cond t (values_from at ms) ((at, v) ∷ values_from at ms)) → (AreBetween (values_from at ms) → Stand least (values_from at ms)) → (AreBetween (values_from at ms) → Stand (at + 1) (values_from at ms))
+          → Stand least (cond t (values_from at ms) ((at, v) ∷ values_from at ms))
+      by true e h none more = none h
+      by false e h none more =
           all_four (nat_le least at) (is_boundary key at) (is_value v) (stays_within key at (change_at at said)) (entries_from (λ c. c) key (at + 1) (map entry (values_from at ms)))
-          (not_above least at (omega arith)) (on_seam q (key_of ms) at is len (seams-utf8 [] ms seams.1)) (positive v e small.0) (within at) more
+          (not_above least at (omega arith)) ((laws.boundary key at).1 h.0) (positive v e small.0) (within at) (more h.1)
 
-marks_read : (version : Version) (token : List ℕ) → IsUtf8 token → is_none (elements_of version token) ≡ false → AreSeams [] (unwrap_or (elements_of version token) [])
-marks_read version token u e = by (elements_of version token) refl e
+marks_read : TextLaws → (version : Version) (token : List ℕ) → IsUtf8 token → is_none (elements_of version token) ≡ false
+    → IsUtf8 (key_of (unwrap_or (elements_of version token) [])) × AllByRecursion (λ v. IsCharBoundary (key_of (unwrap_or (elements_of version token) [])) v.0) (values_from 0 (unwrap_or (elements_of version token) []))
+marks_read laws version token u e = by (elements_of version token) refl e
   where
-    by : (o : Option (List PatternElement)) → elements_of version token ≡ o → is_none o ≡ false → AreSeams [] (unwrap_or o [])
+    by : (o : Option (List PatternElement)) → elements_of version token ≡ o → is_none o ≡ false → IsUtf8 (key_of (unwrap_or o [])) × AllByRecursion (λ v. IsCharBoundary (key_of (unwrap_or o [])) v.0) (values_from 0 (unwrap_or o []))
     by None is h = absurd cc
-    by (Some ms) is h = marks-seams version token ms u is
+    by (Some ms) is h = laws.keys version token ms u is
 
-module _ (form : Form) (number : ℕ) (line : List ℕ) (none : own_cause form number line ≡ None) where
+module _ (laws : TextLaws) (form : Form) (number : ℕ) (line : List ℕ) (none : own_cause form number line ≡ None) where
   passed : Passes form number line
   passed = passes form number line none
 
@@ -365,10 +359,10 @@ module _ (form : Form) (number : ℕ) (line : List ℕ) (none : own_cause form n
   line-utf8 = IsUtf8-from_is_utf8 line (on_from_not (is_utf8 line) passed.utf8)
 
   first-token-utf8 : IsUtf8 (drop 2 line) → IsUtf8 (first_token_of line)
-  first-token-utf8 u = first-utf8 (tokens_of line) (split-utf8 32 (drop 2 line) (omega arith) u)
+  first-token-utf8 u = first-utf8 (tokens_of line) (laws.pieces 32 (drop 2 line) (omega arith) u)
 
   later-utf8 : IsUtf8 (drop 2 line) → AllUtf8 (later_tokens_of line)
-  later-utf8 u = after_first (tokens_of line) (split-utf8 32 (drop 2 line) (omega arith) u)
+  later-utf8 u = after_first (tokens_of line) (laws.pieces 32 (drop 2 line) (omega arith) u)
     where
       after_first : (ts : List (List ℕ)) → AllUtf8 ts → AllUtf8 (drop 1 ts)
       after_first [] h = tt
@@ -381,16 +375,16 @@ module _ (form : Form) (number : ℕ) (line : List ℕ) (none : own_cause form n
   pattern-kept sort =
       let item : is_item_line line ≡ true = either_left (is_pattern_line line) (is_exception_line line) sort in
       let marks : is_none (elements_of form.version (first_token_of line)) ≡ false = off_right (is_pattern_line line) (is_none (elements_of form.version (first_token_of line))) passed.value sort in
-      let rest : IsUtf8 (drop 2 line) = after_two 112 32 (omega arith) (omega arith) line sort line-utf8 in
-      let seams : AreSeams [] (pattern_elements form.version line) = marks_read form.version (first_token_of line) (first-token-utf8 rest) marks in
+      let rest : IsUtf8 (drop 2 line) = after-utf8 112 (omega arith) line line-utf8 sort in
+      let read = marks_read laws form.version (first_token_of line) (first-token-utf8 rest) marks in
       let numbers : list_all has_numbers (later_tokens_of line) ≡ true = item_test (list_all has_numbers (later_tokens_of line)) passed.numbers item in
       let good : list_all (is_good_later_token form (is_pattern_line line) (pattern_elements form.version line) (counted_text form.version line)) (later_tokens_of line) ≡ true = item_test (list_all (is_good_later_token form (is_pattern_line line) (pattern_elements form.version line) (counted_text form.version line)) (later_tokens_of line)) passed.change item in
       let by_key : list_all (is_good_later_token form (is_pattern_line line) (pattern_elements form.version line) (key_of_line form.version line)) (later_tokens_of line) ≡ true = subst (λ (t : Bool). list_all (is_good_later_token form (is_pattern_line line) (pattern_elements form.version line) (cond t (key_of_line form.version line) (word_of_line line))) (later_tokens_of line) ≡ true) sort good in
       record {
-        utf8 = seams-utf8 [] (pattern_elements form.version line) seams;
+        utf8 = read.0;
         letter = not_off (list_all (λ b. b == 46) (key_of_line form.version line)) (off_right (is_pattern_line line) (list_all (λ b. b == 46) (key_of_line form.version line)) passed.letters sort);
-        ascend = entries_in_order (λ c. c) (key_of_line form.version line) 0 (entries_of_line form.version line)
-            ∙ values-stand (key_of_line form.version line) (breaks_of_line line) (changes-stay form (is_pattern_line line) (pattern_elements form.version line) (key_of_line form.version line) (later_tokens_of line) (later-utf8 rest) numbers by_key) [] [] (pattern_elements form.version line) 0 0 false refl refl seams (values-small form.version (first_token_of line))
+        ascend = laws.order (λ c. c) (key_of_line form.version line) (entries_of_line form.version line)
+            ∙ values-stand laws (key_of_line form.version line) (breaks_of_line line) (changes-stay laws form (is_pattern_line line) (pattern_elements form.version line) (key_of_line form.version line) (later_tokens_of line) (later-utf8 rest) numbers by_key) (pattern_elements form.version line) 0 0 false read.1 (values-small form.version (first_token_of line))
             (off_right (is_pattern_line line) (two_values false (pattern_elements form.version line)) passed.pattern sort) (omega arith);
       }
 
@@ -400,10 +394,10 @@ module _ (form : Form) (number : ℕ) (line : List ℕ) (none : own_cause form n
       let off : is_pattern_line line ≡ false = apart line sort in
       let places : ascend_on (counted_text form.version line) 0 (map place_of_token (later_tokens_of line)) ≡ true = item_test (ascend_on (counted_text form.version line) 0 (map place_of_token (later_tokens_of line))) passed.place item in
       let good : list_all (is_good_later_token form (is_pattern_line line) (pattern_elements form.version line) (counted_text form.version line)) (later_tokens_of line) ≡ true = item_test (list_all (is_good_later_token form (is_pattern_line line) (pattern_elements form.version line) (counted_text form.version line)) (later_tokens_of line)) passed.change item in
-      let rest : IsUtf8 (drop 2 line) = after_two 101 32 (omega arith) (omega arith) line sort line-utf8 in
+      let rest : IsUtf8 (drop 2 line) = after-utf8 101 (omega arith) line line-utf8 sort in
       let numbers : list_all has_numbers (later_tokens_of line) ≡ true = item_test (list_all has_numbers (later_tokens_of line)) passed.numbers item in
       let is : counted_text form.version line ≡ word_of_line line = ap (λ (t : Bool). cond t (key_of_line form.version line) (word_of_line line)) off in
       record {
-        utf8 = text_read (first_token_of line) (first-token-utf8 rest);
-        ascend = subst (λ (text : List ℕ). are_listed (λ b. b) text (breaks_of_line line) ≡ true) is (listed-stand form (is_pattern_line line) (pattern_elements form.version line) (counted_text form.version line) (later_tokens_of line) (later-utf8 rest) numbers places good);
+        utf8 = text_read laws (first_token_of line) (first-token-utf8 rest);
+        ascend = subst (λ (text : List ℕ). are_listed (λ b. b) text (breaks_of_line line) ≡ true) is (listed-stand laws form (is_pattern_line line) (pattern_elements form.version line) (counted_text form.version line) (later_tokens_of line) (later-utf8 rest) numbers places good);
       }

@@ -267,6 +267,11 @@ before_match form r l cause is = in_two form r l ∙ ap (λ (o : Option Cause). 
 pub at_match : (form : Form) (r : ReadPattern) (l : ReadLater) (all : Bool) → cause_before_match form r l ≡ None → have_values r.values l.listed ≡ all → pattern_cause form r l ≡ match_cause all
 at_match form r l all is told = in_two form r l ∙ (λ i. option_or (is i) (match_cause (told i)))
 
+-- nothing is left where it is not true that something is
+pub none_by : (some none : Bool) → some ≡ not none → none ≡ not some
+none_by some true e = ap not (sym e)
+none_by some false e = ap not (sym e)
+
 -- what the match tells of values that were lent
 pub told_of : (lent values : List (ℕ × ℕ)) (listed : List (ℕ × Option Changed)) (known all : Bool) → lent ≡ values → known ≡ have_values lent listed → known ≡ all → have_values values listed ≡ all
 told_of lent values listed known all same told is = ap (λ (vs : List (ℕ × ℕ)). have_values vs listed) (sym same) ∙ sym told ∙ is

@@ -16,10 +16,12 @@ use Rattle.hyphenation_grammar.specs.Items.{is_pattern_line, is_exception_line, 
 use Rattle.hyphenation_grammar.specs.Judging.{fault_after, own_cause, repetition}
 use Rattle.hyphenation_grammar.specs.Reading.{spelling_as, entry_as, SpeltItems, items_of_lines, contents_in}
 use Rattle.hyphenation_breaks.specs.declared.entry.Entry.{Entry}
-use Rattle.hyphenation_breaks.proofs.PlacesInOrder.{is_entry, map_twice}
+use Rattle.std.proofs.lemmas.Simd.{map-map}
+use Rattle.hyphenation_breaks.specs.Laws.{is_entry}
+use Rattle.hyphenation_reader.specs.Laws.{SpeltIsSound}
 use Rattle.hyphenation_reader.proofs.SomeLine.{SomeLine}
 use Rattle.hyphenation_reader.proofs.ReadingOrder.{no_fault, patterns-told, exceptions-told}
-use Rattle.hyphenation_reader.proofs.LineInvariant.{passes, pattern-kept, exception-kept}
+use Rattle.hyphenation_reader.proofs.LineInvariant.{passes}
 use Rattle.std.specs.Cmp.{first_so, second_so}
 
 -- each line fails no test of its own
@@ -120,7 +122,7 @@ spelt_from {X} true k v q w e = let both : ◌≡◌ {A = List ℕ × X} (k, v) 
 spelt_from false k v q w e = absurd cc
 
 -- however a kind of dictionary holds changes and listed breaks, so long as what it holds keeps within
-module _ {C B : Type 0} (payload_of : Option Change → C) (listing_of : Break → B) (change_of : C → Option Change) (break_of : B → Break)
+module _ (sound : SpeltIsSound) {C B : Type 0} (payload_of : Option Change → C) (listing_of : Break → B) (change_of : C → Option Change) (break_of : B → Break)
     (kept_change : (c : Option Change) → (change_of (payload_of c) ≡ c) ⊎ (change_of (payload_of c) ≡ None)) (kept_break : (b : Break) → (break_of (listing_of b) ≡ b) ⊎ (break_of (listing_of b) ≡ plain_break b.place)) where
   carried : (text : List ℕ) (place : ℕ) (c : Option Change) → stays_within text place c ≡ true → stays_within text place (change_of (payload_of c)) ≡ true
   carried text place c h = elim (kept_change c) [
@@ -151,7 +153,7 @@ module _ {C B : Type 0} (payload_of : Option Change → C) (listing_of : Break �
   entries_held : (text : List ℕ) (es : List (Entry (Option Change))) → are_entries (λ c. c) text es ≡ true → are_entries change_of text (map (entry_as payload_of) es) ≡ true
   entries_held text es h =
       let parts = and_parts (ascend_on text 0 (map (λ e. e.place) es)) (list_all (is_entry (λ c. c) text) es) h in
-      let places : map (λ e. e.place) (map (entry_as payload_of) es) ≡ map (λ e. e.place) es = map_twice (λ e. e.place) (entry_as payload_of) es in
+      let places : map (λ e. e.place) (map (entry_as payload_of) es) ≡ map (λ e. e.place) es = map-map (λ e. e.place) (entry_as payload_of) es in
       and_from (ascend_on text 0 (map (λ e. e.place) (map (entry_as payload_of) es))) (list_all (is_entry change_of text) (map (entry_as payload_of) es))
       (ap (ascend_on text 0) places ∙ parts.0) (each_held text es parts.1)
 
@@ -176,7 +178,7 @@ module _ {C B : Type 0} (payload_of : Option Change → C) (listing_of : Break �
   pattern_held form n line k es own e =
       let t = told_from (entry_as payload_of) (pattern_of_line form.version) line k es e in
       let s = spelt_from (is_pattern_line line) (key_of_line form.version line) (entries_of_line form.version line) k t.0 t.1 in
-      let kept = pattern-kept form n line own s.0 in
+      let kept = (sound form n line own).0 s.0 in
       subst (λ (q : List ℕ). IsPattern change_of q es) s.1
       (record {
         utf8 = kept.utf8;
@@ -188,7 +190,7 @@ module _ {C B : Type 0} (payload_of : Option Change → C) (listing_of : Break �
   exception_held form n line w bs own e =
       let t = told_from listing_of exception_of_line line w bs e in
       let s = spelt_from (is_exception_line line) (word_of_line line) (breaks_of_line line) w t.0 t.1 in
-      let kept = exception-kept form n line own s.0 in
+      let kept = (sound form n line own).1 s.0 in
       subst (λ (q : List ℕ). IsException break_of q bs) s.1
       (record {
         utf8 = kept.utf8;

@@ -1,25 +1,34 @@
 -- What is true of all texts that are read, and of edits, of either kind and in either version.
 -- In each law payload_of and listing_of say what a kind of dictionary holds of a change and of a listed break, and
 -- change_of and break_of say what that means; so one law is of all kinds.
-use Rattle.std.specs.Prelude.{◌≡◌, ℕ, ◌≤◌, ◌↔◌, All, Any, Contains, List, [], ◌∷◌, Option, Some, None, slice_index_or, IsUtf8, find, if◌then◌else◌, map, unwrap_or}
+use Rattle.std.specs.Prelude.{◌≡◌, ℕ, ◌↔◌, Any, Contains, List, [], ◌∷◌, Option, Some, None, IsTrue, IsUtf8, find, if◌then◌else◌, map, unwrap_or}
 use Rattle.std.specs.List.Sorted.{IsPermutation}
 use Rattle.std.specs.FinMap as finite
 use Rattle.hyphenation_breaks.specs.Break.{Break, Change}
 use Rattle.hyphenation_breaks.specs.Dictionary.{Contents}
-use Rattle.hyphenation_grammar.specs.Form.{head_of, version_of}
-use Rattle.hyphenation_breaks.specs.Invariant.{IsDictionary}
-use Rattle.hyphenation_grammar.specs.Items.{pattern_of_line, exception_of_line, breaks_of_line, word_of_line}
-use Rattle.hyphenation_grammar.specs.Judging.{fault_of, refusal_of, fails}
-use Rattle.hyphenation_grammar.specs.Lines.{lines_of, is_same}
+use Rattle.hyphenation_grammar.specs.Form.{version_of}
+use Rattle.hyphenation_breaks.specs.Invariant.{IsPattern, IsException}
+use Rattle.hyphenation_grammar.specs.Items.{is_pattern_line, is_exception_line, pattern_of_line, exception_of_line, key_of_line, entries_of_line, breaks_of_line, word_of_line}
+use Rattle.hyphenation_grammar.specs.Judging.{fault_of, fails, own_cause}
+use Rattle.hyphenation_grammar.specs.declared.form.Form.{Form}
+use Rattle.hyphenation_grammar.specs.Lines.{is_same}
 use Rattle.hyphenation_grammar.specs.Reading.{contents_of, spelling_as, entry_as}
 use Rattle.hyphenation_breaks.specs.declared.entry.Entry.{Entry}
 use Rattle.hyphenation_grammar.specs.declared.form.Kind.{Kind}
 use Rattle.hyphenation_grammar.specs.declared.form.Version.TheVariants.{First}
-use Rattle.hyphenation_grammar.specs.declared.form.Kind.TheVariants.{Standard}
 use Rattle.hyphenation_grammar.specs.declared.Cause.TheVariants.{Token, Number, Place, Change as BadChange}
 use Rattle.hyphenation_grammar.specs.declared.form.Version.{Version}
 use Rattle.hyphenation_reader.specs.Edits.{after_edits, as_line, cause_in, edit_line, form_in, is_addition}
 use Rattle.std.specs.Option.{option_or}
+
+-- What a line that fails no test of its own spells may stand in a dictionary: the entries of its key, or the breaks of
+-- its word.
+abbrev pub SpeltIsSound : Type 0
+SpeltIsSound =
+    (form : Form) (number : ℕ) (line : List ℕ) → own_cause form number line ≡ None
+    → (IsTrue (is_pattern_line line)
+    → IsPattern (λ change. change) (key_of_line form.version line) (entries_of_line form.version line))
+    × (IsTrue (is_exception_line line) → IsException (λ b. b) (word_of_line line) (breaks_of_line line))
 
 -- A key has exactly the entries that some `p` line spells for it.
 abbrev pub KeysAreSpelt : Type 0 → Type 0 → Type 0

@@ -16,6 +16,7 @@ ghost use Rattle.hyphenation_reader.specs.Private.Edits.{ReadsException};
 ghost use Rattle.hyphenation_reader.specs.Edits.{as_line, after_edit, has_feed, is_good_edit, is_sound_line, is_word_alone, with_exception, without_exception};
 
 use crate::items::{Fault, exception_of};
+use crate::laws::spelt_is_sound;
 use hyphenation_breaks::entry::{Listing, Payload};
 use hyphenation_dictionary::dictionary::Dictionary;
 use hyphenation_grammar::form::{Form, Kind, Version};
@@ -72,6 +73,7 @@ fn add<C: Payload, B: Listing>(
     match read_exception(alloc, kind, exception)? {
         None => Ok(false),
         Some((word, listed)) => {
+            spelt_is_sound();
             dictionary.insert_exception(word, listed)?;
             Ok(true)
         }

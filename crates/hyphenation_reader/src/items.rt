@@ -6,9 +6,8 @@ ghost use Rattle.std.specs.Str.{is_utf8};
 ghost use Rattle.std.specs.String.{string_bytes};
 ghost use Rattle.hyphenation_breaks.specs.Break.{ascend_on, keeps_within};
 ghost use Rattle.hyphenation_grammar.specs.Judging.{is_extended, is_known, own_cause};
-ghost use Rattle.hyphenation_reader.specs.Private.Judging.{before_item};
-ghost use Rattle.hyphenation_grammar.specs.Lines.{strip_prefix};
-ghost use Rattle.hyphenation_grammar.specs.Private.Lines.{tokens_after};
+ghost use Rattle.hyphenation_reader.specs.Private.Judging.{early_cause};
+ghost use Rattle.hyphenation_grammar.specs.Lines.{strip_prefix, tokens_after};
 ghost use Rattle.hyphenation_reader.specs.Private.Matched.{ascend, cause_before_match, first_at, have_values, suits_form_in_pattern, left_at, from_next};
 ghost use Rattle.hyphenation_grammar.specs.Parsed.{pattern_view};
 ghost use Rattle.hyphenation_reader.specs.Private.Parsed.{exception_parts, no_later, pattern_parts, read_later, later_view};
@@ -18,10 +17,8 @@ use hyphenation_breaks::entry::{Entry, Listing, Payload};
 use hyphenation_breaks::extended::Subregion;
 use hyphenation_grammar::Cause;
 use hyphenation_grammar::form::{Form, Kind, Version};
-use hyphenation_grammar::lines::{
-    first_token, is_head, is_utf8, language_of, minima_of, starts_with, strip_prefix,
-};
-use hyphenation_grammar::pattern::{PatternRoom, PatternToken, pattern_of};
+use hyphenation_grammar::lines::{first_token, is_utf8, starts_with, strip_prefix};
+use hyphenation_grammar::pattern::{PatternToken, read_pattern};
 use hyphenation_grammar::tokens::{LaterToken, is_boundary, later_token, string_of};
 use hyphenation_trie::in_32_bits;
 use std::alloc::{AllocError, Global};
@@ -49,10 +46,8 @@ pub(crate) enum Item<C: Drop, B: Drop> {
 /// in them means nothing.
 #[derive(Drop)]
 pub(crate) struct Scratch<C: Drop> {
-    /// A pattern's key.
-    pub key: Vec<u8>,
-    /// A pattern's values.
-    pub values: Vec<(usize, u8)>,
+    /// What a pattern's token says.
+    pub pattern: PatternToken,
     /// The entries of a key.
     pub entries: Vec<Entry<C>>,
 }
@@ -61,28 +56,14 @@ impl<C: Drop> Scratch<C> {
     /// Lists without room yet.
     pub(crate) fn new(alloc: Global) -> Self {
         Scratch {
-            key: Vec::new(alloc),
-            values: Vec::new(alloc),
+            pattern: PatternToken::new(alloc),
             entries: Vec::new(alloc),
         }
-    }
-
-    /// The lists for a pattern's token.
-    fn pattern_room(&mut self, alloc: Global) -> PatternRoom {
-        PatternRoom {
-            key: mem::replace(&mut self.key, Vec::new(alloc)),
-            values: mem::replace(&mut self.values, Vec::new(alloc)),
-        }
-    }
-
-    /// The list for the entries of a key.
-    fn entries_room(&mut self, alloc: Global) -> Vec<Entry<C>> {
-        mem::replace(&mut self.entries, Vec::new(alloc))
     }
 }
 
 /// Why a line is not read.
-#[derive(Debug, Drop)]
+#[derive(Drop)]
 pub(crate) enum Fault {
     /// Memory was refused.
     Memory,
@@ -101,22 +82,21 @@ impl From<AllocError> for Fault {
     }
 }
 
-/// The item that a line spells, or the first test that it fails by itself, in a text of a form. The caller may know
-/// already that the line is UTF-8.
+/// The item that a line after the third spells, or the first test that it fails by itself, in a text of a form. Such a
+/// line is judged alike whatever its number. The caller may know already that it is UTF-8.
 pub(crate) fn item_of<C: Payload, B: Listing>(
     alloc: Global,
     form: Form,
-    number: usize,
     line: &[u8],
     known: bool,
     scratch: &mut Scratch<C>,
 ) -> Result<Item<C, B>, Fault>
     requires utf8 { known ≡ true → IsUtf8 line.now }
-    ensures passes { OnOk result (own_cause form number line.now ≡ None) }
+    ensures passes { OnOk result (own_cause form 4 line.now ≡ None) }
     ensures says { IfOk result (λ item. IsItemOf form.version C.payload_of B.listing_of item line.now) }
-    ensures refused { IfErr result (λ fault. IsFault fault (own_cause form number line.now)) }
+    ensures refused { IfErr result (λ fault. IsFault fault (own_cause form 4 line.now)) }
 {
-    if let Some(cause) = before_item(alloc, form, number, line, known)? {
+    if let Some(cause) = early_cause(line, known) {
         return Err(Fault::Fails(cause));
     }
     match strip_prefix(b"p ", line) {
@@ -128,34 +108,19 @@ pub(crate) fn item_of<C: Payload, B: Listing>(
     }
 }
 
-/// The first test before Token that a line fails.
+/// The first test before Token that a line after the third fails.
 #[inline(always)]
-fn before_item(
-    alloc: Global,
-    form: Form,
-    number: usize,
-    line: &[u8],
-    known: bool,
-) -> Result<Option<Cause>, AllocError>
+fn early_cause(line: &[u8], known: bool) -> Option<Cause>
     requires { known ≡ true → IsUtf8 line.now }
-    ensures { IfOk result (λ cause. cause ≡ before_item form number line.now) }
+    ensures { result ≡ early_cause line.now }
 {
     if !is_utf8_line(line, known) {
-        return Ok(Some(Cause::NotUtf8));
+        return Some(Cause::NotUtf8);
     }
-    if number == 1 && !is_head(form, line) {
-        return Ok(Some(Cause::Header));
+    if !is_known(line) {
+        return Some(Cause::UnknownLine);
     }
-    if number == 2 && language_of(line).is_none() {
-        return Ok(Some(Cause::Language));
-    }
-    if number == 3 && minima_of(alloc, line)?.is_none() {
-        return Ok(Some(Cause::Minima));
-    }
-    if number > 3 && !is_known(line) {
-        return Ok(Some(Cause::UnknownLine));
-    }
-    Ok(None)
+    None
 }
 
 /// Whether a line is UTF-8, where that may be known already.
@@ -187,53 +152,48 @@ fn pattern_item<C: Payload, B: Listing>(
     ensures { (line : List ℕ) → Some text.now ≡ strip_prefix (codes "p ") line
         → Answers form C.payload_of B.listing_of line result }
 {
-    let room = scratch.pattern_room(alloc);
-    let Some((pattern, later)) = pattern_parts(alloc, form.version, text, room)? else {
+    let Some(later) = pattern_parts(alloc, form.version, text, &mut scratch.pattern)? else {
         return Err(Fault::Fails(Cause::Token));
     };
-    if let Some(cause) = pattern_cause(form, &pattern, &later) {
+    if let Some(cause) = pattern_cause(form, &scratch.pattern, &later) {
         return Err(Fault::Fails(cause));
     }
-    let room = scratch.entries_room(alloc);
-    let Some(entries) = matched(&pattern.values, later.listed, room)? else {
+    if !matched(&scratch.pattern.values, later.listed, &mut scratch.entries)? {
         return Err(Fault::Fails(Cause::Change));
-    };
-    scratch.values = pattern.values;
+    }
     Ok(Item::Pattern {
-        key: pattern.key,
-        entries,
+        key: mem::replace(&mut scratch.pattern.key, Vec::new(alloc)),
+        entries: mem::replace(&mut scratch.entries, Vec::new(alloc)),
     })
 }
 
-// Inlined, so that what a pattern says is not moved about; so are the two tests of each pattern.
-/// The first token of a `p` line and its later ones, where each can be read.
+// Inlined; so are the two tests of each pattern.
+/// The later tokens of a `p` line, where each token can be read; what the first one says is put in place of what was read
+/// before.
 #[inline(always)]
 fn pattern_parts(
     alloc: Global,
     version: Version,
     text: &[u8],
-    room: PatternRoom,
-) -> Result<Option<(PatternToken, Later)>, AllocError>
+    pattern: &mut PatternToken,
+) -> Result<Option<Later>, AllocError>
     requires { IsUtf8 text.now }
     ensures { IfOk result (λ found.
-        option_map (λ x. (pattern_view x.0, later_view x.1)) found
+        option_map (λ later. (pattern_view pattern.new, later_view later)) found
         ≡ pattern_parts version (slice_split (λ b. b == 32) text.now)) }
 {
     let (first, later) = first_token(text);
     if first.is_empty() {
         return Ok(None);
     }
-    let Some(pattern) = pattern_of(alloc, version, first, room)? else {
+    if !read_pattern(alloc, version, first, pattern)? {
         return Ok(None);
-    };
+    }
     // Most patterns have one token alone.
     if later.is_none() {
-        return Ok(Some((pattern, Later::none(alloc))));
+        return Ok(Some(Later::none(alloc)));
     }
-    let Some(later) = later_of(alloc, later)? else {
-        return Ok(None);
-    };
-    Ok(Some((pattern, later)))
+    later_of(alloc, later)
 }
 
 /// The first test after Token that a `p` line fails, but for the values that its changes are to have.
@@ -317,36 +277,33 @@ fn keeps_within(text: &[u8], place: usize, change: &Subregion) -> bool
     }
 }
 
-/// The entries of values, each with the change that is listed at its place, in the room of the last list; none where
-/// one is listed at a place without a value. The caller owes that the places ascend in both: so one pass is enough.
+/// Makes the entries of values, each with the change that is listed at its place, in place of what stood in their list.
+/// Whether each is listed at the place of a value; where one is not, what is made means nothing. The caller owes that the
+/// places ascend in both: so one pass is enough.
 fn matched<C: Payload>(
     values: &[(usize, u8)],
     listed: Vec<(usize, Option<Subregion>)>,
-    room: Vec<Entry<C>>,
-) -> Result<Option<Vec<Entry<C>>>, AllocError>
+    entries: &mut Vec<Entry<C>>,
+) -> Result<bool, AllocError>
     requires values { IsTrue (ascend 0 values.now) }
     requires listed { IsTrue (ascend 0 listed.items) }
-    ensures known { IfOk result (λ found. is_some found ≡ have_values values.now listed.items) }
-    ensures entries { IfOk result (λ found.
-        IfSome found (λ es. es.items ≡ entries_of C.payload_of values.now listed.items)) }
+    ensures known { IfOk result (λ all. all ≡ have_values values.now listed.items) }
+    ensures entries { IfOk result (λ all.
+        IsTrue all → entries.new.items ≡ entries_of C.payload_of values.now listed.items) }
 {
-    let mut entries = room;
     entries.clear();
     let mut rest = listed.into_iter();
     let mut next = rest.next();
     for value in values {
-        let change = taken_at(value.0, &mut next, &mut rest);
         let place = in_32_bits(value.0)?;
+        let change = taken_at(value.0, &mut next, &mut rest);
         entries.push(Entry {
             place,
             value: value.1,
             change: C::from_change(change),
         })?;
     }
-    if next.is_some() {
-        return Ok(None);
-    }
-    Ok(Some(entries))
+    Ok(next.is_none())
 }
 
 /// Takes the change that is listed next, if it is listed at the place, and goes on to the one after it.

@@ -1,10 +1,10 @@
 //! Whole texts: one pass over the lines, which judges each, takes its item in and sees by that whether an
 //! earlier line spells the same.
 
-ghost use Rattle.std.specs.Prelude.{◌≡◌, ◌+◌, [], None, Some, IfOk, IfErr, IsUtf8, ◌<◌, ◌≤◌, true, take, drop, OnOk, length};
+ghost use Rattle.std.specs.Prelude.{◌≡◌, [], None, Some, IfOk, IfErr, IsUtf8, ◌<◌, true, take, drop, OnOk, length};
 ghost use Rattle.std.specs.FinMap as finite;
 ghost use Rattle.std.specs.String.{string_bytes};
-ghost use Rattle.hyphenation_reader.specs.Private.Builder.{HasHead, are_idle, items_held, no_items, with_item, repeated_by};
+ghost use Rattle.hyphenation_reader.specs.Private.Builder.{HasHead, IsAfterHead, are_idle, items_held, no_items, with_item, repeated_by};
 ghost use Rattle.hyphenation_grammar.specs.Form.{form_of};
 ghost use Rattle.hyphenation_grammar.specs.Lines.{lines_of, language_of, minima_of};
 ghost use Rattle.hyphenation_grammar.specs.Judging.{own_cause, fault_after, refusal_of};
@@ -16,10 +16,12 @@ ghost use Rattle.hyphenation_reader.specs.Private.LineAnswers.{IsItemOf};
 ghost use Rattle.hyphenation_trie.specs.Trie.{EachBeginsKey};
 
 use crate::items::{Fault, Item, Scratch, item_of};
+use crate::laws::spelt_is_sound;
 use hyphenation_breaks::entry::{Entry, Listing, Payload};
 use hyphenation_breaks::language::Language;
 use hyphenation_dictionary::dictionary::{Dictionary, Extended, Standard};
 use hyphenation_dictionary::exceptions::Exceptions;
+use hyphenation_dictionary::laws::{inserted_key_is_added, keys_are_looked_up};
 use hyphenation_dictionary::parts;
 use hyphenation_grammar::Cause;
 use hyphenation_grammar::form::{Form, Kind, Version};
@@ -77,6 +79,8 @@ impl<C: Payload, B: Listing> Builder<C, B> {
         ensures exceptions { self.new.exceptions ≡ self.old.exceptions }
         ensures begins { OnOk result (EachBeginsKey self.old.patterns → EachBeginsKey self.new.patterns) }
     {
+        keys_are_looked_up::<Entry<C>>();
+        inserted_key_is_added::<Entry<C>>();
         self.patterns.invariant();
         let had = self.patterns.insert(key, entries)?;
         self.patterns.invariant();
@@ -111,7 +115,7 @@ impl<C: Payload, B: Listing> Builder<C, B> {
             Item::Nothing => Ok(None),
             Item::Pattern { key, mut entries } => {
                 let had = self.add_pattern(&key, &mut entries)?;
-                scratch.key = key;
+                scratch.pattern.key = key;
                 scratch.entries = entries;
                 Ok(had.then_some(Cause::RepeatedPattern))
             }
@@ -123,7 +127,7 @@ impl<C: Payload, B: Listing> Builder<C, B> {
     }
 }
 
-/// The item of the line of that number.
+/// The item of the line of that number, which is one after the third.
 fn item_at<C: Payload, B: Listing>(
     alloc: Global,
     form: Form,
@@ -133,11 +137,12 @@ fn item_at<C: Payload, B: Listing>(
     scratch: &mut Scratch<C>,
 ) -> Result<Item<C, B>, Refusal>
     requires utf8 { known ≡ true → IsUtf8 line.now }
+    requires late { 3 < number }
     ensures passes { OnOk result (own_cause form number line.now ≡ None) }
     ensures says { IfOk result (λ item. IsItemOf form.version C.payload_of B.listing_of item line.now) }
     ensures refused { IfErr result (λ refusal. IsRefusal refusal (at_number number (own_cause form number line.now))) }
 {
-    match item_of(alloc, form, number, line, known, scratch) {
+    match item_of(alloc, form, line, known, scratch) {
         Ok(item) => Ok(item),
         Err(Fault::Memory) => Err(Refusal::Memory),
         Err(Fault::Fails(cause)) => Err(Refusal::Fault {
@@ -147,12 +152,13 @@ fn item_at<C: Payload, B: Listing>(
     }
 }
 
-/// What the three head lines say.
+/// What the three head lines say, and what stands after them.
 #[derive(Drop)]
-struct Head {
+struct Head<'t> {
     language: Language,
     left: u8,
     right: u8,
+    rest: &'t [u8],
 }
 
 /// Judges line 1.
@@ -217,9 +223,10 @@ fn read_minima(alloc: Global, form: Form, line: &[u8]) -> Result<(u8, u8), Refus
     }
 }
 
-/// What the head lines say, or the first fault among them; a missing one is one.
-fn read_head(alloc: Global, form: Form, bytes: &[u8]) -> Result<Head, Refusal>
+/// What the head lines say, and what stands after them; or the first fault among them, where a missing one is one.
+fn read_head(alloc: Global, form: Form, bytes: &[u8]) -> Result<Head<'_>, Refusal>
     ensures says { IfOk result (λ head. HasHead form (lines_of bytes.now) head.language (head.left, head.right)) }
+    ensures rest { IfOk result (λ head. IsAfterHead bytes.now head.rest.now) }
     ensures refused { IfErr result (λ refusal. IsRefusal refusal (fault_after form [] (lines_of bytes.now))) }
 {
     let Some((first, rest)) = next_line(bytes) else {
@@ -236,7 +243,7 @@ fn read_head(alloc: Global, form: Form, bytes: &[u8]) -> Result<Head, Refusal>
         });
     };
     let language = read_language(form, second)?;
-    let Some((third, _)) = next_line(rest) else {
+    let Some((third, rest)) = next_line(rest) else {
         return Err(Refusal::Fault {
             line: 3,
             cause: Cause::Minima,
@@ -247,20 +254,8 @@ fn read_head(alloc: Global, form: Form, bytes: &[u8]) -> Result<Head, Refusal>
         language,
         left,
         right,
+        rest,
     })
-}
-
-/// What stands after the three head lines.
-fn after_head(bytes: &[u8]) -> &[u8]
-    requires { 2 < length (lines_of bytes.now) }
-    ensures lines { drop 3 (lines_of bytes.now) ≡ lines_of result.now }
-    ensures utf8 { IsUtf8 bytes.now → IsUtf8 result.now }
-    ensures shorter { 3 + length result.now ≤ length bytes.now }
-{
-    let (_, rest) = next_line(bytes).unwrap();
-    let (_, rest) = next_line(rest).unwrap();
-    let (_, rest) = next_line(rest).unwrap();
-    rest
 }
 
 /// What the lines after the head spell together, or the first fault among them.
@@ -268,11 +263,13 @@ fn read_lines<C: Payload, B: Listing>(
     alloc: Global,
     form: Form,
     bytes: &[u8],
+    after_head: &[u8],
 ) -> Result<Builder<C, B>, Refusal>
     requires long { 2 < length (lines_of bytes.now) }
     requires head { fault_after form [] (lines_of bytes.now)
         ≡ fault_after form (take 3 (lines_of bytes.now)) (drop 3 (lines_of bytes.now)) }
     requires idle { are_idle (take 3 (lines_of bytes.now)) ≡ true }
+    requires rest { IsAfterHead bytes.now after_head.now }
     ensures accepted { OnOk result (fault_after form [] (lines_of bytes.now) ≡ None) }
     ensures spelt { IfOk result (λ builder. items_held builder
         ≡ items_of_lines form.version C.payload_of B.listing_of (lines_of bytes.now)) }
@@ -283,7 +280,7 @@ fn read_lines<C: Payload, B: Listing>(
     let mut scratch = Scratch::new(alloc);
     // Where the whole text is UTF-8, as it is wherever none is refused for that, so is each line, and none is tested.
     let known = is_utf8(bytes);
-    let mut rest = after_head(bytes);
+    let mut rest = after_head;
     let mut count: usize = 3;
     while let Some((line, after)) = next_line(rest) {
         let item = item_at(alloc, form, count + 1, line, known, &mut scratch)?;
@@ -304,7 +301,7 @@ fn dictionary_of<C: Payload, B: Listing>(
     alloc: Global,
     form: Form,
     bytes: &[u8],
-    head: Head,
+    head: Head<'_>,
     builder: Builder<C, B>,
 ) -> Result<Dictionary<C, B>, AllocError>
     requires accepted { fault_after form [] (lines_of bytes.now) ≡ None }
@@ -318,6 +315,7 @@ fn dictionary_of<C: Payload, B: Listing>(
         patterns,
         exceptions,
     } = builder;
+    spelt_is_sound();
     let patterns = patterns.freeze(alloc)?;
     Ok(parts::dictionary_of(head.language, head.left, head.right, patterns, exceptions))
 }
@@ -346,8 +344,12 @@ pub fn read_text<C: Payload, B: Listing>(
     ensures refused { IfErr result (λ refusal. IsRefusal refusal (refusal_of kind bytes.now)) }
 {
     let form = form_of(kind, bytes);
-    let head = read_head(alloc, form, bytes)?;
-    let builder = read_lines(alloc, form, bytes)?;
+    // No `?`: there is no rule for one whose result holds a language and a reference.
+    let head = match read_head(alloc, form, bytes) {
+        Ok(head) => head,
+        Err(refusal) => return Err(refusal),
+    };
+    let builder = read_lines(alloc, form, bytes, head.rest)?;
     Ok(dictionary_of(alloc, form, bytes, head, builder)?)
 }
 

@@ -1,12 +1,6 @@
 -- Lines, numbers and the three head lines of a dictionary text: what private functions and proofs need of it beside, and no public contract cites.
-use Rattle.std.specs.Prelude.{ℕ, ◌^◌, ◌==◌, nat_lt, if◌then◌else◌, List, [], Option, Some, None}
-use Rattle.std.specs.List.{slice_split}
+use Rattle.std.specs.Prelude.{ℕ, ◌^◌, nat_lt, if◌then◌else◌, List, Option, Some, None}
 use Rattle.hyphenation_grammar.specs.Lines.{number}
-
--- What stands between spaces, after a space if there is one.
-abbrev pub tokens_after : Option (List ℕ) → List (List ℕ)
-tokens_after None = []
-tokens_after (Some rest) = slice_split (λ b. b == 32) rest
 
 abbrev pub value_below : List ℕ → Option ℕ
 value_below text = if nat_lt (number text) (2 ^ 64) then Some (number text) else None

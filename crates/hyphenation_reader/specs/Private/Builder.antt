@@ -1,13 +1,13 @@
 -- What a reader holds of the lines so far.
 -- Private functions of the reader cite this, and no public contract does: it follows their steps, and they are proved equal to Items and Judging.
-use Rattle.std.specs.Prelude.{◌≡◌, ◌<◌, Bool, true, not, ℕ, List, [], length, take, drop, slice_index_or, if◌then◌else◌, Option, Some, None}
+use Rattle.std.specs.Prelude.{◌≡◌, ◌+◌, ◌<◌, ◌≤◌, IsUtf8, Bool, true, not, ℕ, List, [], length, take, drop, slice_index_or, if◌then◌else◌, Option, Some, None}
 use Rattle.std.specs.FinMap as finite
 use Rattle.std.specs.String.{string_bytes}
 use Rattle.hyphenation_dictionary.specs.Parts.{patterns_of}
 use Rattle.hyphenation_grammar.specs.Reading.{SpeltItems}
 use Rattle.hyphenation_grammar.specs.Judging.{fault_after, is_item_line}
 use Rattle.std.specs.List.{list_all}
-use Rattle.hyphenation_grammar.specs.Lines.{language_of, minima_of}
+use Rattle.hyphenation_grammar.specs.Lines.{lines_of, language_of, minima_of}
 use Rattle.hyphenation_grammar.specs.declared.form.Form.{Form}
 use Rattle.hyphenation_grammar.specs.declared.Cause.{Cause}
 use Rattle.hyphenation_grammar.specs.declared.Cause.TheVariants.{RepeatedPattern, RepeatedException}
@@ -49,3 +49,9 @@ pub record HasHead (form : Form) (lines : List (List ℕ)) (language : List ℕ)
   pub third : minima_of (slice_index_or lines 2 []) ≡ Some minima
   pub goes_on : fault_after form [] lines ≡ fault_after form (take 3 lines) (drop 3 lines)
   pub idle : are_idle (take 3 lines) ≡ true
+
+-- This is what stands after the three head lines of the text.
+pub record IsAfterHead (bytes rest : List ℕ) : Type 0 where
+  pub lines : drop 3 (lines_of bytes) ≡ lines_of rest
+  pub utf8 : IsUtf8 bytes → IsUtf8 rest
+  pub shorter : 3 + length rest ≤ length bytes

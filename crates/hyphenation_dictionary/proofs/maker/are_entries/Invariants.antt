@@ -1,6 +1,6 @@
 use Rattle.std.proofs.Common.{◌≡◌, drop}
 use Rattle.hyphenation_breaks.specs.Invariant.{are_entries}
-use Rattle.hyphenation_breaks.proofs.PlacesInOrder.{entries_from}
+use Rattle.hyphenation_breaks.specs.Laws.{entries_from}
 use Rattle.hyphenation_dictionary.proofs.maker.are_entries.Given as goal
 
 abbrev pub invariant-loop-entry : goal.invariant-loop-entry

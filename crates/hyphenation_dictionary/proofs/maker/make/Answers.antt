@@ -2,7 +2,8 @@ use Rattle.std.proofs.Common.{◌≡◌, sym, subst, arith, map}
 use Rattle.hyphenation_dictionary.specs.Parts.{patterns_of}
 use Rattle.hyphenation_breaks.specs.Invariant.{IsPattern, IsException}
 use Rattle.hyphenation_dictionary.specs.Maker.{map_of_pairs, pair_of}
-use Rattle.hyphenation_dictionary.proofs.MakerInvariant.{Holds, keys_hold, words_hold}
+use Rattle.hyphenation_dictionary.proofs.MakerInvariant.{keys_hold, words_hold}
+use Rattle.hyphenation_dictionary.proofs.TextMaps.{Holds}
 use Rattle.hyphenation_dictionary.proofs.maker.make.Goals as goal
 
 pub dictionary_of-requires-clause-kept : goal.dictionary_of-requires-clause-kept

@@ -1,18 +1,17 @@
-use Rattle.std.proofs.Common.{◌∙◌, sym}
 use Rattle.hyphenation_reader.proofs.JudgingLine.{early, exception-utf8, pattern-utf8, refused_late}
 use Rattle.hyphenation_reader.proofs.items.item_of.Goals as goal
 
 pub returns-in-Some-clause-refused : goal.returns-in-Some-clause-refused
-returns-in-Some-clause-refused g c = early c.args.form c.args.number c.args.line.now c.in-Some.cause (sym c.in-Some.is ∙ c.in_ok-cause.ensures)
+returns-in-Some-clause-refused g c = early c.args.form 4 c.args.line.now c.in-Some.cause c.in-Some.ensures
 
 pub pattern_item-requires : goal.pattern_item-requires
-pattern_item-requires g c = pattern-utf8 c.args.form c.args.number c.args.line.now c.in-Some-strip_prefix.text.now c.in_ok-cause.field-0 c.in_default.not-Some c.in_ok-cause.ensures c.in-Some-strip_prefix.ensures
+pattern_item-requires g c = pattern-utf8 c.args.form 4 c.args.line.now c.in-Some-strip_prefix.text.now c.early_cause.result c.in_default.not-Some c.early_cause.ensures c.in-Some-strip_prefix.ensures
 
 pub exception_item-requires : goal.exception_item-requires
-exception_item-requires g c = exception-utf8 c.args.form c.args.number c.args.line.now c.in-Some-strip_prefix-2.text.now c.in_ok-cause.field-0 c.in_default.not-Some c.in_ok-cause.ensures c.in-Some-strip_prefix-2.ensures
+exception_item-requires g c = exception-utf8 c.args.form 4 c.args.line.now c.in-Some-strip_prefix-2.text.now c.early_cause.result c.in_default.not-Some c.early_cause.ensures c.in-Some-strip_prefix-2.ensures
 
 pub returns-in-Some-strip_prefix-clause-refused : goal.returns-in-Some-strip_prefix-clause-refused
-returns-in-Some-strip_prefix-clause-refused g c = refused_late c.args.form c.args.number c.args.line.now c.in_ok-cause.field-0 c.in_default.not-Some c.in_ok-cause.ensures _ c.pattern_item.result (c.pattern_item.ensures c.args.line.now c.in-Some-strip_prefix.ensures)
+returns-in-Some-strip_prefix-clause-refused g c = refused_late c.args.form 4 c.args.line.now c.early_cause.result c.in_default.not-Some c.early_cause.ensures _ c.pattern_item.result (c.pattern_item.ensures c.args.line.now c.in-Some-strip_prefix.ensures)
 
 pub returns-in-Some-strip_prefix-2-clause-refused : goal.returns-in-Some-strip_prefix-2-clause-refused
-returns-in-Some-strip_prefix-2-clause-refused g c = refused_late c.args.form c.args.number c.args.line.now c.in_ok-cause.field-0 c.in_default.not-Some c.in_ok-cause.ensures _ c.exception_item.result (c.exception_item.ensures c.args.line.now c.in-Some-strip_prefix-2.ensures)
+returns-in-Some-strip_prefix-2-clause-refused g c = refused_late c.args.form 4 c.args.line.now c.early_cause.result c.in_default.not-Some c.early_cause.ensures _ c.exception_item.result (c.exception_item.ensures c.args.line.now c.in-Some-strip_prefix-2.ensures)

@@ -1,6 +1,6 @@
-use Rattle.std.proofs.Common.{◌≡◌, ◌∙◌, ℕ, ◌++◌, ◌∷◌, [], get_or, sym, ap, subst, not}
+use Rattle.std.proofs.Common.{◌≡◌, ◌∙◌, ℕ, ◌++◌, ◌∷◌, [], get_or, sym, subst}
 use Rattle.hyphenation_reader.specs.Private.Matched.{from_next}
-use Rattle.hyphenation_reader.proofs.MatchedEntries.{goes_on, told, made_all}
+use Rattle.hyphenation_reader.proofs.MatchedEntries.{goes_on, none_by, told, made_all}
 use Rattle.hyphenation_reader.proofs.items.matched.Goals as goal
 
 pub loop-value-preserved : goal.loop-value-preserved
@@ -10,19 +10,12 @@ loop-value-preserved g c =
     (from_next c.taken_at-change.new.next c.taken_at-change.new.rest.rest.items) c.taken_at-change.result c.from_change.result c.loop-value-test.true pushed c.from_change.ensures c.taken_at-change.ensures.taken c.taken_at-change.ensures.left in
     record { made = on.0 ∙ c.loop-value.invariant.made; left = on.1 ∙ c.loop-value.invariant.left }
 
-pub returns-then-is_some-clause-known : goal.returns-then-is_some-clause-known
-returns-then-is_some-clause-known g c =
-    sym (told c.args.values.now c.args.listed.items c.requires.values c.requires.listed c.loop-value.value-index c.loop-value-test.false c.loop-value.next c.loop-value.rest.rest.items c.loop-value.invariant.left
-    ∙ ap not (sym c.is_some.ensures ∙ c.if-is_some.true))
-
 pub returns-clause-known : goal.returns-clause-known
 returns-clause-known g c =
-    sym (told c.args.values.now c.args.listed.items c.requires.values c.requires.listed c.loop-value.value-index c.loop-value-test.false c.loop-value.next c.loop-value.rest.rest.items c.loop-value.invariant.left
-    ∙ ap not (sym c.is_some.ensures ∙ c.if-is_some.false))
+    none_by _ _ c.is_none.ensures
+    ∙ sym (told c.args.values.now c.args.listed.items c.requires.values c.requires.listed c.loop-value.value-index c.loop-value-test.false c.loop-value.next c.loop-value.rest.rest.items c.loop-value.invariant.left)
 
 pub returns-clause-entries : goal.returns-clause-entries
-returns-clause-entries g c =
-    let all =
-    told c.args.values.now c.args.listed.items c.requires.values c.requires.listed c.loop-value.value-index c.loop-value-test.false c.loop-value.next c.loop-value.rest.rest.items c.loop-value.invariant.left
-    ∙ ap not (sym c.is_some.ensures ∙ c.if-is_some.false) in
-    made_all c.args.values.now c.args.listed.items c.requires.values c.requires.listed c.loop-value.value-index c.loop-value-test.false c.loop-value.next c.loop-value.rest.rest.items g.C.Payload.payload_of c.loop-value.entries.items c.loop-value.invariant.made all
+returns-clause-entries g c = λ all.
+    made_all c.args.values.now c.args.listed.items c.requires.values c.requires.listed c.loop-value.value-index c.loop-value-test.false c.loop-value.next c.loop-value.rest.rest.items g.C.Payload.payload_of c.loop-value.entries.items c.loop-value.invariant.made
+    (told c.args.values.now c.args.listed.items c.requires.values c.requires.listed c.loop-value.value-index c.loop-value-test.false c.loop-value.next c.loop-value.rest.rest.items c.loop-value.invariant.left ∙ sym (none_by _ _ c.is_none.ensures) ∙ all)

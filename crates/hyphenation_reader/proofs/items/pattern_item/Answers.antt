@@ -1,52 +1,52 @@
-use Rattle.std.proofs.Common.{◌∙◌, ap, sym, subst, ◌≡◌, Option, Some, true, false, is_some, Vec, Global}
-use Rattle.std.specs.Prelude.{IfSome}
+use Rattle.std.proofs.Common.{◌∙◌, ap, sym, Some, true, false}
 use Rattle.std.specs.Option.{option_map}
 use Rattle.hyphenation_reader.specs.Private.Matched.{ascend}
 use Rattle.hyphenation_grammar.specs.Parsed.{ReadPattern, pattern_view}
 use Rattle.hyphenation_reader.specs.Private.Parsed.{ReadLater, later_view}
 use Rattle.hyphenation_reader.specs.Private.LineAnswers.{entries_of}
-use Rattle.hyphenation_breaks.specs.declared.entry.Entry.{Entry}
 use Rattle.hyphenation_reader.specs.declared.items.Later.{Later}
 use Rattle.hyphenation_grammar.specs.declared.pattern.PatternToken.{PatternToken}
 use Rattle.hyphenation_reader.proofs.LineCauses.{none_found, not_found, pattern_unread, pattern_caused, pattern_says, spaced}
 use Rattle.hyphenation_reader.proofs.MatchedEntries.{before_match, at_match, both_ascend, told_of}
 use Rattle.hyphenation_reader.proofs.items.pattern_item.Goals as goal
 
-abbrev views : PatternToken × Later → ReadPattern × ReadLater
-views x = (pattern_view x.0, later_view x.1)
+abbrev views : PatternToken → Later → ReadPattern × ReadLater
+views pattern later = (pattern_view pattern, later_view later)
 
 pub returns-in_default : goal.returns-in_default
-returns-in_default g c = λ line start. pattern_unread c.args.form line c.args.text.now start (none_found views c.in_ok-pattern.field-0 _ c.in_default.not-Some c.in_ok-pattern.ensures)
+returns-in_default g c = λ line start. pattern_unread c.args.form line c.args.text.now start (none_found (views c.pattern_parts.new.pattern) c.in_ok-later.field-0 _ c.in_default.not-Some c.in_ok-later.ensures)
 
 pub returns-in-Some-pattern_cause : goal.returns-in-Some-pattern_cause
 returns-in-Some-pattern_cause g c = λ line start.
-    pattern_caused c.args.form line c.args.text.now start (pattern_view c.in-Some.pattern) (later_view c.in-Some.later) (sym c.in_ok-pattern.ensures ∙ ap (option_map views) c.in-Some.is)
-    ∙ before_match c.args.form (pattern_view c.in-Some.pattern) (later_view c.in-Some.later) c.in-Some-pattern_cause.cause (sym c.in-Some-pattern_cause.ensures)
+    pattern_caused c.args.form line c.args.text.now start (pattern_view c.pattern_parts.new.pattern) (later_view c.in-Some.later) (sym c.in_ok-later.ensures ∙ ap (option_map (views c.pattern_parts.new.pattern)) c.in-Some.is)
+    ∙ before_match c.args.form (pattern_view c.pattern_parts.new.pattern) (later_view c.in-Some.later) c.in-Some-pattern_cause.cause (sym c.in-Some-pattern_cause.ensures)
 
 pub matched-requires : goal.matched-requires
 matched-requires g c =
+    let pattern = c.pattern_parts.new.pattern in
     let none = sym c.pattern_cause.ensures ∙ not_found c.pattern_cause.result c.in_default-pattern_cause.not-Some in
-    let read = sym c.in_ok-pattern.ensures ∙ ap (option_map views) c.in-Some.is in
-    let ascends = both_ascend c.args.form (spaced c.args.text.now) (pattern_view c.in-Some.pattern) (later_view c.in-Some.later) read none in
+    let read = sym c.in_ok-later.ensures ∙ ap (option_map (views pattern)) c.in-Some.is in
+    let ascends = both_ascend c.args.form (spaced c.args.text.now) (pattern_view pattern) (later_view c.in-Some.later) read none in
     record { values = ap (ascend 0) c.deref.ensures.value ∙ ascends.0; listed = ascends.1 }
 
-pub returns-in_default-2 : goal.returns-in_default-2
-returns-in_default-2 g c = λ line start.
+pub returns-then-not-branch : goal.returns-then-not-branch
+returns-then-not-branch g c = λ line start.
+    let pattern = c.pattern_parts.new.pattern in
     let none = sym c.pattern_cause.ensures ∙ not_found c.pattern_cause.result c.in_default-pattern_cause.not-Some in
-    let read = sym c.in_ok-pattern.ensures ∙ ap (option_map views) c.in-Some.is in
-    let missing = told_of c.deref.result.now c.in-Some.pattern.values.items c.in-Some.later.listed.items (is_some c.in_ok-entries.field-0) false c.deref.ensures.value c.in_ok-entries.ensures.known (ap is_some c.in_default-2.is) in
-    pattern_caused c.args.form line c.args.text.now start (pattern_view c.in-Some.pattern) (later_view c.in-Some.later) read
-    ∙ at_match c.args.form (pattern_view c.in-Some.pattern) (later_view c.in-Some.later) false none missing
+    let read = sym c.in_ok-later.ensures ∙ ap (option_map (views pattern)) c.in-Some.is in
+    let missing = told_of c.deref.result.now pattern.values.items c.in-Some.later.listed.items c.in_ok-matched.field-0 false c.deref.ensures.value c.in_ok-matched.ensures.known c.if-not-branch.true in
+    pattern_caused c.args.form line c.args.text.now start (pattern_view pattern) (later_view c.in-Some.later) read
+    ∙ at_match c.args.form (pattern_view pattern) (later_view c.in-Some.later) false none missing
 
 pub returns : goal.returns
 returns g c = λ line start.
+    let pattern = c.pattern_parts.new.pattern in
     let none = sym c.pattern_cause.ensures ∙ not_found c.pattern_cause.result c.in_default-pattern_cause.not-Some in
-    let read = sym c.in_ok-pattern.ensures ∙ ap (option_map views) c.in-Some.is in
-    let all = told_of c.deref.result.now c.in-Some.pattern.values.items c.in-Some.later.listed.items (is_some c.in_ok-entries.field-0) true c.deref.ensures.value c.in_ok-entries.ensures.known (ap is_some c.in-Some-2.is) in
-    let passes = at_match c.args.form (pattern_view c.in-Some.pattern) (later_view c.in-Some.later) true none all in
-    let says = pattern_says c.args.form line c.args.text.now start g.C.Payload.payload_of (pattern_view c.in-Some.pattern) (later_view c.in-Some.later) read passes in
-    let made = subst (λ (o : Option (Vec (Entry g.row.C.Denot) Global)). IfSome o (λ es. es.items ≡ entries_of g.C.Payload.payload_of c.deref.result.now c.in-Some.later.listed.items)) c.in-Some-2.is c.in_ok-entries.ensures.entries
-    ∙ (λ i. entries_of g.C.Payload.payload_of (c.deref.ensures.value i) c.in-Some.later.listed.items) in (
-      pattern_caused c.args.form line c.args.text.now start (pattern_view c.in-Some.pattern) (later_view c.in-Some.later) read ∙ passes,
-      (says.0 ∙ (λ i. Some (c.in-Some.pattern.key.items, sym made i)), says.1),
+    let read = sym c.in_ok-later.ensures ∙ ap (option_map (views pattern)) c.in-Some.is in
+    let all = told_of c.deref.result.now pattern.values.items c.in-Some.later.listed.items c.in_ok-matched.field-0 true c.deref.ensures.value c.in_ok-matched.ensures.known c.if-not-branch.false in
+    let passes = at_match c.args.form (pattern_view pattern) (later_view c.in-Some.later) true none all in
+    let says = pattern_says c.args.form line c.args.text.now start g.C.Payload.payload_of (pattern_view pattern) (later_view c.in-Some.later) read passes in
+    let made = (λ i. (c.replace-2.ensures.value i).items) ∙ c.in_ok-matched.ensures.entries c.if-not-branch.false ∙ (λ i. entries_of g.C.Payload.payload_of (c.deref.ensures.value i) c.in-Some.later.listed.items) in (
+      pattern_caused c.args.form line c.args.text.now start (pattern_view pattern) (later_view c.in-Some.later) read ∙ passes,
+      (says.0 ∙ (λ i. Some ((sym c.replace.ensures.value i).items, sym made i)), says.1),
     )

@@ -1,4 +1,4 @@
-use Rattle.std.proofs.Common.{◌∙◌, ◌∷◌, [], ap, sym, subst, List, ℕ}
+use Rattle.std.proofs.Common.{◌∙◌, ◌∷◌, [], ap, sym, subst, drop, arith, List, ℕ}
 use Rattle.hyphenation_reader.specs.Private.Builder.{HasHead}
 use Rattle.hyphenation_grammar.specs.Judging.{fault_after}
 use Rattle.hyphenation_grammar.specs.Lines.{lines_of}
@@ -15,7 +15,18 @@ returns-clause-says c =
     let lines = c.in-Some.ensures.first ∙ ap (λ (r : List (List ℕ)). first ∷ r) (c.in-Some-next_line.ensures.first ∙ ap (λ (r : List (List ℕ)). second ∷ r) c.in-Some-next_line-2.ensures.first) in
     subst (λ (ls : List (List ℕ)). HasHead c.args.form ls c.in_ok-language.language (c.in_ok-left.left, c.in_ok-left.right)) (sym lines)
     (has_head c.args.form first c.in_ok-read_first.ensures.passes second c.in_ok-language.language c.in_ok-language.ensures.says c.in_ok-language.ensures.passes
-    third (c.in_ok-left.left, c.in_ok-left.right) (lines_of c.in-Some-next_line-2.field-0-1.now) c.in_ok-left.ensures.says c.in_ok-left.ensures.passes)
+    third (c.in_ok-left.left, c.in_ok-left.right) (lines_of c.in-Some-next_line-2.rest.now) c.in_ok-left.ensures.says c.in_ok-left.ensures.passes)
+
+pub returns-clause-rest : goal.returns-clause-rest
+returns-clause-rest c =
+    let first = c.in-Some.first.now in
+    let second = c.in-Some-next_line.second.now in
+    let lines = c.in-Some.ensures.first ∙ ap (λ (r : List (List ℕ)). first ∷ r) (c.in-Some-next_line.ensures.first ∙ ap (λ (r : List (List ℕ)). second ∷ r) c.in-Some-next_line-2.ensures.first) in
+    record {
+      lines = ap (λ (ls : List (List ℕ)). drop 3 ls) lines;
+      utf8 = λ u. (c.in-Some-next_line-2.ensures.utf8 (c.in-Some-next_line.ensures.utf8 (c.in-Some.ensures.utf8 u).1).1).1;
+      shorter = omega (arith, c.in-Some.ensures.shorter, c.in-Some-next_line.ensures.shorter, c.in-Some-next_line-2.ensures.shorter);
+    }
 
 pub returns-in_err-language-clause-refused : goal.returns-in_err-language-clause-refused
 returns-in_err-language-clause-refused c =
@@ -35,7 +46,7 @@ returns-in_err-left-clause-refused c =
     refused c.from_residual-in_err-left.result c.in_err-left.field-0.0 _ _ c.from_residual-in_err-left.ensures
     (subst (λ (ls : List (List ℕ)). IsRefusal c.in_err-left.field-0.0 (fault_after c.args.form [] ls)) (sym lines)
     (third_refused c.args.form first c.in_ok-read_first.ensures.passes second c.in_ok-language.language c.in_ok-language.ensures.says c.in_ok-language.ensures.passes
-    third (lines_of c.in-Some-next_line-2.field-0-1.now) c.in_err-left.field-0.0 c.in_err-left.ensures.refused))
+    third (lines_of c.in-Some-next_line-2.rest.now) c.in_err-left.field-0.0 c.in_err-left.ensures.refused))
 
 pub returns-in_err-read_first-clause-refused : goal.returns-in_err-read_first-clause-refused
 returns-in_err-read_first-clause-refused c =

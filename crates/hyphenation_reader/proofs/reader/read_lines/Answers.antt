@@ -36,13 +36,13 @@ loop-line-preserved g c =
 
 pub loop-line-init : goal.loop-line-init
 loop-line-init g c = record {
-  room = c.after_head-rest.ensures.shorter;
+  room = c.requires.rest.shorter;
   past = omega arith;
   within = c.requires.long;
-  rest = c.after_head-rest.ensures.lines;
+  rest = c.requires.rest.lines;
   fault = sym c.requires.head;
   spelt = c.in_ok-builder.ensures.empty ∙ sym (idle-spelt c.args.form.version g.C.Payload.payload_of g.B.Listing.listing_of (take 3 (lines_of c.args.bytes.now)) c.requires.idle);
-  utf8 = λ known. c.after_head-rest.ensures.utf8 (IsUtf8-from_is_utf8 c.args.bytes.now (sym c.is_utf8-known.ensures ∙ known));
+  utf8 = λ known. c.requires.rest.utf8 (IsUtf8-from_is_utf8 c.args.bytes.now (sym c.is_utf8-known.ensures ∙ known));
   begins = c.in_ok-builder.ensures.begins;
 }
 
@@ -57,4 +57,4 @@ returns-clause-spelt g c =
     c.loop-line.invariant.spelt ∙ ap (items_of_lines c.args.form.version g.C.Payload.payload_of g.B.Listing.listing_of) (ended (lines_of c.args.bytes.now) c.loop-line.count c.loop-line.invariant.within none)
 
 pub item_at-requires : goal.item_at-requires
-item_at-requires g c = record { utf8 = λ known. (c.in-Some.ensures.utf8 (c.loop-line.invariant.utf8 known)).0 }
+item_at-requires g c = record { utf8 = λ known. (c.in-Some.ensures.utf8 (c.loop-line.invariant.utf8 known)).0; late = omega (arith, c.loop-line.invariant.past) }

@@ -2,11 +2,10 @@ use Rattle.std.proofs.Common.{◌∙◌, ◌<◌, ◌&&◌, ℕ, sym, ap, subst}
 use Rattle.hyphenation_breaks.specs.Break.{is_boundary}
 use Rattle.hyphenation_breaks.specs.Invariant.{lists_within}
 use Rattle.hyphenation_dictionary.proofs.InvariantLemmas.{before_least, out_of_word, off_by, never}
-use Rattle.hyphenation_breaks.proofs.PlacesInOrder.{listed_in_order}
 use Rattle.hyphenation_dictionary.proofs.dictionary.Dictionary.fits.Goals as goal
 
 pub loop-b-init : goal.loop-b-init
-loop-b-init g c = sym (listed_in_order g.B.Break.meaning c.args.word.now 0 c.args.listed.now)
+loop-b-init g c = sym (c.listed_in_order.ensures g.B.Break.meaning c.args.word.now c.args.listed.now)
 
 pub returns-then-place-least : goal.returns-then-place-least
 returns-then-place-least g c =

@@ -1,6 +1,6 @@
 use Rattle.std.proofs.Common.{◌≡◌, drop}
 use Rattle.hyphenation_breaks.specs.Invariant.{are_listed}
-use Rattle.hyphenation_breaks.proofs.PlacesInOrder.{listed_from}
+use Rattle.hyphenation_breaks.specs.Laws.{listed_from}
 use Rattle.hyphenation_dictionary.proofs.dictionary.Dictionary.fits.Given as goal
 
 abbrev pub invariant-loop-b : goal.invariant-loop-b

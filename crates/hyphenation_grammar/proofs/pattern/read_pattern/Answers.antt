@@ -1,8 +1,8 @@
 use Rattle.std.proofs.Common.{◌≡◌, ◌&&◌, eqb, not, slice_index, arith}
 use Rattle.hyphenation_grammar.specs.Parsed.{pattern_view}
 use Rattle.hyphenation_grammar.proofs.PatternBytes.{byte_more, then_after, else_after}
-use Rattle.hyphenation_grammar.proofs.pattern.pattern_of.Goals as goal
-use Rattle.hyphenation_grammar.proofs.pattern.pattern_of.Goals.{then-not-after, else-not-after}
+use Rattle.hyphenation_grammar.proofs.pattern.read_pattern.Goals as goal
+use Rattle.hyphenation_grammar.proofs.pattern.read_pattern.Goals.{then-not-after, else-not-after}
 
 pub loop-byte-preserved : goal.loop-byte-preserved
 loop-byte-preserved c =
