@@ -2,8 +2,8 @@
 use Rattle.std.proofs.Common.{◌≡◌, ◌∙◌, ℕ, ◌+◌, ◌==◌, ◌||◌, Bool, true, false, if◌then◌else◌, List, [], ◌∷◌, ◌++◌, map, fold, length, refl, sym, ap, append_assoc, Some, None}
 use Rattle.std.proofs.lemmas.List.{append-nil, map-append}
 use Rattle.std.specs.Prelude.{codes}
-use Rattle.std.specs.Cmp.Lexicographic.{same_text}
 use Rattle.hyphenation_grammar.specs.Lines.{is_same}
+use Rattle.std.proofs.lemmas.Slice.Eq.{bytes_eq-Decides}
 use Rattle.pattern_files.specs.Groups.{Piece, GroupWord, Found, place_after, with_piece, with_piece_outside, with_piece_at, closed_at, groups, nothing_found, with_plain, plain_words}
 use Rattle.pattern_files.specs.declared.fault.Cause.TheVariants.{Input}
 use Rattle.pattern_files.specs.declared.group.Group.{Group}
@@ -17,7 +17,7 @@ pub other : (a b : List ℕ) → (a ≡ b → ⊥) → is_same a b ≡ false
 other a b apart = by (is_same a b) refl
   where
     by : (t : Bool) → is_same a b ≡ t → is_same a b ≡ false
-    by true e = absurd (apart (same_text a b (sym e)))
+    by true e = absurd (apart ((bytes_eq-Decides a b).0 e))
     by false e = e
 
 abbrev pub found_at : List GroupWord → Place → Found

@@ -1,11 +1,11 @@
 //! Changes of letters at a break, as LibreOffice's files spell them: `pattern/replacement,start,cut`.
 
-use crate::levels::Value;
 use crate::notes::What;
+use crate::value::Value;
 use std::alloc::{AllocError, Global};
 
 /// A change that belongs to a value, in bytes of the key.
-#[derive(Debug, PartialEq, Eq, Drop)]
+#[derive(Drop)]
 pub(crate) struct Change {
     pub place: usize,
     pub left: usize,
@@ -15,7 +15,7 @@ pub(crate) struct Change {
 }
 
 /// A range of a key, in bytes; and the place after its first character.
-#[derive(Clone, Copy, Debug)]
+#[derive(Drop)]
 struct Range {
     begin: usize,
     after_first: Option<usize>,
@@ -74,7 +74,7 @@ fn range_of(key: &str, start: usize, cut: usize) -> Option<Range> {
 
 /// The place of the odd value that a change in that range belongs to, and whether there are others: the one after
 /// the first character where there are several, else the first.
-fn place_in(values: &[Value], range: Range) -> Option<(usize, bool)> {
+fn place_in(values: &[Value], range: &Range) -> Option<(usize, bool)> {
     let mut first = None;
     let mut chosen = None;
     let mut several = false;
@@ -129,7 +129,7 @@ pub(crate) fn change_of(
     let Some(range) = range_of(key, start, cut) else {
         return Ok(Err(What::ChangePastKey));
     };
-    let Some((place, several)) = place_in(values, range) else {
+    let Some((place, several)) = place_in(values, &range) else {
         return Ok(Err(What::ChangeWithoutValue));
     };
     let mut substitution = String::from_str(alloc, before)?;

@@ -10,7 +10,7 @@ use tables::{
 };
 
 /// A charset: UTF-8, Latin-1, or one of a byte for each character, by a table for the bytes from 128 on.
-#[derive(Clone, Copy, Debug)]
+#[derive(Drop)]
 pub(crate) enum Charset {
     Utf8,
     Latin1,
@@ -20,26 +20,39 @@ pub(crate) enum Charset {
 impl Charset {
     /// The charset of that name, as line 1 of a `.dic` has it.
     pub(crate) fn from_name(name: &[u8]) -> Option<Charset> {
-        match name {
-            b"UTF-8" => Some(Charset::Utf8),
-            b"ISO8859-1" => Some(Charset::Latin1),
-            b"ISO8859-2" => Some(Charset::Table(&ISO8859_2)),
-            b"ISO8859-5" => Some(Charset::Table(&ISO8859_5)),
-            b"ISO8859-7" => Some(Charset::Table(&ISO8859_7)),
-            b"ISO8859-9" => Some(Charset::Table(&ISO8859_9)),
-            b"ISO8859-10" => Some(Charset::Table(&ISO8859_10)),
-            b"ISO8859-13" => Some(Charset::Table(&ISO8859_13)),
-            b"ISO8859-14" => Some(Charset::Table(&ISO8859_14)),
-            b"ISO8859-15" => Some(Charset::Table(&ISO8859_15)),
-            b"KOI8-R" => Some(Charset::Table(&KOI8_R)),
-            b"KOI8-U" => Some(Charset::Table(&KOI8_U)),
-            b"microsoft-cp1251" => Some(Charset::Table(&CP1251)),
+        if let Some(part) = name.strip_prefix(b"ISO8859-".as_slice()) {
+            Charset::of_iso_8859(part)
+        } else if name == b"UTF-8".as_slice() {
+            Some(Charset::Utf8)
+        } else if name == b"KOI8-R".as_slice() {
+            Some(Charset::Table(&KOI8_R))
+        } else if name == b"KOI8-U".as_slice() {
+            Some(Charset::Table(&KOI8_U))
+        } else if name == b"microsoft-cp1251".as_slice() {
+            Some(Charset::Table(&CP1251))
+        } else {
+            None
+        }
+    }
+
+    /// The charset of ISO 8859 whose part has that number.
+    fn of_iso_8859(part: &[u8]) -> Option<Charset> {
+        match part {
+            b"1" => Some(Charset::Latin1),
+            b"2" => Some(Charset::Table(&ISO8859_2)),
+            b"5" => Some(Charset::Table(&ISO8859_5)),
+            b"7" => Some(Charset::Table(&ISO8859_7)),
+            b"9" => Some(Charset::Table(&ISO8859_9)),
+            b"10" => Some(Charset::Table(&ISO8859_10)),
+            b"13" => Some(Charset::Table(&ISO8859_13)),
+            b"14" => Some(Charset::Table(&ISO8859_14)),
+            b"15" => Some(Charset::Table(&ISO8859_15)),
             _ => None,
         }
     }
 
     /// The character of a byte, where a byte is one.
-    fn char_of(self, byte: u8) -> Option<char> {
+    fn char_of(&self, byte: u8) -> Option<char> {
         match self {
             Charset::Table(table) if byte >= 128 => {
                 match table[usize::from(byte) - 128] {

@@ -10,9 +10,9 @@ use crate::notes::Note;
 use crate::parts::Parts;
 use crate::tex::words_of;
 use crate::told::notes_of;
-use hyphenation_dictionary::dictionary::Dictionary;
 use hyphenation_breaks::entry::{Listing, Payload};
 use hyphenation_breaks::language::Language;
+use hyphenation_dictionary::dictionary::Dictionary;
 use std::alloc::Global;
 
 /// Whether a file of that form may have no words: a language may have no exceptions.

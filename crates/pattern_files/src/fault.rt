@@ -52,7 +52,7 @@ impl fmt::Display for Cause {
 }
 
 /// Why a file gives nothing.
-#[derive(Clone, Copy, Debug, PartialEq, Eq)]
+#[derive(Drop)]
 pub(crate) enum LineFault {
     /// Memory was refused.
     NoMemory,
@@ -72,7 +72,7 @@ impl From<AllocError> for LineFault {
 }
 
 /// Why a word spells nothing.
-#[derive(Clone, Copy, Debug, PartialEq, Eq)]
+#[derive(Drop)]
 pub(crate) enum WordFault {
     /// Memory was refused.
     Memory,

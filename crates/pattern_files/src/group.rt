@@ -1,14 +1,14 @@
 //! Files, their groups of patterns and exceptions, and the words of groups.
 
 /// What the words of a group are.
-#[derive(Clone, Copy, Debug, PartialEq, Eq)]
+#[derive(Clone, Copy, Debug)]
 pub enum Group {
     Patterns,
     Exceptions,
 }
 
 /// The form of a file.
-#[derive(Clone, Copy, Debug, PartialEq, Eq)]
+#[derive(Clone, Copy, Debug)]
 pub enum Form {
     /// A TeX file, with its groups in braces.
     Tex,
@@ -24,7 +24,7 @@ pub struct File<'a> {
 }
 
 /// Where a piece of a TeX file stands.
-#[derive(Clone, Copy, Debug, PartialEq, Eq)]
+#[derive(Clone, Copy)]
 pub enum Place {
     /// Outside of groups.
     Outside,
@@ -35,7 +35,7 @@ pub enum Place {
 }
 
 /// A word of a group, and the number of its line, counted from 1.
-#[derive(Debug, Drop)]
+#[derive(Drop)]
 pub struct Word {
     pub line: usize,
     pub group: Group,

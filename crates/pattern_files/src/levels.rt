@@ -5,10 +5,10 @@ ghost use Rattle.pattern_files.specs.Private.Read.{change_there, entries_kept};
 
 use crate::change::{Change, change_of};
 use crate::changes::carried;
-use crate::fault::LineFault;
 use crate::longest::hides_value;
 use crate::notes::{Note, Spot, What, add_note};
 use crate::parts::Parts;
+use crate::value::Value;
 use hyphenation_breaks::entry::{Entry, Listing, Payload};
 use hyphenation_breaks::extended::Subregion;
 use hyphenation_dictionary::maker::fits_key;
@@ -16,15 +16,8 @@ use hyphenation_trie::{Automaton, Trie, in_32_bits};
 use std::alloc::{AllocError, Global};
 use std::collections::BTreeMap;
 
-/// A value above 0 at a place, counted in bytes of the key.
-#[derive(Clone, Copy, Debug, PartialEq, Eq)]
-pub(crate) struct Value {
-    pub place: usize,
-    pub value: u8,
-}
-
 /// What is held of a key.
-#[derive(Debug, PartialEq, Eq, Drop)]
+#[derive(Drop)]
 struct Pattern {
     values: Vec<Value>,
     change: Option<Change>,
@@ -33,7 +26,7 @@ struct Pattern {
 }
 
 /// What letters and digits spell.
-#[derive(Debug, Drop)]
+#[derive(Drop)]
 struct Spelling {
     key: Vec<u8>,
     values: Vec<Value>,
@@ -84,34 +77,19 @@ fn at_slash(line: &str) -> (&str, Option<&str>) {
 }
 
 /// The value 8 at both ends of a key of that length, and within what there was.
-fn forbidding(
-    alloc: Global,
-    len: usize,
-    line: usize,
-    old: Option<Pattern>,
-) -> Result<Pattern, AllocError> {
+fn forbidding(alloc: Global, len: usize, old: &[Value]) -> Result<Vec<Value>, AllocError> {
     let mut values = Vec::new(alloc);
     values.push(Value { place: 0, value: 8 })?;
-    let mut change = None;
-    let mut line = line;
-    if let Some(old) = old {
-        line = old.line;
-        for value in old.values.iter() {
-            if 0 < value.place && value.place < len {
-                values.push(*value)?;
-            }
+    for value in old {
+        if 0 < value.place && value.place < len {
+            values.push(*value)?;
         }
-        change = old.change;
     }
     values.push(Value {
         place: len,
         value: 8,
     })?;
-    Ok(Pattern {
-        values,
-        change,
-        line,
-    })
+    Ok(values)
 }
 
 /// The patterns so far.
@@ -223,27 +201,39 @@ impl Levels {
             return Ok(());
         }
         let key = Vec::from_slice(alloc, text.as_bytes())?;
-        let old = self.patterns.remove(text.as_bytes());
-        let pattern = forbidding(alloc, text.len(), line, old)?;
+        let mut pattern = match self.patterns.remove(text.as_bytes()) {
+            Some(old) => old,
+            None => Pattern {
+                values: Vec::new(alloc),
+                change: None,
+                line,
+            },
+        };
+        pattern.values = forbidding(alloc, text.len(), &pattern.values)?;
         self.patterns.insert(key, pattern)?;
+        Ok(())
+    }
+
+    /// Inserts the patterns with their values.
+    fn insert_all(&self, alloc: Global, trie: &mut Trie<Entry<()>>) -> Result<(), AllocError> {
+        for (key, pattern) in self.patterns.iter() {
+            let mut entries = plain_entries(alloc, &pattern.values)?;
+            trie.insert(key, &mut entries)?;
+        }
         Ok(())
     }
 
     /// The patterns with their values, as a text is searched for them.
     fn automaton(&self, alloc: Global) -> Result<Automaton<Entry<()>>, AllocError> {
         let mut trie = Trie::new(alloc)?;
-        for (key, pattern) in self.patterns.iter() {
-            let mut entries = plain_entries(alloc, &pattern.values)?;
-            trie.insert(key, &mut entries)?;
-        }
+        self.insert_all(alloc, &mut trie)?;
         trie.freeze(alloc)
     }
 
-    /// Notes each pattern that hides a value of a shorter one from LibreOffice.
-    pub(crate) fn note_hiding(&mut self, alloc: Global) -> Result<(), AllocError> {
-        let automaton = self.automaton(alloc)?;
+    /// Notes each pattern that hides a value of a shorter one from LibreOffice, as the automaton of all patterns tells.
+    fn note_hiding_in(&mut self, automaton: &Automaton<Entry<()>>) -> Result<(), AllocError> {
         for (key, pattern) in self.patterns.iter() {
-            if hides_value(&automaton, key) {
+            if hides_value(automaton, key) {
                 let line = pattern.line;
                 add_note(&mut self.notes, What::HidesValue, Spot { file: 0, line })?;
             }
@@ -251,27 +241,22 @@ impl Levels {
         Ok(())
     }
 
-    /// All patterns, as parts of a dictionary.
-    pub(crate) fn parts<C: Payload, B: Listing>(
+    /// Notes each pattern that hides a value of a shorter one from LibreOffice.
+    pub(crate) fn note_hiding(&mut self, alloc: Global) -> Result<(), AllocError> {
+        let automaton = self.automaton(alloc)?;
+        self.note_hiding_in(&automaton)
+    }
+
+    /// Puts all patterns into parts of a dictionary, and notes what of them it can't have.
+    pub(crate) fn put_into<C: Payload, B: Listing>(
         &mut self,
         alloc: Global,
-    ) -> Result<Parts<C, B>, LineFault> {
-        let mut parts = Parts::new(alloc);
+        parts: &mut Parts<C, B>,
+    ) -> Result<(), AllocError> {
         for (key, pattern) in self.patterns.iter() {
-            let line = pattern.line;
-            let entries = entries_of::<C>(alloc, pattern)?;
-            if pattern.change.is_some() && !has_change(&entries) {
-                add_note(
-                    &mut self.notes,
-                    What::ChangeForbidden,
-                    Spot { file: 0, line },
-                )?;
-            }
-            if !take_part(alloc, &mut parts, key, entries)? {
-                add_note(&mut self.notes, What::Unfit, Spot { file: 0, line })?;
-            }
+            put_pattern(alloc, parts, &mut self.notes, key, pattern)?;
         }
-        Ok(parts)
+        Ok(())
     }
 }
 
@@ -339,10 +324,41 @@ fn take_part<C: Payload, B: Listing>(
     let Ok(key) = std::str::from_utf8(key) else {
         return Ok(false);
     };
-    let key = String::from_str(alloc, key)?;
-    if !fits_key(&key, &entries) {
+    if !fits_key(key, &entries) {
         return Ok(false);
     }
+    let key = String::from_str(alloc, key)?;
     parts.push_pattern(key, entries)?;
     Ok(true)
+}
+
+/// Puts a pattern into parts of a dictionary, and notes what of it that can't have.
+fn put_pattern<C: Payload, B: Listing>(
+    alloc: Global,
+    parts: &mut Parts<C, B>,
+    notes: &mut Vec<Note>,
+    key: &[u8],
+    pattern: &Pattern,
+) -> Result<(), AllocError> {
+    let line = pattern.line;
+    let entries = entries_of::<C>(alloc, pattern)?;
+    let forbids = pattern.change.is_some() && !has_change(&entries);
+    let fits = take_part(alloc, parts, key, entries)?;
+    note_put(notes, forbids, fits, line)
+}
+
+/// Notes of a pattern that its change forbids the break, and that it does not fit.
+fn note_put(
+    notes: &mut Vec<Note>,
+    forbids: bool,
+    fits: bool,
+    line: usize,
+) -> Result<(), AllocError> {
+    if forbids {
+        add_note(notes, What::ChangeForbidden, Spot { file: 0, line })?;
+    }
+    if !fits {
+        add_note(notes, What::Unfit, Spot { file: 0, line })?;
+    }
+    Ok(())
 }

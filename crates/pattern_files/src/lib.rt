@@ -35,3 +35,4 @@ mod parts;
 mod spelling;
 mod tex;
 pub mod told;
+mod value;

@@ -13,12 +13,14 @@ use crate::convert::Converted;
 use crate::fault::{Cause, LineFault, Refusal};
 use crate::levels::Levels;
 use crate::notes::What;
+use crate::parts::Parts;
 use hyphenation_breaks::entry::{Listing, Payload};
 use hyphenation_breaks::language::Language;
+use hyphenation_dictionary::dictionary::Dictionary;
 use std::alloc::Global;
 
 /// What a line of such a file is.
-#[derive(Clone, Copy, Debug, PartialEq, Eq)]
+#[derive(Drop)]
 enum Line<'a> {
     Nothing,
     Left(&'a str),
@@ -56,7 +58,7 @@ fn minimum_of(text: &str, line: usize) -> Result<Option<u8>, LineFault> {
 }
 
 /// What the lines said of all levels.
-#[derive(Clone, Copy, Debug)]
+#[derive(Drop)]
 struct Settings<'a> {
     /// The texts, with a comma between them, at which no break is to stand, and their line.
     no_hyphen: (&'a str, usize),
@@ -105,13 +107,13 @@ fn note_levels(levels: &mut Levels, settings: Settings<'_>) -> Result<(), LineFa
     Ok(())
 }
 
-/// Takes in lines, of which the first has that number.
-fn take_lines(
+/// Takes in lines, of which the first has that number. What they said of all levels.
+fn read_lines<'a>(
     alloc: Global,
     levels: &mut Levels,
-    text: &str,
+    text: &'a str,
     first: usize,
-) -> Result<(), LineFault> {
+) -> Result<Settings<'a>, LineFault> {
     let mut settings = Settings {
         no_hyphen: ("", first),
         level: None,
@@ -126,11 +128,33 @@ fn take_lines(
             index.saturating_add(first),
         )?;
     }
-    levels.note_hiding(alloc)?;
-    let (texts, line) = settings.no_hyphen;
+    Ok(settings)
+}
+
+/// Lets no break stand at texts with a comma between them, which that line has.
+fn forbid_all(
+    alloc: Global,
+    levels: &mut Levels,
+    texts: &str,
+    line: usize,
+) -> Result<(), LineFault> {
     for text in texts.split(',') {
         levels.forbid(alloc, text.trim(), line)?;
     }
+    Ok(())
+}
+
+/// Takes in lines, of which the first has that number, and what they say of all levels.
+fn take_lines(
+    alloc: Global,
+    levels: &mut Levels,
+    text: &str,
+    first: usize,
+) -> Result<(), LineFault> {
+    let settings = read_lines(alloc, levels, text, first)?;
+    levels.note_hiding(alloc)?;
+    let (texts, line) = settings.no_hyphen;
+    forbid_all(alloc, levels, texts, line)?;
     note_levels(levels, settings)
 }
 
@@ -198,6 +222,43 @@ fn minimum(given: Option<u8>, told: Option<u8>) -> u8
     }
 }
 
+/// Takes in a file, and gives the minima.
+fn take_with_minima(
+    alloc: Global,
+    levels: &mut Levels,
+    left: Option<u8>,
+    right: Option<u8>,
+    bytes: &[u8],
+) -> Result<(u8, u8), LineFault>
+    ensures first { IfOk result (λ minima. IfSome left (λ given. minima.0 ≡ given)) }
+    ensures second { IfOk result (λ minima. IfSome right (λ given. minima.1 ≡ given)) }
+{
+    take(alloc, levels, bytes)?;
+    if left.or(levels.left).is_none() || right.or(levels.right).is_none() {
+        levels.note(What::NoMinima, 1)?;
+    }
+    Ok((minimum(left, levels.left), minimum(right, levels.right)))
+}
+
+/// The dictionary of a `.dic`, or the line of it that is faulty.
+fn dictionary_of<C: Payload, B: Listing>(
+    alloc: Global,
+    levels: &mut Levels,
+    language: Language,
+    left: Option<u8>,
+    right: Option<u8>,
+    bytes: &[u8],
+) -> Result<Dictionary<C, B>, LineFault>
+    ensures language { IfOk result (λ d. d.language ≡ language) }
+    ensures first { IfOk result (λ d. IfSome left (λ given. d.left ≡ given)) }
+    ensures second { IfOk result (λ d. IfSome right (λ given. d.right ≡ given)) }
+{
+    let (left, right) = take_with_minima(alloc, levels, left, right, bytes)?;
+    let mut parts = Parts::new(alloc);
+    levels.put_into(alloc, &mut parts)?;
+    Ok(parts.make(alloc, language, left, right)?)
+}
+
 /// Makes a dictionary of a `.dic`. Minima that are not given are those of the file, or 2, as LibreOffice has it.
 ///
 /// An extended dictionary has the changes of the file's patterns. A standard one can't have them: there such a pattern
@@ -215,13 +276,11 @@ pub fn convert_dic<C: Payload, B: Listing>(
     ensures refused { IfErr result (λ refusal. IsOfFile 0 refusal) }
 {
     let mut levels = Levels::new(alloc);
-    take(alloc, &mut levels, bytes).map_err(refusal_of)?;
-    if left.or(levels.left).is_none() || right.or(levels.right).is_none() {
-        levels.note(What::NoMinima, 1)?;
+    match dictionary_of(alloc, &mut levels, language, left, right, bytes) {
+        Ok(dictionary) => {
+            let Levels { notes, .. } = levels;
+            Ok(Converted { dictionary, notes })
+        }
+        Err(fault) => Err(refusal_of(fault)),
     }
-    let (left, right) = (minimum(left, levels.left), minimum(right, levels.right));
-    let parts = levels.parts::<C, B>(alloc).map_err(refusal_of)?;
-    let dictionary = parts.make(alloc, language, left, right)?;
-    let Levels { notes, .. } = levels;
-    Ok(Converted { dictionary, notes })
 }

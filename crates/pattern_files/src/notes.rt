@@ -4,7 +4,7 @@ use std::alloc::AllocError;
 use std::fmt;
 
 /// A line of a file: files are counted from 0, lines from 1.
-#[derive(Clone, Copy, Debug, PartialEq, Eq)]
+#[derive(Clone, Copy, Debug)]
 pub struct Spot {
     pub file: usize,
     pub line: usize,
@@ -73,7 +73,7 @@ impl fmt::Display for What {
 }
 
 /// Something noted, where it was met first, and how often.
-#[derive(Clone, Copy, Debug, PartialEq, Eq)]
+#[derive(Clone, Copy, Debug)]
 pub struct Note {
     pub what: What,
     pub first: Spot,

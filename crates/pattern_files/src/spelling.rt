@@ -14,11 +14,11 @@ ghost use Rattle.pattern_files.specs.declared.group.Group.TheVariants.{Patterns,
 
 use crate::fault::{Cause, WordFault};
 use crate::group::Group;
+use hyphenation_breaks::entry::{Entry, Listing, Payload};
+use hyphenation_dictionary::dictionary::Dictionary;
+use hyphenation_dictionary::maker::fits_key;
 use hyphenation_grammar::lines::is_utf8;
 use hyphenation_hyphenator::case_folding::refold;
-use hyphenation_dictionary::dictionary::Dictionary;
-use hyphenation_breaks::entry::{Entry, Listing, Payload};
-use hyphenation_dictionary::maker::fits_key;
 use hyphenation_trie::in_32_bits;
 use std::alloc::{AllocError, Global};
 

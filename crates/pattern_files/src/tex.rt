@@ -27,14 +27,14 @@ fn is_brace(b: u8) -> bool
 }
 
 /// A piece, and the number of its line.
-#[derive(Debug, Drop)]
+#[derive(Drop)]
 struct Piece {
     line: usize,
     text: Vec<u8>,
 }
 
 /// Reads bytes into pieces.
-#[derive(Debug, Drop)]
+#[derive(Drop)]
 struct Lexer {
     line: usize,
     in_comment: bool,
@@ -117,7 +117,7 @@ fn pieces_of(alloc: Global, bytes: &[u8]) -> Result<Vec<Piece>, AllocError>
 }
 
 /// The words of groups, and what is wrong with the groups after them.
-#[derive(Debug, Drop)]
+#[derive(Drop)]
 pub struct Scan {
     pub words: Vec<Word>,
     place: Place,

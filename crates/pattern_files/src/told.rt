@@ -10,7 +10,7 @@ use std::alloc::{AllocError, Global};
 use std::collections::HashMap;
 
 /// Where the lines of a file's head stand.
-#[derive(Clone, Copy, PartialEq, Eq)]
+#[derive(Clone, Copy)]
 enum Head {
     Other,
     /// After `hyphenmins:`.
@@ -20,7 +20,7 @@ enum Head {
 }
 
 /// The least numbers of characters, as far as they are told.
-#[derive(Clone, Copy, Debug, PartialEq, Eq)]
+#[derive(Drop)]
 pub(crate) struct Minima {
     pub(crate) left: Option<u8>,
     pub(crate) right: Option<u8>,

@@ -1,3 +1,4 @@
+use Rattle.std.proofs.lemmas.Grind.{common_steps}
 use Rattle.std.proofs.Common.{◌≡◌, ◌+◌, ◌-◌, ◌||◌, ℕ, Bool, true, false, length, drop, sym, ap, ◌∙◌, arith}
 use Rattle.std.proofs.lemmas.List.{length-drop}
 use Rattle.std.specs.List.{list_any, range_with_len}
@@ -58,3 +59,39 @@ loop-ending-preserved g c =
           ∙ ap (λ (b : Bool). b || list_any f (range_with_len (length text - length u + 1) (length u - 1))) (ap f (sym start) ∙ here)
           ∙ next_ending tree text u c.next_report-ending-in-loop-ending.result inv.ends some report;
     }
+
+pub returns-then-node-eq0 : goal.returns-then-node-eq0
+returns-then-node-eq0 g c = grind (arith, common_steps)
+
+pub own_entries-own-requires : goal.own_entries-own-requires
+own_entries-own-requires g c = grind (arith, common_steps)
+
+pub next_report-ending-requires : goal.next_report-ending-requires
+next_report-ending-requires g c = grind (arith, common_steps)
+
+pub depth-requires : goal.depth-requires
+depth-requires g c = grind (arith, common_steps)
+
+pub depth-requires-in-loop-ending : goal.depth-requires-in-loop-ending
+depth-requires-in-loop-ending g c = grind (arith, common_steps)
+
+pub overflow_sub-start : goal.overflow_sub-start
+overflow_sub-start g c = grind (arith, common_steps)
+
+pub entries-requires-clause-node : goal.entries-requires-clause-node
+entries-requires-clause-node g c = grind (arith, common_steps)
+
+pub entries-requires-clause-key : goal.entries-requires-clause-key
+entries-requires-clause-key g c = grind (arith, common_steps)
+
+pub entries-requires-clause-room : goal.entries-requires-clause-room
+entries-requires-clause-room g c = grind (arith, common_steps)
+
+pub next_report-ending-requires-in-loop-ending : goal.next_report-ending-requires-in-loop-ending
+next_report-ending-requires-in-loop-ending g c = grind (arith, common_steps)
+
+pub loop-ending-smaller : goal.loop-ending-smaller
+loop-ending-smaller g c = grind (arith, common_steps)
+
+pub returns : goal.returns
+returns g c = grind (arith, common_steps)
