@@ -1,5 +1,5 @@
 -- Whether entries carry a change: of keys by their ends, and of all that bear on a place.
-use Rattle.std.proofs.Common.{◌≡◌, ℕ, zero, suc, ◌+◌, ◌-◌, ◌<◌, ◌≤◌, ◌==◌, Bool, true, false, cond, List, [], ◌∷◌, ◌++◌, length, take, drop, filter, Option, Some, None, refl, sym, ap, ◌∙◌, arith, inl, inr}
+use Rattle.std.proofs.Common.{◌≡◌, ℕ, zero, suc, ◌+◌, ◌-◌, ◌<◌, ◌≤◌, ◌==◌, Bool, true, false, cond, List, [], ◌∷◌, ◌++◌, length, take, drop, filter, Option, Some, None, refl, sym, ap, ◌∙◌, arith, inl, inr, get_or, ◌||◌}
 use Rattle.std.specs.Prelude.{is_some}
 use Rattle.std.specs.List.{find, flat_map, range_with_len}
 use Rattle.std.specs.Option.{option_and_then}
@@ -19,7 +19,25 @@ use Rattle.hyphenation_score.specs.Scoring.{frame, bearers_between, bearers_from
 use Rattle.hyphenation_score.proofs.NumberRows.{range_more}
 use Rattle.hyphenation_score.proofs.OnePass.{ending_at, ending_is, visited_more, visited_first}
 
+or_false : (b : Bool) → (b || false) ≡ b
+or_false true = refl
+or_false false = refl
+
 module _ {C : Type 0} (change_of : C → Option Change) where
+  -- ---- one entry, and two
+
+  pub carried_one : (es : List (Entry C)) (e : Entry C) → length es ≡ 1 → e ≡ get_or es 0 e → is_some (change_of e.change) ≡ carry_change change_of es
+  carried_one [] e n is = absurd (omega arith)
+  carried_one (x ∷ []) e n is = ap (λ (y : Entry C). is_some (change_of y.change)) is ∙ sym (or_false (is_some (change_of x.change)))
+  carried_one (x ∷ y ∷ es) e n is = absurd (omega arith)
+
+  pub carried_two : (es : List (Entry C)) (a b : Entry C) → length es ≡ 2 → a ≡ get_or es 0 a → b ≡ get_or es 1 b
+      → (is_some (change_of a.change) || is_some (change_of b.change)) ≡ carry_change change_of es
+  carried_two [] a b n first second = absurd (omega arith)
+  carried_two (x ∷ es) a b n first second =
+      ap (λ (y : Entry C). is_some (change_of y.change) || is_some (change_of b.change)) first
+      ∙ ap (λ (t : Bool). is_some (change_of x.change) || t) (carried_one es b (omega arith) second)
+
   -- Those that pass a test carry none where all carry none.
   pub none_filtered : (test : Entry C → Bool) (es : List (Entry C)) → carry_change change_of es ≡ false → carry_change change_of (filter test es) ≡ false
   none_filtered test [] none = refl

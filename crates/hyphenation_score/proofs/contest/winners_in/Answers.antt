@@ -1,4 +1,7 @@
-use Rattle.std.proofs.Common.{◌≡◌, ◌+◌, ◌-◌, ◌<◌, ◌≤◌, ℕ, List, [], ◌∷◌, ◌++◌, length, map, take, drop, None, refl, ap, sym, subst, ◌∙◌, arith}
+use Rattle.hyphenation_score.proofs.OnePassInvariant.{passed_none}
+use Rattle.hyphenation_trie.specs.Links.{IsLongest}
+use Rattle.std.proofs.lemmas.Grind.{common_steps}
+use Rattle.std.proofs.Common.{◌≡◌, ◌+◌, ◌-◌, ◌<◌, ◌≤◌, ℕ, List, [], ◌∷◌, ◌++◌, length, map, take, drop, None, refl, ap, sym, subst, ◌∙◌, arith, inl, inr}
 use Rattle.std.specs.Option.{option_copied}
 use Rattle.std.specs.List.{range_with_len, sum_by}
 use Rattle.std.proofs.Math.Nat.{mul-le-mul_right}
@@ -100,3 +103,21 @@ returns-clause-winners g c =
     get_or-map option_copied items i None None within
     ∙ met_end tree framed (i + 1) (c.loop-at.at + 1) (best_of items c.loop-at.starts.items i) (omega (arith, length-frame c.args.word.now)) (c.loop-at.invariant.holds i within)
     ∙ sym (get_or-map-range_with_len f 1 n i (i + 1) None (omega (arith, c.loop-at.invariant.len)) (omega arith)))
+
+pub loop-at-init : goal.loop-at-init
+loop-at-init g c =
+    let tree = c.args.automaton.now in
+    let root = c.root-node.ensures in
+    let none = passed_none tree c.args.word.now c.invariant.ensures [] 0 0 (λ i lt. absurd (omega arith)) in
+    let nil = ap length root.text in
+    record {
+      len = grind (arith, common_steps);
+      starts = grind (arith, common_steps);
+      longest = subst (λ (k : ℕ). IsLongest tree.texts [] k) (sym root.root) none.longest;
+      holds = λ i lt. inl (grind (arith, common_steps), grind (arith, common_steps), λ s e asked. absurd (elim asked.1 [ inl less ↦ omega (arith, asked.0.0) | inr same ↦ omega (arith, same.1) ]));
+      linear = omega arith;
+      alone = λ none. omega arith;
+      least = omega arith;
+      reported = omega arith;
+      few = omega arith;
+    }
