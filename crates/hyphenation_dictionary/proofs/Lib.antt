@@ -3,4 +3,5 @@ pub mod ExceptionsLemmas
 pub mod SpotMarks
 pub mod InvariantLemmas
 pub mod PatternsLemmas
+pub mod EntryTests
 pub mod MakerInvariant

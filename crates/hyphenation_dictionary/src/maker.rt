@@ -3,9 +3,11 @@
 //! A dictionary mostly comes from its text. Who has patterns and exceptions in another form makes one of them here,
 //! and can then write it as a text.
 
-ghost use Rattle.std.specs.Prelude.{◌≡◌, ◌↔◌, IsTrue, IfOk, map, All};
+ghost use Rattle.std.specs.Prelude.{◌≡◌, ◌&&◌, ◌↔◌, IsTrue, IfOk, map, All};
 ghost use Rattle.std.specs.String.{string_bytes};
 ghost use Rattle.hyphenation_dictionary.specs.Parts.{patterns_of};
+ghost use Rattle.hyphenation_breaks.specs.Break.{is_boundary};
+ghost use Rattle.hyphenation_breaks.specs.Laws.{is_entry};
 ghost use Rattle.hyphenation_breaks.specs.Invariant.{has_letter, are_entries, are_listed};
 ghost use Rattle.hyphenation_dictionary.specs.Maker.{map_of_pairs, pair_of, fits_key};
 ghost use Rattle.hyphenation_trie.specs.Trie.{EachBeginsKey};
@@ -32,18 +34,28 @@ fn has_letter(key: &str) -> bool
     false
 }
 
+/// Whether an entry stands on a boundary of a key, with a value above 0 and a change that keeps within it.
+fn is_entry<C: Payload>(key: &str, entry: &Entry<C>) -> bool
+    ensures { result ≡ (is_boundary key.now entry.now.place && is_entry C.change_of key.now entry.now) }
+{
+    if entry.value == 0 {
+        return false;
+    }
+    stands_in(key, &(entry.place as usize, entry.change.as_change()))
+}
+
 /// Whether entries ascend on the boundaries of a key, with values above 0 and changes that keep within it.
 fn are_entries<C: Payload>(key: &str, entries: &[Entry<C>]) -> bool
-    ensures { IsTrue result ↔ IsTrue (are_entries C.change_of key.now entries.now) }
+    ensures { result ≡ are_entries C.change_of key.now entries.now }
 {
     entries_in_order::<C>();
     let mut least = 0;
     for entry in entries {
         let place = entry.place as usize;
-        if place < least || entry.value == 0 {
+        if place < least {
             return false;
         }
-        if !stands_in(key, &(place, entry.change.as_change())) {
+        if !is_entry(key, entry) {
             return false;
         }
         least = place + 1;
@@ -88,7 +100,7 @@ fn map_of<B: Listing>(
 {
     let mut words = Exceptions::with_room(alloc, exceptions.len())?;
     for (word, listed) in exceptions {
-        words.insert(word, listed)?;
+        drop(words.insert(word, listed)?);
     }
     Ok(words)
 }
