@@ -1,0 +1,63 @@
+//! What a typesetter sets at the breaks of a word, whose letters may change there.
+
+ghost use Rattle.std.specs.Prelude.{◌≡◌, ◌++◌, IfOk, map};
+ghost use Rattle.std.specs.String.{string_bytes};
+ghost use Rattle.hyphenation_segments.specs.Fits.{Stands};
+ghost use Rattle.callers.specs.Discretionaries.{Parts, parts_at};
+
+use hyphenation::hyphenator::{Break, Word};
+use std::alloc::{AllocError, Global};
+
+/// What is set at one break: `before` ends a line and `after` begins the next one, or `unbroken` stands in their place
+/// where the line is not broken there.
+#[derive(Drop)]
+pub struct Discretionary<'t> {
+    pub before: String,
+    pub after: String,
+    pub unbroken: &'t str,
+}
+
+/// What is set at a break that stands in a text.
+fn set_at<'t, B: Break>(
+    alloc: Global,
+    text: &'t str,
+    b: &B,
+    hyphen: &str,
+) -> Result<Discretionary<'t>, AllocError>
+    requires { Stands text.now 0 0 (B.meaning b.now) }
+    ensures { IfOk result (λ set.
+        record { before = string_bytes set.before; after = string_bytes set.after; unbroken = set.unbroken.now }
+        ≡ parts_at hyphen.now text.now (B.meaning b.now)) }
+{
+    let (begin, end) = b.range().unwrap();
+    let mut before = String::from_str(alloc, b.before())?;
+    before.push_str(hyphen)?;
+    let after = String::from_str(alloc, b.after())?;
+    Ok(Discretionary {
+        before,
+        after,
+        unbroken: &text[begin..end],
+    })
+}
+
+/// What is set at each break of a word, in their order. The only error is that memory was refused.
+pub fn discretionaries<'t, B: Break>(
+    alloc: Global,
+    word: &Word<'t, B>,
+    hyphen: &str,
+) -> Result<Vec<Discretionary<'t>>, AllocError>
+    ensures { IfOk result (λ v.
+        map (λ set. record {
+          before = string_bytes set.before;
+          after = string_bytes set.after;
+          unbroken =
+              set.unbroken.now;
+        }) v.items
+        ≡ map (parts_at hyphen.now word.now.text.now) (map B.meaning word.now.breaks.items)) }
+{
+    let mut all = Vec::new(alloc);
+    for b in &word.breaks {
+        all.push(set_at(alloc, word.text, b, hyphen)?)?;
+    }
+    Ok(all)
+}

@@ -1,0 +1,133 @@
+//! Words in small letters, with the way back to the word as written.
+
+use hyphenation_hyphenator::case_folding::{Shift, realign, refold};
+use std::alloc::{AllocError, Global};
+use std::borrow::CowStr;
+use std::test::Fail;
+use test_support::{holds, same, same_in};
+
+/// Whether a word folds so, with these shifts: each is where it holds from, and by how many bytes.
+fn folds(
+    alloc: Global,
+    word: &str,
+    folded: &str,
+    shifts: &[(usize, isize)],
+) -> Result<bool, AllocError> {
+    let (text, found) = refold(alloc, word)?;
+    Ok(text.as_str() == folded && are_shifts(&found, shifts))
+}
+
+fn are_shifts(found: &[Shift], shifts: &[(usize, isize)]) -> bool {
+    found.len() == shifts.len()
+        && found
+            .iter()
+            .zip(shifts)
+            .all(|(a, b)| (a.index, a.delta) == *b)
+}
+
+fn is_lent(alloc: Global, word: &str) -> Result<bool, AllocError> {
+    let (text, _) = refold(alloc, word)?;
+    Ok(matches!(text, CowStr::Borrowed(_)))
+}
+
+#[test]
+fn words_fold_with_their_shifts(rt: HostRuntime) -> Result<(), Fail> {
+    holds(
+        folds(rt.alloc(), "İẞab", "ißab", &[(0, -1), (1, -2)])?,
+        "İẞab folds to ißab",
+    )?;
+    holds(
+        folds(rt.alloc(), "\u{212a}ilim", "kilim", &[(0, -2)])?,
+        "\u{212a}ilim folds to kilim",
+    )?;
+    holds(
+        folds(rt.alloc(), "ȺAB", "ⱥab", &[(0, 1)])?,
+        "ȺAB folds to ⱥab",
+    )?;
+    holds(
+        folds(rt.alloc(), "aȺİb", "aⱥib", &[(1, 1), (4, 0)])?,
+        "aȺİb folds to aⱥib",
+    )
+}
+
+#[test]
+fn words_of_as_many_bytes_fold_without_shifts(rt: HostRuntime) -> Result<(), Fail> {
+    holds(folds(rt.alloc(), "ΑΣ", "ασ", &[])?, "ΑΣ folds to ασ")?;
+    holds(
+        folds(rt.alloc(), "I\u{307}", "i\u{307}", &[])?,
+        "I\u{307} folds to i\u{307}",
+    )
+}
+
+#[test]
+fn words_without_uppercase_are_lent(rt: HostRuntime) -> Result<(), Fail> {
+    // U+01C5 is titlecase, so it is not Uppercase.
+    for word in ["", "kilim", "i\u{307}", "\u{1c5}", "ß"] {
+        holds(
+            folds(rt.alloc(), word, word, &[])?,
+            format_args!("{word:?} folds to itself"),
+        )?;
+        holds(is_lent(rt.alloc(), word)?, format_args!("{word:?} is lent"))?;
+    }
+    Ok(())
+}
+
+#[test]
+fn words_with_uppercase_are_owned(rt: HostRuntime) -> Result<(), Fail> {
+    for word in ["I\u{307}", "ΑΣ", "\u{13a0}"] {
+        holds(
+            !is_lent(rt.alloc(), word)?,
+            format_args!("{word:?} is not lent"),
+        )?;
+    }
+    Ok(())
+}
+
+#[test]
+fn places_are_carried_back(rt: HostRuntime) -> Result<(), Fail> {
+    // The bytes of `İẞab` end at 2, 5, 6 and 7, those of `ißab` at 1, 3, 4 and 5.
+    let (_, shifts) = refold(rt.alloc(), "İẞab")?;
+    for (folded, written) in [(0, 0), (1, 2), (3, 5), (4, 6), (5, 7)] {
+        same_in(
+            format_args!("place {folded}"),
+            &realign(folded, &shifts),
+            &written,
+        )?;
+    }
+    Ok(())
+}
+
+#[test]
+fn realigned_places_are_held_at_the_ends(rt: HostRuntime) -> Result<(), Fail> {
+    let grown = [Shift { index: 0, delta: 2 }];
+    let shrunk = [Shift {
+        index: 0,
+        delta: -2,
+    }];
+    same(&realign(1, &grown), &0)?;
+    same(&realign(usize::MAX, &shrunk), &usize::MAX)?;
+    same(&realign(1, &[]), &1)
+}
+
+/// All characters, one after the other.
+fn all_characters(alloc: Global) -> Result<String, AllocError> {
+    let mut all = String::new(alloc);
+    for c in '\0'..=char::MAX {
+        all.push(c)?;
+    }
+    Ok(all)
+}
+
+/// Python's tables, of Unicode 14.0, lower 1402 capitals to another character (the İ counted
+/// as `i`), of which 25 change their number of bytes. Among the 1402 are 86 Cherokee capitals,
+/// which are their own simple case folding. From 14.0 to 18.0 came 75 capitals more, of which
+/// 4 change their number of bytes.
+#[test]
+fn all_characters_fold(rt: HostRuntime) -> Result<(), Fail> {
+    let all = all_characters(rt.alloc())?;
+    let (folded, shifts) = refold(rt.alloc(), &all)?;
+    let pairs = all.chars().zip(folded.as_str().chars());
+    let changed = pairs.filter(|(c, d)| c != d).count();
+    same(&changed, &(1402 - 86 + 75))?;
+    same(&shifts.len(), &(25 + 4))
+}

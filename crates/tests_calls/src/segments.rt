@@ -1,0 +1,489 @@
+//! Segments of words, with marks or without, and what their callers can promise.
+
+ghost use Rattle.std.specs.Prelude.{◌≡◌, ◌+◌, map, vec_len, IfOk, codes};
+ghost use Rattle.std.specs.List.{concat};
+ghost use Rattle.std.specs.String.{string_bytes};
+ghost use Rattle.hyphenation_breaks.specs.Break.{plain_break};
+ghost use Rattle.hyphenation_segments.specs.Fits.{Fits};
+ghost use Rattle.hyphenation_segments.specs.Segments.{segments, marked_segments};
+ghost use Rattle.hyphenation_segments.specs.Laws.{with_marks};
+
+use hyphenation_breaks::breaks::Break;
+use hyphenation_breaks::extended::Subregion;
+use hyphenation_segments::Word;
+use hyphenation_segments::iter::{
+    Breaks, Hyphenating, Iter, SegmentText, Segments, SegmentsExt, Texts, laws,
+};
+use std::alloc::{AllocError, Global};
+use std::iter::Copied;
+use std::slice;
+use std::test::Fail;
+use test_support::{gives, holds};
+
+// Callers of the iterators, which are proved with the tests.
+
+fn all_segments<'t>(
+    alloc: Global,
+    text: &'t str,
+    breaks: &[usize],
+) -> Result<Vec<&'t str>, AllocError>
+    requires { Fits text.now (map plain_break breaks.now) }
+    ensures { IfOk result (λ list. map (λ segment. segment.now) list.items
+        ≡ segments text.now (map plain_break breaks.now)) }
+{
+    Segments::new(text, breaks.iter().copied()).collect(alloc)
+}
+
+fn number_of_segments(text: &str, breaks: Vec<usize>) -> usize
+    requires { Fits text.now (map plain_break breaks.items) }
+    ensures { result ≡ vec_len breaks + 1 }
+{
+    laws::segments_are_one_more();
+    Segments::new(text, breaks.into_iter()).len()
+}
+
+fn joined_segments(alloc: Global, text: &str, breaks: &[usize]) -> Result<String, AllocError>
+    requires { Fits text.now (map plain_break breaks.now) }
+    ensures { IfOk result (λ joined. string_bytes joined ≡ text.now) }
+{
+    laws::segments_join();
+    let mut joined = String::new(alloc);
+    for segment in Segments::new(text, breaks.iter().copied()) {
+        joined.push_str(segment)?;
+    }
+    Ok(joined)
+}
+
+fn marked_text<I: Texts>(alloc: Global, items: Hyphenating<'_, I>) -> Result<String, AllocError>
+    ensures { IfOk result (λ joined.
+        string_bytes joined ≡ concat (marked_segments items.entry.1 (I.texts items.entry.0))) }
+{
+    let mut joined = String::new(alloc);
+    for item in items {
+        let item = item?;
+        joined.push_str(item.as_str())?;
+    }
+    Ok(joined)
+}
+
+fn marked_word<'t>(
+    alloc: Global,
+    word: Word<'t, usize>,
+    mark: &'t str,
+) -> Result<String, AllocError>
+    ensures { IfOk result (λ joined.
+        string_bytes joined ≡ with_marks mark.now word.entry.text.now word.entry.breaks.items) }
+{
+    laws::marked_segments_join();
+    let mut items = word.into_iter();
+    items.mark_with(mark);
+    marked_text(alloc, items)
+}
+
+fn number_of_marked_segments(word: &Word<'_, usize>) -> usize
+    ensures { result ≡ vec_len word.now.breaks + 1 }
+{
+    laws::segments_are_one_more();
+    word.iter().len()
+}
+
+fn all_items<'t>(
+    alloc: Global,
+    word: Word<'t, usize>,
+) -> Result<Vec<Result<String, AllocError>>, AllocError> {
+    word.into_iter().collect(alloc)
+}
+
+fn all_marked(alloc: Global, word: Word<'_, usize>) -> Result<Vec<String>, AllocError>
+    ensures { IfOk result (λ list.
+        map string_bytes list.items
+        ≡ marked_segments (codes "-") (segments word.entry.text.now (map plain_break word.entry.breaks.items))) }
+{
+    let mut list = Vec::new(alloc);
+    for item in word {
+        list.push(item?)?;
+    }
+    Ok(list)
+}
+
+fn left_unmarked<'t>(alloc: Global, word: Word<'t, usize>) -> Result<Vec<&'t str>, AllocError>
+    ensures { IfOk result (λ list.
+        map (λ segment. segment.now) list.items ≡ segments word.entry.text.now
+        (map plain_break word.entry.breaks.items)) }
+{
+    word.into_iter().segments().collect(alloc)
+}
+
+/// A text, or a refusal in its place.
+#[derive(Drop)]
+struct Given<'t>(Option<&'t str>);
+
+impl<'t> SegmentText for Given<'t> {
+    ghost use Rattle.std.specs.Option.{option_copied};
+
+    ghost held = { λ given. option_copied given.0 };
+
+    fn text(&self) -> Result<&str, AllocError> {
+        match self.0 {
+            Some(text) => Ok(text),
+            None => Err(AllocError),
+        }
+    }
+}
+
+/// Segments, of which the second from the end is refused.
+#[derive(Drop)]
+struct Refusing<'t>(Segments<'t, Copied<slice::Iter<'t, usize>>>);
+
+impl<'t> Texts for Refusing<'t> {
+    type Item = Given<'t>;
+
+    ghost texts = { λ refusing. refusing.0 };
+
+    fn pull(&mut self) -> Option<Given<'t>> {
+        let is_refused = self.0.len() == 2;
+        let text = self.0.next()?;
+        Some(Given(if is_refused { None } else { Some(text) }))
+    }
+
+    fn left(&self) -> usize {
+        self.0.len()
+    }
+}
+
+/// A break that comes again after the list has answered that it is empty.
+#[derive(Drop)]
+struct ComesAgain<B: Break + Copy> {
+    place: B,
+    answers: u8,
+}
+
+impl<B: Break + Copy> Breaks for ComesAgain<B> {
+    ghost use Rattle.std.specs.Prelude.{◌==◌, [], ◌∷◌, if◌then◌else◌, nat_lt};
+
+    type Item = B;
+
+    ghost to_come = { λ again. if again.answers == 0 then B.meaning again.place ∷ [] else [] };
+
+    ghost is_over = { λ again. nat_lt 1 again.answers };
+
+    fn pull(&mut self) -> Option<B> {
+        match self.answers {
+            0 => {
+                self.answers = 1;
+                Some(self.place)
+            }
+            1 => {
+                self.answers = 2;
+                None
+            }
+            _ => Some(self.place),
+        }
+    }
+
+    fn left(&self) -> usize {
+        if self.answers == 0 { 1 } else { 0 }
+    }
+}
+
+fn coming_again<B: Break + Copy>(place: B) -> ComesAgain<B>
+    ensures { result ≡ record { place = place; answers = 0 } }
+{
+    ComesAgain { place, answers: 0 }
+}
+
+fn word_of<'t>(alloc: Global, text: &'t str, breaks: &[usize]) -> Result<Word<'t, usize>, Fail> {
+    if Word::fits(text, breaks) {
+        Ok(Word::new(text, Vec::from_slice(alloc, breaks)?))
+    } else {
+        Err(Fail::from("the breaks do not fit"))
+    }
+}
+
+/// The segments of a word, with a bar between each two.
+fn barred(alloc: Global, text: &str, breaks: &[usize]) -> Result<String, Fail> {
+    let segments = left_unmarked(alloc, word_of(alloc, text, breaks)?)?;
+    let mut joined = String::new(alloc);
+    for (number, segment) in segments.iter().enumerate() {
+        if number > 0 {
+            joined.push('|')?;
+        }
+        joined.push_str(segment)?;
+    }
+    Ok(joined)
+}
+
+#[test]
+fn a_word_is_cut_at_its_breaks(rt: HostRuntime) -> Result<(), Fail> {
+    gives(
+        barred(rt.alloc(), "hyphenation", &[2, 6, 7]),
+        "hy|phen|a|tion",
+    )?;
+    gives(barred(rt.alloc(), "ab", &[0, 2]), "|ab|")?;
+    gives(barred(rt.alloc(), "", &[]), "")
+}
+
+/// The segments of a word with their marks, and a space between each two.
+fn spaced(alloc: Global, text: &str, breaks: &[usize]) -> Result<String, Fail> {
+    let list = all_marked(alloc, word_of(alloc, text, breaks)?)?;
+    let mut joined = String::new(alloc);
+    for (number, item) in list.iter().enumerate() {
+        if number > 0 {
+            joined.push(' ')?;
+        }
+        joined.push_str(item.as_str())?;
+    }
+    Ok(joined)
+}
+
+#[test]
+fn a_mark_stands_after_each_segment_but_the_last(rt: HostRuntime) -> Result<(), Fail> {
+    gives(
+        spaced(rt.alloc(), "hyphenation", &[2, 6, 7]),
+        "hy- phen- a- tion",
+    )?;
+    gives(spaced(rt.alloc(), "firkin", &[3]), "fir- kin")?;
+    gives(spaced(rt.alloc(), "bevies", &[]), "bevies")
+}
+
+/// The next segment with its mark.
+fn next<I: Texts>(items: &mut Hyphenating<'_, I>) -> Result<String, Fail> {
+    Ok(items.next().ok_or("none")??)
+}
+
+/// The first item of a word, the second one with a new mark, and the segment after it.
+fn marked_anew(alloc: Global) -> Result<String, Fail> {
+    let word = word_of(alloc, "hyphenation", &[2, 6, 7])?;
+    let mut items = word.iter();
+    let first = next(&mut items)?;
+    items.mark_with("=");
+    let second = next(&mut items)?;
+    let third = items.segments().next().unwrap_or("none");
+    Ok(format!(in alloc; "{first} {second} {third}")?)
+}
+
+#[test]
+fn a_new_mark_holds_for_the_segments_to_come(rt: HostRuntime) -> Result<(), Fail> {
+    gives(marked_anew(rt.alloc()), "hy- phen= a")
+}
+
+/// The first item of a word, and of a copy that is made then how many items are left, and what they join to.
+fn copied(alloc: Global) -> Result<String, Fail> {
+    let word = word_of(alloc, "hyphenation", &[2, 6, 7])?;
+    let mut items = word.iter();
+    let first = next(&mut items)?;
+    let copy = items.clone()?;
+    let left = copy.len();
+    let joined = marked_text(alloc, copy)?;
+    Ok(format!(in alloc; "{first} {left} {joined}")?)
+}
+
+#[test]
+fn a_copy_has_the_segments_to_come(rt: HostRuntime) -> Result<(), Fail> {
+    gives(copied(rt.alloc()), "hy- 3 phen-a-tion")
+}
+
+/// Writes what was handed out, and the number of those that are left.
+fn push_answer(
+    output: &mut String,
+    alloc: Global,
+    answer: Option<&str>,
+    left: usize,
+) -> Result<(), AllocError> {
+    let one = format!(in alloc; "{} {left},", answer.unwrap_or("none"))?;
+    output.push_str(&one)
+}
+
+/// What segments hand out when they are asked so many times, each with the number of those that are left after it.
+fn handed_out<B: Breaks<Item = usize>>(
+    alloc: Global,
+    mut segments: Segments<'_, B>,
+    times: usize,
+) -> Result<String, AllocError> {
+    let mut output = String::new(alloc);
+    for _ in 0..times {
+        let answer = segments.next();
+        push_answer(&mut output, alloc, answer, segments.len())?;
+    }
+    Ok(output)
+}
+
+/// The same of the segments of a word.
+fn handed_out_of(
+    alloc: Global,
+    text: &str,
+    breaks: &[usize],
+    times: usize,
+) -> Result<String, Fail> {
+    let word = word_of(alloc, text, breaks)?;
+    Ok(handed_out(alloc, word.iter().segments(), times)?)
+}
+
+#[test]
+fn a_word_without_breaks_is_one_segment(rt: HostRuntime) -> Result<(), Fail> {
+    gives(
+        handed_out_of(rt.alloc(), "bevies", &[], 3),
+        "bevies 0,none 0,none 0,",
+    )
+}
+
+#[test]
+fn each_segment_leaves_one_less(rt: HostRuntime) -> Result<(), Fail> {
+    gives(
+        handed_out_of(rt.alloc(), "hypha", &[2], 3),
+        "hy 1,pha 0,none 0,",
+    )
+}
+
+/// Whether the hints of a word with one break, before its first segment and after each, are the numbers of its segments
+/// to come.
+fn are_hints_exact(alloc: Global) -> Result<bool, Fail> {
+    let word = word_of(alloc, "hypha", &[2])?;
+    let mut segments = word.iter().segments();
+    let first = segments.size_hint();
+    let _hy = segments.next();
+    let second = segments.size_hint();
+    let _pha = segments.next();
+    let third = segments.size_hint();
+    Ok([first, second, third] == [(2, Some(2)), (1, Some(1)), (0, Some(0))])
+}
+
+#[test]
+fn hints_count_the_segments_to_come(rt: HostRuntime) -> Result<(), Fail> {
+    holds(are_hints_exact(rt.alloc())?, "the hints are 2, 1 and 0")
+}
+
+/// What the segments of `ab` hand out whose break at 1 comes again.
+fn handed_out_again(alloc: Global) -> Result<String, Fail> {
+    if Word::fits("ab", &[1]) {
+        Ok(handed_out(alloc, Segments::new("ab", coming_again(1)), 7)?)
+    } else {
+        Err(Fail::from("the break does not fit"))
+    }
+}
+
+#[test]
+fn breaks_are_asked_nothing_after_their_end(rt: HostRuntime) -> Result<(), Fail> {
+    gives(
+        handed_out_again(rt.alloc()),
+        "a 1,b 0,none 0,none 0,none 0,none 0,none 0,",
+    )
+}
+
+/// What changed segments hand out when they are asked seven times, each with the number of those that are left.
+fn handed_out_changed<B: Breaks>(
+    alloc: Global,
+    mut segments: SegmentsExt<'_, B>,
+) -> Result<String, AllocError> {
+    let mut output = String::new(alloc);
+    for _ in 0..7 {
+        match segments.next() {
+            Some(segment) => {
+                push_answer(&mut output, alloc, Some(segment?.as_str()), segments.len())?;
+            }
+            None => push_answer(&mut output, alloc, None, segments.len())?,
+        }
+    }
+    Ok(output)
+}
+
+/// What the changed segments of `ab` hand out whose break at 1 comes again.
+fn handed_out_changed_again(alloc: Global) -> Result<String, Fail> {
+    let pair: (usize, Option<&Subregion>) = (1, None);
+    if Word::fits("ab", &[pair]) {
+        let segments = SegmentsExt::new(alloc, "ab", coming_again(pair));
+        Ok(handed_out_changed(alloc, segments)?)
+    } else {
+        Err(Fail::from("the break does not fit"))
+    }
+}
+
+#[test]
+fn changed_breaks_are_asked_nothing_after_their_end(rt: HostRuntime) -> Result<(), Fail> {
+    gives(
+        handed_out_changed_again(rt.alloc()),
+        "a 1,b 0,none 0,none 0,none 0,none 0,none 0,",
+    )
+}
+
+/// What marked segments hand out when they are asked so many times, each with the number of those that are left.
+fn handed_out_marked<I: Texts>(
+    alloc: Global,
+    mut items: Hyphenating<'_, I>,
+    times: usize,
+) -> Result<String, AllocError> {
+    let mut output = String::new(alloc);
+    for _ in 0..times {
+        match items.next() {
+            Some(Ok(item)) => push_answer(&mut output, alloc, Some(&item), items.len())?,
+            Some(Err(_)) => push_answer(&mut output, alloc, Some("refused"), items.len())?,
+            None => push_answer(&mut output, alloc, None, items.len())?,
+        }
+    }
+    Ok(output)
+}
+
+/// What the marked segments of `ab` hand out whose break at 1 comes again.
+fn handed_out_marked_again(alloc: Global) -> Result<String, Fail> {
+    if Word::fits("ab", &[1]) {
+        let items = Hyphenating::new(alloc, Segments::new("ab", coming_again(1)));
+        Ok(handed_out_marked(alloc, items, 7)?)
+    } else {
+        Err(Fail::from("the break does not fit"))
+    }
+}
+
+#[test]
+fn marked_segments_ask_nothing_after_their_end(rt: HostRuntime) -> Result<(), Fail> {
+    gives(
+        handed_out_marked_again(rt.alloc()),
+        "a- 1,b 0,none 0,none 0,none 0,none 0,none 0,",
+    )
+}
+
+/// What the marked segments of `hyphenation` hand out, of which the second from the end is refused.
+fn handed_out_refusing(alloc: Global) -> Result<String, Fail> {
+    let word = word_of(alloc, "hyphenation", &[2, 6, 7])?;
+    let items = Hyphenating::new(alloc, Refusing(word.iter().segments()));
+    Ok(handed_out_marked(alloc, items, 5)?)
+}
+
+#[test]
+fn a_refusal_stands_in_its_place(rt: HostRuntime) -> Result<(), Fail> {
+    gives(
+        handed_out_refusing(rt.alloc()),
+        "hy- 3,phen- 2,refused 1,tion 0,none 0,",
+    )
+}
+
+/// What the segments of `hyphenation` join to, how many there are, and how many are promised.
+fn joined_and_counted(alloc: Global) -> Result<String, Fail> {
+    let breaks = vec![in alloc; 2, 6, 7]?;
+    if Word::fits("hyphenation", &breaks) {
+        let joined = joined_segments(alloc, "hyphenation", &breaks)?;
+        let all = all_segments(alloc, "hyphenation", &breaks)?.len();
+        let number = number_of_segments("hyphenation", breaks);
+        Ok(format!(in alloc; "{joined} {all} {number}")?)
+    } else {
+        Err(Fail::from("the breaks do not fit"))
+    }
+}
+
+#[test]
+fn callers_count_and_join(rt: HostRuntime) -> Result<(), Fail> {
+    gives(joined_and_counted(rt.alloc()), "hyphenation 4 4")
+}
+
+/// The same of `firkin` with a mark.
+fn marked_and_counted(alloc: Global) -> Result<String, Fail> {
+    let word = word_of(alloc, "firkin", &[3])?;
+    let number = number_of_marked_segments(&word);
+    let joined = marked_word(alloc, word.try_clone(alloc)?, "=")?;
+    let all = all_items(alloc, word)?.len();
+    Ok(format!(in alloc; "{joined} {all} {number}")?)
+}
+
+#[test]
+fn callers_count_and_join_with_marks(rt: HostRuntime) -> Result<(), Fail> {
+    gives(marked_and_counted(rt.alloc()), "fir=kin 2 2")
+}

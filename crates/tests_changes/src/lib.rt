@@ -1,0 +1,9 @@
+//! What no clause says of breaks that change letters, and of long words, keys, lists and dictionaries, by tests.
+#![tactic(auto)]
+
+#[cfg(test)]
+mod changes;
+#[cfg(test)]
+mod long_texts;
+#[cfg(test)]
+mod long_words;

@@ -1,0 +1,10 @@
+//! What no clause says of the programs `hyphenate` and `hyphenate-canonical`, by tests of their commands; and what the
+//! callers in `callers` answer.
+#![tactic(auto)]
+
+#[cfg(test)]
+mod canonical;
+#[cfg(test)]
+mod hyphenate;
+#[cfg(test)]
+mod of_callers;

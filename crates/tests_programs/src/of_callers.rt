@@ -1,0 +1,116 @@
+//! What the callers of `callers` answer, once each.
+
+use callers::discretionaries::discretionaries;
+use callers::line_filler::break_to_fit;
+use callers::marked_word::marked_word;
+use callers::own_exceptions::list_and_write;
+use callers::paragraphs::fill_paragraphs;
+use callers::soft_hyphens::with_soft_hyphens;
+use hyphenation::extended::Extended;
+use hyphenation::load::Error;
+use hyphenation::{Hyphenator, Load, Standard};
+use std::alloc::Global;
+use std::test::Fail;
+use test_dictionaries::{DOUBLED, dictionary};
+use test_support::{gives, holds, same};
+
+/// The breaks of `hyphenation`, in American English.
+const ENGLISH: &str = "hyphenation 1 standard\nlanguage en-us\nminima 2 3\ne hyphenation 2 6 7\n";
+
+fn hungarian(alloc: Global) -> Result<Extended, Error> {
+    let mut reader = DOUBLED.as_bytes();
+    Extended::any_from_reader(alloc, &mut reader)
+}
+
+#[test]
+fn changed_letters_are_set_at_a_break_alone(rt: HostRuntime) -> Result<(), Fail> {
+    let mut text =
+        &b"hyphenation 1 extended\nlanguage hu\nminima 2 2\ne asszonnyal 2,1,2,2,szsz\n"[..];
+    let dictionary = Extended::any_from_reader(rt.alloc(), &mut text)?;
+    let word = dictionary.hyphenate(rt.alloc(), "asszonnyal")?;
+    let all = discretionaries(rt.alloc(), &word, "-")?;
+    holds(all.len() == 1, "one break")?;
+    match all.first() {
+        Some(found) => holds(
+            found.before.as_str() == "sz-"
+                && found.after.as_str() == "sz"
+                && found.unbroken == "ssz",
+            "sz-, sz and ssz",
+        ),
+        None => Err(Fail::from("no break")),
+    }
+}
+
+#[test]
+fn the_last_break_with_room_is_taken(rt: HostRuntime) -> Result<(), Fail> {
+    let english = dictionary(rt.alloc(), ENGLISH)?;
+    let found = break_to_fit(rt.alloc(), &english, "Hyphenation", 7)?;
+    same(&found, &Some(("Hyphen", "ation")))?;
+    let none = break_to_fit(rt.alloc(), &english, "Hyphenation", 2)?;
+    same(&none, &None)
+}
+
+#[test]
+fn breaks_of_both_kinds_are_marked(rt: HostRuntime) -> Result<(), Fail> {
+    let english = dictionary(rt.alloc(), ENGLISH)?;
+    gives(
+        marked_word(rt.alloc(), &english, "Hyphenation", "-"),
+        "Hy-phen-a-tion",
+    )?;
+    let hungarian = hungarian(rt.alloc())?;
+    gives(
+        marked_word(rt.alloc(), &hungarian, "asszonnyal", "="),
+        "asz=szony=nyal",
+    )
+}
+
+/// Whether listing a word at a place answers so, and leaves this written.
+fn lists(
+    alloc: Global,
+    dictionary: &mut Standard,
+    word: &str,
+    place: usize,
+    is_listed: bool,
+    wanted: &str,
+) -> Result<bool, Fail> {
+    let mut written = Vec::new(alloc);
+    let places = Vec::from_slice(alloc, &[place])?;
+    let found = list_and_write(alloc, dictionary, word, places, &mut written)?;
+    Ok(found == is_listed && written.as_slice() == wanted.as_bytes())
+}
+
+#[test]
+fn a_word_is_listed_and_kept(rt: HostRuntime) -> Result<(), Fail> {
+    let head = "hyphenation 1 standard\nlanguage en-us\nminima 2 3\np a1b\n";
+    let mut known = dictionary(rt.alloc(), head)?;
+    holds(
+        lists(rt.alloc(), &mut known, "é", 1, false, "")?,
+        "a place within a character is refused",
+    )?;
+    let wanted = "hyphenation 1 standard\nlanguage en-us\nminima 2 3\np a1b\ne table 2\n";
+    holds(
+        lists(rt.alloc(), &mut known, "table", 2, true, wanted)?,
+        "the word is listed and written",
+    )
+}
+
+#[test]
+fn each_paragraph_is_filled_by_itself(rt: HostRuntime) -> Result<(), Fail> {
+    let text = "hyphenation 1 standard\nlanguage en-us\nminima 2 3\ne noble 2\ne accents 2\n";
+    let dictionary = dictionary(rt.alloc(), text)?;
+    gives(
+        fill_paragraphs(rt.alloc(), &dictionary, "I know\r\n\nnoble accents", 10),
+        "I know\n\nnoble ac-\ncents\n",
+    )
+}
+
+#[test]
+fn words_get_soft_hyphens_once(rt: HostRuntime) -> Result<(), Fail> {
+    let english = dictionary(rt.alloc(), ENGLISH)?;
+    let marked = "On hy\u{ad}phen\u{ad}a\u{ad}tion.";
+    gives(
+        with_soft_hyphens(rt.alloc(), &english, "On hyphenation."),
+        marked,
+    )?;
+    gives(with_soft_hyphens(rt.alloc(), &english, marked), marked)
+}

@@ -1,0 +1,12 @@
+//! What no clause says of whole runs: what a run writes and why it writes nothing, and faults of its readers and of its
+//! writer, by tests.
+#![tactic(auto)]
+
+#[cfg(test)]
+mod readers;
+#[cfg(test)]
+mod run_faults;
+#[cfg(test)]
+mod runs;
+#[cfg(test)]
+mod scores;

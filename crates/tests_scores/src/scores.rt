@@ -1,0 +1,139 @@
+//! The scores of words, and how many look-ups they take.
+
+use hyphenation_dictionary::dictionary::Standard;
+use hyphenation_score::Score;
+use std::alloc::Global;
+use std::test::Fail;
+use test_dictionaries::{FIRKIN, dictionary};
+use test_questions::look_ups::counted;
+use test_questions::{Question, asked, values_by};
+use test_support::{gives, holds, same, same_in};
+
+#[test]
+fn the_greatest_value_decides_each_place(rt: HostRuntime) -> Result<(), Fail> {
+    let words = "firkin firkins FIRKIN  f";
+    gives(
+        asked(
+            rt.alloc(),
+            dictionary(rt.alloc(), FIRKIN),
+            Question::Values(words),
+        ),
+        "0 2 5 2 0 ,0 2 5 1 0 0 ,0 0 0 0 0 ,,,",
+    )
+}
+
+#[test]
+fn a_dot_stands_for_an_edge_and_for_a_dot(rt: HostRuntime) -> Result<(), Fail> {
+    gives(
+        values_by(rt.alloc(), "p .b1c", "a.bcd bc abc"),
+        "0 0 1 0 ,1 ,0 0 ,",
+    )
+}
+
+#[test]
+fn digits_and_longer_keys_have_their_values(rt: HostRuntime) -> Result<(), Fail> {
+    gives(values_by(rt.alloc(), "p x\\11y", "x1y"), "0 1 ,")?;
+    gives(values_by(rt.alloc(), "p a1\np aa", "aaa"), "1 1 ,")
+}
+
+/// The patterns that occur in `firkin`.
+const PATTERNS: &str = "p .fi2\np i2r\np r2k\np r5kin\np k1in\np k2in.";
+
+#[test]
+fn a_score_takes_few_look_ups(rt: HostRuntime) -> Result<(), Fail> {
+    let count = counted(rt.alloc(), PATTERNS, "firkin")?;
+    holds(
+        8 <= count.made() && count.made() <= 16,
+        "firkin: 8 to 16 look-ups",
+    )?;
+    same(&count.reported(), &6)?;
+    let count = counted(rt.alloc(), PATTERNS, "firkins")?;
+    holds(
+        9 <= count.made() && count.made() <= 18,
+        "firkins: 9 to 18 look-ups",
+    )?;
+    same(&count.reported(), &5)
+}
+
+#[test]
+fn without_keys_each_byte_of_the_frame_is_looked_up_once(rt: HostRuntime) -> Result<(), Fail> {
+    let count = counted(rt.alloc(), "", "abc")?;
+    same(&count.made(), &5)?;
+    same(&count.reported(), &0)?;
+    gives(values_by(rt.alloc(), "", "abc"), "0 0 ,")
+}
+
+const TWENTY: &str = "aaaaaaaaaaaaaaaaaaaa";
+
+#[test]
+fn no_byte_is_read_again(rt: HostRuntime) -> Result<(), Fail> {
+    let count = counted(rt.alloc(), "p aaaaaaa1b", TWENTY)?;
+    holds(
+        22 <= count.made() && count.made() <= 44,
+        "22 to 44 look-ups",
+    )?;
+    same(&count.reported(), &0)?;
+    gives(
+        values_by(rt.alloc(), "p aaaaaaa1b", TWENTY),
+        "0 0 0 0 0 0 0 0 0 0 0 0 0 0 0 0 0 0 0 ,",
+    )
+}
+
+#[test]
+fn no_byte_is_read_again_where_keys_end(rt: HostRuntime) -> Result<(), Fail> {
+    let count = counted(rt.alloc(), "p aaaaaaa1", TWENTY)?;
+    holds(
+        22 <= count.made() && count.made() <= 44,
+        "22 to 44 look-ups",
+    )?;
+    same(&count.reported(), &14)?;
+    gives(
+        values_by(rt.alloc(), "p aaaaaaa1", TWENTY),
+        "0 0 0 0 0 0 1 1 1 1 1 1 1 1 1 1 1 1 1 ,",
+    )
+}
+
+/// The number of keys that a dictionary of these lines reports in a word.
+fn reported(alloc: Global, lines: &str, word: &str) -> Result<u128, Fail> {
+    Ok(counted(alloc, lines, word)?.reported())
+}
+
+#[test]
+fn each_key_is_reported_where_it_stands(rt: HostRuntime) -> Result<(), Fail> {
+    let alloc = rt.alloc();
+    same(&reported(alloc, "p a1\np aa", "aaa")?, &5)?;
+    same(&reported(alloc, "p a1\np aa\np .aa\np aa.", "aaa")?, &7)?;
+    same(&reported(alloc, "p abc1d", "abc")?, &0)?;
+    same(
+        &reported(alloc, "p he2\np she1\np his3\np hers1", "ushers")?,
+        &3,
+    )
+}
+
+#[test]
+fn odd_values_denote_opportunities(rt: HostRuntime) -> Result<(), Fail> {
+    for value in 0..=9u8 {
+        same_in(
+            value,
+            &Standard::denotes_opportunity(value),
+            &(value % 2 == 1),
+        )?;
+    }
+    Ok(())
+}
+
+#[test]
+fn the_order_of_lines_changes_no_score(rt: HostRuntime) -> Result<(), Fail> {
+    gives(
+        values_by(rt.alloc(), "p k1in\np k2in.\np r5kin", "firkin"),
+        "0 0 5 2 0 ,",
+    )?;
+    gives(
+        values_by(rt.alloc(), "p r5kin\np k2in.\np k1in", "firkin"),
+        "0 0 5 2 0 ,",
+    )?;
+    gives(
+        values_by(rt.alloc(), "p k2in.\np k1in\np r5kin", "firkin"),
+        "0 0 5 2 0 ,",
+    )
+}

@@ -1,0 +1,119 @@
+//! How words are broken by dictionaries that are read from texts.
+
+use hyphenation::Standard;
+use hyphenation::hyphenator::{Hyphenator, Word};
+use hyphenation::iter::Iter;
+use std::alloc::{AllocError, Global};
+use std::test::Fail;
+use test_dictionaries::{FIRKIN, dictionary};
+use test_questions::{Question, asked};
+use test_support::{gives, holds};
+
+const WORDS: &str =
+    "hyphenation 1 standard\nlanguage en-us\nminima 2 3\ne anfractuous 2 6 8\ne hyphenation 2 6 7\ne anisotropic 2 5 9\ne capital 3 4\ne mucilaginous 2 8\ne micro 2\ne idiom 2\ne bevies\ne hypha 2\n";
+
+const NAMES: &str =
+    "hyphenation 1 standard\nlanguage tr\nminima 2 2\ne ibrahim 2 4\ne ilginç 2\ne kilim 2\n";
+
+const SHORT: &str = "hyphenation 1 standard\nlanguage x\nminima 1 1\ne ißab 3\ne ⱥab 4\np q1q\n";
+
+const PATTERNS: &str = "hyphenation 1 standard\nlanguage x\nminima 1 1\np i1l\np ß1a\np ⱥa1b\n";
+
+/// The breaks of words by the dictionary of a text.
+fn places_by(alloc: Global, text: &str, words: &str) -> Result<String, Fail> {
+    asked(alloc, dictionary(alloc, text), Question::Places(words))
+}
+
+#[test]
+fn words_break_at_patterns(rt: HostRuntime) -> Result<(), Fail> {
+    gives(
+        places_by(rt.alloc(), FIRKIN, "firkin firkins FIRKINS "),
+        "3 ,3 4 ,3 4 ,,",
+    )
+}
+
+#[test]
+fn words_break_at_exceptions_alone(rt: HostRuntime) -> Result<(), Fail> {
+    let words = "anfractuous hyphenation anisotropic bevies hypha";
+    gives(
+        places_by(rt.alloc(), WORDS, words),
+        "2 6 8 ,2 6 7 ,2 5 ,,2 ,",
+    )
+}
+
+#[test]
+fn capitals_break_where_their_small_letters_do(rt: HostRuntime) -> Result<(), Fail> {
+    gives(
+        places_by(rt.alloc(), WORDS, "CAPITAL MİCRO İDİOM MUCİLAGİNOUS"),
+        "3 4 ,3 ,3 ,2 10 ,",
+    )?;
+    gives(
+        places_by(rt.alloc(), NAMES, "İbrahim İLGİNÇ \u{212a}ilim"),
+        "3 5 ,3 ,4 ,",
+    )
+}
+
+#[test]
+fn places_after_letters_of_another_length_are_carried_back(rt: HostRuntime) -> Result<(), Fail> {
+    gives(places_by(rt.alloc(), SHORT, "İẞab ȺAB"), "5 ,3 ,")?;
+    gives(
+        places_by(rt.alloc(), PATTERNS, "\u{212a}ilim İẞab ȺAB"),
+        "4 ,5 ,3 ,",
+    )
+}
+
+#[test]
+fn soft_hyphens_alone_break_their_word(rt: HostRuntime) -> Result<(), Fail> {
+    let words = "\u{ad}ab fir\u{ad}kin ri\u{ad}bo\u{ad}nu\u{ad}cle\u{ad}ase";
+    gives(places_by(rt.alloc(), FIRKIN, words), "0 ,3 ,2 6 10 15 ,")
+}
+
+/// Words with marks at their breaks, by the dictionary of exceptions.
+fn marked_words(alloc: Global, words: &str) -> Result<String, Fail> {
+    asked(alloc, dictionary(alloc, WORDS), Question::Marked(words))
+}
+
+#[test]
+fn marks_stand_at_the_breaks(rt: HostRuntime) -> Result<(), Fail> {
+    let words = "hyphenation CAPITAL MUCİLAGİNOUS bevies \u{ad}ab  Hypha";
+    let broken = "hy=phen=a=tion CAP=I=TAL MU=CİLAGİ=NOUS bevies =\u{ad}ab  Hy=pha ";
+    gives(marked_words(rt.alloc(), words), broken)
+}
+
+/// The items of a word, joined; at first the mark is `-`.
+fn joined_items(alloc: Global, dictionary: &Standard, word: &str) -> Result<String, AllocError> {
+    let mut joined = String::new(alloc);
+    for item in dictionary.hyphenate(alloc, word)? {
+        joined.push_str(item?.as_str())?;
+    }
+    Ok(joined)
+}
+
+#[test]
+fn the_first_mark_is_a_hyphen(rt: HostRuntime) -> Result<(), Fail> {
+    let dictionary = dictionary(rt.alloc(), WORDS)?;
+    gives(
+        joined_items(rt.alloc(), &dictionary, "Hyphenation"),
+        "Hy-phen-a-tion",
+    )
+}
+
+/// Whether the segments of a word join to it, and are one more than its breaks.
+fn is_joined(alloc: Global, dictionary: &Standard, word: &str) -> Result<bool, AllocError> {
+    let found = dictionary.hyphenate(alloc, word)?;
+    let mut joined = String::new(alloc);
+    for segment in found.iter().segments() {
+        joined.push_str(segment)?;
+    }
+    let number = found.breaks.len().saturating_add(1);
+    Ok(joined.as_str() == word && found.iter().len() == number)
+}
+
+#[test]
+fn the_parts_of_a_long_word_join_to_it(rt: HostRuntime) -> Result<(), Fail> {
+    let dictionary = dictionary(rt.alloc(), WORDS)?;
+    for word in "hyphenation anfractuous unknown İDİOM a\u{ad}b".split(' ') {
+        holds(is_joined(rt.alloc(), &dictionary, word)?, word)?;
+    }
+    Ok(())
+}

@@ -1,0 +1,120 @@
+//! Dictionary texts read, and written again.
+
+use hyphenation_breaks::extended::Subregion;
+use hyphenation_dictionary::dictionary::{Extended, Standard};
+use hyphenation_grammar::Cause;
+use hyphenation_reader::reader::{Refusal, read_extended, read_standard};
+use hyphenation_writer::writer::{write_extended, write_standard};
+use std::alloc::{AllocError, Global};
+use std::test::Fail;
+use test_support::{holds, same, same_bytes};
+
+const STANDARD: &[u8] =
+    b"hyphenation 1 standard\nlanguage en-us\nminima 2 3\n\n# a comment\np .a1b\np c2\ne table 2\ne a\\sb\n";
+
+const EXTENDED: &[u8] =
+    b"hyphenation 1 extended\nlanguage hu\nminima 2 2\n# two kinds\n\ne kilim 2\np s1szo0\np .fi2\np a1b 1,1,0,1,x\ne \\e\ne ab 1,1,1,2,a,b\n";
+
+fn standard(alloc: Global) -> Result<Standard, Fail> {
+    Ok(read_standard(alloc, STANDARD).ok().ok_or("a dictionary")?)
+}
+
+fn extended(alloc: Global) -> Result<Extended, Fail> {
+    Ok(read_extended(alloc, EXTENDED).ok().ok_or("a dictionary")?)
+}
+
+#[test]
+fn a_text_gives_its_head_lines(rt: HostRuntime) -> Result<(), Fail> {
+    let dictionary = standard(rt.alloc())?;
+    same(&dictionary.language().code(), &"en-us")?;
+    same(&dictionary.minima(), &(2, 3))
+}
+
+#[test]
+fn a_text_gives_its_exceptions(rt: HostRuntime) -> Result<(), Fail> {
+    let dictionary = standard(rt.alloc())?;
+    same(&dictionary.listed("table"), &Some([2].as_slice()))?;
+    holds(dictionary.listed("a b").is_some(), "a b is listed")?;
+    holds(dictionary.listed("tab").is_none(), "tab is not listed")
+}
+
+#[test]
+fn an_extended_text_gives_its_head_lines(rt: HostRuntime) -> Result<(), Fail> {
+    let dictionary = extended(rt.alloc())?;
+    same(&dictionary.language().code(), &"hu")?;
+    same(&dictionary.minima(), &(2, 2))
+}
+
+#[test]
+fn an_extended_text_gives_its_exceptions(rt: HostRuntime) -> Result<(), Fail> {
+    let dictionary = extended(rt.alloc())?;
+    same(&dictionary.listed("kilim"), &Some([(2, None)].as_slice()))?;
+    holds(dictionary.listed("").is_some(), "the empty word is listed")
+}
+
+#[test]
+fn all_after_the_fourth_comma_is_the_substitution(rt: HostRuntime) -> Result<(), Fail> {
+    let dictionary = extended(rt.alloc())?;
+    let change = Subregion {
+        left: 1,
+        right: 1,
+        substitution: String::from_str(rt.alloc(), "a,b")?,
+        breakpoint: 2,
+    };
+    same(
+        &dictionary.listed("ab"),
+        &Some([(1, Some(change))].as_slice()),
+    )
+}
+
+/// The fault for which an extended text of three good head lines and this one is refused, if any.
+fn fault_of(alloc: Global, line: &str) -> Result<Option<(usize, Cause)>, AllocError> {
+    let text = format!(in alloc; "hyphenation 1 extended\nlanguage hu\nminima 2 2\n{line}\n")?;
+    match read_extended(alloc, text.as_bytes()) {
+        Ok(_) => Ok(None),
+        Err(Refusal::Memory) => Err(AllocError),
+        Err(Refusal::Fault { line, cause }) => Ok(Some((line, cause))),
+    }
+}
+
+#[test]
+fn a_breakpoint_within_a_character_is_refused(rt: HostRuntime) -> Result<(), Fail> {
+    let fault = fault_of(rt.alloc(), "e ab 1,0,0,1,é")?;
+    same(&fault, &Some((4, Cause::Change)))
+}
+
+#[test]
+fn an_empty_text_is_no_number(rt: HostRuntime) -> Result<(), Fail> {
+    let fault = fault_of(rt.alloc(), "e ab 1,0,\\e,0,x")?;
+    same(&fault, &Some((4, Cause::Token)))
+}
+
+fn standard_again(alloc: Global, text: &[u8]) -> Result<Vec<u8>, Refusal> {
+    let dictionary = read_standard(alloc, text)?;
+    Ok(write_standard(alloc, &dictionary)?)
+}
+
+fn extended_again(alloc: Global, text: &[u8]) -> Result<Vec<u8>, Refusal> {
+    let dictionary = read_extended(alloc, text)?;
+    Ok(write_extended(alloc, &dictionary)?)
+}
+
+#[test]
+fn lines_stand_in_the_order_of_their_bytes(rt: HostRuntime) -> Result<(), Fail> {
+    let read =
+        b"hyphenation 1 standard\nlanguage hu\nminima 2 13\n# two kinds\n\ne kilim 2 3\np s1szo0\np x\\11y{\np a\\s1b\np .fi2\ne \\e\ne k\\sa 0";
+    let wanted =
+        b"hyphenation 1 standard\nlanguage hu\nminima 2 13\np .fi2\np a\\s1b\np s1szo\np x\\11y{\ne \\e\ne k\\sa 0\ne kilim 2 3\n";
+    let written = standard_again(rt.alloc(), read).ok().ok_or("a text")?;
+    same_bytes("a standard text", &written, wanted)
+}
+
+#[test]
+fn changes_and_great_values_are_written(rt: HostRuntime) -> Result<(), Fail> {
+    let read =
+        b"hyphenation 2 extended\nlanguage hu\nminima 0 255\np a9s\\{{255} 1,1,1,2,a,b 3,0,0,0,\\e\ne ab 1,1,1,2,a,b 2\np .{10}b\\1";
+    let wanted =
+        b"hyphenation 2 extended\nlanguage hu\nminima 0 255\np .{10}b\\1\np a9s\\{{255} 1,1,1,2,a,b 3,0,0,0,\\e\ne ab 1,1,1,2,a,b 2\n";
+    let written = extended_again(rt.alloc(), read).ok().ok_or("a text")?;
+    same_bytes("an extended text", &written, wanted)
+}

@@ -1,0 +1,168 @@
+//! Edits of the exceptions of a dictionary, judged and done one by one.
+
+use hyphenation_breaks::extended::Subregion;
+use hyphenation_dictionary::dictionary::{Extended, Standard};
+use hyphenation_grammar::form::Kind;
+use hyphenation_reader::edits::apply_edit;
+use hyphenation_reader::reader::{read_extended, read_standard};
+use std::alloc::Global;
+use std::test::Fail;
+use test_support::{holds, same, same_in};
+
+fn standard(alloc: Global) -> Result<Standard, Fail> {
+    let text = b"hyphenation 1 standard\nlanguage en-us\nminima 2 3\ne other 2\ne \\e\n";
+    Ok(read_standard(alloc, text).ok().ok_or("a dictionary")?)
+}
+
+fn extended(alloc: Global) -> Result<Extended, Fail> {
+    let text = b"hyphenation 2 extended\nlanguage hu\nminima 2 2\ne other 2\n";
+    Ok(read_extended(alloc, text).ok().ok_or("a dictionary")?)
+}
+
+fn is_standard(alloc: Global, edit: &str) -> Result<bool, Fail> {
+    Ok(apply_edit(alloc, Kind::Standard, &mut standard(alloc)?, edit)?)
+}
+
+fn is_extended(alloc: Global, edit: &str) -> Result<bool, Fail> {
+    Ok(apply_edit(alloc, Kind::Extended, &mut extended(alloc)?, edit)?)
+}
+
+/// Whether an edit is good for a standard dictionary, and for an extended one.
+fn judged(alloc: Global, edit: &str) -> Result<(bool, bool), Fail> {
+    Ok((is_standard(alloc, edit)?, is_extended(alloc, edit)?))
+}
+
+#[test]
+fn some_edits_are_good_for_both_kinds(rt: HostRuntime) -> Result<(), Fail> {
+    let edits: [&str; 11] = [
+        "+firkins",
+        "+firkins 3 4",
+        "+other 3",
+        "+other",
+        "+\\e",
+        "+a{b",
+        "+ab 0 1 2",
+        "-other",
+        "-firkins",
+        "-\\e",
+        "-a\\sb",
+    ];
+    for edit in edits {
+        same_in(
+            format_args!("{edit:?}"),
+            &judged(rt.alloc(), edit)?,
+            &(true, true),
+        )?;
+    }
+    Ok(())
+}
+
+#[test]
+fn some_edits_are_refused_by_both_kinds(rt: HostRuntime) -> Result<(), Fail> {
+    let edits: [&str; 23] = [
+        "",
+        "+",
+        "-",
+        "*firkins",
+        "firkins",
+        " +firkins",
+        "+ firkins",
+        "+firkins ",
+        "+firkins  3",
+        "+firkins 8",
+        "+firkins 4 3",
+        "+firkins 03",
+        "+firkins three",
+        "+esszé 5",
+        "+fir\\kins",
+        "+fir\rkins",
+        "+firkins\n",
+        "-other\n",
+        "-other ",
+        "-firkins 3",
+        "-a 1",
+        "+ab 1,0,0,3,xy",
+        "-ab 1,1,1,1,xy",
+    ];
+    for edit in edits {
+        same_in(
+            format_args!("{edit:?}"),
+            &judged(rt.alloc(), edit)?,
+            &(false, false),
+        )?;
+    }
+    Ok(())
+}
+
+#[test]
+fn changes_are_for_extended_dictionaries_alone(rt: HostRuntime) -> Result<(), Fail> {
+    let edits: [&str; 3] = [
+        "+asszonnyal 2,1,2,2,szsz",
+        "+asszonnyal 2,1,2,2,szsz 6,1,2,2,nyny",
+        "+ab 1,1,1,1,xy 2",
+    ];
+    for edit in edits {
+        same_in(
+            format_args!("{edit:?}"),
+            &judged(rt.alloc(), edit)?,
+            &(false, true),
+        )?;
+    }
+    Ok(())
+}
+
+/// Does an edit, which is to be good or not.
+fn edited(alloc: Global, dictionary: &mut Standard, edit: &str, is_good: bool) -> Result<(), Fail> {
+    let found = apply_edit(alloc, Kind::Standard, dictionary, edit)?;
+    same_in(edit, &found, &is_good)
+}
+
+/// The one place that is listed for a word, where there is just one.
+fn place_of(dictionary: &Standard, word: &str) -> Option<usize> {
+    match dictionary.listed(word)? {
+        [place] => Some(*place),
+        _ => None,
+    }
+}
+
+#[test]
+fn the_last_edit_of_a_word_decides(rt: HostRuntime) -> Result<(), Fail> {
+    let mut dictionary = standard(rt.alloc())?;
+    edited(rt.alloc(), &mut dictionary, "+firkins 3", true)?;
+    edited(rt.alloc(), &mut dictionary, "+firkins 4", true)?;
+    same(&place_of(&dictionary, "firkins"), &Some(4))?;
+    edited(rt.alloc(), &mut dictionary, "+firkins 8", false)?;
+    same(&place_of(&dictionary, "firkins"), &Some(4))
+}
+
+#[test]
+fn a_removed_word_is_listed_no_more(rt: HostRuntime) -> Result<(), Fail> {
+    let mut dictionary = standard(rt.alloc())?;
+    edited(rt.alloc(), &mut dictionary, "+firkins 3", true)?;
+    edited(rt.alloc(), &mut dictionary, "-firkins", true)?;
+    edited(rt.alloc(), &mut dictionary, "-\\e", true)?;
+    holds(
+        dictionary.listed("firkins").is_none(),
+        "firkins is not listed",
+    )?;
+    holds(
+        dictionary.listed("").is_none(),
+        "the empty word is not listed",
+    )?;
+    same(&dictionary.listed("other"), &Some([2].as_slice()))
+}
+
+#[test]
+fn a_change_is_listed_as_it_is_written(rt: HostRuntime) -> Result<(), Fail> {
+    let mut dictionary = extended(rt.alloc())?;
+    let edit = "+asszonnyal 2,1,2,2,szsz 8";
+    holds(
+        apply_edit(rt.alloc(), Kind::Extended, &mut dictionary, edit)?,
+        edit,
+    )?;
+    let change = Subregion::new(1, 2, String::from_str(rt.alloc(), "szsz")?, 2);
+    same(
+        &dictionary.listed("asszonnyal"),
+        &Some([(2, Some(change)), (8, None)].as_slice()),
+    )
+}
