@@ -1,6 +1,6 @@
 use Rattle.std.specs.Prelude.{is_some}
 use Rattle.hyphenation_breaks.specs.declared.entry.Entry.{Entry}
-use Rattle.std.proofs.Common.{◌≡◌, ◌+◌, ◌==◌, ◌||◌, ◌∙◌, Bool, max, ap, arith, filter, slice_index, take, ℕ}
+use Rattle.std.proofs.Common.{◌+◌, ◌==◌, ◌||◌, ◌∙◌, Bool, max, ap, arith, filter, slice_index, ℕ}
 use Rattle.std.proofs.lemmas.List.{take_all}
 use Rattle.hyphenation_score.specs.Scoring.{greatest_value}
 use Rattle.hyphenation_score.proofs.CarriedChanges.{carried_one, carried_two}
