@@ -44,12 +44,21 @@ pub(crate) enum Item<C: Drop, B: Drop> {
 
 /// Lists that one line filled and a later one may fill again, so that not each line asks for memory. What stands
 /// in them means nothing.
-#[derive(Drop)]
 pub(crate) struct Scratch<C: Drop> {
     /// What a pattern's token says.
     pub pattern: PatternToken,
     /// The entries of a key.
     pub entries: Vec<Entry<C>>,
+}
+
+// It does what the derived one would. As a call it is one step in the proof of a function that holds these lists; the
+// derived one is a step for each list, at each way out.
+impl<C: Drop> Drop for Scratch<C> {
+    fn drop(self) {
+        let Scratch { pattern, entries } = self;
+        drop(pattern);
+        drop(entries);
+    }
 }
 
 impl<C: Drop> Scratch<C> {

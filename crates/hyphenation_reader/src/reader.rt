@@ -51,10 +51,21 @@ impl From<AllocError> for Refusal {
 }
 
 /// What the lines so far spell.
-#[derive(Drop)]
 struct Builder<C: Payload, B: Listing> {
     patterns: Trie<Entry<C>>,
     exceptions: Exceptions<B>,
+}
+
+// It does what the derived one would, in one step of a proof.
+impl<C: Payload, B: Listing> Drop for Builder<C, B> {
+    fn drop(self) {
+        let Builder {
+            patterns,
+            exceptions,
+        } = self;
+        drop(patterns);
+        drop(exceptions);
+    }
 }
 
 impl<C: Payload, B: Listing> Builder<C, B> {
@@ -68,6 +79,18 @@ impl<C: Payload, B: Listing> Builder<C, B> {
             patterns: Trie::with_room(alloc, bytes / 6)?,
             exceptions: Exceptions::with_room(alloc, bytes / 40)?,
         })
+    }
+
+    /// What it holds.
+    fn into_parts(self) -> (Trie<Entry<C>>, Exceptions<B>)
+        ensures patterns { result.0 ≡ self.patterns }
+        ensures exceptions { result.1 ≡ self.exceptions }
+    {
+        let Builder {
+            patterns,
+            exceptions,
+        } = self;
+        (patterns, exceptions)
     }
 
     /// Takes in a key with its entries, in place of those that it had. Whether it had any.
@@ -258,6 +281,46 @@ fn read_head(alloc: Global, form: Form, bytes: &[u8]) -> Result<Head<'_>, Refusa
     })
 }
 
+/// Takes in what the lines after the head spell, or tells the first fault among them.
+fn add_lines<C: Payload, B: Listing>(
+    alloc: Global,
+    form: Form,
+    bytes: &[u8],
+    after_head: &[u8],
+    builder: &mut Builder<C, B>,
+) -> Result<(), Refusal>
+    requires long { 2 < length (lines_of bytes.now) }
+    requires head { fault_after form [] (lines_of bytes.now)
+        ≡ fault_after form (take 3 (lines_of bytes.now)) (drop 3 (lines_of bytes.now)) }
+    requires idle { are_idle (take 3 (lines_of bytes.now)) ≡ true }
+    requires rest { IsAfterHead bytes.now after_head.now }
+    requires empty { items_held builder.old ≡ no_items }
+    requires begins { EachBeginsKey builder.old.patterns }
+    ensures accepted { OnOk result (fault_after form [] (lines_of bytes.now) ≡ None) }
+    ensures spelt { OnOk result (items_held builder.new
+        ≡ items_of_lines form.version C.payload_of B.listing_of (lines_of bytes.now)) }
+    ensures begins { OnOk result (EachBeginsKey builder.new.patterns) }
+    ensures refused { IfErr result (λ refusal. IsRefusal refusal (fault_after form [] (lines_of bytes.now))) }
+{
+    let mut scratch = Scratch::new(alloc);
+    // Where the whole text is UTF-8, as it is wherever none is refused for that, so is each line, and none is tested.
+    let known = is_utf8(bytes);
+    let mut rest = after_head;
+    let mut count: usize = 3;
+    while let Some((line, after)) = next_line(rest) {
+        let item = item_at(alloc, form, count + 1, line, known, &mut scratch)?;
+        if let Some(cause) = builder.add(item, &mut scratch)? {
+            return Err(Refusal::Fault {
+                line: count + 1,
+                cause,
+            });
+        }
+        count += 1;
+        rest = after;
+    }
+    Ok(())
+}
+
 /// What the lines after the head spell together, or the first fault among them.
 fn read_lines<C: Payload, B: Listing>(
     alloc: Global,
@@ -277,22 +340,7 @@ fn read_lines<C: Payload, B: Listing>(
     ensures refused { IfErr result (λ refusal. IsRefusal refusal (fault_after form [] (lines_of bytes.now))) }
 {
     let mut builder = Builder::new(alloc, bytes.len())?;
-    let mut scratch = Scratch::new(alloc);
-    // Where the whole text is UTF-8, as it is wherever none is refused for that, so is each line, and none is tested.
-    let known = is_utf8(bytes);
-    let mut rest = after_head;
-    let mut count: usize = 3;
-    while let Some((line, after)) = next_line(rest) {
-        let item = item_at(alloc, form, count + 1, line, known, &mut scratch)?;
-        if let Some(cause) = builder.add(item, &mut scratch)? {
-            return Err(Refusal::Fault {
-                line: count + 1,
-                cause,
-            });
-        }
-        count += 1;
-        rest = after;
-    }
+    add_lines(alloc, form, bytes, after_head, &mut builder)?;
     Ok(builder)
 }
 
@@ -311,10 +359,7 @@ fn dictionary_of<C: Payload, B: Listing>(
     ensures { IfOk result (λ dictionary. dictionary
         ≡ contents_in form.version C.payload_of B.listing_of (lines_of bytes.now)) }
 {
-    let Builder {
-        patterns,
-        exceptions,
-    } = builder;
+    let (patterns, exceptions) = builder.into_parts();
     spelt_is_sound();
     let patterns = patterns.freeze(alloc)?;
     Ok(parts::dictionary_of(head.language, head.left, head.right, patterns, exceptions))

@@ -5,7 +5,7 @@ use Rattle.hyphenation_grammar.specs.Judging.{fault_after}
 use Rattle.hyphenation_grammar.specs.Lines.{lines_of}
 use Rattle.hyphenation_grammar.specs.Reading.{items_of_lines}
 use Rattle.hyphenation_trie.specs.Trie.{EachBeginsKey}
-use Rattle.hyphenation_reader.proofs.reader.read_lines.Given as goal
+use Rattle.hyphenation_reader.proofs.reader.add_lines.Given as goal
 
 abbrev pub invariant-loop-line : goal.invariant-loop-line
 invariant-loop-line g l = record {

@@ -4,12 +4,12 @@ use Rattle.hyphenation_grammar.specs.Lines.{lines_of}
 use Rattle.hyphenation_grammar.specs.Reading.{items_of_lines}
 use Rattle.hyphenation_reader.proofs.JudgingHead.{idle-spelt}
 use Rattle.hyphenation_reader.proofs.ReadingLines.{own-fault, repeated-fault, goes-on, spells-more, no_cause, refused, rest_is, reaches, ended, ended-fault}
-use Rattle.hyphenation_reader.proofs.reader.read_lines.Goals as goal
+use Rattle.hyphenation_reader.proofs.reader.add_lines.Goals as goal
 
 pub returns-in_err-item-clause-refused : goal.returns-in_err-item-clause-refused
 returns-in_err-item-clause-refused g c =
     let at = c.loop-line.invariant.rest ∙ c.in-Some.ensures.first in
-    refused c.from_residual-in_err-item.result c.in_err-item.field-0.0 _ _ c.from_residual-in_err-item.ensures
+    refused c.from_residual.result c.in_err-item.field-0.0 _ _ c.from_residual.ensures
     (own-fault g.C.Payload.payload_of g.B.Listing.listing_of c.args.form (lines_of c.args.bytes.now) c.loop-line.count c.in-Some.line.now _ at c.in_err-item.field-0.0 _ c.in_err-item.ensures.refused c.loop-line.invariant.fault)
 
 pub returns-in-Some-2-clause-refused : goal.returns-in-Some-2-clause-refused
@@ -41,9 +41,9 @@ loop-line-init g c = record {
   within = c.requires.long;
   rest = c.requires.rest.lines;
   fault = sym c.requires.head;
-  spelt = c.in_ok-builder.ensures.empty ∙ sym (idle-spelt c.args.form.version g.C.Payload.payload_of g.B.Listing.listing_of (take 3 (lines_of c.args.bytes.now)) c.requires.idle);
+  spelt = c.requires.empty ∙ sym (idle-spelt c.args.form.version g.C.Payload.payload_of g.B.Listing.listing_of (take 3 (lines_of c.args.bytes.now)) c.requires.idle);
   utf8 = λ known. c.requires.rest.utf8 (IsUtf8-from_is_utf8 c.args.bytes.now (sym c.is_utf8-known.ensures ∙ known));
-  begins = c.in_ok-builder.ensures.begins;
+  begins = c.requires.begins;
 }
 
 pub returns-clause-accepted : goal.returns-clause-accepted
