@@ -19,7 +19,7 @@ use Rattle.hyphenation_grammar.specs.Reading.{map_of_lines}
 use Rattle.hyphenation_grammar.specs.declared.Cause.{Cause}
 use Rattle.hyphenation_grammar.specs.declared.form.Form.{Form}
 use Rattle.std.specs.Cmp.{first_so, second_so}
-use Rattle.hyphenation_trie.proofs.TrieNodes.{same_text}
+use Rattle.std.proofs.lemmas.Slice.Eq.{bytes_eq-Decides}
 
 -- ---- The entries of a finite map.
 
@@ -62,7 +62,7 @@ all-found {X} P (e ∷ es) s f =
       where
         by : (t : Bool) → eq_by_cmp (slice_cmp nat_cmp) q e.0 ≡ t → cond {A = Option X} t (Some e.1) (find (slice_cmp nat_cmp) q es) ≡ Some v
         by true is =
-            let same_key : q ≡ e.0 = same_text q e.0 (texts_ties q e.0 ∙ is) in
+            let same_key : q ≡ e.0 = (bytes_eq-Decides q e.0).0 (texts_ties q e.0 ∙ is) in
             let none : find (slice_cmp nat_cmp) q es ≡ None = subst (λ (k : List ℕ). find (slice_cmp nat_cmp) k es ≡ None) (sym same_key) (below_none e.0 e.1 es s) in
             let bad : None ≡ Some v = sym none ∙ h in absurd cc
         by false is = h

@@ -22,7 +22,6 @@ use Rattle.hyphenation_grammar.specs.declared.tokens.Escapes.TheVariants.{Plain}
 use Rattle.hyphenation_grammar.specs.declared.tokens.PatternElement.{PatternElement}
 use Rattle.hyphenation_writer.proofs.Decimals.{decimal-written, decimal-number, decimal-utf8}
 use Rattle.hyphenation_writer.proofs.SpelledBytes.{Free, IsGap, digits-free, comma-free, text-free, number-free}
-use Rattle.hyphenation_grammar.proofs.TokenParts.{none_left}
 use Rattle.std.specs.Cmp.{first_so, second_so}
 use Rattle.hyphenation_writer.proofs.SpelledUtf8.{token-utf8, comma-utf8}
 use Rattle.hyphenation_writer.proofs.CanonicalTokens.{reads_text, digits-signs}
@@ -80,6 +79,15 @@ whole_again n (b ∷ text) h =
 
 part_of : (n place : ℕ) (rest : List ℕ) → nat_lt 0 n ≡ true → place < 2 ^ 64 → parts_within n (before_comma place rest) ≡ decimal place ∷ parts_within (n - 1) rest
 part_of n place rest e h = part_again n (decimal place) rest e (digits-free 44 place (omega arith) h)
+
+-- no part is left to be read
+none_left : (text : List ℕ) → parts_within 0 text ≡ text ∷ []
+none_left [] = refl
+none_left (b ∷ rest) =
+    elim (eqb b 44) as (λ t. put_byte (t && false) b (parts_within (cond (t && false) (0 - 1) 0) rest) ≡ (b ∷ rest) ∷ []) [
+      | true ↦ ap (onto_first b) (none_left rest)
+      | false ↦ ap (onto_first b) (none_left rest)
+    ]
 
 parts_again : (p l r k : ℕ) (s : List ℕ) → p < 2 ^ 64 → l < 2 ^ 64 → r < 2 ^ 64 → k < 2 ^ 64
     → parts_within 4 (before_comma p (before_comma l (before_comma r (before_comma k s)))) ≡ decimal p ∷ (decimal l ∷ (decimal r ∷ (decimal k ∷ (s ∷ []))))

@@ -24,9 +24,9 @@ use Rattle.hyphenation_grammar.specs.declared.Cause.{Cause}
 use Rattle.hyphenation_grammar.specs.declared.Cause.TheVariants.{NotUtf8, Header, Language, Minima, UnknownLine, Token, Value as BadValue, Pattern, NoLetters, Number, Place, Change as BadChange}
 use Rattle.hyphenation_grammar.specs.declared.tokens.PatternElement.{PatternElement}
 use Rattle.hyphenation_grammar.specs.declared.tokens.PatternElement.TheVariants.{Letter, Value}
-use Rattle.hyphenation_grammar.proofs.AsciiSplits.{one_ascii}
+use Rattle.hyphenation_writer.proofs.AsciiBytes.{one_ascii, two_ascii}
 use Rattle.hyphenation_writer.proofs.SpelledBytes.{Free, space, feed, free-append, marks-free, text-free}
-use Rattle.hyphenation_breaks.proofs.PlacesInOrder.{entries_from, entries_in_order}
+use Rattle.hyphenation_breaks.specs.Laws.{entries_from, EntriesInOrder}
 use Rattle.std.specs.Cmp.{first_so, second_so}
 use Rattle.hyphenation_writer.proofs.CanonicalLaterTokens.{Tells, tells, is_allowed, good, text-again, token-some}
 use Rattle.hyphenation_writer.proofs.SpelledUtf8.{AllSeams, marks-utf8, token-utf8}
@@ -184,7 +184,7 @@ module _ (form : Form) (word : List ℕ) (bs : List Break) (u : IsUtf8 word) (al
   exception-faultless =
       let t = text-again word in
       record {
-        utf8 = is_utf8-from_IsUtf8 (exception_line word bs) (IsUtf8-append (101 ∷ 32 ∷ []) (text_token word ++ later_tokens bs) (IsUtf8-append (101 ∷ []) (32 ∷ []) (one_ascii 101 (omega arith)) (one_ascii 32 (omega arith))) (IsUtf8-append (text_token word) (later_tokens bs) (token-utf8 word u) (utf8_each form bs w)));
+        utf8 = is_utf8-from_IsUtf8 (exception_line word bs) (IsUtf8-append (101 ∷ 32 ∷ []) (text_token word ++ later_tokens bs) (two_ascii 101 32 (omega arith) (omega arith)) (IsUtf8-append (text_token word) (later_tokens bs) (token-utf8 word u) (utf8_each form bs w)));
         known = known_by (eqb (length (exception_line word bs)) 0);
         token = ap (λ (ts : List (List ℕ)). not ((nat_lt 0 (length (get_or ts 0 [])) && is_some (text_spelt (get_or ts 0 []))) && list_all is_readable (drop 1 ts))) e_toks
             ∙ ap not (and_from (nat_lt 0 (length (text_token word)) && is_some (text_spelt (text_token word))) (list_all is_readable (tokens_for bs)) (and_from (nat_lt 0 (length (text_token word))) (is_some (text_spelt (text_token word))) (token-some word) (ap is_some t)) (readable_each form bs w));
@@ -353,9 +353,9 @@ some_byte version (b ∷ token) ms key m k letter = above (length token)
     above : (n : ℕ) → nat_lt 0 (suc n) ≡ true
     above n = grind (arith, nat_tests)
 
-module _ (form : Form) (whole : List ℕ) (es : List (Entry (Option Change))) (u : IsUtf8 whole) (letter : has_letter whole ≡ true) (v : are_small form.version es ≡ true) (w : have_allowed form.kind es ≡ true) (a : are_entries (λ c. c) whole es ≡ true) where
+module _ (in_order : EntriesInOrder (Option Change)) (form : Form) (whole : List ℕ) (es : List (Entry (Option Change))) (u : IsUtf8 whole) (letter : has_letter whole ≡ true) (v : are_small form.version es ≡ true) (w : have_allowed form.kind es ≡ true) (a : are_entries (λ c. c) whole es ≡ true) where
   a_each : entries_from (λ c. c) whole 0 es ≡ true
-  a_each = sym (entries_in_order (λ c. c) whole 0 es) ∙ a
+  a_each = sym (in_order (λ c. c) whole es) ∙ a
 
   abbrev the_marks : List PatternElement
   the_marks = elements_for 0 whole es
@@ -397,7 +397,7 @@ module _ (form : Form) (whole : List ℕ) (es : List (Entry (Option Change))) (u
   pattern-faultless =
       let first = pattern_token form.version whole es in
       record {
-        utf8 = is_utf8-from_IsUtf8 (pattern_line form.version whole es) (IsUtf8-append (112 ∷ 32 ∷ []) (first ++ later_tokens the_breaks) (IsUtf8-append (112 ∷ []) (32 ∷ []) (one_ascii 112 (omega arith)) (one_ascii 32 (omega arith))) (IsUtf8-append first (later_tokens the_breaks) (marks-utf8 form.version whole [] [] whole 0 es refl refl p_seams u) (utf8_each form the_breaks p_writable)));
+        utf8 = is_utf8-from_IsUtf8 (pattern_line form.version whole es) (IsUtf8-append (112 ∷ 32 ∷ []) (first ++ later_tokens the_breaks) (two_ascii 112 32 (omega arith) (omega arith)) (IsUtf8-append first (later_tokens the_breaks) (marks-utf8 form.version whole [] [] whole 0 es refl refl p_seams u) (utf8_each form the_breaks p_writable)));
         known = known_by (eqb (length (pattern_line form.version whole es)) 0);
         token = ap (λ (ts : List (List ℕ)). not ((nat_lt 0 (length (get_or ts 0 [])) && is_some (pattern_bytes form.version (get_or ts 0 []))) && list_all is_readable (drop 1 ts))) p_toks
             ∙ ap not (and_from (nat_lt 0 (length first) && is_some (pattern_bytes form.version first)) (list_all is_readable (tokens_for the_breaks)) (and_from (nat_lt 0 (length first)) (is_some (pattern_bytes form.version first)) (some_byte form.version first the_marks whole p_marks p_key letter) (signs-again form.version the_marks p_spelt)) (readable_each form the_breaks p_writable));

@@ -6,6 +6,7 @@ use Rattle.std.specs.List.{list_all, slice_split, All}
 use Rattle.std.specs.Str.{is_utf8, chars}
 use Rattle.std.specs.FinMap as finite
 use Rattle.std.specs.FinMap.{entries_sorted}
+use mathlib.Core.List.{map-map}
 use Rattle.std.proofs.lemmas.List.{append-nil}
 use Rattle.std.proofs.lemmas.List.Folds.{list_all-map}
 use Rattle.std.proofs.lemmas.List.Elements.{All-from_recursion}
@@ -33,12 +34,11 @@ use Rattle.hyphenation_grammar.specs.declared.form.Kind.TheVariants.{Standard, E
 use Rattle.hyphenation_grammar.specs.declared.form.Version.{Version}
 use Rattle.hyphenation_grammar.specs.declared.form.Version.TheVariants.{First, Second}
 use Rattle.hyphenation_writer.proofs.CanonicalAccepted.{AllPairs, all-entries, all-tested, all-both, passes_line, enough, Fine, AllNew, AllSilent, chain, all-new, Again, AllQuiet, gathered_again}
-use Rattle.hyphenation_grammar.proofs.AsciiSplits.{one_ascii}
-use Rattle.hyphenation_breaks.proofs.LanguageCodes.{is_code-utf8}
+use Rattle.hyphenation_breaks.specs.Laws.{is_entry, EntriesInOrder, CodesAreText}
+use Rattle.hyphenation_writer.proofs.AsciiBytes.{one_ascii}
 use Rattle.hyphenation_writer.proofs.Decimals.{decimal-utf8, wide, small-again}
 use Rattle.hyphenation_writer.proofs.SpelledBytes.{Free, free-append, digits-free}
 use Rattle.hyphenation_writer.proofs.CanonicalLines.{Faultless, own_tests, own-none, none-found, are_small, have_allowed, are_allowed, pattern-faultless, pattern-spelt, pattern-feed, exception-faultless, exception-spelt, exception-feed}
-use Rattle.hyphenation_breaks.proofs.PlacesInOrder.{is_entry, map_twice}
 use Rattle.std.specs.Cmp.{first_so, second_so}
 use Rattle.hyphenation_writer.proofs.CanonicalLaterTokens.{is_allowed}
 use Rattle.hyphenation_writer.proofs.CanonicalTokens.{AllLines, lines-ended}
@@ -112,11 +112,11 @@ code_feed : (code : List ℕ) → list_all is_code_byte code ≡ true → Free 1
 code_feed [] e = tt
 code_feed (b ∷ code) e = (no_feed b (first_so (is_code_byte b) (list_all is_code_byte code) e), code_feed code (second_so (is_code_byte b) (list_all is_code_byte code) e))
 
-language_passes : (form : Form) (code : List ℕ) → IsCode code → own_cause form 2 (language_line code) ≡ None
-language_passes form code h =
+language_passes : CodesAreText → (form : Form) (code : List ℕ) → IsCode code → own_cause form 2 (language_line code) ≡ None
+language_passes are_text form code h =
     let line = language_line code in
     none-found (fails form 2 line) own_tests (
-      ap not (is_utf8-from_IsUtf8 line (IsUtf8-append (codes "language ") code language_name (is_code-utf8 code h))),
+      ap not (is_utf8-from_IsUtf8 line (IsUtf8-append (codes "language ") code language_name (are_text code h))),
       (refl, (ap is_none (language_again code h), (refl, (refl, (refl, (refl, (refl, (refl, (refl, (refl, (refl, tt))))))))))),
     )
 
@@ -165,7 +165,7 @@ digits-small change_of (x ∷ es) e = and_from (nat_le x.value 9) (are_small Fir
 
 -- ---- The dictionary.
 
-module _ {C B : Type 0} (kind : Kind) (payload_of : Option Change → C) (listing_of : Break → B) (change_of : C → Option Change) (break_of : B → Break)
+module _ (in_order : EntriesInOrder (Option Change)) (are_text : CodesAreText) {C B : Type 0} (kind : Kind) (payload_of : Option Change → C) (listing_of : Break → B) (change_of : C → Option Change) (break_of : B → Break)
     (exact : HoldsExactly kind payload_of listing_of change_of break_of) (contents : Contents C B) (kept : IsDictionary change_of break_of contents) where
   abbrev version : Version
   version = version_for contents
@@ -188,13 +188,13 @@ module _ {C B : Type 0} (kind : Kind) (payload_of : Option Change → C) (listin
   -- what a dictionary holds says what it carries
   as_entries : (q : List ℕ) (es : List (Entry C)) → are_entries (λ c. c) q (map (entry_as_said change_of) es) ≡ are_entries change_of q es
   as_entries q es =
-      let places : map (λ e. e.place) (map (entry_as_said change_of) es) ≡ map (λ e. e.place) es = map_twice (λ e. e.place) (entry_as_said change_of) es in
+      let places : map (λ e. e.place) (map (entry_as_said change_of) es) ≡ map (λ e. e.place) es = map-map (λ e. e.place) (entry_as_said change_of) es in
       let each : list_all (is_entry (λ c. c) q) (map (entry_as_said change_of) es) ≡ list_all (is_entry change_of q) es = list_all-map (is_entry (λ c. c) q) (entry_as_said change_of) es in
       λ i. ascend_on q 0 (places i) && each i
 
   as_listed : (q : List ℕ) (bs : List B) → are_listed (λ b. b) q (map break_of bs) ≡ are_listed break_of q bs
   as_listed q bs =
-      let places : map (λ b. b.place) (map break_of bs) ≡ map (λ b. (break_of b).place) bs = map_twice (λ b. b.place) break_of bs in
+      let places : map (λ b. b.place) (map break_of bs) ≡ map (λ b. (break_of b).place) bs = map-map (λ b. b.place) break_of bs in
       let within : list_all (λ b. lists_within q b.place b.change) (map break_of bs) ≡ list_all (λ b. lists_within q (break_of b).place (break_of b).change) bs = list_all-map (λ b. lists_within q b.place b.change) break_of bs in
       λ i. ascend_on q 0 (places i) && within i
 
@@ -242,9 +242,9 @@ module _ {C B : Type 0} (kind : Kind) (payload_of : Option Change → C) (listin
       let w = entries-allowed es in
       let a : are_entries (λ c. c) q (map (entry_as_said change_of) es) ≡ true = as_entries q es ∙ is.ascend in
       record {
-        faultless = pattern-faultless form q (map (entry_as_said change_of) es) is.utf8 is.letter small w a;
-        spelt = pattern-spelt form q (map (entry_as_said change_of) es) is.utf8 is.letter small w a;
-        feed = pattern-feed form q (map (entry_as_said change_of) es) is.utf8 is.letter small w a;
+        faultless = pattern-faultless in_order form q (map (entry_as_said change_of) es) is.utf8 is.letter small w a;
+        spelt = pattern-spelt in_order form q (map (entry_as_said change_of) es) is.utf8 is.letter small w a;
+        feed = pattern-feed in_order form q (map (entry_as_said change_of) es) is.utf8 is.letter small w a;
       }
 
   key_lines : AllPairs KeyLine (finite.entries contents.patterns)
@@ -322,7 +322,7 @@ module _ {C B : Type 0} (kind : Kind) (payload_of : Option Change → C) (listin
   pub lines-accepted : fault_after form [] (canonical_lines form change_of break_of contents) ≡ None
   lines-accepted =
       passes_line form [] (head_line form) (language_line contents.language ∷ (minima_line contents.left contents.right ∷ (p_lines ++ e_lines))) (heads kind version) (head_alone kind version)
-      (passes_line form (head_line form ∷ []) (language_line contents.language) (minima_line contents.left contents.right ∷ (p_lines ++ e_lines)) (language_passes form contents.language kept.code) refl
+      (passes_line form (head_line form ∷ []) (language_line contents.language) (minima_line contents.left contents.right ∷ (p_lines ++ e_lines)) (language_passes are_text form contents.language kept.code) refl
       (passes_line form (head_line form ∷ (language_line contents.language ∷ [])) (minima_line contents.left contents.right) (p_lines ++ e_lines) (minima_passes form contents.left contents.right kept.left kept.right) refl keys_pass))
 
   -- the lines are those of the text

@@ -4,6 +4,7 @@ pub mod TextMapOrder
 pub mod CanonicalTokens
 pub mod Decimals
 pub mod SpelledBytes
+pub mod AsciiBytes
 pub mod SpelledUtf8
 pub mod CanonicalLaterTokens
 pub mod CanonicalLines

@@ -13,13 +13,10 @@ use Rattle.hyphenation_breaks.specs.declared.entry.Entry.{Entry}
 use Rattle.hyphenation_grammar.specs.declared.tokens.Escapes.{Escapes}
 use Rattle.hyphenation_grammar.specs.declared.tokens.Escapes.TheVariants.{Plain}
 use Rattle.hyphenation_grammar.specs.declared.tokens.PatternElement.TheVariants.{Letter, Value}
-use Rattle.hyphenation_grammar.proofs.AsciiSplits.{split_ascii, one_ascii, same_byte, small_digit}
 use Rattle.hyphenation_grammar.specs.declared.form.Version.{Version}
+use Rattle.hyphenation_writer.proofs.AsciiBytes.{one_ascii, two_ascii, split_ascii, same_byte, small_digit}
 use Rattle.hyphenation_writer.proofs.Decimals.{decimal-utf8, wide}
 use Rattle.hyphenation_writer.proofs.CanonicalTokens.{greatest, greatest-byte}
-
-pub two_ascii : (a b : ℕ) → a < 128 → b < 128 → IsUtf8 (a ∷ b ∷ [])
-two_ascii a b sa sb = IsUtf8-append (a ∷ []) (b ∷ []) (one_ascii a sa) (one_ascii b sb)
 
 -- A byte after some bytes p of its character, then what is written of the bytes after it.
 step-utf8 : (es : Escapes) (p : List ℕ) (b : ℕ) (text tail : List ℕ) → IsUtf8 (p ++ b ∷ text) → ((q : List ℕ) → IsUtf8 (q ++ text) → IsUtf8 (q ++ tail)) → IsUtf8 (p ++ (byte_spelling es b ++ tail))

@@ -1,25 +1,20 @@
 -- What is true of all canonical texts, of either kind and in either version.
 -- In each law payload_of and listing_of say what a kind of dictionary holds of a change and of a listed break, and
 -- change_of and break_of say what that means; so one law is of all kinds.
-use Rattle.std.specs.Prelude.{◌≡◌, ℕ, ◌≤◌, ◌↔◌, All, Any, Contains, List, [], ◌∷◌, Option, Some, None, slice_index_or, IsUtf8, find, if◌then◌else◌, map, unwrap_or}
-use Rattle.std.specs.List.Sorted.{IsPermutation}
+use Rattle.std.specs.Prelude.{◌≡◌, ℕ, ◌≤◌, ◌↔◌, All, List, [], Option, Some, None, slice_index_or}
 use Rattle.std.specs.FinMap as finite
 use Rattle.hyphenation_breaks.specs.Break.{Break, Change}
 use Rattle.hyphenation_writer.specs.Canonical.{canonical_text_of}
 use Rattle.hyphenation_breaks.specs.Dictionary.{Contents}
-use Rattle.hyphenation_grammar.specs.Form.{head_of, version_of}
+use Rattle.hyphenation_grammar.specs.Form.{head_of}
 use Rattle.hyphenation_breaks.specs.Invariant.{IsDictionary}
-use Rattle.hyphenation_grammar.specs.Items.{pattern_of_line, exception_of_line, breaks_of_line, word_of_line}
-use Rattle.hyphenation_grammar.specs.Judging.{fault_of, refusal_of, fails}
-use Rattle.hyphenation_grammar.specs.Lines.{lines_of, is_same}
-use Rattle.hyphenation_grammar.specs.Reading.{contents_of, spelling_as, entry_as}
+use Rattle.hyphenation_grammar.specs.Judging.{refusal_of}
+use Rattle.hyphenation_grammar.specs.Lines.{lines_of}
+use Rattle.hyphenation_grammar.specs.Reading.{contents_of}
 use Rattle.hyphenation_breaks.specs.declared.entry.Entry.{Entry}
 use Rattle.hyphenation_grammar.specs.declared.form.Kind.{Kind}
 use Rattle.hyphenation_grammar.specs.declared.form.Version.TheVariants.{First}
 use Rattle.hyphenation_grammar.specs.declared.form.Kind.TheVariants.{Standard}
-use Rattle.hyphenation_grammar.specs.declared.Cause.TheVariants.{Token, Number, Place, Change as BadChange}
-use Rattle.hyphenation_grammar.specs.declared.form.Version.{Version}
-use Rattle.std.specs.Option.{option_or}
 
 -- A kind of dictionary holds exactly what its texts say: what it holds of a change or a listed break says
 -- that again, and a standard one holds no change.

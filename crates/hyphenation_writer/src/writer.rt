@@ -1,6 +1,6 @@
 //! The canonical text of a dictionary, piece by piece. Each function but the last ones appends to a text.
 
-ghost use Rattle.std.specs.Prelude.{◌≡◌, ◌++◌, ◌∷◌, [], None, Some, OnOk, IfOk, decimal, flat_map, map, nat_le, option_copied};
+ghost use Rattle.std.specs.Prelude.{◌≡◌, ◌++◌, ◌∷◌, [], None, Some, OnOk, IfOk, IfSome, IfNone, decimal, flat_map, map, nat_le, option_copied};
 ghost use Rattle.std.specs.List.{list_all};
 ghost use Rattle.std.specs.FinMap as finite;
 ghost use Rattle.hyphenation_writer.specs.Canonical.{are_digits, before_comma, break_token, byte_spelling, canonical_text_of, changes_of, with_line_feeds, entry_as_said, exception_line, language_line, later_tokens, element_spelling, minima_line, pattern_line, pattern_token, text_token, standard_text, extended_text};
@@ -29,17 +29,28 @@ use hyphenation_grammar::pattern::pattern_escapes;
 use hyphenation_grammar::tokens::{Escapes, escaped_also};
 use std::alloc::{AllocError, Global};
 
+/// The byte that stands for this one after a backslash, where this one must be escaped.
+fn escape_of(escapes: Escapes, byte: u8) -> Option<u8>
+    ensures some { IfSome result (λ sign. byte_spelling escapes byte ≡ 92 ∷ sign ∷ []) }
+    ensures none { IfNone result (byte_spelling escapes byte ≡ byte ∷ []) }
+{
+    match byte {
+        b'\\' => Some(b'\\'),
+        b' ' => Some(b's'),
+        b'\n' => Some(b'n'),
+        b'\r' => Some(b'r'),
+        _ if escaped_also(escapes, byte) => Some(byte),
+        _ => None,
+    }
+}
+
 /// A byte of a text, escaped where it must be.
 fn push_byte(text: &mut Vec<u8>, escapes: Escapes, byte: u8) -> Result<(), AllocError>
     ensures { OnOk result (text.new.items ≡ text.old.items ++ byte_spelling escapes byte) }
 {
-    match byte {
-        b'\\' => text.extend_from_slice(b"\\\\"),
-        b' ' => text.extend_from_slice(b"\\s"),
-        b'\n' => text.extend_from_slice(b"\\n"),
-        b'\r' => text.extend_from_slice(b"\\r"),
-        _ if escaped_also(escapes, byte) => text.extend_from_slice(&[b'\\', byte]),
-        _ => text.extend_from_slice(&[byte]),
+    match escape_of(escapes, byte) {
+        Some(sign) => text.extend_from_slice(&[b'\\', sign]),
+        None => text.extend_from_slice(&[byte]),
     }
 }
 

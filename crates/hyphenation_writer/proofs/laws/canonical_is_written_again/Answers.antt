@@ -5,4 +5,4 @@ use Rattle.hyphenation_writer.proofs.laws.canonical_is_written_again.Goals as go
 
 pub returns : goal.returns
 returns g c = λ kind payload_of listing_of change_of break_of contents exact kept.
-    ap (canonical_text_of kind change_of break_of) (canonical-contents kind payload_of listing_of change_of break_of exact contents kept)
+    ap (canonical_text_of kind change_of break_of) (canonical-contents c.entries_in_order.ensures c.codes_are_text.ensures kind payload_of listing_of change_of break_of exact contents kept)

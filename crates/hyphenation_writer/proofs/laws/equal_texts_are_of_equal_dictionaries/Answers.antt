@@ -6,6 +6,6 @@ use Rattle.hyphenation_writer.proofs.laws.equal_texts_are_of_equal_dictionaries.
 
 pub returns : goal.returns
 returns g c = λ kind payload_of listing_of change_of break_of contents others exact kept other same.
-    sym (canonical-contents kind payload_of listing_of change_of break_of exact contents kept)
+    sym (canonical-contents c.entries_in_order.ensures c.codes_are_text.ensures kind payload_of listing_of change_of break_of exact contents kept)
     ∙ ap (λ text. contents_of kind payload_of listing_of (lines_of text)) same
-    ∙ canonical-contents kind payload_of listing_of change_of break_of exact others other
+    ∙ canonical-contents c.entries_in_order.ensures c.codes_are_text.ensures kind payload_of listing_of change_of break_of exact others other
