@@ -7,6 +7,7 @@ ghost use Rattle.std.specs.List.Sorted.{IsNonDecreasingBy};
 ghost use Rattle.std.specs.Option.{option_map};
 ghost use Rattle.std.specs.Str.{IsAscii};
 ghost use Rattle.hyphenation_segments.specs.Fits.{Fits};
+ghost use Rattle.hyphenation_hyphenator.specs.Folding.{shifts_of};
 ghost use Rattle.hyphenation_hyphenator.specs.Fitting.{kept_breaks, fitted_breaks_of, KeepRanges};
 ghost use Rattle.hyphenation_hyphenator.specs.Private.Fitting.{is_steady_by};
 ghost use Rattle.hyphenation_hyphenator.specs.Private.SmallLetters.{are_small_letters};
@@ -148,7 +149,7 @@ pub(crate) fn opportunities<'h, F: Found<'h>>(
 /// Carries each break of a folded word back to the word as written, by the shifts of the folding,
 /// which stand in the order of their indices.
 pub(crate) fn realign_all<'h, F: Found<'h>>(breaks: &mut [F], shifts: &[Shift])
-    requires { IsNonDecreasingBy (λ shift. shift.index) shifts.now }
+    requires order { IsNonDecreasingBy (λ shift. shift.index) shifts.now }
     ensures { map F.meaning breaks.new ≡ map (realigned_break shifts.now) (map F.meaning breaks.old) }
 {
     for b in breaks {
@@ -164,7 +165,7 @@ fn unmoved_breaks<'h, F: Found<'h>>(
     dictionary: &'h Dictionary<F::Payload, F::Listing>,
     lowercase_word: &str,
 ) -> Result<Vec<F>, AllocError>
-    requires { IsAscii lowercase_word.now }
+    requires ascii { IsAscii lowercase_word.now }
     ensures { IfOk result (λ v.
         map F.meaning v.items
         ≡ kept_breaks (is_steady_by (length lowercase_word.now) [])
@@ -176,6 +177,13 @@ fn unmoved_breaks<'h, F: Found<'h>>(
     let found = opportunities_in(alloc, dictionary, lowercase_word, bounds)?;
     F::kept(alloc, lowercase_word, &[], found)
 }
+
+/// A word of the letters a to z is ASCII. This does nothing: its contract is what it says.
+#[inline(always)]
+fn letters_are_ascii(word: &str)
+    requires { list_all is_ascii_lowercase word.now ≡ true }
+    ensures { IsAscii word.now }
+{}
 
 /// The breaks of a word of the letters a to z.
 #[inline(never)]
@@ -191,6 +199,7 @@ fn breaks_of_letters<'h, F: Found<'h>>(
 {
     dictionary.invariant();
     value_is_borne::<F::Payload>();
+    letters_are_ascii(word);
     unmoved_breaks(alloc, dictionary, word)
 }
 
@@ -258,7 +267,7 @@ fn breaks_of_folded<'h, F: Found<'h>>(
     folded: &str,
     shifts: &[Shift],
 ) -> Result<Vec<F>, AllocError>
-    requires { IsNonDecreasingBy (λ shift. shift.index) shifts.now }
+    requires order { IsNonDecreasingBy (λ shift. shift.index) shifts.now }
     ensures { IfOk result (λ v.
         map F.meaning v.items
         ≡ map (realigned_break shifts.now) (kept_breaks (is_steady_by (length folded.now) shifts.now)
@@ -269,6 +278,13 @@ fn breaks_of_folded<'h, F: Found<'h>>(
     realign_all(&mut breaks, shifts);
     Ok(breaks)
 }
+
+/// The shifts of a word's folding stand in the order of their indices. This does nothing: its contract is what it says.
+#[inline(always)]
+fn shifts_are_in_order(word: &str, shifts: &[Shift])
+    requires { shifts.now ≡ shifts_of word.now }
+    ensures { IsNonDecreasingBy (λ shift. shift.index) shifts.now }
+{}
 
 /// The breaks of any word.
 #[inline(never)]
@@ -288,7 +304,9 @@ fn breaks_of_any<'h, F: Found<'h>>(
     }
     let (folded, shifts) = refold(alloc, word)?;
     let text = folded.as_str();
-    breaks_of_folded(alloc, dictionary, text, &shifts)
+    let shifts: &[Shift] = &shifts;
+    shifts_are_in_order(word, shifts);
+    breaks_of_folded(alloc, dictionary, text, shifts)
 }
 
 /// The breaks of a word as written.

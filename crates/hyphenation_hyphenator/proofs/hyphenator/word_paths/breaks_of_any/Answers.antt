@@ -1,16 +1,12 @@
-use Rattle.std.proofs.Common.{◌≡◌, ℕ, List, map, length, IsUtf8, refl, sym, ap, subst, ◌∙◌, arith}
-use Rattle.std.specs.List.Sorted.{IsNonDecreasingBy}
+use Rattle.std.proofs.Common.{map, length, refl, ap, ◌∙◌, arith}
 use Rattle.std.proofs.lemmas.Result.{IfOk-weaker}
 use Rattle.hyphenation_breaks.specs.Break.{plain_break}
-use Rattle.hyphenation_hyphenator.specs.declared.case_folding.Shift.{Shift}
 use Rattle.hyphenation_hyphenator.specs.Fitting.{kept_breaks}
 use Rattle.hyphenation_hyphenator.specs.Private.Fitting.{is_steady_by}
-use Rattle.hyphenation_hyphenator.specs.Folding.{shifts_of}
 use Rattle.hyphenation_hyphenator.specs.Opportunities.{rules_of, opportunities}
 use Rattle.hyphenation_hyphenator.specs.SoftHyphens.{soft_hyphens}
 use Rattle.hyphenation_hyphenator.proofs.FittedBreaks.{breaks_are, soft_breaks_are}
 use Rattle.hyphenation_hyphenator.proofs.RulesAscend.{rules_are_sound, opportunities_ascend}
-use Rattle.hyphenation_hyphenator.proofs.ShiftOrder.{shifts_in_order}
 use Rattle.hyphenation_hyphenator.proofs.Standard.{no_soft_hyphens, none_is_not_some}
 use Rattle.hyphenation_hyphenator.proofs.hyphenator.word_paths.breaks_of_any.Goals as goal
 
@@ -28,12 +24,6 @@ returns-in-Some g c =
 
 -- Any other word.
 
-in_order : (word : List ℕ) (shifts : List Shift) → IsUtf8 word → shifts ≡ shifts_of word → IsNonDecreasingBy (λ (s : Shift). s.index) shifts
-in_order word shifts u is = subst (IsNonDecreasingBy (λ (s : Shift). s.index)) (sym is) (shifts_in_order word u)
-
-pub breaks_of_folded-requires : goal.breaks_of_folded-requires
-breaks_of_folded-requires g c κs = ((refl, tt), in_order c.args.word.now c.deref.result.now c.utf8.word (c.deref.ensures.value ∙ c.in_ok-folded.ensures.shifts))
-
 pub returns : goal.returns
 returns g c =
     let m = g.F.Break.meaning in
@@ -44,7 +34,7 @@ returns g c =
     let rules = rules_of change_of break_of contents in
     let text = c.as_str-text.result.now in
     let size = length text in
-    let shifts = c.deref.result.now in
+    let shifts = c.deref-shifts.result.now in
     let found = opportunities rules text in
     let kept = kept_breaks (is_steady_by size shifts) found in
     let none = no_soft_hyphens (soft_hyphens word) (λ some. none_is_not_some c.in_ok-places.field-0 c.in_default.is (c.in_ok-places.ensures.some.1 some)) in
@@ -53,7 +43,7 @@ returns g c =
     (λ v is. breaks_are rules word text size shifts found kept (map m v.items) c.utf8.word (omega arith) none (record {
       folded_is = c.as_str-text.ensures.value ∙ c.in_ok-folded.ensures.folded;
       size_is = refl;
-      shifts_are = c.deref.ensures.value ∙ c.in_ok-folded.ensures.shifts;
+      shifts_are = c.deref-shifts.ensures.value ∙ c.in_ok-folded.ensures.shifts;
       found_are = refl;
       ascend = sound;
       kept_are = refl;

@@ -1,15 +1,9 @@
-use Rattle.std.proofs.Common.{map, length, refl, ap, ◌∙◌}
+use Rattle.std.proofs.Common.{map, length, ap, ◌∙◌}
 use Rattle.hyphenation_hyphenator.specs.Fitting.{kept_breaks}
 use Rattle.hyphenation_hyphenator.specs.Private.Fitting.{is_steady_by}
 use Rattle.hyphenation_hyphenator.specs.Private.Opportunities.{realigned_break}
 use Rattle.hyphenation_hyphenator.proofs.FittedBreaks.{whole_written}
 use Rattle.hyphenation_hyphenator.proofs.hyphenator.word_paths.breaks_of_folded.Goals as goal
-
-pub kept-requires : goal.kept-requires
-kept-requires g c κs = ((refl, tt), (c.requires, c.in_ok-found.ensures.ascend))
-
-pub realign_all-requires : goal.realign_all-requires
-realign_all-requires g c κs = ((refl, tt), c.requires)
 
 pub returns : goal.returns
 returns g c =

@@ -1,14 +1,11 @@
-use Rattle.std.proofs.Common.{map, refl, sym}
+use Rattle.std.proofs.Common.{map, sym}
 use Rattle.std.proofs.lemmas.Result.{IfOk-weaker}
 use Rattle.hyphenation_hyphenator.specs.Folding.{fold_case}
 use Rattle.hyphenation_hyphenator.specs.Opportunities.{rules_of}
-use Rattle.hyphenation_hyphenator.proofs.AsciiWords.{letters_ascii, letters_fold, ascii_breaks}
+use Rattle.hyphenation_hyphenator.proofs.AsciiWords.{letters_fold, ascii_breaks}
 use Rattle.hyphenation_hyphenator.proofs.Folds.{fold_is_utf8}
 use Rattle.hyphenation_hyphenator.proofs.RulesAscend.{rules_are_sound, opportunities_ascend}
 use Rattle.hyphenation_hyphenator.proofs.hyphenator.word_paths.breaks_of_letters.Goals as goal
-
-pub unmoved_breaks-requires : goal.unmoved_breaks-requires
-unmoved_breaks-requires g c κs = ((refl, tt), letters_ascii c.args.word.now c.requires)
 
 pub returns : goal.returns
 returns g c =
@@ -17,4 +14,4 @@ returns g c =
     let break_of = g.F.Listing.Break.meaning in
     let rules = rules_of change_of break_of c.args.dictionary.now in
     let ascend = opportunities_ascend rules (fold_case word) (rules_are_sound change_of break_of c.args.dictionary.now (fold_case word) c.value_is_borne.ensures c.invariant.ensures (fold_is_utf8 word c.utf8.word)) in
-    IfOk-weaker c.unmoved_breaks.result _ _ (λ v is. ascii_breaks rules word word (map g.F.Break.meaning v.items) (letters_ascii word c.requires) (sym (letters_fold word c.requires)) ascend is) c.unmoved_breaks.ensures
+    IfOk-weaker c.unmoved_breaks.result _ _ (λ v is. ascii_breaks rules word word (map g.F.Break.meaning v.items) c.letters_are_ascii.ensures (sym (letters_fold word c.requires)) ascend is) c.unmoved_breaks.ensures
