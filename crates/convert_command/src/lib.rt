@@ -35,7 +35,7 @@ pub const USAGE: &str =
     "usage: hyphenate-convert KIND CODE LEFT RIGHT FILE..\n       hyphenate-convert --help\n       hyphenate-convert --version\n       FILE: one .dic; or .tex, .pat.txt and .hyp.txt. LEFT and RIGHT: 0 to 255, or - for what the file says\n";
 
 /// Why nothing, or not all, was written.
-#[derive(Debug, Drop)]
+#[derive(Drop)]
 enum Failure {
     /// A file, counted from 0, can't be opened or read.
     Reading(usize, io::Error),

@@ -5,7 +5,7 @@ use hyphenation_grammar::form::Kind;
 use pattern_files::group::{Form, Group};
 
 /// What the files are.
-#[derive(Clone, Copy)]
+#[derive(Drop)]
 pub enum Sort {
     /// One file of LibreOffice's.
     Dic,
@@ -14,7 +14,7 @@ pub enum Sort {
 }
 
 /// What the words ask for.
-#[derive(Clone, Copy)]
+#[derive(Drop)]
 pub struct Request<'w> {
     pub kind: Kind,
     pub language: Language,
@@ -38,7 +38,7 @@ pub fn form_of(path: &str) -> Option<Form> {
 }
 
 /// Why words ask for nothing.
-#[derive(Clone, Copy, Debug, PartialEq, Eq)]
+#[derive(Drop)]
 pub enum Misfit {
     /// They are of no form.
     Form,

@@ -2,7 +2,7 @@
 //!
 //! It reads a dictionary text of the kind that its word names from standard input, and writes the canonical text
 //! of that dictionary to standard output; or says on standard error why it can't. `main` hands its words to
-//! `commands::canonical::answer`, which does all and which tests call.
+//! `canonical_command::answer`, which does all and which tests call.
 #![tactic(auto)]
 
 use canonical_command::{answer, report_words};

@@ -21,7 +21,7 @@ const USAGE: &str =
     "usage: hyphenate KIND CODE PATH MARK [EDIT..]\n       hyphenate score KIND CODE PATH WORD\n       hyphenate fill CODE PATH COLUMNS\n";
 
 /// What is wanted of a dictionary.
-#[derive(Clone, Copy)]
+#[derive(Drop)]
 enum Task<'w> {
     /// The score of a word.
     Score {
@@ -41,7 +41,7 @@ enum Task<'w> {
 }
 
 /// What the words ask for: a task, and the dictionary for it.
-#[derive(Clone, Copy)]
+#[derive(Drop)]
 struct Request<'w> {
     language: Language,
     path: &'w str,

@@ -1,6 +1,6 @@
 //! The program `hyphenate-convert`: files of hyphenation patterns into a dictionary text.
 //!
-//! `main` hands its words to `commands::convert::answer`, which does all and which tests call.
+//! `main` hands its words to `convert_command::answer`, which does all and which tests call.
 #![tactic(auto)]
 
 use convert_command::{answer, report_words};

@@ -1,7 +1,7 @@
 //! The program `hyphenate`: a text with marks at the breaks of its words, its lines of a column width, or the score of
 //! a word, by a dictionary.
 //!
-//! `main` hands its words to `commands::hyphenate::answer`, which does all and which tests call.
+//! `main` hands its words to `hyphenate_command::answer`, which does all and which tests call.
 #![tactic(auto)]
 
 use hyphenate_command::{answer, report_words};
