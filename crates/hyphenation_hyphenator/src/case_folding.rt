@@ -62,6 +62,15 @@ pub fn refold<'t>(alloc: Global, original: &'t str) -> Result<(CowStr<'t>, Vec<S
     }
 }
 
+/// A text with room for so many bytes, which begins with another one.
+fn begun_with(alloc: Global, front: &str, room: usize) -> Result<String, AllocError>
+    ensures { IfOk result (λ text. string_bytes text ≡ front.now) }
+{
+    let mut text = String::with_capacity(alloc, room)?;
+    text.push_str(front)?;
+    Ok(text)
+}
+
 /// The folded word and its shifts, where no character before a place is Uppercase.
 fn folded_from(
     alloc: Global,
@@ -73,11 +82,10 @@ fn folded_from(
     ensures folded { IfOk result (λ r. string_bytes r.0 ≡ fold_case original.now) }
     ensures shifts { IfOk result (λ r. r.1.items ≡ shifts_of original.now) }
 {
-    let mut shifts = Vec::new(alloc);
     let (unchanged, rest) = original.split_at(start);
     // Most words fold to as many bytes.
-    let mut folded = String::with_capacity(alloc, original.len())?;
-    folded.push_str(unchanged)?;
+    let mut folded = begun_with(alloc, unchanged, original.len())?;
+    let mut shifts = Vec::new(alloc);
     let mut written = start;
     for c in rest.chars() {
         let index = folded.len();

@@ -9,8 +9,8 @@ loop-c-init c = record {
   holds = begins c.args.original.now _ _ c.args.start _ c.utf8.original c.requires.start c.requires.unchanged (search rules) (search rules) (search rules);
 }
 
-pub loop-c-preserved-in-Continue-branch-4 : goal.loop-c-preserved-in-Continue-branch-4
-loop-c-preserved-in-Continue-branch-4 c = record {
+pub loop-c-preserved-in-Continue-branch-3 : goal.loop-c-preserved-in-Continue-branch-3
+loop-c-preserved-in-Continue-branch-3 c = record {
   can = tt;
   finite = tt;
   holds = new_length _ _ _ _ _ _ _ c.in-Some.c _ c.loop-c.invariant.holds (search rules) (search rules) (search rules) _ _ (search rules) c.in_ok-push-2.ensures.items (search rules) (search rules);
