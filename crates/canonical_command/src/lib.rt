@@ -11,8 +11,7 @@ ghost use Rattle.canonical_command.specs.Canonical.{kind_of_words, reordered};
 ghost use Rattle.command_line.specs.Statuses.{BeforeOutput};
 ghost use Rattle.canonical_command.specs.Private.Statuses.{status_of_error, UnlessFault};
 
-use command_line::VERSION;
-use command_line::answer_of_itself;
+use command_line::{VERSION, answer_of_itself};
 use hyphenation_dictionary::dictionary::{Extended, Standard};
 use hyphenation_grammar::form::Kind;
 use hyphenation_load::{Error, Load, Result};

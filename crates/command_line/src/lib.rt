@@ -4,7 +4,6 @@
 mod about;
 
 pub use about::answer_of_itself;
-
 use std::env::Env;
 use std::{env, io};
 

@@ -9,12 +9,11 @@ ghost use Rattle.command_line.specs.Statuses.{BeforeOutput};
 
 mod request;
 
-use command_line::VERSION;
-use command_line::answer_of_itself;
-use hyphenation_grammar::form::Kind;
-use hyphenation_load::{Error, Load};
+use command_line::{VERSION, answer_of_itself};
 use hyphenation_breaks::entry::{Listing, Payload};
 use hyphenation_breaks::extended::Subregion;
+use hyphenation_grammar::form::Kind;
+use hyphenation_load::{Error, Load};
 use pattern_files::convert::{Converted, convert_with_notes};
 use pattern_files::fault::Refusal;
 use pattern_files::group::{File, Form};

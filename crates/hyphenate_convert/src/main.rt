@@ -3,8 +3,8 @@
 //! `main` hands its words to `convert_command::answer`, which does all and which tests call.
 #![tactic(auto)]
 
-use convert_command::{answer, report_words};
 use command_line::with_words;
+use convert_command::{answer, report_words};
 use std::process::ExitCode;
 
 fn main(rt: HostRuntime) -> ExitCode {

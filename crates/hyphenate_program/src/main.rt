@@ -4,8 +4,8 @@
 //! `main` hands its words to `hyphenate_command::answer`, which does all and which tests call.
 #![tactic(auto)]
 
-use hyphenate_command::{answer, report_words};
 use command_line::with_words;
+use hyphenate_command::{answer, report_words};
 use std::process::ExitCode;
 
 fn main(rt: HostRuntime) -> ExitCode {

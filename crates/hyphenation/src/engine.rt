@@ -12,12 +12,12 @@ ghost use Rattle.hyphenation_hyphenator.specs.Hyphenated.{hyphenated_text};
 
 mod whole;
 
-use hyphenation_load::{Error, Load};
-pub use hyphenation_grammar::form::Kind;
-pub use hyphenation_grammar::number_of;
-use hyphenation_dictionary::dictionary::{Extended, Standard};
 use hyphenation_breaks::extended::Subregion;
 use hyphenation_breaks::language::Language;
+use hyphenation_dictionary::dictionary::{Extended, Standard};
+pub use hyphenation_grammar::form::Kind;
+pub use hyphenation_grammar::number_of;
+use hyphenation_load::{Error, Load};
 use hyphenation_score::Score;
 use hyphenation_score::laws::scores_have_values;
 use std::alloc::{AllocError, Global};

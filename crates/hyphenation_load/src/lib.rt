@@ -11,13 +11,13 @@ ghost use Rattle.hyphenation_load.specs.Load.{Reads, ReadsIn, FromFile, InLangua
 ghost use Rattle.hyphenation_load.specs.Private.Load.{error_of, IsOfLanguage, IsOfReading};
 ghost use Rattle.hyphenation_grammar.specs.declared.Cause.{Cause};
 
-use hyphenation_reader::reader::{Refusal, read_extended, read_standard};
-use hyphenation_writer::writer::{write_extended, write_standard};
-pub use hyphenation_grammar::{Cause, Error, Result};
 use hyphenation_breaks::breaks::Break;
-use hyphenation_dictionary::dictionary::{Dictionary, Extended, Standard};
 use hyphenation_breaks::entry::Payload;
 use hyphenation_breaks::language::Language;
+use hyphenation_dictionary::dictionary::{Dictionary, Extended, Standard};
+pub use hyphenation_grammar::{Cause, Error, Result};
+use hyphenation_reader::reader::{Refusal, read_extended, read_standard};
+use hyphenation_writer::writer::{write_extended, write_standard};
 use std::alloc::{AllocError, Global};
 use std::fs::Files;
 use std::io::{ErrorKind, Read, Write};

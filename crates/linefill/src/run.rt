@@ -11,9 +11,9 @@ ghost use Rattle.line_filling.specs.Lines.{lines_by};
 ghost use Rattle.linefill.specs.Run.{lines_by_bytes};
 ghost use Rattle.hyphenation_writer.specs.Canonical.{with_line_feeds};
 
-use line_filling::fill;
 use hyphenation::engine::{Kind, RunError, read_input};
 use hyphenation::{Language, Load, Standard};
+use line_filling::fill;
 use std::alloc::{AllocError, Global};
 use std::io::{Read, Write};
 

@@ -13,13 +13,13 @@ ghost use Rattle.hyphenation_hyphenator.specs.Hyphenated.{hyphenated_text};
 ghost use Rattle.hyphenation_load.specs.Load.{ReadsIn, IsNoWant};
 
 use super::RunError;
+use hyphenation_breaks::language::Language;
+use hyphenation_dictionary::dictionary::{Extended, Standard};
+use hyphenation_grammar::form::Kind;
+use hyphenation_hyphenator::text::hyphenated_text;
 use hyphenation_load;
 use hyphenation_load::{Load, read_all};
-use hyphenation_hyphenator::text::hyphenated_text;
 use hyphenation_reader::edits::apply_edit;
-use hyphenation_grammar::form::Kind;
-use hyphenation_dictionary::dictionary::{Extended, Standard};
-use hyphenation_breaks::language::Language;
 use std::alloc::{AllocError, Global};
 use std::io;
 use std::io::{ErrorKind, Read};
@@ -45,7 +45,11 @@ pub(super) trait WholeTexts: Drop {
     ghost breaks_of: { Self → List ℕ → List Break };
 
     /// The dictionary of a language that a reader's bytes give.
-    fn load<D: Read>(alloc: Global, lang: Language, reader: &mut D) -> hyphenation_load::Result<Self>
+    fn load<D: Read>(
+        alloc: Global,
+        lang: Language,
+        reader: &mut D,
+    ) -> hyphenation_load::Result<Self>
         ensures bytes { IfSome (D.remaining reader.old) (λ bytes.
             ReadsIn (refusal_of kind) (λ bytes given. given ≡ contents bytes) language_in lang bytes result) }
         ensures kind { IfErr result IsNoWant };
@@ -76,7 +80,11 @@ impl WholeTexts for Standard {
 
     ghost breaks_of = { λ dictionary word. all_breaks_of (rules_of no_change plain_break dictionary) word };
 
-    fn load<D: Read>(alloc: Global, lang: Language, reader: &mut D) -> hyphenation_load::Result<Standard> {
+    fn load<D: Read>(
+        alloc: Global,
+        lang: Language,
+        reader: &mut D,
+    ) -> hyphenation_load::Result<Standard> {
         Standard::from_reader(alloc, lang, reader)
     }
 
@@ -105,7 +113,11 @@ impl WholeTexts for Extended {
 
     ghost breaks_of = { λ dictionary word. fitted_breaks_of (rules_of own_change own_break dictionary) word };
 
-    fn load<D: Read>(alloc: Global, lang: Language, reader: &mut D) -> hyphenation_load::Result<Extended> {
+    fn load<D: Read>(
+        alloc: Global,
+        lang: Language,
+        reader: &mut D,
+    ) -> hyphenation_load::Result<Extended> {
         Extended::from_reader(alloc, lang, reader)
     }
 
