@@ -37,7 +37,7 @@ fn feed(text: &[u8]) -> Option<usize>
 }
 
 /// What stands between spaces.
-pub fn between_spaces(alloc: Global, text: &[u8]) -> Result<Vec<&[u8]>, AllocError>
+pub(crate) fn between_spaces(alloc: Global, text: &[u8]) -> Result<Vec<&[u8]>, AllocError>
     ensures { IfOk result (λ v. map (λ token. token.now) v.items ≡ slice_split (λ b. b == 32) text.now) }
 {
     text.split(|b| *b == b' ').collect(alloc)
@@ -146,7 +146,7 @@ fn two_small(parts: &[&[u8]]) -> Option<(u8, u8)>
 }
 
 /// A number from 0 to 255.
-pub fn small(text: &[u8]) -> Option<u8>
+pub(crate) fn small(text: &[u8]) -> Option<u8>
     ensures { result ≡ small_of text.now }
 {
     let value = number_of(text)?;

@@ -68,7 +68,7 @@ pub fn escaped_also(escapes: Escapes, letter: u8) -> bool
 
 /// What a byte adds to what was read before it, after a backslash or not: a byte, or nothing where it is a
 /// backslash itself. None where it cannot stand there.
-pub fn added(escapes: Escapes, after: bool, byte: u8) -> Option<Option<EscapedByte>>
+pub(crate) fn added(escapes: Escapes, after: bool, byte: u8) -> Option<Option<EscapedByte>>
     ensures { option_map option_to_list result ≡ bytes_added escapes after byte }
 {
     if after {
@@ -89,7 +89,7 @@ pub fn added(escapes: Escapes, after: bool, byte: u8) -> Option<Option<EscapedBy
 }
 
 /// Whether each escape is one, and no carriage return stands there.
-pub fn has_good_escapes(escapes: Escapes, text: &[u8]) -> bool
+pub(crate) fn has_good_escapes(escapes: Escapes, text: &[u8]) -> bool
     ensures { result ≡ is_some (escaped_bytes_of escapes text.now) }
 {
     let mut after = false;
@@ -126,7 +126,7 @@ fn copied(alloc: Global, text: &[u8]) -> Result<Vec<u8>, AllocError>
 }
 
 /// A word or a substitution as it is written.
-pub fn text_of(alloc: Global, written: &[u8]) -> Result<Option<Vec<u8>>, AllocError>
+pub(crate) fn text_of(alloc: Global, written: &[u8]) -> Result<Option<Vec<u8>>, AllocError>
     ensures { IfOk result (λ found. option_map (λ v. v.items) found ≡ text_spelt written.now) }
 {
     if written == b"\\e".as_slice() {
@@ -151,7 +151,7 @@ pub fn text_of(alloc: Global, written: &[u8]) -> Result<Option<Vec<u8>>, AllocEr
 }
 
 /// In a pattern an unescaped digit is a value.
-pub fn element_of(spelt: EscapedByte) -> PatternElement
+pub(crate) fn element_of(spelt: EscapedByte) -> PatternElement
     ensures { result ≡ element_of spelt }
 {
     match spelt.byte {
