@@ -9,3 +9,4 @@ pub mod Suffixes
 pub mod LinksMade
 pub mod FrozenTrie
 pub mod States
+pub mod LookedUp

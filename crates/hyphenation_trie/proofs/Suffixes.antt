@@ -28,7 +28,7 @@ Ends-trans t u s eu es =
 pub Ends-same : (t u s : List ℕ) → EndsWith t u → EndsWith t s → length s ≡ length u → s ≡ u
 Ends-same t u s eu es e = sym es.1 ∙ ap (λ (n : ℕ). drop (length t - n) t) e ∙ eu.1
 
-length-push : (t : List ℕ) (b : ℕ) → length (t ++ b ∷ []) ≡ length t + 1
+pub length-push : (t : List ℕ) (b : ℕ) → length (t ++ b ∷ []) ≡ length t + 1
 length-push t b = length-append t (b ∷ [])
 
 -- a byte more at both

@@ -23,7 +23,7 @@
 //! keeps its number as the trie grows, and when it is frozen.
 #![tactic(auto)]
 
-ghost use Rattle.std.specs.Prelude.{◌≡◌, IfOk};
+ghost use Rattle.std.specs.Prelude.{◌≡◌, ◌≤◌, ◌^◌, IfOk, OnErr};
 
 mod automaton;
 mod chains;
@@ -44,7 +44,8 @@ use std::alloc::AllocError;
 /// A number in 32 bits, as a dictionary holds those of its nodes, cells and entries, and the places of its keys. One
 /// that needs more is refused as if memory were.
 pub fn in_32_bits(number: usize) -> Result<u32, AllocError>
-    ensures { IfOk result (λ held. held ≡ number) }
+    ensures held { IfOk result (λ held. held ≡ number) }
+    ensures refused { OnErr result (2 ^ 32 ≤ number) }
 {
     if number <= u32::MAX as usize {
         Ok(number as u32)

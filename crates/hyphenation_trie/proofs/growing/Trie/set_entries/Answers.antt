@@ -20,8 +20,8 @@ invariant_of-self-2 g c =
     let xs = c.args.entries.now.items in
     let bound = length c.append.new.self.items in
     let grown : bound ≡ length es + length xs = ap length c.in_ok-append.ensures.items ∙ length-append es xs in
-    let start : c.in_ok-start.start ≡ length es = omega (arith, c.in_ok-start.ensures, c.len.ensures, c.self.inside.entries.ok.0) in
-    let count : c.in_ok-count.count ≡ length xs = omega (arith, c.in_ok-count.ensures, c.len-2.ensures, c.args.entries.now.ok.0) in
+    let start : c.in_ok-start.start ≡ length es = omega (arith, c.in_ok-start.ensures.held, c.len.ensures, c.self.inside.entries.ok.0) in
+    let count : c.in_ok-count.count ≡ length xs = omega (arith, c.in_ok-count.ensures.held, c.len-2.ensures, c.args.entries.now.ok.0) in
     let span : IsWithin bound (Some (record { start = c.in_ok-start.start; count = c.in_ok-count.count })) = omega (arith, start, count, grown) in
     held_set _ _ c.self.inside.states.items _ _ (length es) bound c.args.node c.set_span.new.self (omega (arith, grown)) c.self.invariant (subst (λ (s : Option Span). IsWithin bound s) (sym c.set_span.ensures.set) span)
 
@@ -32,8 +32,8 @@ returns-clause-set g c =
     let es = c.self.inside.entries.items in
     let xs = c.args.entries.now.items in
     let x : State = c.set_span.new.self in
-    let start : c.in_ok-start.start ≡ length es = omega (arith, c.in_ok-start.ensures, c.len.ensures, c.self.inside.entries.ok.0) in
-    let count : c.in_ok-count.count ≡ length xs = omega (arith, c.in_ok-count.ensures, c.len-2.ensures, c.args.entries.now.ok.0) in
+    let start : c.in_ok-start.start ≡ length es = omega (arith, c.in_ok-start.ensures.held, c.len.ensures, c.self.inside.entries.ok.0) in
+    let count : c.in_ok-count.count ≡ length xs = omega (arith, c.in_ok-count.ensures.held, c.len-2.ensures, c.args.entries.now.ok.0) in
     ap (λ ys. tree_of froms (map span_in (set states c.args.node x)) ys) c.in_ok-append.ensures.items
     ∙ ap (λ (ss : List (Option Span)). tree_of froms ss (es ++ xs)) (map-set span_in states c.args.node x)
     ∙ seen-with froms (map span_in states) es xs c.args.node c.in_ok-start.start c.in_ok-count.count (span_in x) c.set_span.ensures.set c.self.invariant.within start count
