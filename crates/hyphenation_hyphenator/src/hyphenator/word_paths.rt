@@ -18,7 +18,7 @@ use super::boundaries::boundaries_of_ascii;
 use super::boundaries_of;
 use super::break_kind::Found;
 use super::letters::are_letters;
-use super::pattern_breaks::{allowed_breaks, is_within};
+use super::pattern_breaks::is_within;
 use crate::case_folding::{Shift, are_small_letters, realign_in_order, refold};
 use crate::soft_hyphens::soft_hyphen_indices;
 use hyphenation_breaks::breaks::Break;
@@ -62,7 +62,7 @@ pub(crate) fn opportunities_within<'h, F: Found<'h>>(
 {
     dictionary.invariant();
     value_is_borne::<F::Payload>();
-    allowed_breaks(alloc, automaton_of(dictionary), lowercase_word, bounds)
+    F::allowed(alloc, automaton_of(dictionary), lowercase_word, bounds)
 }
 
 /// The breaks listed for a word from the first bound to the second.
