@@ -309,10 +309,32 @@ fn breaks_of_any<'h, F: Found<'h>>(
     breaks_of_folded(alloc, dictionary, text, shifts)
 }
 
-/// The breaks of a word as written.
+/// The breaks of a word as written, on the road that its letters allow.
 ///
 /// Most words are of small letters, which fold to themselves, or of ASCII: those have no soft hyphens, and their
 /// folding moves no place.
+#[inline(always)]
+fn breaks_by_letters<'h, F: Found<'h>>(
+    alloc: Global,
+    dictionary: &'h Dictionary<F::Payload, F::Listing>,
+    word: &str,
+) -> Result<Vec<F>, AllocError>
+    ensures { IfOk result (λ v.
+        map F.meaning v.items
+        ≡ fitted_breaks_of (rules_of F.Payload.change_of F.Listing.meaning dictionary.now) word.now) }
+{
+    if are_letters(word.as_bytes()) {
+        breaks_of_letters(alloc, dictionary, word)
+    } else if are_small_letters(word) {
+        breaks_of_small_letters(alloc, dictionary, word)
+    } else if word.len() <= 64 && word.is_ascii() {
+        breaks_of_ascii(alloc, dictionary, word)
+    } else {
+        breaks_of_any(alloc, dictionary, word)
+    }
+}
+
+/// The breaks of a word as written.
 #[inline(always)]
 pub(crate) fn breaks<'h, F: Found<'h>>(
     alloc: Global,
@@ -328,13 +350,5 @@ pub(crate) fn breaks<'h, F: Found<'h>>(
     dictionary.invariant();
     value_is_borne::<F::Payload>();
     winner_is_first::<F::Payload>();
-    if are_letters(word.as_bytes()) {
-        breaks_of_letters(alloc, dictionary, word)
-    } else if are_small_letters(word) {
-        breaks_of_small_letters(alloc, dictionary, word)
-    } else if word.len() <= 64 && word.is_ascii() {
-        breaks_of_ascii(alloc, dictionary, word)
-    } else {
-        breaks_of_any(alloc, dictionary, word)
-    }
+    breaks_by_letters(alloc, dictionary, word)
 }
