@@ -1,6 +1,7 @@
 -- The odd places of a word are the breaks that patterns allow, where none changes anything; they are looked for within the bounds alone.
-use Rattle.std.proofs.Common.{◌≡◌, ◌≢◌, ◌%◌, ◌&&◌, nat_le, ℕ, zero, suc, ◌+◌, ◌-◌, ◌<◌, ◌≤◌, ◌⊎◌, Bool, true, false, cond, List, [], ◌∷◌, ◌++◌, length, map, filter, max, min, Option, refl, sym, ap, subst, ◌∙◌, arith, inl, inr}
+use Rattle.std.proofs.Common.{◌≡◌, ◌≢◌, ◌%◌, ◌&&◌, nat_le, ℕ, zero, suc, ◌+◌, ◌-◌, ◌<◌, ◌≤◌, ◌⊎◌, Bool, true, false, cond, List, [], ◌∷◌, ◌++◌, length, map, filter, max, min, Option, Some, None, refl, sym, ap, subst, ◌∙◌, arith, inl, inr}
 use Rattle.std.specs.List.{range_with_len, slice_index}
+use Rattle.std.specs.Option.{option_and_then}
 use Rattle.std.proofs.Math.Bool.{and-false, and-true}
 use Rattle.std.proofs.lemmas.Bool.{cases_lt, le-leb, lt-leb}
 use Rattle.std.proofs.lemmas.List.{append-nil, get_or_past}
@@ -8,10 +9,9 @@ use Rattle.std.proofs.lemmas.List.Elements.{filter-append}
 use Rattle.std.proofs.lemmas.List.FromFn.{get_or-map-range_with_len, length-map-range_with_len}
 use Rattle.hyphenation_breaks.specs.Break.{Break, Change, plain_break, break_at}
 use Rattle.hyphenation_breaks.specs.Dictionary.{Patterns}
-use Rattle.hyphenation_hyphenator.specs.Opportunities.{is_odd, within, breaks_within, winning_break, breaks_at_odd_values}
-use Rattle.hyphenation_score.specs.Laws.{NoChangeIsWon}
-use Rattle.hyphenation_score.specs.OnePass.{carry_change}
-use Rattle.hyphenation_score.specs.Scoring.{frame, bearers, value_at, values}
+use Rattle.hyphenation_breaks.specs.declared.entry.Entry.{Entry}
+use Rattle.hyphenation_hyphenator.specs.Opportunities.{is_odd, no_change, within, breaks_within, winning_break, breaks_at_odd_values}
+use Rattle.hyphenation_score.specs.Scoring.{value_at, values, winner_at}
 
 pub none_of : (test : ℕ → Bool) (a n : ℕ) → ((p : ℕ) → a ≤ p → p < a + n → test p ≡ false) → filter test (range_with_len a n) ≡ []
 none_of test a zero h = refl
@@ -127,14 +127,18 @@ same_breaks test odd break_to bounds is first (suc n) agree =
       | false ↦ rest
     ]
 
--- The odd places within bounds are the breaks that the keys allow, where no entry that bears on a place carries a change.
-pub places_allowed : {C : Type 0} (change_of : C → Option Change) (keys : Patterns C) (word : List ℕ) (bounds : ℕ × ℕ) → NoChangeIsWon C → ((p : ℕ) → carry_change change_of (bearers keys (frame word) p) ≡ false)
+-- Where nothing carries a change, no winner does.
+pub none_won : {C : Type 0} (keys : Patterns C) (word : List ℕ) (p : ℕ) → option_and_then (λ entry. no_change entry.change) (winner_at keys word p) ≡ None
+none_won {C} keys word p = elim (winner_at keys word p) as (λ winner. option_and_then (λ (entry : Entry C). no_change entry.change) winner ≡ None) [ None ↦ refl | Some entry ↦ refl ]
+
+-- The odd places within bounds are the breaks that the keys allow, where no winner carries a change.
+pub places_allowed : {C : Type 0} (change_of : C → Option Change) (keys : Patterns C) (word : List ℕ) (bounds : ℕ × ℕ) → ((p : ℕ) → option_and_then (λ entry. change_of entry.change) (winner_at keys word p) ≡ None)
     → map plain_break (filter (test_of (values keys word) bounds) (range_with_len 1 (length (values keys word)))) ≡ breaks_within (breaks_at_odd_values change_of keys word) bounds
 unfolding breaks_at_odd_values
-places_allowed change_of keys word bounds none_wins none =
+places_allowed change_of keys word bounds none =
     let n = length word - 1 in
     let test : ℕ → Bool = test_of (values keys word) bounds in
     let count : length (values keys word) ≡ n = length-map-range_with_len (λ p. value_at keys word p) 1 n in
     ap (λ m. map plain_break (filter test (range_with_len 1 m))) count
-    ∙ same_breaks test (λ place. is_odd (value_at keys word place)) (winning_break change_of keys word) bounds (λ p. ap (break_at p) (none_wins change_of keys word p (none p))) 1 n
+    ∙ same_breaks test (λ place. is_odd (value_at keys word place)) (winning_break change_of keys word) bounds (λ p. ap (break_at p) (none p)) 1 n
     (λ p l h. ap (λ v. is_odd v && within bounds p) (get_or-map-range_with_len (λ q. value_at keys word q) 1 n (p - 1) p 0 (omega arith) (omega arith)))

@@ -3,7 +3,6 @@ pub mod FirstGreatest
 pub mod NumberRows
 pub mod OnePass
 pub mod OnePassInvariant
-pub mod CarriedChanges
 pub mod WinnersMet
 pub mod WinnerVisits
 pub mod NoKeys

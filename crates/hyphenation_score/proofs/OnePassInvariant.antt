@@ -1,8 +1,9 @@
 -- What holds while the frame of a word is read.
-use Rattle.std.proofs.Common.{◌≡◌, ◌+◌, ◌-◌, ◌*◌, ◌<◌, ◌≤◌, ◌^◌, max, ℕ, List, [], ◌∷◌, ◌++◌, length, map, take, drop, slice_index, refl, ap, sym, subst, ◌∙◌, arith, None}
+use Rattle.std.proofs.Common.{◌≡◌, ◌+◌, ◌-◌, ◌*◌, ◌<◌, ◌≤◌, ◌^◌, max, ℕ, List, [], ◌∷◌, ◌++◌, length, map, take, drop, slice_index, refl, ap, sym, subst, ◌∙◌, arith, None, add-one}
 use Rattle.std.specs.List.{range_with_len, flat_map, sum_by}
 use Rattle.std.proofs.Math.Nat.{mul-le-mul_right}
-use Rattle.std.proofs.lemmas.List.{length-take, ext_get_or}
+use Rattle.std.proofs.Math.Seq.{get_or-append_seam}
+use Rattle.std.proofs.lemmas.List.{length-take, ext_get_or, get_or_append_left}
 use Rattle.std.proofs.lemmas.List.FromFn.{length-map-range_with_len, get_or-map-range_with_len}
 use Rattle.hyphenation_trie.specs.Trie.{Tree, node_text, entries_of_key, IsTrie, EachBeginsKey}
 use Rattle.hyphenation_trie.specs.Links.{IsLongest, keys_in}
@@ -49,6 +50,14 @@ module _ {C : Type 0} (tree : Tree (Entry C)) (word : List ℕ) (trie : IsTrie t
       let times = mul-le-mul_right {m = at} {n = 9223372036854775810} (length word + 2) (omega arith) in
       (omega (arith, p.most), omega (arith, p.few))
 
+  -- The node after the next byte is that of the longest text that ends what is read then.
+  pub passed_goes_on : LongestGoesOn (Entry C) → (at from byte : ℕ) (vals : List ℕ) (m0 r0 m r : ℕ) → at < length word + 2 → byte ≡ slice_index (frame word) at → Passed tree word at from vals m0 r0 m r
+      → (node : ℕ) → IsLongest tree.texts (node_text tree from ++ byte ∷ []) node → IsLongest tree.texts (take (at + 1) (frame word)) node
+  passed_goes_on goes_on at from byte vals m0 r0 m r inside byte_is p node step =
+      let lt : at < length framed = omega (arith, length-frame word) in
+      let next = goes_on tree trie (take at framed) byte from node p.longest step in
+      read_more tree.texts framed (take at framed) at byte node lt byte_is refl next
+
   pub passed_more : KeysHaveNodes (Entry C) → LongestGoesOn (Entry C) → EachBeginsKey tree → (at from byte node : ℕ) (old new : List ℕ) (m0 r0 m r m' r' : ℕ)
       → at < length word + 2 → byte ≡ slice_index (frame word) at
       → Passed tree word at from old m0 r0 m r
@@ -60,8 +69,7 @@ module _ {C : Type 0} (tree : Tree (Entry C)) (word : List ℕ) (trie : IsTrie t
       → Passed tree word (at + 1) node new m0 r0 m' r'
   passed_more nodes goes_on begins at from byte node old new m0 r0 m r m' r' inside byte_is p step len raised least most alone counted =
       let lt : at < length framed = omega (arith, length-frame word) in
-      let next = goes_on tree trie (take at framed) byte from node p.longest step in
-      let longest = read_more tree.texts framed (take at framed) at byte node lt byte_is refl next in
+      let longest = passed_goes_on goes_on at from byte old m0 r0 m r inside byte_is p node step in
       let last : 1 + at ≡ at + 1 = omega arith in
       let within : at + 1 ≤ length framed = omega arith in
       record {
@@ -92,6 +100,13 @@ module _ {C : Type 0} (tree : Tree (Entry C)) (word : List ℕ) (trie : IsTrie t
             let long = length-take (at + 1) framed in
             omega (arith, counted, length-frame word);
       }
+
+  -- The byte of a word, and the dot after it, in the frame.
+  pub word_byte : (at : ℕ) → at < length word → slice_index word at ≡ slice_index (frame word) (at + 1)
+  word_byte at lt = sym (get_or_append_left word (46 ∷ []) 0 at lt) ∙ ap (slice_index (frame word)) (sym (add-one at))
+
+  pub last_byte : 46 ≡ slice_index (frame word) (length word + 1)
+  last_byte = sym (get_or-append_seam word 46 [] 0) ∙ ap (slice_index (frame word)) (sym (add-one (length word)))
 
   -- All is read.
   pub passed_values : (node : ℕ) (vals : List ℕ) (m0 r0 m r : ℕ) → length vals ≡ length word - 1 → Passed tree word (length word + 2) node vals m0 r0 m r → vals ≡ values (entries_of_key tree) word

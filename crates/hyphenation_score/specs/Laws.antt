@@ -5,7 +5,6 @@ use Rattle.std.specs.Option.{option_and_then}
 use Rattle.hyphenation_breaks.specs.Break.{Change}
 use Rattle.hyphenation_breaks.specs.Dictionary.{Patterns}
 use Rattle.hyphenation_breaks.specs.declared.entry.Entry.{Entry}
-use Rattle.hyphenation_score.specs.OnePass.{carry_change}
 use Rattle.hyphenation_score.specs.Scoring.{frame, bearers, value_at, values, value_of, winner_at, winners, scored_pair, scores}
 use Rattle.hyphenation_score.specs.Winners.{Best, IsPair, Holds, Bears, Wins}
 
@@ -78,13 +77,6 @@ abbrev pub ScoresHaveValues : Type 0 → Type 0
 ScoresHaveValues C =
     (change_of : C → Option Change) (keys : Patterns C) (word : List ℕ) (pairs : List (ℕ × Option (Bor Change)))
     → map scored_pair pairs ≡ scores change_of keys word → map (λ pair. pair.0) pairs ≡ values keys word
-
--- Where no entry that bears on a place carries a change, its winner carries none.
-abbrev pub NoChangeIsWon : Type 0 → Type 0
-NoChangeIsWon C =
-    (change_of : C → Option Change) (keys : Patterns C) (word : List ℕ) (p : ℕ)
-    → carry_change change_of (bearers keys (frame word) p) ≡ false
-    → option_and_then (λ entry. change_of entry.change) (winner_at keys word p) ≡ None
 
 -- Patterns that know the same of each text give the same values and the same winners.
 abbrev pub SameKeysSameValues : Type 0 → Type 0

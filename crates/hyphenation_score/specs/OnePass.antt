@@ -12,7 +12,3 @@ keys_ending keys framed end = count_by (λ start. is_some (keys (slice_range fra
 -- How many occurrences of keys the frame has: pairs of a start and a greater end between which a key stands.
 abbrev pub occurrences : {C : Type 0} → Patterns C → List ℕ → ℕ
 occurrences keys framed = sum_by (λ end. keys_ending keys framed end) (range_with_len 1 (length framed))
-
--- One of the entries carries a change, where it is told which change an entry carries.
-abbrev pub carry_change : {C : Type 0} → (C → Option Change) → List (Entry C) → Bool
-carry_change change_of entries = list_any (λ entry. is_some (change_of entry.change)) entries

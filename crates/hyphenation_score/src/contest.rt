@@ -3,7 +3,8 @@
 //! Keys are met by their ends, and of equal values the one whose key starts first has to win: so each place keeps, with
 //! the best entry so far, where its key starts. Of two that start at one byte the shorter is met first.
 
-ghost use Rattle.std.specs.Prelude.{◌≡◌, ◌+◌, ◌-◌, ◌*◌, ◌<◌, ◌≤◌, ◌^◌, ◌==◌, if◌then◌else◌, ℕ, List, None, Some, length, filter, map, take, option_copied, IfOk, OnOk};
+ghost use Rattle.std.specs.Prelude.{◌≡◌, ◌+◌, ◌-◌, ◌*◌, ◌<◌, ◌≤◌, ◌^◌, ◌==◌, ◌++◌, ◌∷◌, [], if◌then◌else◌, ℕ, List, None, Some, length, filter, map, take, option_copied, slice_index, IfOk, OnOk};
+ghost use Rattle.std.specs.List.{slice_index_or};
 ghost use Rattle.hyphenation_breaks.specs.Dictionary.{entries_of_keys, longest_key};
 ghost use Rattle.hyphenation_trie.specs.Links.{IsLongest, keys_in};
 ghost use Rattle.hyphenation_trie.specs.Trie.{node_text, entries_of_key, EachBeginsKey};
@@ -12,7 +13,6 @@ ghost use Rattle.hyphenation_score.specs.OnePass.{occurrences};
 ghost use Rattle.hyphenation_score.specs.Winners.{Holds};
 ghost use Rattle.hyphenation_score.specs.Private.Winners.{best_of, meets, Sane, Asked};
 
-use super::framed_at;
 use hyphenation_breaks::breaks::Break;
 use hyphenation_breaks::entry::{Entry, Payload};
 use hyphenation_dictionary::dictionary::Dictionary;
@@ -42,30 +42,33 @@ fn better<'d, C>(
 }
 
 /// Lets an entry of a key that stands at `start` compete for the place on which it bears, if that is within the word.
+#[inline(always)]
 fn compete_at<'d, C>(
     bests: &mut [Option<&'d Entry<C>>],
     starts: &mut [usize],
     start: usize,
     entry: &'d Entry<C>,
 )
-    requires { length starts.old ≡ length bests.old }
+    requires lengths { length starts.old ≡ length bests.old }
+    requires start { start ≤ length bests.old + 2 }
+    requires room { length bests.old + 1 < 2 ^ 63 }
     ensures { (i : ℕ) → i < length bests.old
         → best_of bests.new starts.new i
         ≡ (if start + entry.now.place == (i + 1) + 1
         then meets (best_of bests.old starts.old i) start (Some entry.now)
         else best_of bests.old starts.old i) }
 {
-    if let Some(place) = start.checked_add(entry.place as usize) {
-        if 2 <= place && place - 2 < bests.len() {
-            let at = place - 2;
-            let (best, from) = better(bests[at], starts[at], entry, start);
-            bests[at] = best;
-            starts[at] = from;
-        }
+    // The frame has a dot before the word, and the first place stands after the word's first byte.
+    let at = (start + entry.place as usize).wrapping_sub(2);
+    if at < bests.len() {
+        let (best, from) = better(bests[at], starts[at], entry, start);
+        bests[at] = best;
+        starts[at] = from;
     }
 }
 
 /// Lets the entries of a key that stands at `start` compete.
+#[inline(always)]
 fn compete<'d, C>(
     entries: &'d [Entry<C>],
     start: usize,
@@ -73,6 +76,8 @@ fn compete<'d, C>(
     starts: &mut [usize],
 )
     requires lengths { length starts.old ≡ length bests.old }
+    requires start { start ≤ length bests.old + 2 }
+    requires room { length bests.old + 1 < 2 ^ 63 }
     requires sane { (i : ℕ) → i < length bests.old → Sane (best_of bests.old starts.old i) }
     ensures { (i : ℕ) → i < length bests.old
         → best_of bests.new starts.new i
@@ -85,6 +90,7 @@ fn compete<'d, C>(
 }
 
 /// Lets the keys that end the text of a node, which ends at `end`, compete, with one report for each.
+#[inline(always)]
 fn compete_reported<'d, C: Drop>(
     automaton: &'d Automaton<Entry<C>>,
     word: &[u8],
@@ -97,6 +103,8 @@ fn compete_reported<'d, C: Drop>(
     requires end { end ≤ length (frame word.now) }
     requires longest { IsLongest automaton.now.texts (take end (frame word.now)) from }
     requires lengths { length starts.old ≡ length bests.old }
+    requires within { end ≤ length bests.old + 3 }
+    requires short { length bests.old + 1 < 2 ^ 63 }
     requires holds { (i : ℕ) → i < length bests.old
         → Holds (entries_of_key automaton.now) (frame word.now) (i + 1) (Asked (frame word.now) end 0)
         (best_of bests.old starts.old i) }
@@ -117,6 +125,107 @@ fn compete_reported<'d, C: Drop>(
         compete(entries, end - automaton.depth(node), bests, starts);
         node = automaton.next_report(node);
     }
+}
+
+/// Reads one byte of a word's frame, lets the keys that end with it compete, and tells the node after it.
+///
+/// The caller owes that the node after the byte is that of the longest text that ends what is read then.
+#[inline(always)]
+fn read<'d, C: Drop>(
+    automaton: &'d Automaton<Entry<C>>,
+    word: &[u8],
+    from: usize,
+    byte: u8,
+    end: usize,
+    bests: &mut [Option<&'d Entry<C>>],
+    starts: &mut [usize],
+    count: &mut LookUps,
+) -> usize
+    requires from { from < length automaton.now.texts }
+    requires goes_on { (node : ℕ) → IsLongest automaton.now.texts (node_text automaton.now from ++ byte ∷ []) node
+        → IsLongest automaton.now.texts (take end (frame word.now)) node }
+    requires end { end ≤ length (frame word.now) }
+    requires lengths { length starts.old ≡ length bests.old }
+    requires within { end ≤ length bests.old + 3 }
+    requires short { length bests.old + 1 < 2 ^ 63 }
+    requires holds { (i : ℕ) → i < length bests.old
+        → Holds (entries_of_key automaton.now) (frame word.now) (i + 1) (Asked (frame word.now) end 0)
+        (best_of bests.old starts.old i) }
+    requires made { count.old.made ≤ 2 ^ 100 }
+    requires reported { count.old.reported ≤ 2 ^ 127 }
+    ensures longest { IsLongest automaton.now.texts (node_text automaton.now from ++ byte ∷ []) result }
+    ensures holds { (i : ℕ) → i < length bests.old
+        → Holds (entries_of_key automaton.now) (frame word.now) (i + 1) (Asked (frame word.now) (end + 1) 0)
+        (best_of bests.new starts.new i) }
+    ensures least { count.old.made + 1 ≤ count.new.made }
+    ensures most { count.new.made + length (node_text automaton.now result)
+        ≤ count.old.made + length (node_text automaton.now from) + 2 }
+    ensures alone { count.new.made ≤ count.old.made + length (node_text automaton.now from) + 1 }
+    ensures reported { count.new.reported
+        ≡ count.old.reported + keys_in automaton.now (node_text automaton.now result)
+        (length (node_text automaton.now result)) }
+{
+    let node = automaton.step(from, byte, count);
+    compete_reported(automaton, word, node, end, bests, starts, count);
+    node
+}
+
+/// Makes lists of no entry and of 0 those of the entries that win a word's places, and of where their keys start, in one
+/// pass over its frame.
+///
+/// Both lists have one item for each place, from place 1 on. Look-ups and reports are counted. The caller owes that each
+/// node of the automaton but the root begins a key.
+#[inline(always)]
+pub fn compete_all<'d, C: Drop>(
+    automaton: &'d Automaton<Entry<C>>,
+    word: &[u8],
+    bests: &mut [Option<&'d Entry<C>>],
+    starts: &mut [usize],
+    count: &mut LookUps,
+)
+    requires begins { EachBeginsKey automaton.now }
+    requires made { count.old.made ≤ 2 ^ 64 }
+    requires reported { count.old.reported ≤ 2 ^ 64 }
+    requires places { length bests.old ≡ length word.now - 1 }
+    requires lengths { length starts.old ≡ length word.now - 1 }
+    requires none { (i : ℕ) → i < length bests.old → slice_index_or bests.old i None ≡ None }
+    requires zeros { (i : ℕ) → i < length starts.old → slice_index starts.old i ≡ 0 }
+    ensures winners { map option_copied bests.new ≡ winners (entries_of_key automaton.now) word.now }
+    ensures linear { count.new.made ≤ count.old.made + 2 * (length word.now + 2) }
+    ensures alone { ((q : List ℕ) → entries_of_key automaton.now q ≡ None)
+        → count.new.made ≤ count.old.made + (length word.now + 2) }
+    ensures least { count.old.made + (length word.now + 2) ≤ count.new.made }
+    ensures reported { count.new.reported ≡ count.old.reported
+        + occurrences (entries_of_key automaton.now) (frame word.now) }
+{
+    automaton.invariant();
+    keys_have_nodes::<Entry<C>>();
+    longest_goes_on::<Entry<C>>();
+    // The dots of the frame are read before the word and after it.
+    let root = automaton.root();
+    let mut node = read(automaton, word, root, b'.', 1, bests, starts, count);
+    for at in 0..word.len() {
+        node = read(
+            automaton,
+            word,
+            node,
+            word[at],
+            at + 2,
+            bests,
+            starts,
+            count,
+        );
+    }
+    let _last = read(
+        automaton,
+        word,
+        node,
+        b'.',
+        word.len() + 2,
+        bests,
+        starts,
+        count,
+    );
 }
 
 /// The entries that win the places of a word, from place 1 on, by the automaton of the keys.
@@ -148,22 +257,7 @@ pub fn winners_in<'d, C: Drop>(
     let places = word.len().saturating_sub(1);
     let mut bests: Vec<Option<&'d Entry<C>>> = vec![in alloc; None; places]?;
     let mut starts = vec![in alloc; 0usize; places]?;
-    automaton.invariant();
-    keys_have_nodes::<Entry<C>>();
-    longest_goes_on::<Entry<C>>();
-    let mut node = automaton.root();
-    for at in 0..word.len() + 2 {
-        node = automaton.step(node, framed_at(word, at), count);
-        compete_reported(
-            automaton,
-            word,
-            node,
-            at + 1,
-            &mut bests,
-            &mut starts,
-            count,
-        );
-    }
+    compete_all(automaton, word, &mut bests, &mut starts, count);
     Ok(bests)
 }
 

@@ -1,16 +1,15 @@
 //! The values of the places of a word, in one pass over its frame.
 //!
 //! Each place keeps the greatest value that a key has given it so far. In what order the keys are met makes no
-//! difference. Whether an entry that was met carries a change is told too: in most words none does, and then the
-//! values alone say where the word may be broken.
+//! difference.
 
-ghost use Rattle.std.specs.Prelude.{◌≡◌, ◌+◌, ◌-◌, ◌*◌, ◌<◌, ◌≤◌, ◌^◌, ◌==◌, ◌++◌, ◌∷◌, [], if◌then◌else◌, max, ℕ, List, None, false, length, filter, slice_index, is_some, IfOk, OnOk};
+ghost use Rattle.std.specs.Prelude.{◌≡◌, ◌+◌, ◌-◌, ◌*◌, ◌<◌, ◌≤◌, ◌^◌, ◌==◌, ◌++◌, ◌∷◌, [], if◌then◌else◌, max, ℕ, List, None, length, filter, slice_index, IfOk, OnOk};
 ghost use Rattle.hyphenation_breaks.specs.Dictionary.{entries_of_keys, longest_key};
 ghost use Rattle.hyphenation_trie.specs.Links.{IsLongest, keys_in};
 ghost use Rattle.hyphenation_trie.specs.Trie.{node_text, entries_of_key, EachBeginsKey};
-ghost use Rattle.hyphenation_score.specs.OnePass.{occurrences, carry_change};
+ghost use Rattle.hyphenation_score.specs.OnePass.{occurrences};
 ghost use Rattle.hyphenation_score.specs.Private.OnePass.{entries_of_ends};
-ghost use Rattle.hyphenation_score.specs.Scoring.{frame, bearers, greatest_value, values};
+ghost use Rattle.hyphenation_score.specs.Scoring.{frame, greatest_value, values};
 
 use hyphenation_breaks::breaks::Break;
 use hyphenation_breaks::entry::{Entry, Payload};
@@ -35,27 +34,11 @@ fn raise_at(values: &mut [u8], start: usize, place: u32, value: u8)
     }
 }
 
-/// Raises the value of the place of an entry of a key that stands at `start`, and tells whether the entry carries a
-/// change.
-#[inline(always)]
-fn raise_by<C: Payload>(entry: &Entry<C>, start: usize, values: &mut [u8]) -> bool
-    requires start { start ≤ length values.old + 2 }
-    requires room { length values.old + 1 < 2 ^ 63 }
-    ensures values { (i : ℕ) → i < length values.old
-        → slice_index values.new i ≡ max (slice_index values.old i) (if start + entry.now.place == (i + 1) + 1
-        then entry.now.value
-        else 0) }
-    ensures change { result ≡ is_some (C.change_of entry.now.change) }
-{
-    raise_at(values, start, entry.place, entry.value);
-    entry.change.as_change().is_some()
-}
-
 /// Raises the values to those of many entries of a key that stands at `start`, in a function of its own: few keys have
 /// so many, and a loop in the midst of the pass would take registers from it.
 #[cold]
 #[inline(never)]
-fn raise_by_many<C: Payload>(entries: &[Entry<C>], start: usize, values: &mut [u8])
+fn raise_by_many<C>(entries: &[Entry<C>], start: usize, values: &mut [u8])
     requires start { start ≤ length values.old + 2 }
     requires room { length values.old + 1 < 2 ^ 63 }
     ensures { (i : ℕ) → i < length values.old
@@ -68,50 +51,35 @@ fn raise_by_many<C: Payload>(entries: &[Entry<C>], start: usize, values: &mut [u
     }
 }
 
-/// Whether one of the entries carries a change.
-fn carry_change<C: Payload>(entries: &[Entry<C>]) -> bool
-    ensures { result ≡ carry_change C.change_of entries.now }
-{
-    entries
-        .iter()
-        .any(|entry| entry.change.as_change().is_some())
-}
-
-/// Raises the values to those of the entries of a key that stands at `start`, and tells whether one of them carries a
-/// change. Most keys have one entry.
+/// Raises the values to those of the entries of a key that stands at `start`. Most keys have one entry.
 #[inline(always)]
-fn raise<C: Payload>(entries: &[Entry<C>], start: usize, values: &mut [u8]) -> bool
+fn raise<C>(entries: &[Entry<C>], start: usize, values: &mut [u8])
     requires start { start ≤ length values.old + 2 }
     requires room { length values.old + 1 < 2 ^ 63 }
-    ensures values { (i : ℕ) → i < length values.old
+    ensures { (i : ℕ) → i < length values.old
         → slice_index values.new i
         ≡ max (slice_index values.old i)
         (greatest_value (filter (λ entry. start + entry.place == (i + 1) + 1) entries.now)) }
-    ensures changes { result ≡ carry_change C.change_of entries.now }
 {
     match entries {
-        [only] => raise_by(only, start, values),
+        [only] => raise_at(values, start, only.place, only.value),
         [first, second] => {
-            let changes = raise_by(first, start, values);
-            changes | raise_by(second, start, values)
+            raise_at(values, start, first.place, first.value);
+            raise_at(values, start, second.place, second.value);
         }
-        _ => {
-            raise_by_many(entries, start, values);
-            carry_change(entries)
-        }
+        _ => raise_by_many(entries, start, values),
     }
 }
 
 /// Raises the values to those of the keys that end the text of a node, which ends at `end`, with one report for each.
-/// Where it says no, none of their entries carries a change.
 #[inline(always)]
-fn raise_reported<C: Payload>(
+fn raise_reported<C: Drop>(
     automaton: &Automaton<Entry<C>>,
     from: usize,
     end: usize,
     values: &mut [u8],
     count: &mut LookUps,
-) -> bool
+)
     requires from { from < length automaton.now.texts }
     requires end { length (node_text automaton.now from) ≤ end }
     requires within { end ≤ length values.old + 3 }
@@ -121,86 +89,73 @@ fn raise_reported<C: Payload>(
         → slice_index values.new i
         ≡ max (slice_index values.old i)
         (greatest_value (entries_of_ends (entries_of_key automaton.now) (node_text automaton.now from) end (i + 1))) }
-    ensures unchanged { result ≡ false → (p : ℕ)
-        → carry_change C.change_of (entries_of_ends (entries_of_key automaton.now) (node_text automaton.now from) end p)
-        ≡ false }
     ensures reported { count.new.reported
         ≡ count.old.reported + keys_in automaton.now (node_text automaton.now from)
         (length (node_text automaton.now from)) }
     ensures made { count.new.made ≡ count.old.made }
 {
     automaton.invariant();
-    let mut changes = false;
     let mut node = automaton.report(from);
     while node != 0 {
         let entries = automaton.entries(node, count);
-        changes |= raise(entries, end - automaton.depth(node), values);
+        raise(entries, end - automaton.depth(node), values);
         node = automaton.next_report(node);
     }
-    changes
 }
 
-/// Reads one byte of a word's frame, and raises the values to those of the keys that end with it.
-///
-/// The node after it is told, and where the flag is unset, no entry of those keys carries a change.
+/// Reads one byte of a word's frame, raises the values to those of the keys that end with it, and tells the node after
+/// it.
 #[inline(always)]
-fn read<C: Payload>(
+fn read<C: Drop>(
     automaton: &Automaton<Entry<C>>,
     from: usize,
     byte: u8,
     end: usize,
     values: &mut [u8],
     count: &mut LookUps,
-) -> (usize, bool)
+) -> usize
     requires from { from < length automaton.now.texts }
     requires end { length (node_text automaton.now from) + 1 ≤ end }
     requires within { end ≤ length values.old + 3 }
     requires short { length values.old + 1 < 2 ^ 63 }
     requires made { count.old.made ≤ 2 ^ 100 }
     requires reported { count.old.reported ≤ 2 ^ 127 }
-    ensures longest { IsLongest automaton.now.texts (node_text automaton.now from ++ byte ∷ []) result.0 }
+    ensures longest { IsLongest automaton.now.texts (node_text automaton.now from ++ byte ∷ []) result }
     ensures values { (i : ℕ) → i < length values.old
         → slice_index values.new i
         ≡ max (slice_index values.old i)
-        (greatest_value (entries_of_ends (entries_of_key automaton.now) (node_text automaton.now result.0) end (i
+        (greatest_value (entries_of_ends (entries_of_key automaton.now) (node_text automaton.now result) end (i
         + 1))) }
-    ensures unchanged { result.1 ≡ false → (p : ℕ)
-        → carry_change C.change_of (entries_of_ends (entries_of_key automaton.now)
-        (node_text automaton.now result.0) end p)
-        ≡ false }
     ensures least { count.old.made + 1 ≤ count.new.made }
-    ensures most { count.new.made + length (node_text automaton.now result.0)
+    ensures most { count.new.made + length (node_text automaton.now result)
         ≤ count.old.made + length (node_text automaton.now from) + 2 }
     ensures alone { count.new.made ≤ count.old.made + length (node_text automaton.now from) + 1 }
     ensures reported { count.new.reported
-        ≡ count.old.reported + keys_in automaton.now (node_text automaton.now result.0)
-        (length (node_text automaton.now result.0)) }
+        ≡ count.old.reported + keys_in automaton.now (node_text automaton.now result)
+        (length (node_text automaton.now result)) }
 {
     let node = automaton.step(from, byte, count);
-    let changes = raise_reported(automaton, node, end, values, count);
-    (node, changes)
+    raise_reported(automaton, node, end, values, count);
+    node
 }
 
-/// Raises values, which are 0, to those of a word's places, in one pass over its frame. Where it says no, no entry that
-/// bears on a place carries a change; where it says yes, nothing is promised of changes.
+/// Raises values, which are 0, to those of a word's places, in one pass over its frame.
 ///
 /// The list has one value for each place, from place 1 on. Look-ups and reports are counted. The caller owes that each
 /// node of the automaton but the root begins a key.
 #[inline(always)]
-pub fn raise_all<C: Payload>(
+pub fn raise_all<C: Drop>(
     automaton: &Automaton<Entry<C>>,
     word: &[u8],
     scores: &mut [u8],
     count: &mut LookUps,
-) -> bool
+)
     requires begins { EachBeginsKey automaton.now }
     requires made { count.old.made ≤ 2 ^ 64 }
     requires reported { count.old.reported ≤ 2 ^ 64 }
     requires places { length scores.old ≡ length word.now - 1 }
     requires zeros { (i : ℕ) → i < length scores.old → slice_index scores.old i ≡ 0 }
     ensures values { scores.new ≡ values (entries_of_key automaton.now) word.now }
-    ensures unchanged { result ≡ false → (p : ℕ)
-        → carry_change C.change_of (bearers (entries_of_key automaton.now) (frame word.now) p) ≡ false }
     ensures linear { count.new.made ≤ count.old.made + 2 * (length word.now + 2) }
     ensures alone { ((q : List ℕ) → entries_of_key automaton.now q ≡ None)
         → count.new.made ≤ count.old.made + (length word.now + 2) }
@@ -213,19 +168,16 @@ pub fn raise_all<C: Payload>(
     longest_goes_on::<Entry<C>>();
     // The dots of the frame are read before the word and after it.
     let root = automaton.root();
-    let (mut node, mut changes) = read(automaton, root, b'.', 1, scores, count);
+    let mut node = read(automaton, root, b'.', 1, scores, count);
     for at in 0..word.len() {
-        let (next, met) = read(automaton, node, word[at], at + 2, scores, count);
-        node = next;
-        changes |= met;
+        node = read(automaton, node, word[at], at + 2, scores, count);
     }
-    let (_, met) = read(automaton, node, b'.', word.len() + 2, scores, count);
-    changes | met
+    let _last = read(automaton, node, b'.', word.len() + 2, scores, count);
 }
 
 /// The values of a word's places, in one pass over its frame.
 #[inline(always)]
-pub(super) fn values_in<C: Payload>(
+pub(super) fn values_in<C: Drop>(
     alloc: Global,
     automaton: &Automaton<Entry<C>>,
     word: &[u8],
@@ -248,7 +200,7 @@ pub(super) fn values_in<C: Payload>(
 {
     let places = word.len().saturating_sub(1);
     let mut values = vec![in alloc; 0u8; places]?;
-    let _changes = raise_all(automaton, word, &mut values, count);
+    raise_all(automaton, word, &mut values, count);
     Ok(values)
 }
 

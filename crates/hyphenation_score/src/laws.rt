@@ -2,7 +2,7 @@
 //!
 //! Each function here does nothing: its contract is a law, which the check proves.
 
-ghost use Rattle.hyphenation_score.specs.Laws.{ValueIsGreatest, ValueIsBorne, WinnerIsMissing, WinnerIsFirst, FirstIsWinner, ValuesAreOneLess, ValuesAreOfPlaces, WinnersAreOneLess, WinnersAreOfPlaces, BestOfAllWins, WinnerHasValue, ScoresHaveValues, NoChangeIsWon, SameKeysSameValues, SameKeysSameWinners};
+ghost use Rattle.hyphenation_score.specs.Laws.{ValueIsGreatest, ValueIsBorne, WinnerIsMissing, WinnerIsFirst, FirstIsWinner, ValuesAreOneLess, ValuesAreOfPlaces, WinnersAreOneLess, WinnersAreOfPlaces, BestOfAllWins, WinnerHasValue, ScoresHaveValues, SameKeysSameValues, SameKeysSameWinners};
 
 /// A place's value is at least each value that bears on it.
 pub fn value_is_greatest<C>()
@@ -52,11 +52,6 @@ pub fn winner_has_value<C>()
 /// The values of a word's scores are the word's values.
 pub fn scores_have_values<C>()
     ensures { ScoresHaveValues C }
-{}
-
-/// Where no entry that bears on a place carries a change, its winner carries none.
-pub fn no_change_is_won<C>()
-    ensures { NoChangeIsWon C }
 {}
 
 /// Patterns that know the same of each text give the same values and the same winners.

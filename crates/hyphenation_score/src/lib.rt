@@ -24,8 +24,10 @@
 //! which meets each key where it ends. Users call the crate `hyphenation`, which exports this one as its `score`.
 #![tactic(auto)]
 
-ghost use Rattle.std.specs.Prelude.{◌≡◌, ◌↔◌, ◌+◌, ◌-◌, ◌*◌, ◌%◌, ◌<◌, ◌≤◌, ◌^◌, length, map, slice_index, option_copied, IfOk, OnOk, IsTrue};
+ghost use Rattle.std.specs.Prelude.{◌≡◌, ◌↔◌, ◌+◌, ◌-◌, ◌*◌, ◌%◌, ◌≤◌, ◌^◌, ◌<◌, ℕ, List, None, length, map, option_copied, slice_index, IfOk, OnOk, IsTrue};
+ghost use Rattle.std.specs.List.{slice_index_or};
 ghost use Rattle.hyphenation_breaks.specs.Dictionary.{entries_of_keys, longest_key};
+ghost use Rattle.hyphenation_trie.specs.Trie.{entries_of_key, EachBeginsKey};
 ghost use Rattle.hyphenation_score.specs.OnePass.{occurrences};
 ghost use Rattle.hyphenation_score.specs.Scoring.{own_change, score_of_winner, scores, scored_pair, frame, values, plain_value};
 
@@ -34,26 +36,16 @@ mod examples;
 mod greatest;
 pub mod laws;
 
-pub use contest::{winners, winners_in};
+pub use contest::{compete_all, winners, winners_in};
 pub use greatest::raise_all;
 use greatest::values;
 use hyphenation_breaks::entry::Entry;
 use hyphenation_breaks::extended::Subregion;
 use hyphenation_dictionary::dictionary::{Extended, Standard};
+use hyphenation_dictionary::search::automaton_of;
+use hyphenation_trie::Automaton;
 pub use hyphenation_trie::LookUps;
 use std::alloc::{AllocError, Global};
-
-/// The byte at an offset of a word's frame, which is the word between two dots.
-fn framed_at(word: &[u8], at: usize) -> u8
-    requires { at < length word.now + 2 }
-    ensures { result ≡ slice_index (frame word.now) at }
-{
-    if at == 0 || word.len() < at {
-        b'.'
-    } else {
-        word[at - 1]
-    }
-}
 
 /// Scoring the places of words by the patterns of a dictionary.
 ///
@@ -185,11 +177,82 @@ fn scored_all<'d>(
     ensures { IfOk result (λ v.
         map scored_pair v.items ≡ map (λ winner. score_of_winner own_change (option_copied winner)) winners.now) }
 {
-    let mut all = Vec::new(alloc);
+    let mut all = Vec::with_capacity(alloc, winners.len())?;
     for winner in winners {
         all.push(scored(*winner))?;
     }
     Ok(all)
+}
+
+/// The values of the places of a word, with the changes of their winners, found in lists of no entry and of 0.
+#[inline(always)]
+fn scores_from<'d>(
+    alloc: Global,
+    automaton: &'d Automaton<Entry<Option<Subregion>>>,
+    word: &[u8],
+    bests: &mut [Option<&'d Entry<Option<Subregion>>>],
+    starts: &mut [usize],
+    count: &mut LookUps,
+) -> Result<Vec<(u8, Option<&'d Subregion>)>, AllocError>
+    requires begins { EachBeginsKey automaton.now }
+    requires made { count.old.made ≤ 2 ^ 64 }
+    requires reported { count.old.reported ≤ 2 ^ 64 }
+    requires places { length bests.old ≡ length word.now - 1 }
+    requires lengths { length starts.old ≡ length word.now - 1 }
+    requires none { (i : ℕ) → i < length bests.old → slice_index_or bests.old i None ≡ None }
+    requires zeros { (i : ℕ) → i < length starts.old → slice_index starts.old i ≡ 0 }
+    ensures scores { IfOk result (λ v. map scored_pair v.items
+        ≡ scores own_change (entries_of_key automaton.now) word.now) }
+    ensures linear { count.new.made ≤ count.old.made + 2 * (length word.now + 2) }
+    ensures alone { ((q : List ℕ) → entries_of_key automaton.now q ≡ None)
+        → count.new.made ≤ count.old.made + (length word.now + 2) }
+    ensures least { OnOk result (count.old.made + (length word.now + 2) ≤ count.new.made) }
+    ensures kept { count.old.made ≤ count.new.made }
+    ensures counted { count.old.reported ≤ count.new.reported }
+    ensures reported { OnOk result (count.new.reported ≡ count.old.reported + occurrences (entries_of_key automaton.now)
+        (frame word.now)) }
+    ensures visited { count.new.reported ≤ count.old.reported
+        + occurrences (entries_of_key automaton.now) (frame word.now) }
+{
+    compete_all(automaton, word, bests, starts, count);
+    scored_all(alloc, bests)
+}
+
+/// The values of the places of a word, with the changes of their winners, by the automaton of the keys.
+#[inline(always)]
+fn scores_in<'d>(
+    alloc: Global,
+    automaton: &'d Automaton<Entry<Option<Subregion>>>,
+    word: &[u8],
+    count: &mut LookUps,
+) -> Result<Vec<(u8, Option<&'d Subregion>)>, AllocError>
+    requires begins { EachBeginsKey automaton.now }
+    requires made { count.old.made ≤ 2 ^ 64 }
+    requires reported { count.old.reported ≤ 2 ^ 64 }
+    ensures scores { IfOk result (λ v. map scored_pair v.items
+        ≡ scores own_change (entries_of_key automaton.now) word.now) }
+    ensures linear { count.new.made ≤ count.old.made + 2 * (length word.now + 2) }
+    ensures alone { ((q : List ℕ) → entries_of_key automaton.now q ≡ None)
+        → count.new.made ≤ count.old.made + (length word.now + 2) }
+    ensures least { OnOk result (count.old.made + (length word.now + 2) ≤ count.new.made) }
+    ensures kept { count.old.made ≤ count.new.made }
+    ensures counted { count.old.reported ≤ count.new.reported }
+    ensures reported { OnOk result (count.new.reported ≡ count.old.reported + occurrences (entries_of_key automaton.now)
+        (frame word.now)) }
+    ensures visited { count.new.reported ≤ count.old.reported
+        + occurrences (entries_of_key automaton.now) (frame word.now) }
+{
+    let places = word.len().saturating_sub(1);
+    if places <= 64 {
+        // The winners of most words take no memory.
+        let mut bests: [Option<&'d Entry<Option<Subregion>>>; 64] = [None; 64];
+        let mut starts = [0usize; 64];
+        let (bests, starts) = (&mut bests[..places], &mut starts[..places]);
+        return scores_from(alloc, automaton, word, bests, starts, count);
+    }
+    let mut bests: Vec<Option<&'d Entry<Option<Subregion>>>> = vec![in alloc; None; places]?;
+    let mut starts = vec![in alloc; 0usize; places]?;
+    scores_from(alloc, automaton, word, &mut bests, &mut starts, count)
 }
 
 /// The values of the places of a word, with the changes of their winners, from place 1 on.
@@ -218,8 +281,8 @@ fn scores<'d>(
     ensures visited { count.new.reported ≤ count.old.reported
         + occurrences (entries_of_keys dictionary.now) (frame word.now) }
 {
-    let winners = winners(alloc, dictionary, word, count)?;
-    scored_all(alloc, &winners)
+    dictionary.invariant();
+    scores_in(alloc, automaton_of(dictionary), word.as_bytes(), count)
 }
 
 impl<'d> Score<'d> for Extended {

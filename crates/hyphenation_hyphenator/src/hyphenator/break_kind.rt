@@ -5,14 +5,17 @@ ghost use Rattle.std.specs.List.Sorted.{IsNonDecreasingBy};
 ghost use Rattle.hyphenation_breaks.specs.Break.{plain_break, break_at};
 ghost use Rattle.hyphenation_hyphenator.specs.Fitting.{kept_breaks};
 ghost use Rattle.hyphenation_hyphenator.specs.Private.Fitting.{is_steady_by};
-ghost use Rattle.hyphenation_hyphenator.specs.Opportunities.{Ascending};
+ghost use Rattle.hyphenation_trie.specs.Trie.{entries_of_key, EachBeginsKey};
+ghost use Rattle.hyphenation_hyphenator.specs.Opportunities.{breaks_within, breaks_at_odd_values, Ascending};
 ghost use Rattle.hyphenation_hyphenator.specs.Private.Opportunities.{lent_break};
 
 use super::fitting::{change_nothing, fit};
+use super::pattern_breaks::{plain_breaks, winning_breaks};
 use crate::case_folding::Shift;
 use hyphenation_breaks::breaks::Break;
 use hyphenation_breaks::entry::{Entry, Payload};
 use hyphenation_breaks::extended::Subregion;
+use hyphenation_trie::Automaton;
 use std::alloc::{AllocError, Global};
 
 /// A break that a dictionary finds, made of what the dictionary holds.
@@ -23,13 +26,17 @@ pub(crate) trait Found<'h>: Break + Copy {
     /// The breaks of its exceptions.
     type Listing: Break;
 
-    /// The break at a place that changes nothing.
-    fn plain(place: usize) -> Self
-        ensures { Self.meaning result ≡ plain_break place };
-
-    /// The break at a place that an entry wins.
-    fn won(place: usize, entry: &'h Entry<Self::Payload>) -> Self
-        ensures { Self.meaning result ≡ break_at place (Self.Payload.change_of entry.now.change) };
+    /// The breaks within bounds that patterns allow.
+    fn allowed(
+        alloc: Global,
+        patterns: &'h Automaton<Entry<Self::Payload>>,
+        word: &str,
+        bounds: (usize, usize),
+    ) -> Result<Vec<Self>, AllocError>
+        requires { EachBeginsKey patterns.now }
+        ensures { IfOk result (λ v.
+            map Self.meaning v.items ≡ breaks_within (breaks_at_odd_values Self.Payload.change_of
+            (entries_of_key patterns.now) word.now) bounds) };
 
     /// A listed break.
     fn listed(listed: &'h Self::Listing) -> Self
@@ -63,12 +70,14 @@ impl<'h> Found<'h> for usize {
 
     type Listing = usize;
 
-    fn plain(place: usize) -> usize {
-        place
-    }
-
-    fn won(place: usize, _entry: &'h Entry<()>) -> usize {
-        place
+    #[inline(always)]
+    fn allowed(
+        alloc: Global,
+        patterns: &'h Automaton<Entry<()>>,
+        word: &str,
+        bounds: (usize, usize),
+    ) -> Result<Vec<usize>, AllocError> {
+        plain_breaks(alloc, patterns, word, bounds)
     }
 
     fn listed(listed: &'h usize) -> usize {
@@ -105,12 +114,14 @@ impl<'h> Found<'h> for (usize, Option<&'h Subregion>) {
 
     type Listing = (usize, Option<Subregion>);
 
-    fn plain(place: usize) -> (usize, Option<&'h Subregion>) {
-        (place, None)
-    }
-
-    fn won(place: usize, entry: &'h Entry<Option<Subregion>>) -> (usize, Option<&'h Subregion>) {
-        (place, entry.change.as_ref())
+    #[inline(always)]
+    fn allowed(
+        alloc: Global,
+        patterns: &'h Automaton<Entry<Option<Subregion>>>,
+        word: &str,
+        bounds: (usize, usize),
+    ) -> Result<Vec<(usize, Option<&'h Subregion>)>, AllocError> {
+        winning_breaks(alloc, patterns, word, bounds)
     }
 
     fn listed(listed: &'h (usize, Option<Subregion>)) -> (usize, Option<&'h Subregion>) {

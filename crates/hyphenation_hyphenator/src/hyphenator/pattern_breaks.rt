@@ -1,17 +1,19 @@
-//! Where patterns allow a break: at the places of odd values, and, where a change may win one, by the entries that win.
+//! Where patterns allow a break: at the places of odd values. In an extended dictionary the entries that win the places
+//! are found, since they may carry changes; in a standard one the values alone.
 
-ghost use Rattle.std.specs.Prelude.{◌≡◌, ◌≢◌, ◌%◌, ◌+◌, ◌-◌, ◌<◌, ◌≤◌, ◌&&◌, ℕ, IfOk, length, map, filter, slice_index, option_copied, Option, Some, None};
-ghost use Rattle.hyphenation_trie.specs.Trie.{entries_of_key, EachBeginsKey};
-ghost use Rattle.hyphenation_hyphenator.specs.Opportunities.{is_odd, within, breaks_within, breaks_at_odd_values};
-ghost use Rattle.std.specs.List.{range_with_len};
-ghost use Rattle.hyphenation_breaks.specs.Break.{plain_break};
-ghost use Rattle.hyphenation_hyphenator.specs.Private.Opportunities.{won_at, won_within};
+ghost use Rattle.std.specs.Prelude.{◌≡◌, ◌≢◌, ◌%◌, ◌+◌, ◌-◌, ◌<◌, ◌≤◌, ◌&&◌, ℕ, IfOk, length, map, filter, slice_index, option_copied, Option, None};
+ghost use Rattle.std.specs.List.{range_with_len, slice_index_or};
 ghost use Rattle.std.specs.Option.{option_map};
+ghost use Rattle.hyphenation_breaks.specs.Break.{plain_break};
+ghost use Rattle.hyphenation_trie.specs.Trie.{entries_of_key, EachBeginsKey};
+ghost use Rattle.hyphenation_score.specs.Scoring.{own_change};
+ghost use Rattle.hyphenation_hyphenator.specs.Opportunities.{is_odd, no_change, within, breaks_within, breaks_at_odd_values};
+ghost use Rattle.hyphenation_hyphenator.specs.Private.Opportunities.{lent_break, won_at, won_within};
 
-use super::break_kind::Found;
 use hyphenation_breaks::entry::Entry;
-use hyphenation_score::laws::{no_change_is_won, winner_has_value};
-use hyphenation_score::{LookUps, raise_all, winners_in};
+use hyphenation_breaks::extended::Subregion;
+use hyphenation_score::laws::winner_has_value;
+use hyphenation_score::{LookUps, compete_all, raise_all};
 use hyphenation_trie::Automaton;
 use std::alloc::{AllocError, Global};
 
@@ -23,29 +25,29 @@ pub(super) fn is_within(bounds: (usize, usize), place: usize) -> bool
 }
 
 /// The break at a place that is won, if its value is odd and the place within bounds.
-fn won_at<'h, F: Found<'h>>(
+fn won_at<'h>(
     place: usize,
-    winner: Option<&'h Entry<F::Payload>>,
+    winner: Option<&'h Entry<Option<Subregion>>>,
     bounds: (usize, usize),
-) -> Option<F>
-    ensures { option_map F.meaning result ≡ won_at F.Payload.change_of place (option_copied winner.entry) bounds }
+) -> Option<(usize, Option<&'h Subregion>)>
+    ensures { option_map lent_break result ≡ won_at own_change place (option_copied winner.entry) bounds }
 {
     let entry = winner?;
     if entry.value % 2 == 1 && is_within(bounds, place) {
-        Some(F::won(place, entry))
+        Some((place, entry.change.as_ref()))
     } else {
         None
     }
 }
 
 /// The breaks within bounds, where the entries are those that win the places from place 1 on.
-fn won_within<'h, F: Found<'h>>(
+fn won_within<'h>(
     alloc: Global,
-    winners: &[Option<&'h Entry<F::Payload>>],
+    winners: &[Option<&'h Entry<Option<Subregion>>>],
     bounds: (usize, usize),
-) -> Result<Vec<F>, AllocError>
+) -> Result<Vec<(usize, Option<&'h Subregion>)>, AllocError>
     ensures { IfOk result (λ v.
-        map F.meaning v.items ≡ won_within F.Payload.change_of (map option_copied winners.now) bounds) }
+        map lent_break v.items ≡ won_within own_change (map option_copied winners.now) bounds) }
 {
     let mut breaks = Vec::new(alloc);
     for (index, winner) in winners.iter().enumerate() {
@@ -56,22 +58,55 @@ fn won_within<'h, F: Found<'h>>(
     Ok(breaks)
 }
 
-/// The breaks within bounds that patterns allow, by the entries that win the places.
-fn won_breaks<'h, F: Found<'h>>(
+/// The breaks within bounds that patterns allow, found in lists of no entry and of 0.
+#[inline(always)]
+fn won_from<'h>(
     alloc: Global,
-    patterns: &'h Automaton<Entry<F::Payload>>,
+    patterns: &'h Automaton<Entry<Option<Subregion>>>,
+    word: &str,
+    bests: &mut [Option<&'h Entry<Option<Subregion>>>],
+    starts: &mut [usize],
+    bounds: (usize, usize),
+) -> Result<Vec<(usize, Option<&'h Subregion>)>, AllocError>
+    requires begins { EachBeginsKey patterns.now }
+    requires places { length bests.old ≡ length word.now - 1 }
+    requires lengths { length starts.old ≡ length word.now - 1 }
+    requires none { (i : ℕ) → i < length bests.old → slice_index_or bests.old i None ≡ None }
+    requires zeros { (i : ℕ) → i < length starts.old → slice_index starts.old i ≡ 0 }
+    ensures { IfOk result (λ v.
+        map lent_break v.items
+        ≡ breaks_within (breaks_at_odd_values own_change (entries_of_key patterns.now) word.now) bounds) }
+{
+    winner_has_value::<Option<Subregion>>();
+    let mut count = LookUps::new();
+    compete_all(patterns, word.as_bytes(), bests, starts, &mut count);
+    won_within(alloc, bests, bounds)
+}
+
+/// The breaks within bounds that the patterns of an extended dictionary allow, with the changes of the entries that win.
+#[inline(always)]
+pub(super) fn winning_breaks<'h>(
+    alloc: Global,
+    patterns: &'h Automaton<Entry<Option<Subregion>>>,
     word: &str,
     bounds: (usize, usize),
-) -> Result<Vec<F>, AllocError>
+) -> Result<Vec<(usize, Option<&'h Subregion>)>, AllocError>
     requires { EachBeginsKey patterns.now }
     ensures { IfOk result (λ v.
-        map F.meaning v.items ≡ breaks_within (breaks_at_odd_values F.Payload.change_of
-        (entries_of_key patterns.now) word.now) bounds) }
+        map lent_break v.items
+        ≡ breaks_within (breaks_at_odd_values own_change (entries_of_key patterns.now) word.now) bounds) }
 {
-    winner_has_value::<F::Payload>();
-    let mut count = LookUps::new();
-    let winners = winners_in(alloc, patterns, word.as_bytes(), &mut count)?;
-    won_within(alloc, &winners, bounds)
+    let places = word.len().saturating_sub(1);
+    if places <= 64 {
+        // The winners of most words take no memory.
+        let mut bests: [Option<&'h Entry<Option<Subregion>>>; 64] = [None; 64];
+        let mut starts = [0usize; 64];
+        let (bests, starts) = (&mut bests[..places], &mut starts[..places]);
+        return won_from(alloc, patterns, word, bests, starts, bounds);
+    }
+    let mut bests: Vec<Option<&'h Entry<Option<Subregion>>>> = vec![in alloc; None; places]?;
+    let mut starts = vec![in alloc; 0usize; places]?;
+    won_from(alloc, patterns, word, &mut bests, &mut starts, bounds)
 }
 
 /// The first place from one on, and no greater than an end, that has an odd value; the place after the end where none
@@ -92,17 +127,16 @@ fn first_odd(values: &[u8], first: usize, end: usize) -> usize
     first.max(end + 1)
 }
 
-/// The breaks at the places within bounds that have an odd value, where the values begin with that of place 1.
+/// The places within bounds that have an odd value, where the values begin with that of place 1.
 #[inline(always)]
-fn odd_breaks<'h, F: Found<'h>>(
+fn odd_places(
     alloc: Global,
     values: &[u8],
     bounds: (usize, usize),
-) -> Result<Vec<F>, AllocError>
+) -> Result<Vec<usize>, AllocError>
     ensures { IfOk result (λ v.
-        map F.meaning v.items
-        ≡ map plain_break (filter (λ place. is_odd (slice_index values.now (place - 1)) && within bounds place)
-        (range_with_len 1 (length values.now)))) }
+        v.items ≡ filter (λ place. is_odd (slice_index values.now (place - 1)) && within bounds place)
+        (range_with_len 1 (length values.now))) }
 {
     // No place before the first bound or after the second is looked at.
     let first = bounds.0.max(1);
@@ -111,60 +145,56 @@ fn odd_breaks<'h, F: Found<'h>>(
     if end < least {
         return Ok(Vec::new(alloc));
     }
-    // Room for a few breaks is taken at once.
-    let mut breaks = Vec::with_capacity(alloc, (end + 1 - least).min(8))?;
+    // Room for a few places is taken at once.
+    let mut places = Vec::with_capacity(alloc, (end + 1 - least).min(8))?;
     for place in least..end + 1 {
         if values[place - 1] % 2 == 1 {
-            breaks.push(F::plain(place))?;
+            places.push(place)?;
         }
     }
-    Ok(breaks)
+    Ok(places)
 }
 
-/// The breaks within bounds that patterns allow, found in room for the values, all 0.
+/// The places within bounds that patterns allow, found in room for the values, all 0.
 #[inline(always)]
-fn allowed_in<'h, F: Found<'h>>(
+fn odd_from(
     alloc: Global,
-    patterns: &'h Automaton<Entry<F::Payload>>,
+    patterns: &Automaton<Entry<()>>,
     word: &str,
     room: &mut [u8],
     bounds: (usize, usize),
-) -> Result<Vec<F>, AllocError>
+) -> Result<Vec<usize>, AllocError>
     requires begins { EachBeginsKey patterns.now }
     requires places { length room.old ≡ length word.now - 1 }
     requires zeros { (i : ℕ) → i < length room.old → slice_index room.old i ≡ 0 }
     ensures { IfOk result (λ v.
-        map F.meaning v.items ≡ breaks_within (breaks_at_odd_values F.Payload.change_of
-        (entries_of_key patterns.now) word.now) bounds) }
+        map plain_break v.items
+        ≡ breaks_within (breaks_at_odd_values no_change (entries_of_key patterns.now) word.now) bounds) }
 {
     let mut count = LookUps::new();
-    if raise_all(patterns, word.as_bytes(), room, &mut count) {
-        // A change may win a place, so the entries have to compete. Few words are searched twice for it.
-        return won_breaks(alloc, patterns, word, bounds);
-    }
-    no_change_is_won::<F::Payload>();
-    odd_breaks(alloc, room, bounds)
+    raise_all(patterns, word.as_bytes(), room, &mut count);
+    odd_places(alloc, room, bounds)
 }
 
-/// The breaks within bounds that patterns allow.
+/// The places within bounds that the patterns of a standard dictionary allow.
 #[inline(always)]
-pub(super) fn allowed_breaks<'h, F: Found<'h>>(
+pub(super) fn plain_breaks(
     alloc: Global,
-    patterns: &'h Automaton<Entry<F::Payload>>,
+    patterns: &Automaton<Entry<()>>,
     word: &str,
     bounds: (usize, usize),
-) -> Result<Vec<F>, AllocError>
+) -> Result<Vec<usize>, AllocError>
     requires { EachBeginsKey patterns.now }
     ensures { IfOk result (λ v.
-        map F.meaning v.items ≡ breaks_within (breaks_at_odd_values F.Payload.change_of
-        (entries_of_key patterns.now) word.now) bounds) }
+        map plain_break v.items
+        ≡ breaks_within (breaks_at_odd_values no_change (entries_of_key patterns.now) word.now) bounds) }
 {
-    let count = word.len().saturating_sub(1);
-    if count <= 64 {
+    let places = word.len().saturating_sub(1);
+    if places <= 64 {
         // The values of most words take no memory.
-        let mut zeros = [0u8; 64];
-        return allowed_in(alloc, patterns, word, &mut zeros[..count], bounds);
+        let mut values = [0u8; 64];
+        return odd_from(alloc, patterns, word, &mut values[..places], bounds);
     }
-    let mut zeros = vec![in alloc; 0u8; count]?;
-    allowed_in(alloc, patterns, word, &mut zeros, bounds)
+    let mut values = vec![in alloc; 0u8; places]?;
+    odd_from(alloc, patterns, word, &mut values, bounds)
 }

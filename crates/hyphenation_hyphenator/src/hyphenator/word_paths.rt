@@ -18,7 +18,7 @@ use super::boundaries::boundaries_of_ascii;
 use super::boundaries_of;
 use super::break_kind::Found;
 use super::letters::are_letters;
-use super::pattern_breaks::{allowed_breaks, is_within};
+use super::pattern_breaks::is_within;
 use crate::case_folding::{Shift, are_small_letters, realign_in_order, refold};
 use crate::soft_hyphens::soft_hyphen_indices;
 use hyphenation_breaks::breaks::Break;
@@ -62,7 +62,7 @@ pub(crate) fn opportunities_within<'h, F: Found<'h>>(
 {
     dictionary.invariant();
     value_is_borne::<F::Payload>();
-    allowed_breaks(alloc, automaton_of(dictionary), lowercase_word, bounds)
+    F::allowed(alloc, automaton_of(dictionary), lowercase_word, bounds)
 }
 
 /// The breaks listed for a word from the first bound to the second.
@@ -309,10 +309,32 @@ fn breaks_of_any<'h, F: Found<'h>>(
     breaks_of_folded(alloc, dictionary, text, shifts)
 }
 
-/// The breaks of a word as written.
+/// The breaks of a word as written, on the road that its letters allow.
 ///
 /// Most words are of small letters, which fold to themselves, or of ASCII: those have no soft hyphens, and their
 /// folding moves no place.
+#[inline(always)]
+fn breaks_by_letters<'h, F: Found<'h>>(
+    alloc: Global,
+    dictionary: &'h Dictionary<F::Payload, F::Listing>,
+    word: &str,
+) -> Result<Vec<F>, AllocError>
+    ensures { IfOk result (λ v.
+        map F.meaning v.items
+        ≡ fitted_breaks_of (rules_of F.Payload.change_of F.Listing.meaning dictionary.now) word.now) }
+{
+    if are_letters(word.as_bytes()) {
+        breaks_of_letters(alloc, dictionary, word)
+    } else if are_small_letters(word) {
+        breaks_of_small_letters(alloc, dictionary, word)
+    } else if word.len() <= 64 && word.is_ascii() {
+        breaks_of_ascii(alloc, dictionary, word)
+    } else {
+        breaks_of_any(alloc, dictionary, word)
+    }
+}
+
+/// The breaks of a word as written.
 #[inline(always)]
 pub(crate) fn breaks<'h, F: Found<'h>>(
     alloc: Global,
@@ -328,13 +350,5 @@ pub(crate) fn breaks<'h, F: Found<'h>>(
     dictionary.invariant();
     value_is_borne::<F::Payload>();
     winner_is_first::<F::Payload>();
-    if are_letters(word.as_bytes()) {
-        breaks_of_letters(alloc, dictionary, word)
-    } else if are_small_letters(word) {
-        breaks_of_small_letters(alloc, dictionary, word)
-    } else if word.len() <= 64 && word.is_ascii() {
-        breaks_of_ascii(alloc, dictionary, word)
-    } else {
-        breaks_of_any(alloc, dictionary, word)
-    }
+    breaks_by_letters(alloc, dictionary, word)
 }

@@ -6,8 +6,6 @@ use Rattle.hyphenation_trie.specs.Trie.{node_text, entries_of_key}
 use Rattle.hyphenation_trie.specs.Links.{keys_in}
 use Rattle.hyphenation_score.specs.Scoring.{greatest_value}
 use Rattle.hyphenation_score.specs.Private.OnePass.{entries_of_end}
-use Rattle.hyphenation_score.specs.OnePass.{carry_change}
-use Rattle.hyphenation_score.proofs.CarriedChanges.{none_before, none_reported, none_filtered}
 use Rattle.hyphenation_score.proofs.OnePass.{Ends-drop, Ends-trans, depth_pos, piece_is, none_next, visit_more, visit_first, counted_first, counted_more}
 use Rattle.hyphenation_score.proofs.greatest.raise_reported.Goals as goal
 
@@ -21,7 +19,6 @@ loop-node-init g c =
       ends = report.ends;
       key = report.key;
       values = λ i lt. visit_first tree t c.args.end (i + 1) _ (slice_index c.args.values.now i) report;
-      unchanged = λ _ p. none_before g.C.Payload.change_of tree t c.args.end p _ report;
       reported = omega (arith, counted_first tree t _ report);
       few = omega (arith, report.ends.0);
       made = refl;
@@ -52,16 +49,11 @@ loop-node-preserved g c =
       within = report.within;
       ends = Ends-trans t (node_text tree at) (node_text tree to) inv.ends (Ends-trans (node_text tree at) (drop 1 (node_text tree at)) (node_text tree to) (Ends-drop (node_text tree at) 1 pos) report.ends);
       key = report.key;
-      values = λ i lt. visit_more tree t c.args.end (i + 1) at to (slice_index c.args.values.now i) (slice_index c.loop-node.values i) (slice_index c.raise-changes.new.values i)
+      values = λ i lt. visit_more tree t c.args.end (i + 1) at to (slice_index c.args.values.now i) (slice_index c.loop-node.values i) (slice_index c.raise.new.values i)
           inv.ends less none (inv.values i (omega arith))
-          (c.raise-changes.ensures.values i (omega arith)
+          (c.raise.ensures i (omega arith)
           ∙ ap (λ es. max (slice_index c.loop-node.values i) (greatest_value es))
           (sym (piece_is tree t c.args.end (i + 1) at c.depth.result (Some c.entries-entries.result.now) inv.ends c.requires.end c.depth.ensures c.entries-entries.ensures.entries)));
-      unchanged = λ no p.
-          let parts = or_parts c.loop-node.changes c.raise-changes.result no in
-          none_reported g.C.Payload.change_of tree t c.args.end p at to inv.ends less none (inv.unchanged parts.0 p)
-          (ap (carry_change g.C.Payload.change_of) (piece_is tree t c.args.end p at c.depth.result (Some c.entries-entries.result.now) inv.ends c.requires.end c.depth.ensures c.entries-entries.ensures.entries)
-          ∙ none_filtered g.C.Payload.change_of _ c.entries-entries.result.now (sym c.raise-changes.ensures.changes ∙ parts.1));
       reported = omega (arith, counted, more, inv.reported);
       few = omega (arith, counted, inv.few);
       made = ap (λ x. x.made) c.entries-entries.ensures.counted ∙ inv.made;
@@ -84,12 +76,3 @@ returns-clause-reported g c =
     let nil : length (node_text tree c.loop-node.node) ≡ 0 = ap (λ (k : ℕ). length (node_text tree k)) zero_is ∙ ap length c.invariant.ensures.root in
     let whole : length t - length (node_text tree c.loop-node.node) ≡ length t = omega arith in
     c.loop-node.invariant.reported ∙ ap (λ (k : ℕ). c.args.count.now.reported + keys_in tree t k) whole
-
-pub returns-clause-unchanged : goal.returns-clause-unchanged
-returns-clause-unchanged g c = λ no p.
-    let tree = c.args.automaton.now in
-    let t = node_text tree c.args.from in
-    let zero_is : c.loop-node.node ≡ 0 = omega arith in
-    let nil : length (node_text tree c.loop-node.node) ≡ 0 = ap (λ (k : ℕ). length (node_text tree k)) zero_is ∙ ap length c.invariant.ensures.root in
-    let whole : length t - length (node_text tree c.loop-node.node) ≡ length t = omega arith in
-    ap (λ (k : ℕ). carry_change g.C.Payload.change_of (flat_map (λ d. entries_of_end (entries_of_key tree) t c.args.end p d) (range_with_len 0 k))) (sym whole) ∙ c.loop-node.invariant.unchanged no p

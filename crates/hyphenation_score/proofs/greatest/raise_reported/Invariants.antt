@@ -5,7 +5,6 @@ use Rattle.hyphenation_trie.specs.Trie.{node_text, entries_of_key}
 use Rattle.hyphenation_trie.specs.Links.{EndsWith, keys_in}
 use Rattle.hyphenation_score.specs.Scoring.{greatest_value}
 use Rattle.hyphenation_score.specs.Private.OnePass.{entries_of_end}
-use Rattle.hyphenation_score.specs.OnePass.{carry_change}
 use Rattle.hyphenation_score.proofs.greatest.raise_reported.Given as goal
 
 abbrev pub invariant-loop-node : goal.invariant-loop-node
@@ -15,8 +14,6 @@ invariant-loop-node g l = record {
   key : 0 < l.node → IsSome (entries_of_key l.automaton (node_text l.automaton l.node));
   values : (i : ℕ) → i < length l.values → slice_index l.values i ≡ max (slice_index l.fn.values i)
       (greatest_value (flat_map (λ d. entries_of_end (entries_of_key l.automaton) (node_text l.automaton l.from) l.end (i + 1) d) (range_with_len 0 (length (node_text l.automaton l.from) - length (node_text l.automaton l.node)))));
-  unchanged : l.changes ≡ false → (p : ℕ) → carry_change g.C.Payload.change_of
-      (flat_map (λ d. entries_of_end (entries_of_key l.automaton) (node_text l.automaton l.from) l.end p d) (range_with_len 0 (length (node_text l.automaton l.from) - length (node_text l.automaton l.node)))) ≡ false;
   reported : l.count.reported ≡ l.fn.count.reported + keys_in l.automaton (node_text l.automaton l.from) (length (node_text l.automaton l.from) - length (node_text l.automaton l.node));
   few : l.count.reported + length (node_text l.automaton l.node) ≤ l.fn.count.reported + length (node_text l.automaton l.from);
   made : l.count.made ≡ l.fn.count.made;

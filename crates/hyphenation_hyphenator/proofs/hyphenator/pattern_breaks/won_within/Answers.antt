@@ -2,20 +2,22 @@ use Rattle.std.proofs.Common.{◌≡◌, ◌∷◌, [], List, Option, None, map,
 use Rattle.std.specs.List.{range_with_len, slice_index_or}
 use Rattle.std.specs.Option.{option_map}
 use Rattle.std.proofs.lemmas.List.{length-map, get_or-map, map-append}
+use Rattle.hyphenation_breaks.specs.Break.{Change}
 use Rattle.hyphenation_breaks.specs.declared.entry.Entry.{Entry}
-use Rattle.hyphenation_hyphenator.specs.Private.Opportunities.{won_break, is_won}
+use Rattle.hyphenation_score.specs.Scoring.{own_change}
+use Rattle.hyphenation_hyphenator.specs.Private.Opportunities.{lent_break, won_break, is_won}
 use Rattle.hyphenation_hyphenator.proofs.BreaksFound.{is_won_at, is_not_won}
 use Rattle.hyphenation_hyphenator.proofs.hyphenator.pattern_breaks.won_within.Goals.{in-Some+in_ok-push, in_default}
 use Rattle.hyphenation_hyphenator.proofs.hyphenator.pattern_breaks.won_within.Goals as goal
 
 pub loop-index-init : goal.loop-index-init
-loop-index-init g c = ap (map g.F.Break.meaning) c.new-breaks.ensures.items
+loop-index-init c = ap (map lent_break) c.new-breaks.ensures.items
 
 pub loop-index-preserved : goal.loop-index-preserved
-loop-index-preserved g c =
-    let m = g.F.Break.meaning in
-    let change_of = g.F.Payload.Payload.change_of in
-    let winners : List (Option (Entry g.row.F-Payload.Denot)) = map option_copied c.args.winners.now in
+loop-index-preserved c =
+    let m = lent_break in
+    let change_of = own_change in
+    let winners : List (Option (Entry (Option Change))) = map option_copied c.args.winners.now in
     let winner = c.index-winners-index.result in
     let i = c.loop-index.index in
     let before = map m c.loop-index.breaks.items in
@@ -28,7 +30,7 @@ loop-index-preserved g c =
     ]
 
 pub returns : goal.returns
-returns g c =
-    let winners : List (Option (Entry g.row.F-Payload.Denot)) = map option_copied c.args.winners.now in
-    let all : c.loop-index.index ≡ length winners = omega (arith, length-map c.args.winners.now (option_copied {T = Entry g.row.F-Payload.Denot})) in
-    c.loop-index.invariant ∙ ap (λ n. map (won_break g.F.Payload.Payload.change_of winners) (filter (is_won winners c.args.bounds) (range_with_len 0 n))) all
+returns c =
+    let winners : List (Option (Entry (Option Change))) = map option_copied c.args.winners.now in
+    let all : c.loop-index.index ≡ length winners = omega (arith, length-map c.args.winners.now (option_copied {T = Entry (Option Change)})) in
+    c.loop-index.invariant ∙ ap (λ n. map (won_break own_change winners) (filter (is_won winners c.args.bounds) (range_with_len 0 n))) all

@@ -1,0 +1,41 @@
+use Rattle.std.proofs.Common.{◌-◌, length, refl, ◌∙◌, arith}
+use Rattle.hyphenation_hyphenator.proofs.OddPlaces.{within_alone, outside, next_odd, next_even, even_none, test_of}
+use Rattle.hyphenation_hyphenator.proofs.hyphenator.pattern_breaks.odd_places.Goals as goal
+use Rattle.hyphenation_hyphenator.proofs.hyphenator.pattern_breaks.odd_places.Goals.{then-values-place-eq1+in_ok-push, else-values-place-eq1}
+
+pub loop-place-init : goal.loop-place-init
+loop-place-init c = c.in_ok-places.ensures.items ∙ even_none c.args.values.now c.args.bounds c.max-first.result c.first_odd-least.result c.first_odd-least.ensures.even
+
+pub loop-place-preserved : goal.loop-place-preserved
+loop-place-preserved c =
+    let values = c.args.values.now in
+    let items = c.loop-place.places.items in
+    let first = c.max-first.result in
+    let end = c.min-end.result in
+    let at = c.loop-place.place in
+    elim c.if-values-place-eq1.branch [
+      | then-values-place-eq1+in_ok-push w ↦ rw (w.places-is, w.in_ok-push.ensures.items)
+          (next_odd values items c.args.bounds first end at c.max-first.ensures c.min-end.ensures (omega arith) (omega arith) c.loop-place.invariant w.if-values-place-eq1.true)
+      | else-values-place-eq1 w ↦ rw w.places-is
+          (next_even values items c.args.bounds first end at c.max-first.ensures c.min-end.ensures (omega arith) (omega arith) c.loop-place.invariant w.if-values-place-eq1.false)
+    ]
+
+pub returns : goal.returns
+returns c =
+    let values = c.args.values.now in
+    let first = c.max-first.result in
+    let end = c.min-end.result in
+    c.loop-place.invariant
+    ∙ within_alone (test_of values c.args.bounds) first end c.loop-place.place (length values) (omega arith) (omega arith) (omega arith) (omega arith) (λ le. let high = c.first_odd-least.ensures.high le in c.loop-place.auto.place-end high)
+    (λ p one out. outside values c.args.bounds first end p c.max-first.ensures c.min-end.ensures one out)
+
+pub returns-then-end-least : goal.returns-then-end-least
+returns-then-end-least c =
+    let values = c.args.values.now in
+    let first = c.max-first.result in
+    let end = c.min-end.result in
+    let least = c.first_odd-least.result in
+    c.new.ensures.items
+    ∙ even_none values c.args.bounds first least c.first_odd-least.ensures.even
+    ∙ within_alone (test_of values c.args.bounds) first end least (length values) (omega arith) (omega arith) (omega arith) (omega arith) c.first_odd-least.ensures.high
+    (λ p one out. outside values c.args.bounds first end p c.max-first.ensures c.min-end.ensures one out)
