@@ -159,7 +159,7 @@ fn text<G: Read, O: Write>(alloc: Global, gate: &mut G, output: &mut O) -> io::R
     let firkin: Standard = dictionary(alloc, FIRKIN)?;
     let mut page = String::from_str(alloc, "Ale: ")?;
     step(gate);
-    let answer = hyphenate_text(&mut page, alloc, &firkin, "Firkin, firkins.", "-");
+    let answer = hyphenate_text(alloc, &mut page, &firkin, "Firkin, firkins.", "-");
     step(gate);
     match answer {
         Ok(()) => writeln!(output, "{page}"),

@@ -12,8 +12,8 @@ use unicode_segmentation::UnicodeSegmentation;
 
 /// Appends a word with the mark at its breaks.
 fn push_word<'h, H: Hyphenator<'h>>(
-    output: &mut String,
     alloc: Global,
+    output: &mut String,
     dictionary: &'h H,
     word: &str,
     mark: &str,
@@ -37,7 +37,7 @@ pub fn hyphenated_text<'h, H: Hyphenator<'h>>(
 {
     let mut output = String::with_capacity(alloc, text.len())?;
     for piece in text.split_word_bounds() {
-        push_word(&mut output, alloc, dictionary, piece, mark)?;
+        push_word(alloc, &mut output, dictionary, piece, mark)?;
     }
     Ok(output)
 }
@@ -51,11 +51,11 @@ pub fn hyphenated_text<'h, H: Hyphenator<'h>>(
 /// The only error is that memory was refused, and then the `String` is as it was.
 ///
 /// ```text
-/// hyphenate_text(&mut page, alloc, &dictionary, "Firkin, firkins.", "-")?;      // Fir-kin, fir-k-ins.
+/// hyphenate_text(alloc, &mut page, &dictionary, "Firkin, firkins.", "-")?;      // Fir-kin, fir-k-ins.
 /// ```
 pub fn hyphenate_text<'h, H: Hyphenator<'h>>(
-    output: &mut String,
     alloc: Global,
+    output: &mut String,
     dictionary: &'h H,
     text: &str,
     mark: &str,

@@ -73,14 +73,10 @@ pub trait Load: Sized {
     ///
     /// Where it can't be opened the error is `Error::Memory` where its kind is `OutOfMemory`, else `Error::IO` holding
     /// it.
-    final fn from_path<F: Files>(rt: &F, alloc: Global, lang: Language, path: &str) -> Result<Self>
+    fn from_path<F: Files>(rt: &F, alloc: Global, lang: Language, path: &str) -> Result<Self>
         ensures file { FromFile F.File.remaining refusal is_given language_of lang result }
         ensures asked { InLanguage language lang result }
-        ensures kind { IfErr result IsNoWant }
-    {
-        let mut file = fs::open(rt, path).map_err(error_of_reading)?;
-        Self::from_reader(alloc, lang, &mut file)
-    }
+        ensures kind { IfErr result IsNoWant };
 
     /// The dictionary as its canonical text, which is accepted and gives this very dictionary again. The only error is
     /// memory.
@@ -97,16 +93,12 @@ pub trait Load: Sized {
     ///
     /// The error is `Error::Memory` where memory for the text was refused, and then nothing was written; or `Error::IO`
     /// holding the fault of the writer, whatever its kind, and then a beginning of the text may have gone out.
-    final fn to_writer<W: Write>(&self, alloc: Global, writer: &mut W) -> Result<()>
+    fn to_writer<W: Write>(&self, alloc: Global, writer: &mut W) -> Result<()>
         ensures written { OnOk result (Appends (W.contents writer.old) (W.contents writer.new) (canonical self.now)) }
         ensures accepted { OnOk result (refusal (canonical self.now) ≡ None) }
         ensures given { OnOk result (is_given (canonical self.now) self.now) }
         ensures untouched { IfMemory result (writer.new ≡ writer.old) }
-        ensures kind { IfErr result IsOfWriting }
-    {
-        let text = self.to_text(alloc).map_err(Error::Memory)?;
-        writer.write_all(&text).map_err(Error::IO)
-    }
+        ensures kind { IfErr result IsOfWriting };
 }
 
 /// All that a reader has left.
@@ -188,8 +180,18 @@ impl Load for Standard {
         of_language(lang, Self::any_from_reader(alloc, reader)?)
     }
 
+    fn from_path<F: Files>(rt: &F, alloc: Global, lang: Language, path: &str) -> Result<Standard> {
+        let mut file = fs::open(rt, path).map_err(error_of_reading)?;
+        Self::from_reader(alloc, lang, &mut file)
+    }
+
     fn to_text(&self, alloc: Global) -> std::result::Result<Vec<u8>, AllocError> {
         write_standard(alloc, self)
+    }
+
+    fn to_writer<W: Write>(&self, alloc: Global, writer: &mut W) -> Result<()> {
+        let text = write_standard(alloc, self).map_err(Error::Memory)?;
+        writer.write_all(&text).map_err(Error::IO)
     }
 }
 
@@ -223,7 +225,17 @@ impl Load for Extended {
         of_language(lang, Self::any_from_reader(alloc, reader)?)
     }
 
+    fn from_path<F: Files>(rt: &F, alloc: Global, lang: Language, path: &str) -> Result<Extended> {
+        let mut file = fs::open(rt, path).map_err(error_of_reading)?;
+        Self::from_reader(alloc, lang, &mut file)
+    }
+
     fn to_text(&self, alloc: Global) -> std::result::Result<Vec<u8>, AllocError> {
         write_extended(alloc, self)
+    }
+
+    fn to_writer<W: Write>(&self, alloc: Global, writer: &mut W) -> Result<()> {
+        let text = write_extended(alloc, self).map_err(Error::Memory)?;
+        writer.write_all(&text).map_err(Error::IO)
     }
 }

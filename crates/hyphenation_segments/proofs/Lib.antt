@@ -1,3 +1,4 @@
 pub mod SegmentSteps
 pub mod SegmentsJoin
 pub mod Pushing
+pub mod Listing

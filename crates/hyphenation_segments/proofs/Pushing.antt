@@ -1,8 +1,9 @@
 -- Appending the marked segments of a word, break by break.
-use Rattle.std.proofs.Common.{◌≡◌, ℕ, ◌+◌, ◌-◌, ◌≤◌, List, [], ◌∷◌, ◌++◌, map, length, drop, refl, sym, ap, subst, ◌∙◌, arith, append_assoc, append-nil, add-zero, add-one, get_or, suc, ◌<◌, IsCharBoundary, IsUtf8}
-use Rattle.std.specs.List.{concat, slice_range}
+use Rattle.std.proofs.Common.{◌≡◌, ℕ, ◌+◌, ◌-◌, ◌≤◌, List, [], ◌∷◌, ◌++◌, map, length, take, drop, refl, sym, ap, subst, ◌∙◌, arith, append_assoc, append-nil, add-zero, add-one, get_or, suc, ◌<◌, IsCharBoundary, IsUtf8}
+use Rattle.std.specs.List.{concat, slice_range, slice_index}
 use Rattle.std.proofs.Math.Seq.{drop-cons}
-use Rattle.std.proofs.lemmas.Str.{IsCharBoundary-start}
+use Rattle.std.proofs.lemmas.Str.{IsCharBoundary-start, IsCharBoundary-from_take}
+use Rattle.std.specs.Io.{StartsWith}
 use Rattle.hyphenation_breaks.specs.Break.{Break, plain_break, begin_of, end_of, before_of, after_of}
 use Rattle.hyphenation_segments.specs.Fits.{Stands, FitsFrom, Fits}
 use Rattle.hyphenation_segments.specs.Segments.{segments_after, marked_segments, mark_if_more}
@@ -79,3 +80,9 @@ at_first text breaks u h = (IsCharBoundary-start text u, h)
 pub here_stands : {X : Type 0} (meaning : X → Break) (text : List ℕ) (start i : ℕ) (xs : List X) (x : X) → i < length xs → x ≡ get_or xs i x → FitFrom text start (map meaning (drop i xs)) → Stands text start 0 (meaning x)
 here_stands {X} meaning text start i xs x lt is h =
     first_stands text start (meaning x) (map meaning (drop (i + 1) xs)) (subst (λ (l : List Break). FitFrom text start l) (ap (map meaning) (from_here xs i x lt is)) h)
+
+-- A text that begins with another one can be cut back to it.
+pub cut_back : (now before : List ℕ) (n : ℕ) → IsUtf8 now → IsUtf8 before → StartsWith now before → n ≡ length before → n ≤ length now → (n ≤ length now) × (0 < n → n < length now → 128 ≤ slice_index now n → 192 ≤ slice_index now n)
+cut_back now before n u v front is within =
+    let boundary : IsCharBoundary now n = IsCharBoundary-from_take now n u within (subst IsUtf8 (sym (ap (λ (k : ℕ). take k now) is ∙ front)) v) in
+    (within, λ _. boundary.1)

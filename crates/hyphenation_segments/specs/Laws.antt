@@ -1,8 +1,9 @@
 -- What is true of all segments.
-use Rattle.std.specs.Prelude.{◌≡◌, ℕ, ◌+◌, ◌≤◌, List, map, length, slice_get, Some, [], drop, slice_index_or, take, ◌++◌, ◌∷◌}
+use Rattle.std.specs.Prelude.{◌≡◌, ◌↔◌, ℕ, ◌+◌, ◌≤◌, ◌<◌, ◌^◌, List, map, length, slice_get, Some, [], drop, slice_index_or, take, ◌++◌, ◌∷◌, ⊤, IsTrue}
 use Rattle.std.specs.List.{concat}
-use Rattle.hyphenation_breaks.specs.Break.{Break, plain_break}
-use Rattle.hyphenation_segments.specs.Fits.{Fits}
+use Rattle.hyphenation_breaks.specs.Break.{Break, plain_break, has_boundary}
+use Rattle.hyphenation_breaks.specs.Invariant.{are_listed, can_be_said_if_any}
+use Rattle.hyphenation_segments.specs.Fits.{Fits, Stands}
 use Rattle.hyphenation_segments.specs.ChangedSegments.{made_segments}
 use Rattle.hyphenation_segments.specs.Segments.{segments, segment_between, marked_segments}
 
@@ -46,3 +47,21 @@ JoinsToMarkedText =
 abbrev pub MadeAreSegments : Type 0
 MadeAreSegments =
     (text : List ℕ) (breaks : List Break) → map (λ made. made.0) (made_segments text breaks) ≡ segments text breaks
+
+-- Breaks by the rule of listing alone, from a least place on: each stands in the text, at a place after the one before
+-- it. Their ranges may overlap.
+abbrev pub MayBeListed : List ℕ → ℕ → List Break → Type 0
+MayBeListed text least [] = ⊤
+MayBeListed text least (b ∷ bs) = Stands text 0 least b × MayBeListed text (b.place + 1) bs
+
+-- Each break is as its type keeps it, which `Break::invariant` tells.
+abbrev pub AreKept : List Break → Type 0
+AreKept [] = ⊤
+AreKept (b ∷ bs) = IsTrue (has_boundary b.change) × IsTrue (can_be_said_if_any b.change) × AreKept bs
+
+-- Breaks may be listed for a word exactly where they may by the rule alone: what `are_listed` asks besides is true of
+-- each word and each break that there is.
+abbrev pub ListedByRule : (B : Type 0) → (B → Break) → Type 0
+ListedByRule B break_of =
+    (word : List ℕ) (listed : List B) → length word < 2 ^ 64 → AreKept (map break_of listed)
+    → IsTrue (are_listed break_of word listed) ↔ MayBeListed word 0 (map break_of listed)

@@ -4,7 +4,7 @@
 //! them, and `SegmentsExt` does so where breaks may change it; `Hyphenating` takes such texts (`Texts`), and gives each
 //! with its mark. [`push_marked`] writes them all after a text at once.
 
-ghost use Rattle.std.specs.Prelude.{◌≡◌, ℕ, List, Bool, false, Option, Some, None, length, IsSome, MatchResult};
+ghost use Rattle.std.specs.Prelude.{◌≡◌, ℕ, List, Option, Some, None, length, MatchResult};
 ghost use Rattle.hyphenation_breaks.specs.Break.{Break};
 ghost use Rattle.hyphenation_segments.specs.Remaining.{TakesFirst, TakesFirstOrRefuses};
 
@@ -31,15 +31,9 @@ pub trait Breaks: Drop {
     /// The breaks to come.
     ghost to_come: { Self → List Break };
 
-    /// It has answered that it is empty.
-    ghost is_over: { Self → Bool };
-
-    /// The next break, taken from the list, or `None` where the list is empty. After a `None` it may not be asked
-    /// again: what comes then is open.
+    /// The next break, taken from the list, or `None` where the list is empty; what comes after a `None` is open.
     fn pull(&mut self) -> Option<Self::Item>
-        requires { is_over self.old ≡ false }
-        ensures first { TakesFirst Self.Item.meaning to_come self.old result self.new }
-        ensures open { IsSome result → is_over self.new ≡ false };
+        ensures { TakesFirst Self.Item.meaning to_come self.old result self.new };
 
     /// The number of breaks to come.
     fn left(&self) -> usize
@@ -47,14 +41,12 @@ pub trait Breaks: Drop {
 }
 
 impl<T: Break> Breaks for vec::IntoIter<T> {
-    ghost use Rattle.std.specs.Prelude.{map, false};
+    ghost use Rattle.std.specs.Prelude.{map};
     ghost use Rattle.std.specs.Vec.Iter.{into_iter_items};
 
     type Item = T;
 
     ghost to_come = { λ breaks. map T.meaning (into_iter_items breaks) };
-
-    ghost is_over = { λ _. false };
 
     fn pull(&mut self) -> Option<T> {
         self.next()
@@ -66,15 +58,13 @@ impl<T: Break> Breaks for vec::IntoIter<T> {
 }
 
 impl<'a, T: Break + Copy> Breaks for Copied<slice::Iter<'a, T>> {
-    ghost use Rattle.std.specs.Prelude.{map, false};
+    ghost use Rattle.std.specs.Prelude.{map};
     ghost use Rattle.std.specs.Iterator.Adapters.{copied_source};
     ghost use Rattle.std.specs.Slice.Iter.{iter_rest};
 
     type Item = T;
 
     ghost to_come = { λ breaks. map T.meaning (iter_rest (copied_source breaks)) };
-
-    ghost is_over = { λ _. false };
 
     fn pull(&mut self) -> Option<T> {
         self.next()

@@ -159,13 +159,11 @@ struct ComesAgain<B: Break + Copy> {
 }
 
 impl<B: Break + Copy> Breaks for ComesAgain<B> {
-    ghost use Rattle.std.specs.Prelude.{◌==◌, [], ◌∷◌, if◌then◌else◌, nat_lt};
+    ghost use Rattle.std.specs.Prelude.{◌==◌, [], ◌∷◌, if◌then◌else◌};
 
     type Item = B;
 
     ghost to_come = { λ again. if again.answers == 0 then B.meaning again.place ∷ [] else [] };
-
-    ghost is_over = { λ again. nat_lt 1 again.answers };
 
     fn pull(&mut self) -> Option<B> {
         match self.answers {

@@ -284,9 +284,9 @@ fn edits_of_an_extended_dictionary_are_judged_by_its_kind(rt: HostRuntime) -> Re
 /// Three texts after another, hyphenated by a dictionary.
 fn appended(alloc: Global, dictionary: &Standard) -> Result<String, AllocError> {
     let mut page = String::from_str(alloc, "Ale: ")?;
-    hyphenate_text(&mut page, alloc, dictionary, "Firkin, firkins.", "-")?;
-    hyphenate_text(&mut page, alloc, dictionary, " Firkin", "")?;
-    hyphenate_text(&mut page, alloc, dictionary, "", "-")?;
+    hyphenate_text(alloc, &mut page, dictionary, "Firkin, firkins.", "-")?;
+    hyphenate_text(alloc, &mut page, dictionary, " Firkin", "")?;
+    hyphenate_text(alloc, &mut page, dictionary, "", "-")?;
     Ok(page)
 }
 

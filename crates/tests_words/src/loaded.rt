@@ -29,7 +29,7 @@ fn accepted_beginnings_give_what_they_spell(rt: HostRuntime) -> Result<(), Fail>
 /// A text after another, hyphenated by an extended dictionary.
 fn appended(alloc: Global, dictionary: &Extended) -> Result<String, AllocError> {
     let mut page = String::from_str(alloc, "(")?;
-    hyphenate_text(&mut page, alloc, dictionary, "Az asszonnyal.", "-")?;
+    hyphenate_text(alloc, &mut page, dictionary, "Az asszonnyal.", "-")?;
     Ok(page)
 }
 

@@ -1,5 +1,5 @@
 -- The segments of a text at breaks that may change it, and how they are made: what private functions and proofs need of it beside, and no public contract cites.
-use Rattle.std.specs.Prelude.{◌≡◌, ⊤, ℕ, ◌||◌, ◌↔◌, Bool, false, List, [], ◌++◌, Option, None, Some, Result, IfOk, IsOk}
+use Rattle.std.specs.Prelude.{◌≡◌, ℕ, ◌||◌, ◌↔◌, Bool, false, List, [], ◌++◌, Option, None, Some, Result, IfOk, IsOk}
 use Rattle.std.specs.Cow.{cow_str_bytes, IsBorrowedStr}
 use Rattle.std.specs.Option.{is_some}
 use Rattle.std.specs.Str.{IsCharBoundary}
@@ -18,9 +18,10 @@ abbrev pub made_segments_from : List ℕ → Option ℕ → Option Break → Lis
 made_segments_from text None last breaks = []
 made_segments_from text (Some start) last breaks = made_segments_after text (last_break last) breaks
 
--- The breaks to come fit the text after the last break, whose range ends at the start.
+-- The breaks to come fit the text after the last break, whose range ends at the start; after the last segment none are
+-- to come.
 abbrev pub FitsAfterLast : List ℕ → Option ℕ → Option Break → List Break → Type 0
-FitsAfterLast text None last breaks = ⊤
+FitsAfterLast text None last breaks = breaks ≡ []
 FitsAfterLast text (Some start) last breaks =
     (start ≡ end_of (last_break last)) × IsCharBoundary text start
     × FitsFrom text start ((last_break last).place) breaks

@@ -1,5 +1,5 @@
 -- Lists that are still to come: what private functions and proofs need of it beside, and no public contract cites.
-use Rattle.std.specs.Prelude.{◌≡◌, ℕ, Bool, false, List, [], ⊤, Option, None, Some}
+use Rattle.std.specs.Prelude.{◌≡◌, ℕ, List, [], Option, None, Some}
 use Rattle.std.specs.Str.{IsCharBoundary}
 use Rattle.hyphenation_breaks.specs.Break.{Break, plain_break}
 use Rattle.hyphenation_segments.specs.Fits.{FitsFrom}
@@ -10,12 +10,7 @@ abbrev pub segments_from : List ℕ → Option ℕ → List Break → List (List
 segments_from text None breaks = []
 segments_from text (Some start) breaks = segments_after text (plain_break start) breaks
 
--- The breaks to come fit the text after the start.
+-- The breaks to come fit the text after the start; after the last segment none are to come.
 abbrev pub FitsAfter : List ℕ → Option ℕ → List Break → Type 0
-FitsAfter text None breaks = ⊤
+FitsAfter text None breaks = breaks ≡ []
 FitsAfter text (Some start) breaks = IsCharBoundary text start × FitsFrom text start start breaks
-
--- Breaks may be asked until they have answered that they are empty, and then there is no start.
-abbrev pub MayAsk : Option ℕ → Bool → Type 0
-MayAsk None over = ⊤
-MayAsk (Some start) over = over ≡ false

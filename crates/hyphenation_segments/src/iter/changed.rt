@@ -1,6 +1,6 @@
 //! The segments of a text at breaks that may change it.
 
-ghost use Rattle.std.specs.Prelude.{◌≡◌, ℕ, Bool, false, ◌++◌, List, map, length, IfOk, Some, IfSome};
+ghost use Rattle.std.specs.Prelude.{◌≡◌, ℕ, Bool, ◌++◌, List, map, length, IfOk, Some, IfSome};
 ghost use Rattle.std.specs.Iterator.{item_count, UpTo, at_most};
 ghost use Rattle.std.specs.Iterator.SizeHint.{IsWithinCount};
 ghost use Rattle.std.specs.Option.{option_map};
@@ -33,7 +33,6 @@ pub struct SegmentsExt<'t, I: Breaks> {
 impl<'t, I: Breaks> Model for SegmentsExt<'t, I> {
     ghost use Rattle.std.specs.Prelude.{List, ℕ, Bool};
     ghost use Rattle.std.specs.Option.{option_map};
-    ghost use Rattle.hyphenation_segments.specs.Private.Remaining.{MayAsk};
     ghost use Rattle.hyphenation_segments.specs.Private.ChangedSegments.{made_segments_from, FitsAfterLast};
 
     ghost Value = { List (List ℕ × Bool) };
@@ -41,16 +40,13 @@ impl<'t, I: Breaks> Model for SegmentsExt<'t, I> {
     ghost view = { λ s. made_segments_from s.text.now s.start (option_map I.Item.meaning s.last) (I.to_come s.breaks) };
 
     ghost invariant = { λ s.
-        FitsAfterLast s.text.now s.start (option_map I.Item.meaning s.last) (I.to_come s.breaks)
-        × MayAsk s.start (I.is_over s.breaks) };
+        FitsAfterLast s.text.now s.start (option_map I.Item.meaning s.last) (I.to_come s.breaks) };
 }
 
 impl<'t, I: Breaks> SegmentsExt<'t, I> {
-    /// All segments of the text, at breaks that fit it as `Word::fits` says, of a list that has not answered yet that
-    /// it is empty.
+    /// All segments of the text, at breaks that fit it as `Word::fits` says.
     pub fn new(alloc: Global, text: &'t str, breaks: I) -> SegmentsExt<'t, I>
-        requires fits { Fits text.now (I.to_come breaks) }
-        requires open { I.is_over breaks ≡ false }
+        requires { Fits text.now (I.to_come breaks) }
         ensures { result ≡ made_segments text.now (I.to_come breaks) }
     {
         SegmentsExt {
@@ -107,25 +103,23 @@ impl<'t, I: Breaks> Iterator for SegmentsExt<'t, I> {
     ghost remaining = { item_count (λ s. s) };
 
     /// The next segment, or an error in its place where the memory for it is refused; the later ones are what they
-    /// would have been. After the last one it gives `None`, as often as it is asked, and the breaks are asked no more.
+    /// would have been. After the last one it gives `None`, as often as it is asked. The breaks are asked for one only
+    /// while some are left.
     fn next(&mut self) -> Option<Result<CowStr<'t>, AllocError>> {
         let start = self.start?;
         let text = self.text;
         let alloc = self.alloc;
-        match self.breaks.pull() {
-            None => {
-                self.start = None;
-                Some(between(alloc, &self.last, &text[start..], &None))
-            }
-            Some(b) => {
-                let (begin, end) = b.range().unwrap();
-                let next = Some(b);
-                let segment = between(alloc, &self.last, &text[start..begin], &next);
-                self.start = Some(end);
-                self.last = next;
-                Some(segment)
-            }
+        if self.breaks.left() == 0 {
+            self.start = None;
+            return Some(between(alloc, &self.last, &text[start..], &None));
         }
+        let b = self.breaks.pull()?;
+        let (begin, end) = b.range().unwrap();
+        let next = Some(b);
+        let segment = between(alloc, &self.last, &text[start..begin], &next);
+        self.start = Some(end);
+        self.last = next;
+        Some(segment)
     }
 
     /// The number of segments to come, as both bounds.

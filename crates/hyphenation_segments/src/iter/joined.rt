@@ -1,6 +1,6 @@
 //! The marked segments of a word, joined after a text, with no text of their own.
 
-ghost use Rattle.std.specs.Prelude.{◌≡◌, ◌++◌, map, slice_range, IfOk, OnOk};
+ghost use Rattle.std.specs.Prelude.{◌≡◌, ◌++◌, map, slice_range, IfOk, OnErr, OnOk};
 ghost use Rattle.std.specs.Io.{StartsWith};
 ghost use Rattle.std.specs.Str.{IsCharBoundary};
 ghost use Rattle.std.specs.String.{string_bytes};
@@ -58,8 +58,8 @@ fn push_segments<B: Break>(
 
 /// Appends the segments of a word, each but the last with the mark after it.
 ///
-/// What is in the `String` before stays in front. The only error is memory, and then a beginning of them may stand after
-/// it.
+/// What is in the `String` before stays in front. The only error is that memory was refused, and then the `String` is as
+/// it was.
 pub fn push_marked<B: Break>(
     output: &mut String,
     word: &Word<'_, B>,
@@ -67,7 +67,14 @@ pub fn push_marked<B: Break>(
 ) -> Result<(), AllocError>
     ensures appended { OnOk result (string_bytes output.new ≡ string_bytes output.old ++ marked_word
         mark.now word.now.text.now (map B.meaning word.now.breaks.items)) }
-    ensures front { StartsWith (string_bytes output.new) (string_bytes output.old) }
+    ensures err { OnErr result (string_bytes output.new ≡ string_bytes output.old) }
 {
-    push_segments(output, word.text, &word.breaks, mark)
+    let before = output.len();
+    match push_segments(output, word.text, &word.breaks, mark) {
+        Ok(()) => Ok(()),
+        Err(error) => {
+            output.truncate(before);
+            Err(error)
+        }
+    }
 }

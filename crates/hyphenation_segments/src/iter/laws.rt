@@ -1,6 +1,10 @@
-//! What is true of all segments. Each function does nothing, and its contract is one law.
+//! What is true of all segments, and of breaks that may be listed for a word. Each function does nothing, and its
+//! contract is one law.
 
-ghost use Rattle.hyphenation_segments.specs.Laws.{IsGivenByNeighbours, IsOneMore, JoinsToText, JoinsToMarkedText, MadeAreSegments};
+ghost use Rattle.hyphenation_segments.specs.Laws.{IsGivenByNeighbours, IsOneMore, JoinsToText, JoinsToMarkedText, MadeAreSegments, ListedByRule};
+
+use hyphenation_breaks::breaks::Break;
+use hyphenation_breaks::laws::{boundary_is_of_chars, listed_in_order};
 
 /// A segment is given by its two neighbouring breaks alone.
 pub fn segments_are_given_by_neighbours()
@@ -26,3 +30,14 @@ pub fn marked_segments_join()
 pub fn made_segments_are_segments()
     ensures { MadeAreSegments }
 {}
+
+/// Breaks may be listed for a word exactly where their places ascend strictly on its character boundaries, and the range
+/// of each lies in the word, on character boundaries; ranges may overlap.
+///
+/// What a dictionary's `fits` tests besides is true of each word and each break that there is.
+pub fn listed_by_the_rule<B: Break>()
+    ensures { ListedByRule B B.meaning }
+{
+    listed_in_order::<B>();
+    boundary_is_of_chars();
+}

@@ -1,6 +1,6 @@
 //! The segments of a text at plain breaks.
 
-ghost use Rattle.std.specs.Prelude.{◌≡◌, false, Some, IfSome, ⊤, length};
+ghost use Rattle.std.specs.Prelude.{◌≡◌, Some, IfSome, ⊤, length};
 ghost use Rattle.std.specs.Iterator.{YieldsFirstRef, item_count, UpTo, at_most};
 ghost use Rattle.std.specs.Iterator.SizeHint.{IsWithinCount};
 ghost use Rattle.hyphenation_segments.specs.Fits.{Fits};
@@ -25,21 +25,19 @@ pub struct Segments<'t, I: Breaks<Item = usize>> {
 
 impl<'t, I: Breaks<Item = usize>> Model for Segments<'t, I> {
     ghost use Rattle.std.specs.Prelude.{List, ℕ};
-    ghost use Rattle.hyphenation_segments.specs.Private.Remaining.{segments_from, FitsAfter, MayAsk};
+    ghost use Rattle.hyphenation_segments.specs.Private.Remaining.{segments_from, FitsAfter};
 
     ghost Value = { List (List ℕ) };
 
     ghost view = { λ s. segments_from s.text.now s.start (I.to_come s.breaks) };
 
-    ghost invariant = { λ s. FitsAfter s.text.now s.start (I.to_come s.breaks) × MayAsk s.start (I.is_over s.breaks) };
+    ghost invariant = { λ s. FitsAfter s.text.now s.start (I.to_come s.breaks) };
 }
 
 impl<'t, I: Breaks<Item = usize>> Segments<'t, I> {
-    /// All segments of the text, at breaks that fit it as `Word::fits` says, of a list that has not answered yet that
-    /// it is empty.
+    /// All segments of the text, at breaks that fit it as `Word::fits` says.
     pub fn new(text: &'t str, breaks: I) -> Segments<'t, I>
-        requires fits { Fits text.now (I.to_come breaks) }
-        requires open { I.is_over breaks ≡ false }
+        requires { Fits text.now (I.to_come breaks) }
         ensures { result ≡ segments text.now (I.to_come breaks) }
     {
         Segments {
@@ -57,20 +55,18 @@ impl<'t, I: Breaks<Item = usize>> Iterator for Segments<'t, I> {
 
     ghost remaining = { item_count (λ s. s) };
 
-    /// The next segment; after the last one `None`, as often as it is asked, and the breaks are asked no more.
+    /// The next segment; after the last one `None`, as often as it is asked. The breaks are asked for one only while
+    /// some are left.
     fn next(&mut self) -> Option<&'t str> {
         let start = self.start?;
         let text = self.text;
-        match self.breaks.pull() {
-            None => {
-                self.start = None;
-                Some(&text[start..])
-            }
-            Some(place) => {
-                self.start = Some(place);
-                Some(&text[start..place])
-            }
+        if self.breaks.left() == 0 {
+            self.start = None;
+            return Some(&text[start..]);
         }
+        let place = self.breaks.pull()?;
+        self.start = Some(place);
+        Some(&text[start..place])
     }
 
     /// The number of segments to come, as both bounds.

@@ -2,4 +2,4 @@ use Rattle.std.proofs.lemmas.Str.{IsCharBoundary-start}
 use Rattle.hyphenation_segments.proofs.iter.plain.Segments.new.Goals as goal
 
 pub invariant_of-result : goal.invariant_of-result
-invariant_of-result g c = ((IsCharBoundary-start _ c.utf8.text, c.requires.fits), c.requires.open)
+invariant_of-result g c = (IsCharBoundary-start _ c.utf8.text, c.requires)
