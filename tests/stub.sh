@@ -19,7 +19,8 @@ make_copy() {
     man LICENSE-APACHE LICENSE-MIT examples crates.txt HANDLES crates | tar -C "$copy" -xf -
   find "$copy" -type f -exec touch -d '2 hours ago' {} +
   for it in "${tools[@]}"; do
-    ln -s "$(command -v "$it")" "$plain/$it"
+    # the launcher does without iconv where there is none
+    ! command -v "$it" >/dev/null || ln -s "$(command -v "$it")" "$plain/$it"
   done
   cat >"$stub/rt" <<'STUB'
 #!/usr/bin/env bash
