@@ -1,34 +1,64 @@
-# What the scripts of this folder share: programs that are proved and built, and runs of them with a fault.
-# shellcheck shell=bash
+# What the scripts of this folder share: the programs, runs of them with a fault, and the line that a script ends with.
+# shellcheck shell=bash disable=SC2034
 
 set -euo pipefail
 root=$(cd "$(dirname "${BASH_SOURCE[0]}")/.." && pwd)
 called=$(basename "$0")
 scratch=$(mktemp -d)
 trap 'rm -rf "$scratch"' EXIT
+# shellcheck source=tools/programs.sh
+. "$root/tools/programs.sh"
 
 die() {
   echo "$called: $*" >&2
   exit 2
 }
 
-command -v rt >/dev/null || die "the toolchain is missing: there is no command rt"
-"${CC:-cc}" -O2 -shared -fPIC -o "$scratch/faults.so" "$root/tests/faults.c" || die "tests/faults.c was not built"
+# needs PROGRAM..: has the programs proved and built that are not current; or ends the script, where AS_BUILT is set,
+# as ./test sets it: it takes the programs that `rt ci` has just built, and builds none anew.
+needs() {
+  local it file crate
+  if [ -z "${AS_BUILT-}" ]; then
+    prove "$@" || die "the programs are not there"
+    return
+  fi
+  for it; do
+    is_current "$it" || die "$it: there is no $file, or a source is newer"
+  done
+}
 
-# The program of a crate, which is proved and built where that was not done.
+# program NAME: the file of a program, which is there.
 program() {
-  local folder=$root/crates/$1
-  echo "$called: proving and building $1, where it has changed" >&2
-  (cd "$folder" && rt run) </dev/null >"$scratch/built" 2>&1 || true
-  [ -e "$folder/out/$1.stamp" ] || {
-    tail -n 30 "$scratch/built" >&2
-    die "$1 was not proved and built"
-  }
-  echo "$folder/out/$1"
+  local file crate
+  file_of "$1"
+  echo "$file"
+}
+
+# compiler: the words of a C compiler: those of CC, else the toolchain's own, else cc.
+compiler() {
+  local page
+  if [ -n "${CC-}" ]; then
+    echo "$CC"
+  elif page=$(rt doc 2>/dev/null) && [ -x "$(dirname "$page")/toolchain/bin/clang" ]; then
+    echo "$(dirname "$page")/toolchain/bin/clang"
+  elif command -v cc >/dev/null; then
+    echo cc
+  else
+    return 1
+  fi
+}
+
+# Builds the library that makes calls fail.
+build_faults() {
+  local words
+  words=$(compiler) || die "there is no C compiler: neither one in CC, nor the toolchain's, nor cc"
+  # shellcheck disable=SC2086
+  $words -O2 -shared -fPIC -nostdlib -o "$scratch/faults.so" "$root/tests/faults.c" ||
+    die "tests/faults.c was not built by $words"
 }
 
 # with FAULT PROGRAM WORD..: runs the program with that fault. It leaves in `status` how it ended, in `output` and
-# `message` what it wrote, and in `counted`, `touched` and `touched_at` what the report says.
+# `message` what it wrote, and in `counted`, `touched`, `touched_at`, `touched_after` and `kept` what the report says.
 with() {
   local fault=$1
   shift
@@ -36,8 +66,26 @@ with() {
   rm -f "$scratch/report"
   FAULT=$fault REPORT=$scratch/report LD_PRELOAD=$scratch/faults.so \
     "$@" >"$scratch/output" 2>"$scratch/message" || status=$?
-  read -r counted touched touched_at <"$scratch/report" || die "no report of $*"
+  read -r counted touched touched_at touched_after kept <"$scratch/report" || die "no report of $*"
   output=$(cat "$scratch/output" && echo .)
   output=${output%.}
   message=$(cat "$scratch/message")
+}
+
+# The checks of a script: `check` counts one that passed or, with a text, one that failed, and says why.
+passed=0 failed=0
+check() {
+  if [ $# = 0 ]; then
+    passed=$((passed + 1))
+  else
+    failed=$((failed + 1))
+    echo "WRONG: $*"
+  fi
+}
+
+# Ends a script: the last line says how many of its checks passed, and the status is 1 where one failed.
+end() {
+  echo "$passed passed, $failed failed"
+  [ $failed = 0 ] || exit 1
+  exit 0
 }

@@ -56,7 +56,8 @@ has_toolchain() {
 }
 
 # prove PROGRAM..: proves and builds the programs that are not current, with a line on standard error for each crate.
-# It returns 1 where one is not proved and built, and says why.
+# It returns 1 where one is not proved and built, and says why. Where `at_once` is set, so many crates are proved side by
+# side, each with one job; else one after another, each with all processors.
 prove() {
   local -a order=() missing=()
   local it log done=0
@@ -71,6 +72,15 @@ prove() {
   done
   echo "$called: proving and building ${missing[*]}; from nothing, all programs took $INSTALL" >&2
   log=$(mktemp)
+  if [ -n "${at_once-}" ]; then
+    prove_side_by_side "$log" || {
+      tail -n 30 "$log" >&2
+      echo "$called: not all was proved and built; all of what was said is in $log" >&2
+      return 1
+    }
+    rm -f "$log"
+    return
+  fi
   for it in "${order[@]}"; do
     done=$((done + 1))
     echo "$called: proving $it ($done of ${#order[@]})" >&2
@@ -95,6 +105,37 @@ prove_crate() (
   rt run || true
   [ -x "out/$1" ]
 )
+
+# prove_side_by_side LOG: proves and builds the crates of the list `order`, `at_once` of them at a time, and writes to LOG
+# what is said. `rt all` works on all crates below a folder: so this is a folder with links to the libraries, in which
+# they are built where they stand, and with copies of the programs, whose out/ is moved to where they stand.
+prove_side_by_side() {
+  local top it folder status=0
+  top=$(mktemp -d)
+  mkdir "$top/crates"
+  cp "$root/crates.txt" "$root/HANDLES" "$top"
+  for it in "${order[@]}"; do
+    folder=$root/crates/$it
+    if [ -e "$folder/src/lib.rt" ]; then
+      ln -s "$folder" "$top/crates/$it"
+    else
+      rm -f "$folder/out/$it"
+      cp -R "$folder" "$top/crates/$it"
+    fi
+  done
+  (cd "$top" && rt all check --jobs "$at_once") </dev/null 2>&1 | tee "$1" |
+    sed -n "s/^== /$called: done: /p" >&2
+  [ "${PIPESTATUS[0]}" = 0 ] || status=1
+  for it in "${order[@]}"; do
+    [ $status = 0 ] && [ ! -L "$top/crates/$it" ] || continue
+    (cd "$top/crates/$it" && rt run) </dev/null >>"$1" 2>&1 || true
+    [ -x "$top/crates/$it/out/$it" ] || status=1
+    rm -rf "$root/crates/$it/out"
+    mv "$top/crates/$it/out" "$root/crates/$it/out"
+  done
+  rm -rf "$top"
+  return $status
+}
 
 # shellcheck source=proof-times
 . "$root/proof-times"

@@ -1,0 +1,80 @@
+# A copy of the repository's scripts in which nothing is proved, for the tests of the launcher and of ./install: its
+# crates have their sources, and a command `rt` of its own stands for the toolchain.
+# shellcheck shell=bash disable=SC2154
+
+# The commands that the scripts use; no other is found there, and no `rt` but the one that is made here.
+tools=(basename bash cat chmod cp dirname env find iconv ln mkdir mktemp mv readlink rm rmdir sed tail touch wc)
+
+# make_copy: makes the copy, in `copy`, and the folders of commands: `plain` without `rt`, and `stub` with it.
+#
+# The command writes each call to the file `calls`: the folder that it was called in, and its words. `rt try` hands the
+# program `trial` of the copy its words, and says that this was a trial that ended; without that program it gives no
+# answer. `rt run` makes the program `proved` of the copy the crate's; where there is none it fails, as does `rt lib` of a
+# crate that the file `unproved` names.
+make_copy() {
+  local it
+  copy=$scratch/copy plain=$scratch/plain stub=$scratch/stub
+  mkdir "$copy" "$plain" "$stub"
+  tar -C "$root" --exclude=out -cf - hyphenate hyphenate-canonical hyphenate-convert install tools proof-times \
+    man LICENSE-APACHE LICENSE-MIT examples crates.txt HANDLES crates | tar -C "$copy" -xf -
+  find "$copy" -type f -exec touch -d '2 hours ago' {} +
+  for it in "${tools[@]}"; do
+    # the launcher does without iconv where there is none
+    ! command -v "$it" >/dev/null || ln -s "$(command -v "$it")" "$plain/$it"
+  done
+  cat >"$stub/rt" <<'STUB'
+#!/usr/bin/env bash
+top=$(cd ../.. && pwd)
+name=$(basename "$PWD")
+echo "$name: $*" >>"$top/calls"
+case $1 in
+  try)
+    [ -x "$top/trial" ] || { echo 'run=none proved=no' >&2; exit 2; }
+    status=0
+    "$top/trial" "${@:3}" || status=$?
+    echo "run=ended status=$status runners=2 proved=no" >&2
+    exit $status
+    ;;
+  lib) ! grep -qsx "$name" "$top/unproved" || { echo "$name: not proved"; exit 1; } ;;
+  run) mkdir -p out && cp "$top/proved" "out/$name" && chmod 755 "out/$name" ;;
+esac
+STUB
+  chmod 755 "$stub/rt"
+  ln -s "$(command -v grep)" "$stub/grep"
+  : >"$copy/calls"
+}
+
+# program_at FILE NAME: makes a program that says its name and its words, and what it reads; it says `told` on standard
+# error where there is a word `told`, and ends with the status that the last word is, where that is a number.
+program_at() {
+  mkdir -p "$(dirname "$1")"
+  cat >"$1" <<PROGRAM
+#!/usr/bin/env bash
+printf '$2'
+printf ' [%s]' "\$@"
+printf ' %s\n' "\$(cat)"
+[[ " \$* " != *' told '* ]] || echo told >&2
+[[ ! \${!#} =~ ^[0-9]\$ ]] || exit "\${!#}"
+PROGRAM
+  chmod 755 "$1"
+}
+
+# called_with PATH WORD..: runs a command of the copy with that PATH, on the input that `input` has, and leaves `status`,
+# `output`, `message` and `calls`, the calls of the stub.
+called_with() {
+  local path=$1
+  shift
+  : >"$copy/calls"
+  status=0
+  printf '%s' "${input-}" | PATH=$path "$@" >"$scratch/output" 2>"$scratch/message" || status=$?
+  output=$(cat "$scratch/output")
+  message=$(cat "$scratch/message")
+  calls=$(cat "$copy/calls")
+}
+
+# expect WHAT TEST..: a check, which passes where the test does.
+expect() {
+  local what=$1
+  shift
+  if "$@"; then check; else check "$what: status $status, output: $output, message: $message, calls: $calls"; fi
+}
