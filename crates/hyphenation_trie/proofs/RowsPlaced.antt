@@ -1,5 +1,5 @@
 -- Rows, one more.
-use Rattle.std.proofs.Common.{◌≡◌, ◌≢◌, ℕ, ◌+◌, ◌<◌, ◌≤◌, List, [], ◌∷◌, ◌++◌, length, slice_index, Option, Some, None, Result, Ok, Err, sym, subst, ◌∙◌, arith, inl, inr}
+use Rattle.std.proofs.Common.{◌≡◌, ◌≢◌, ℕ, zero, suc, ◌+◌, ◌<◌, ◌≤◌, List, [], ◌∷◌, ◌++◌, length, slice_index, Option, Some, None, Result, Ok, Err, refl, sym, subst, ◌∙◌, arith, inl, inr}
 use Rattle.std.proofs.lemmas.Bool.{cases_eq}
 use Rattle.std.proofs.lemmas.List.{get_or_append_left, get_or_push}
 use Rattle.std.specs.Prelude.{IfOk}
@@ -40,3 +40,10 @@ fresh_fits parents bytes cells free node len base small fresh h j pos lj is e =
     let at = fresh (base + slice_index bytes j) (omega (arith, h.0)) (omega (arith, h.1, small j)) in
     let bad : ◌≡◌ {A = Option ℕ} None (Some 0) = sym e ∙ at in
     absurd cc
+
+-- one 0 more at the end of what is all 0
+pub zero_pushed : (xs : List ℕ) → ((j : ℕ) → slice_index xs j ≡ 0) → (j : ℕ) → slice_index (xs ++ 0 ∷ []) j ≡ 0
+zero_pushed [] h zero = refl
+zero_pushed [] h (suc j) = refl
+zero_pushed (x ∷ xs) h zero = h 0
+zero_pushed (x ∷ xs) h (suc j) = zero_pushed xs (λ k. h (suc k)) j

@@ -5,11 +5,11 @@ use Rattle.std.proofs.Math.Seq.{map-set_same}
 use Rattle.std.proofs.lemmas.Bool.{cases_eq, cond-true, cond-false}
 use Rattle.std.proofs.lemmas.List.{length-map, length-set, get_or-map, map-set, get_or-set_same, get_or-set_other}
 use Rattle.hyphenation_trie.specs.Private.Links.{IsFrozen}
-use Rattle.hyphenation_trie.specs.Private.States.{no_reports, links_with, froms_by, texts_by, span_in, unlinked, HasStates}
+use Rattle.hyphenation_trie.specs.Private.States.{no_reports, links_with, froms_by, texts_by, span_in, HasStates}
 use Rattle.hyphenation_trie.specs.Trie.{Tree, node_text, entries_of_key}
 use Rattle.hyphenation_trie.specs.Private.Trie.{tree_of, entries_there, IsWithin, AreWithin}
 use Rattle.hyphenation_trie.specs.declared.state.Span.{Span}
-use Rattle.hyphenation_trie.specs.declared.frozen.Moves.{Moves}
+use Rattle.hyphenation_trie.specs.declared.rows.Moves.{Moves}
 use Rattle.hyphenation_trie.specs.declared.frozen.Reports.{Reports}
 use Rattle.hyphenation_trie.specs.declared.state.State.{State}
 use Rattle.hyphenation_trie.specs.declared.rows.Cell.{Cell}
@@ -95,16 +95,6 @@ one_more {X} f d states node s asked lt here before j lj = elim (cases_eq j node
       ∙ get_or-set_other (map f states) node j (f s) d apart
       ∙ before j (omega arith)
 ]
-
--- moves as they are made have the bases, and no links
-pub bases_unlinked : (bases : List ℕ) → map (λ m. m.base) (map unlinked bases) ≡ bases
-bases_unlinked [] = refl
-bases_unlinked (base ∷ bases) = ap (λ (xs : List ℕ). base ∷ xs) (bases_unlinked bases)
-
-pub links_unlinked : (bases : List ℕ) (j : ℕ) → slice_index (map (λ m. m.link) (map unlinked bases)) j ≡ 0
-links_unlinked [] j = refl
-links_unlinked (base ∷ bases) zero = refl
-links_unlinked (base ∷ bases) (suc j) = links_unlinked bases j
 
 pub reports_none : (n j : ℕ) → get_or (replicate n no_reports) j no_reports ≡ no_reports
 reports_none zero j = refl

@@ -1,33 +1,47 @@
 //! A trie that grows: keys with their entries are put in, one after another.
 
-ghost use Rattle.std.specs.Prelude.{◌≡◌, ◌≢◌, ◌+◌, ◌<◌, ◌++◌, [], ◌∷◌, ℕ, List, length, None, Some, IfOk, OnOk, OnErr, if◌then◌else◌, nat_eq, is_some, IfSome, IfNone};
+ghost use Rattle.std.specs.Prelude.{◌≡◌, ◌≢◌, ◌+◌, ◌<◌, ◌++◌, [], ◌∷◌, ℕ, List, length, slice_index, None, Some, IfOk, OnOk, OnErr, if◌then◌else◌, nat_eq, is_some, IfSome, IfNone};
 ghost use Rattle.std.specs.Cmp.Lexicographic.{pointwise};
 ghost use Rattle.hyphenation_trie.specs.Trie.{node_text, entries_of_key, IsTrie, AddsFront, KeepsNodes, EachBeginsKey};
 ghost use Rattle.hyphenation_trie.specs.Private.Trie.{with_child, Grows, with_entries};
 
-use crate::chains::Chains;
-use crate::in_32_bits;
+use crate::Automaton;
+use crate::automaton::link_all;
+use crate::children::Children;
+use crate::frozen::{Frozen, Reports};
+use crate::levels::Levels;
 use crate::lists::begun;
+use crate::rows::rows_of;
 use crate::state::{Span, State};
 use std::alloc::{AllocError, Global};
 use std::fmt;
 use std::marker::Model;
 
 /// Keys, each with its entries.
-#[derive(Drop)]
 pub struct Trie<E> {
-    /// The parent of each node, and the byte that leads from it to the node. The root comes first, with 0 for both, and
-    /// each other node is later than its parent.
-    pub(crate) parents: Vec<u32>,
-    pub(crate) bytes: Vec<u8>,
+    /// The children of each node. In a text whose keys stand in order the child that is asked for is the last one or
+    /// new.
+    pub(crate) children: Children,
     /// What a search asks of each node. As yet it is known where its entries stand, and no more.
     pub(crate) states: Vec<State>,
     /// The entries of all keys, in one list, so that a key costs no allocation of its own. Those that a key had
     /// before it was given others stay here, unused.
     pub(crate) entries: Vec<E>,
-    /// The children of each node. In a text whose keys stand in order the child that is asked for is the last one or
-    /// new.
-    pub(crate) children: Chains,
+}
+
+// It does what the derived one would. As a call it is one step in the proof of a function that holds a trie; the derived
+// one is a step for each list that a trie has, at each way out.
+impl<E: Drop> Drop for Trie<E> {
+    fn drop(self) {
+        let Trie {
+            children,
+            states,
+            entries,
+        } = self;
+        drop(children);
+        drop(states);
+        drop(entries);
+    }
 }
 
 impl<E> Model for Trie<E> {
@@ -38,11 +52,12 @@ impl<E> Model for Trie<E> {
 
     ghost Value = { Tree E };
 
-    ghost view = { λ t. tree_of (froms_by t.parents.items t.bytes.items) (map span_in t.states.items) t.entries.items };
+    ghost view = { λ t. tree_of (froms_by t.children.parents.items t.children.bytes.items)
+        (map span_in t.states.items) t.entries.items };
 
     ghost invariant = { λ t.
-        IsHeld t.parents.items t.bytes.items t.states.items t.children.last.items t.children.before.items
-        (length t.entries.items) };
+        IsHeld t.children.parents.items t.children.bytes.items t.states.items t.children.last.items
+        t.children.before.items (length t.entries.items) };
 }
 
 impl<E: Drop> Trie<E> {
@@ -59,17 +74,13 @@ impl<E: Drop> Trie<E> {
     pub fn with_room(alloc: Global, nodes: usize) -> Result<Self, AllocError>
         ensures { IfOk result (λ trie. trie ≡ record { texts = [] ∷ []; entries = None ∷ [] }) }
     {
-        let children = Chains::with_room(alloc, nodes)?;
-        let parents = begun(alloc, nodes, 0)?;
-        let bytes = begun(alloc, nodes, 0)?;
         let states = begun(alloc, nodes, State::bare())?;
         let entries = Vec::with_capacity(alloc, nodes)?;
+        let children = Children::with_room(alloc, nodes)?;
         Ok(Trie {
-            parents,
-            bytes,
+            children,
             states,
             entries,
-            children,
         })
     }
 
@@ -123,7 +134,7 @@ impl<E: Drop> Trie<E> {
     {
         let mut child = self.children.last[node as usize];
         while child != 0 {
-            if self.bytes[child as usize] == byte {
+            if self.children.bytes[child as usize] == byte {
                 return Some(child);
             }
             child = self.children.before[child as usize];
@@ -139,18 +150,9 @@ impl<E: Drop> Trie<E> {
         ensures ok { IfOk result (λ j. (j ≡ length self.old.texts) × (self.new ≡ with_child self.old node byte)) }
         ensures err { OnErr result (self.new ≡ self.old) }
     {
-        let count = self.states.len();
-        if count > u32::MAX as usize {
-            return Err(AllocError);
-        }
-        let child = count as u32;
-        // Room first, so that no chain has a node that is then refused.
-        self.parents.reserve(1)?;
-        self.bytes.reserve(1)?;
+        // Room first, so that no node is added that is then refused.
         self.states.reserve(1)?;
-        self.children.add(node as usize, child)?;
-        self.parents.push(node).unwrap();
-        self.bytes.push(byte).unwrap();
+        let child = self.children.add(node, byte)?;
         self.states.push(State::bare()).unwrap();
         Ok(child)
     }
@@ -192,12 +194,40 @@ impl<E: Drop> Trie<E> {
         ensures err { OnErr result (self.new ≡ self.old) }
         ensures unmoved { OnErr result (entries.new.items ≡ entries.old.items) }
     {
-        let start = in_32_bits(self.entries.len())?;
-        let count = in_32_bits(entries.len())?;
+        let span = Span::of(self.entries.len(), entries.len())?;
         self.entries.append(entries)?;
-        Ok(self.states[node as usize].set_span(Span { start, count }))
+        Ok(self.states[node as usize].set_span(span))
+    }
+
+    /// The same keys with their entries, made ready to be found. The only error is memory.
+    pub fn freeze(self, alloc: Global) -> Result<Automaton<E>, AllocError>
+        ensures { IfOk result (λ automaton. automaton ≡ self) }
+    {
+        self.invariant();
+        bytes_are_small(&self.children.bytes);
+        // What takes memory is made while the trie is lent, so that a refusal lets go of the trie as it is.
+        let none = Reports {
+            report: 0,
+            next_report: 0,
+        };
+        let reports = vec![in alloc; none; self.children.parents.len()]?;
+        let rows = rows_of(alloc, &self.children)?;
+        let levels = Levels::of(alloc, &self.children.parents)?;
+        let Trie {
+            children,
+            states,
+            entries,
+        } = self;
+        let mut trie = Frozen::new(states, entries, children, rows, reports, &levels.depths);
+        link_all(&mut trie, &levels.depths, &levels.chains);
+        Ok(Automaton { trie })
     }
 }
+
+/// That each byte is below 256. The function does nothing.
+fn bytes_are_small(bytes: &[u8])
+    ensures { (k : ℕ) → slice_index bytes.now k < 256 }
+{}
 
 impl<E> fmt::Debug for Trie<E> {
     fn fmt<W: fmt::Write>(&self, f: &mut fmt::Formatter<W>) -> fmt::Result {

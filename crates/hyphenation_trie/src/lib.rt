@@ -27,9 +27,11 @@ ghost use Rattle.std.specs.Prelude.{◌≡◌, ◌≤◌, ◌^◌, IfOk, OnErr};
 
 mod automaton;
 mod chains;
+mod children;
 mod frozen;
 mod growing;
 pub mod laws;
+mod levels;
 mod lists;
 mod look_ups;
 pub mod parts;

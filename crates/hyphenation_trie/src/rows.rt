@@ -5,8 +5,9 @@
 //! to it, so that a search that comes to the root ends there without a test.
 
 ghost use Rattle.std.specs.Prelude.{◌≡◌, ◌+◌, ◌<◌, ◌≤◌, ◌≢◌, ℕ, true, false, OnOk, IfOk, IfSome, length, slice_index, Some, None};
-ghost use Rattle.hyphenation_trie.specs.Private.Rows.{child_in, AreChildren, OwnsNoChild, IsFreeRow, IsFullRow, HasRow};
+ghost use Rattle.hyphenation_trie.specs.Private.Rows.{child_in, AreChildren, OwnsNoChild, IsFreeRow, IsFullRow, HasRow, HasRows};
 
+use super::children::Children;
 use super::in_32_bits;
 use super::lists::begun;
 use std::alloc::{AllocError, Global};
@@ -18,15 +19,13 @@ pub(crate) struct Cell {
     pub(crate) child: u32,
 }
 
-/// The children of all nodes.
-#[derive(Drop)]
-pub(crate) struct Children {
-    /// The parent of each node, and the byte that leads from it.
-    pub(crate) parents: Vec<u32>,
-    pub(crate) bytes: Vec<u8>,
-    /// The last child of each node, and the sibling before each node.
-    pub(crate) last: Vec<u32>,
-    pub(crate) before: Vec<u32>,
+/// Where a search moves from a node. Each look-up asks for it and for no more, so it is apart, and small.
+#[derive(Clone, Copy)]
+pub(crate) struct Moves {
+    /// Where the node's row begins.
+    pub(crate) base: u32,
+    /// The link of the node.
+    pub(crate) link: u32,
 }
 
 /// The child at a byte of a node whose row begins at `base`.
@@ -60,7 +59,7 @@ fn grow(cells: &mut Vec<Cell>, free: u32, len: usize) -> Result<(), AllocError>
     ensures same { (i c : ℕ) → i ≢ free → child_in cells.new.items i c ≡ child_in cells.old.items i c }
     ensures old { (i c : ℕ) → c < length cells.old.items → child_in cells.new.items i c ≡ child_in cells.old.items i c }
     ensures fresh { (c : ℕ) → length cells.old.items ≤ c → c < length cells.new.items
-        → child_in cells.new.items free c ≢ None }
+        → child_in cells.new.items free c ≡ Some 0 }
 {
     if cells.len() < len {
         cells.resize(
@@ -120,7 +119,7 @@ const TRIES: usize = 16;
 const BACK: usize = 64;
 
 /// Where free cells are: below `low` there is none, and from `top` on all are free. This only guides the search.
-#[derive(Drop)]
+#[derive(Clone, Copy)]
 struct Gaps {
     low: usize,
     top: usize,
@@ -240,9 +239,7 @@ fn add_row(cells: &mut Vec<Cell>, owner: u32) -> Result<usize, AllocError>
         → child_in cells.new.items owner c ≡ Some 0 }
 {
     let base = cells.len();
-    for count in 0..256usize {
-        cells.push(Cell { owner, child: 0 })?;
-    }
+    grow(cells, owner, base + 256)?;
     Ok(base)
 }
 
@@ -277,7 +274,7 @@ fn place_row(
     gaps: &mut Gaps,
     node: u32,
     children: &Children,
-) -> Result<usize, AllocError>
+) -> Result<u32, AllocError>
     requires children { AreChildren children.now.parents.items children.now.bytes.items children.now.last.items
         children.now.before.items }
     requires node { node < length children.now.parents.items }
@@ -292,8 +289,9 @@ fn place_row(
     if children.last[node as usize] == 0 {
         return Ok(0);
     }
-    let base = make_place(cells, free, gaps, node, children)?;
-    write_row(cells, free, base, node, children);
+    let place = make_place(cells, free, gaps, node, children)?;
+    let base = in_32_bits(place)?;
+    write_row(cells, free, place, node, children);
     Ok(base)
 }
 
@@ -317,7 +315,8 @@ fn root_row(alloc: Global, children: &Children) -> Result<Vec<Cell>, AllocError>
 /// Where the row of each node begins, and the cells of all rows.
 #[derive(Drop)]
 pub(crate) struct Rows {
-    pub(crate) bases: Vec<u32>,
+    /// No node has a link yet.
+    pub(crate) moves: Vec<Moves>,
     pub(crate) cells: Vec<Cell>,
 }
 
@@ -326,24 +325,19 @@ pub(crate) fn rows_of(alloc: Global, children: &Children) -> Result<Rows, AllocE
     requires children { AreChildren children.now.parents.items children.now.bytes.items children.now.last.items
         children.now.before.items }
     requires root { 0 < length children.now.parents.items }
-    ensures nodes { IfOk result (λ rows. length rows.bases.items ≡ length children.now.parents.items) }
-    ensures rows { IfOk result (λ rows.
-        (i : ℕ) → i < length children.now.parents.items
-        → HasRow children.now.parents.items children.now.bytes.items rows.cells.items
-        (slice_index rows.bases.items i) i) }
-    ensures full { IfOk result (λ rows. IsFullRow rows.cells.items (slice_index rows.bases.items 0) 0) }
+    ensures { IfOk result (λ rows.
+        HasRows children.now.parents.items children.now.bytes.items rows.moves.items rows.cells.items) }
 {
     let free = in_32_bits(children.parents.len())?;
     let mut cells = root_row(alloc, children)?;
-    let mut bases = begun(alloc, children.parents.len(), 0)?;
+    let mut moves = begun(alloc, children.parents.len(), Moves { base: 0, link: 0 })?;
     let mut gaps = Gaps {
         low: cells.len(),
         top: cells.len(),
     };
     for node in 1..free {
-        let place = place_row(&mut cells, free, &mut gaps, node, children)?;
-        let base = in_32_bits(place)?;
-        bases.push(base)?;
+        let base = place_row(&mut cells, free, &mut gaps, node, children)?;
+        moves.push(Moves { base, link: 0 })?;
     }
-    Ok(Rows { bases, cells })
+    Ok(Rows { moves, cells })
 }

@@ -1,14 +1,28 @@
 //! What a search asks of a node whose text is a key: its depth, and where its entries stand.
 
-ghost use Rattle.std.specs.Prelude.{◌≡◌, ◌+◌, ◌≤◌, length, Some, None, is_some};
+ghost use Rattle.std.specs.Prelude.{◌≡◌, ◌+◌, ◌≤◌, length, Some, None, is_some, IfOk};
 ghost use Rattle.std.specs.List.{slice_range};
 ghost use Rattle.hyphenation_trie.specs.Private.States.{span_in};
+
+use super::in_32_bits;
+use std::alloc::AllocError;
 
 /// Where the entries of a key stand among the entries of all keys.
 #[derive(Clone, Copy)]
 pub(crate) struct Span {
     pub(crate) start: u32,
     pub(crate) count: u32,
+}
+
+impl Span {
+    /// So many from there on.
+    pub(crate) fn of(start: usize, count: usize) -> Result<Span, AllocError>
+        ensures { IfOk result (λ span. (span.start ≡ start) × (span.count ≡ count)) }
+    {
+        let start = in_32_bits(start)?;
+        let count = in_32_bits(count)?;
+        Ok(Span { start, count })
+    }
 }
 
 /// The entries that stand there.

@@ -1,7 +1,8 @@
 -- Rows of cells that lie over one another, one row for each node of a trie.
-use Rattle.std.specs.Prelude.{◌≡◌, ◌≢◌, ℕ, ◌+◌, ◌<◌, ◌==◌, if◌then◌else◌, List, length, slice_index, slice_index_or, Option, Some, None}
+use Rattle.std.specs.Prelude.{◌≡◌, ◌≢◌, ℕ, ◌+◌, ◌<◌, ◌==◌, if◌then◌else◌, List, length, map, slice_index, slice_index_or, Option, Some, None}
 use Rattle.hyphenation_trie.specs.Private.Chains.{IsChained}
 use Rattle.hyphenation_trie.specs.declared.rows.Cell.{Cell}
+use Rattle.hyphenation_trie.specs.declared.rows.Moves.{Moves}
 
 -- The child in a cell, if the cell is this node's. A cell that is not there is nobody's.
 abbrev pub child_in : List Cell → ℕ → ℕ → Option ℕ
@@ -44,3 +45,10 @@ pub record HasRow (parents bytes : List ℕ) (cells : List Cell) (base node : �
 -- The node owns each cell of its row. The root does: where it has no child, its cell holds the root.
 abbrev pub IsFullRow : List Cell → ℕ → ℕ → Type 0
 IsFullRow cells base node = (b : ℕ) → b < 256 → child_in cells node (base + b) ≢ None
+
+-- The rows of all nodes, which begin where the moves say. The root's is full, and no node has a link yet.
+pub record HasRows (parents bytes : List ℕ) (moves : List Moves) (cells : List Cell) : Type 0 where
+  pub nodes : length moves ≡ length parents
+  pub rows : (i : ℕ) → i < length parents → HasRow parents bytes cells (slice_index (map (λ m. m.base) moves) i) i
+  pub full : IsFullRow cells (slice_index (map (λ m. m.base) moves) 0) 0
+  pub unlinked : (j : ℕ) → slice_index (map (λ m. m.link) moves) j ≡ 0

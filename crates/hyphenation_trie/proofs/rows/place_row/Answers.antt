@@ -19,6 +19,15 @@ make_place-requires-clause-children c = grind (arith, common_steps)
 pub make_place-requires-clause-node : goal.make_place-requires-clause-node
 make_place-requires-clause-node c = grind (arith, common_steps)
 
+pub returns-in_err-place-clause-row : goal.returns-in_err-place-clause-row
+returns-in_err-place-clause-row c = grind (arith, common_steps)
+
+pub returns-in_err-place-clause-longer : goal.returns-in_err-place-clause-longer
+returns-in_err-place-clause-longer c = grind (arith, common_steps)
+
+pub returns-in_err-place-clause-others : goal.returns-in_err-place-clause-others
+returns-in_err-place-clause-others c = grind (arith, common_steps)
+
 pub returns-in_err-base-clause-row : goal.returns-in_err-base-clause-row
 returns-in_err-base-clause-row c = grind (arith, common_steps)
 
@@ -41,7 +50,7 @@ pub write_row-requires-clause-fits : goal.write_row-requires-clause-fits
 write_row-requires-clause-fits c = grind (arith, common_steps)
 
 pub returns-clause-row : goal.returns-clause-row
-returns-clause-row c = grind (arith, common_steps)
+returns-clause-row c = rw c.in_ok-base.ensures.held (grind (arith, common_steps))
 
 pub returns-clause-longer : goal.returns-clause-longer
 returns-clause-longer c = grind (arith, common_steps)

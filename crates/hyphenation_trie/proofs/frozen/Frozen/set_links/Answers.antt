@@ -2,7 +2,7 @@ use Rattle.std.proofs.lemmas.Grind.{common_steps}
 use Rattle.std.proofs.Common.{◌∙◌, ap, arith, refl, length, map}
 use Rattle.hyphenation_trie.specs.Private.States.{links_of, froms_by, span_in}
 use Rattle.hyphenation_trie.specs.Private.Trie.{tree_of}
-use Rattle.hyphenation_trie.specs.declared.frozen.Moves.{Moves}
+use Rattle.hyphenation_trie.specs.declared.rows.Moves.{Moves}
 use Rattle.hyphenation_trie.specs.declared.frozen.Reports.{Reports}
 use Rattle.hyphenation_trie.proofs.States.{moves_within, states_kept, links_set, links_kept}
 use Rattle.hyphenation_trie.proofs.frozen.Frozen.set_links.Goals as goal

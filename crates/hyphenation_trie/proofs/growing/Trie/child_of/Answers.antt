@@ -35,8 +35,8 @@ index-child-requires g c =
 pub index-requires : goal.index-requires
 index-requires g c =
     let pos = some c.loop-child.child c.loop-child-test.true in
-    let froms = froms_by c.self.inside.parents.items c.self.inside.bytes.items in
-    omega (arith, (node_held _ _ _ _ _ _ c.loop-child.child c.self.invariant (omega (arith, length-texts_of froms, (c.loop-child.invariant.here pos).0))).1, c.self.inside.bytes.ok.0)
+    let froms = froms_by c.self.inside.children.parents.items c.self.inside.children.bytes.items in
+    omega (arith, (node_held _ _ _ _ _ _ c.loop-child.child c.self.invariant (omega (arith, length-texts_of froms, (c.loop-child.invariant.here pos).0))).1, c.self.inside.children.bytes.ok.0)
 
 pub loop-child-init : goal.loop-child-init
 loop-child-init g c =

@@ -1,0 +1,81 @@
+//! The edges of a trie's nodes: the parent of each, and the children of each as a chain.
+
+ghost use Rattle.std.specs.Prelude.{◌≡◌, ◌+◌, ◌<◌, ◌≤◌, ◌++◌, [], ◌∷◌, length, slice_index, slice_set, vec_len, vec_capacity, IfOk, OnOk, OnErr};
+
+use super::in_32_bits;
+use super::lists::begun;
+use std::alloc::{AllocError, Global};
+
+/// The parents and the children of all nodes.
+#[derive(Drop)]
+pub(crate) struct Children {
+    /// The parent of each node, and the byte that leads from it to the node. The root comes first, with 0 for both, and
+    /// each other node is later than its parent.
+    pub(crate) parents: Vec<u32>,
+    pub(crate) bytes: Vec<u8>,
+    /// The last child of each node, and the sibling before each node; 0 where there is none.
+    pub(crate) last: Vec<u32>,
+    pub(crate) before: Vec<u32>,
+}
+
+impl Children {
+    /// Those of the root alone, with room for so many nodes. The only error is memory.
+    pub(crate) fn with_room(alloc: Global, nodes: usize) -> Result<Children, AllocError>
+        ensures { IfOk result (λ children. (children.parents.items ≡ 0 ∷ []) × (children.bytes.items ≡ 0 ∷ [])
+            × (children.last.items ≡ 0 ∷ []) × (children.before.items ≡ 0 ∷ [])) }
+    {
+        let parents = begun(alloc, nodes, 0)?;
+        let bytes = begun(alloc, nodes, 0)?;
+        let last = begun(alloc, nodes, 0)?;
+        let before = begun(alloc, nodes, 0)?;
+        Ok(Children {
+            parents,
+            bytes,
+            last,
+            before,
+        })
+    }
+
+    /// Has room for a node more, and changes nothing. The only error is memory.
+    fn reserve(&mut self) -> Result<(), AllocError>
+        ensures nodes { (self.new.parents.items ≡ self.old.parents.items)
+            × (self.new.bytes.items ≡ self.old.bytes.items) }
+        ensures chains { (self.new.last.items ≡ self.old.last.items)
+            × (self.new.before.items ≡ self.old.before.items) }
+        ensures nodes_room { OnOk result ((vec_len self.new.parents < vec_capacity self.new.parents)
+            × (vec_len self.new.bytes < vec_capacity self.new.bytes)) }
+        ensures chains_room { OnOk result ((vec_len self.new.last < vec_capacity self.new.last)
+            × (vec_len self.new.before < vec_capacity self.new.before)) }
+    {
+        self.parents.reserve(1)?;
+        self.bytes.reserve(1)?;
+        self.last.reserve(1)?;
+        self.before.reserve(1)
+    }
+
+    /// A child more of a node, the last one, which has no children yet. Its number.
+    pub(crate) fn add(&mut self, node: u32, byte: u8) -> Result<u32, AllocError>
+        requires { node < length self.old.last.items }
+        ensures child { IfOk result (λ child. child ≡ length self.old.before.items) }
+        ensures parents { OnOk result (self.new.parents.items ≡ self.old.parents.items ++ node ∷ []) }
+        ensures bytes { OnOk result (self.new.bytes.items ≡ self.old.bytes.items ++ byte ∷ []) }
+        ensures last { OnOk result (self.new.last.items ≡ slice_set (self.old.last.items ++ 0 ∷ []) node
+            (length self.old.before.items)) }
+        ensures before { OnOk result (self.new.before.items ≡ self.old.before.items ++ slice_index self.old.last.items
+            node ∷ []) }
+        ensures err_nodes { OnErr result ((self.new.parents.items ≡ self.old.parents.items)
+            × (self.new.bytes.items ≡ self.old.bytes.items)) }
+        ensures err_chains { OnErr result ((self.new.last.items ≡ self.old.last.items)
+            × (self.new.before.items ≡ self.old.before.items)) }
+    {
+        let child = in_32_bits(self.before.len())?;
+        // Room first, so that no list has a node that is then refused.
+        self.reserve()?;
+        self.parents.push(node).unwrap();
+        self.bytes.push(byte).unwrap();
+        self.before.push(self.last[node as usize]).unwrap();
+        self.last.push(0).unwrap();
+        self.last[node as usize] = child;
+        Ok(child)
+    }
+}
