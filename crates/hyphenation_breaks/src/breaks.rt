@@ -75,6 +75,14 @@ impl Break for usize {
     fn invariant(&self) {}
 }
 
+/// Whether a place and both ends of a range stand in a text between its characters.
+fn are_boundaries(text: &str, place: usize, range: (usize, usize)) -> bool
+    ensures { result
+        ≡ (is_boundary text.now place && is_boundary text.now range.0 && is_boundary text.now range.1) }
+{
+    text.is_char_boundary(place) && text.is_char_boundary(range.0) && text.is_char_boundary(range.1)
+}
+
 /// Whether a break's place, and the ends of its range, stand in a text between its characters.
 pub fn stands_in<B: Break>(text: &str, b: &B) -> bool
     ensures { IsTrue result
@@ -83,11 +91,7 @@ pub fn stands_in<B: Break>(text: &str, b: &B) -> bool
 {
     b.invariant();
     match b.range() {
-        Some((begin, end)) => {
-            text.is_char_boundary(b.place())
-                && text.is_char_boundary(begin)
-                && text.is_char_boundary(end)
-        }
+        Some(range) => are_boundaries(text, b.place(), range),
         None => false,
     }
 }
