@@ -1,5 +1,5 @@
 -- What the program `hyphenate-canonical` is asked, and what it writes.
-use Rattle.std.specs.Prelude.{ℕ, List, [], ◌∷◌, Option, None}
+use Rattle.std.specs.Prelude.{◌≡◌, ◌⊎◌, ℕ, List, [], ◌∷◌, Option, None}
 use Rattle.std.specs.Borrow.{Bor}
 use Rattle.hyphenation_grammar.specs.declared.form.Kind.{Kind}
 use Rattle.hyphenation_grammar.specs.declared.form.Kind.TheVariants.{Standard, Extended}
@@ -16,3 +16,8 @@ kind_of_words _ = None
 abbrev pub reordered : Kind → List ℕ → List ℕ
 reordered Standard bytes = standard_text (standard_contents bytes)
 reordered Extended bytes = extended_text (extended_contents bytes)
+
+-- The statuses where the arguments name a kind: 0 for done, 3 where the text is refused, 5 where it can't be read or
+-- the result can't be written, 6 where memory is wanting.
+abbrev pub IsAnswered : ℕ → Type 0
+IsAnswered status = (status ≡ 0) ⊎ (status ≡ 3) ⊎ (status ≡ 5) ⊎ (status ≡ 6)

@@ -2,16 +2,17 @@
 //! the one word names, is put in order.
 #![tactic(auto)]
 
-ghost use Rattle.std.specs.Prelude.{◌≡◌, ◌⊎◌, None, OnOk, IfErr, IfSome, IsSome};
+ghost use Rattle.std.specs.Prelude.{◌≡◌, ◌≢◌, ◌⊎◌, None, OnOk, IfErr, IfSome, IsSome};
 ghost use Rattle.std.specs.Io.KnownBytes.{Appends};
+ghost use Rattle.std.specs.IoError.{error_kind};
 ghost use Rattle.hyphenation_grammar.specs.Judging.{refusal_of};
 ghost use Rattle.hyphenation_load.specs.Load.{Tells};
 ghost use Rattle.command_line.specs.About.{own_text};
-ghost use Rattle.canonical_command.specs.Canonical.{kind_of_words, reordered};
+ghost use Rattle.canonical_command.specs.Canonical.{kind_of_words, reordered, IsAnswered};
 ghost use Rattle.command_line.specs.Statuses.{BeforeOutput};
 ghost use Rattle.canonical_command.specs.Private.Statuses.{status_of_error, UnlessFault};
 
-use command_line::{VERSION, answer_of_itself};
+use command_line::{VERSION, answer_of_itself, tell};
 use hyphenation_dictionary::dictionary::{Extended, Standard};
 use hyphenation_grammar::form::Kind;
 use hyphenation_load::{Error, Load, Result};
@@ -76,10 +77,14 @@ fn put_kind_in_order<R: Read, W: Write>(
 
 /// Writes why nothing, or not all, was written, and gives the status. That the message can't be written changes
 /// nothing.
-fn report<E: Write>(error: &Error, faults: &mut E) -> u8
+fn report<E: Write>(alloc: Global, error: &Error, faults: &mut E) -> u8
     ensures { result ≡ status_of_error error.now }
 {
-    let _ = writeln!(faults, "hyphenate-canonical: {error}");
+    tell(
+        alloc,
+        &format_args!("hyphenate-canonical: {error}\n"),
+        faults,
+    );
     match error {
         Error::IO(_) => 5,
         Error::Memory(_) => 6,
@@ -103,6 +108,7 @@ pub fn answer<R: Read, W: Write, E: Write>(
     ensures said { kind_of_words words.now ≡ None → IfSome (own_text NAME.now VERSION.now USAGE.now words.now) (λ text.
         (input.new ≡ input.old) × ((result ≡ 5)
         ⊎ ((result ≡ 0) × Appends (W.contents output.old) (W.contents output.new) text))) }
+    ensures answered { IsSome (kind_of_words words.now) → IsAnswered result }
     ensures accepted { result ≡ 0 → IfSome (kind_of_words words.now) (λ kind. IfSome (R.remaining input.old) (λ bytes.
         refusal_of kind bytes ≡ None)) }
     ensures written { result ≡ 0 → IfSome (kind_of_words words.now) (λ kind. IfSome (R.remaining input.old) (λ bytes.
@@ -122,12 +128,15 @@ pub fn answer<R: Read, W: Write, E: Write>(
     };
     match put_kind_in_order(alloc, kind, input, output) {
         Ok(()) => 0,
-        Err(error) => report(&error, faults),
+        Err(error) => report(alloc, &error, faults),
     }
 }
 
 /// Says why the program's words could not be had, and gives the status: memory is wanting, or they are not UTF-8.
-pub fn report_words<E: Write>(fault: &io::Error, faults: &mut E) -> u8 {
+pub fn report_words<E: Write>(fault: &io::Error, faults: &mut E) -> u8
+    ensures memory { error_kind fault.now ≡ ErrorKind.OutOfMemory → result ≡ 6 }
+    ensures other { error_kind fault.now ≢ ErrorKind.OutOfMemory → result ≡ 2 }
+{
     match fault.kind() {
         ErrorKind::OutOfMemory => {
             let _ = faults.write_all(b"hyphenate-canonical: no memory\n");

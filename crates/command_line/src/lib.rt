@@ -4,7 +4,10 @@
 mod about;
 
 pub use about::answer_of_itself;
+use std::alloc::Global;
 use std::env::Env;
+use std::fmt::Display;
+use std::io::Write;
 use std::{env, io};
 
 /// The version of the three programs. The file `VERSION` has the same, and `tests/figures` compares them.
@@ -18,4 +21,13 @@ pub fn with_words<R: Env + Alloc, T, F: FnOnce(&[&str]) -> T>(rt: &R, call: F) -
     let words: Vec<String<R::A>, R::A> = env::args(rt)?.skip(1).collect(rt.alloc())?;
     let words: Vec<&str, R::A> = words.iter().map(|word| word.as_str()).collect(rt.alloc())?;
     Ok(call(&words))
+}
+
+/// Writes a message in one piece; where memory for that is wanting, in several. That it can't be written changes
+/// nothing.
+pub fn tell<D: Display, W: Write>(alloc: Global, message: &D, output: &mut W) {
+    let _ = match format!(in alloc; "{message}") {
+        Ok(text) => output.write_all(text.as_bytes()),
+        Err(_) => write!(output, "{message}"),
+    };
 }

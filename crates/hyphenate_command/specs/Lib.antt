@@ -1,1 +1,3 @@
 pub mod Private
+pub mod Statuses
+pub mod Words

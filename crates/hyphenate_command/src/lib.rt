@@ -2,12 +2,17 @@
 //! its lines of a column width, or the score of a word, by a dictionary.
 #![tactic(auto)]
 
-ghost use Rattle.std.specs.Prelude.{◌≡◌, ◌≢◌};
+ghost use Rattle.std.specs.Prelude.{◌≡◌, ◌≢◌, List, ℕ, Result, Err, None, Some, Option, OnOk, IfSome, MatchOption};
+ghost use Rattle.std.specs.Io.KnownBytes.{Appends};
 ghost use Rattle.std.specs.IoError.{error_kind};
 ghost use Rattle.hyphenation.specs.Engine.{BeforeWriting, IsUnwritten};
+ghost use Rattle.hyphenation.specs.declared.engine.RunError.{RunError};
 ghost use Rattle.command_line.specs.Statuses.{BeforeOutput};
-ghost use Rattle.hyphenate_command.specs.Private.Statuses.{status_of};
+ghost use Rattle.hyphenate_command.specs.Words.{asked, score_asked, text_asked, lines_asked};
+ghost use Rattle.hyphenate_command.specs.Statuses.{status_of, EndsFor, BeforeText};
+ghost use Rattle.hyphenate_command.specs.Private.Requests.{wanted_by, meaning};
 
+use command_line::tell;
 use hyphenation::Language;
 use hyphenation::engine::{Kind, RunError, number_of, run, run_score};
 use hyphenation::load::Error;
@@ -51,7 +56,10 @@ struct Request<'w> {
 impl<'w> Request<'w> {
     /// The request, where the words are of a form; the first word `score` always chooses the score, and `fill` the
     /// lines.
-    fn from_words(words: &'w [&'w str]) -> Option<Request<'w>> {
+    fn from_words(words: &'w [&'w str]) -> Option<Request<'w>>
+        ensures { MatchOption result (asked words.now ≡ None)
+            (λ request. asked words.now ≡ Some (meaning request)) }
+    {
         match words.split_first() {
             Some((form, rest)) if *form == "score" => Self::for_score(rest),
             Some((form, rest)) if *form == "fill" => Self::for_lines(rest),
@@ -60,7 +68,10 @@ impl<'w> Request<'w> {
     }
 
     /// Of the form `KIND CODE PATH WORD`.
-    fn for_score(words: &[&'w str]) -> Option<Request<'w>> {
+    fn for_score(words: &[&'w str]) -> Option<Request<'w>>
+        ensures { MatchOption result (score_asked words.now ≡ None)
+            (λ request. score_asked words.now ≡ Some (meaning request)) }
+    {
         match words {
             [kind, code, path, word] => Some(Request {
                 task: Task::Score {
@@ -75,7 +86,10 @@ impl<'w> Request<'w> {
     }
 
     /// Of the form `KIND CODE PATH MARK [EDIT..]`.
-    fn for_text(words: &'w [&'w str]) -> Option<Request<'w>> {
+    fn for_text(words: &'w [&'w str]) -> Option<Request<'w>>
+        ensures { MatchOption result (text_asked words.now ≡ None)
+            (λ request. text_asked words.now ≡ Some (meaning request)) }
+    {
         match words {
             [kind, code, path, mark, edits @ ..] => Some(Request {
                 task: Task::Text {
@@ -91,7 +105,10 @@ impl<'w> Request<'w> {
     }
 
     /// Of the form `CODE PATH COLUMNS`, where COLUMNS is a number of the dictionary text.
-    fn for_lines(words: &[&'w str]) -> Option<Request<'w>> {
+    fn for_lines(words: &[&'w str]) -> Option<Request<'w>>
+        ensures { MatchOption result (lines_asked words.now ≡ None)
+            (λ request. lines_asked words.now ≡ Some (meaning request)) }
+    {
         match words {
             [code, path, columns] => Some(Request {
                 task: Task::Lines {
@@ -113,7 +130,10 @@ fn run_request<F: Files, I: Read, O: Write>(
     input: &mut I,
     output: &mut O,
 ) -> Result<(), RunError>
-    ensures { BeforeWriting result (output.new ≡ output.old) }
+    ensures ended { EndsFor (wanted_by request.now.task) (I.remaining input.old) result }
+    ensures unread { BeforeText (wanted_by request.now.task) result (input.new ≡ input.old) }
+    ensures untouched { BeforeWriting result (output.new ≡ output.old) }
+    ensures whole { OnOk result ((text : List ℕ) × Appends (O.contents output.old) (O.contents output.new) text) }
 {
     let mut dictionary = fs::open(rt, request.path).map_err(opening_fault)?;
     match request.task {
@@ -159,16 +179,20 @@ fn opening_fault(e: io::Error) -> RunError
 }
 
 /// Writes why a run failed, and gives its status. That the message can't be written changes nothing.
-fn report<E: Write>(path: &str, fault: &RunError, faults: &mut E) -> u8
-    ensures status { result ≡ status_of fault.now }
+fn report<E: Write>(alloc: Global, path: &str, fault: &RunError, faults: &mut E) -> u8
+    ensures status { result ≡ status_of (Err fault.now) }
 {
     match fault {
         RunError::Dictionary(error) => {
-            let _ = writeln!(faults, "hyphenate: {path}: {error}");
+            tell(alloc, &format_args!("hyphenate: {path}: {error}\n"), faults);
             3
         }
         RunError::Edit(number) => {
-            let _ = writeln!(faults, "hyphenate: edit {number} is refused");
+            tell(
+                alloc,
+                &format_args!("hyphenate: edit {number} is refused\n"),
+                faults,
+            );
             2
         }
         RunError::TextNotUtf8 => {
@@ -191,7 +215,10 @@ fn report<E: Write>(path: &str, fault: &RunError, faults: &mut E) -> u8
 }
 
 /// Writes why the program's words could not be had, and gives the status: they are not UTF-8, or memory is wanting.
-pub fn report_words<E: Write>(fault: &io::Error, faults: &mut E) -> u8 {
+pub fn report_words<E: Write>(fault: &io::Error, faults: &mut E) -> u8
+    ensures memory { error_kind fault.now ≡ ErrorKind.OutOfMemory → result ≡ 6 }
+    ensures other { error_kind fault.now ≢ ErrorKind.OutOfMemory → result ≡ 2 }
+{
     match fault.kind() {
         ErrorKind::OutOfMemory => {
             let _ = faults.write_all(b"hyphenate: no memory\n");
@@ -216,7 +243,12 @@ pub fn answer<F: Files, I: Read, O: Write, E: Write>(
     output: &mut O,
     faults: &mut E,
 ) -> u8
+    ensures usage { asked words.now ≡ None → (result ≡ 2) × (input.new ≡ input.old) }
+    ensures ended { IfSome (asked words.now) (λ asked. (ended : Result (Unit {0}) RunError) × (result ≡ status_of ended)
+        × EndsFor asked.wanted (I.remaining input.old) ended
+        × BeforeText asked.wanted ended (input.new ≡ input.old)) }
     ensures untouched { BeforeOutput result (output.new ≡ output.old) }
+    ensures written { result ≡ 0 → (text : List ℕ) × Appends (O.contents output.old) (O.contents output.new) text }
 {
     let Some(request) = Request::from_words(words) else {
         let _ = faults.write_all(USAGE.as_bytes());
@@ -224,6 +256,6 @@ pub fn answer<F: Files, I: Read, O: Write, E: Write>(
     };
     match run_request(rt, alloc, &request, input, output) {
         Ok(()) => 0,
-        Err(fault) => report(request.path, &fault, faults),
+        Err(fault) => report(alloc, request.path, &fault, faults),
     }
 }

@@ -1,6 +1,6 @@
 //! Whole runs, from a dictionary's bytes to what is written.
 
-ghost use Rattle.std.specs.Prelude.{◌≡◌, ◌++◌, OnOk, IfOk, IfErr, IfSome, decimal, map};
+ghost use Rattle.std.specs.Prelude.{◌≡◌, ◌++◌, List, ℕ, OnOk, IfOk, IfErr, IfSome, decimal, map};
 ghost use Rattle.std.specs.String.{string_bytes};
 ghost use Rattle.std.specs.Io.KnownBytes.{Appends};
 ghost use Rattle.hyphenation_breaks.specs.Dictionary.{entries_of_keys};
@@ -184,6 +184,7 @@ pub fn run_score<D: Read, O: Write>(
     ensures written { OnOk result (IfSome (D.remaining dictionary.old)
         (λ bytes. Appends (O.contents output.old) (O.contents output.new)
         (score_line (values_by kind bytes word.now)))) }
+    ensures whole { OnOk result ((text : List ℕ) × Appends (O.contents output.old) (O.contents output.new) text) }
     ensures untouched { BeforeWriting result (output.new ≡ output.old) }
     ensures cause { IfErr result IsOfScore }
     ensures kind { IfErr result HoldsNoWant }
@@ -243,6 +244,7 @@ pub fn run<D: Read, I: Read, O: Write>(
     ensures written { OnOk result (IfSome (D.remaining dictionary.old) (λ bytes. IfSome (I.remaining input.old) (λ text.
         Appends (O.contents output.old) (O.contents output.new)
         (hyphenated_text (breaks_by kind bytes (map (λ edit. edit.now) edits.now)) mark.now text)))) }
+    ensures whole { OnOk result ((text : List ℕ) × Appends (O.contents output.old) (O.contents output.new) text) }
     ensures untouched { BeforeWriting result (output.new ≡ output.old) }
     ensures unread { BeforeReading result (input.new ≡ input.old) }
     ensures kind { IfErr result HoldsNoWant }

@@ -1,6 +1,6 @@
 //! Whole runs, from a dictionary's bytes and a text's to the lines that are written.
 
-ghost use Rattle.std.specs.Prelude.{◌≡◌, [], OnOk, IfOk, IfErr, IfSome, map};
+ghost use Rattle.std.specs.Prelude.{◌≡◌, [], List, ℕ, OnOk, IfOk, IfErr, IfSome, map};
 ghost use Rattle.std.specs.String.{string_bytes};
 ghost use Rattle.std.specs.Io.KnownBytes.{Appends};
 ghost use Rattle.hyphenation_breaks.specs.Break.{plain_break};
@@ -89,6 +89,7 @@ pub fn run_fill<D: Read, I: Read, O: Write>(
     ensures written { OnOk result (IfSome (D.remaining dictionary.old) (λ bytes. IfSome (I.remaining input.old) (λ text.
         Appends (O.contents output.old) (O.contents output.new) (with_line_feeds
         (lines_by_bytes bytes columns text))))) }
+    ensures whole { OnOk result ((text : List ℕ) × Appends (O.contents output.old) (O.contents output.new) text) }
     ensures untouched { BeforeWriting result (output.new ≡ output.old) }
     ensures unread { BeforeReading result (input.new ≡ input.old) }
     ensures edits { JudgesEdits Kind.Standard [] result }
