@@ -113,8 +113,9 @@ prove_side_by_side() {
   local top it folder status=0
   top=$(mktemp -d)
   mkdir "$top/crates"
-  cp "$root/crates.txt" "$root/HANDLES" "$top"
+  cp "$root/HANDLES" "$top"
   for it in "${order[@]}"; do
+    echo "$it:${uses[$it]}" >>"$top/crates.txt"
     folder=$root/crates/$it
     if [ -e "$folder/src/lib.rt" ]; then
       ln -s "$folder" "$top/crates/$it"

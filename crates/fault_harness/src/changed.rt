@@ -1,7 +1,7 @@
 //! Exceptions that are added, words that are copied, and segments that are gone through.
 
 use crate::step;
-use crate::texts::{CHANGES, FIRKIN, WORDS, dictionary};
+use crate::texts::{CHANGES, FIRKIN, FULL, FULL_CHANGES, WORDS, dictionary};
 use hyphenation::case_folding::refold;
 use hyphenation::extended::Extended;
 use hyphenation::hyphenator::{Hyphenator, Word, soft_hyphen_indices};
@@ -71,7 +71,7 @@ fn add_plain<G: Read, O: Write>(
 }
 
 fn add_first<G: Read, O: Write>(alloc: Global, gate: &mut G, output: &mut O) -> io::Result<()> {
-    let mut firkin: Standard = dictionary(alloc, FIRKIN)?;
+    let mut firkin: Standard = dictionary(alloc, FULL)?;
     add_place(alloc, &mut firkin, 3, gate, output)?;
     write_marked(alloc, &firkin, "firkins", output)
 }
@@ -88,16 +88,18 @@ fn add_second<G: Read, O: Write>(alloc: Global, gate: &mut G, output: &mut O) ->
 
 fn add_extended<G: Read, O: Write>(
     alloc: Global,
+    text: &str,
     word: &str,
     gate: &mut G,
     output: &mut O,
 ) -> io::Result<()> {
-    let mut changes: Extended = dictionary(alloc, CHANGES)?;
+    let mut changes: Extended = dictionary(alloc, text)?;
     add_plain(alloc, &mut changes, word, gate, output)?;
     write_marked(alloc, &changes, word, output)
 }
 
-/// `add_exception` of a word that was none, and of one that was, and what the word's breaks are then.
+/// `add_exception` of a word that was none, where the list has to grow, and of one that was, which takes no memory; and
+/// what the word's breaks are then.
 pub fn add<G: Read, O: Write>(
     alloc: Global,
     which: &str,
@@ -107,8 +109,8 @@ pub fn add<G: Read, O: Write>(
     match which {
         "first" => add_first(alloc, gate, output),
         "second" => add_second(alloc, gate, output),
-        "extended first" => add_extended(alloc, "kabab", gate, output),
-        _ => add_extended(alloc, "asszonnyal", gate, output),
+        "extended first" => add_extended(alloc, FULL_CHANGES, "kabab", gate, output),
+        _ => add_extended(alloc, CHANGES, "asszonnyal", gate, output),
     }
 }
 

@@ -16,6 +16,14 @@ pub const WORDS: &str =
 pub const CHANGES: &str =
     "hyphenation 1 extended\nlanguage hu\nminima 1 1\n# two kinds\n\ne kilim 2\ne asszonnyal 2,1,2,2,szsz 6,1,2,2,nyny\ne aßb 1 3,2,0,2,ss\np s1szo0\np .fi2\np a1b 1,1,0,1,x\np ca1bd\ne \\e\n";
 
+/// Nine exceptions, for which the list of exceptions has room: one more makes it grow.
+pub const FULL: &str =
+    "hyphenation 1 standard\nlanguage en-us\nminima 2 3\np .fi2\np i2r\np r2k\np r5kin\np k1in\np k2in.\ne a\ne b\ne c\ne d\ne e\ne f\ne g\ne h\ne i\n";
+
+/// Nine exceptions too, of an extended dictionary.
+pub const FULL_CHANGES: &str =
+    "hyphenation 1 extended\nlanguage hu\nminima 1 1\np a1b 1,1,0,1,x\np ca1bd\ne a\ne b\ne c\ne d\ne e\ne f\ne g\ne h\ne i\n";
+
 /// A dictionary that is read before the part that counts.
 pub fn dictionary<D: Load>(alloc: Global, text: &str) -> io::Result<D> {
     let mut reader = text.as_bytes();
