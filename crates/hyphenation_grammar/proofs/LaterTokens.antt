@@ -1,12 +1,13 @@
 -- What a later token says, by its parts.
-use Rattle.std.proofs.Common.{◌≡◌, ◌∙◌, ℕ, suc, ◌<◌, Bool, true, false, cond, ◌&&◌, nat_lt, eqb, List, [], ◌∷◌, length, take, drop, map, get_or, Option, Some, None, refl, sym, ap, arith, Bor}
+use Rattle.std.proofs.Common.{◌≡◌, ◌∙◌, ℕ, suc, ◌-◌, ◌<◌, Bool, true, false, cond, ◌&&◌, nat_lt, eqb, List, [], ◌∷◌, length, take, drop, map, get_or, Option, Some, None, refl, sym, ap, arith, Bor}
 use Rattle.std.specs.Prelude.{position, is_some}
 use Rattle.std.specs.List.{list_all}
 use Rattle.std.proofs.lemmas.Bool.Decides.{nat_tests}
 use Rattle.std.proofs.lemmas.List.{take-map, length-map}
+use Rattle.hyphenation_breaks.specs.Break.{Change}
 use Rattle.hyphenation_grammar.specs.Lines.{is_number, number, number_of}
 use Rattle.hyphenation_grammar.specs.Tokens.{escaped_bytes_of, text_spelt, parts_of}
-use Rattle.hyphenation_grammar.specs.Parsed.{later_token, token_said, parted_token_said, part_at}
+use Rattle.hyphenation_grammar.specs.Parsed.{later_token, token_said, parted_token_said, part_at, sound_change, token_with}
 use Rattle.hyphenation_grammar.specs.declared.tokens.Escapes.TheVariants.{Plain}
 use Rattle.hyphenation_grammar.specs.declared.tokens.LaterToken.{LaterToken}
 use Rattle.hyphenation_grammar.specs.declared.tokens.LaterToken.TheVariants.{NoNumber, Sound}
@@ -84,3 +85,27 @@ parted token parts b said some are two read on is =
     (nat_lt 1 (length (now_of parts))) (parted_token_said (now_of parts)) (cond (list_all is_number (now_of parts)) (Sound (number (part_at (now_of parts) 0)) None) NoNumber)
     (more 0 (length token) some) (sym read ∙ on) (more 1 (length (now_of parts)) (omega arith))
     ∙ ap (told_by token) are
+
+-- what is said where all numbers are told, with the first of them, and where some are none
+with_first : (all : Bool) (first place : ℕ) (change : Option Change) → Some place ≡ cond all (Some first) None → token_with place change ≡ cond {A = LaterToken} all (token_with first change) NoNumber
+with_first true first place change e = ap (λ (p : ℕ). token_with p change) cc
+with_first false first place change e = absurd cc
+
+without : (all : Bool) (first : ℕ) (token : LaterToken) → None ≡ cond all (Some first) None → NoNumber ≡ cond {A = LaterToken} all token NoNumber
+without true first token e = absurd cc
+without false first token e = refl
+
+abbrev first_by : List (Bor (List ℕ)) → ℕ → Option ℕ
+first_by parts n = cond (list_all is_number (take (n - 1) (now_of parts))) (Some (number (part_at (now_of parts) 0))) None
+
+as_long : (parts : List (Bor (List ℕ))) → length parts ≡ length (now_of parts)
+as_long parts = sym (length-map parts (λ (part : Bor (List ℕ)). part.now))
+
+pub told_at : (parts : List (Bor (List ℕ))) (place : ℕ) (change : Option Change) → change ≡ sound_change (now_of parts) → Some place ≡ first_by parts (length parts) → token_with place change ≡ parted_token_said (now_of parts)
+told_at parts place change is e =
+    ap (λ (c : Option Change). token_with place c) is
+    ∙ with_first (list_all is_number (take (length (now_of parts) - 1) (now_of parts))) (number (part_at (now_of parts) 0)) place (sound_change (now_of parts)) (e ∙ ap (first_by parts) (as_long parts))
+
+pub told_nowhere : (parts : List (Bor (List ℕ))) → None ≡ first_by parts (length parts) → NoNumber ≡ parted_token_said (now_of parts)
+told_nowhere parts e =
+    without (list_all is_number (take (length (now_of parts) - 1) (now_of parts))) (number (part_at (now_of parts) 0)) (token_with (number (part_at (now_of parts) 0)) (sound_change (now_of parts))) (e ∙ ap (first_by parts) (as_long parts))

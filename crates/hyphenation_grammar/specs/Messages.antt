@@ -23,9 +23,11 @@ message Change = codes "bad change"
 message RepeatedPattern = codes "repeated pattern"
 message RepeatedException = codes "repeated exception"
 
--- What an error says; a fault of reading or writing says it itself, and of another language nothing is said here.
+-- What an error says; a fault of reading or writing says it itself.
 abbrev pub error_text : Error → Option (List ℕ)
 error_text (Deserialization line cause) = Some (codes "line " ++ decimal line ++ codes ": " ++ message cause)
 error_text (IO error) = None
-error_text (LanguageMismatch expected found) = None
+error_text (LanguageMismatch expected found) =
+    Some (codes "Language mismatch: attempted to load a dictionary for `" ++ (expected
+    ++ (codes "`, but found\na dictionary for `" ++ (found ++ codes "` instead."))))
 error_text (Memory error) = Some (codes "no memory")

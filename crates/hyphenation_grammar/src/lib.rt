@@ -57,6 +57,8 @@ impl fmt::Display for Cause {
 
     ghost output = { λ cause. Some (message cause) };
 
+    ghost styled_output = { λ cause _. Some (message cause) };
+
     fn fmt<W: fmt::Write>(&self, f: &mut fmt::Formatter<W>) -> fmt::Result {
         f.write_str(match self {
             Cause::NotUtf8 => "not UTF-8",
@@ -84,7 +86,7 @@ pub enum Error {
     Deserialization { line: usize, cause: Cause },
     /// Opening, reading or writing failed. Loading never makes it of the kind `OutOfMemory`; writing and
     /// `From<io::Error>` may.
-    IO(#[source] io::Error),
+    IO(io::Error),
     /// The text is accepted, and is of another language than the one asked for.
     LanguageMismatch { expected: Language, found: Language },
     /// Memory was refused.

@@ -7,8 +7,8 @@ ghost use Rattle.hyphenation_breaks.specs.Break.{is_boundary};
 ghost use Rattle.hyphenation_grammar.specs.declared.tokens.Escapes.TheVariants.{Plain};
 ghost use Rattle.hyphenation_grammar.specs.Lines.{is_number, number};
 ghost use Rattle.std.specs.String.{string_bytes};
-ghost use Rattle.hyphenation_grammar.specs.Parsed.{later_token, parted_token_said, sound_change, change_with, part_at};
-ghost use Rattle.hyphenation_grammar.specs.Tokens.{bytes_added, escaped_also, element_of, byte_of_escape, parts_of, parts_within, escaped_bytes_of, text_spelt};
+ghost use Rattle.hyphenation_grammar.specs.Parsed.{later_token, parted_token_said, sound_change, change_with, part_at, token_with};
+ghost use Rattle.hyphenation_grammar.specs.Tokens.{bytes_added, escaped_also, element_of, byte_of_escape, bytes_of, parts_of, parts_within, escaped_bytes_of, text_spelt};
 ghost use Rattle.hyphenation_grammar.specs.Private.Tokens.{is_itself};
 
 use crate::lines::number_of;
@@ -16,7 +16,7 @@ use hyphenation_breaks::extended::Subregion;
 use std::alloc::{AllocError, Global};
 
 /// Which letters may stand after a backslash.
-#[derive(Clone, Copy, Debug, PartialEq, Eq)]
+#[derive(Clone, Copy)]
 pub enum Escapes {
     /// The four of each token.
     Plain,
@@ -27,14 +27,14 @@ pub enum Escapes {
 }
 
 /// A byte of a token's text, as it was written.
-#[derive(Clone, Copy, Debug, PartialEq, Eq)]
+#[derive(Clone, Copy)]
 pub struct EscapedByte {
     pub byte: u8,
     pub escaped: bool,
 }
 
 /// What stands in a pattern.
-#[derive(Clone, Copy, Debug, PartialEq, Eq)]
+#[derive(Clone, Copy)]
 pub enum PatternElement {
     /// A byte of the key.
     Letter(u8),
@@ -137,6 +137,14 @@ pub(crate) fn text_of(alloc: Global, written: &[u8]) -> Result<Option<Vec<u8>>, 
         let copy = copied(alloc, written)?;
         return Ok(Some(copy));
     }
+    unescaped(alloc, written)
+}
+
+/// A text with its escapes read.
+fn unescaped(alloc: Global, written: &[u8]) -> Result<Option<Vec<u8>>, AllocError>
+    ensures { IfOk result (λ found.
+        option_map (λ v. v.items) found ≡ option_map bytes_of (escaped_bytes_of Plain written.now)) }
+{
     let mut text = Vec::with_capacity(alloc, written.len())?;
     let mut after = false;
     for byte in written {
@@ -208,7 +216,7 @@ fn parts_of(alloc: Global, token: &[u8]) -> Result<Vec<&[u8]>, AllocError>
 }
 
 /// What a later token says whose parts can be read.
-#[derive(Debug, Drop)]
+#[derive(Drop)]
 pub enum LaterToken {
     /// A part that has to be a number is none.
     NoNumber,
@@ -269,10 +277,20 @@ fn told(alloc: Global, parts: &[&[u8]]) -> Result<LaterToken, AllocError>
 {
     match first_number(parts) {
         None => Ok(LaterToken::NoNumber),
-        Some(place) => match change_of(alloc, parts)? {
-            None => Ok(LaterToken::Unsound(place)),
-            Some(change) => Ok(LaterToken::Sound(place, Some(change))),
-        },
+        Some(place) => {
+            let change = change_of(alloc, parts)?;
+            Ok(token_with(place, change))
+        }
+    }
+}
+
+/// A token with commas at a place, which has this change or an unsound one.
+fn token_with(place: usize, change: Option<Subregion>) -> LaterToken
+    ensures { result ≡ token_with place change }
+{
+    match change {
+        None => LaterToken::Unsound(place),
+        Some(change) => LaterToken::Sound(place, Some(change)),
     }
 }
 
