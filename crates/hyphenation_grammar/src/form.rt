@@ -28,7 +28,7 @@ impl Kind {
 }
 
 /// The version of a dictionary text, which says how a pattern's values are written.
-#[derive(Clone, Copy)]
+#[derive(Clone, Copy, Debug, PartialEq, Eq)]
 pub enum Version {
     /// Values from 0 to 9, each a digit.
     First,
@@ -37,7 +37,7 @@ pub enum Version {
 }
 
 /// What decides how a text is read: the kind that is asked for, and the version that its first line names.
-#[derive(Clone, Copy)]
+#[derive(Clone, Copy, Debug, PartialEq, Eq)]
 pub struct Form {
     pub kind: Kind,
     pub version: Version,

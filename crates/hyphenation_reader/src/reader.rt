@@ -30,7 +30,7 @@ use hyphenation_trie::Trie;
 use std::alloc::{AllocError, Global};
 
 /// Why a text gives no dictionary.
-#[derive(Debug, Drop)]
+#[derive(Drop)]
 pub enum Refusal {
     /// Memory was refused.
     Memory,
