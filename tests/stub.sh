@@ -3,17 +3,18 @@
 # shellcheck shell=bash disable=SC2154
 
 # The commands that the scripts use; no other is found there, and no `rt` but the one that is made here.
-tools=(basename bash cat chmod cp dirname env find iconv ln mkdir mktemp mv readlink rm rmdir sed tail touch wc)
+tools=(basename bash cat chmod cp dirname env find iconv ln mkdir mktemp mv readlink rm rmdir sed tail tee touch wc)
 
 # make_copy: makes the copy, in `copy`, and the folders of commands: `plain` without `rt`, and `stub` with it.
 #
 # The command writes each call to the file `calls`: the folder that it was called in, and its words. `rt try` hands the
 # program `trial` of the copy its words, and says that this was a trial that ended; without that program it gives no
 # answer. `rt run` makes the program `proved` of the copy the crate's; where there is none it fails, as does `rt lib` of a
-# crate that the file `unproved` names.
+# crate that the file `unproved` names, and `rt all` where there is such a file.
 make_copy() {
   local it
   copy=$scratch/copy plain=$scratch/plain stub=$scratch/stub
+  export STUB_COPY=$copy
   mkdir "$copy" "$plain" "$stub"
   tar -C "$root" --exclude=out -cf - hyphenate hyphenate-canonical hyphenate-convert install tools proof-times \
     man LICENSE-APACHE LICENSE-MIT examples crates.txt HANDLES crates | tar -C "$copy" -xf -
@@ -24,8 +25,9 @@ make_copy() {
   done
   cat >"$stub/rt" <<'STUB'
 #!/usr/bin/env bash
-top=$(cd ../.. && pwd)
+top=$STUB_COPY
 name=$(basename "$PWD")
+[ "$1" != all ] || name=together
 echo "$name: $*" >>"$top/calls"
 case $1 in
   try)
@@ -36,6 +38,7 @@ case $1 in
     exit $status
     ;;
   lib) ! grep -qsx "$name" "$top/unproved" || { echo "$name: not proved"; exit 1; } ;;
+  all) [ ! -e "$top/unproved" ] || { echo "$(cat "$top/unproved"): not proved"; exit 1; } ;;
   run) mkdir -p out && cp "$top/proved" "out/$name" && chmod 755 "out/$name" ;;
 esac
 STUB

@@ -107,36 +107,40 @@ prove_crate() (
 )
 
 # prove_side_by_side LOG: proves and builds the crates of the list `order`, `at_once` of them at a time, and writes to LOG
-# what is said. `rt all` works on all crates below a folder: so this is a folder with links to the libraries, in which
-# they are built where they stand, and with copies of the programs, whose out/ is moved to where they stand.
-prove_side_by_side() {
-  local top it folder status=0
+# what is said. `rt all` works on all crates below a folder, and goes through no links: so these crates are copied to a
+# folder of their own. Their out/ is moved there and, however this ends, back again.
+prove_side_by_side() (
   top=$(mktemp -d)
-  mkdir "$top/crates"
+  put_back() {
+    for it in "${order[@]}"; do
+      [ -d "$top/crates/$it/out" ] || continue
+      rm -rf "$root/crates/$it/out"
+      mv "$top/crates/$it/out" "$root/crates/$it/out"
+    done
+    rm -rf "$top"
+  }
+  trap put_back EXIT
+  trap 'exit 130' INT
+  trap 'exit 143' TERM
   cp "$root/HANDLES" "$top"
   for it in "${order[@]}"; do
     echo "$it:${uses[$it]}" >>"$top/crates.txt"
-    folder=$root/crates/$it
-    if [ -e "$folder/src/lib.rt" ]; then
-      ln -s "$folder" "$top/crates/$it"
-    else
-      rm -f "$folder/out/$it"
-      cp -R "$folder" "$top/crates/$it"
-    fi
+    mkdir -p "$top/crates/$it"
+    for part in src specs proofs; do
+      [ ! -d "$root/crates/$it/$part" ] || cp -R "$root/crates/$it/$part" "$top/crates/$it/$part"
+    done
+    [ ! -d "$root/crates/$it/out" ] || mv "$root/crates/$it/out" "$top/crates/$it/out"
+    rm -f "$top/crates/$it/out/$it"
   done
-  (cd "$top" && rt all check --jobs "$at_once") </dev/null 2>&1 | tee "$1" |
-    sed -n "s/^== /$called: done: /p" >&2
-  [ "${PIPESTATUS[0]}" = 0 ] || status=1
+  (cd "$top" && rt all check --jobs "$at_once") </dev/null 2>&1 | tee "$1" | sed -u -n "s/^== /$called: done: /p" >&2
+  [ "${PIPESTATUS[0]}" = 0 ] || exit 1
   for it in "${order[@]}"; do
-    [ $status = 0 ] && [ ! -L "$top/crates/$it" ] || continue
+    [ -e "$top/crates/$it/src/main.rt" ] || continue
+    # a run without arguments ends with the usage, so its status says nothing; the program is there if it was proved
     (cd "$top/crates/$it" && rt run) </dev/null >>"$1" 2>&1 || true
-    [ -x "$top/crates/$it/out/$it" ] || status=1
-    rm -rf "$root/crates/$it/out"
-    mv "$top/crates/$it/out" "$root/crates/$it/out"
+    [ -x "$top/crates/$it/out/$it" ] || exit 1
   done
-  rm -rf "$top"
-  return $status
-}
+)
 
 # shellcheck source=proof-times
 . "$root/proof-times"
