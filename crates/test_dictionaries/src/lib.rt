@@ -2,39 +2,51 @@
 #![tactic(auto)]
 
 use hyphenation_dictionary::dictionary::{Extended, Standard};
-use hyphenation_load::{Cause, Error, Load};
+use hyphenation_load::{Error, Load};
 use std::alloc::{AllocError, Global};
-use std::io::ErrorKind;
+use std::io::Read;
 use std::test::Fail;
+use test_support::faults::{TORN, is_fault};
 use test_support::gives;
+use test_support::readers::dripping;
 
-/// How a loading ended: `loaded`, or the line and the cause of the first fault, or another reason.
+/// How a loading ended: `loaded`, the line and the cause of a fault, such as `4 Change`, or what any other error says of
+/// itself, with the system's code of a fault of reading.
 pub fn ended<D: Drop>(alloc: Global, answer: Result<D, Error>) -> Result<String, AllocError> {
-    match answer {
+    match &answer {
         Ok(_) => String::from_str(alloc, "loaded"),
-        Err(Error::Deserialization { line, cause }) => format!(in alloc; "{line} {cause:?}"),
-        Err(Error::LanguageMismatch { .. }) => String::from_str(alloc, "another language"),
-        Err(Error::IO(fault)) => format!(in alloc; "{:?}", fault.kind()),
-        Err(Error::Memory(_)) => String::from_str(alloc, "no memory"),
+        Err(error) => reason(alloc, error),
     }
 }
 
-/// Fails where a loading has not ended so: `loaded`, `4 Change`, `another language`, `NotFound` or `no memory`.
+/// The line and the cause of a fault, or what any other error says of itself.
+fn reason(alloc: Global, error: &Error) -> Result<String, AllocError> {
+    match error {
+        Error::Deserialization { line, cause } => format!(in alloc; "{line} {cause:?}"),
+        _ => format!(in alloc; "{error}"),
+    }
+}
+
+/// Fails where a loading has not ended so.
 pub fn ends<D: Drop>(alloc: Global, answer: Result<D, Error>, wanted: &str) -> Result<(), Fail> {
     gives(ended(alloc, answer), wanted)
 }
 
-/// The line and the cause for which a text is refused, if it is.
-pub fn fault_in<D>(answer: &Result<D, Error>) -> Option<(usize, Cause)> {
-    match answer {
-        Err(Error::Deserialization { line, cause }) => Some((*line, *cause)),
-        _ => None,
+/// How loading a text ends that is read whole and a byte at a time; both where they differ.
+pub fn text_ends<D: Load + Drop>(alloc: Global, text: &[u8]) -> Result<String, AllocError> {
+    let mut reader = text;
+    let whole = ended(alloc, D::any_from_reader(alloc, &mut reader))?;
+    let dripped = ended(alloc, D::any_from_reader(alloc, &mut dripping(text)))?;
+    if whole.as_str() == dripped.as_str() {
+        Ok(whole)
+    } else {
+        format!(in alloc; "{whole}, and a byte at a time {dripped}")
     }
 }
 
 /// It is the fault of a torn reader.
 pub fn is_torn(error: &Error) -> bool {
-    matches!(error, Error::IO(e) if e.kind() == ErrorKind::ConnectionReset)
+    matches!(error, Error::IO(e) if is_fault(e, TORN))
 }
 
 /// The least accepted text with a pattern.
@@ -104,7 +116,15 @@ pub fn second_extended(alloc: Global, lines: &str) -> Result<Extended, Error> {
 /// What is written of the dictionary of that text.
 pub fn rewritten<D: Load + Drop>(alloc: Global, text: &[u8]) -> Result<Vec<u8>, Error> {
     let mut reader = text;
-    let dictionary = D::any_from_reader(alloc, &mut reader)?;
+    rewritten_from::<D, _>(alloc, &mut reader)
+}
+
+/// What is written of the dictionary that a reader gives.
+pub fn rewritten_from<D: Load + Drop, R: Read>(
+    alloc: Global,
+    reader: &mut R,
+) -> Result<Vec<u8>, Error> {
+    let dictionary = D::any_from_reader(alloc, reader)?;
     let mut written = Vec::new(alloc);
     dictionary.to_writer(alloc, &mut written)?;
     Ok(written)

@@ -8,21 +8,38 @@ use hyphenation_breaks::breaks::Break;
 use hyphenation_breaks::extended::Subregion;
 use hyphenation_dictionary::dictionary::{Extended, Standard};
 use hyphenation_hyphenator::hyphenator::Hyphenator;
-use hyphenation_load::Error;
 use hyphenation_score::Score;
 use hyphenation_segments::iter::{Hyphenating, Texts};
 use std::alloc::{AllocError, Global};
 use std::test::Fail;
 use test_dictionaries::{FIRKIN, dictionary, extended, standard};
+use test_support::gives;
 
-/// Each of these breaks with a space after it: its place, and what it substitutes.
+/// Each of these breaks as a dictionary text writes it, with a space after it: `3`, or with a change `2,1,2,2,szsz`; of a
+/// range that would begin before the word `1,out of the word,1,x`.
 fn told<B: Break>(alloc: Global, breaks: &[B]) -> Result<String, AllocError> {
     let mut told = String::new(alloc);
     for one in breaks {
-        let place = format!(in alloc; "{}{}{} ", one.place(), one.before(), one.after())?;
-        told.push_str(&place)?;
+        if one.changed() {
+            told.push_str(&changed_break(alloc, one)?)?;
+        } else {
+            told.push_str(&format!(in alloc; "{} ", one.place())?)?;
+        }
     }
     Ok(told)
+}
+
+/// A break with a change as a dictionary text writes it, with a space after it.
+fn changed_break<B: Break>(alloc: Global, one: &B) -> Result<String, AllocError> {
+    let (place, at) = (one.place(), one.before().len());
+    let (before, after) = (one.before(), one.after());
+    match one.range() {
+        Some((begin, end)) => {
+            let (left, right) = (place.saturating_sub(begin), end.saturating_sub(place));
+            format!(in alloc; "{place},{left},{right},{at},{before}{after} ")
+        }
+        None => format!(in alloc; "{place},out of the word,{at},{before}{after} "),
+    }
 }
 
 /// The breaks of an exception, or that there is none.
@@ -115,15 +132,20 @@ fn values(alloc: Global, dictionary: &Standard, words: &str) -> Result<String, A
     Ok(output)
 }
 
-/// What a change puts in place of its range.
-fn substitution<'d>(change: Option<&'d Subregion>) -> &'d str {
+/// A value with a space after it, and with its change as a dictionary text writes it, but for the place: `1`, or
+/// `1,1,0,1,x`.
+fn winner(alloc: Global, value: u8, change: Option<&Subregion>) -> Result<String, AllocError> {
     match change {
-        Some(change) => change.substitution.as_str(),
-        None => "",
+        Some(change) => {
+            let (left, right, at) = (change.left, change.right, change.breakpoint);
+            let substitution = change.substitution.as_str();
+            format!(in alloc; "{value},{left},{right},{at},{substitution} ")
+        }
+        None => format!(in alloc; "{value} "),
     }
 }
 
-/// Writes the values of a word's places, each with what its change substitutes and a space after it.
+/// Writes the values of a word's places, each with its change and a space after it.
 fn push_winners(
     output: &mut String,
     alloc: Global,
@@ -131,14 +153,12 @@ fn push_winners(
     word: &str,
 ) -> Result<(), AllocError> {
     for (value, change) in dictionary.score(alloc, word)? {
-        let value = format!(in alloc; "{value}{} ", substitution(change))?;
-        output.push_str(&value)?;
+        output.push_str(&winner(alloc, value, change)?)?;
     }
     Ok(())
 }
 
-/// The values of the places of words that a space parts, each with what its change substitutes; a comma after those
-/// of each word.
+/// The values of the places of words that a space parts, each with its change; a comma after those of each word.
 fn winners(alloc: Global, dictionary: &Extended, words: &str) -> Result<String, AllocError> {
     let mut output = String::new(alloc);
     for word in words.split(' ') {
@@ -187,17 +207,17 @@ pub fn list(alloc: Global, dictionary: &mut Standard, place: usize) -> Result<St
     }
 }
 
-/// The dictionary of patterns, with the place 3 listed for `firkins`.
-pub fn listing(alloc: Global) -> Result<Standard, Error> {
+/// The dictionary of patterns, with the place 3 listed for `firkins`, which was not listed before.
+pub fn listing(alloc: Global) -> Result<Standard, Fail> {
     let mut firkin = dictionary(alloc, FIRKIN)?;
-    let _none = list(alloc, &mut firkin, 3).map_err(Error::Memory)?;
+    gives(list(alloc, &mut firkin, 3), "none")?;
     Ok(firkin)
 }
 
 /// What a dictionary is asked. Words of a text are parted by a space; bounds and places are numbers of bytes.
 #[derive(Clone, Copy)]
 pub enum Question<'q> {
-    /// The values of the words' places, those of an extended dictionary with what their changes substitute.
+    /// The values of the words' places, those of an extended dictionary with their changes.
     Values(&'q str),
     /// The breaks of words.
     Places(&'q str),
@@ -272,13 +292,15 @@ fn breaks_asked<'h, H: Hyphenator<'h>>(
 }
 
 /// The answer of a dictionary that was loaded, or its refusal.
-pub fn asked<D: Answering>(
+pub fn asked<D: Answering, E: Into<Fail>>(
     alloc: Global,
-    dictionary: Result<D, Error>,
+    dictionary: Result<D, E>,
     question: Question<'_>,
 ) -> Result<String, Fail> {
-    let dictionary = dictionary?;
-    Ok(dictionary.answer(alloc, question)?)
+    match dictionary {
+        Ok(dictionary) => Ok(dictionary.answer(alloc, question)?),
+        Err(error) => Err(error.into()),
+    }
 }
 
 /// The values of words by a standard dictionary of these lines.

@@ -1,6 +1,7 @@
 //! What every test ends with, readers and writers that fail, and long texts. Nothing here knows a dictionary.
 #![tactic(auto)]
 
+pub mod faults;
 pub mod readers;
 pub mod writers;
 

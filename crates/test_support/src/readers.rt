@@ -1,20 +1,21 @@
 //! Readers that give few bytes at a time, and readers that fail.
 
+use crate::faults::{TORN, fault};
 use std::io;
-use std::io::{ErrorKind, Read};
+use std::io::Read;
 
 /// Gives a text in reads of one byte, up to a fault at the read of a number, counted from 1, and at each later one.
 #[derive(Drop)]
 pub struct Faulty<'t> {
     left: &'t [u8],
     until: usize,
-    kind: ErrorKind,
+    code: i32,
 }
 
 impl Read for Faulty<'_> {
     fn read(&mut self, buf: &mut [u8]) -> io::Result<usize> {
         if self.until <= 1 {
-            return Err(io::Error::from(self.kind));
+            return Err(fault(self.code));
         }
         self.until -= 1;
         let Some((first, rest)) = self.left.split_first() else {
@@ -29,14 +30,14 @@ impl Read for Faulty<'_> {
     }
 }
 
-/// A reader whose read of this number fails so.
-pub fn failing(left: &[u8], until: usize, kind: ErrorKind) -> Faulty<'_> {
-    Faulty { left, until, kind }
+/// A reader whose read of this number fails with the fault of this code.
+pub fn failing(left: &[u8], until: usize, code: i32) -> Faulty<'_> {
+    Faulty { left, until, code }
 }
 
 /// A reader whose read of this number fails, since the connection is torn.
 pub fn torn(left: &[u8], until: usize) -> Faulty<'_> {
-    failing(left, until, ErrorKind::ConnectionReset)
+    failing(left, until, TORN)
 }
 
 /// A reader of one byte a read, which never fails.
@@ -50,14 +51,14 @@ pub struct Pieces<'t> {
     left: &'t [u8],
     most: usize,
     until: usize,
-    kind: ErrorKind,
+    code: i32,
 }
 
 impl Read for Pieces<'_> {
     fn read(&mut self, buf: &mut [u8]) -> io::Result<usize> {
         if self.until == 1 {
             self.until = 0;
-            return Err(io::Error::from(self.kind));
+            return Err(fault(self.code));
         }
         self.until = self.until.saturating_sub(1);
         let room = self.most.min(buf.len());
@@ -76,16 +77,16 @@ pub fn in_pieces(left: &[u8], most: usize) -> Pieces<'_> {
         left,
         most,
         until: 0,
-        kind: ErrorKind::Other,
+        code: TORN,
     }
 }
 
-/// A reader of two bytes a read, of which the read of this number fails so.
-pub fn once(left: &[u8], until: usize, kind: ErrorKind) -> Pieces<'_> {
+/// A reader of two bytes a read, of which the read of this number fails with the fault of this code.
+pub fn once(left: &[u8], until: usize, code: i32) -> Pieces<'_> {
     Pieces {
         left,
         most: 2,
         until,
-        kind,
+        code,
     }
 }

@@ -5,6 +5,7 @@ use std::alloc::{AllocError, Global};
 use std::borrow::CowStr;
 use std::test::Fail;
 use test_support::{holds, same, same_in};
+use ucd_age::Age;
 
 /// Whether a word folds so, with these shifts: each is where it holds from, and by how many bytes.
 fn folds(
@@ -109,25 +110,30 @@ fn realigned_places_are_held_at_the_ends(rt: HostRuntime) -> Result<(), Fail> {
     same(&realign(1, &[]), &1)
 }
 
-/// All characters, one after the other.
-fn all_characters(alloc: Global) -> Result<String, AllocError> {
+/// All characters that Unicode had in its version 14.0, one after the other.
+fn characters_of_14(alloc: Global) -> Result<String, AllocError> {
     let mut all = String::new(alloc);
     for c in '\0'..=char::MAX {
-        all.push(c)?;
+        if Age::for_char(c).number() <= Age::V14_0.number() {
+            all.push(c)?;
+        }
     }
     Ok(all)
 }
 
-/// Python's tables, of Unicode 14.0, lower 1402 capitals to another character (the İ counted
-/// as `i`), of which 25 change their number of bytes. Among the 1402 are 86 Cherokee capitals,
-/// which are their own simple case folding. From 14.0 to 18.0 came 75 capitals more, of which
-/// 4 change their number of bytes.
-#[test]
-fn all_characters_fold(rt: HostRuntime) -> Result<(), Fail> {
-    let all = all_characters(rt.alloc())?;
-    let (folded, shifts) = refold(rt.alloc(), &all)?;
+/// The number of characters that folding changes, and of those whose number of bytes it changes.
+fn folded(alloc: Global, all: &str) -> Result<(usize, usize), AllocError> {
+    let (folded, shifts) = refold(alloc, all)?;
     let pairs = all.chars().zip(folded.as_str().chars());
     let changed = pairs.filter(|(c, d)| c != d).count();
-    same(&changed, &(1402 - 86 + 75))?;
-    same(&shifts.len(), &(25 + 4))
+    Ok((changed, shifts.len()))
+}
+
+/// Python 3.11 has the tables of Unicode 14.0. Of the characters for which its `isupper` holds, `lower` gives 1402
+/// another character (of the İ its first one, `i`), and 25 one of another number of bytes. Among the 1402 are 86
+/// Cherokee capitals, which are their own simple case folding.
+#[test]
+fn the_characters_of_unicode_14_fold(rt: HostRuntime) -> Result<(), Fail> {
+    let all = characters_of_14(rt.alloc())?;
+    same(&folded(rt.alloc(), &all)?, &(1402 - 86, 25))
 }

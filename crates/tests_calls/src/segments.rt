@@ -18,7 +18,7 @@ use std::alloc::{AllocError, Global};
 use std::iter::Copied;
 use std::slice;
 use std::test::Fail;
-use test_support::{gives, holds};
+use test_support::gives;
 
 // Callers of the iterators, which are proved with the tests.
 
@@ -240,6 +240,10 @@ fn a_mark_stands_after_each_segment_but_the_last(rt: HostRuntime) -> Result<(), 
         spaced(rt.alloc(), "hyphenation", &[2, 6, 7]),
         "hy- phen- a- tion",
     )?;
+    gives(
+        spaced(rt.alloc(), "anfractuous", &[2, 6, 8]),
+        "an- frac- tu- ous",
+    )?;
     gives(spaced(rt.alloc(), "firkin", &[3]), "fir- kin")?;
     gives(spaced(rt.alloc(), "bevies", &[]), "bevies")
 }
@@ -333,22 +337,37 @@ fn each_segment_leaves_one_less(rt: HostRuntime) -> Result<(), Fail> {
     )
 }
 
-/// Whether the hints of a word with one break, before its first segment and after each, are the numbers of its segments
-/// to come.
-fn are_hints_exact(alloc: Global) -> Result<bool, Fail> {
-    let word = word_of(alloc, "hypha", &[2])?;
-    let mut segments = word.iter().segments();
-    let first = segments.size_hint();
-    let _hy = segments.next();
-    let second = segments.size_hint();
-    let _pha = segments.next();
-    let third = segments.size_hint();
-    Ok([first, second, third] == [(2, Some(2)), (1, Some(1)), (0, Some(0))])
+/// The hints of a word's segments, before the first one and after each.
+fn hints_of(alloc: Global, text: &str, breaks: &[usize]) -> Result<String, Fail> {
+    let word = word_of(alloc, text, breaks)?;
+    Ok(hints(alloc, word.iter().segments(), breaks.len())?)
+}
+
+/// The hints of segments after so many of them and one more.
+fn hints<B: Breaks<Item = usize>>(
+    alloc: Global,
+    mut segments: Segments<'_, B>,
+    breaks: usize,
+) -> Result<String, AllocError> {
+    let mut output = format!(in alloc; "{:?} ", segments.size_hint())?;
+    for _ in 0..=breaks {
+        let _segment = segments.next();
+        let hint = format!(in alloc; "{:?} ", segments.size_hint())?;
+        output.push_str(&hint)?;
+    }
+    Ok(output)
 }
 
 #[test]
 fn hints_count_the_segments_to_come(rt: HostRuntime) -> Result<(), Fail> {
-    holds(are_hints_exact(rt.alloc())?, "the hints are 2, 1 and 0")
+    gives(
+        hints_of(rt.alloc(), "bevies", &[]),
+        "(1, Some(1)) (0, Some(0)) ",
+    )?;
+    gives(
+        hints_of(rt.alloc(), "hypha", &[2]),
+        "(2, Some(2)) (1, Some(1)) (0, Some(0)) ",
+    )
 }
 
 /// What the segments of `ab` hand out whose break at 1 comes again.

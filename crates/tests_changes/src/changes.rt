@@ -58,7 +58,7 @@ fn places_by(alloc: Global, minima: &str, lines: &str, words: &str) -> Result<St
 fn a_place_within_a_kept_range_is_left_out(rt: HostRuntime) -> Result<(), Fail> {
     gives(
         places_by(rt.alloc(), "2 2", OVERLAPPING, "asszonnyal"),
-        "2szsz 6nyny ,",
+        "2,1,2,2,szsz 6,1,2,2,nyny ,",
     )
 }
 
@@ -79,7 +79,7 @@ pub fn exception(alloc: Global, lines: &str, word: &str) -> Result<String, Fail>
 fn a_place_within_a_range_is_listed(rt: HostRuntime) -> Result<(), Fail> {
     gives(
         exception(rt.alloc(), OVERLAPPING, "asszonnyal"),
-        "2szsz 3 6nyny ",
+        "2,1,2,2,szsz 3 6,1,2,2,nyny ",
     )
 }
 
@@ -97,7 +97,10 @@ fn a_range_over_a_letter_whose_length_folding_changed_is_left_out(
 #[test]
 fn a_break_left_out_is_no_break_of_the_word(rt: HostRuntime) -> Result<(), Fail> {
     let line = "e aßb 1 3,2,0,2,ss";
-    gives(places_by(rt.alloc(), "1 1", line, "aßb AẞB"), "1 3ss ,1 ,")
+    gives(
+        places_by(rt.alloc(), "1 1", line, "aßb AẞB"),
+        "1 3,2,0,2,ss ,1 ,",
+    )
 }
 
 #[test]
@@ -119,7 +122,10 @@ fn opportunities(alloc: Global, lines: &str, word: &str) -> Result<String, Fail>
 
 #[test]
 fn a_range_that_passes_an_edge_of_the_word_is_allowed(rt: HostRuntime) -> Result<(), Fail> {
-    gives(opportunities(rt.alloc(), "p .a1b 2,2,0,1,x", "abc"), "1x ")
+    gives(
+        opportunities(rt.alloc(), "p .a1b 2,2,0,1,x", "abc"),
+        "1,out of the word,1,x ",
+    )
 }
 
 /// The breaks but those at a place.
@@ -201,14 +207,14 @@ fn a_new_mark_holds_for_the_changed_segments_to_come(rt: HostRuntime) -> Result<
 
 #[test]
 fn a_listed_change_is_told(rt: HostRuntime) -> Result<(), Fail> {
-    gives(exception(rt.alloc(), DOUBLED, "esszé"), "2szsz ")
+    gives(exception(rt.alloc(), DOUBLED, "esszé"), "2,1,2,2,szsz ")
 }
 
 #[test]
 fn a_listed_change_is_no_change_of_a_pattern(rt: HostRuntime) -> Result<(), Fail> {
     let dictionary = extended(rt.alloc(), "2 2", DOUBLED);
     let question = Question::ListedWithin("esszé", (0, 6));
-    gives(asked(rt.alloc(), dictionary, question), "2szsz ")?;
+    gives(asked(rt.alloc(), dictionary, question), "2,1,2,2,szsz ")?;
     let dictionary = extended(rt.alloc(), "2 2", DOUBLED);
     let question = Question::Allowed("esszé", (0, 6));
     gives(asked(rt.alloc(), dictionary, question), "")
@@ -235,7 +241,7 @@ fn replaced(alloc: Global) -> Result<Extended, Error> {
 #[test]
 fn the_old_list_of_a_change_is_answered(rt: HostRuntime) -> Result<(), Fail> {
     let mut dictionary = extended(rt.alloc(), "2 2", DOUBLED)?;
-    gives(list(rt.alloc(), &mut dictionary, 3), "2szsz ")
+    gives(list(rt.alloc(), &mut dictionary, 3), "2,1,2,2,szsz ")
 }
 
 /// The new list of `esszé`.

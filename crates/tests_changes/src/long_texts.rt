@@ -193,7 +193,7 @@ fn an_empty_list_replaces_another(rt: HostRuntime) -> Result<(), Fail> {
 #[test]
 fn an_empty_list_replaces_another_with_a_change(rt: HostRuntime) -> Result<(), Fail> {
     let mut dictionary = extended(rt.alloc(), "0 0", "p a1b\ne ab 1,1,1,1,xy")?;
-    gives(empty_extended(rt.alloc(), &mut dictionary), "1xy ")
+    gives(empty_extended(rt.alloc(), &mut dictionary), "1,1,1,1,xy ")
 }
 
 /// The breaks of words where no place is listed for `ab`.

@@ -4,22 +4,28 @@ use hyphenation::engine::RunError;
 use hyphenation::{Language, Load, Standard};
 use linefill::{fill, run_fill};
 use std::alloc::{AllocError, Global};
-use std::io::{ErrorKind, Read, Write};
+use std::io::{Read, Write};
 use std::test::Fail;
 use test_dictionaries::is_torn;
+use test_support::faults::{BROKEN_PIPE, TORN, is_fault};
 use test_support::readers::{dripping, torn};
 use test_support::writers::failing_once;
-use test_support::{gives_in, holds, same, same_bytes, wrote};
+use test_support::{gives_in, holds, same, wrote};
 
 /// Breaks of a few words.
 const VERSE: &str =
     "hyphenation 1 standard\nlanguage en-us\nminima 2 2\ne noble 2\ne accents 2\ne lucid 2\ne inescapable 2\ne größe 4\n";
 
-/// The lines of a text, with a bar between them.
-fn barred(alloc: Global, text: &str, columns: usize) -> Result<String, Fail> {
-    let mut reader = VERSE.as_bytes();
+/// The lines of a text by a dictionary, with a bar between them.
+fn barred(alloc: Global, dictionary: &str, text: &str, columns: usize) -> Result<String, Fail> {
+    let mut reader = dictionary.as_bytes();
     let dictionary = Standard::any_from_reader(alloc, &mut reader)?;
     let lines = fill(alloc, &dictionary, text, columns)?;
+    Ok(joined(alloc, &lines)?)
+}
+
+/// Lines with a bar between them.
+fn joined(alloc: Global, lines: &[String]) -> Result<String, AllocError> {
     let mut barred = String::new(alloc);
     for (index, line) in lines.iter().enumerate() {
         if index > 0 {
@@ -30,39 +36,70 @@ fn barred(alloc: Global, text: &str, columns: usize) -> Result<String, Fail> {
     Ok(barred)
 }
 
-#[test]
-fn lines_end_at_the_greatest_cut_that_fits_or_at_the_least(rt: HostRuntime) -> Result<(), Fail> {
-    let verse = "I know noble accents";
-    let cases: [(&str, usize, &str); 20] = [
-        (verse, 20, "I know noble accents"),
-        (verse, 19, "I know noble ac-|cents"),
-        (verse, 11, "I know no-|ble accents"),
-        (verse, 10, "I know no-|ble ac-|cents"),
-        (verse, 7, "I know |noble |accents"),
-        (verse, 1, "I |know |no-|ble |ac-|cents"),
-        (verse, 0, "I |know |no-|ble |ac-|cents"),
-        ("ri\u{ad}bo", 3, "ri-|\u{ad}bo"),
-        ("a  b", 1, "a | |b"),
-        ("a  b", 3, "a  |b"),
-        ("noble", 3, "no-|ble"),
-        ("noble", 2, "no-|ble"),
-        ("noble ", 5, "no-|ble "),
-        ("größe äö", 4, "grö-|ße |äö"),
-        ("\u{ad}ri\u{ad}bo nu", 4, "\u{ad}ri-|\u{ad}bo |nu"),
-        ("a \u{ad}b", 2, "a |\u{ad}b"),
-        ("a\n\u{ad}b", 3, "a\n-|\u{ad}b"),
-        ("lucid\nlucid", 7, "lu-|cid\nlu-|cid"),
-        ("unbreakable", 3, "unbreakable"),
-        ("", 5, ""),
-    ];
+/// Fails where a text by a dictionary does not have the lines of a case.
+fn each_is_filled(
+    alloc: Global,
+    dictionary: &str,
+    cases: &[(&str, usize, &str)],
+) -> Result<(), Fail> {
     for (text, columns, wanted) in cases {
         gives_in(
             format_args!("{text:?} in {columns}"),
-            barred(rt.alloc(), text, columns),
+            barred(alloc, dictionary, text, *columns),
             wanted,
         )?;
     }
     Ok(())
+}
+
+const NOBLE: &str = "I know noble accents";
+
+const FILLED: [(&str, usize, &str); 20] = [
+    (NOBLE, 20, "I know noble accents"),
+    (NOBLE, 19, "I know noble ac-|cents"),
+    (NOBLE, 11, "I know no-|ble accents"),
+    (NOBLE, 10, "I know no-|ble ac-|cents"),
+    (NOBLE, 7, "I know |noble |accents"),
+    (NOBLE, 1, "I |know |no-|ble |ac-|cents"),
+    (NOBLE, 0, "I |know |no-|ble |ac-|cents"),
+    ("ri\u{ad}bo", 3, "ri-|\u{ad}bo"),
+    ("a  b", 1, "a | |b"),
+    ("a  b", 3, "a  |b"),
+    ("noble", 3, "no-|ble"),
+    ("noble", 2, "no-|ble"),
+    ("noble ", 5, "no-|ble "),
+    ("größe äö", 4, "grö-|ße |äö"),
+    ("\u{ad}ri\u{ad}bo nu", 4, "\u{ad}ri-|\u{ad}bo |nu"),
+    ("a \u{ad}b", 2, "a |\u{ad}b"),
+    ("a\n\u{ad}b", 3, "a\n-|\u{ad}b"),
+    ("lucid\nlucid", 7, "lu-|cid\nlu-|cid"),
+    ("unbreakable", 3, "unbreakable"),
+    ("", 5, ""),
+];
+
+#[test]
+fn lines_end_at_the_greatest_cut_that_fits_or_at_the_least(rt: HostRuntime) -> Result<(), Fail> {
+    each_is_filled(rt.alloc(), VERSE, &FILLED)
+}
+
+/// The same with three letters after the last break of a word.
+const THREE_LETTERS: &str =
+    "hyphenation 1 standard\nlanguage en-us\nminima 2 3\ne noble 2\ne accents 2\ne lucid 2\ne inescapable 2\n";
+
+const EXAMPLES: [(&str, usize, &str); 8] = [
+    (NOBLE, 10, "I know no-|ble ac-|cents"),
+    (NOBLE, 1, "I |know |no-|ble |ac-|cents"),
+    (NOBLE, 11, "I know no-|ble accents"),
+    (NOBLE, 7, "I know |noble |accents"),
+    (NOBLE, 0, "I |know |no-|ble |ac-|cents"),
+    ("ri\u{ad}bo", 3, "ri-|\u{ad}bo"),
+    ("a  b", 1, "a | |b"),
+    ("", 5, ""),
+];
+
+#[test]
+fn lines_of_the_examples(rt: HostRuntime) -> Result<(), Fail> {
+    each_is_filled(rt.alloc(), THREE_LETTERS, &EXAMPLES)
 }
 
 /// The columns of the line between two cuts.
@@ -133,22 +170,24 @@ fn compared(alloc: Global, text: &str, cuts: &[usize]) -> Result<Option<usize>, 
     Ok(Some(compared))
 }
 
+/// Texts, and the places where a line of each may end.
+const DIVIDED: [(&str, &[usize]); 5] = [
+    ("I know noble accents", &[2, 7, 9, 13, 15, 20]),
+    ("a  b   noble", &[2, 3, 5, 6, 7, 9, 12]),
+    ("\u{ad}ri\u{ad}bo nu", &[4, 9, 11]),
+    (
+        "noble accents lucid inescapable noble",
+        &[2, 6, 8, 14, 16, 20, 22, 32, 34, 37],
+    ),
+    (
+        "lucid größe lucid größe noble lucid",
+        &[2, 6, 10, 14, 16, 20, 24, 28, 30, 34, 36, 39],
+    ),
+];
+
 #[test]
 fn no_division_that_fits_has_fewer_lines(rt: HostRuntime) -> Result<(), Fail> {
-    let cases: [(&str, &[usize]); 5] = [
-        ("I know noble accents", &[2, 7, 9, 13, 15, 20]),
-        ("a  b   noble", &[2, 3, 5, 6, 7, 9, 12]),
-        ("\u{ad}ri\u{ad}bo nu", &[4, 9, 11]),
-        (
-            "noble accents lucid inescapable noble",
-            &[2, 6, 8, 14, 16, 20, 22, 32, 34, 37],
-        ),
-        (
-            "lucid größe lucid größe noble lucid",
-            &[2, 6, 10, 14, 16, 20, 24, 28, 30, 34, 36, 39],
-        ),
-    ];
-    for (text, cuts) in cases {
+    for (text, cuts) in &DIVIDED {
         let widths = compared(rt.alloc(), text, cuts)?;
         holds(matches!(widths, Some(2..)), text)?;
     }
@@ -234,11 +273,21 @@ fn a_refused_dictionary_is_answered_before_a_torn_text(rt: HostRuntime) -> Resul
 }
 
 #[test]
+fn a_refused_dictionary_is_answered_before_the_text_is_judged(rt: HostRuntime) -> Result<(), Fail> {
+    let ran = run_to_end(rt.alloc(), &mut &b""[..], &mut &b"\xff"[..]);
+    holds(
+        matches!(&ran.end, Err(RunError::Dictionary(_))),
+        "the dictionary is refused",
+    )?;
+    same(&ran.taken, &0)
+}
+
+#[test]
 fn a_torn_text_is_answered_before_its_bytes_are_judged(rt: HostRuntime) -> Result<(), Fail> {
     let mut input = torn(b"noble \xff", 4);
     let ran = run_to_end(rt.alloc(), &mut VERSE.as_bytes(), &mut input);
     holds(
-        matches!(&ran.end, Err(RunError::Input(e)) if e.kind() == ErrorKind::ConnectionReset),
+        matches!(&ran.end, Err(RunError::Input(e)) if is_fault(e, TORN)),
         "the text is torn",
     )?;
     same(&ran.taken, &0)
@@ -262,23 +311,26 @@ fn of_the_empty_text_nothing_is_written(rt: HostRuntime) -> Result<(), Fail> {
     same(&ran.taken, &0)
 }
 
+/// Whether a run whose writer fails at this write ends with its fault, after the bytes of these lines before it.
+fn is_cut(alloc: Global, lines: &[u8], number: usize) -> bool {
+    let mut output = failing_once(alloc, number);
+    let end = run_in(
+        alloc,
+        10,
+        &mut VERSE.as_bytes(),
+        &mut dripping(NOBLE.as_bytes()),
+        &mut output,
+    );
+    matches!(&end, Err(RunError::Output(e)) if is_fault(e, BROKEN_PIPE))
+        && output.taken.len() + 1 == number
+        && lines.starts_with(&output.taken)
+}
+
 #[test]
 fn a_writer_that_fails_once_has_a_beginning_of_the_lines(rt: HostRuntime) -> Result<(), Fail> {
     let lines = b"I know no-\nble ac-\ncents\n";
     for number in 1..=lines.len() {
-        let mut output = failing_once(rt.alloc(), number);
-        let end = run_in(
-            rt.alloc(),
-            10,
-            &mut VERSE.as_bytes(),
-            &mut dripping(b"I know noble accents"),
-            &mut output,
-        );
-        holds(
-            matches!(&end, Err(RunError::Output(e)) if e.kind() == ErrorKind::BrokenPipe),
-            number,
-        )?;
-        same_bytes(number, &output.taken, &lines[..number - 1])?;
+        holds(is_cut(rt.alloc(), lines, number), number)?;
     }
     Ok(())
 }

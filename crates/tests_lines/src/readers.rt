@@ -4,9 +4,10 @@ use hyphenation::Language;
 use hyphenation::engine::RunError;
 use linefill::run_fill;
 use std::alloc::{AllocError, Global};
-use std::io::{ErrorKind, Read, Write};
+use std::io::{Read, Write};
 use std::test::Fail;
 use test_dictionaries::AMERICAN;
+use test_support::faults::{NO_MEMORY, TORN, is_fault};
 use test_support::readers::{in_pieces, once};
 use test_support::writers::interrupting;
 use test_support::{holds, repeated};
@@ -49,31 +50,31 @@ fn the_sizes_of_the_reads_change_no_line(rt: HostRuntime) -> Result<(), Fail> {
 }
 
 /// Whether a run's end tells that a read of its text failed so.
-fn tells_input(end: &Result<(), RunError>, kind: ErrorKind) -> bool {
-    if kind == ErrorKind::OutOfMemory {
+fn tells_input(end: &Result<(), RunError>, code: i32) -> bool {
+    if code == NO_MEMORY {
         matches!(end, Err(RunError::Memory))
     } else {
-        matches!(end, Err(RunError::Input(e)) if e.kind() == kind)
+        matches!(end, Err(RunError::Input(e)) if is_fault(e, code))
     }
 }
 
 /// Whether a run whose text's read of this number fails so tells it, and writes nothing.
-fn is_input_told(alloc: Global, number: usize, kind: ErrorKind) -> bool {
+fn is_input_told(alloc: Global, number: usize, code: i32) -> bool {
     let mut output: Vec<u8> = Vec::new(alloc);
-    let mut input = once(TEXT, number, kind);
+    let mut input = once(TEXT, number, code);
     let end = filled(alloc, &mut AMERICAN.as_bytes(), &mut input, &mut output);
-    output.is_empty() && tells_input(&end, kind)
+    output.is_empty() && tells_input(&end, code)
 }
 
 #[test]
 fn a_read_that_fails_once_ends_a_run_of_lines(rt: HostRuntime) -> Result<(), Fail> {
     for number in 1..=9 {
         holds(
-            is_input_told(rt.alloc(), number, ErrorKind::ConnectionReset),
+            is_input_told(rt.alloc(), number, TORN),
             format_args!("torn at read {number}"),
         )?;
         holds(
-            is_input_told(rt.alloc(), number, ErrorKind::OutOfMemory),
+            is_input_told(rt.alloc(), number, NO_MEMORY),
             format_args!("no memory at read {number}"),
         )?;
     }
@@ -119,6 +120,6 @@ fn is_long_text_filled(alloc: Global) -> Result<bool, AllocError> {
 
 /// Two words have eight characters with the space after the second.
 #[test]
-fn a_text_of_a_million_bytes_is_long_text_filled(rt: HostRuntime) -> Result<(), Fail> {
+fn a_text_of_a_million_bytes_is_filled(rt: HostRuntime) -> Result<(), Fail> {
     holds(is_long_text_filled(rt.alloc())?, "it is filled")
 }

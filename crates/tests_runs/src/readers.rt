@@ -3,9 +3,10 @@
 use hyphenation::Language;
 use hyphenation::engine::{Kind, RunError, run};
 use std::alloc::Global;
-use std::io::{ErrorKind, Read, Write};
+use std::io::{Read, Write};
 use std::test::Fail;
 use test_dictionaries::{AMERICAN, is_torn};
+use test_support::faults::{INTERRUPTED, NO_MEMORY, TORN, is_fault};
 use test_support::holds;
 use test_support::readers::{in_pieces, once};
 use test_support::writers::interrupting;
@@ -58,8 +59,8 @@ fn the_sizes_of_the_reads_change_nothing(rt: HostRuntime) -> Result<(), Fail> {
 }
 
 /// Whether a run's end tells that a read of its dictionary failed so.
-fn tells_dictionary(end: &Result<(), RunError>, kind: ErrorKind) -> bool {
-    if kind == ErrorKind::OutOfMemory {
+fn tells_dictionary(end: &Result<(), RunError>, code: i32) -> bool {
+    if code == NO_MEMORY {
         matches!(end, Err(RunError::Memory))
     } else {
         matches!(end, Err(RunError::Dictionary(e)) if is_torn(e))
@@ -67,44 +68,44 @@ fn tells_dictionary(end: &Result<(), RunError>, kind: ErrorKind) -> bool {
 }
 
 /// Whether a run's end tells that a read of its text failed so.
-fn tells_input(end: &Result<(), RunError>, kind: ErrorKind) -> bool {
-    if kind == ErrorKind::OutOfMemory {
+fn tells_input(end: &Result<(), RunError>, code: i32) -> bool {
+    if code == NO_MEMORY {
         matches!(end, Err(RunError::Memory))
     } else {
-        matches!(end, Err(RunError::Input(e)) if e.kind() == kind)
+        matches!(end, Err(RunError::Input(e)) if is_fault(e, code))
     }
 }
 
 /// Whether a run whose dictionary's read of this number fails so tells it, and writes nothing.
-fn is_dictionary_told(alloc: Global, number: usize, kind: ErrorKind) -> bool {
+fn is_dictionary_told(alloc: Global, number: usize, code: i32) -> bool {
     let mut output: Vec<u8> = Vec::new(alloc);
-    let mut dictionary = once(AMERICAN.as_bytes(), number, kind);
+    let mut dictionary = once(AMERICAN.as_bytes(), number, code);
     let end = marked(alloc, &mut dictionary, &mut &TEXT[..], &mut output);
-    output.is_empty() && tells_dictionary(&end, kind)
+    output.is_empty() && tells_dictionary(&end, code)
 }
 
 /// The same of the text that is marked.
-fn is_input_told(alloc: Global, number: usize, kind: ErrorKind) -> bool {
+fn is_input_told(alloc: Global, number: usize, code: i32) -> bool {
     let mut output: Vec<u8> = Vec::new(alloc);
-    let mut input = once(TEXT, number, kind);
+    let mut input = once(TEXT, number, code);
     let end = marked(alloc, &mut AMERICAN.as_bytes(), &mut input, &mut output);
-    output.is_empty() && tells_input(&end, kind)
+    output.is_empty() && tells_input(&end, code)
 }
 
 /// Whether each of these runs tells a fault of its read.
-fn is_fault_told(alloc: Global, number: usize, kind: ErrorKind) -> bool {
-    is_dictionary_told(alloc, number, kind) && is_input_told(alloc, number, kind)
+fn is_fault_told(alloc: Global, number: usize, code: i32) -> bool {
+    is_dictionary_told(alloc, number, code) && is_input_told(alloc, number, code)
 }
 
 #[test]
 fn a_read_that_fails_once_ends_a_run(rt: HostRuntime) -> Result<(), Fail> {
     for number in 1..=9 {
         holds(
-            is_fault_told(rt.alloc(), number, ErrorKind::ConnectionReset),
+            is_fault_told(rt.alloc(), number, TORN),
             format_args!("torn at read {number}"),
         )?;
         holds(
-            is_fault_told(rt.alloc(), number, ErrorKind::OutOfMemory),
+            is_fault_told(rt.alloc(), number, NO_MEMORY),
             format_args!("no memory at read {number}"),
         )?;
     }
@@ -114,11 +115,11 @@ fn a_read_that_fails_once_ends_a_run(rt: HostRuntime) -> Result<(), Fail> {
 /// Whether a run whose reads of this number are interrupted writes the marked text.
 fn is_made_again(alloc: Global, number: usize) -> bool {
     let mut output: Vec<u8> = Vec::new(alloc);
-    let kind = ErrorKind::Interrupted;
+    let code = INTERRUPTED;
     let end = marked(
         alloc,
-        &mut once(AMERICAN.as_bytes(), number, kind),
-        &mut once(TEXT, number, kind),
+        &mut once(AMERICAN.as_bytes(), number, code),
+        &mut once(TEXT, number, code),
         &mut output,
     );
     end.is_ok() && output.as_slice() == MARKED

@@ -5,12 +5,13 @@ use hyphenation::engine::{Kind, RunError, run, run_score};
 use hyphenation::load::Error;
 use std::alloc::Global;
 use std::io;
-use std::io::{ErrorKind, Read, Write};
+use std::io::{Read, Write};
 use std::test::Fail;
 use test_dictionaries::{AMERICAN, FIRKIN, LEAST, is_torn};
+use test_support::faults::{BROKEN_PIPE, NO_MEMORY, TORN, fault, is_fault};
 use test_support::readers::{dripping, failing, torn};
 use test_support::writers::{Hiccup, failing_once};
-use test_support::{holds, same, same_bytes, same_in, wrote};
+use test_support::{holds, same, same_in, wrote};
 
 const TEXT: &[u8] = b"Firkin, firkins.";
 
@@ -76,21 +77,22 @@ fn a_run_over_a_torn_dictionary_tells_its_fault_at_each_read(rt: HostRuntime) ->
     Ok(())
 }
 
+/// Whether a run whose text fails at this read ends with its fault, before anything is written.
+fn is_input_torn(alloc: Global, number: usize) -> bool {
+    let mut output = failing_once(alloc, usize::MAX);
+    let end = run_with(
+        alloc,
+        &mut AMERICAN.as_bytes(),
+        &mut torn(TEXT, number),
+        &mut output,
+    );
+    matches!(&end, Err(RunError::Input(e)) if is_fault(e, TORN)) && output.taken.is_empty()
+}
+
 #[test]
 fn a_torn_input_is_told_at_each_read_and_nothing_is_written(rt: HostRuntime) -> Result<(), Fail> {
     for number in 1..=17 {
-        let mut output = failing_once(rt.alloc(), usize::MAX);
-        let end = run_with(
-            rt.alloc(),
-            &mut AMERICAN.as_bytes(),
-            &mut torn(TEXT, number),
-            &mut output,
-        );
-        holds(
-            matches!(&end, Err(RunError::Input(e)) if e.kind() == ErrorKind::ConnectionReset),
-            number,
-        )?;
-        same_in(number, &output.taken.len(), &0)?;
+        holds(is_input_torn(rt.alloc(), number), number)?;
     }
     Ok(())
 }
@@ -109,7 +111,7 @@ fn readers_of_one_byte_a_read_change_nothing(rt: HostRuntime) -> Result<(), Fail
 
 #[test]
 fn an_input_that_wants_memory_is_want_of_memory(rt: HostRuntime) -> Result<(), Fail> {
-    let mut input = failing(TEXT, 5, ErrorKind::OutOfMemory);
+    let mut input = failing(TEXT, 5, NO_MEMORY);
     let mut output = failing_once(rt.alloc(), usize::MAX);
     let end = run_with(
         rt.alloc(),
@@ -124,21 +126,19 @@ fn an_input_that_wants_memory_is_want_of_memory(rt: HostRuntime) -> Result<(), F
     same(&output.taken.len(), &0)
 }
 
+/// Whether a run whose writer fails at this write ends with its fault, after the bytes before it.
+fn is_output_cut(alloc: Global, number: usize) -> bool {
+    let mut output = failing_once(alloc, number);
+    let end = run_with(alloc, &mut AMERICAN.as_bytes(), &mut &TEXT[..], &mut output);
+    matches!(&end, Err(RunError::Output(e)) if is_fault(e, BROKEN_PIPE))
+        && output.taken.len() + 1 == number
+        && MARKED.starts_with(&output.taken)
+}
+
 #[test]
 fn a_writer_that_fails_once_has_a_beginning_of_the_result(rt: HostRuntime) -> Result<(), Fail> {
     for number in 1..=19 {
-        let mut output = failing_once(rt.alloc(), number);
-        let end = run_with(
-            rt.alloc(),
-            &mut AMERICAN.as_bytes(),
-            &mut &TEXT[..],
-            &mut output,
-        );
-        holds(
-            matches!(&end, Err(RunError::Output(e)) if e.kind() == ErrorKind::BrokenPipe),
-            number,
-        )?;
-        same_bytes(number, &output.taken, &MARKED[..number - 1])?;
+        holds(is_output_cut(rt.alloc(), number), number)?;
     }
     Ok(())
 }
@@ -153,7 +153,7 @@ struct Narrow {
 impl Write for Narrow {
     fn write(&mut self, buf: &[u8]) -> io::Result<usize> {
         if self.room == 0 {
-            return Err(io::Error::from(ErrorKind::OutOfMemory));
+            return Err(fault(NO_MEMORY));
         }
         let count = buf.len().min(self.room);
         self.room -= count;
@@ -166,56 +166,55 @@ impl Write for Narrow {
     }
 }
 
+/// A run in this language that writes the values of `firkin`.
+fn run_values(alloc: Global, language: Language, writer: &mut Narrow) -> Result<(), RunError> {
+    let mut reader = FIRKIN.as_bytes();
+    run_score(
+        alloc,
+        Kind::Standard,
+        language,
+        "firkin",
+        &mut reader,
+        writer,
+    )
+}
+
+/// Fails where a run whose writer has room for so many bytes is not told its fault, after these were taken.
+fn is_narrow(alloc: Global, language: Language, room: usize) -> Result<(), Fail> {
+    let mut writer = Narrow { room, taken: 0 };
+    let end = run_values(alloc, language, &mut writer);
+    holds(
+        matches!(&end, Err(RunError::Output(e)) if is_fault(e, NO_MEMORY)),
+        room,
+    )?;
+    same_in(format_args!("room {room}"), &writer.taken, &room)
+}
+
 #[test]
 fn a_writer_that_fails_is_a_fault_of_the_output(rt: HostRuntime) -> Result<(), Fail> {
     let language = Language::from_code("en-gb").ok_or("a code")?;
     for room in [0, 1, 9] {
-        let mut reader = FIRKIN.as_bytes();
-        let mut writer = Narrow { room, taken: 0 };
-        let answer = run_score(
-            rt.alloc(),
-            Kind::Standard,
-            language,
-            "firkin",
-            &mut reader,
-            &mut writer,
-        );
-        holds(matches!(answer, Err(RunError::Output(_))), room)?;
-        same_in(format_args!("room {room}"), &writer.taken, &room)?;
+        is_narrow(rt.alloc(), language, room)?;
     }
-    let mut reader = FIRKIN.as_bytes();
+    Ok(())
+}
+
+#[test]
+fn a_line_has_room_in_as_many_bytes_as_it_has(rt: HostRuntime) -> Result<(), Fail> {
+    let language = Language::from_code("en-gb").ok_or("a code")?;
     let mut writer = Narrow { room: 10, taken: 0 };
-    holds(
-        run_score(
-            rt.alloc(),
-            Kind::Standard,
-            language,
-            "firkin",
-            &mut reader,
-            &mut writer,
-        )
-        .is_ok(),
-        "the line has room in ten bytes",
-    )?;
+    let end = run_values(rt.alloc(), language, &mut writer);
+    holds(end.is_ok(), "it is written")?;
     same(&writer.taken, &10)
 }
 
 #[test]
 fn a_run_that_is_refused_writes_nothing(rt: HostRuntime) -> Result<(), Fail> {
-    let language = Language::from_code("en-us").ok_or("a code")?;
-    let mut reader = FIRKIN.as_bytes();
     let mut writer = Narrow { room: 10, taken: 0 };
-    let answer = run_score(
-        rt.alloc(),
-        Kind::Standard,
-        language,
-        "firkin",
-        &mut reader,
-        &mut writer,
-    );
+    let end = run_values(rt.alloc(), Language::english_us(), &mut writer);
     holds(
         matches!(
-            answer,
+            end,
             Err(RunError::Dictionary(Error::LanguageMismatch { .. }))
         ),
         "another language is told",

@@ -85,48 +85,52 @@ fn refuses_after(alloc: Global, kind: Kind, cases: &[(&[&str], usize)]) -> Resul
     Ok(())
 }
 
+const VERSE: &str =
+    "hyphenation 1 standard\nlanguage en-us\nminima 2 3\ne noble 2\ne accents 2\ne lucid 2\ne inescapable 2";
+
+const LAKE: &str =
+    "hyphenation 1 standard\nlanguage en-us\nminima 2 3\ne burning 4\ne sulphur 3\ne unconsumed 2 5\n";
+
+/// A dictionary, a mark, a text, and what is written.
+const PIECES: [(&str, &str, &str, &str); 8] = [
+    (
+        VERSE,
+        "-",
+        "I know noble accents / And lucid, inescapable rhythms; […]",
+        "I know no-ble ac-cents / And lu-cid, in-escapable rhythms; […]",
+    ),
+    (
+        VERSE,
+        "",
+        "I know noble accents / And lucid, inescapable rhythms; […]",
+        "I know noble accents / And lucid, inescapable rhythms; […]",
+    ),
+    (
+        VERSE,
+        "\u{ad}",
+        "Noble LUCID\n",
+        "No\u{ad}ble LU\u{ad}CID\n",
+    ),
+    (
+        LAKE,
+        "-",
+        "ever-burning sulphur unconsumed",
+        "ever-burn-ing sul-phur un-con-sumed",
+    ),
+    (AMERICAN, "-", "Firkin, firkins.", "Fir-kin, fir-k-ins."),
+    (AMERICAN, "-", "", ""),
+    (AMERICAN, "=", "fir\u{ad}kin", "fir=\u{ad}kin"),
+    (
+        AMERICAN,
+        "-",
+        "\u{feff}firkin\r\n\0FIRKIN",
+        "\u{feff}fir-kin\r\n\0FIR-KIN",
+    ),
+];
+
 #[test]
 fn each_piece_between_word_bounds_is_hyphenated(rt: HostRuntime) -> Result<(), Fail> {
-    let verse =
-        "hyphenation 1 standard\nlanguage en-us\nminima 2 3\ne noble 2\ne accents 2\ne lucid 2\ne inescapable 2";
-    let lake =
-        "hyphenation 1 standard\nlanguage en-us\nminima 2 3\ne burning 4\ne sulphur 3\ne unconsumed 2 5\n";
-    let cases: [(&str, &str, &str, &str); 8] = [
-        (
-            verse,
-            "-",
-            "I know noble accents / And lucid, inescapable rhythms; […]",
-            "I know no-ble ac-cents / And lu-cid, in-escapable rhythms; […]",
-        ),
-        (
-            verse,
-            "",
-            "I know noble accents / And lucid, inescapable rhythms; […]",
-            "I know noble accents / And lucid, inescapable rhythms; […]",
-        ),
-        (
-            verse,
-            "\u{ad}",
-            "Noble LUCID\n",
-            "No\u{ad}ble LU\u{ad}CID\n",
-        ),
-        (
-            lake,
-            "-",
-            "ever-burning sulphur unconsumed",
-            "ever-burn-ing sul-phur un-con-sumed",
-        ),
-        (AMERICAN, "-", "Firkin, firkins.", "Fir-kin, fir-k-ins."),
-        (AMERICAN, "-", "", ""),
-        (AMERICAN, "=", "fir\u{ad}kin", "fir=\u{ad}kin"),
-        (
-            AMERICAN,
-            "-",
-            "\u{feff}firkin\r\n\0FIRKIN",
-            "\u{feff}fir-kin\r\n\0FIR-KIN",
-        ),
-    ];
-    for (dictionary, mark, text, wanted) in cases {
+    for (dictionary, mark, text, wanted) in &PIECES {
         let ran = run_by(
             rt.alloc(),
             Kind::Standard,
@@ -140,48 +144,50 @@ fn each_piece_between_word_bounds_is_hyphenated(rt: HostRuntime) -> Result<(), F
     Ok(())
 }
 
+const DONE: [(&[&str], &str); 7] = [
+    (&[], "Fir-kin, fir-k-ins."),
+    (&["+firkins 3"], "Fir-kin, fir-kins."),
+    (&["+firkins 3", "-firkins"], "Fir-kin, fir-k-ins."),
+    (&["-firkins", "+firkins 3"], "Fir-kin, fir-kins."),
+    (&["+firkins"], "Fir-kin, firkins."),
+    (&["-other"], "Fir-kin, fir-k-ins."),
+    (
+        &["+firkins 3", "+firkins 4", "+firkin"],
+        "Firkin, firk-ins.",
+    ),
+];
+
 #[test]
 fn edits_are_done_from_first_to_last(rt: HostRuntime) -> Result<(), Fail> {
-    let cases: [(&[&str], &str); 7] = [
-        (&[], "Fir-kin, fir-k-ins."),
-        (&["+firkins 3"], "Fir-kin, fir-kins."),
-        (&["+firkins 3", "-firkins"], "Fir-kin, fir-k-ins."),
-        (&["-firkins", "+firkins 3"], "Fir-kin, fir-kins."),
-        (&["+firkins"], "Fir-kin, firkins."),
-        (&["-other"], "Fir-kin, fir-k-ins."),
-        (
-            &["+firkins 3", "+firkins 4", "+firkin"],
-            "Firkin, firk-ins.",
-        ),
-    ];
-    writes_after(rt.alloc(), Kind::Standard, &cases)
+    writes_after(rt.alloc(), Kind::Standard, &DONE)
 }
+
+const REFUSED: [(&[&str], usize); 20] = [
+    (&["+"], 1),
+    (&["-"], 1),
+    (&[""], 1),
+    (&["firkins 3"], 1),
+    (&["+firkins 8"], 1),
+    (&["+firkins 3 3"], 1),
+    (&["+firkins 03"], 1),
+    (&["+firkins x"], 1),
+    (&["+firkins 1,0,0,0,x"], 1),
+    (&["+firkins  3"], 1),
+    (&["+ firkins 3"], 1),
+    (&["+fir\\kins 3"], 1),
+    (&["+fir\nkins 3"], 1),
+    (&["-fir\nkins"], 1),
+    (&["+é 1"], 1),
+    (&["-firkins 3"], 1),
+    (&["-firkins "], 1),
+    (&["-other", "*firkins"], 2),
+    (&["+firkins 3", "-a", "+a\r"], 3),
+    (&["+a", "+b 2", "+c 2"], 2),
+];
 
 #[test]
 fn the_first_edit_that_is_refused_is_told(rt: HostRuntime) -> Result<(), Fail> {
-    let cases: [(&[&str], usize); 20] = [
-        (&["+"], 1),
-        (&["-"], 1),
-        (&[""], 1),
-        (&["firkins 3"], 1),
-        (&["+firkins 8"], 1),
-        (&["+firkins 3 3"], 1),
-        (&["+firkins 03"], 1),
-        (&["+firkins x"], 1),
-        (&["+firkins 1,0,0,0,x"], 1),
-        (&["+firkins  3"], 1),
-        (&["+ firkins 3"], 1),
-        (&["+fir\\kins 3"], 1),
-        (&["+fir\nkins 3"], 1),
-        (&["-fir\nkins"], 1),
-        (&["+é 1"], 1),
-        (&["-firkins 3"], 1),
-        (&["-firkins "], 1),
-        (&["-other", "*firkins"], 2),
-        (&["+firkins 3", "-a", "+a\r"], 3),
-        (&["+a", "+b 2", "+c 2"], 2),
-    ];
-    refuses_after(rt.alloc(), Kind::Standard, &cases)?;
+    refuses_after(rt.alloc(), Kind::Standard, &REFUSED)?;
     let edits = ["-\\e", "+a\\sb 1"];
     let ran = run_by(rt.alloc(), Kind::Standard, AMERICAN, &edits, "-", b"");
     ran.has_written(format_args!("{edits:?}"), "")
@@ -255,30 +261,32 @@ fn a_text_that_is_not_utf_8_is_refused(rt: HostRuntime) -> Result<(), Fail> {
     same(&ran.output.len(), &0)
 }
 
+const CHANGED: [(&[&str], &str); 5] = [
+    (&[], "Az asz-szony-nyal."),
+    (&["+asszonnyal 2,1,2,2,szsz"], "Az asz-szonnyal."),
+    (&["+asszonnyal 3"], "Az ass-zonnyal."),
+    (&["-asszonnyal"], "Az asszonnyal."),
+    (
+        &["-asszonnyal", "+asszonnyal 6,1,2,2,nyny"],
+        "Az asszony-nyal.",
+    ),
+];
+
 #[test]
 fn letters_are_changed_where_a_text_is_broken(rt: HostRuntime) -> Result<(), Fail> {
-    let cases: [(&[&str], &str); 5] = [
-        (&[], "Az asz-szony-nyal."),
-        (&["+asszonnyal 2,1,2,2,szsz"], "Az asz-szonnyal."),
-        (&["+asszonnyal 3"], "Az ass-zonnyal."),
-        (&["-asszonnyal"], "Az asszonnyal."),
-        (
-            &["-asszonnyal", "+asszonnyal 6,1,2,2,nyny"],
-            "Az asszony-nyal.",
-        ),
-    ];
-    writes_after(rt.alloc(), Kind::Extended, &cases)
+    writes_after(rt.alloc(), Kind::Extended, &CHANGED)
 }
+
+const REFUSED_OF_CHANGES: [(&[&str], usize); 4] = [
+    (&["+asszonnyal 2,1,2,9,szsz"], 1),
+    (&["+asszonnyal 2,3,2,2,szsz"], 1),
+    (&["-asszonnyal 2"], 1),
+    (&["+asszonnyal 2,1,2,2,szsz", "+a 2"], 2),
+];
 
 #[test]
 fn edits_of_an_extended_dictionary_are_judged_by_its_kind(rt: HostRuntime) -> Result<(), Fail> {
-    let cases: [(&[&str], usize); 4] = [
-        (&["+asszonnyal 2,1,2,9,szsz"], 1),
-        (&["+asszonnyal 2,3,2,2,szsz"], 1),
-        (&["-asszonnyal 2"], 1),
-        (&["+asszonnyal 2,1,2,2,szsz", "+a 2"], 2),
-    ];
-    refuses_after(rt.alloc(), Kind::Extended, &cases)
+    refuses_after(rt.alloc(), Kind::Extended, &REFUSED_OF_CHANGES)
 }
 
 /// Three texts after another, hyphenated by a dictionary.

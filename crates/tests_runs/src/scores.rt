@@ -6,8 +6,9 @@ use hyphenation::load::{Cause, Error};
 use std::alloc::Global;
 use std::test::Fail;
 use test_dictionaries::{AMERICAN, FIRKIN, extended_text};
+use test_support::faults::{BROKEN_PIPE, is_fault};
 use test_support::writers::failing_once;
-use test_support::{holds, same_bytes, wrote};
+use test_support::{holds, wrote};
 
 /// Fails where a run in this language does not write this line of the values of a word.
 fn writes_values(alloc: Global, language: Language, word: &str, line: &str) -> Result<(), Fail> {
@@ -88,21 +89,26 @@ fn a_run_takes_a_text_of_its_kind_alone(rt: HostRuntime) -> Result<(), Fail> {
     )
 }
 
+/// Whether a run whose writer fails at this write ends with its fault, after the bytes of this line before it.
+fn is_cut(alloc: Global, line: &[u8], number: usize) -> bool {
+    let mut output = failing_once(alloc, number);
+    let end = run_score(
+        alloc,
+        Kind::Standard,
+        Language::english_us(),
+        "firkin",
+        &mut AMERICAN.as_bytes(),
+        &mut output,
+    );
+    matches!(&end, Err(RunError::Output(e)) if is_fault(e, BROKEN_PIPE))
+        && output.taken.len() + 1 == number
+        && line.starts_with(&output.taken)
+}
+
 #[test]
 fn a_write_that_fails_once_ends_a_line_of_values(rt: HostRuntime) -> Result<(), Fail> {
-    let line = b"0 2 5 2 0\n";
-    for number in 1..=line.len() {
-        let mut output = failing_once(rt.alloc(), number);
-        let end = run_score(
-            rt.alloc(),
-            Kind::Standard,
-            Language::english_us(),
-            "firkin",
-            &mut AMERICAN.as_bytes(),
-            &mut output,
-        );
-        holds(matches!(end, Err(RunError::Output(_))), number)?;
-        same_bytes(number, &output.taken, &line[..number - 1])?;
+    for number in 1..=10 {
+        holds(is_cut(rt.alloc(), b"0 2 5 2 0\n", number), number)?;
     }
     Ok(())
 }

@@ -21,7 +21,7 @@ fn winners_by(alloc: Global, lines: &str, words: &str) -> Result<String, Fail> {
 fn of_equal_values_the_winner_is_the_key_that_starts_first(rt: HostRuntime) -> Result<(), Fail> {
     gives(
         winners_by(rt.alloc(), "p a1b\np ca1bd 2,1,0,1,x", "cabd"),
-        "0 1x 0 ,",
+        "0 1,1,0,1,x 0 ,",
     )?;
     gives(
         winners_by(rt.alloc(), "p a1b 1,1,0,1,x\np ca1bd", "cabd"),
@@ -33,7 +33,7 @@ fn of_equal_values_the_winner_is_the_key_that_starts_first(rt: HostRuntime) -> R
 fn of_keys_that_start_alike_the_winner_is_the_shortest(rt: HostRuntime) -> Result<(), Fail> {
     gives(
         winners_by(rt.alloc(), "p a1b 1,1,0,1,x\np a1bd", "abd"),
-        "1x 0 ,",
+        "1,1,0,1,x 0 ,",
     )
 }
 
@@ -50,7 +50,7 @@ fn a_key_that_ends_last_wins_where_it_starts_first(rt: HostRuntime) -> Result<()
     let lines = "p b1c 1,1,0,1,x\np ab1cd\np zab1cde 3,1,0,1,y";
     gives(
         winners_by(rt.alloc(), lines, "zabcde abcd xbc"),
-        "0 0 1y 0 0 ,0 1 0 ,0 1x ,",
+        "0 0 1,1,0,1,y 0 0 ,0 1 0 ,0 1,1,0,1,x ,",
     )
 }
 

@@ -4,7 +4,7 @@ use hyphenation_dictionary::dictionary::Standard;
 use hyphenation_score::Score;
 use std::alloc::Global;
 use std::test::Fail;
-use test_dictionaries::{FIRKIN, dictionary};
+use test_dictionaries::{FIRKIN, dictionary, standard};
 use test_questions::look_ups::counted;
 use test_questions::{Question, asked, values_by};
 use test_support::{gives, holds, same, same_in};
@@ -91,6 +91,31 @@ fn no_byte_is_read_again_where_keys_end(rt: HostRuntime) -> Result<(), Fail> {
         values_by(rt.alloc(), "p aaaaaaa1", TWENTY),
         "0 0 0 0 0 0 1 1 1 1 1 1 1 1 1 1 1 1 1 ,",
     )
+}
+
+/// Where `aab` goes on otherwise than its first two letters, its second letter begins a key.
+#[test]
+fn a_letter_that_begins_a_key_anew_is_found(rt: HostRuntime) -> Result<(), Fail> {
+    gives(values_by(rt.alloc(), "p a1b", "aab"), "0 1 ,")?;
+    let count = counted(rt.alloc(), "p a1b", "aab")?;
+    holds(5 <= count.made() && count.made() <= 10, "5 to 10 look-ups")
+}
+
+#[test]
+fn the_beginning_of_a_key_has_no_value(rt: HostRuntime) -> Result<(), Fail> {
+    gives(values_by(rt.alloc(), "p abc1d", "abc abcd"), "0 0 ,0 0 1 ,")
+}
+
+/// Whether a key with a space, which has two places, has its value at the second.
+fn has_space(alloc: Global) -> Result<bool, Fail> {
+    let dictionary = standard(alloc, "0 0", "p a\\s1b")?;
+    let values = dictionary.score(alloc, "a b")?;
+    Ok(values.as_slice() == [0, 1].as_slice())
+}
+
+#[test]
+fn a_key_may_have_a_space(rt: HostRuntime) -> Result<(), Fail> {
+    holds(has_space(rt.alloc())?, "`a b` has the value 1 at place 2")
 }
 
 /// The number of keys that a dictionary of these lines reports in a word.

@@ -1,8 +1,8 @@
 //! Exceptions, as a text lists them and as callers add and remove them.
 
-use hyphenation::Standard;
-use hyphenation::hyphenator::Hyphenator;
-use hyphenation::load::Error;
+use hyphenation_dictionary::dictionary::Standard;
+use hyphenation_hyphenator::hyphenator::Hyphenator;
+use hyphenation_load::Error;
 use std::alloc::{AllocError, Global};
 use std::test::Fail;
 use test_dictionaries::{FIRKIN, dictionary, standard};
@@ -39,91 +39,54 @@ fn no_pattern_is_found_within_other_bounds(rt: HostRuntime) -> Result<(), Fail> 
     gives(allowed(rt.alloc(), (5, usize::MAX)), "")
 }
 
-/// What was listed for `firkins` before this place was; then the breaks of words.
-fn added(
-    alloc: Global,
-    dictionary: Result<Standard, Error>,
-    place: usize,
-    words: &str,
-) -> Result<String, Fail> {
-    Ok(add(alloc, &mut dictionary?, place, words)?)
+/// The word that is listed, in capitals too, and one that is not.
+const WORDS: &str = "firkins FIRKINS firkin";
+
+/// The answer of a call, and then the breaks of the words.
+fn and_then(alloc: Global, dictionary: &Standard, answer: &str) -> Result<String, AllocError> {
+    let breaks = places(alloc, dictionary, WORDS)?;
+    format!(in alloc; "{answer};{breaks}")
 }
 
-/// The same of a dictionary that was loaded.
-fn add(
-    alloc: Global,
-    dictionary: &mut Standard,
-    place: usize,
-    words: &str,
-) -> Result<String, AllocError> {
-    let mut told = list(alloc, dictionary, place)?;
-    told.push(';')?;
-    told.push_str(&places(alloc, dictionary, words)?)?;
-    Ok(told)
+/// What was listed for `firkins` before this place was; then the breaks of the words.
+fn added(alloc: Global, dictionary: &mut Standard, place: usize) -> Result<String, AllocError> {
+    let old = list(alloc, dictionary, place)?;
+    and_then(alloc, dictionary, &old)
+}
+
+/// What was listed for `firkins` before it was taken out; then the breaks of the words.
+fn removed(alloc: Global, dictionary: &mut Standard) -> Result<String, AllocError> {
+    let old = told_if(alloc, dictionary.remove_exception("firkins"))?;
+    and_then(alloc, dictionary, &old)
 }
 
 #[test]
-fn a_word_that_is_new_has_no_old_list(rt: HostRuntime) -> Result<(), Fail> {
-    let firkin = dictionary(rt.alloc(), FIRKIN);
-    gives(added(rt.alloc(), firkin, 3, "firkins"), "none;3 ,")
+fn a_word_is_added_twice_and_removed_twice(rt: HostRuntime) -> Result<(), Fail> {
+    let mut firkin = dictionary(rt.alloc(), FIRKIN)?;
+    gives(added(rt.alloc(), &mut firkin, 3), "none;3 ,3 ,3 ,")?;
+    gives(added(rt.alloc(), &mut firkin, 4), "3 ;4 ,4 ,3 ,")?;
+    gives(removed(rt.alloc(), &mut firkin), "4 ;3 4 ,3 4 ,3 ,")?;
+    gives(removed(rt.alloc(), &mut firkin), "none;3 4 ,3 4 ,3 ,")
 }
 
-#[test]
-fn a_word_added_again_has_its_new_list(rt: HostRuntime) -> Result<(), Fail> {
-    let words = "firkins FIRKINS firkin";
-    gives(
-        added(rt.alloc(), listing(rt.alloc()), 4, words),
-        "3 ;4 ,4 ,3 ,",
-    )
-}
-
-/// What was listed for `firkins` before it was taken out, and then; after these the breaks of words.
-fn removed(
-    alloc: Global,
-    dictionary: Result<Standard, Error>,
-    words: &str,
-) -> Result<String, Fail> {
-    Ok(remove_twice(alloc, &mut dictionary?, words)?)
-}
-
-/// The same of a dictionary that was loaded.
-fn remove_twice(
-    alloc: Global,
-    dictionary: &mut Standard,
-    words: &str,
-) -> Result<String, AllocError> {
-    let mut told = told_if(alloc, dictionary.remove_exception("firkins"))?;
-    told.push_str(&told_if(alloc, dictionary.remove_exception("firkins"))?)?;
-    told.push(';')?;
-    told.push_str(&places(alloc, dictionary, words)?)?;
-    Ok(told)
-}
-
-#[test]
-fn a_word_that_is_removed_has_its_patterns_again(rt: HostRuntime) -> Result<(), Fail> {
-    gives(
-        removed(rt.alloc(), listing(rt.alloc()), "firkins FIRKINS"),
-        "3 none;3 4 ,3 4 ,",
-    )
-}
+const FITTING: [(&str, &[usize], bool); 8] = [
+    ("firkins", &[3, 3], false),
+    ("firkins", &[4, 3], false),
+    ("é", &[1], false),
+    ("ab", &[3], false),
+    ("ab", &[0, 2], true),
+    ("", &[0], true),
+    ("", &[], true),
+    ("ab", &[0, 1, 2], true),
+];
 
 #[test]
 fn places_fit_a_word_where_they_ascend_on_its_characters(rt: HostRuntime) -> Result<(), Fail> {
-    let cases: [(&str, &[usize], bool); 8] = [
-        ("firkins", &[3, 3], false),
-        ("firkins", &[4, 3], false),
-        ("é", &[1], false),
-        ("ab", &[3], false),
-        ("ab", &[0, 2], true),
-        ("", &[0], true),
-        ("", &[], true),
-        ("ab", &[0, 1, 2], true),
-    ];
-    for (word, places, fits) in cases {
+    for (word, places, fits) in &FITTING {
         same_in(
             format_args!("{word:?} {places:?}"),
             &Standard::fits(word, places),
-            &fits,
+            fits,
         )?;
     }
     Ok(())

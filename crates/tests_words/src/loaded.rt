@@ -1,12 +1,12 @@
 //! What dictionaries answer that were read from texts: beginnings of a text, texts of version 2, and texts that were
 //! written after an edit.
 
-use hyphenation::extended::Extended;
-use hyphenation::load::{Error, Load};
-use hyphenation::{Language, Standard, hyphenate_text};
-use std::alloc::{AllocError, Global};
+use hyphenation_breaks::language::Language;
+use hyphenation_dictionary::dictionary::Standard;
+use hyphenation_load::Load;
+use std::alloc::Global;
 use std::test::Fail;
-use test_dictionaries::{LEAST, extended, second, second_extended};
+use test_dictionaries::{LEAST, second, second_extended};
 use test_questions::{Question, asked, listing, places, values_by};
 use test_support::{gives, same_bytes};
 
@@ -26,40 +26,22 @@ fn accepted_beginnings_give_what_they_spell(rt: HostRuntime) -> Result<(), Fail>
     gives(values_of(rt.alloc(), 54), "1 ,0 ,")
 }
 
-/// A text after another, hyphenated by an extended dictionary.
-fn appended(alloc: Global, dictionary: &Extended) -> Result<String, AllocError> {
-    let mut page = String::from_str(alloc, "(")?;
-    hyphenate_text(alloc, &mut page, dictionary, "Az asszonnyal.", "-")?;
-    Ok(page)
-}
-
-/// The same where the dictionary was loaded.
-fn appended_by(alloc: Global, dictionary: Result<Extended, Error>) -> Result<String, Fail> {
-    Ok(appended(alloc, &dictionary?)?)
-}
-
-#[test]
-fn a_text_is_appended_by_an_extended_dictionary(rt: HostRuntime) -> Result<(), Fail> {
-    let line = "e asszonnyal 2,1,2,2,szsz 6,1,2,2,nyny";
-    let dictionary = extended(rt.alloc(), "2 2", line);
-    gives(appended_by(rt.alloc(), dictionary), "(Az asz-szony-nyal.")
-}
-
-/// The values of words, and then the places of their breaks, by a dictionary of version 2.
+/// The values of words, the places of their breaks, and the words with `=` at these, by a dictionary of version 2.
 fn answers(alloc: Global, lines: &str, words: &str) -> Result<String, Fail> {
     let mut found = asked(alloc, second(alloc, lines), Question::Values(words))?;
-    push_places(alloc, &mut found, second(alloc, lines), words)?;
+    push_answer(&mut found, alloc, lines, Question::Places(words))?;
+    push_answer(&mut found, alloc, lines, Question::Marked(words))?;
     Ok(found)
 }
 
-/// Writes the places of the breaks of words.
-fn push_places(
-    alloc: Global,
+/// Writes the answer to another question.
+fn push_answer(
     found: &mut String,
-    dictionary: Result<Standard, Error>,
-    words: &str,
+    alloc: Global,
+    lines: &str,
+    question: Question<'_>,
 ) -> Result<(), Fail> {
-    found.push_str(&asked(alloc, dictionary, Question::Places(words))?)?;
+    found.push_str(&asked(alloc, second(alloc, lines), question)?)?;
     Ok(())
 }
 
@@ -67,21 +49,21 @@ fn push_places(
 fn a_number_in_braces_is_one_value(rt: HostRuntime) -> Result<(), Fail> {
     gives(
         answers(rt.alloc(), "p a{11}b\np a5b.", "ab abc"),
-        "11 ,11 0 ,1 ,1 ,",
+        "11 ,11 0 ,1 ,1 ,a=b a=bc ",
     )?;
-    gives(answers(rt.alloc(), "p a{12}b\np .a{11}b", "ab"), "12 ,,")
+    gives(answers(rt.alloc(), "p a{12}b\np .a{11}b", "ab"), "12 ,,ab ")
 }
 
 #[test]
 fn the_greatest_and_the_least_value_are_read(rt: HostRuntime) -> Result<(), Fail> {
-    gives(answers(rt.alloc(), "p a{255}b", "ab"), "255 ,1 ,")?;
-    gives(answers(rt.alloc(), "p a1b", "ab"), "1 ,1 ,")
+    gives(answers(rt.alloc(), "p a{255}b", "ab"), "255 ,1 ,a=b ")?;
+    gives(answers(rt.alloc(), "p a1b", "ab"), "1 ,1 ,a=b ")
 }
 
 #[test]
 fn a_key_of_braces_is_one_in_both_versions(rt: HostRuntime) -> Result<(), Fail> {
     gives(values_by(rt.alloc(), "p {1}", "{}"), "1 ,")?;
-    gives(answers(rt.alloc(), "p \\{1\\}", "{}"), "1 ,1 ,")
+    gives(answers(rt.alloc(), "p \\{1\\}", "{}"), "1 ,1 ,{=} ")
 }
 
 #[test]
@@ -89,12 +71,12 @@ fn an_extended_text_has_changes_at_values_in_braces(rt: HostRuntime) -> Result<(
     let dictionary = second_extended(rt.alloc(), "p a{11}b 1,1,0,1,x\np a5bc");
     gives(
         asked(rt.alloc(), dictionary, Question::Values("ab")),
-        "11x ,",
+        "11,1,0,1,x ,",
     )
 }
 
 /// The text of the dictionary of `firkin` with the place 3 listed for `firkins`.
-fn edited(alloc: Global) -> Result<Vec<u8>, Error> {
+fn edited(alloc: Global) -> Result<Vec<u8>, Fail> {
     let dictionary = listing(alloc)?;
     let mut written = Vec::new(alloc);
     dictionary.to_writer(alloc, &mut written)?;

@@ -1,8 +1,8 @@
 //! How words are broken by dictionaries that are read from texts.
 
-use hyphenation::Standard;
-use hyphenation::hyphenator::{Hyphenator, Word};
-use hyphenation::iter::Iter;
+use hyphenation_dictionary::dictionary::Standard;
+use hyphenation_hyphenator::hyphenator::Hyphenator;
+use hyphenation_segments::iter::Iter;
 use std::alloc::{AllocError, Global};
 use std::test::Fail;
 use test_dictionaries::{FIRKIN, dictionary};
@@ -18,6 +18,9 @@ const NAMES: &str =
 const SHORT: &str = "hyphenation 1 standard\nlanguage x\nminima 1 1\ne ißab 3\ne ⱥab 4\np q1q\n";
 
 const PATTERNS: &str = "hyphenation 1 standard\nlanguage x\nminima 1 1\np i1l\np ß1a\np ⱥa1b\n";
+
+/// A pattern, and two letters before and after each break.
+const TWO_LETTERS: &str = "hyphenation 1 standard\nlanguage en-us\nminima 2 2\np i1l\n";
 
 /// The breaks of words by the dictionary of a text.
 fn places_by(alloc: Global, text: &str, words: &str) -> Result<String, Fail> {
@@ -59,13 +62,18 @@ fn places_after_letters_of_another_length_are_carried_back(rt: HostRuntime) -> R
     gives(
         places_by(rt.alloc(), PATTERNS, "\u{212a}ilim İẞab ȺAB"),
         "4 ,5 ,3 ,",
-    )
+    )?;
+    gives(places_by(rt.alloc(), TWO_LETTERS, "\u{212a}ilim"), "4 ,")
 }
 
 #[test]
 fn soft_hyphens_alone_break_their_word(rt: HostRuntime) -> Result<(), Fail> {
     let words = "\u{ad}ab fir\u{ad}kin ri\u{ad}bo\u{ad}nu\u{ad}cle\u{ad}ase";
-    gives(places_by(rt.alloc(), FIRKIN, words), "0 ,3 ,2 6 10 15 ,")
+    gives(places_by(rt.alloc(), FIRKIN, words), "0 ,3 ,2 6 10 15 ,")?;
+    gives(
+        marked_words(rt.alloc(), words),
+        "=\u{ad}ab fir=\u{ad}kin ri=\u{ad}bo=\u{ad}nu=\u{ad}cle=\u{ad}ase ",
+    )
 }
 
 /// Words with marks at their breaks, by the dictionary of exceptions.
@@ -75,8 +83,8 @@ fn marked_words(alloc: Global, words: &str) -> Result<String, Fail> {
 
 #[test]
 fn marks_stand_at_the_breaks(rt: HostRuntime) -> Result<(), Fail> {
-    let words = "hyphenation CAPITAL MUCİLAGİNOUS bevies \u{ad}ab  Hypha";
-    let broken = "hy=phen=a=tion CAP=I=TAL MU=CİLAGİ=NOUS bevies =\u{ad}ab  Hy=pha ";
+    let words = "anfractuous hyphenation CAPITAL MUCİLAGİNOUS bevies \u{ad}ab  Hypha";
+    let broken = "an=frac=tu=ous hy=phen=a=tion CAP=I=TAL MU=CİLAGİ=NOUS bevies =\u{ad}ab  Hy=pha ";
     gives(marked_words(rt.alloc(), words), broken)
 }
 
@@ -116,4 +124,40 @@ fn the_parts_of_a_long_word_join_to_it(rt: HostRuntime) -> Result<(), Fail> {
         holds(is_joined(rt.alloc(), &dictionary, word)?, word)?;
     }
     Ok(())
+}
+
+/// The hints of a word's segments, before the first one and after each.
+fn hints(alloc: Global, dictionary: &Standard, word: &str) -> Result<String, AllocError> {
+    let found = dictionary.hyphenate(alloc, word)?;
+    let mut segments = found.iter().segments();
+    let mut hints = String::new(alloc);
+    for _ in 0..=found.breaks.len() {
+        push_hint(&mut hints, alloc, segments.size_hint())?;
+        let _segment = segments.next();
+    }
+    push_hint(&mut hints, alloc, segments.size_hint())?;
+    Ok(hints)
+}
+
+/// Writes a hint.
+fn push_hint(
+    hints: &mut String,
+    alloc: Global,
+    hint: (usize, Option<usize>),
+) -> Result<(), AllocError> {
+    let hint = format!(in alloc; "{hint:?} ")?;
+    hints.push_str(&hint)
+}
+
+#[test]
+fn hints_count_the_segments_to_come(rt: HostRuntime) -> Result<(), Fail> {
+    let dictionary = dictionary(rt.alloc(), WORDS)?;
+    gives(
+        hints(rt.alloc(), &dictionary, "bevies"),
+        "(1, Some(1)) (0, Some(0)) ",
+    )?;
+    gives(
+        hints(rt.alloc(), &dictionary, "hypha"),
+        "(2, Some(2)) (1, Some(1)) (0, Some(0)) ",
+    )
 }

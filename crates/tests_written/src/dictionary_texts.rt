@@ -2,10 +2,9 @@
 
 use hyphenation_breaks::extended::Subregion;
 use hyphenation_dictionary::dictionary::{Extended, Standard};
-use hyphenation_grammar::Cause;
 use hyphenation_reader::reader::{Refusal, read_extended, read_standard};
 use hyphenation_writer::writer::{write_extended, write_standard};
-use std::alloc::{AllocError, Global};
+use std::alloc::Global;
 use std::test::Fail;
 use test_support::{holds, same, same_bytes};
 
@@ -65,28 +64,6 @@ fn all_after_the_fourth_comma_is_the_substitution(rt: HostRuntime) -> Result<(),
         &dictionary.listed("ab"),
         &Some([(1, Some(change))].as_slice()),
     )
-}
-
-/// The fault for which an extended text of three good head lines and this one is refused, if any.
-fn fault_of(alloc: Global, line: &str) -> Result<Option<(usize, Cause)>, AllocError> {
-    let text = format!(in alloc; "hyphenation 1 extended\nlanguage hu\nminima 2 2\n{line}\n")?;
-    match read_extended(alloc, text.as_bytes()) {
-        Ok(_) => Ok(None),
-        Err(Refusal::Memory) => Err(AllocError),
-        Err(Refusal::Fault { line, cause }) => Ok(Some((line, cause))),
-    }
-}
-
-#[test]
-fn a_breakpoint_within_a_character_is_refused(rt: HostRuntime) -> Result<(), Fail> {
-    let fault = fault_of(rt.alloc(), "e ab 1,0,0,1,é")?;
-    same(&fault, &Some((4, Cause::Change)))
-}
-
-#[test]
-fn an_empty_text_is_no_number(rt: HostRuntime) -> Result<(), Fail> {
-    let fault = fault_of(rt.alloc(), "e ab 1,0,\\e,0,x")?;
-    same(&fault, &Some((4, Cause::Token)))
 }
 
 fn standard_again(alloc: Global, text: &[u8]) -> Result<Vec<u8>, Refusal> {

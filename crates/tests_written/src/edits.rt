@@ -32,83 +32,73 @@ fn judged(alloc: Global, edit: &str) -> Result<(bool, bool), Fail> {
     Ok((is_standard(alloc, edit)?, is_extended(alloc, edit)?))
 }
 
-#[test]
-fn some_edits_are_good_for_both_kinds(rt: HostRuntime) -> Result<(), Fail> {
-    let edits: [&str; 11] = [
-        "+firkins",
-        "+firkins 3 4",
-        "+other 3",
-        "+other",
-        "+\\e",
-        "+a{b",
-        "+ab 0 1 2",
-        "-other",
-        "-firkins",
-        "-\\e",
-        "-a\\sb",
-    ];
+/// Fails where one of these edits is not judged so by a standard dictionary and by an extended one.
+fn each_is_judged(alloc: Global, edits: &[&str], wanted: (bool, bool)) -> Result<(), Fail> {
     for edit in edits {
-        same_in(
-            format_args!("{edit:?}"),
-            &judged(rt.alloc(), edit)?,
-            &(true, true),
-        )?;
+        same_in(format_args!("{edit:?}"), &judged(alloc, edit)?, &wanted)?;
     }
     Ok(())
 }
+
+const GOOD: [&str; 11] = [
+    "+firkins",
+    "+firkins 3 4",
+    "+other 3",
+    "+other",
+    "+\\e",
+    "+a{b",
+    "+ab 0 1 2",
+    "-other",
+    "-firkins",
+    "-\\e",
+    "-a\\sb",
+];
+
+#[test]
+fn some_edits_are_good_for_both_kinds(rt: HostRuntime) -> Result<(), Fail> {
+    each_is_judged(rt.alloc(), &GOOD, (true, true))
+}
+
+const REFUSED: [&str; 23] = [
+    "",
+    "+",
+    "-",
+    "*firkins",
+    "firkins",
+    " +firkins",
+    "+ firkins",
+    "+firkins ",
+    "+firkins  3",
+    "+firkins 8",
+    "+firkins 4 3",
+    "+firkins 03",
+    "+firkins three",
+    "+esszé 5",
+    "+fir\\kins",
+    "+fir\rkins",
+    "+firkins\n",
+    "-other\n",
+    "-other ",
+    "-firkins 3",
+    "-a 1",
+    "+ab 1,0,0,3,xy",
+    "-ab 1,1,1,1,xy",
+];
 
 #[test]
 fn some_edits_are_refused_by_both_kinds(rt: HostRuntime) -> Result<(), Fail> {
-    let edits: [&str; 23] = [
-        "",
-        "+",
-        "-",
-        "*firkins",
-        "firkins",
-        " +firkins",
-        "+ firkins",
-        "+firkins ",
-        "+firkins  3",
-        "+firkins 8",
-        "+firkins 4 3",
-        "+firkins 03",
-        "+firkins three",
-        "+esszé 5",
-        "+fir\\kins",
-        "+fir\rkins",
-        "+firkins\n",
-        "-other\n",
-        "-other ",
-        "-firkins 3",
-        "-a 1",
-        "+ab 1,0,0,3,xy",
-        "-ab 1,1,1,1,xy",
-    ];
-    for edit in edits {
-        same_in(
-            format_args!("{edit:?}"),
-            &judged(rt.alloc(), edit)?,
-            &(false, false),
-        )?;
-    }
-    Ok(())
+    each_is_judged(rt.alloc(), &REFUSED, (false, false))
 }
+
+const WITH_CHANGES: [&str; 3] = [
+    "+asszonnyal 2,1,2,2,szsz",
+    "+asszonnyal 2,1,2,2,szsz 6,1,2,2,nyny",
+    "+ab 1,1,1,1,xy 2",
+];
 
 #[test]
 fn changes_are_for_extended_dictionaries_alone(rt: HostRuntime) -> Result<(), Fail> {
-    let edits: [&str; 3] = [
-        "+asszonnyal 2,1,2,2,szsz",
-        "+asszonnyal 2,1,2,2,szsz 6,1,2,2,nyny",
-        "+ab 1,1,1,1,xy 2",
-    ];
-    for edit in edits {
-        same_in(
-            format_args!("{edit:?}"),
-            &judged(rt.alloc(), edit)?,
-            &(false, true),
-        )?;
-    }
-    Ok(())
+    each_is_judged(rt.alloc(), &WITH_CHANGES, (false, true))
 }
 
 /// Does an edit, which is to be good or not.

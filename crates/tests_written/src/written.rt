@@ -3,11 +3,11 @@
 use hyphenation_dictionary::dictionary::{Extended, Standard};
 use hyphenation_load::{Error, Load};
 use std::alloc::{AllocError, Global};
-use std::io;
-use std::io::{ErrorKind, Write};
 use std::test::Fail;
-use test_dictionaries::{rewritten, standard};
-use test_support::writers::failing_once;
+use test_dictionaries::{LEAST, extended, rewritten, rewritten_from, standard};
+use test_support::faults::{BROKEN_PIPE, NO_MEMORY, is_fault};
+use test_support::readers::dripping;
+use test_support::writers::failing_at;
 use test_support::{holds, same_bytes};
 
 /// A text of that head, of American English with the minima 2 and 3, and these lines.
@@ -15,16 +15,25 @@ fn text_of(alloc: Global, head: &str, lines: &str) -> Result<String, AllocError>
     format!(in alloc; "{head}\nlanguage en-us\nminima 2 3\n{lines}\n")
 }
 
+/// Patterns and exceptions in no order, with a comment, an empty line and a value of 0.
+const IDLE: &[u8] =
+    b"hyphenation 1 extended\nlanguage hu\nminima 2 2\n# two kinds\n\ne kilim 2\np s1szo0\np .fi2\np a1b 1,1,0,1,x\ne \\e\n";
+
+const ORDERED: &[u8] =
+    b"hyphenation 1 extended\nlanguage hu\nminima 2 2\np .fi2\np a1b 1,1,0,1,x\np s1szo\ne \\e\ne kilim 2\n";
+
+/// Fails where what is written of these texts is not `ORDERED`.
+fn is_put_in_order(alloc: Global, text: &[u8]) -> Result<(), Fail> {
+    let written = rewritten::<Extended>(alloc, text)?;
+    same_bytes("read whole", &written, ORDERED)?;
+    let written = rewritten_from::<Extended, _>(alloc, &mut dripping(text))?;
+    same_bytes("read a byte at a time", &written, ORDERED)
+}
+
 #[test]
 fn lines_ascend_and_nothing_idle_is_written(rt: HostRuntime) -> Result<(), Fail> {
-    let text =
-        "hyphenation 1 extended\nlanguage hu\nminima 2 2\n# two kinds\n\ne kilim 2\np s1szo0\np .fi2\np a1b 1,1,0,1,x\ne \\e\n";
-    let wanted =
-        "hyphenation 1 extended\nlanguage hu\nminima 2 2\np .fi2\np a1b 1,1,0,1,x\np s1szo\ne \\e\ne kilim 2\n";
-    let written = rewritten::<Extended>(rt.alloc(), text.as_bytes())?;
-    same_bytes("once", &written, wanted.as_bytes())?;
-    let again = rewritten::<Extended>(rt.alloc(), &written)?;
-    same_bytes("again", &again, wanted.as_bytes())
+    is_put_in_order(rt.alloc(), IDLE)?;
+    is_put_in_order(rt.alloc(), ORDERED)
 }
 
 const FIRST: &str = "hyphenation 1 standard";
@@ -49,41 +58,44 @@ fn is_written<D: Load + Drop>(
     Ok(written.as_slice() == wanted.as_bytes())
 }
 
+const CANONICAL: [(&str, &str); 11] = [
+    ("p a\\s1b", "p a\\s1b"),
+    ("p x\\11y", "p x\\11y"),
+    ("p a0b", "p ab"),
+    ("p b\np a\np ab", "p a\np ab\np b"),
+    ("p é1a\np z1a", "p z1a\np é1a"),
+    ("e \\e", "e \\e"),
+    ("e \\e 0", "e \\e 0"),
+    (
+        "e b 0\np b1a\ne a\\sb 1 2\np a9b",
+        "p a9b\np b1a\ne a\\sb 1 2\ne b 0",
+    ),
+    ("e a1\\\\\\n\\r{}", "e a1\\\\\\n\\r{}"),
+    ("p \\\\\\n\\r{1}\\0", "p \\\\\\n\\r{1}\\0"),
+    ("# nothing\n\ne zoo", "e zoo"),
+];
+
 #[test]
 fn a_standard_text_is_written_as_is_canonical(rt: HostRuntime) -> Result<(), Fail> {
-    let cases: [(&str, &str); 11] = [
-        ("p a\\s1b", "p a\\s1b"),
-        ("p x\\11y", "p x\\11y"),
-        ("p a0b", "p ab"),
-        ("p b\np a\np ab", "p a\np ab\np b"),
-        ("p é1a\np z1a", "p z1a\np é1a"),
-        ("e \\e", "e \\e"),
-        ("e \\e 0", "e \\e 0"),
-        (
-            "e b 0\np b1a\ne a\\sb 1 2\np a9b",
-            "p a9b\np b1a\ne a\\sb 1 2\ne b 0",
-        ),
-        ("e a1\\\\\\n\\r{}", "e a1\\\\\\n\\r{}"),
-        ("p \\\\\\n\\r{1}\\0", "p \\\\\\n\\r{1}\\0"),
-        ("# nothing\n\ne zoo", "e zoo"),
-    ];
-    for (lines, wanted) in cases {
+    for (lines, wanted) in &CANONICAL {
         let is_so = is_written::<Standard>(rt.alloc(), FIRST, lines, FIRST, wanted)?;
         holds(is_so, lines)?;
     }
     Ok(())
 }
 
+/// Lines of version 2, and the head and the lines that are written.
+const VERSIONS: [(&str, &str, &str); 5] = [
+    ("p a1b", FIRST, "p a1b"),
+    ("p \\{1\\}", FIRST, "p {1}"),
+    ("p \\{1\\}\np a{10}b", SECOND, "p a{10}b\np \\{1\\}"),
+    ("p 1a{255}b9\ne a{}", SECOND, "p 1a{255}b9\ne a{}"),
+    ("p a9b\np b{10}c", SECOND, "p a9b\np b{10}c"),
+];
+
 #[test]
 fn a_text_is_written_in_the_least_version_that_says_it(rt: HostRuntime) -> Result<(), Fail> {
-    let cases: [(&str, &str, &str); 5] = [
-        ("p a1b", FIRST, "p a1b"),
-        ("p \\{1\\}", FIRST, "p {1}"),
-        ("p \\{1\\}\np a{10}b", SECOND, "p a{10}b\np \\{1\\}"),
-        ("p 1a{255}b9\ne a{}", SECOND, "p 1a{255}b9\ne a{}"),
-        ("p a9b\np b{10}c", SECOND, "p a9b\np b{10}c"),
-    ];
-    for (lines, head, wanted) in cases {
+    for (lines, head, wanted) in &VERSIONS {
         let is_so = is_written::<Standard>(rt.alloc(), SECOND, lines, head, wanted)?;
         holds(is_so, lines)?;
     }
@@ -95,165 +107,154 @@ fn is_kept(alloc: Global, head: &str, lines: &str) -> Result<bool, Error> {
     is_written::<Extended>(alloc, head, lines, head, lines)
 }
 
+const EXTENDED: [&str; 3] = [
+    "e ab 1,1,1,2,a,b",
+    "p a1b 1,1,1,0,\\e",
+    "p 1a3b 0,0,1,2,\\s\\n 1,1,0,2,é\\\\",
+];
+
 #[test]
 fn an_extended_text_is_written_as_is_canonical(rt: HostRuntime) -> Result<(), Fail> {
-    let lines = [
-        "p b1c\ne asszonnyal 2,1,2,2,szsz 6,1,2,2,nyny",
-        "e ab 1,1,1,2,a,b",
-        "p a1b 1,1,1,0,\\e",
-        "p 1a3b 0,0,1,2,\\s\\n 1,1,0,2,é\\\\",
-    ];
-    for lines in lines {
+    for lines in &EXTENDED {
         holds(is_kept(rt.alloc(), FIRST_EXTENDED, lines)?, lines)?;
     }
     let second = "p \\{a{11}b 2,1,1,1,{1}";
     holds(is_kept(rt.alloc(), SECOND_EXTENDED, second)?, second)
 }
 
+/// A pattern and an exception in both orders, and an exception with a place within the range before it.
+const AFTER_PATTERNS: [(&str, &str); 3] = [
+    (
+        "p b1c\ne asszonnyal 2,1,2,2,szsz 6,1,2,2,nyny",
+        "p b1c\ne asszonnyal 2,1,2,2,szsz 6,1,2,2,nyny",
+    ),
+    (
+        "e asszonnyal 2,1,2,2,szsz 6,1,2,2,nyny\np b1c",
+        "p b1c\ne asszonnyal 2,1,2,2,szsz 6,1,2,2,nyny",
+    ),
+    (
+        "e asszonnyal 2,1,2,2,szsz 3 6,1,2,2,nyny\np b1c",
+        "p b1c\ne asszonnyal 2,1,2,2,szsz 3 6,1,2,2,nyny",
+    ),
+];
+
 #[test]
 fn exceptions_of_an_extended_text_are_written_after_its_patterns(
     rt: HostRuntime,
 ) -> Result<(), Fail> {
-    let is_so = is_written::<Extended>(
-        rt.alloc(),
-        FIRST_EXTENDED,
-        "e asszonnyal 2,1,2,2,szsz 3 6,1,2,2,nyny\np b1c",
-        FIRST_EXTENDED,
-        "p b1c\ne asszonnyal 2,1,2,2,szsz 3 6,1,2,2,nyny",
-    )?;
-    holds(is_so, "it is kept")
-}
-
-/// Whether these lines are written in the order of the keys, also where the last line feed is wanting.
-fn is_ordered(alloc: Global, lines: &str) -> Result<bool, Error> {
-    let wanted = text_of(alloc, FIRST, "p .fi2\np i2r\np r2k").map_err(Error::Memory)?;
-    let mut text = text_of(alloc, FIRST, lines).map_err(Error::Memory)?;
-    let ended = rewritten::<Standard>(alloc, text.as_bytes())?;
-    let _feed = text.pop();
-    let unended = rewritten::<Standard>(alloc, text.as_bytes())?;
-    Ok(ended.as_slice() == wanted.as_bytes() && unended.as_slice() == wanted.as_bytes())
-}
-
-#[test]
-fn the_order_of_the_lines_read_is_not_seen(rt: HostRuntime) -> Result<(), Fail> {
-    let orders = [
-        "p .fi2\np i2r\np r2k",
-        "p .fi2\np r2k\np i2r",
-        "p i2r\np .fi2\np r2k",
-        "p i2r\np r2k\np .fi2",
-        "p r2k\np .fi2\np i2r",
-        "p r2k\np i2r\np .fi2",
-    ];
-    for lines in orders {
-        holds(is_ordered(rt.alloc(), lines)?, lines)?;
+    for (lines, wanted) in &AFTER_PATTERNS {
+        let (alloc, head) = (rt.alloc(), FIRST_EXTENDED);
+        holds(
+            is_written::<Extended>(alloc, head, lines, head, wanted)?,
+            lines,
+        )?;
     }
     Ok(())
 }
 
-/// Takes a byte a write, and fails at the write of this number, counted from 1.
-#[derive(Drop)]
-struct Narrow {
-    until: usize,
-    kind: ErrorKind,
-    taken: Vec<u8>,
+const ORDERS: [&str; 6] = [
+    "p .fi2\np i2r\np r2k",
+    "p .fi2\np r2k\np i2r",
+    "p i2r\np .fi2\np r2k",
+    "p i2r\np r2k\np .fi2",
+    "p r2k\np .fi2\np i2r",
+    "p r2k\np i2r\np .fi2",
+];
+
+#[test]
+fn the_order_of_the_lines_read_is_not_seen(rt: HostRuntime) -> Result<(), Fail> {
+    let wanted = "p .fi2\np i2r\np r2k";
+    for lines in &ORDERS {
+        let is_so = is_written::<Standard>(rt.alloc(), FIRST, lines, FIRST, wanted)?;
+        holds(is_so, lines)?;
+    }
+    Ok(())
 }
 
-impl Write for Narrow {
-    fn write(&mut self, buf: &[u8]) -> io::Result<usize> {
-        if self.until <= 1 {
-            return Err(io::Error::from(self.kind));
-        }
-        self.until -= 1;
-        match buf.first() {
-            Some(first) => {
-                self.taken.push(*first)?;
-                Ok(1)
-            }
-            None => Ok(0),
-        }
-    }
-
-    fn flush(&mut self) -> io::Result<()> {
-        Ok(())
-    }
-}
-
-/// Whether a dictionary's writing ends with a fault of this kind at the write of this number, after a beginning of its
-/// text.
-fn is_told(
-    alloc: Global,
-    dictionary: &Standard,
-    text: &[u8],
-    kind: ErrorKind,
-    until: usize,
-) -> bool {
-    let mut narrow = Narrow {
-        until,
-        kind,
-        taken: Vec::new(alloc),
-    };
-    let end = dictionary.to_writer(alloc, &mut narrow);
-    matches!(end, Err(Error::IO(e)) if e.kind() == kind) && text.starts_with(&narrow.taken)
-}
-
-/// Whether a fault of this kind is told at each write of a dictionary's text.
-fn is_told_at_each(alloc: Global, kind: ErrorKind) -> Result<bool, Error> {
-    let dictionary = standard(alloc, "2 3", "p a1b")?;
-    let mut text = Vec::new(alloc);
-    dictionary.to_writer(alloc, &mut text)?;
-    let mut all = true;
-    for until in 1..=text.len() {
-        all = all && is_told(alloc, &dictionary, &text, kind, until);
-    }
-    Ok(all)
+/// Whether a text of these lines, without its last line feed, is written as one of those lines.
+fn is_ended(alloc: Global, lines: &str, wanted: &str) -> Result<bool, Error> {
+    let mut text = text_of(alloc, FIRST, lines).map_err(Error::Memory)?;
+    let _feed = text.pop();
+    let written = rewritten::<Standard>(alloc, text.as_bytes())?;
+    let wanted = text_of(alloc, FIRST, wanted).map_err(Error::Memory)?;
+    Ok(written.as_slice() == wanted.as_bytes())
 }
 
 #[test]
-fn a_fault_of_the_writer_is_told(rt: HostRuntime) -> Result<(), Fail> {
-    holds(
-        is_told_at_each(rt.alloc(), ErrorKind::BrokenPipe)?,
-        "each broken pipe is told",
-    )?;
-    holds(
-        is_told_at_each(rt.alloc(), ErrorKind::OutOfMemory)?,
-        "each want of memory is told",
-    )
+fn a_last_line_without_its_line_feed_is_written_with_it(rt: HostRuntime) -> Result<(), Fail> {
+    for lines in &ORDERS {
+        holds(is_ended(rt.alloc(), lines, "p .fi2\np i2r\np r2k")?, lines)?;
+    }
+    Ok(())
 }
 
-/// Whether a writer whose fault would come after the last byte gets the whole text.
-fn is_taken(alloc: Global) -> Result<bool, Error> {
-    let dictionary = standard(alloc, "2 3", "p a1b")?;
-    let text = b"hyphenation 1 standard\nlanguage x\nminima 2 3\np a1b\n";
-    let mut narrow = Narrow {
-        until: text.len() + 1,
-        kind: ErrorKind::BrokenPipe,
-        taken: Vec::new(alloc),
-    };
-    dictionary.to_writer(alloc, &mut narrow)?;
-    Ok(narrow.taken.as_slice() == text.as_slice())
-}
+/// The lengths of the beginnings of the least text that are accepted, and what is written of each.
+const BEGINNINGS: [(usize, &[u8]); 5] = [
+    (48, b"hyphenation 1 standard\nlanguage en-us\nminima 2 3\n"),
+    (49, b"hyphenation 1 standard\nlanguage en-us\nminima 2 3\n"),
+    (
+        52,
+        b"hyphenation 1 standard\nlanguage en-us\nminima 2 3\np a\n",
+    ),
+    (
+        53,
+        b"hyphenation 1 standard\nlanguage en-us\nminima 2 3\np a1\n",
+    ),
+    (
+        54,
+        b"hyphenation 1 standard\nlanguage en-us\nminima 2 3\np a1b\n",
+    ),
+];
 
 #[test]
-fn a_writer_of_a_byte_a_write_gets_the_whole_text(rt: HostRuntime) -> Result<(), Fail> {
-    holds(is_taken(rt.alloc())?, "the whole text is taken")
+fn accepted_beginnings_are_written_as_what_they_spell(rt: HostRuntime) -> Result<(), Fail> {
+    for (length, wanted) in &BEGINNINGS {
+        let (beginning, _) = LEAST.split_at((*length).min(LEAST.len()));
+        let written = rewritten::<Standard>(rt.alloc(), beginning)?;
+        same_bytes(*length, &written, wanted)?;
+    }
+    Ok(())
 }
 
-/// Whether a dictionary's writing ends with the fault of the write of this number, after the bytes before it.
-fn is_cut(alloc: Global, dictionary: &Extended, text: &[u8], number: usize) -> bool {
-    let mut output = failing_once(alloc, number);
+/// Whether a dictionary's writing to a writer of a byte a write ends with the fault of the write of this number, after
+/// the bytes before it.
+fn is_cut<D: Load>(alloc: Global, dictionary: &D, text: &[u8], number: usize, code: i32) -> bool {
+    let mut output = failing_at(alloc, number, code);
     let end = dictionary.to_writer(alloc, &mut output);
-    matches!(end, Err(Error::IO(e)) if e.kind() == ErrorKind::BrokenPipe)
+    matches!(end, Err(Error::IO(e)) if is_fault(&e, code))
         && output.taken.len() + 1 == number
         && text.starts_with(&output.taken)
 }
 
-#[test]
-fn a_write_that_fails_once_ends_a_dictionary(rt: HostRuntime) -> Result<(), Fail> {
-    let text = b"hyphenation 1 extended\nlanguage hu\nminima 2 2\np a1b 1,1,0,1,x\n".as_slice();
-    let mut reader = text;
-    let dictionary = Extended::any_from_reader(rt.alloc(), &mut reader)?;
+/// Whether a writer of a byte a write that does not fail gets this text of a dictionary.
+fn is_taken<D: Load>(alloc: Global, dictionary: &D, text: &[u8]) -> Result<bool, Error> {
+    let mut output = failing_at(alloc, text.len() + 1, BROKEN_PIPE);
+    dictionary.to_writer(alloc, &mut output)?;
+    Ok(output.taken.as_slice() == text)
+}
+
+/// Fails where a fault is not told as it was at a write of a dictionary's text.
+fn each_is_cut<D: Load>(alloc: Global, dictionary: &D, text: &[u8]) -> Result<(), Fail> {
     for number in 1..=text.len() {
-        holds(is_cut(rt.alloc(), &dictionary, text, number), number)?;
+        let is_so = is_cut(alloc, dictionary, text, number, BROKEN_PIPE)
+            && is_cut(alloc, dictionary, text, number, NO_MEMORY);
+        holds(is_so, number)?;
     }
-    Ok(())
+    holds(
+        is_taken(alloc, dictionary, text)?,
+        "the whole text is taken",
+    )
+}
+
+#[test]
+fn a_fault_of_the_writer_is_told(rt: HostRuntime) -> Result<(), Fail> {
+    let text = b"hyphenation 1 standard\nlanguage x\nminima 2 3\np a1b\n";
+    each_is_cut(rt.alloc(), &standard(rt.alloc(), "2 3", "p a1b")?, text)
+}
+
+#[test]
+fn a_fault_of_the_writer_of_an_extended_dictionary_is_told(rt: HostRuntime) -> Result<(), Fail> {
+    let text = b"hyphenation 1 extended\nlanguage hu\nminima 2 2\np a1b 1,1,0,1,x\n";
+    let dictionary = extended(rt.alloc(), "2 2", "p a1b 1,1,0,1,x")?;
+    each_is_cut(rt.alloc(), &dictionary, text)
 }

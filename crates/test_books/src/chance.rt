@@ -1,6 +1,6 @@
 //! Dictionaries and words by chance, the same at each run.
 
-use crate::by_definition::book::{Book, Change, Cut, Listing, Pattern, Value};
+use crate::book::{Book, Change, Cut, Listing, Pattern, Value};
 use std::alloc::{AllocError, Global};
 
 fn capital(c: char) -> char {
@@ -60,6 +60,27 @@ impl Dice {
                 'a', 'b', 'i', 'ß', 'é', 'a', 'b', 'A', 'B', 'İ', 'ẞ', 'É', '.', 'a', 'b',
             ],
         )
+    }
+
+    /// A word of so many bytes: of small letters of one byte, or also of capitals and of longer letters.
+    pub fn word_of(&mut self, alloc: Global, bytes: usize) -> Result<String, AllocError> {
+        let letters: &[char] = if self.one_in(2) {
+            &['a', 'b', 'i']
+        } else {
+            &['a', 'b', 'i', 'A', 'B', 'é', 'ß', 'ẞ']
+        };
+        let mut text = String::new(alloc);
+        for _ in 0..bytes {
+            let at = self.below(letters.len());
+            let c = letters.get(at).copied().unwrap_or('a');
+            let room = bytes.saturating_sub(text.len());
+            if c.len_utf8() <= room {
+                text.push(c)?;
+            } else if room > 0 {
+                text.push('a')?;
+            }
+        }
+        Ok(text)
     }
 
     /// A word, now and then one that the book lists, with capitals.
@@ -150,8 +171,8 @@ impl Dice {
         Ok(Pattern { key, values })
     }
 
-    /// A small dictionary.
-    pub fn book(&mut self, alloc: Global, is_extended: bool) -> Result<Book, AllocError> {
+    /// Fewer than nine patterns, each key once.
+    fn patterns(&mut self, alloc: Global, is_extended: bool) -> Result<Vec<Pattern>, AllocError> {
         let is_first = !self.one_in(4);
         let mut patterns: Vec<Pattern> = Vec::new(alloc);
         for _ in 0..self.below(9) {
@@ -161,14 +182,32 @@ impl Dice {
                 patterns.push(pattern)?;
             }
         }
+        Ok(patterns)
+    }
+
+    /// A word with a list.
+    fn listing(&mut self, alloc: Global, is_extended: bool) -> Result<Listing, AllocError> {
+        let word = self.letters(alloc, 6, &['a', 'b', 'i', 'ß', 'é', 'a'])?;
+        let cuts = self.cuts(alloc, &word, is_extended)?;
+        Ok(Listing { word, cuts })
+    }
+
+    /// Fewer than four listings, each word once.
+    fn listings(&mut self, alloc: Global, is_extended: bool) -> Result<Vec<Listing>, AllocError> {
         let mut listings: Vec<Listing> = Vec::new(alloc);
         for _ in 0..self.below(4) {
-            let word = self.letters(alloc, 6, &['a', 'b', 'i', 'ß', 'é', 'a'])?;
-            if !listings.iter().any(|other| other.word == word) {
-                let cuts = self.cuts(alloc, &word, is_extended)?;
-                listings.push(Listing { word, cuts })?;
+            let listing = self.listing(alloc, is_extended)?;
+            if !listings.iter().any(|other| other.word == listing.word) {
+                listings.push(listing)?;
             }
         }
+        Ok(listings)
+    }
+
+    /// A small dictionary.
+    pub fn book(&mut self, alloc: Global, is_extended: bool) -> Result<Book, AllocError> {
+        let patterns = self.patterns(alloc, is_extended)?;
+        let listings = self.listings(alloc, is_extended)?;
         let (left, right) = (self.below(3), self.below(3));
         Ok(Book {
             left,

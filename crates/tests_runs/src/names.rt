@@ -1,15 +1,16 @@
 //! Names that users have for what stands in the crates below: each is called once by its path in `hyphenation`.
 
-use hyphenation::Iter;
 use hyphenation::case_folding::{Shift, realign, refold};
-use hyphenation::extended::Subregion;
+use hyphenation::extended::{Extended, Subregion};
 use hyphenation::grammar::{Kind, apply_edit};
 use hyphenation::hyphenator::{Word, boundaries_of, soft_hyphen_indices};
 use hyphenation::iter::{Hyphenating, Segments, SegmentsExt, Texts};
+use hyphenation::load::Load;
 use hyphenation::score::{LookUps, Score};
+use hyphenation::{Iter, hyphenate_text};
 use std::alloc::{AllocError, Global};
 use std::test::Fail;
-use test_dictionaries::{FIRKIN, dictionary};
+use test_dictionaries::{DOUBLED, FIRKIN, dictionary};
 use test_support::{gives, holds, same};
 
 #[test]
@@ -70,4 +71,18 @@ fn look_ups_are_counted_and_edits_done(rt: HostRuntime) -> Result<(), Fail> {
         apply_edit(rt.alloc(), Kind::Standard, &mut firkin, "+firkins 3")?,
         "the edit is done",
     )
+}
+
+/// A text after another, hyphenated by an extended dictionary.
+fn appended(alloc: Global, dictionary: &Extended) -> Result<String, AllocError> {
+    let mut page = String::from_str(alloc, "(")?;
+    hyphenate_text(alloc, &mut page, dictionary, "Az asszonnyal.", "-")?;
+    Ok(page)
+}
+
+#[test]
+fn a_text_is_appended_by_an_extended_dictionary(rt: HostRuntime) -> Result<(), Fail> {
+    let mut reader = DOUBLED.as_bytes();
+    let dictionary = Extended::any_from_reader(rt.alloc(), &mut reader)?;
+    gives(appended(rt.alloc(), &dictionary), "(Az asz-szony-nyal.")
 }

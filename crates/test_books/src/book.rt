@@ -83,6 +83,23 @@ impl Pattern {
         Ok(())
     }
 
+    /// The winner of a place, after this key was found where it starts.
+    fn winner(&self, so_far: Option<Bearing>, start: usize, place: usize) -> Option<Bearing> {
+        let mut winner = so_far;
+        for value in &self.values {
+            let bearing = Bearing {
+                value: *value,
+                start,
+                length: self.key.len(),
+            };
+            let bears = start.wrapping_add(value.cut.place) == place.wrapping_add(1);
+            if bears && winner.map_or(true, |best| bearing.beats(&best)) {
+                winner = Some(bearing);
+            }
+        }
+        winner
+    }
+
     fn push_line(&self, text: &mut String, alloc: Global) -> Result<(), AllocError> {
         text.push_str("p ")?;
         for (at, c) in self.key.char_indices() {
@@ -174,23 +191,32 @@ impl Book {
         Ok(())
     }
 
-    /// Its dictionary text.
-    pub fn text(&self, alloc: Global, kind: &str) -> Result<String, AllocError> {
-        let is_first = self.patterns.iter().all(|pattern| pattern
-            .values
-            .iter()
-            .all(|value| value.value <= 9));
-        let version = if is_first { 1 } else { 2 };
+    /// Whether a text of version 1 can say each value.
+    fn is_first(&self) -> bool {
+        self.patterns.iter().all(|pattern| pattern.values.iter().all(|value| value.value <= 9))
+    }
+
+    /// The three head lines of its text.
+    fn head(&self, alloc: Global, kind: &str) -> Result<String, AllocError> {
+        let version = if self.is_first() { 1 } else { 2 };
         let (left, right) = (self.left, self.right);
-        let mut text = format!(in alloc;
-            "hyphenation {version} {kind}\nlanguage en-us\nminima {left} {right}\n"
-        )?;
+        format!(in alloc; "hyphenation {version} {kind}\nlanguage en-us\nminima {left} {right}\n")
+    }
+
+    fn push_lines(&self, text: &mut String, alloc: Global) -> Result<(), AllocError> {
         for pattern in &self.patterns {
-            pattern.push_line(&mut text, alloc)?;
+            pattern.push_line(text, alloc)?;
         }
         for listing in &self.listings {
-            listing.push_line(&mut text, alloc)?;
+            listing.push_line(text, alloc)?;
         }
+        Ok(())
+    }
+
+    /// Its dictionary text.
+    pub fn text(&self, alloc: Global, kind: &str) -> Result<String, AllocError> {
+        let mut text = self.head(alloc, kind)?;
+        self.push_lines(&mut text, alloc)?;
         Ok(text)
     }
 
@@ -202,27 +228,21 @@ impl Book {
         place: usize,
     ) -> Result<Option<Value>, AllocError> {
         let frame = format!(in alloc; ".{word}.")?;
+        Ok(self.value_in(frame.as_bytes(), place))
+    }
+
+    /// The same in a word between two dots.
+    fn value_in(&self, frame: &[u8], place: usize) -> Option<Value> {
         let mut winner: Option<Bearing> = None;
         for start in 0..frame.len() {
-            let after = frame.as_bytes().get(start..).unwrap_or(b"");
+            let after = frame.get(start..).unwrap_or(b"");
             for pattern in &self.patterns {
-                if !after.starts_with(pattern.key.as_bytes()) {
-                    continue;
-                }
-                for value in &pattern.values {
-                    let bearing = Bearing {
-                        value: *value,
-                        start,
-                        length: pattern.key.len(),
-                    };
-                    let bears = start.wrapping_add(value.cut.place) == place.wrapping_add(1);
-                    if bears && winner.map_or(true, |best| bearing.beats(&best)) {
-                        winner = Some(bearing);
-                    }
+                if after.starts_with(pattern.key.as_bytes()) {
+                    winner = pattern.winner(winner, start, place);
                 }
             }
         }
-        Ok(winner.map(|best| best.value))
+        winner.map(|best| best.value)
     }
 
     /// The first and the last place that the minima allow.
@@ -235,72 +255,138 @@ impl Book {
         Some((place_of(word, self.left), place_of(word, last)))
     }
 
-    /// Where a word in small letters may be broken.
-    fn opportunities(&self, alloc: Global, word: &str) -> Result<Vec<Cut>, AllocError> {
-        let mut cuts = Vec::new(alloc);
-        let Some((first, last)) = self.bounds(word) else {
-            return Ok(cuts);
-        };
+    /// The cuts that are listed for a word, if it is listed.
+    fn listed(&self, word: &str) -> Option<&[Cut]> {
         for listing in &self.listings {
             if listing.word.as_str() == word {
-                for cut in &listing.cuts {
-                    if first <= cut.place && cut.place <= last {
-                        cuts.push(*cut)?;
-                    }
-                }
-                return Ok(cuts);
+                return Some(listing.cuts.as_slice());
             }
         }
+        None
+    }
+
+    /// The cut that patterns allow at a place of a word in small letters.
+    fn allowed_at(
+        &self,
+        alloc: Global,
+        word: &str,
+        place: usize,
+    ) -> Result<Option<Cut>, AllocError> {
+        Ok(match self.value_at(alloc, word, place)? {
+            Some(found) if found.value % 2 == 1 => Some(Cut {
+                place,
+                change: found.cut.change,
+            }),
+            _ => None,
+        })
+    }
+
+    /// The cuts that patterns allow in a word in small letters.
+    fn allowed(&self, alloc: Global, word: &str) -> Result<Vec<Cut>, AllocError> {
+        let mut cuts = Vec::new(alloc);
         for place in 1..word.len() {
-            if let Some(found) = self.value_at(alloc, word, place)? {
-                if found.value % 2 == 1 && first <= place && place <= last {
-                    let change = found.cut.change;
-                    cuts.push(Cut { place, change })?;
-                }
+            if let Some(cut) = self.allowed_at(alloc, word, place)? {
+                cuts.push(cut)?;
             }
         }
         Ok(cuts)
     }
 
+    /// Where a word in small letters may be broken, were it not for the minima.
+    fn cuts(&self, alloc: Global, word: &str) -> Result<Vec<Cut>, AllocError> {
+        match self.listed(word) {
+            Some(cuts) => Vec::from_slice(alloc, cuts),
+            None => self.allowed(alloc, word),
+        }
+    }
+
+    /// Where a word in small letters may be broken.
+    fn opportunities(&self, alloc: Global, word: &str) -> Result<Vec<Cut>, AllocError> {
+        match self.bounds(word) {
+            Some(bounds) => within(alloc, &self.cuts(alloc, word)?, bounds),
+            None => Ok(Vec::new(alloc)),
+        }
+    }
+
     /// Where a word is broken.
     pub fn breaks(&self, alloc: Global, word: &str) -> Result<Vec<Cut>, AllocError> {
-        let mut cuts = Vec::new(alloc);
-        for (place, c) in word.char_indices() {
-            if c == '\u{ad}' {
-                cuts.push(Cut {
-                    place,
-                    change: None,
-                })?;
-            }
+        if word.contains('\u{ad}') {
+            soft_hyphens(alloc, word)
+        } else {
+            self.fitted(alloc, word, &folded(alloc, word)?)
         }
-        if !cuts.is_empty() {
-            return Ok(cuts);
+    }
+
+    /// Where a word is broken whose small letters are this text.
+    fn fitted(&self, alloc: Global, word: &str, text: &str) -> Result<Vec<Cut>, AllocError> {
+        fitting(alloc, &self.opportunities(alloc, text)?, word, text)
+    }
+}
+
+/// Those of the cuts that are within bounds.
+fn within(alloc: Global, cuts: &[Cut], bounds: (usize, usize)) -> Result<Vec<Cut>, AllocError> {
+    let (first, last) = bounds;
+    let mut found = Vec::new(alloc);
+    for cut in cuts {
+        if first <= cut.place && cut.place <= last {
+            found.push(*cut)?;
         }
-        let text = folded(alloc, word)?;
-        let mut kept_to = 0;
-        for cut in &self.opportunities(alloc, &text)? {
-            let (left, right) = cut
-                .change
-                .map_or((0, 0), |change| (change.left, change.right));
-            let Some(begin) = cut.place.checked_sub(left) else {
-                continue;
-            };
-            let end = cut.place.wrapping_add(right);
-            if end > text.len() || begin < kept_to || !keeps_lengths(word, &text, begin, end) {
-                continue;
-            }
-            kept_to = end;
-            let number = text
-                .char_indices()
-                .filter(|(place, _)| *place < cut.place)
-                .count();
+    }
+    Ok(found)
+}
+
+/// The places of a word's soft hyphens.
+fn soft_hyphens(alloc: Global, word: &str) -> Result<Vec<Cut>, AllocError> {
+    let mut cuts = Vec::new(alloc);
+    for (place, c) in word.char_indices() {
+        if c == '\u{ad}' {
             cuts.push(Cut {
-                place: place_of(word, number),
-                change: cut.change,
+                place,
+                change: None,
             })?;
         }
-        Ok(cuts)
     }
+    Ok(cuts)
+}
+
+/// Where the range of a cut of a word's small letters ends, if it begins at or after the end of the range that was kept
+/// last, lies in the word, and each of its characters is as long in the word as it is written.
+fn end_of(cut: &Cut, word: &str, text: &str, kept_to: usize) -> Option<usize> {
+    let (left, right) = cut
+        .change
+        .map_or((0, 0), |change| (change.left, change.right));
+    let begin = cut.place.checked_sub(left)?;
+    let end = cut.place.wrapping_add(right);
+    if end <= text.len() && kept_to <= begin && keeps_lengths(word, text, begin, end) {
+        Some(end)
+    } else {
+        None
+    }
+}
+
+/// A cut of a word's small letters in the word as it is written.
+fn written(cut: &Cut, word: &str, text: &str) -> Cut {
+    let number = text
+        .char_indices()
+        .filter(|(place, _)| *place < cut.place)
+        .count();
+    Cut {
+        place: place_of(word, number),
+        change: cut.change,
+    }
+}
+
+/// Those of the cuts that fit, from the first to the last.
+fn fitting(alloc: Global, cuts: &[Cut], word: &str, text: &str) -> Result<Vec<Cut>, AllocError> {
+    let mut kept = Vec::new(alloc);
+    let mut kept_to = 0;
+    for cut in cuts {
+        if let Some(end) = end_of(cut, word, text, kept_to) {
+            kept_to = end;
+            kept.push(written(cut, word, text))?;
+        }
+    }
+    Ok(kept)
 }
 
 /// No character of the range has another length in the word as written.
