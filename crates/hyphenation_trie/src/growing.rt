@@ -86,8 +86,8 @@ impl<E: Drop> Trie<E> {
 
     /// Moves these entries to a key, in place of those that it had. Whether it was a key.
     ///
-    /// No other key changes, and the list is empty then and can be filled again. The only error is memory, and then
-    /// each key and the list are as before.
+    /// No other key changes, and the list is empty then and can be filled again. The only error is memory, also where a
+    /// trie would have more nodes or entries than 32 bits number; then each key and the list are as before.
     pub fn insert(&mut self, key: &[u8], entries: &mut Vec<E>) -> Result<bool, AllocError>
         ensures ok { OnOk result ((q : List ℕ) → entries_of_key self.new q ≡
             (if pointwise nat_eq key.now q then Some entries.old.items else entries_of_key self.old q)) }
@@ -199,7 +199,8 @@ impl<E: Drop> Trie<E> {
         Ok(self.states[node as usize].set_span(span))
     }
 
-    /// The same keys with their entries, made ready to be found. The only error is memory.
+    /// The same keys with their entries, made ready to be found. The only error is memory, also where 32 bits do not
+    /// number its nodes or cells.
     pub fn freeze(self, alloc: Global) -> Result<Automaton<E>, AllocError>
         ensures { IfOk result (λ automaton. automaton ≡ self) }
     {
