@@ -70,7 +70,7 @@ fn compete_by_many<'d, C>(entries: &'d [Entry<C>], start: usize, bests: &mut [Op
     }
 }
 
-/// Lets the entries of a key that stands at `start` compete. Most keys have one entry.
+/// Lets the entries of a key that stands at `start` compete. Most keys have one entry, or two.
 #[inline(always)]
 fn compete<'d, C>(entries: &'d [Entry<C>], start: usize, bests: &mut [Option<&'d Entry<C>>])
     requires start { start ≤ length bests.old + 2 }
@@ -83,6 +83,10 @@ fn compete<'d, C>(entries: &'d [Entry<C>], start: usize, bests: &mut [Option<&'d
 {
     match entries {
         [only] => compete_at(bests, start, only),
+        [first, second] => {
+            compete_at(bests, start, first);
+            compete_at(bests, start, second);
+        }
         _ => compete_by_many(entries, start, bests),
     }
 }

@@ -240,9 +240,9 @@ fn scores_in<'d>(
         + occurrences (entries_of_key automaton.now) (frame word.now) }
 {
     let places = word.len().saturating_sub(1);
-    if places <= 64 {
+    if places <= 32 {
         // The winners of most words take no memory.
-        let mut bests: [Option<&'d Entry<Option<Subregion>>>; 64] = [None; 64];
+        let mut bests: [Option<&'d Entry<Option<Subregion>>>; 32] = [None; 32];
         return scores_from(alloc, automaton, word, &mut bests[..places], count);
     }
     let mut bests: Vec<Option<&'d Entry<Option<Subregion>>>> = vec![in alloc; None; places]?;

@@ -49,7 +49,8 @@ fn won_within<'h>(
     ensures { IfOk result (λ v.
         map lent_break v.items ≡ won_within own_change (map option_copied winners.now) bounds) }
 {
-    let mut breaks = Vec::new(alloc);
+    // Room for a few breaks is taken at once.
+    let mut breaks = Vec::with_capacity(alloc, winners.len().min(8))?;
     for (index, winner) in winners.iter().enumerate() {
         if let Some(b) = won_at(index + 1, *winner, bounds) {
             breaks.push(b)?;
@@ -94,9 +95,9 @@ pub(super) fn winning_breaks<'h>(
         ≡ breaks_within (breaks_at_odd_values own_change (entries_of_key patterns.now) word.now) bounds) }
 {
     let places = word.len().saturating_sub(1);
-    if places <= 64 {
+    if places <= 32 {
         // The winners of most words take no memory.
-        let mut bests: [Option<&'h Entry<Option<Subregion>>>; 64] = [None; 64];
+        let mut bests: [Option<&'h Entry<Option<Subregion>>>; 32] = [None; 32];
         return won_from(alloc, patterns, word, &mut bests[..places], bounds);
     }
     let mut bests: Vec<Option<&'h Entry<Option<Subregion>>>> = vec![in alloc; None; places]?;

@@ -7,5 +7,5 @@ use Rattle.hyphenation_hyphenator.proofs.hyphenator.pattern_breaks.winning_break
 pub won_from-requires-clause-none : goal.won_from-requires-clause-none
 won_from-requires-clause-none c = λ i lt.
     let places = c.saturating_sub-places.result in
-    let none : List (Option (Bor (Entry (Option Change)))) = replicate 64 None in
-    get_or-take places none i None (omega (arith, lt, length-take places none)) ∙ get_or-replicate 64 i None None (omega (arith, lt, length-take places none))
+    let none : List (Option (Bor (Entry (Option Change)))) = replicate 32 None in
+    get_or-take places none i None (omega (arith, lt, length-take places none)) ∙ get_or-replicate 32 i None None (omega (arith, lt, length-take places none))
