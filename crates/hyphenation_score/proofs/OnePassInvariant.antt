@@ -108,6 +108,19 @@ module _ {C : Type 0} (tree : Tree (Entry C)) (word : List ℕ) (trie : IsTrie t
   pub last_byte : 46 ≡ slice_index (frame word) (length word + 1)
   last_byte = sym (get_or-append_seam word 46 [] 0) ∙ ap (slice_index (frame word)) (sym (add-one (length word)))
 
+  -- The last dot is read.
+  pub passed_last : KeysHaveNodes (Entry C) → LongestGoesOn (Entry C) → EachBeginsKey tree → (at from node : ℕ) (m0 r0 m r m' r' : ℕ) → at ≡ length word
+      → Passed tree word (at + 1) from [] m0 r0 m r
+      → IsLongest tree.texts (node_text tree from ++ 46 ∷ []) node
+      → m + 1 ≤ m' → m' + length (node_text tree node) ≤ m + length (node_text tree from) + 2 → m' ≤ m + length (node_text tree from) + 1
+      → r' ≡ r + keys_in tree (node_text tree node) (length (node_text tree node))
+      → Passed tree word (length word + 2) node [] m0 r0 m' r'
+  passed_last nodes goes_on begins at from node m0 r0 m r m' r' ends p step least most alone counted =
+      let two : (length word + 1) + 1 ≡ length word + 2 = omega arith in
+      let last = subst (λ (k : ℕ). Passed tree word (k + 1) from [] m0 r0 m r) ends p in
+      subst (λ (k : ℕ). Passed tree word k node [] m0 r0 m' r') two
+      (passed_more nodes goes_on begins (length word + 1) from 46 node [] [] m0 r0 m r m' r' (omega arith) last_byte last step refl (λ i lt. absurd (omega arith)) least most alone counted)
+
   -- All is read.
   pub passed_values : (node : ℕ) (vals : List ℕ) (m0 r0 m r : ℕ) → length vals ≡ length word - 1 → Passed tree word (length word + 2) node vals m0 r0 m r → vals ≡ values (entries_of_key tree) word
   passed_values node vals m0 r0 m r len p =

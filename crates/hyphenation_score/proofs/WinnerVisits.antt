@@ -1,5 +1,5 @@
 -- The winner so far, as keys are met by their ends.
-use Rattle.std.proofs.Common.{◌≡◌, ℕ, ◌+◌, ◌-◌, ◌<◌, ◌≤◌, ◌==◌, List, [], length, map, take, drop, filter, Option, Bor, option_copied, Some, None, slice_index, refl, sym, ap, subst, ◌∙◌, arith, inl, inr}
+use Rattle.std.proofs.Common.{◌≡◌, ℕ, ◌+◌, ◌-◌, ◌<◌, ◌≤◌, ◌==◌, List, [], length, map, take, drop, filter, Option, Bor, option_copied, Some, None, refl, sym, ap, subst, ◌∙◌, arith, inl, inr}
 use Rattle.std.specs.Prelude.{unwrap_or}
 use Rattle.std.proofs.lemmas.Bool.{cases_eq, cases_lt}
 use Rattle.std.proofs.lemmas.List.{length-take, length-drop, length-map, get_or-map, ext_get_or}
@@ -12,7 +12,7 @@ use Rattle.hyphenation_trie.specs.Links.{EndsWith, IsLongest, IsReport}
 use Rattle.hyphenation_trie.specs.Laws.{LongestHasReport}
 use Rattle.hyphenation_score.specs.Scoring.{frame, greatest_value, first_greatest, bearers_between, bearers, winner_at, winners}
 use Rattle.hyphenation_score.specs.Winners.{IsPair, Best, Holds}
-use Rattle.hyphenation_score.specs.Private.Winners.{meets, best_of, Asked}
+use Rattle.hyphenation_score.specs.Private.Winners.{meets, best_of, start_at, Asked}
 use Rattle.hyphenation_score.proofs.OnePass.{length-frame, slice_is, none_next}
 use Rattle.hyphenation_score.proofs.WinnersMet.{holds_skip, holds_visit, winner_is, winner_none}
 
@@ -88,21 +88,21 @@ met_end tree framed p bound now lt holds =
 -- ---- of all places
 
 -- Before anything is read nothing is met.
-pub held_none : {C : Type 0} (keys : Patterns C) (framed : List ℕ) (p : ℕ) (bests : List (Option (Bor (Entry C)))) (starts : List ℕ) (i : ℕ) → slice_index_or bests i None ≡ None → slice_index starts i ≡ 0
-    → Holds keys framed p (Asked framed 1 0) (best_of bests starts i)
-held_none keys framed p bests starts i none nil =
-    inl (ap option_copied none, nil, λ s e asked. absurd (elim asked.1 [ inl less ↦ omega (arith, asked.0.0) | inr same ↦ omega (arith, same.1) ]))
+pub held_none : {C : Type 0} (keys : Patterns C) (framed : List ℕ) (p : ℕ) (bests : List (Option (Bor (Entry C)))) (i : ℕ) → slice_index_or bests i None ≡ None
+    → Holds keys framed p (Asked framed 1 0) (best_of bests i)
+held_none keys framed p bests i none =
+    inl (ap option_copied none, ap (λ best. start_at (option_copied best) i) none, λ s e asked. absurd (elim asked.1 [ inl less ↦ omega (arith, asked.0.0) | inr same ↦ omega (arith, same.1) ]))
 
 -- After the frame's end what is best at the places are the winners.
-pub winners_met : {C : Type 0} (tree : Tree (Entry C)) (word : List ℕ) (bests : List (Option (Bor (Entry C)))) (starts : List ℕ) (bound : ℕ) → length bests ≡ length word - 1 → length word + 2 < bound
-    → ((i : ℕ) → i < length bests → Holds (entries_of_key tree) (frame word) (i + 1) (Asked (frame word) bound 0) (best_of bests starts i))
+pub winners_met : {C : Type 0} (tree : Tree (Entry C)) (word : List ℕ) (bests : List (Option (Bor (Entry C)))) (bound : ℕ) → length bests ≡ length word - 1 → length word + 2 < bound
+    → ((i : ℕ) → i < length bests → Holds (entries_of_key tree) (frame word) (i + 1) (Asked (frame word) bound 0) (best_of bests i))
     → map option_copied bests ≡ winners (entries_of_key tree) word
-winners_met tree word bests starts bound len past holds =
+winners_met tree word bests bound len past holds =
     let n : ℕ = length word - 1 in
     let f = λ (p : ℕ). winner_at (entries_of_key tree) word p in
     ext_get_or None (map option_copied bests) (map f (range_with_len 1 n)) (length-map bests option_copied ∙ len ∙ sym (length-map-range_with_len f 1 n))
     (λ i lt.
     let within : i < length bests = omega (arith, length-map bests option_copied) in
     get_or-map option_copied bests i None None within
-    ∙ met_end tree (frame word) (i + 1) bound (best_of bests starts i) (omega (arith, length-frame word)) (holds i within)
+    ∙ met_end tree (frame word) (i + 1) bound (best_of bests i) (omega (arith, length-frame word)) (holds i within)
     ∙ sym (get_or-map-range_with_len f 1 n i (i + 1) None (omega (arith, len)) (omega arith)))

@@ -8,7 +8,7 @@ use Rattle.hyphenation_breaks.specs.declared.entry.Entry.{Entry}
 use Rattle.hyphenation_score.specs.Scoring.{greatest_value, first_greatest, bearers_between, bearers_from, bearers, value_of}
 use Rattle.hyphenation_score.specs.Private.Scoring.{greater}
 use Rattle.hyphenation_score.specs.Winners.{IsPair, IsBest, Best, Holds, Before}
-use Rattle.hyphenation_score.specs.Private.Winners.{meets, Sane}
+use Rattle.hyphenation_score.specs.Private.Winners.{beats, beats_best, meets, start_at, Sane}
 use Rattle.hyphenation_score.proofs.FirstGreatest.{first_none, value_of-first, first-append, greater_first, greater_second, greater_none, greater_one}
 use Rattle.hyphenation_score.proofs.GreatestValues.{greatest_value-within, filter-append}
 
@@ -303,3 +303,34 @@ met_more {C} p es k e s first now next sane lt read is step =
       | false ↦ is ∙ sym (ap (meets first s) (greater_none (first_greatest so_far)))
     ] in
     step ∙ one (p e) ∙ ap (meets first s) (sym (first-append so_far (filter p (e ∷ []))) ∙ ap first_greatest (sym more))
+
+-- ---- by places in keys
+
+or_and_false : (a b : Bool) → (a || (b && false)) ≡ a
+or_and_false true b = refl
+or_and_false false true = refl
+or_and_false false false = refl
+
+-- Of two entries that bear on one place the one with more of its key before the place starts first.
+pub beats_best_is : {C : Type 0} (best : Option (Entry C)) (i start : ℕ) (entry : Entry C) → start + entry.place ≡ (i + 1) + 1 → beats_best best entry ≡ beats (best, start_at best i) start entry
+beats_best_is None i start entry here =
+    sym (or_and_false (ltb 0 entry.value) (eqb 0 entry.value)) ∙ ap (λ t. ltb 0 entry.value || (eqb 0 entry.value && t)) (sym (le-ltb start 0 (omega arith)))
+beats_best_is (Some best) i start entry here =
+    ap (λ t. ltb best.value entry.value || (eqb best.value entry.value && t))
+    (elim (cases_lt best.place entry.place) [
+      | inl lt ↦ lt-ltb best.place entry.place lt ∙ sym (lt-ltb start (((i + 1) + 1) - best.place) (omega arith))
+      | inr ge ↦ le-ltb best.place entry.place ge ∙ sym (le-ltb start (((i + 1) + 1) - best.place) (omega arith))
+    ])
+
+-- An entry that beats what is best at its place is best there.
+pub met_here : {C : Type 0} (best : Option (Entry C)) (i start : ℕ) (entry : Entry C) → start + entry.place ≡ (i + 1) + 1 → beats_best best entry ≡ true
+    → (Some entry, start_at (Some entry) i) ≡ meets (best, start_at best i) start (Some entry)
+met_here {C} best i start entry here is =
+    let start_is : start_at (Some entry) i ≡ start = omega arith in
+    ap (λ (s : ℕ). (Some entry, s)) start_is ∙ ap (λ t. cond {A = Best C} t (Some entry, start) (best, start_at best i)) (sym is ∙ beats_best_is best i start entry here)
+
+-- One that does not changes nothing.
+pub met_not : {C : Type 0} (best : Option (Entry C)) (i start : ℕ) (entry : Entry C) → start + entry.place ≡ (i + 1) + 1 → beats_best best entry ≡ false
+    → (best, start_at best i) ≡ meets (best, start_at best i) start (Some entry)
+met_not {C} best i start entry here is =
+    ap (λ t. cond {A = Best C} t (Some entry, start) (best, start_at best i)) (sym is ∙ beats_best_is best i start entry here)

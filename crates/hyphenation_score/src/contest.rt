@@ -1,9 +1,9 @@
 //! The entries that win the places of a word, in one pass over its frame.
 //!
-//! Keys are met by their ends, and of equal values the one whose key starts first has to win: so each place keeps, with
-//! the best entry so far, where its key starts. Of two that start at one byte the shorter is met first.
+//! Keys are met by their ends, and of equal values the one whose key starts first has to win: of two entries that bear on
+//! a place that is the one with more of its key before the place. Of two that start at one byte the shorter is met first.
 
-ghost use Rattle.std.specs.Prelude.{◌≡◌, ◌+◌, ◌-◌, ◌*◌, ◌<◌, ◌≤◌, ◌^◌, ◌==◌, ◌++◌, ◌∷◌, [], if◌then◌else◌, ℕ, List, None, Some, length, filter, map, take, option_copied, slice_index, IfOk, OnOk};
+ghost use Rattle.std.specs.Prelude.{◌≡◌, ◌+◌, ◌-◌, ◌*◌, ◌<◌, ◌≤◌, ◌^◌, ◌==◌, ◌++◌, ◌∷◌, [], if◌then◌else◌, ℕ, List, None, Some, length, filter, map, take, option_copied, IfOk, OnOk};
 ghost use Rattle.std.specs.List.{slice_index_or};
 ghost use Rattle.hyphenation_breaks.specs.Dictionary.{entries_of_keys, longest_key};
 ghost use Rattle.hyphenation_trie.specs.Links.{IsLongest, keys_in};
@@ -11,7 +11,7 @@ ghost use Rattle.hyphenation_trie.specs.Trie.{node_text, entries_of_key, EachBeg
 ghost use Rattle.hyphenation_score.specs.Scoring.{frame, first_greatest, winners};
 ghost use Rattle.hyphenation_score.specs.OnePass.{occurrences};
 ghost use Rattle.hyphenation_score.specs.Winners.{Holds};
-ghost use Rattle.hyphenation_score.specs.Private.Winners.{best_of, meets, Sane, Asked};
+ghost use Rattle.hyphenation_score.specs.Private.Winners.{beats_best, best_of, meets, Sane, Asked};
 
 use hyphenation_breaks::breaks::Break;
 use hyphenation_breaks::entry::{Entry, Payload};
@@ -21,71 +21,73 @@ use hyphenation_trie::laws::{keys_have_nodes, longest_goes_on, longest_has_repor
 use hyphenation_trie::{Automaton, LookUps};
 use std::alloc::{AllocError, Global};
 
-/// The better of what is best so far, with where its key starts, and an entry of a key that starts there.
-fn better<'d, C>(
-    best: Option<&'d Entry<C>>,
-    from: usize,
-    entry: &'d Entry<C>,
-    start: usize,
-) -> (Option<&'d Entry<C>>, usize)
-    ensures { (option_copied result.0, result.1) ≡ meets (option_copied best.entry, from) start (Some entry.now) }
+/// Whether an entry beats what is best so far at a place on which both bear: its value is greater, or the same and its
+/// key starts first, which is so where more of the key stands before the place.
+#[inline(always)]
+fn beats_best<C>(best: Option<&Entry<C>>, entry: &Entry<C>) -> bool
+    ensures { result ≡ beats_best (option_copied best.entry) entry.now }
 {
-    let value = match best {
-        Some(best) => best.value,
-        None => 0,
-    };
-    if value < entry.value || (value == entry.value && start < from) {
-        (Some(entry), start)
-    } else {
-        (best, from)
+    match best {
+        Some(best) => {
+            best.value < entry.value || (best.value == entry.value && best.place < entry.place)
+        }
+        None => 0 < entry.value,
     }
 }
 
 /// Lets an entry of a key that stands at `start` compete for the place on which it bears, if that is within the word.
 #[inline(always)]
-fn compete_at<'d, C>(
-    bests: &mut [Option<&'d Entry<C>>],
-    starts: &mut [usize],
-    start: usize,
-    entry: &'d Entry<C>,
-)
-    requires lengths { length starts.old ≡ length bests.old }
+fn compete_at<'d, C>(bests: &mut [Option<&'d Entry<C>>], start: usize, entry: &'d Entry<C>)
     requires start { start ≤ length bests.old + 2 }
     requires room { length bests.old + 1 < 2 ^ 63 }
     ensures { (i : ℕ) → i < length bests.old
-        → best_of bests.new starts.new i
+        → best_of bests.new i
         ≡ (if start + entry.now.place == (i + 1) + 1
-        then meets (best_of bests.old starts.old i) start (Some entry.now)
-        else best_of bests.old starts.old i) }
+        then meets (best_of bests.old i) start (Some entry.now)
+        else best_of bests.old i) }
 {
     // The frame has a dot before the word, and the first place stands after the word's first byte.
     let at = (start + entry.place as usize).wrapping_sub(2);
-    if at < bests.len() {
-        let (best, from) = better(bests[at], starts[at], entry, start);
-        bests[at] = best;
-        starts[at] = from;
+    if at < bests.len() && beats_best(bests[at], entry) {
+        bests[at] = Some(entry);
     }
 }
 
-/// Lets the entries of a key that stands at `start` compete.
-#[inline(always)]
-fn compete<'d, C>(
-    entries: &'d [Entry<C>],
-    start: usize,
-    bests: &mut [Option<&'d Entry<C>>],
-    starts: &mut [usize],
-)
-    requires lengths { length starts.old ≡ length bests.old }
+/// Lets many entries of a key that stands at `start` compete, in a function of its own: few keys have so many.
+#[cold]
+#[inline(never)]
+fn compete_by_many<'d, C>(entries: &'d [Entry<C>], start: usize, bests: &mut [Option<&'d Entry<C>>])
     requires start { start ≤ length bests.old + 2 }
     requires room { length bests.old + 1 < 2 ^ 63 }
-    requires sane { (i : ℕ) → i < length bests.old → Sane (best_of bests.old starts.old i) }
+    requires sane { (i : ℕ) → i < length bests.old → Sane (best_of bests.old i) }
     ensures { (i : ℕ) → i < length bests.old
-        → best_of bests.new starts.new i
-        ≡ meets (best_of bests.old starts.old i) start
+        → best_of bests.new i
+        ≡ meets (best_of bests.old i) start
         (first_greatest (filter (λ entry. start + entry.place == (i + 1) + 1) entries.now)) }
 {
     for entry in entries {
-        compete_at(bests, starts, start, entry);
+        compete_at(bests, start, entry);
+    }
+}
+
+/// Lets the entries of a key that stands at `start` compete. Most keys have one entry, or two.
+#[inline(always)]
+fn compete<'d, C>(entries: &'d [Entry<C>], start: usize, bests: &mut [Option<&'d Entry<C>>])
+    requires start { start ≤ length bests.old + 2 }
+    requires room { length bests.old + 1 < 2 ^ 63 }
+    requires sane { (i : ℕ) → i < length bests.old → Sane (best_of bests.old i) }
+    ensures { (i : ℕ) → i < length bests.old
+        → best_of bests.new i
+        ≡ meets (best_of bests.old i) start
+        (first_greatest (filter (λ entry. start + entry.place == (i + 1) + 1) entries.now)) }
+{
+    match entries {
+        [only] => compete_at(bests, start, only),
+        [first, second] => {
+            compete_at(bests, start, first);
+            compete_at(bests, start, second);
+        }
+        _ => compete_by_many(entries, start, bests),
     }
 }
 
@@ -97,21 +99,19 @@ fn compete_reported<'d, C: Drop>(
     from: usize,
     end: usize,
     bests: &mut [Option<&'d Entry<C>>],
-    starts: &mut [usize],
     count: &mut LookUps,
 )
     requires end { end ≤ length (frame word.now) }
     requires longest { IsLongest automaton.now.texts (take end (frame word.now)) from }
-    requires lengths { length starts.old ≡ length bests.old }
     requires within { end ≤ length bests.old + 3 }
     requires short { length bests.old + 1 < 2 ^ 63 }
     requires holds { (i : ℕ) → i < length bests.old
         → Holds (entries_of_key automaton.now) (frame word.now) (i + 1) (Asked (frame word.now) end 0)
-        (best_of bests.old starts.old i) }
+        (best_of bests.old i) }
     requires room { count.old.reported + length (node_text automaton.now from) + 1 < 2 ^ 128 }
     ensures holds { (i : ℕ) → i < length bests.old
         → Holds (entries_of_key automaton.now) (frame word.now) (i + 1) (Asked (frame word.now) (end + 1) 0)
-        (best_of bests.new starts.new i) }
+        (best_of bests.new i) }
     ensures reported { count.new.reported
         ≡ count.old.reported + keys_in automaton.now (node_text automaton.now from)
         (length (node_text automaton.now from)) }
@@ -122,7 +122,7 @@ fn compete_reported<'d, C: Drop>(
     let mut node = automaton.report(from);
     while node != 0 {
         let entries = automaton.entries(node, count);
-        compete(entries, end - automaton.depth(node), bests, starts);
+        compete(entries, end - automaton.depth(node), bests);
         node = automaton.next_report(node);
     }
 }
@@ -138,25 +138,23 @@ fn read<'d, C: Drop>(
     byte: u8,
     end: usize,
     bests: &mut [Option<&'d Entry<C>>],
-    starts: &mut [usize],
     count: &mut LookUps,
 ) -> usize
     requires from { from < length automaton.now.texts }
     requires goes_on { (node : ℕ) → IsLongest automaton.now.texts (node_text automaton.now from ++ byte ∷ []) node
         → IsLongest automaton.now.texts (take end (frame word.now)) node }
     requires end { end ≤ length (frame word.now) }
-    requires lengths { length starts.old ≡ length bests.old }
     requires within { end ≤ length bests.old + 3 }
     requires short { length bests.old + 1 < 2 ^ 63 }
     requires holds { (i : ℕ) → i < length bests.old
         → Holds (entries_of_key automaton.now) (frame word.now) (i + 1) (Asked (frame word.now) end 0)
-        (best_of bests.old starts.old i) }
+        (best_of bests.old i) }
     requires made { count.old.made ≤ 2 ^ 100 }
     requires reported { count.old.reported ≤ 2 ^ 127 }
     ensures longest { IsLongest automaton.now.texts (node_text automaton.now from ++ byte ∷ []) result }
     ensures holds { (i : ℕ) → i < length bests.old
         → Holds (entries_of_key automaton.now) (frame word.now) (i + 1) (Asked (frame word.now) (end + 1) 0)
-        (best_of bests.new starts.new i) }
+        (best_of bests.new i) }
     ensures least { count.old.made + 1 ≤ count.new.made }
     ensures most { count.new.made + length (node_text automaton.now result)
         ≤ count.old.made + length (node_text automaton.now from) + 2 }
@@ -166,30 +164,26 @@ fn read<'d, C: Drop>(
         (length (node_text automaton.now result)) }
 {
     let node = automaton.step(from, byte, count);
-    compete_reported(automaton, word, node, end, bests, starts, count);
+    compete_reported(automaton, word, node, end, bests, count);
     node
 }
 
-/// Makes lists of no entry and of 0 those of the entries that win a word's places, and of where their keys start, in one
-/// pass over its frame.
+/// Makes a list of no entries that of the entries that win a word's places, in one pass over its frame.
 ///
-/// Both lists have one item for each place, from place 1 on. Look-ups and reports are counted. The caller owes that each
+/// The list has one item for each place, from place 1 on. Look-ups and reports are counted. The caller owes that each
 /// node of the automaton but the root begins a key.
 #[inline(always)]
 pub fn compete_all<'d, C: Drop>(
     automaton: &'d Automaton<Entry<C>>,
     word: &[u8],
     bests: &mut [Option<&'d Entry<C>>],
-    starts: &mut [usize],
     count: &mut LookUps,
 )
     requires begins { EachBeginsKey automaton.now }
     requires made { count.old.made ≤ 2 ^ 64 }
     requires reported { count.old.reported ≤ 2 ^ 64 }
     requires places { length bests.old ≡ length word.now - 1 }
-    requires lengths { length starts.old ≡ length word.now - 1 }
     requires none { (i : ℕ) → i < length bests.old → slice_index_or bests.old i None ≡ None }
-    requires zeros { (i : ℕ) → i < length starts.old → slice_index starts.old i ≡ 0 }
     ensures winners { map option_copied bests.new ≡ winners (entries_of_key automaton.now) word.now }
     ensures linear { count.new.made ≤ count.old.made + 2 * (length word.now + 2) }
     ensures alone { ((q : List ℕ) → entries_of_key automaton.now q ≡ None)
@@ -203,29 +197,11 @@ pub fn compete_all<'d, C: Drop>(
     longest_goes_on::<Entry<C>>();
     // The dots of the frame are read before the word and after it.
     let root = automaton.root();
-    let mut node = read(automaton, word, root, b'.', 1, bests, starts, count);
+    let mut node = read(automaton, word, root, b'.', 1, bests, count);
     for at in 0..word.len() {
-        node = read(
-            automaton,
-            word,
-            node,
-            word[at],
-            at + 2,
-            bests,
-            starts,
-            count,
-        );
+        node = read(automaton, word, node, word[at], at + 2, bests, count);
     }
-    let _last = read(
-        automaton,
-        word,
-        node,
-        b'.',
-        word.len() + 2,
-        bests,
-        starts,
-        count,
-    );
+    let _last = read(automaton, word, node, b'.', word.len() + 2, bests, count);
 }
 
 /// The entries that win the places of a word, from place 1 on, by the automaton of the keys.
@@ -256,8 +232,7 @@ pub fn winners_in<'d, C: Drop>(
 {
     let places = word.len().saturating_sub(1);
     let mut bests: Vec<Option<&'d Entry<C>>> = vec![in alloc; None; places]?;
-    let mut starts = vec![in alloc; 0usize; places]?;
-    compete_all(automaton, word, &mut bests, &mut starts, count);
+    compete_all(automaton, word, &mut bests, count);
     Ok(bests)
 }
 

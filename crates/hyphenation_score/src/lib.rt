@@ -24,7 +24,7 @@
 //! which meets each key where it ends. Users call the crate `hyphenation`, which exports this one as its `score`.
 #![tactic(auto)]
 
-ghost use Rattle.std.specs.Prelude.{◌≡◌, ◌↔◌, ◌+◌, ◌-◌, ◌*◌, ◌%◌, ◌≤◌, ◌^◌, ◌<◌, ℕ, List, None, length, map, option_copied, slice_index, IfOk, OnOk, IsTrue};
+ghost use Rattle.std.specs.Prelude.{◌≡◌, ◌↔◌, ◌+◌, ◌-◌, ◌*◌, ◌%◌, ◌≤◌, ◌^◌, ◌<◌, ℕ, List, None, length, map, option_copied, IfOk, OnOk, IsTrue};
 ghost use Rattle.std.specs.List.{slice_index_or};
 ghost use Rattle.hyphenation_breaks.specs.Dictionary.{entries_of_keys, longest_key};
 ghost use Rattle.hyphenation_trie.specs.Trie.{entries_of_key, EachBeginsKey};
@@ -184,23 +184,20 @@ fn scored_all<'d>(
     Ok(all)
 }
 
-/// The values of the places of a word, with the changes of their winners, found in lists of no entry and of 0.
+/// The values of the places of a word, with the changes of their winners, found in a list of no entries.
 #[inline(always)]
 fn scores_from<'d>(
     alloc: Global,
     automaton: &'d Automaton<Entry<Option<Subregion>>>,
     word: &[u8],
     bests: &mut [Option<&'d Entry<Option<Subregion>>>],
-    starts: &mut [usize],
     count: &mut LookUps,
 ) -> Result<Vec<(u8, Option<&'d Subregion>)>, AllocError>
     requires begins { EachBeginsKey automaton.now }
     requires made { count.old.made ≤ 2 ^ 64 }
     requires reported { count.old.reported ≤ 2 ^ 64 }
     requires places { length bests.old ≡ length word.now - 1 }
-    requires lengths { length starts.old ≡ length word.now - 1 }
     requires none { (i : ℕ) → i < length bests.old → slice_index_or bests.old i None ≡ None }
-    requires zeros { (i : ℕ) → i < length starts.old → slice_index starts.old i ≡ 0 }
     ensures scores { IfOk result (λ v. map scored_pair v.items
         ≡ scores own_change (entries_of_key automaton.now) word.now) }
     ensures linear { count.new.made ≤ count.old.made + 2 * (length word.now + 2) }
@@ -214,7 +211,7 @@ fn scores_from<'d>(
     ensures visited { count.new.reported ≤ count.old.reported
         + occurrences (entries_of_key automaton.now) (frame word.now) }
 {
-    compete_all(automaton, word, bests, starts, count);
+    compete_all(automaton, word, bests, count);
     scored_all(alloc, bests)
 }
 
@@ -243,16 +240,13 @@ fn scores_in<'d>(
         + occurrences (entries_of_key automaton.now) (frame word.now) }
 {
     let places = word.len().saturating_sub(1);
-    if places <= 64 {
+    if places <= 32 {
         // The winners of most words take no memory.
-        let mut bests: [Option<&'d Entry<Option<Subregion>>>; 64] = [None; 64];
-        let mut starts = [0usize; 64];
-        let (bests, starts) = (&mut bests[..places], &mut starts[..places]);
-        return scores_from(alloc, automaton, word, bests, starts, count);
+        let mut bests: [Option<&'d Entry<Option<Subregion>>>; 32] = [None; 32];
+        return scores_from(alloc, automaton, word, &mut bests[..places], count);
     }
     let mut bests: Vec<Option<&'d Entry<Option<Subregion>>>> = vec![in alloc; None; places]?;
-    let mut starts = vec![in alloc; 0usize; places]?;
-    scores_from(alloc, automaton, word, &mut bests, &mut starts, count)
+    scores_from(alloc, automaton, word, &mut bests, count)
 }
 
 /// The values of the places of a word, with the changes of their winners, from place 1 on.

@@ -143,6 +143,7 @@ impl<'h> Found<'h> for (usize, Option<&'h Subregion>) {
         Ok(breaks)
     }
 
+    #[inline(always)]
     fn kept(
         alloc: Global,
         folded: &str,

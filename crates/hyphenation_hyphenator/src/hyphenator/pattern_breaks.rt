@@ -49,7 +49,8 @@ fn won_within<'h>(
     ensures { IfOk result (λ v.
         map lent_break v.items ≡ won_within own_change (map option_copied winners.now) bounds) }
 {
-    let mut breaks = Vec::new(alloc);
+    // Room for a few breaks is taken at once.
+    let mut breaks = Vec::with_capacity(alloc, winners.len().min(8))?;
     for (index, winner) in winners.iter().enumerate() {
         if let Some(b) = won_at(index + 1, *winner, bounds) {
             breaks.push(b)?;
@@ -58,28 +59,25 @@ fn won_within<'h>(
     Ok(breaks)
 }
 
-/// The breaks within bounds that patterns allow, found in lists of no entry and of 0.
+/// The breaks within bounds that patterns allow, found in a list of no entries.
 #[inline(always)]
 fn won_from<'h>(
     alloc: Global,
     patterns: &'h Automaton<Entry<Option<Subregion>>>,
     word: &str,
     bests: &mut [Option<&'h Entry<Option<Subregion>>>],
-    starts: &mut [usize],
     bounds: (usize, usize),
 ) -> Result<Vec<(usize, Option<&'h Subregion>)>, AllocError>
     requires begins { EachBeginsKey patterns.now }
     requires places { length bests.old ≡ length word.now - 1 }
-    requires lengths { length starts.old ≡ length word.now - 1 }
     requires none { (i : ℕ) → i < length bests.old → slice_index_or bests.old i None ≡ None }
-    requires zeros { (i : ℕ) → i < length starts.old → slice_index starts.old i ≡ 0 }
     ensures { IfOk result (λ v.
         map lent_break v.items
         ≡ breaks_within (breaks_at_odd_values own_change (entries_of_key patterns.now) word.now) bounds) }
 {
     winner_has_value::<Option<Subregion>>();
     let mut count = LookUps::new();
-    compete_all(patterns, word.as_bytes(), bests, starts, &mut count);
+    compete_all(patterns, word.as_bytes(), bests, &mut count);
     won_within(alloc, bests, bounds)
 }
 
@@ -97,16 +95,13 @@ pub(super) fn winning_breaks<'h>(
         ≡ breaks_within (breaks_at_odd_values own_change (entries_of_key patterns.now) word.now) bounds) }
 {
     let places = word.len().saturating_sub(1);
-    if places <= 64 {
+    if places <= 32 {
         // The winners of most words take no memory.
-        let mut bests: [Option<&'h Entry<Option<Subregion>>>; 64] = [None; 64];
-        let mut starts = [0usize; 64];
-        let (bests, starts) = (&mut bests[..places], &mut starts[..places]);
-        return won_from(alloc, patterns, word, bests, starts, bounds);
+        let mut bests: [Option<&'h Entry<Option<Subregion>>>; 32] = [None; 32];
+        return won_from(alloc, patterns, word, &mut bests[..places], bounds);
     }
     let mut bests: Vec<Option<&'h Entry<Option<Subregion>>>> = vec![in alloc; None; places]?;
-    let mut starts = vec![in alloc; 0usize; places]?;
-    won_from(alloc, patterns, word, &mut bests, &mut starts, bounds)
+    won_from(alloc, patterns, word, &mut bests, bounds)
 }
 
 /// The first place from one on, and no greater than an end, that has an odd value; the place after the end where none

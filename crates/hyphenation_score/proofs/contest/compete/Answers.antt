@@ -1,21 +1,25 @@
-use Rattle.std.proofs.Common.{◌≡◌, ◌+◌, ◌==◌, filter, take, arith, ap, ◌∙◌, sym}
+use Rattle.std.proofs.Common.{◌≡◌, ◌+◌, ◌==◌, filter, take, None, refl, ap, ◌∙◌, arith, Bool}
 use Rattle.std.proofs.lemmas.List.{take_all}
+use Rattle.hyphenation_breaks.specs.declared.entry.Entry.{Entry}
 use Rattle.hyphenation_score.specs.Scoring.{first_greatest}
 use Rattle.hyphenation_score.specs.Private.Winners.{best_of, meets}
 use Rattle.hyphenation_score.proofs.WinnersMet.{met_more}
 use Rattle.hyphenation_score.proofs.contest.compete.Goals as goal
 
-pub loop-entry-preserved : goal.loop-entry-preserved
-loop-entry-preserved g c = record {
-  lengths = c.compete_at.auto.starts ∙ c.loop-entry.invariant.lengths ∙ sym c.compete_at.auto.bests;
-  bests = λ i lt.
-      met_more (λ entry. c.args.start + entry.place == (i + 1) + 1) c.args.entries.now c.loop-entry.entry-index c.entry-item.result c.args.start
-      (best_of c.args.bests.now c.args.starts.now i) (best_of c.loop-entry.bests c.loop-entry.starts i) (best_of c.compete_at.new.bests c.compete_at.new.starts i)
-      (c.requires.sane i (omega arith)) c.loop-entry-test.true c.entry-item.is (c.loop-entry.invariant.bests i (omega arith)) (c.compete_at.ensures i (omega arith));
-}
+pub returns-in-len1 : goal.returns-in-len1
+returns-in-len1 g c = λ i lt.
+    let es = c.args.entries.now in
+    let first = best_of c.args.bests.now i in
+    let test : Entry _ → Bool = λ entry. c.args.start + entry.place == (i + 1) + 1 in
+    met_more test es 0 c.only-item.result c.args.start first first (best_of c.compete_at.new.bests i) (c.requires.sane i lt) (omega (arith, c.in-len1.len_at_least)) c.only-item.is refl (c.compete_at.ensures i lt)
+    ∙ ap (λ xs. meets first c.args.start (first_greatest (filter test xs))) (take_all 1 es (omega (arith, c.in-len1.len_below)))
 
-pub returns : goal.returns
-returns g c = λ i lt.
-    let all : take c.loop-entry.entry-index c.args.entries.now ≡ c.args.entries.now = take_all c.loop-entry.entry-index c.args.entries.now (omega arith) in
-    c.loop-entry.invariant.bests i (omega arith)
-    ∙ ap (λ es. meets (best_of c.args.bests.now c.args.starts.now i) c.args.start (first_greatest (filter (λ entry. c.args.start + entry.place == (i + 1) + 1) es))) all
+pub returns-in-len2 : goal.returns-in-len2
+returns-in-len2 g c = λ i lt.
+    let es = c.args.entries.now in
+    let first = best_of c.args.bests.now i in
+    let now = best_of c.compete_at-in-len2.new.bests i in
+    let test : Entry _ → Bool = λ entry. c.args.start + entry.place == (i + 1) + 1 in
+    let one = met_more test es 0 c.first-item.result c.args.start first first now (c.requires.sane i lt) (omega (arith, c.in-len2.len_at_least)) c.first-item.is refl (c.compete_at-in-len2.ensures i lt) in
+    met_more test es 1 c.second-item.result c.args.start first now (best_of c.compete_at-in-len2-2.new.bests i) (c.requires.sane i lt) (omega (arith, c.in-len2.len_at_least)) c.second-item.is one (c.compete_at-in-len2-2.ensures i (omega (arith, c.compete_at-in-len2.auto.bests)))
+    ∙ ap (λ xs. meets first c.args.start (first_greatest (filter test xs))) (take_all 2 es (omega (arith, c.in-len2.len_below)))

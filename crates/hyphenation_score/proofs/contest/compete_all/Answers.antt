@@ -6,7 +6,7 @@ use Rattle.hyphenation_score.specs.Scoring.{frame}
 use Rattle.hyphenation_score.specs.Winners.{Holds}
 use Rattle.hyphenation_score.specs.Private.Winners.{best_of, Asked}
 use Rattle.hyphenation_score.proofs.OnePass.{length-frame}
-use Rattle.hyphenation_score.proofs.OnePassInvariant.{Passed, passed_none, passed_goes_on, passed_more, passed_short, passed_room, passed_reported, word_byte, last_byte}
+use Rattle.hyphenation_score.proofs.OnePassInvariant.{Passed, passed_none, passed_goes_on, passed_more, passed_short, passed_room, passed_last, passed_reported, word_byte, last_byte}
 use Rattle.hyphenation_score.proofs.WinnerVisits.{held_none, winners_met}
 use Rattle.hyphenation_score.proofs.contest.compete_all.Goals as goal
 
@@ -20,14 +20,13 @@ read-node-requires-clause-goes_on g c =
     passed_goes_on c.args.automaton.now c.args.word.now c.invariant.ensures c.longest_goes_on.ensures 0 c.root-root.result 46 [] _ _ _ _ (omega arith) refl (first c.args.automaton.now c.args.word.now c.invariant.ensures _ c.args.count.now.made c.args.count.now.reported c.root-root.ensures.root)
 
 pub read-node-requires-clause-holds : goal.read-node-requires-clause-holds
-read-node-requires-clause-holds g c = λ i lt. held_none (entries_of_key c.args.automaton.now) (frame c.args.word.now) (i + 1) c.args.bests.now c.args.starts.now i (c.requires.none i lt) (c.requires.zeros i (omega arith))
+read-node-requires-clause-holds g c = λ i lt. held_none (entries_of_key c.args.automaton.now) (frame c.args.word.now) (i + 1) c.args.bests.now i (c.requires.none i lt)
 
 pub loop-at-init : goal.loop-at-init
 loop-at-init g c =
     let r = c.read-node.ensures in
     record {
       bests = c.read-node.auto.bests;
-      starts = c.read-node.auto.starts;
       passed = passed_more c.args.automaton.now c.args.word.now c.invariant.ensures c.keys_have_nodes.ensures c.longest_goes_on.ensures c.requires.begins 0 c.root-root.result 46 c.read-node.result [] [] _ _ _ _ c.read-node.new.count.made c.read-node.new.count.reported (omega arith) refl (first c.args.automaton.now c.args.word.now c.invariant.ensures _ c.args.count.now.made c.args.count.now.reported c.root-root.ensures.root) r.longest refl (λ i lt. absurd (omega arith)) r.least r.most r.alone r.reported;
       holds = λ i lt. r.holds i (omega (arith, c.read-node.auto.bests));
     }
@@ -61,9 +60,8 @@ loop-at-preserved g c =
     let three : (c.loop-at.at + 2) + 1 ≡ (c.loop-at.at + 1) + 2 = omega arith in
     record {
       bests = read.auto.bests ∙ c.loop-at.invariant.bests;
-      starts = read.auto.starts ∙ c.loop-at.invariant.starts;
       passed = passed_more tree word c.invariant.ensures c.keys_have_nodes.ensures c.longest_goes_on.ensures c.requires.begins (c.loop-at.at + 1) c.loop-at.node (slice_index word c.loop-at.at) read.result [] [] _ _ _ _ read.new.count.made read.new.count.reported (omega arith) (word_byte tree word c.invariant.ensures c.loop-at.at (omega arith)) c.loop-at.invariant.passed r.longest refl (λ i lt. absurd (omega arith)) r.least r.most r.alone r.reported;
-      holds = λ i lt. subst (λ (k : ℕ). Holds (entries_of_key tree) (frame word) (i + 1) (Asked (frame word) k 0) (best_of read.new.bests read.new.starts i)) three (r.holds i (omega (arith, read.auto.bests)));
+      holds = λ i lt. subst (λ (k : ℕ). Holds (entries_of_key tree) (frame word) (i + 1) (Asked (frame word) k 0) (best_of read.new.bests i)) three (r.holds i (omega (arith, read.auto.bests)));
     }
 
 pub read-last-requires-clause-from : goal.read-last-requires-clause-from
@@ -85,7 +83,7 @@ read-last-requires-clause-holds g c =
     let tree = c.args.automaton.now in
     let word = c.args.word.now in
     let ends : c.loop-at.at + 2 ≡ length word + 2 = omega arith in
-    λ i lt. subst (λ (k : ℕ). Holds (entries_of_key tree) (frame word) (i + 1) (Asked (frame word) k 0) (best_of c.loop-at.bests c.loop-at.starts i)) ends (c.loop-at.invariant.holds i lt)
+    λ i lt. subst (λ (k : ℕ). Holds (entries_of_key tree) (frame word) (i + 1) (Asked (frame word) k 0) (best_of c.loop-at.bests i)) ends (c.loop-at.invariant.holds i lt)
 
 pub read-last-requires-clause-made : goal.read-last-requires-clause-made
 read-last-requires-clause-made g c = (passed_room c.args.automaton.now c.args.word.now c.invariant.ensures (c.loop-at.at + 1) c.loop-at.node _ _ _ _ _ (omega arith) (omega arith) c.requires.made c.requires.reported c.loop-at.invariant.passed).0
@@ -93,32 +91,35 @@ read-last-requires-clause-made g c = (passed_room c.args.automaton.now c.args.wo
 pub read-last-requires-clause-reported : goal.read-last-requires-clause-reported
 read-last-requires-clause-reported g c = (passed_room c.args.automaton.now c.args.word.now c.invariant.ensures (c.loop-at.at + 1) c.loop-at.node _ _ _ _ _ (omega arith) (omega arith) c.requires.made c.requires.reported c.loop-at.invariant.passed).1
 
--- After the last byte.
-all : (g : _) (c : goal.After-slice_known-3-1 g) → Passed c.args.automaton.now c.args.word.now (length c.args.word.now + 2) c.read-last.result [] c.args.count.now.made c.args.count.now.reported c.read-last.new.count.made c.read-last.new.count.reported
-all g c =
-    let tree = c.args.automaton.now in
-    let word = c.args.word.now in
-    let count = c.args.count.now in
-    let r = c.read-last.ensures in
-    let ends : c.loop-at.at ≡ length word = omega arith in
-    let two : (length word + 1) + 1 ≡ length word + 2 = omega arith in
-    let last = subst (λ k. Passed tree word (k + 1) c.loop-at.node [] count.made count.reported c.loop-at.count.made c.loop-at.count.reported) ends c.loop-at.invariant.passed in
-    subst (λ k. Passed tree word k c.read-last.result [] count.made count.reported c.read-last.new.count.made c.read-last.new.count.reported) two
-    (passed_more tree word c.invariant.ensures c.keys_have_nodes.ensures c.longest_goes_on.ensures c.requires.begins (length word + 1) c.loop-at.node 46 c.read-last.result [] [] _ _ _ _ c.read-last.new.count.made c.read-last.new.count.reported (omega arith) (last_byte tree word c.invariant.ensures) last r.longest refl (λ i lt. absurd (omega arith)) r.least r.most r.alone r.reported)
-
 pub returns-clause-winners : goal.returns-clause-winners
 returns-clause-winners g c =
-    winners_met c.args.automaton.now c.args.word.now c.read-last.new.bests c.read-last.new.starts (length c.args.word.now + 2 + 1) (c.read-last.auto.bests ∙ c.loop-at.invariant.bests ∙ c.requires.places) (omega arith)
+    winners_met c.args.automaton.now c.args.word.now c.read-last.new.bests (length c.args.word.now + 2 + 1) (c.read-last.auto.bests ∙ c.loop-at.invariant.bests ∙ c.requires.places) (omega arith)
     (λ i lt. c.read-last.ensures.holds i (omega (arith, c.read-last.auto.bests)))
 
 pub returns-clause-linear : goal.returns-clause-linear
-returns-clause-linear g c = let p = all g c in omega (arith, p.most)
+returns-clause-linear g c =
+    let last = c.read-last in
+    let r = last.ensures in
+    let p = passed_last c.args.automaton.now c.args.word.now c.invariant.ensures c.keys_have_nodes.ensures c.longest_goes_on.ensures c.requires.begins c.loop-at.at c.loop-at.node last.result _ _ _ _ last.new.count.made last.new.count.reported (omega arith) c.loop-at.invariant.passed r.longest r.least r.most r.alone r.reported in
+    omega (arith, p.most)
 
 pub returns-clause-alone : goal.returns-clause-alone
-returns-clause-alone g c = (all g c).alone
+returns-clause-alone g c =
+    let last = c.read-last in
+    let r = last.ensures in
+    let p = passed_last c.args.automaton.now c.args.word.now c.invariant.ensures c.keys_have_nodes.ensures c.longest_goes_on.ensures c.requires.begins c.loop-at.at c.loop-at.node last.result _ _ _ _ last.new.count.made last.new.count.reported (omega arith) c.loop-at.invariant.passed r.longest r.least r.most r.alone r.reported in
+    p.alone
 
 pub returns-clause-least : goal.returns-clause-least
-returns-clause-least g c = (all g c).least
+returns-clause-least g c =
+    let last = c.read-last in
+    let r = last.ensures in
+    let p = passed_last c.args.automaton.now c.args.word.now c.invariant.ensures c.keys_have_nodes.ensures c.longest_goes_on.ensures c.requires.begins c.loop-at.at c.loop-at.node last.result _ _ _ _ last.new.count.made last.new.count.reported (omega arith) c.loop-at.invariant.passed r.longest r.least r.most r.alone r.reported in
+    p.least
 
 pub returns-clause-reported : goal.returns-clause-reported
-returns-clause-reported g c = passed_reported c.args.automaton.now c.args.word.now c.invariant.ensures c.read-last.result [] _ _ _ _ (all g c)
+returns-clause-reported g c =
+    let last = c.read-last in
+    let r = last.ensures in
+    let p = passed_last c.args.automaton.now c.args.word.now c.invariant.ensures c.keys_have_nodes.ensures c.longest_goes_on.ensures c.requires.begins c.loop-at.at c.loop-at.node last.result _ _ _ _ last.new.count.made last.new.count.reported (omega arith) c.loop-at.invariant.passed r.longest r.least r.most r.alone r.reported in
+    passed_reported c.args.automaton.now c.args.word.now c.invariant.ensures last.result [] _ _ _ _ p

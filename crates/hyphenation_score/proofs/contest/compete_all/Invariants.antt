@@ -9,7 +9,6 @@ use Rattle.hyphenation_score.proofs.contest.compete_all.Given as goal
 abbrev pub invariant-loop-at : goal.invariant-loop-at
 invariant-loop-at g l = record {
   bests : length l.bests ≡ length l.fn.bests;
-  starts : length l.starts ≡ length l.fn.starts;
   passed : Passed l.automaton l.word (l.at + 1) l.node [] l.fn.count.made l.fn.count.reported l.count.made l.count.reported;
-  holds : (i : ℕ) → i < length l.bests → Holds (entries_of_key l.automaton) (frame l.word) (i + 1) (Asked (frame l.word) (l.at + 2) 0) (best_of l.bests l.starts i);
+  holds : (i : ℕ) → i < length l.bests → Holds (entries_of_key l.automaton) (frame l.word) (i + 1) (Asked (frame l.word) (l.at + 2) 0) (best_of l.bests i);
 }

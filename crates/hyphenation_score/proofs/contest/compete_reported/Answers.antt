@@ -19,8 +19,7 @@ loop-node-init g c =
       within = report.within;
       ends = report.ends;
       key = report.key;
-      lengths = c.requires.lengths;
-      holds = λ i lt. met_first c.longest_has_report.ensures tree (frame c.args.word.now) c.args.end (i + 1) c.args.from c.report-node.result (best_of c.args.bests.now c.args.starts.now i) c.requires.end c.requires.longest report (c.requires.holds i lt);
+      holds = λ i lt. met_first c.longest_has_report.ensures tree (frame c.args.word.now) c.args.end (i + 1) c.args.from c.report-node.result (best_of c.args.bests.now i) c.requires.end c.requires.longest report (c.requires.holds i lt);
       reported = omega (arith, counted_first tree t _ report);
       few = omega (arith, report.ends.0);
       made = refl;
@@ -58,11 +57,10 @@ loop-node-preserved g c =
       within = report.within;
       ends = Ends-trans t (node_text tree at) (node_text tree to) inv.ends (Ends-trans (node_text tree at) (drop 1 (node_text tree at)) (node_text tree to) (Ends-drop (node_text tree at) 1 pos) report.ends);
       key = report.key;
-      lengths = c.compete.auto.starts ∙ inv.lengths ∙ sym c.compete.auto.bests;
       holds = λ i lt.
-          let old = subst (λ (x : ℕ). Holds (entries_of_key tree) framed (i + 1) (Asked framed c.args.end x) (best_of c.loop-node.bests c.loop-node.starts i)) (sym start_is) (inv.holds i (omega (arith, c.compete.auto.bests))) in
+          let old = subst (λ (x : ℕ). Holds (entries_of_key tree) framed (i + 1) (Asked framed c.args.end x) (best_of c.loop-node.bests i)) (sym start_is) (inv.holds i (omega (arith, c.compete.auto.bests))) in
           subst (λ n. Holds (entries_of_key tree) framed (i + 1) (Asked framed c.args.end (c.args.end - length (node_text tree to))) n) (sym (c.compete.ensures i (omega (arith, c.compete.auto.bests))))
-          (met_next tree framed c.args.end (i + 1) at to start c.entries-entries.result.now (best_of c.loop-node.bests c.loop-node.starts i) c.requires.end ends pos report c.entries-entries.ensures.entries start_is old);
+          (met_next tree framed c.args.end (i + 1) at to start c.entries-entries.result.now (best_of c.loop-node.bests i) c.requires.end ends pos report c.entries-entries.ensures.entries start_is old);
       reported = omega (arith, counted, more, inv.reported);
       few = omega (arith, counted, inv.few);
       made = ap (λ x. x.made) c.entries-entries.ensures.counted ∙ inv.made;

@@ -12,8 +12,7 @@ invariant-loop-node g l = record {
   within : l.node < length l.automaton.texts;
   ends : EndsWith (node_text l.automaton l.from) (node_text l.automaton l.node);
   key : 0 < l.node → IsSome (entries_of_key l.automaton (node_text l.automaton l.node));
-  lengths : length l.starts ≡ length l.bests;
-  holds : (i : ℕ) → i < length l.bests → Holds (entries_of_key l.automaton) (frame l.word) (i + 1) (Asked (frame l.word) l.end (l.end - length (node_text l.automaton l.node))) (best_of l.bests l.starts i);
+  holds : (i : ℕ) → i < length l.bests → Holds (entries_of_key l.automaton) (frame l.word) (i + 1) (Asked (frame l.word) l.end (l.end - length (node_text l.automaton l.node))) (best_of l.bests i);
   reported : l.count.reported ≡ l.fn.count.reported + keys_in l.automaton (node_text l.automaton l.from) (length (node_text l.automaton l.from) - length (node_text l.automaton l.node));
   few : l.count.reported + length (node_text l.automaton l.node) ≤ l.fn.count.reported + length (node_text l.automaton l.from);
   made : l.count.made ≡ l.fn.count.made;

@@ -1,4 +1,4 @@
-use Rattle.std.proofs.Common.{ℕ, ◌∙◌, None, arith, replicate, List, Option, Bor}
+use Rattle.std.proofs.Common.{◌∙◌, None, arith, replicate, List, Option, Bor}
 use Rattle.std.proofs.lemmas.List.{length-take, get_or-take, get_or-replicate}
 use Rattle.hyphenation_breaks.specs.Break.{Change}
 use Rattle.hyphenation_breaks.specs.declared.entry.Entry.{Entry}
@@ -7,11 +7,5 @@ use Rattle.hyphenation_hyphenator.proofs.hyphenator.pattern_breaks.winning_break
 pub won_from-requires-clause-none : goal.won_from-requires-clause-none
 won_from-requires-clause-none c = λ i lt.
     let places = c.saturating_sub-places.result in
-    let none : List (Option (Bor (Entry (Option Change)))) = replicate 64 None in
-    get_or-take places none i None (omega (arith, lt, length-take places none)) ∙ get_or-replicate 64 i None None (omega (arith, lt, length-take places none))
-
-pub won_from-requires-clause-zeros : goal.won_from-requires-clause-zeros
-won_from-requires-clause-zeros c = λ i lt.
-    let places = c.saturating_sub-places.result in
-    let short = length-take {A = ℕ} places (replicate 64 0) in
-    get_or-take {A = ℕ} places (replicate 64 0) i 0 (omega (arith, lt, short)) ∙ get_or-replicate {A = ℕ} 64 i 0 0 (omega (arith, lt, short))
+    let none : List (Option (Bor (Entry (Option Change)))) = replicate 32 None in
+    get_or-take places none i None (omega (arith, lt, length-take places none)) ∙ get_or-replicate 32 i None None (omega (arith, lt, length-take places none))

@@ -11,7 +11,7 @@ use Rattle.hyphenation_hyphenator.proofs.hyphenator.pattern_breaks.won_within.Go
 use Rattle.hyphenation_hyphenator.proofs.hyphenator.pattern_breaks.won_within.Goals as goal
 
 pub loop-index-init : goal.loop-index-init
-loop-index-init c = ap (map lent_break) c.new-breaks.ensures.items
+loop-index-init c = ap (map lent_break) c.in_ok-breaks.ensures.items
 
 pub loop-index-preserved : goal.loop-index-preserved
 loop-index-preserved c =
