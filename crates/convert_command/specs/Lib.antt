@@ -1,0 +1,4 @@
+pub mod Private
+pub mod Tags
+pub mod Words
+pub mod Written
