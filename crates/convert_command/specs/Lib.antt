@@ -1,4 +1,3 @@
 pub mod Private
-pub mod Tags
 pub mod Words
 pub mod Written

@@ -1,7 +1,7 @@
 //! What the program's words ask for.
 
 ghost use Rattle.std.specs.Prelude.{◌≡◌, ◌<◌, ◌+◌, ◌==◌, IfOk, IfSome, None, MatchOption, drop, length, map, option_copied, option_map, position};
-ghost use Rattle.convert_command.specs.Tags.{name_in, tag_in, is_other, stranger_from};
+ghost use Rattle.convert_command.specs.Private.Tags.{name_in, tag_in, is_other, stranger_from};
 ghost use Rattle.convert_command.specs.Words.{Says, SaysMinimum};
 ghost use Rattle.convert_command.specs.Private.Requests.{meaning};
 
