@@ -2,14 +2,18 @@
 //! dictionary text.
 #![tactic(auto)]
 
-ghost use Rattle.std.specs.Prelude.{◌≡◌, ◌⊎◌, IfErr, IfSome};
+ghost use Rattle.std.specs.Prelude.{◌≡◌, ◌≢◌, ◌⊎◌, None, OnOk, IfOk, IfErr, IfSome};
 ghost use Rattle.std.specs.Io.KnownBytes.{Appends};
+ghost use Rattle.std.specs.IoError.{error_kind};
 ghost use Rattle.command_line.specs.About.{own_text};
 ghost use Rattle.command_line.specs.Statuses.{BeforeOutput};
+ghost use Rattle.convert_command.specs.Words.{Asked, Says};
+ghost use Rattle.convert_command.specs.Written.{IsFor, Writes, IsAnswered};
+ghost use Rattle.convert_command.specs.Private.Statuses.{IsStatusOf, MissesMinima};
 
 mod request;
 
-use command_line::{VERSION, answer_of_itself};
+use command_line::{VERSION, answer_of_itself, tell};
 use hyphenation_breaks::entry::{Listing, Payload};
 use hyphenation_breaks::extended::Subregion;
 use hyphenation_grammar::form::Kind;
@@ -48,12 +52,22 @@ enum Failure {
 }
 
 impl From<AllocError> for Failure {
+    ghost use Rattle.std.specs.Prelude.{◌≡◌};
+    ghost use Rattle.convert_command.specs.declared.Failure.TheVariants.{Memory};
+
+    ghost from_gives = { λ _ result. result ≡ Memory };
+
     fn from(_error: AllocError) -> Failure {
         Failure::Memory
     }
 }
 
 impl From<Refusal> for Failure {
+    ghost use Rattle.std.specs.Prelude.{◌≡◌};
+    ghost use Rattle.convert_command.specs.declared.Failure.TheVariants.{Refused};
+
+    ghost from_gives = { λ refusal result. result ≡ Refused refusal };
+
     fn from(refusal: Refusal) -> Failure {
         Failure::Refused(refusal)
     }
@@ -68,7 +82,9 @@ fn read_file<F: Files>(rt: &F, alloc: Global, path: &str) -> io::Result<Vec<u8>>
 }
 
 /// All bytes of the files.
-fn read_files<F: Files>(rt: &F, alloc: Global, paths: &[&str]) -> Result<Vec<Vec<u8>>, Failure> {
+fn read_files<F: Files>(rt: &F, alloc: Global, paths: &[&str]) -> Result<Vec<Vec<u8>>, Failure>
+    ensures { IfErr result (λ failure. failure ≢ Failure.Minima) }
+{
     let mut files = Vec::new(alloc);
     for (index, path) in paths.iter().enumerate() {
         match read_file(rt, alloc, path) {
@@ -105,7 +121,11 @@ fn convert_tex<C: Payload, B: Listing>(
     alloc: Global,
     request: &Request<'_>,
     bytes: &[Vec<u8>],
-) -> Result<Converted<C, B>, Failure> {
+) -> Result<Converted<C, B>, Failure>
+    ensures made { IfOk result (λ found.
+        IsFor request.now.language request.now.left request.now.right found.dictionary) }
+    ensures missed { IfErr result (MissesMinima request.now.left request.now.right) }
+{
     let files = formed(alloc, request.paths, bytes)?;
     let minima = minima_for(request.left, request.right, &files);
     // a file that can't be understood is told of before the minima are missed
@@ -122,7 +142,11 @@ fn convert_files<C: Payload, B: Listing>(
     alloc: Global,
     request: &Request<'_>,
     bytes: &[Vec<u8>],
-) -> Result<Converted<C, B>, Failure> {
+) -> Result<Converted<C, B>, Failure>
+    ensures made { IfOk result (λ found.
+        IsFor request.now.language request.now.left request.now.right found.dictionary) }
+    ensures missed { IfErr result (MissesMinima request.now.left request.now.right) }
+{
     match request.sort {
         Sort::Tex => convert_tex(alloc, request, bytes),
         Sort::Dic => {
@@ -148,7 +172,10 @@ fn write_text<D: Load, O: Write>(
     dictionary: &D,
     output: &mut O,
 ) -> Result<(), Failure>
-    ensures { IfErr result (λ failure. (failure ≡ Failure.Writing) ⊎ (output.new ≡ output.old)) }
+    ensures written { OnOk result (Appends (O.contents output.old) (O.contents output.new)
+        (D.canonical dictionary.now)) }
+    ensures untouched { IfErr result (λ failure. (failure ≡ Failure.Writing) ⊎ (output.new ≡ output.old)) }
+    ensures given { IfErr result (λ failure. failure ≢ Failure.Minima) }
 {
     match dictionary.to_writer(alloc, output) {
         Ok(()) => Ok(()),
@@ -158,13 +185,17 @@ fn write_text<D: Load, O: Write>(
 }
 
 /// Reads the files, makes a dictionary of them and writes that; what there is to tell of it.
+#[tactic(auto, using(crate::proofs::Writing::standard_written, crate::proofs::Writing::extended_written))]
 fn run<F: Files, O: Write>(
     rt: &F,
     alloc: Global,
     request: &Request<'_>,
     output: &mut O,
 ) -> Result<Vec<Note>, Failure>
-    ensures { IfErr result (λ failure. (failure ≡ Failure.Writing) ⊎ (output.new ≡ output.old)) }
+    ensures written { OnOk result (Writes request.now.kind request.now.language request.now.left request.now.right
+        (O.contents output.old) (O.contents output.new)) }
+    ensures untouched { IfErr result (λ failure. (failure ≡ Failure.Writing) ⊎ (output.new ≡ output.old)) }
+    ensures missed { IfErr result (MissesMinima request.now.left request.now.right) }
 {
     let bytes = read_files(rt, alloc, request.paths)?;
     match request.kind {
@@ -187,27 +218,30 @@ fn run<F: Files, O: Write>(
 }
 
 /// Writes what was noted. That it can't be written changes nothing.
-fn report_notes<E: Write>(paths: &[&str], notes: &[Note], faults: &mut E) {
+fn report_notes<E: Write>(alloc: Global, paths: &[&str], notes: &[Note], faults: &mut E) {
     for note in notes {
         let path = paths.get(note.first.file).copied().unwrap_or("");
         let line = note.first.line;
         let what = note.what;
         let times = note.times;
-        let _ = writeln!(
+        tell(
+            alloc,
+            &format_args!("hyphenate-convert: {path}:{line}: note: {what} ({times})\n"),
             faults,
-            "hyphenate-convert: {path}:{line}: note: {what} ({times})"
         );
     }
 }
 
-fn report_memory<E: Write>(faults: &mut E) -> u8 {
+fn report_memory<E: Write>(faults: &mut E) -> u8
+    ensures { result ≡ 6 }
+{
     let _ = faults.write_all(b"hyphenate-convert: no memory\n");
     6
 }
 
 /// Writes why nothing was written, and gives the status.
-fn report<E: Write>(paths: &[&str], failure: &Failure, faults: &mut E) -> u8
-    ensures { failure.now ≡ Failure.Writing → result ≡ 5 }
+fn report<E: Write>(alloc: Global, paths: &[&str], failure: &Failure, faults: &mut E) -> u8
+    ensures { IsStatusOf failure.now result }
 {
     match failure {
         Failure::Reading(index, e) => {
@@ -215,12 +249,20 @@ fn report<E: Write>(paths: &[&str], failure: &Failure, faults: &mut E) -> u8
             if let ErrorKind::OutOfMemory = e.kind() {
                 return report_memory(faults);
             }
-            let _ = writeln!(faults, "hyphenate-convert: {path}: {e}");
+            tell(
+                alloc,
+                &format_args!("hyphenate-convert: {path}: {e}\n"),
+                faults,
+            );
             3
         }
         Failure::Refused(Refusal::Fault { file, line, cause }) => {
             let path = paths.get(*file).copied().unwrap_or("");
-            let _ = writeln!(faults, "hyphenate-convert: {path}:{line}: {cause}");
+            tell(
+                alloc,
+                &format_args!("hyphenate-convert: {path}:{line}: {cause}\n"),
+                faults,
+            );
             3
         }
         Failure::Minima => {
@@ -239,7 +281,10 @@ fn report<E: Write>(paths: &[&str], failure: &Failure, faults: &mut E) -> u8
 }
 
 /// Writes why the program's words could not be had, and gives the status.
-pub fn report_words<E: Write>(fault: &io::Error, faults: &mut E) -> u8 {
+pub fn report_words<E: Write>(fault: &io::Error, faults: &mut E) -> u8
+    ensures memory { error_kind fault.now ≡ ErrorKind.OutOfMemory → result ≡ 6 }
+    ensures other { error_kind fault.now ≢ ErrorKind.OutOfMemory → result ≡ 2 }
+{
     match fault.kind() {
         ErrorKind::OutOfMemory => report_memory(faults),
         _ => {
@@ -250,7 +295,9 @@ pub fn report_words<E: Write>(fault: &io::Error, faults: &mut E) -> u8 {
 }
 
 /// Writes why the words ask for nothing, and gives the status.
-fn report_misfit<E: Write>(words: &[&str], misfit: Misfit, faults: &mut E) -> u8 {
+fn report_misfit<E: Write>(alloc: Global, words: &[&str], misfit: Misfit, faults: &mut E) -> u8
+    ensures { result ≡ 2 }
+{
     let (index, why) = match misfit {
         Misfit::Form => {
             let _ = faults.write_all(USAGE.as_bytes());
@@ -268,7 +315,11 @@ fn report_misfit<E: Write>(words: &[&str], misfit: Misfit, faults: &mut E) -> u8
     };
     // the files stand after four words
     let path = words.get(index.saturating_add(4)).copied().unwrap_or("");
-    let _ = writeln!(faults, "hyphenate-convert: {path}: {why}");
+    tell(
+        alloc,
+        &format_args!("hyphenate-convert: {path}: {why}\n"),
+        faults,
+    );
     2
 }
 
@@ -285,6 +336,10 @@ pub fn answer<F: Files, O: Write, E: Write>(
 ) -> u8
     ensures said { IfSome (own_text NAME.now VERSION.now USAGE.now words.now) (λ text.
         (result ≡ 5) ⊎ ((result ≡ 0) × Appends (O.contents output.old) (O.contents output.new) text)) }
+    ensures written { own_text NAME.now VERSION.now USAGE.now words.now ≡ None → result ≡ 0 →
+        (asked : Asked) × Says words.now asked
+        × Writes asked.kind asked.code asked.left asked.right (O.contents output.old) (O.contents output.new) }
+    ensures answered { own_text NAME.now VERSION.now USAGE.now words.now ≡ None → IsAnswered result }
     ensures untouched { BeforeOutput result (output.new ≡ output.old) }
 {
     if let Some(status) = answer_of_itself(NAME, USAGE, words, output) {
@@ -292,13 +347,13 @@ pub fn answer<F: Files, O: Write, E: Write>(
     }
     let request = match Request::from_words(words) {
         Ok(request) => request,
-        Err(misfit) => return report_misfit(words, misfit, faults),
+        Err(misfit) => return report_misfit(alloc, words, misfit, faults),
     };
     match run(rt, alloc, &request, output) {
         Ok(notes) => {
-            report_notes(request.paths, &notes, faults);
+            report_notes(alloc, request.paths, &notes, faults);
             0
         }
-        Err(failure) => report(request.paths, &failure, faults),
+        Err(failure) => report(alloc, request.paths, &failure, faults),
     }
 }

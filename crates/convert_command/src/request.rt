@@ -1,7 +1,13 @@
 //! What the program's words ask for.
 
+ghost use Rattle.std.specs.Prelude.{◌≡◌, ◌<◌, ◌+◌, ◌==◌, IfOk, IfSome, None, MatchOption, drop, length, map, option_copied, option_map, position};
+ghost use Rattle.convert_command.specs.Private.Tags.{name_in, tag_in, is_other, stranger_from};
+ghost use Rattle.convert_command.specs.Words.{Says, SaysMinimum};
+ghost use Rattle.convert_command.specs.Private.Requests.{meaning};
+
 use hyphenation_breaks::language::Language;
 use hyphenation_grammar::form::Kind;
+use hyphenation_grammar::lines::strip_prefix;
 use pattern_files::group::{Form, Group};
 
 /// What the files are.
@@ -50,27 +56,66 @@ pub enum Misfit {
     Language(usize),
 }
 
+/// Where the last slash of a path stands.
+#[tactic(auto, using(crate::proofs::Names::name_found))]
+fn last_slash(path: &str) -> Option<usize>
+    ensures { MatchOption result (name_in path.now ≡ path.now)
+        (λ at. (at < length path.now) × (name_in path.now ≡ drop (at + 1) path.now)) }
+{
+    path.rfind('/')
+}
+
+/// The name of a file, by its path.
+fn name_of(path: &str) -> &[u8]
+    ensures { result.now ≡ name_in path.now }
+{
+    match last_slash(path) {
+        Some(at) => &path.as_bytes()[at + 1..],
+        None => path.as_bytes(),
+    }
+}
+
+/// Where the first full stop stands.
+fn stop(text: &[u8]) -> Option<usize>
+    ensures { result ≡ position (λ b. b == 46) text.now }
+{
+    text.iter().position(|b| *b == b'.')
+}
+
 /// The tag of a language that a file's name has, as hyph-utf8 names its files: `hyph-TAG.tex`, `hyph-quote-TAG.tex`,
 /// `hyph-TAG.pat.txt`.
-fn tag_of(path: &str) -> Option<&str> {
-    let name = match path.rsplit_once('/') {
-        Some((_, name)) => name,
-        None => path,
-    };
-    let tag = name.strip_prefix("hyph-")?;
-    let tag = tag.strip_prefix("quote-").unwrap_or(tag);
-    let (tag, _) = tag.split_once('.')?;
-    Some(tag)
+fn tag_of(path: &str) -> Option<&[u8]>
+    ensures { option_map (λ tag. tag.now) result ≡ tag_in path.now }
+{
+    let text = strip_prefix(b"hyph-", name_of(path))?;
+    let text = strip_prefix(b"quote-", text).unwrap_or(text);
+    let end = stop(text)?;
+    Some(&text[..end])
+}
+
+/// Whether a file, by its tag if it has one, is of another language than that of a tag.
+fn is_other(first: &[u8], tag: Option<&[u8]>) -> bool
+    ensures { result ≡ is_other first.now (option_copied tag.entry) }
+{
+    match tag {
+        Some(tag) => first != tag,
+        None => false,
+    }
 }
 
 /// The first file of another language than those before it, as far as the names say.
-fn stranger(paths: &[&str]) -> Option<usize> {
-    let mut known = None;
+fn stranger(paths: &[&str]) -> Option<usize>
+    ensures { result ≡ stranger_from None 0 (map (λ path. path.now) paths.now) }
+{
+    let mut known: Option<&[u8]> = None;
     for (index, path) in paths.iter().enumerate() {
-        match (known, tag_of(path)) {
-            (Some(first), Some(tag)) if first != tag => return Some(index),
-            (None, tag) => known = tag,
-            _ => {}
+        match known {
+            None => known = tag_of(path),
+            Some(first) => {
+                if is_other(first, tag_of(path)) {
+                    return Some(index);
+                }
+            }
         }
     }
     None
@@ -106,7 +151,9 @@ fn sort_of(paths: &[&str]) -> Result<Sort, Misfit> {
 }
 
 /// A minimum; `-` means that the files say it. None where it is neither.
-fn minimum_of(text: &str) -> Option<Option<u8>> {
+fn minimum_of(text: &str) -> Option<Option<u8>>
+    ensures { IfSome result (SaysMinimum text.now) }
+{
     if text == "-" {
         return Some(None);
     }
@@ -118,7 +165,9 @@ fn minimum_of(text: &str) -> Option<Option<u8>> {
 
 impl<'w> Request<'w> {
     /// The request, or why the words ask for nothing.
-    pub fn from_words(words: &'w [&'w str]) -> Result<Request<'w>, Misfit> {
+    pub fn from_words(words: &'w [&'w str]) -> Result<Request<'w>, Misfit>
+        ensures { IfOk result (λ request. Says words.now (meaning request)) }
+    {
         let [kind, code, left, right, paths @ ..] = words else {
             return Err(Misfit::Form);
         };

@@ -1,0 +1,25 @@
+-- What the program `hyphenate-convert` writes, and the statuses that it ends with.
+use Rattle.std.specs.Prelude.{◌≡◌, ◌⊎◌, ℕ, List, Option, IfSome}
+use Rattle.std.specs.Io.KnownBytes.{Appends}
+use Rattle.hyphenation_breaks.specs.Break.{Change}
+use Rattle.hyphenation_breaks.specs.Dictionary.{Contents}
+use Rattle.hyphenation_grammar.specs.declared.form.Kind.{Kind}
+use Rattle.hyphenation_grammar.specs.declared.form.Kind.TheVariants.{Standard, Extended}
+use Rattle.hyphenation_writer.specs.Canonical.{standard_text, extended_text}
+
+-- The dictionary is of that language, and has each minimum that is given.
+abbrev pub IsFor : {C B : Type 0} → List ℕ → Option ℕ → Option ℕ → Contents C B → Type 0
+IsFor code left right dictionary = (dictionary.language ≡ code) × IfSome left (λ given. dictionary.left ≡ given)
+    × IfSome right (λ given. dictionary.right ≡ given)
+
+-- The canonical text of a dictionary of that kind, language and minima was appended.
+abbrev pub Writes : Kind → List ℕ → Option ℕ → Option ℕ → Option (List ℕ) → Option (List ℕ) → Type 0
+Writes Standard code left right old new = (dictionary : Contents (Unit {0}) ℕ)
+    × IsFor code left right dictionary × Appends old new (standard_text dictionary)
+Writes Extended code left right old new = (dictionary : Contents (Option Change) (ℕ × Option Change))
+    × IsFor code left right dictionary × Appends old new (extended_text dictionary)
+
+-- The statuses: 0 done; 2 the arguments are of no form, or the minima are missing; 3 a file can't be opened, read or
+-- understood; 5 the result can't be written; 6 memory is wanting.
+abbrev pub IsAnswered : ℕ → Type 0
+IsAnswered status = (status ≡ 0) ⊎ (status ≡ 2) ⊎ (status ≡ 3) ⊎ (status ≡ 5) ⊎ (status ≡ 6)
