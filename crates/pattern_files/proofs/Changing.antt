@@ -1,5 +1,5 @@
 -- A change that is put together of its parts.
-use Rattle.std.proofs.Common.{◌≡◌, ◌∙◌, ℕ, ◌<◌, ◌≤◌, ◌⊎◌, ◌&&◌, ◌||◌, Bool, true, inl, inr, List, ◌++◌, length, Option, Some, Ok, IsTrue, nat_lt, nat_le, slice_index, sym, ap, arith}
+use Rattle.std.proofs.Common.{◌≡◌, ◌∙◌, ℕ, ◌<◌, ◌≤◌, ◌⊎◌, ◌&&◌, ◌||◌, Bool, inl, inr, List, ◌++◌, length, Option, Some, Ok, IsTrue, nat_lt, nat_le, slice_index, ap, arith}
 use Rattle.std.specs.Prelude.{IsUtf8}
 use Rattle.std.specs.Str.{IsCharBoundary}
 use Rattle.std.proofs.lemmas.Bool.Decides.{nat_tests}

@@ -5,7 +5,7 @@ use Rattle.std.specs.List.{cons_option}
 use Rattle.std.proofs.lemmas.List.{append_assoc, append-nil}
 use Rattle.hyphenation_breaks.specs.declared.entry.Entry.{Entry}
 use Rattle.pattern_files.specs.Converting.{SpeltWords}
-use Rattle.pattern_files.specs.LibreOfficePatterns.{Spelt, spelt_with}
+use Rattle.pattern_files.specs.LibreOfficePatterns.{spelt_with}
 use Rattle.pattern_files.specs.Private.Read.{with_keys}
 use Rattle.pattern_files.specs.Private.LibreOffice.{change_kept, keyed_view}
 use Rattle.pattern_files.specs.LibreOfficeLines.{Said}

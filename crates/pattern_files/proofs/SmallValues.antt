@@ -2,7 +2,7 @@
 use Rattle.std.proofs.Common.{◌≡◌, ℕ, ◌+◌, ◌-◌, ◌<◌, ◌==◌, Bool, true, false, if◌then◌else◌, List, [], ◌∷◌, ◌++◌, length, map, fold, filter, Option, Some, None, Result, Ok, Err, All, IfSome, refl, sym, subst, lit<, arith}
 use Rattle.std.specs.Prelude.{option_map, unwrap_or}
 use Rattle.std.specs.Option.{option_or}
-use Rattle.std.specs.List.{filter_map, cons_option, slice_split}
+use Rattle.std.specs.List.{cons_option, slice_split}
 use Rattle.std.specs.Str.{trim}
 use Rattle.std.proofs.lemmas.Bool.Decides.{nat_tests}
 use Rattle.std.proofs.lemmas.List.Elements.{All-nil, All-cons, All-head, All-tail, All-append, All-push, All-filter}

@@ -1,6 +1,6 @@
 -- What a `.dic` of LibreOffice gives: a dictionary, or its first fault.
 -- Source: libhyphen 2.8.8, hyphen.c and README.hyphen.
-use Rattle.std.specs.Prelude.{ℕ, ◌+◌, ◌-◌, ◌==◌, ◌&&◌, ◌||◌, nat_le, Bool, true, false, if◌then◌else◌, List, [], ◌∷◌, length, drop, take, map, codes, Option, Some, None, option_map, unwrap_or}
+use Rattle.std.specs.Prelude.{ℕ, ◌-◌, ◌==◌, ◌&&◌, ◌||◌, nat_le, Bool, true, false, if◌then◌else◌, List, [], ◌∷◌, length, drop, take, map, codes, Option, Some, None, unwrap_or}
 use Rattle.std.specs.Option.{option_or}
 use Rattle.std.specs.List.{filter_map, prefix_len, suffix_len}
 use Rattle.std.specs.Char.{is_ascii_whitespace}

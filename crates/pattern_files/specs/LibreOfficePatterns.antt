@@ -1,11 +1,10 @@
 -- What a pattern of a `.dic` of LibreOffice spells: a key, its values, and maybe a change of letters at one of them.
 -- Sources: libhyphen 2.8.8, hyphen.c and README.nonstandard; L. Németh, Automatic non-standard hyphenation in
 -- OpenOffice.org, TUGboat 27:1 (2006).
-use Rattle.std.specs.Prelude.{ℕ, ◌+◌, ◌-◌, ◌^◌, ◌%◌, ◌==◌, ◌&&◌, ◌||◌, nat_le, nat_lt, Bool, false, if◌then◌else◌, List, [], ◌∷◌, ◌++◌, length, drop, filter, fold, map, count_by, Option, Some, None, option_map, option_and_then, unwrap_or, Result, Ok, Err, slice_get, slice_index}
+use Rattle.std.specs.Prelude.{ℕ, ◌+◌, ◌-◌, ◌^◌, ◌%◌, ◌==◌, ◌&&◌, ◌||◌, nat_le, nat_lt, Bool, false, if◌then◌else◌, List, [], ◌∷◌, ◌++◌, length, drop, filter, fold, map, count_by, Option, Some, None, option_map, option_and_then, Result, Ok, Err, slice_get, slice_index}
 use Rattle.std.specs.Option.{option_or}
 use Rattle.std.specs.List.{list_any, find, filter_map, slice_split}
 use Rattle.std.specs.Str.{trim}
-use Rattle.hyphenation_breaks.specs.Break.{Change}
 use Rattle.hyphenation_breaks.specs.Invariant.{has_letter}
 use Rattle.hyphenation_grammar.specs.Lines.{is_digit, is_same}
 use Rattle.pattern_files.specs.LibreOfficeLines.{Said, cut_at, number_below}
