@@ -99,8 +99,3 @@ contents_of_files payload_of listing_of language left right files =
 abbrev pub IsRefusalOf : Refusal → Option (ℕ × (ℕ × Cause)) → Type 0
 IsRefusalOf Memory fault = Unit {0}
 IsRefusalOf (Fault file line cause) fault = fault ≡ Some (file, (line, cause))
-
--- Want of memory, or a fault of the file of that number.
-abbrev pub IsOfFile : ℕ → Refusal → Type 0
-IsOfFile number Memory = Unit {0}
-IsOfFile number (Fault file line cause) = file ≡ number

@@ -1,7 +1,11 @@
 pub mod Spelling
+pub mod Charsets
+pub mod LibreOfficeLines
+pub mod LibreOfficePatterns
 pub mod Groups
 pub mod Converting
 pub mod TexFiles
 pub mod Longest
 pub mod Changes
+pub mod LibreOffice
 pub mod Private

@@ -1,82 +1,180 @@
 //! The charsets of LibreOffice's files.
 
+ghost use Rattle.std.specs.Prelude.{◌≡◌, ◌<◌, option_map, IfOk, IfErr, OnOk, None};
+ghost use Rattle.std.specs.String.{string_bytes};
+ghost use Rattle.pattern_files.specs.TexFiles.{line_feeds};
+ghost use Rattle.pattern_files.specs.Charsets.{charset_named, part_of_iso_8859, upper_half, char_in, first_bad, text_by, text_in, table_fault, coding_fault};
+ghost use Rattle.pattern_files.specs.declared.charset.Charset.TheVariants.{Utf8};
+ghost use Rattle.pattern_files.specs.Private.Read.{IsLineFault};
+
 mod tables;
 
 use crate::fault::{Cause, LineFault};
-use std::alloc::Global;
+use hyphenation_grammar::lines::strip_prefix;
+use std::alloc::{AllocError, Global};
 use tables::{
     CP1251, ISO8859_2, ISO8859_5, ISO8859_7, ISO8859_9, ISO8859_10, ISO8859_13, ISO8859_14,
     ISO8859_15, KOI8_R, KOI8_U,
 };
 
-/// A charset: UTF-8, Latin-1, or one of a byte for each character, by a table for the bytes from 128 on.
-#[derive(Drop)]
+/// A charset: UTF-8, or one of a byte for each character.
+#[derive(Clone, Copy)]
 pub(crate) enum Charset {
     Utf8,
     Latin1,
-    Table(&'static [u16; 128]),
+    Latin2,
+    Cyrillic,
+    Greek,
+    Latin5,
+    Latin6,
+    Latin7,
+    Latin8,
+    Latin9,
+    Koi8R,
+    Koi8U,
+    Cp1251,
 }
 
 impl Charset {
     /// The charset of that name, as line 1 of a `.dic` has it.
-    pub(crate) fn from_name(name: &[u8]) -> Option<Charset> {
-        if let Some(part) = name.strip_prefix(b"ISO8859-".as_slice()) {
+    pub(crate) fn from_name(name: &[u8]) -> Option<Charset>
+        ensures { result ≡ charset_named name.now }
+    {
+        if let Some(part) = strip_prefix(b"ISO8859-", name) {
             Charset::of_iso_8859(part)
         } else if name == b"UTF-8".as_slice() {
             Some(Charset::Utf8)
         } else if name == b"KOI8-R".as_slice() {
-            Some(Charset::Table(&KOI8_R))
+            Some(Charset::Koi8R)
         } else if name == b"KOI8-U".as_slice() {
-            Some(Charset::Table(&KOI8_U))
+            Some(Charset::Koi8U)
         } else if name == b"microsoft-cp1251".as_slice() {
-            Some(Charset::Table(&CP1251))
+            Some(Charset::Cp1251)
         } else {
             None
         }
     }
 
     /// The charset of ISO 8859 whose part has that number.
-    fn of_iso_8859(part: &[u8]) -> Option<Charset> {
+    fn of_iso_8859(part: &[u8]) -> Option<Charset>
+        ensures { result ≡ part_of_iso_8859 part.now }
+    {
         match part {
             b"1" => Some(Charset::Latin1),
-            b"2" => Some(Charset::Table(&ISO8859_2)),
-            b"5" => Some(Charset::Table(&ISO8859_5)),
-            b"7" => Some(Charset::Table(&ISO8859_7)),
-            b"9" => Some(Charset::Table(&ISO8859_9)),
-            b"10" => Some(Charset::Table(&ISO8859_10)),
-            b"13" => Some(Charset::Table(&ISO8859_13)),
-            b"14" => Some(Charset::Table(&ISO8859_14)),
-            b"15" => Some(Charset::Table(&ISO8859_15)),
+            b"2" => Some(Charset::Latin2),
+            b"5" => Some(Charset::Cyrillic),
+            b"7" => Some(Charset::Greek),
+            b"9" => Some(Charset::Latin5),
+            b"10" => Some(Charset::Latin6),
+            b"13" => Some(Charset::Latin7),
+            b"14" => Some(Charset::Latin8),
+            b"15" => Some(Charset::Latin9),
             _ => None,
         }
     }
 
-    /// The character of a byte, where a byte is one.
-    fn char_of(&self, byte: u8) -> Option<char> {
+    /// The characters of the bytes from 128 on, by a table; none where a byte is its own character.
+    fn upper_half(self) -> Option<&'static [char; 128]>
+        ensures { option_map (λ table. table.now) result ≡ upper_half self }
+    {
         match self {
-            Charset::Table(table) if byte >= 128 => {
-                match table[usize::from(byte) - 128] {
-                    0 => None,
-                    code => char::from_u32(u32::from(code)),
-                }
-            }
-            _ => Some(char::from(byte)),
+            Charset::Utf8 | Charset::Latin1 => None,
+            Charset::Latin2 => Some(&ISO8859_2),
+            Charset::Cyrillic => Some(&ISO8859_5),
+            Charset::Greek => Some(&ISO8859_7),
+            Charset::Latin5 => Some(&ISO8859_9),
+            Charset::Latin6 => Some(&ISO8859_10),
+            Charset::Latin7 => Some(&ISO8859_13),
+            Charset::Latin8 => Some(&ISO8859_14),
+            Charset::Latin9 => Some(&ISO8859_15),
+            Charset::Koi8R => Some(&KOI8_R),
+            Charset::Koi8U => Some(&KOI8_U),
+            Charset::Cp1251 => Some(&CP1251),
         }
     }
 }
 
+/// The character of a byte, where a byte is one.
+fn char_of(upper: Option<&[char; 128]>, byte: u8) -> Option<char>
+    ensures { result ≡ char_in (option_map (λ table. table.now) upper.entry) byte }
+{
+    match upper {
+        Some(table) if byte >= 128 => {
+            match table[usize::from(byte) - 128] {
+                '\0' => None,
+                c => Some(c),
+            }
+        }
+        _ => Some(char::from(byte)),
+    }
+}
+
+/// The characters that bytes mean; a byte that means none is left out.
+fn chars_of(alloc: Global, upper: Option<&[char; 128]>, bytes: &[u8]) -> Result<String, AllocError>
+    ensures { IfOk result (λ text. string_bytes text
+        ≡ text_by (option_map (λ table. table.now) upper.entry) bytes.now) }
+{
+    let mut text = String::new(alloc);
+    for byte in bytes {
+        if let Some(c) = char_of(upper, *byte) {
+            text.push(c)?;
+        }
+    }
+    Ok(text)
+}
+
 /// The number of line feeds.
-fn line_feeds(bytes: &[u8]) -> usize {
+fn line_feeds(bytes: &[u8]) -> usize
+    ensures { result ≡ line_feeds bytes.now }
+{
     bytes.iter().filter(|b| **b == b'\n').count()
 }
 
-/// The text of UTF-8, whose first line has that number.
-fn utf8_text(alloc: Global, bytes: &[u8], first: usize) -> Result<String, LineFault> {
+/// The text that bytes mean in UTF-8, whose first line has that number.
+#[tactic(auto, using(crate::proofs::Texts::bad_utf8, crate::proofs::Texts::good_utf8))]
+fn utf8_text(alloc: Global, bytes: &[u8], first: usize) -> Result<String, LineFault>
+    requires { first < 3 }
+    ensures good { OnOk result (coding_fault Utf8 first bytes.now ≡ None) }
+    ensures text { IfOk result (λ text. string_bytes text ≡ bytes.now) }
+    ensures refused { IfErr result (λ fault. IsLineFault fault (coding_fault Utf8 first bytes.now)) }
+{
     match std::str::from_utf8(bytes) {
         Ok(text) => Ok(String::from_str(alloc, text)?),
         Err(e) => {
             let good = bytes.get(..e.valid_up_to()).unwrap_or(bytes);
-            Err(LineFault::OnLine(first.saturating_add(line_feeds(good)), Cause::NotUtf8))
+            Err(LineFault::OnLine(first + line_feeds(good), Cause::NotUtf8))
+        }
+    }
+}
+
+/// Where the first byte stands that means no character.
+fn first_bad(upper: Option<&[char; 128]>, bytes: &[u8]) -> Option<usize>
+    ensures { result ≡ first_bad (option_map (λ table. table.now) upper.entry) bytes.now }
+{
+    bytes
+        .iter()
+        .position(|byte| char_of(upper, *byte).is_none())
+}
+
+/// The text that bytes mean, one character each, whose first line has that number.
+fn text_by(
+    alloc: Global,
+    upper: Option<&[char; 128]>,
+    bytes: &[u8],
+    first: usize,
+) -> Result<String, LineFault>
+    requires { first < 3 }
+    ensures good { OnOk result (table_fault (option_map (λ table. table.now) upper.entry) first bytes.now ≡ None) }
+    ensures text { IfOk result (λ text. string_bytes text
+        ≡ text_by (option_map (λ table. table.now) upper.entry) bytes.now) }
+    ensures refused { IfErr result (λ fault. IsLineFault fault
+        (table_fault (option_map (λ table. table.now) upper.entry) first bytes.now)) }
+{
+    match first_bad(upper, bytes) {
+        None => Ok(chars_of(alloc, upper, bytes)?),
+        Some(at) => {
+            let good = bytes.get(..at).unwrap_or(bytes);
+            Err(LineFault::OnLine(first + line_feeds(good), Cause::NotInCharset))
         }
     }
 }
@@ -87,20 +185,14 @@ pub(crate) fn text_of(
     charset: Charset,
     bytes: &[u8],
     first: usize,
-) -> Result<String, LineFault> {
-    if let Charset::Utf8 = charset {
-        return utf8_text(alloc, bytes, first);
+) -> Result<String, LineFault>
+    requires { first < 3 }
+    ensures good { OnOk result (coding_fault charset first bytes.now ≡ None) }
+    ensures text { IfOk result (λ text. string_bytes text ≡ text_in charset bytes.now) }
+    ensures refused { IfErr result (λ fault. IsLineFault fault (coding_fault charset first bytes.now)) }
+{
+    match charset {
+        Charset::Utf8 => utf8_text(alloc, bytes, first),
+        _ => text_by(alloc, charset.upper_half(), bytes, first),
     }
-    let mut text = String::new(alloc);
-    let mut line = first;
-    for byte in bytes {
-        match charset.char_of(*byte) {
-            Some(c) => text.push(c)?,
-            None => return Err(LineFault::OnLine(line, Cause::NotInCharset)),
-        }
-        if *byte == b'\n' {
-            line = line.saturating_add(1);
-        }
-    }
-    Ok(text)
 }

@@ -13,8 +13,8 @@
 //! A `.dic` of LibreOffice names its charset in line 1, and then has settings and patterns, some with changes of
 //! letters.
 //!
-//! [`convert::convert`] takes TeX's files and plain ones, and its contract says which dictionary they give;
-//! [`libreoffice::convert_dic`] takes a `.dic`. The modules, from the bottom up: [`fault`] says why files give nothing,
+//! [`convert::convert`] takes TeX's files and plain ones, [`libreoffice::convert_dic`] takes a `.dic`, and their
+//! contracts say which dictionary these give. The modules, from the bottom up: [`fault`] says why files give nothing,
 //! [`notes`] what there is to tell where they give a dictionary; [`group`] has files, their groups and their words;
 //! [`longest`] tells whether LibreOffice reads patterns otherwise than TeX does; `spelling` reads one word; `parts` gathers what words spell; `tex` reads files into words, and [`laws`] say in the
 //! format's own words which; [`told`] has what TeX's files say of themselves, and what there is to note of them.
@@ -29,6 +29,7 @@ pub mod group;
 pub mod laws;
 mod levels;
 pub mod libreoffice;
+mod lines;
 pub mod longest;
 pub mod notes;
 mod parts;

@@ -5,264 +5,271 @@
 //! lets only the longest beginning of a pattern count that ends at a letter; [`crate::longest`] tells where that
 //! differs.
 
-ghost use Rattle.std.specs.Prelude.{◌≡◌, IfOk, IfErr, IfSome};
-ghost use Rattle.pattern_files.specs.Converting.{IsOfFile};
+ghost use Rattle.std.specs.Prelude.{◌≡◌, ◌<◌, ◌==◌, [], All, map, position, option_map, IfOk, IfErr, IfSome, OnOk, None};
+ghost use Rattle.pattern_files.specs.Converting.{IsRefusalOf, contents_made};
+ghost use Rattle.pattern_files.specs.LibreOfficeLines.{settings_of, minimum_told, minimum_of};
+ghost use Rattle.pattern_files.specs.LibreOffice.{first_and_rest, trimmed, starts_with_capital, is_pattern, is_name, names_charset, coded_of, coded_lines, coded_fault, lines_of_dic, all_patterns, dic_fault, fault_of_lines, kept_in, contents_of_dic};
+ghost use Rattle.pattern_files.specs.Private.Read.{IsLineFault};
+ghost use Rattle.pattern_files.specs.Private.LibreOffice.{line_view, settings_view, spelt_view, keyed_view, coded_view, has_small_values};
+ghost use Rattle.std.specs.List.{filter_map};
 
 use crate::charset::{Charset, text_of};
 use crate::convert::Converted;
 use crate::fault::{Cause, LineFault, Refusal};
-use crate::levels::Levels;
+use crate::levels::{
+    Noted, Pattern, forbid_all, note_hiding, note_levels, note_losses, patterns_of, put_patterns,
+};
+use crate::lines::{
+    Kind, Line, Settings, line_fault, line_of, lines_of, minimum_of, minimum_told, settings_of,
+};
 use crate::notes::What;
 use crate::parts::Parts;
 use hyphenation_breaks::entry::{Listing, Payload};
 use hyphenation_breaks::language::Language;
 use hyphenation_dictionary::dictionary::Dictionary;
-use std::alloc::Global;
+use hyphenation_grammar::lines::starts_with;
+use std::alloc::{AllocError, Global};
 
-/// What a line of such a file is.
-#[derive(Drop)]
-enum Line<'a> {
-    Nothing,
-    Left(&'a str),
-    Right(&'a str),
-    Level,
-    NoHyphen(&'a str),
-    Other,
-    Pattern(&'a str),
-}
-
-/// What a line is.
-fn line_of(line: &str) -> Line<'_> {
-    let line = line.trim_end();
-    if line.is_empty() || line.starts_with('%') || line.starts_with('#') {
-        return Line::Nothing;
-    }
-    let (word, rest) = line.split_once(' ').unwrap_or((line, ""));
-    match word {
-        "LEFTHYPHENMIN" => Line::Left(rest),
-        "RIGHTHYPHENMIN" => Line::Right(rest),
-        "NOHYPHEN" => Line::NoHyphen(rest),
-        "NEXTLEVEL" => Line::Level,
-        "COMPOUNDLEFTHYPHENMIN" | "COMPOUNDRIGHTHYPHENMIN" => Line::Other,
-        _ => Line::Pattern(line),
-    }
-}
-
-/// A minimum; 0 means none, as LibreOffice has it.
-fn minimum_of(text: &str, line: usize) -> Result<Option<u8>, LineFault> {
-    match text.trim().parse::<u8>() {
-        Ok(0) => Ok(None),
-        Ok(minimum) => Ok(Some(minimum)),
-        Err(_) => Err(LineFault::OnLine(line, Cause::Minimum)),
-    }
-}
-
-/// What the lines said of all levels.
-#[derive(Drop)]
-struct Settings<'a> {
-    /// The texts, with a comma between them, at which no break is to stand, and their line.
-    no_hyphen: (&'a str, usize),
-    /// The line that begins the second level.
-    level: Option<usize>,
-    /// Whether a pattern stands in the first level, and in the second.
-    has_patterns: (bool, bool),
-}
-
-/// Takes in a line.
-fn take_line<'a>(
-    alloc: Global,
-    levels: &mut Levels,
-    settings: &mut Settings<'a>,
-    line: &'a str,
-    number: usize,
-) -> Result<(), LineFault> {
-    match line_of(line) {
-        Line::Nothing => {}
-        Line::Left(text) => levels.left = minimum_of(text, number)?,
-        Line::Right(text) => levels.right = minimum_of(text, number)?,
-        Line::Level => settings.level = Some(number),
-        Line::NoHyphen(texts) => {
-            settings.no_hyphen = (texts, number);
-            levels.note(What::NoHyphen, number)?;
-        }
-        Line::Other => levels.note(What::Setting, number)?,
-        Line::Pattern(line) => {
-            match settings.level {
-                None => settings.has_patterns.0 = true,
-                Some(_) => settings.has_patterns.1 = true,
-            }
-            levels.take_pattern(alloc, line, number)?;
-        }
-    }
-    Ok(())
-}
-
-/// Notes what the levels mean for LibreOffice. Where only one of them has patterns, they mean the same here.
-fn note_levels(levels: &mut Levels, settings: Settings<'_>) -> Result<(), LineFault> {
-    match (settings.level, settings.has_patterns) {
-        (None, _) => levels.note(What::NoLevels, 1)?,
-        (Some(line), (true, true)) => levels.note(What::TwoLevels, line)?,
-        (Some(_), _) => {}
-    }
-    Ok(())
-}
-
-/// Takes in lines, of which the first has that number. What they said of all levels.
-fn read_lines<'a>(
-    alloc: Global,
-    levels: &mut Levels,
-    text: &'a str,
-    first: usize,
-) -> Result<Settings<'a>, LineFault> {
-    let mut settings = Settings {
-        no_hyphen: ("", first),
-        level: None,
-        has_patterns: (false, false),
-    };
-    for (index, line) in text.split('\n').enumerate() {
-        take_line(
-            alloc,
-            levels,
-            &mut settings,
-            line,
-            index.saturating_add(first),
-        )?;
-    }
-    Ok(settings)
-}
-
-/// Lets no break stand at texts with a comma between them, which that line has.
-fn forbid_all(
-    alloc: Global,
-    levels: &mut Levels,
-    texts: &str,
-    line: usize,
-) -> Result<(), LineFault> {
-    for text in texts.split(',') {
-        levels.forbid(alloc, text.trim(), line)?;
-    }
-    Ok(())
-}
-
-/// Takes in lines, of which the first has that number, and what they say of all levels.
-fn take_lines(
-    alloc: Global,
-    levels: &mut Levels,
-    text: &str,
-    first: usize,
-) -> Result<(), LineFault> {
-    let settings = read_lines(alloc, levels, text, first)?;
-    levels.note_hiding(alloc)?;
-    let (texts, line) = settings.no_hyphen;
-    forbid_all(alloc, levels, texts, line)?;
-    note_levels(levels, settings)
+/// Where the first line feed stands.
+fn feed(bytes: &[u8]) -> Option<usize>
+    ensures { result ≡ position (λ b. b == 10) bytes.now }
+{
+    bytes.iter().position(|byte| *byte == b'\n')
 }
 
 /// Line 1, and what stands after it.
-fn first_line(bytes: &[u8]) -> (&[u8], &[u8]) {
-    match bytes.iter().position(|byte| *byte == b'\n') {
+fn first_and_rest(bytes: &[u8]) -> (&[u8], &[u8])
+    ensures { (result.0.now, result.1.now) ≡ first_and_rest bytes.now }
+{
+    match feed(bytes) {
         Some(at) => (&bytes[..at], &bytes[at + 1..]),
-        None => (bytes, &bytes[bytes.len()..]),
+        None => (bytes, &[]),
     }
 }
 
-/// Whether line 1 names a charset, known or not: it begins with a capital letter, or as a charset of Windows does, and is
-/// no setting.
-fn names_charset(line: &[u8]) -> bool {
-    let Ok(text) = std::str::from_utf8(line) else {
+/// A line without white space of ASCII at its ends.
+fn trimmed(line: &[u8]) -> &[u8]
+    ensures { result.now ≡ trimmed line.now }
+{
+    line.trim_ascii()
+}
+
+/// Whether line 1 is such a text as names a charset, known or not: it begins with a capital letter, or as a charset of
+/// Windows does, and is no setting.
+fn is_name(text: &str) -> bool
+    ensures { result ≡ is_name text.now }
+{
+    if !is_pattern(line_of(1, text.trim_end()).kind) {
         return false;
-    };
-    let is_name = text.starts_with(|c: char| c.is_ascii_uppercase())
-        || text.starts_with("microsoft-");
-    is_name && matches!(line_of(text), Line::Pattern(_))
+    }
+    starts_with_capital(text.as_bytes()) || starts_with(b"microsoft-", text.as_bytes())
 }
 
-/// Takes in a file.
-fn take(alloc: Global, levels: &mut Levels, bytes: &[u8]) -> Result<(), LineFault> {
-    let (first, rest) = first_line(bytes);
-    match Charset::from_name(first.trim_ascii()) {
-        Some(charset) => {
-            let text = text_of(alloc, charset, rest, 2)?;
-            take_lines(alloc, levels, &text, 2)?;
-        }
-        None if names_charset(first) => return Err(LineFault::OnLine(1, Cause::Charset)),
-        None => {
-            levels.note(What::NoCharset, 1)?;
-            let text = text_of(alloc, Charset::Latin1, bytes, 1)?;
-            take_lines(alloc, levels, &text, 1)?;
-        }
+/// Whether line 1 names a charset, known or not.
+fn names_charset(line: &[u8]) -> bool
+    ensures { result ≡ names_charset line.now }
+{
+    match std::str::from_utf8(line) {
+        Ok(text) => is_name(text),
+        Err(_) => false,
     }
-    if levels.is_empty() {
+}
+
+/// Whether a text begins with a capital letter of ASCII.
+fn starts_with_capital(text: &[u8]) -> bool
+    ensures { result ≡ starts_with_capital text.now }
+{
+    match text.first() {
+        Some(byte) => byte.is_ascii_uppercase(),
+        None => false,
+    }
+}
+
+/// Whether a line is a pattern.
+fn is_pattern(kind: Kind) -> bool
+    ensures { result ≡ is_pattern kind }
+{
+    matches!(kind, Kind::Pattern)
+}
+
+/// A charset, and the bytes that are read by it, of which the first line has that number.
+#[derive(Clone, Copy)]
+struct Coded<'a> {
+    charset: Charset,
+    first: usize,
+    bytes: &'a [u8],
+}
+
+/// What of a file is read by which charset. None where line 1 names a charset that is not known here.
+fn coded_of(bytes: &[u8]) -> Option<Coded<'_>>
+    ensures coded { option_map coded_view result ≡ coded_of bytes.now }
+    ensures first { IfSome result (λ coded. coded.first < 3) }
+{
+    let (line, rest) = first_and_rest(bytes);
+    match Charset::from_name(trimmed(line)) {
+        Some(charset) => Some(Coded {
+            charset,
+            first: 2,
+            bytes: rest,
+        }),
+        None if names_charset(line) => None,
+        None => Some(Coded {
+            charset: Charset::Latin1,
+            first: 1,
+            bytes,
+        }),
+    }
+}
+
+/// What a file says: its patterns, and the minima that it tells.
+#[derive(Drop)]
+struct Told {
+    patterns: Vec<(Vec<u8>, Pattern)>,
+    left: Option<u8>,
+    right: Option<u8>,
+}
+
+/// The patterns that lines spell, with those of NOHYPHEN.
+fn all_patterns(
+    alloc: Global,
+    noted: &mut Noted,
+    lines: &[Line<'_>],
+    settings: Settings<'_>,
+) -> Result<Vec<(Vec<u8>, Pattern)>, AllocError>
+    requires { settings_view settings ≡ settings_of (map line_view lines.now) }
+    ensures { IfOk result (λ patterns. map keyed_view patterns.items ≡ all_patterns (map line_view lines.now)) }
+{
+    let mut patterns = patterns_of(alloc, noted, lines)?;
+    note_hiding(alloc, noted, &patterns)?;
+    forbid_all(
+        alloc,
+        noted,
+        &mut patterns,
+        settings.no_hyphen.unwrap_or(""),
+    )?;
+    note_levels(noted, lines)?;
+    Ok(patterns)
+}
+
+/// What lines say, or the first fault.
+#[tactic(auto, using(crate::proofs::Keeping::as_many))]
+fn told_by(alloc: Global, noted: &mut Noted, lines: &[Line<'_>]) -> Result<Told, LineFault>
+    ensures good { OnOk result (fault_of_lines (map line_view lines.now) ≡ None) }
+    ensures patterns { IfOk result (λ told. map keyed_view told.patterns.items
+        ≡ all_patterns (map line_view lines.now)) }
+    ensures left { IfOk result (λ told. told.left ≡ minimum_told (settings_of (map line_view lines.now)).left) }
+    ensures right { IfOk result (λ told. told.right ≡ minimum_told (settings_of (map line_view lines.now)).right) }
+    ensures refused { IfErr result (λ fault. IsLineFault fault (fault_of_lines (map line_view lines.now))) }
+{
+    if let Some((line, cause)) = line_fault(lines) {
+        return Err(LineFault::OnLine(line, cause));
+    }
+    let settings = settings_of(lines);
+    let patterns = all_patterns(alloc, noted, lines, settings)?;
+    if patterns.is_empty() {
         return Err(LineFault::OnLine(1, Cause::Nothing));
+    }
+    Ok(Told {
+        patterns,
+        left: minimum_told(settings.left),
+        right: minimum_told(settings.right),
+    })
+}
+
+/// What a part of a file says that is read by a charset, or the first fault.
+fn told_by_coded(alloc: Global, noted: &mut Noted, coded: Coded<'_>) -> Result<Told, LineFault>
+    requires { coded.first < 3 }
+    ensures good { OnOk result (coded_fault (coded_view coded.entry) ≡ None) }
+    ensures patterns { IfOk result (λ told. map keyed_view told.patterns.items
+        ≡ all_patterns (coded_lines (coded_view coded.entry))) }
+    ensures left { IfOk result (λ told. told.left
+        ≡ minimum_told (settings_of (coded_lines (coded_view coded.entry))).left) }
+    ensures right { IfOk result (λ told. told.right
+        ≡ minimum_told (settings_of (coded_lines (coded_view coded.entry))).right) }
+    ensures refused { IfErr result (λ fault. IsLineFault fault (coded_fault (coded_view coded.entry))) }
+{
+    let text = text_of(alloc, coded.charset, coded.bytes, coded.first)?;
+    let lines = lines_of(alloc, coded.first, &text)?;
+    told_by(alloc, noted, &lines)
+}
+
+/// What a file says, or the first fault.
+fn told_in(alloc: Global, noted: &mut Noted, bytes: &[u8]) -> Result<Told, LineFault>
+    ensures good { OnOk result (dic_fault bytes.now ≡ None) }
+    ensures patterns { IfOk result (λ told. map keyed_view told.patterns.items
+        ≡ all_patterns (lines_of_dic bytes.now)) }
+    ensures left { IfOk result (λ told. told.left ≡ minimum_told (settings_of (lines_of_dic bytes.now)).left) }
+    ensures right { IfOk result (λ told. told.right ≡ minimum_told (settings_of (lines_of_dic bytes.now)).right) }
+    ensures refused { IfErr result (λ fault. IsLineFault fault (dic_fault bytes.now)) }
+{
+    let Some(coded) = coded_of(bytes) else {
+        return Err(LineFault::OnLine(1, Cause::Charset));
+    };
+    if coded.first == 1 {
+        noted.note(What::NoCharset, 1)?;
+    }
+    told_by_coded(alloc, noted, coded)
+}
+
+/// Notes that a minimum is neither given nor told.
+fn note_minima(noted: &mut Noted, left: Option<u8>, right: Option<u8>) -> Result<(), AllocError> {
+    if left.is_none() || right.is_none() {
+        noted.note(What::NoMinima, 1)?;
     }
     Ok(())
 }
 
-/// The fault of the only file, which has the number 0.
-fn refusal_of(fault: LineFault) -> Refusal
-    ensures { IsOfFile 0 result }
-{
-    match fault {
-        LineFault::NoMemory => Refusal::Memory,
-        LineFault::OnLine(line, cause) => Refusal::Fault {
-            file: 0,
-            line,
-            cause,
-        },
-    }
-}
-
-/// The minimum that is given, or that the file tells, or 2.
-fn minimum(given: Option<u8>, told: Option<u8>) -> u8
-    ensures { IfSome given (λ given. result ≡ given) }
-{
-    match given {
-        Some(given) => given,
-        None => told.unwrap_or(2),
-    }
-}
-
-/// Takes in a file, and gives the minima.
-fn take_with_minima(
+/// The dictionary of what a file says, with these minima.
+fn dictionary_of<C: Payload, B: Listing>(
     alloc: Global,
-    levels: &mut Levels,
-    left: Option<u8>,
-    right: Option<u8>,
-    bytes: &[u8],
-) -> Result<(u8, u8), LineFault>
-    ensures first { IfOk result (λ minima. IfSome left (λ given. minima.0 ≡ given)) }
-    ensures second { IfOk result (λ minima. IfSome right (λ given. minima.1 ≡ given)) }
+    language: Language,
+    left: u8,
+    right: u8,
+    told: &Told,
+) -> Result<Dictionary<C, B>, AllocError>
+    requires { All (λ p. has_small_values (spelt_view p.1)) told.now.patterns.items }
+    ensures { IfOk result (λ d. d ≡ contents_made language left right (record {
+      patterns = filter_map (kept_in C.change_of C.payload_of) (map keyed_view told.now.patterns.items);
+      exceptions = [];
+    })) }
 {
-    take(alloc, levels, bytes)?;
-    if left.or(levels.left).is_none() || right.or(levels.right).is_none() {
-        levels.note(What::NoMinima, 1)?;
-    }
-    Ok((minimum(left, levels.left), minimum(right, levels.right)))
+    let mut parts = Parts::new(alloc);
+    put_patterns(alloc, &mut parts, &told.patterns)?;
+    Ok(parts.make(alloc, language, left, right)?)
 }
 
 /// The dictionary of a `.dic`, or the line of it that is faulty.
-fn dictionary_of<C: Payload, B: Listing>(
+fn dictionary_in<C: Payload, B: Listing>(
     alloc: Global,
-    levels: &mut Levels,
+    noted: &mut Noted,
     language: Language,
     left: Option<u8>,
     right: Option<u8>,
     bytes: &[u8],
 ) -> Result<Dictionary<C, B>, LineFault>
-    ensures language { IfOk result (λ d. d.language ≡ language) }
-    ensures first { IfOk result (λ d. IfSome left (λ given. d.left ≡ given)) }
-    ensures second { IfOk result (λ d. IfSome right (λ given. d.right ≡ given)) }
+    ensures good { OnOk result (dic_fault bytes.now ≡ None) }
+    ensures contents { IfOk result (λ d. d ≡ contents_of_dic C.change_of C.payload_of language left right bytes.now) }
+    ensures refused { IfErr result (λ fault. IsLineFault fault (dic_fault bytes.now)) }
 {
-    let (left, right) = take_with_minima(alloc, levels, left, right, bytes)?;
-    let mut parts = Parts::new(alloc);
-    levels.put_into(alloc, &mut parts)?;
-    Ok(parts.make(alloc, language, left, right)?)
+    let told = told_in(alloc, noted, bytes)?;
+    note_minima(noted, left.or(told.left), right.or(told.right))?;
+    note_losses::<C>(alloc, noted, &told.patterns)?;
+    Ok(dictionary_of(
+        alloc,
+        language,
+        minimum_of(left, told.left),
+        minimum_of(right, told.right),
+        &told,
+    )?)
 }
 
 /// Makes a dictionary of a `.dic`. Minima that are not given are those of the file, or 2, as LibreOffice has it.
 ///
-/// An extended dictionary has the changes of the file's patterns. A standard one can't have them: there such a pattern
-/// forbids the break that it would change, which is noted. The refusal names the first fault: the line and the cause.
+/// It has the key and the values that each pattern of both levels spells; of a key that stands several times the last
+/// one counts, and of several digits in one place the last one. A text that NOHYPHEN names has the value 8 at both
+/// ends. An extended dictionary has the changes of the file's patterns. A standard one can't have them: there such a
+/// pattern forbids the break that it would change, which is noted. Else the refusal names the first fault: the line and
+/// the cause. A refusal for want of memory says nothing of the file.
 pub fn convert_dic<C: Payload, B: Listing>(
     alloc: Global,
     language: Language,
@@ -270,17 +277,23 @@ pub fn convert_dic<C: Payload, B: Listing>(
     right: Option<u8>,
     bytes: &[u8],
 ) -> Result<Converted<C, B>, Refusal>
-    ensures language { IfOk result (λ found. found.dictionary.language ≡ language) }
-    ensures first { IfOk result (λ found. IfSome left (λ given. found.dictionary.left ≡ given)) }
-    ensures second { IfOk result (λ found. IfSome right (λ given. found.dictionary.right ≡ given)) }
-    ensures refused { IfErr result (λ refusal. IsOfFile 0 refusal) }
+    ensures good { OnOk result (dic_fault bytes.now ≡ None) }
+    ensures contents { IfOk result (λ found. found.dictionary
+        ≡ contents_of_dic C.change_of C.payload_of language left right bytes.now) }
+    ensures refused { IfErr result (λ refusal.
+        IsRefusalOf refusal (option_map (λ fault. (0, fault)) (dic_fault bytes.now))) }
 {
-    let mut levels = Levels::new(alloc);
-    match dictionary_of(alloc, &mut levels, language, left, right, bytes) {
+    let mut noted = Noted::new(alloc);
+    match dictionary_in(alloc, &mut noted, language, left, right, bytes) {
         Ok(dictionary) => {
-            let Levels { notes, .. } = levels;
+            let Noted { notes, .. } = noted;
             Ok(Converted { dictionary, notes })
         }
-        Err(fault) => Err(refusal_of(fault)),
+        Err(LineFault::NoMemory) => Err(Refusal::Memory),
+        Err(LineFault::OnLine(line, cause)) => Err(Refusal::Fault {
+            file: 0,
+            line,
+            cause,
+        }),
     }
 }

@@ -55,7 +55,7 @@ fn has_sign(group: Group, text: &[u8]) -> bool
 }
 
 /// Whether a byte is a value, in a pattern, or a break, in an exception.
-fn says_place(group: Group, b: u8) -> bool
+pub(crate) fn says_place(group: Group, b: u8) -> bool
     ensures { result ≡ says_place group b }
 {
     match group {
@@ -65,7 +65,7 @@ fn says_place(group: Group, b: u8) -> bool
 }
 
 /// Whether two of them stand in succession.
-fn has_two_in_one_place(group: Group, text: &[u8]) -> bool
+pub(crate) fn has_two_in_one_place(group: Group, text: &[u8]) -> bool
     ensures { result ≡ two_in_one_place group false text.now }
 {
     let mut after = false;
@@ -158,7 +158,7 @@ fn letters_and_breaks<B: Listing>(
 }
 
 /// Whether a key has a character other than a dot.
-fn has_letter(key: &[u8]) -> bool
+pub(crate) fn has_letter(key: &[u8]) -> bool
     ensures { result ≡ has_letter key.now }
 {
     for b in key {
@@ -170,7 +170,7 @@ fn has_letter(key: &[u8]) -> bool
 }
 
 /// The text of bytes, where they are UTF-8.
-fn text_of(bytes: Vec<u8>) -> Option<String>
+pub(crate) fn text_of(bytes: Vec<u8>) -> Option<String>
     ensures some { IfSome result (λ text. string_bytes text ≡ bytes.items) }
     ensures good { IfSome result (λ _. is_utf8 bytes.items ≡ true) }
     ensures none { IfNone result (is_utf8 bytes.items ≡ false) }

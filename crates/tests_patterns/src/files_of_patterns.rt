@@ -204,6 +204,45 @@ fn a_tex_file_tells_its_minima(rt: HostRuntime) -> Result<(), Fail> {
 }
 
 #[test]
+fn the_first_file_that_tells_minima_counts(rt: HostRuntime) -> Result<(), Fail> {
+    let form = Form::Tex;
+    let first = File {
+        form,
+        bytes: b"% hyphenmins:\n% typesetting:\n% left: 2\n% right: 3\n% generation:\n% left: 1\n% right: 1\n",
+    };
+    let second = File {
+        form,
+        bytes: b"% hyphenmins:\n% typesetting:\n% left: 4\n% right: 5\n",
+    };
+    same(&minima_for(None, None, &[first]), &Some((2, 3)))?;
+    same(&minima_for(None, None, &[first, second]), &Some((2, 3)))?;
+    same(&minima_for(Some(7), None, &[first]), &Some((7, 3)))
+}
+
+#[test]
+fn patterns_without_values_and_with_capitals_are_noted(rt: HostRuntime) -> Result<(), Fail> {
+    let form = Form::Plain(Group::Patterns);
+    let without = File {
+        form,
+        bytes: b"a1b\ncd\n",
+    };
+    let wanted = [(What::NoValue, 2, 1)];
+    same(
+        &noted(rt.alloc(), &[without])?.as_slice(),
+        &wanted.as_slice(),
+    )?;
+    let capital = File {
+        form,
+        bytes: b"a1b\nA3B\n",
+    };
+    let wanted = [(What::Capital, 2, 1), (What::Repeated, 2, 1)];
+    same(
+        &noted(rt.alloc(), &[capital])?.as_slice(),
+        &wanted.as_slice(),
+    )
+}
+
+#[test]
 fn a_dic_gives_its_changes_to_an_extended_dictionary(rt: HostRuntime) -> Result<(), Fail> {
     let bytes =
         "UTF-8\nLEFTHYPHENMIN 1\nRIGHTHYPHENMIN 3\n% x\nl·1l/l=l\na1atje./a=t,1,3\n.schif1fahrt/ff=f,5,2\nn1nyal./ny=,1,1\nl·9m/=,2,1\nab/c=d,7,1\n".as_bytes();

@@ -3,6 +3,12 @@
 #![tactic(auto)]
 
 #[cfg(test)]
+mod charsets;
+#[cfg(test)]
 mod convert;
 #[cfg(test)]
 mod files_of_patterns;
+#[cfg(test)]
+mod libreoffice;
+#[cfg(test)]
+mod messages;

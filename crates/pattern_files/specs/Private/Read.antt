@@ -14,12 +14,6 @@ use Rattle.hyphenation_breaks.specs.declared.entry.Entry.{Entry}
 use Rattle.pattern_files.specs.declared.fault.LineFault.{LineFault}
 use Rattle.pattern_files.specs.declared.fault.LineFault.TheVariants.{NoMemory, OnLine}
 use Rattle.pattern_files.specs.Converting.{SpeltWords}
-use Rattle.std.specs.Prelude.{None, ◌==◌, ◌&&◌, if◌then◌else◌}
-use Rattle.std.specs.String.{string_bytes}
-use Rattle.hyphenation_breaks.specs.Break.{Change, is_boundary}
-use Rattle.pattern_files.specs.Changes.{carried_entry}
-use Rattle.pattern_files.specs.declared.change.Change as held
-use Rattle.pattern_files.specs.declared.levels.Pattern.{Pattern}
 
 -- A word as definitions see it.
 abbrev pub word_view : Word → GroupWord
@@ -62,23 +56,6 @@ with_key now key = record { patterns = now.patterns ++ key ∷ []; exceptions = 
 abbrev pub with_word : {C B : Type 0} → SpeltWords C B → List ℕ × List B → SpeltWords C B
 with_word now word = record { patterns = now.patterns; exceptions = now.exceptions ++ word ∷ [] }
 
--- The change that a pattern holds, where it belongs to the value at that place, and is broken between characters.
-abbrev pub change_there : Option held.Change → ℕ → Option Change
-change_there None place = None
-change_there (Some change) place =
-    if change.place == place && is_boundary (string_bytes change.substitution) change.breakpoint
-    then Some (record {
-      left = change.left;
-      right = change.right;
-      substitution = string_bytes change.substitution;
-      breakpoint = change.breakpoint;
-    }) else None
-
--- The entries of a pattern, as a kind of dictionary keeps them.
-abbrev pub entries_kept : {C : Type 0} → (C → Option Change) → (Option Change → C) → Pattern → List (Entry C)
-entries_kept change_of payload_of pattern =
-    map (λ v. carried_entry change_of payload_of (record {
-      place = v.place;
-      value = v.value;
-      change = change_there pattern.change v.place;
-    })) pattern.values.items
+-- Keys with their entries more.
+abbrev pub with_keys : {C B : Type 0} → SpeltWords C B → List (List ℕ × List (Entry C)) → SpeltWords C B
+with_keys now keys = record { patterns = now.patterns ++ keys; exceptions = now.exceptions }

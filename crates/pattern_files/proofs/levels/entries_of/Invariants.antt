@@ -1,9 +1,10 @@
-use Rattle.std.proofs.Common.{◌≡◌, ◌<◌, All, map, take}
+use Rattle.std.proofs.Common.{◌≡◌, map, take}
 use Rattle.pattern_files.specs.Changes.{carried_entry}
-use Rattle.pattern_files.specs.Private.Read.{change_there}
+use Rattle.pattern_files.specs.LibreOffice.{change_there}
+use Rattle.pattern_files.specs.Private.LibreOffice.{spelt_view, has_small_values}
 use Rattle.pattern_files.proofs.levels.entries_of.Given as goal
 
 abbrev pub invariant-loop-value : goal.invariant-loop-value
 invariant-loop-value g l =
-    All (λ v. v.value < 255) l.pattern.values.items
+    has_small_values (spelt_view l.pattern)
     → l.entries.items ≡ map (λ v. carried_entry g.C.Payload.change_of g.C.Payload.payload_of (record { place = v.place; value = v.value; change = change_there l.pattern.change v.place })) (take l.value-index l.pattern.values.items)

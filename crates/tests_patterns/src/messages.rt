@@ -1,0 +1,143 @@
+//! The messages of all faults and notes.
+
+use pattern_files::fault::Cause;
+use pattern_files::notes::What;
+use std::fmt::Display;
+use std::test::Fail;
+use test_support::same_in;
+
+const FAULTS: [(Cause, &str); 12] = [
+    (
+        Cause::Command,
+        "a TeX command or group within patterns or exceptions",
+    ),
+    (
+        Cause::EightBit,
+        "^, a character of a font's encoding: take the file in UTF-8",
+    ),
+    (Cause::Sign, "a sign that stands in no pattern or exception"),
+    (
+        Cause::TwoInOnePlace,
+        "two digits or two hyphens in one place",
+    ),
+    (Cause::NoLetters, "a pattern without letters"),
+    (Cause::NotUtf8, "not UTF-8"),
+    (
+        Cause::Input,
+        "\\input: give the files that have the patterns themselves",
+    ),
+    (
+        Cause::Unclosed,
+        "the group of patterns or exceptions that begins here is not closed",
+    ),
+    (Cause::Charset, "no charset that is known here"),
+    (
+        Cause::NotInCharset,
+        "a byte that stands for no character in the charset of line 1",
+    ),
+    (
+        Cause::Minimum,
+        "not a minimum, which is a number from 0 to 255",
+    ),
+    (Cause::Nothing, "no pattern and no exception in the file"),
+];
+
+const NOTES: [(What, &str); 21] = [
+    (
+        What::Setting,
+        "a setting that a dictionary text can't say, left out",
+    ),
+    (
+        What::NoLevels,
+        "no NEXTLEVEL: the breaks that LibreOffice itself adds at - and ' are not there",
+    ),
+    (
+        What::TwoLevels,
+        "two levels, joined: LibreOffice hyphenates parts of compounds apart, so its breaks may differ",
+    ),
+    (
+        What::NoMinima,
+        "no minima in the file: 2 and 2, as LibreOffice takes them",
+    ),
+    (
+        What::NoHyphen,
+        "NOHYPHEN: said by patterns with the value 8 at both sides",
+    ),
+    (
+        What::NoCharset,
+        "no charset on line 1: read as ISO8859-1, as in LibreOffice, and line 1 as any other",
+    ),
+    (
+        What::HidesValue,
+        "a pattern that hides a shorter one from LibreOffice, so its breaks may differ",
+    ),
+    (
+        What::ChangeForbidden,
+        "a pattern with a change: a standard dictionary forbids that break",
+    ),
+    (
+        What::ChangeNumber,
+        "a change with a bad number, left out with its pattern",
+    ),
+    (
+        What::ChangeParts,
+        "a change with a wrong number of parts, left out with its pattern",
+    ),
+    (
+        What::ChangeWithoutEquals,
+        "a change without exactly one =, left out with its pattern",
+    ),
+    (
+        What::ChangePastKey,
+        "a change past the pattern's letters, left out with its pattern",
+    ),
+    (
+        What::ChangeWithoutValue,
+        "a change with no odd value in its range, left out with its pattern",
+    ),
+    (
+        What::ChangeOfSeveral,
+        "a change with several odd values in its range: it goes to one of them",
+    ),
+    (
+        What::TwoValues,
+        "two values in one place: the last is taken",
+    ),
+    (What::NoLetters, "a pattern without letters, left out"),
+    (
+        What::NoValue,
+        "a pattern without values, kept; it bears on nothing",
+    ),
+    (What::Repeated, "a repeated pattern: the last is taken"),
+    (What::Unfit, "patterns that fit no dictionary, left out"),
+    (
+        What::Capital,
+        "a pattern or an exception with capitals: read in small letters",
+    ),
+    (
+        What::ExceptionRepeated,
+        "a repeated exception: the last is taken",
+    ),
+];
+
+/// Fails where something is told by another text.
+fn tells<T: Display>(rt: &HostRuntime, told: &T, wanted: &str) -> Result<(), Fail> {
+    let text = format!(in rt.alloc(); "{told}")?;
+    same_in(wanted, &text.as_str(), &wanted)
+}
+
+#[test]
+fn each_fault_has_its_message(rt: HostRuntime) -> Result<(), Fail> {
+    for (cause, wanted) in FAULTS {
+        tells(&rt, &cause, wanted)?;
+    }
+    Ok(())
+}
+
+#[test]
+fn each_note_has_its_message(rt: HostRuntime) -> Result<(), Fail> {
+    for (what, wanted) in NOTES {
+        tells(&rt, &what, wanted)?;
+    }
+    Ok(())
+}
