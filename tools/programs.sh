@@ -132,7 +132,7 @@ prove_side_by_side() (
     [ ! -d "$root/crates/$it/out" ] || mv "$root/crates/$it/out" "$top/crates/$it/out"
     rm -f "$top/crates/$it/out/$it"
   done
-  (cd "$top" && rt all check --jobs "$at_once") </dev/null 2>&1 | tee "$1" | sed -u -n "s/^== /$called: done: /p" >&2
+  (cd "$top" && rt all check --jobs "$at_once") </dev/null 2>&1 | tee "$1" | sed -u -n "/^== summary/d; s/^== /$called: done: /p" >&2
   [ "${PIPESTATUS[0]}" = 0 ] || exit 1
   for it in "${order[@]}"; do
     [ -e "$top/crates/$it/src/main.rt" ] || continue
