@@ -5,6 +5,8 @@
 #[cfg(test)]
 mod canonical;
 #[cfg(test)]
+mod dictionary_faults;
+#[cfg(test)]
 mod hyphenate;
 #[cfg(test)]
 mod of_callers;
