@@ -141,6 +141,7 @@ fn read<'d, C: Drop>(
     count: &mut LookUps,
 ) -> usize
     requires from { from < length automaton.now.texts }
+    requires begun { length (node_text automaton.now from) + 1 ≤ end }
     requires goes_on { (node : ℕ) → IsLongest automaton.now.texts (node_text automaton.now from ++ byte ∷ []) node
         → IsLongest automaton.now.texts (take end (frame word.now)) node }
     requires end { end ≤ length (frame word.now) }

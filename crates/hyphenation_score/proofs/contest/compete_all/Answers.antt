@@ -34,6 +34,10 @@ loop-at-init g c =
 pub read-node-requires-in-loop-at-clause-from : goal.read-node-requires-in-loop-at-clause-from
 read-node-requires-in-loop-at-clause-from g c = c.loop-at.invariant.passed.longest.within
 
+pub read-node-requires-in-loop-at-clause-begun : goal.read-node-requires-in-loop-at-clause-begun
+read-node-requires-in-loop-at-clause-begun g c =
+    omega (arith, passed_short c.args.automaton.now c.args.word.now c.invariant.ensures (c.loop-at.at + 1) c.loop-at.node _ _ _ _ _ (omega arith) c.loop-at.invariant.passed)
+
 pub read-node-requires-in-loop-at-clause-goes_on : goal.read-node-requires-in-loop-at-clause-goes_on
 read-node-requires-in-loop-at-clause-goes_on g c =
     let tree = c.args.automaton.now in
@@ -66,6 +70,10 @@ loop-at-preserved g c =
 
 pub read-last-requires-clause-from : goal.read-last-requires-clause-from
 read-last-requires-clause-from g c = c.loop-at.invariant.passed.longest.within
+
+pub read-last-requires-clause-begun : goal.read-last-requires-clause-begun
+read-last-requires-clause-begun g c =
+    omega (arith, passed_short c.args.automaton.now c.args.word.now c.invariant.ensures (c.loop-at.at + 1) c.loop-at.node _ _ _ _ _ (omega arith) c.loop-at.invariant.passed)
 
 pub read-last-requires-clause-goes_on : goal.read-last-requires-clause-goes_on
 read-last-requires-clause-goes_on g c =
