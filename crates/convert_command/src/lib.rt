@@ -138,6 +138,7 @@ fn convert_tex<C: Payload, B: Listing>(
 }
 
 /// The dictionary of the files.
+#[tactic(auto, using(crate::proofs::Minima::dic_is_for))]
 fn convert_files<C: Payload, B: Listing>(
     alloc: Global,
     request: &Request<'_>,

@@ -97,15 +97,14 @@ fn is_extended_scored(
     Ok(is_same)
 }
 
-/// Whether a dictionary breaks the word as the book says.
-fn is_broken_as<'h, H: Hyphenator<'h>>(
+/// Whether breaks of a word are those that the book says.
+fn are_of_book<B: Break>(
     alloc: Global,
-    dictionary: &'h H,
+    found: &[B],
     book: &Book,
     word: &str,
 ) -> Result<bool, AllocError> {
-    let broken = dictionary.hyphenate(alloc, word)?;
-    Ok(are_those(&broken.breaks, &book.breaks(alloc, word)?))
+    Ok(are_those(found, &book.breaks(alloc, word)?))
 }
 
 /// What was compared: words, and among the books those of version 2; exceptions set, exceptions set with a change, and
@@ -195,7 +194,9 @@ impl Kind for Standard {
     }
 
     fn is_as(&self, alloc: Global, book: &Book, word: &str) -> Result<bool, AllocError> {
-        Ok(is_standard_scored(alloc, self, book, word)? && is_broken_as(alloc, self, book, word)?)
+        let broken = self.hyphenate(alloc, word)?;
+        let is_broken = are_of_book(alloc, &broken.breaks, book, word)?;
+        Ok(is_broken && is_standard_scored(alloc, self, book, word)?)
     }
 
     fn set(&mut self, alloc: Global, word: &str, cuts: &[Cut]) -> Result<bool, Fail> {
@@ -245,7 +246,9 @@ impl Kind for Extended {
     }
 
     fn is_as(&self, alloc: Global, book: &Book, word: &str) -> Result<bool, AllocError> {
-        Ok(is_extended_scored(alloc, self, book, word)? && is_broken_as(alloc, self, book, word)?)
+        let broken = self.hyphenate(alloc, word)?;
+        let is_broken = are_of_book(alloc, &broken.breaks, book, word)?;
+        Ok(is_broken && is_extended_scored(alloc, self, book, word)?)
     }
 
     fn set(&mut self, alloc: Global, word: &str, cuts: &[Cut]) -> Result<bool, Fail> {

@@ -1,6 +1,6 @@
 //! Segments of words, with marks or without, and what their callers can promise.
 
-ghost use Rattle.std.specs.Prelude.{◌≡◌, ◌+◌, map, vec_len, IfOk, codes};
+ghost use Rattle.std.specs.Prelude.{◌≡◌, ◌+◌, false, map, vec_len, IfOk, codes};
 ghost use Rattle.std.specs.List.{concat};
 ghost use Rattle.std.specs.String.{string_bytes};
 ghost use Rattle.hyphenation_breaks.specs.Break.{plain_break};
@@ -151,43 +151,42 @@ impl<'t> Texts for Refusing<'t> {
     }
 }
 
-/// A break that comes again after the list has answered that it is empty.
+/// A break that comes again each time that the list has answered that it is empty.
 #[derive(Drop)]
 struct ComesAgain<B: Break + Copy> {
     place: B,
-    answers: u8,
+    is_taken: bool,
 }
 
 impl<B: Break + Copy> Breaks for ComesAgain<B> {
-    ghost use Rattle.std.specs.Prelude.{◌==◌, [], ◌∷◌, if◌then◌else◌};
+    ghost use Rattle.std.specs.Prelude.{[], ◌∷◌, if◌then◌else◌};
 
     type Item = B;
 
-    ghost to_come = { λ again. if again.answers == 0 then B.meaning again.place ∷ [] else [] };
+    ghost to_come = { λ again. if again.is_taken then [] else B.meaning again.place ∷ [] };
 
     fn pull(&mut self) -> Option<B> {
-        match self.answers {
-            0 => {
-                self.answers = 1;
-                Some(self.place)
-            }
-            1 => {
-                self.answers = 2;
-                None
-            }
-            _ => Some(self.place),
+        if self.is_taken {
+            self.is_taken = false;
+            None
+        } else {
+            self.is_taken = true;
+            Some(self.place)
         }
     }
 
     fn left(&self) -> usize {
-        if self.answers == 0 { 1 } else { 0 }
+        if self.is_taken { 0 } else { 1 }
     }
 }
 
 fn coming_again<B: Break + Copy>(place: B) -> ComesAgain<B>
-    ensures { result ≡ record { place = place; answers = 0 } }
+    ensures { result ≡ record { place = place; is_taken = false } }
 {
-    ComesAgain { place, answers: 0 }
+    ComesAgain {
+        place,
+        is_taken: false,
+    }
 }
 
 fn word_of<'t>(alloc: Global, text: &'t str, breaks: &[usize]) -> Result<Word<'t, usize>, Fail> {
