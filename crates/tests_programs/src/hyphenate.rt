@@ -10,26 +10,33 @@ use test_support::holds;
 
 /// What the program writes and says for its words, and its status.
 #[derive(Drop)]
-struct Answer {
-    status: u8,
-    output: Vec<u8>,
-    faults: Vec<u8>,
+pub(crate) struct Answer {
+    pub(crate) status: u8,
+    pub(crate) output: Vec<u8>,
+    pub(crate) faults: Vec<u8>,
 }
 
 impl Answer {
-    fn is(&self, status: u8, output: &[u8], faults: &[u8]) -> bool {
+    pub(crate) fn is(&self, status: u8, output: &[u8], faults: &[u8]) -> bool {
         self.status == status
             && self.output.as_slice() == output
             && self.faults.as_slice() == faults
     }
 
-    /// The dictionary is at fault, and nothing is written.
-    fn names_the_dictionary(&self) -> bool {
-        self.status == 3 && self.output.is_empty() && self.faults.starts_with(b"hyphenate: ")
+    /// What is said after the name of the program and this path; none where another thing is said.
+    pub(crate) fn said_of(&self, path: &str) -> Option<&[u8]> {
+        let named = self.faults.strip_prefix(b"hyphenate: ".as_slice())?;
+        let said = named.strip_prefix(path.as_bytes())?;
+        said.strip_prefix(b": ".as_slice())
+    }
+
+    /// The dictionary of this path is at fault and is named, and nothing is written.
+    fn names_the_dictionary(&self, path: &str) -> bool {
+        self.status == 3 && self.output.is_empty() && self.said_of(path).is_some()
     }
 }
 
-fn answer_to(rt: &HostRuntime, words: &[&str]) -> Answer {
+pub(crate) fn answer_to(rt: &HostRuntime, words: &[&str]) -> Answer {
     answer_over(rt, words, b"")
 }
 
@@ -62,7 +69,7 @@ fn answer_in_vain(rt: &HostRuntime, words: &[&str], text: &[u8]) -> Answer {
 }
 
 /// A new file of these bytes, by its path.
-fn file(rt: &HostRuntime, name: &str, bytes: &[u8]) -> Result<String, Fail> {
+pub(crate) fn file(rt: &HostRuntime, name: &str, bytes: &[u8]) -> Result<String, Fail> {
     let folder = env::temp_dir(rt)?;
     let id = process::id(rt.process());
     let path = format!(in rt.alloc(); "{}/hyphenate-test-{id}-{name}", folder.as_path().display())?;
@@ -264,17 +271,17 @@ fn a_dictionary_that_is_refused_is_named_with_its_fault(rt: HostRuntime) -> Resu
 fn names_the_dictionary(rt: &HostRuntime, path: &str) -> Result<(), Fail> {
     let given = answer_to(rt, &["score", "standard", "en-gb", path, "firkin"]);
     holds(
-        given.names_the_dictionary(),
+        given.names_the_dictionary(path),
         format_args!("score: {path:?} is named"),
     )?;
     let given = answer_over(rt, &["standard", "en-gb", path, "-", "*"], b"\xff");
     holds(
-        given.names_the_dictionary(),
+        given.names_the_dictionary(path),
         format_args!("standard: {path:?} is named"),
     )?;
     let given = answer_over(rt, &["fill", "en-gb", path, "72"], b"\xff");
     holds(
-        given.names_the_dictionary(),
+        given.names_the_dictionary(path),
         format_args!("fill: {path:?} is named"),
     )
 }
@@ -399,7 +406,8 @@ fn a_text_that_is_refused_is_told_with_its_status(rt: HostRuntime) -> Result<(),
 fn another_language_is_told_before_the_edits(rt: HostRuntime) -> Result<(), Fail> {
     let path = file(&rt, "mismatch", FIRKIN.as_bytes())?;
     let given = answer_over(&rt, &["standard", "hu", path.as_str(), "-", "*"], b"\xff");
-    holds(given.names_the_dictionary(), "the dictionary is named")?;
+    let is_named = given.names_the_dictionary(&path);
+    holds(is_named, "the dictionary is named")?;
     fs::remove_file(&rt, path.as_str())?;
     Ok(())
 }
@@ -499,7 +507,7 @@ fn a_text_is_hyphenated_by_an_extended_dictionary(rt: HostRuntime) -> Result<(),
 
 /// Takes nothing.
 #[derive(Drop)]
-struct Full;
+pub(crate) struct Full;
 
 impl Write for Full {
     fn write(&mut self, _buf: &[u8]) -> io::Result<usize> {
@@ -592,7 +600,8 @@ fn lines_that_cannot_be_written_are_told(rt: HostRuntime) -> Result<(), Fail> {
 fn a_text_is_not_filled_by_another_language(rt: HostRuntime) -> Result<(), Fail> {
     let path = file(&rt, "other-language", VERSE.as_bytes())?;
     let given = answer_over(&rt, &["fill", "en-us", path.as_str(), "72"], b"\xff");
-    holds(given.names_the_dictionary(), "the dictionary is named")?;
+    let is_named = given.names_the_dictionary(&path);
+    holds(is_named, "the dictionary is named")?;
     fs::remove_file(&rt, path.as_str())?;
     Ok(())
 }
