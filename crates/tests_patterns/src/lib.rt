@@ -11,4 +11,6 @@ mod files_of_patterns;
 #[cfg(test)]
 mod libreoffice;
 #[cfg(test)]
+mod long_files;
+#[cfg(test)]
 mod messages;

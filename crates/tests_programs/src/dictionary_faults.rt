@@ -1,8 +1,11 @@
 //! Each fault of a dictionary has the status 3, and is told after the dictionary's path.
 
 use crate::hyphenate::{Answer, answer_to, file};
-use std::fs;
+use crate::shelf::{Shelf, whole};
+use hyphenate_command::answer;
+use std::io::ErrorKind;
 use std::test::Fail;
+use std::{fs, io};
 use test_support::holds;
 
 /// How the program ends, what it writes, and what it says after the path.
@@ -66,4 +69,83 @@ fn each_byte_alone_is_refused(rt: HostRuntime) -> Result<(), Fail> {
     }
     fs::remove_file(&rt, path.as_str())?;
     Ok(())
+}
+
+/// The answer of the score of `ab`, of the dictionary in the file `least` of a shelf.
+fn score_over(rt: &HostRuntime, shelf: &Shelf<'_>) -> Answer {
+    let words = ["score", "standard", "en-us", "least", "ab"];
+    let mut input: &[u8] = b"";
+    let mut output: Vec<u8> = Vec::new(rt.alloc());
+    let mut faults: Vec<u8> = Vec::new(rt.alloc());
+    let status = answer(
+        shelf,
+        rt.alloc(),
+        &words,
+        &mut input,
+        &mut output,
+        &mut faults,
+    );
+    Answer {
+        status,
+        output,
+        faults,
+    }
+}
+
+const FILES: [(&str, &[u8]); 1] = [("least", LEAST)];
+
+/// Fails where the fault of an opening, or of a read of that number, has another status or message.
+fn fails(
+    rt: &HostRuntime,
+    files: &[(&str, &[u8])],
+    read: usize,
+    kind: ErrorKind,
+    status: u8,
+    said: &str,
+) -> Result<(), Fail> {
+    let shelf = Shelf {
+        files,
+        missing: kind,
+        until: read,
+        torn: kind,
+    };
+    let given = score_over(rt, &shelf);
+    holds(
+        given.is(status, b"", said.as_bytes()),
+        format_args!("{status}, read {read}"),
+    )
+}
+
+#[test]
+fn an_opening_that_fails_is_told(rt: HostRuntime) -> Result<(), Fail> {
+    let reason = io::Error::from(ErrorKind::PermissionDenied);
+    let said = format!(in rt.alloc(); "hyphenate: least: {reason}\n")?;
+    fails(&rt, &[], 1, ErrorKind::PermissionDenied, 3, &said)?;
+    fails(
+        &rt,
+        &[],
+        1,
+        ErrorKind::OutOfMemory,
+        6,
+        "hyphenate: no memory\n",
+    )
+}
+
+#[test]
+fn each_read_of_the_dictionary_that_fails_is_told(rt: HostRuntime) -> Result<(), Fail> {
+    let reason = io::Error::from(ErrorKind::ConnectionReset);
+    let said = format!(in rt.alloc(); "hyphenate: least: {reason}\n")?;
+    for read in 1..LEAST.len() + 2 {
+        fails(&rt, &FILES, read, ErrorKind::ConnectionReset, 3, &said)?;
+        fails(
+            &rt,
+            &FILES,
+            read,
+            ErrorKind::OutOfMemory,
+            6,
+            "hyphenate: no memory\n",
+        )?;
+    }
+    let given = score_over(&rt, &whole(&FILES));
+    holds(given.is(0, b"1\n", b""), "no read fails")
 }

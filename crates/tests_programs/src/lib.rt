@@ -1,12 +1,15 @@
-//! What no clause says of the programs `hyphenate` and `hyphenate-canonical`, by tests of their commands; and what the
-//! callers in `callers` answer.
+//! What no clause says of the three programs, by tests of their commands; and what the callers in `callers` answer.
 #![tactic(auto)]
 
 #[cfg(test)]
 mod canonical;
+#[cfg(test)]
+mod convert;
 #[cfg(test)]
 mod dictionary_faults;
 #[cfg(test)]
 mod hyphenate;
 #[cfg(test)]
 mod of_callers;
+#[cfg(test)]
+mod shelf;

@@ -1,0 +1,68 @@
+//! A long plain file of exceptions, and the dictionary text that it gives.
+
+use hyphenation_breaks::language::Language;
+use hyphenation_dictionary::dictionary::Standard;
+use hyphenation_writer::writer::write_standard;
+use pattern_files::convert::convert;
+use pattern_files::fault::Refusal;
+use pattern_files::group::{File, Form, Group};
+use std::alloc::{AllocError, Global};
+use std::test::Fail;
+use test_support::holds;
+
+/// Writes a line for each three letters, in their order, after these of the word.
+fn push_lines(text: &mut String, head: &str, tail: &str) -> Result<(), AllocError> {
+    for first in 'a'..='z' {
+        for second in 'a'..='z' {
+            for third in 'a'..='z' {
+                text.push_str(head)?;
+                text.push(first)?;
+                text.push(second)?;
+                text.push(third)?;
+                text.push_str(tail)?;
+            }
+        }
+    }
+    Ok(())
+}
+
+/// A plain file of 35,152 words, each broken after its first two letters.
+fn words(alloc: Global) -> Result<String, AllocError> {
+    let mut text = String::new(alloc);
+    push_lines(&mut text, "am-", "\n")?;
+    push_lines(&mut text, "an-", "\n")?;
+    Ok(text)
+}
+
+/// The dictionary text that lists them.
+fn listed(alloc: Global) -> Result<String, AllocError> {
+    let head = "hyphenation 1 standard\nlanguage en-us\nminima 2 3\n";
+    let mut text = String::from_str(alloc, head)?;
+    push_lines(&mut text, "e am", " 2\n")?;
+    push_lines(&mut text, "e an", " 2\n")?;
+    Ok(text)
+}
+
+/// The text of the dictionary that a plain file of exceptions gives; nothing where it is refused.
+fn converted(alloc: Global, words: &str) -> Result<Vec<u8>, AllocError> {
+    let files = [File {
+        form: Form::Plain(Group::Exceptions),
+        bytes: words.as_bytes(),
+    }];
+    let answer: Result<Standard, Refusal> = convert(alloc, Language::english_us(), 2, 3, &files);
+    match answer {
+        Ok(dictionary) => write_standard(alloc, &dictionary),
+        Err(_) => Ok(Vec::new(alloc)),
+    }
+}
+
+#[test]
+fn a_long_file_of_exceptions_is_converted(rt: HostRuntime) -> Result<(), Fail> {
+    let words = words(rt.alloc())?;
+    let text = converted(rt.alloc(), &words)?;
+    let wanted = listed(rt.alloc())?;
+    holds(
+        text.as_slice() == wanted.as_bytes(),
+        "35,152 exceptions are listed",
+    )
+}
