@@ -1,3 +1,4 @@
+pub mod Ascii
 pub mod Language
 pub mod Break
 pub mod Dictionary
