@@ -13,7 +13,7 @@ invariant_of-result g c =
       bytes_of = refl;
       states_of = refl;
       growing = held-new;
-      within = (subst (IsWithin 0) (sym c.bare.ensures) tt, tt);
+      within = (subst (IsWithin 0) (sym c.of_no_key.ensures) tt, tt);
     })
 
 pub returns : goal.returns
