@@ -13,7 +13,7 @@ use Rattle.hyphenation_trie.specs.Private.States.{froms_by, texts_by}
 use Rattle.std.proofs.lemmas.Simd.{map-map}
 use Rattle.hyphenation_trie.proofs.TrieNodes.{length-texts_of, last_same, not_empty}
 
--- ---- where nodes come from
+-- ---- parents and bytes of nodes
 
 pub HasFroms-grow : (texts : List (List ℕ)) (froms : List (Option (ℕ × ℕ))) (i b : ℕ) → length froms ≡ length texts → i < length texts → HasFroms texts froms
     → HasFroms (texts ++ (get_or texts i [] ++ b ∷ []) ∷ []) (froms ++ Some (i, b) ∷ [])
@@ -100,7 +100,7 @@ frozen_is tree parents bytes bases cells trie has len rows full = record {
 same_some : (a b : ℕ) → Some a ≡ Some b → a ≡ b
 same_some a b e = cc
 
--- What a look-up finds: the child, or that there is none. The root finds itself where it has none.
+-- The result of a look-up: the child, or none; the root itself where the root has no child.
 abbrev pub Found : {E : Type 0} → Tree E → ℕ → ℕ → Option ℕ → Type 0
 Found tree i b None = (0 < i) × HasNoChild tree i b
 Found tree i b (Some j) =

@@ -1,4 +1,4 @@
--- A trie that grows, as it is held: it is a trie.
+-- The lists of a growing trie hold a trie.
 use Rattle.std.proofs.Common.{◌≡◌, ℕ, ◌<◌, ◌≤◌, List, [], ◌∷◌, ◌++◌, length, map, set, slice_index, Option, Some, None, sym, ap, subst, ◌∙◌, arith}
 use Rattle.std.proofs.lemmas.List.{length-map, length-append, length-set, map_push, map-set}
 use Rattle.hyphenation_trie.specs.Private.Growing.{IsGrowing}

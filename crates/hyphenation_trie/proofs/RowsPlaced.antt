@@ -1,4 +1,4 @@
--- Rows, one more.
+-- Rows after one more row is placed.
 use Rattle.std.proofs.Common.{◌≡◌, ◌≢◌, ℕ, zero, suc, ◌+◌, ◌<◌, ◌≤◌, List, [], ◌∷◌, ◌++◌, length, slice_index, Option, Some, None, Result, Ok, Err, refl, sym, subst, ◌∙◌, arith, inl, inr}
 use Rattle.std.proofs.lemmas.Bool.{cases_eq}
 use Rattle.std.proofs.lemmas.List.{get_or_append_left, get_or_push}
@@ -41,7 +41,7 @@ fresh_fits parents bytes cells free node len base small fresh h j pos lj is e =
     let bad : ◌≡◌ {A = Option ℕ} None (Some 0) = sym e ∙ at in
     absurd cc
 
--- one 0 more at the end of what is all 0
+-- a list of zeros with one more 0
 pub zero_pushed : (xs : List ℕ) → ((j : ℕ) → slice_index xs j ≡ 0) → (j : ℕ) → slice_index (xs ++ 0 ∷ []) j ≡ 0
 zero_pushed [] h zero = refl
 zero_pushed [] h (suc j) = refl

@@ -1,5 +1,5 @@
 -- Tries, as the texts of their nodes.
-use Rattle.std.specs.Prelude.{◌≡◌, ℕ, ◌<◌, nat_eq, if◌then◌else◌, List, [], ◌∷◌, ◌++◌, length, Option, None, slice_index_or, IsSome, take, ◌⊎◌}
+use Rattle.std.specs.Prelude.{◌≡◌, ℕ, ◌<◌, nat_eq, if◌then◌else◌, List, [], ◌∷◌, ◌++◌, length, Option, None, Some, slice_index_or, IsSome, take, ◌⊎◌}
 use Rattle.std.specs.Cmp.Lexicographic.{pointwise}
 
 -- A trie as its nodes: the text of each, and its entries if the text is a key. A node is its index in both lists.
@@ -40,6 +40,16 @@ abbrev pub EachBeginsKey : {E : Type 0} → Tree E → Type 0
 EachBeginsKey t = (j : ℕ) → 0 < j → j < length t.texts → BeginsKey t (node_text t j)
 
 -- ---- Growing.
+
+-- The new trie has these entries at the key, and the entries of the old one at other keys.
+abbrev pub SetsKey : {E : Type 0} → Tree E → Tree E → List ℕ → List E → Type 0
+SetsKey old new key entries =
+    (text : List ℕ)
+    → entries_of_key new text ≡ (if pointwise nat_eq key text then Some entries else entries_of_key old text)
+
+-- The new trie has the keys of the old one, with the same entries.
+abbrev pub KeepsKeys : {E : Type 0} → Tree E → Tree E → Type 0
+KeepsKeys old new = (text : List ℕ) → entries_of_key new text ≡ entries_of_key old text
 
 -- Each node is an old one, or its text begins this key.
 abbrev pub AddsFront : {E : Type 0} → Tree E → Tree E → List ℕ → Type 0

@@ -1,9 +1,7 @@
 //! A trie that grows by keys with their entries, inserted one after the other.
 
-ghost use Rattle.std.specs.Prelude.{◌≡◌, ◌≢◌, ◌+◌, ◌<◌, ◌++◌, [], ◌∷◌, ℕ, List, length, slice_index, None, Some, IfOk, OnOk, OnErr, if◌then◌else◌};
-ghost use Rattle.std.specs.Prelude.{nat_eq, is_some, IfSome, IfNone};
-ghost use Rattle.std.specs.Cmp.Lexicographic.{pointwise};
-ghost use Rattle.hyphenation_trie.specs.Trie.{node_text, entries_of_key, IsTrie, AddsFront, KeepsNodes, EachBeginsKey};
+ghost use Rattle.std.specs.Prelude.{◌≡◌, ◌≢◌, ◌+◌, ◌<◌, ◌++◌, [], ◌∷◌, ℕ, length, slice_index, None, IfOk, OnOk, OnErr, is_some, IfSome, IfNone};
+ghost use Rattle.hyphenation_trie.specs.Trie.{node_text, entries_of_key, IsTrie, AddsFront, KeepsNodes, KeepsKeys, SetsKey, EachBeginsKey};
 ghost use Rattle.hyphenation_trie.specs.Private.Trie.{with_child, Grows, with_entries};
 
 use crate::Automaton;
@@ -30,7 +28,7 @@ pub struct Trie<E> {
 }
 
 // It drops each field, as the derived implementation would. The proof of a function that drops a trie has one step for
-// this call; with the derived implementation it has a step for each list of the trie.
+// this call. With the derived implementation it has a step for each list of the trie.
 impl<E: Drop> Drop for Trie<E> {
     fn drop(self) {
         let Trie {
@@ -92,15 +90,14 @@ impl<E: Drop> Trie<E> {
 
     /// Moves entries to a key, in place of the entries that it had, and returns whether it was a key.
     ///
-    /// No other key changes. The list of entries is empty then, and can be filled again. The only error is out of memory,
-    /// also if the trie would have 2^32 nodes or entries; it leaves each key and the list as they were.
+    /// No other key changes. The list of entries is empty then, and can be filled again. The only error is out of
+    /// memory, also if the trie would have 2^32 nodes or entries. It leaves each key and the list as they were.
     pub fn insert(&mut self, key: &[u8], entries: &mut Vec<E>) -> Result<bool, AllocError>
-        ensures key_set { OnOk result ((q : List ℕ) → entries_of_key self.new q ≡
-            (if pointwise nat_eq key.now q then Some entries.old.items else entries_of_key self.old q)) }
+        ensures key_set { OnOk result (SetsKey self.old self.new key.now entries.old.items) }
         ensures had { IfOk result (λ had. had ≡ is_some (entries_of_key self.old key.now)) }
         ensures entries_moved { OnOk result (entries.new.items ≡ []) }
         ensures begins { OnOk result (EachBeginsKey self.old → EachBeginsKey self.new) }
-        ensures same_keys_on_error { OnErr result ((q : List ℕ) → entries_of_key self.new q ≡ entries_of_key self.old q) }
+        ensures same_keys_on_error { OnErr result (KeepsKeys self.old self.new) }
         ensures entries_kept_on_error { OnErr result (entries.new.items ≡ entries.old.items) }
         ensures adds { AddsFront self.old self.new key.now }
         ensures nodes { KeepsNodes self.old self.new }
@@ -178,7 +175,7 @@ impl<E: Drop> Trie<E> {
     // Returns the node of a text, and adds it if there is none. The only error is out of memory; nodes may be added then.
     fn path(&mut self, text: &[u8]) -> Result<u32, AllocError>
         ensures node { IfOk result (λ j. (j < length self.new.texts) × (node_text self.new j ≡ text.now)) }
-        ensures keys_stay { (q : List ℕ) → entries_of_key self.new q ≡ entries_of_key self.old q }
+        ensures keys_stay { KeepsKeys self.old self.new }
         ensures adds { AddsFront self.old self.new text.now }
         ensures nodes { KeepsNodes self.old self.new }
     {

@@ -16,8 +16,8 @@
 //!                  [rkin]
 //! ```
 //!
-//! A [`Trie`] grows key by key. [`Trie::freeze`] makes an [`Automaton`] of it, which does not grow: it finds the keys that
-//! occur in a word in one pass over the word's bytes.
+//! A [`Trie`] grows key by key. [`Trie::freeze`] makes an [`Automaton`] of it, which does not grow. An automaton finds
+//! the keys that occur in a word in one pass over the word's bytes.
 //!
 //! Nodes are numbers below the number of texts, which contracts call `length texts`. A node keeps its number while the trie
 //! grows, and in the automaton.

@@ -16,7 +16,7 @@ child_at-requires g c =
     let within = moves_within _ _ _ _ _ _ _ _ c.args.node c.self.invariant asked in
     omega (arith, c.self.invariant.frozen.room c.args.node asked, base_is moves c.args.node c.index.result.now within c.index.ensures, ap length c.deref.ensures.value)
 
--- what the look-up in the cells finds is what the trie has
+-- the look-up in the cells finds the child in the trie
 found : (g : given.Over) (c : goal.After-child_at g) → Found (tree_of (froms_by c.self.inside.parents.items c.self.inside.bytes.items) (map span_in c.self.inside.states.items) c.self.inside.entries.items) c.args.node c.args.byte c.child_at.result
 found g c =
     let asked = rw (← c.self.view_is) at c.requires.node in
