@@ -1,7 +1,7 @@
-//! What dictionaries are asked of words.
+//! Calls that score and hyphenate words.
 
-use crate::step;
-use crate::texts::{CHANGES, FIRKIN, WORDS, dictionary};
+use crate::dictionary_texts::{CHANGES, FIRKIN, WORDS, dictionary};
+use crate::pass_gate;
 use hyphenation::Standard;
 use hyphenation::extended::{Extended, Subregion};
 use hyphenation::hyphenator::{Break, Hyphenator};
@@ -11,18 +11,19 @@ use std::alloc::{AllocError, Global};
 use std::io;
 use std::io::{Read, Write};
 
-/// Whether the counts are at most those that scoring a word of so many bytes may make.
-fn is_kept(count: &LookUps, bytes: u128, occurrences: u128) -> bool {
+// Whether the counts keep the bounds of a score: its look-ups by the word's bytes, its reports by the occurrences of
+// keys.
+fn are_counts_bounded(count: &LookUps, bytes: u128, occurrences: u128) -> bool {
     count.made() <= bytes.saturating_add(2).saturating_mul(2) && count.reported() <= occurrences
 }
 
-/// Says what was scored, and whether its counts keep their bounds.
+// Writes the values, and whether the counts keep their bounds.
 fn write_scored<O: Write>(
-    answer: &Result<Vec<u8>, AllocError>,
+    result: &Result<Vec<u8>, AllocError>,
     kept: bool,
     output: &mut O,
 ) -> io::Result<()> {
-    match answer {
+    match result {
         Ok(values) => {
             for value in values {
                 write!(output, "{value} ")?;
@@ -40,19 +41,19 @@ fn score_standard<G: Read, O: Write>(
 ) -> io::Result<()> {
     let mut count = LookUps::new();
     let dictionary: Standard = dictionary(alloc, FIRKIN)?;
-    step(gate);
-    let answer = dictionary.score_counted(alloc, "firkins", &mut count);
-    step(gate);
-    write_scored(&answer, is_kept(&count, 7, 5), output)
+    pass_gate(gate);
+    let result = dictionary.score_counted(alloc, "firkins", &mut count);
+    pass_gate(gate);
+    write_scored(&result, are_counts_bounded(&count, 7, 5), output)
 }
 
-/// The values alone, without their changes; refused where the scores were.
-fn values_of(
+// The values without their changes, or the error of the score.
+fn values_without_changes(
     alloc: Global,
-    answer: Result<Vec<(u8, Option<&Subregion>)>, AllocError>,
+    result: Result<Vec<(u8, Option<&Subregion>)>, AllocError>,
 ) -> Result<Vec<u8>, AllocError> {
     let mut values = Vec::new(alloc);
-    for (value, _) in answer? {
+    for (value, _) in result? {
         values.push(value)?;
     }
     Ok(values)
@@ -65,13 +66,17 @@ fn score_extended<G: Read, O: Write>(
 ) -> io::Result<()> {
     let mut count = LookUps::new();
     let dictionary: Extended = dictionary(alloc, CHANGES)?;
-    step(gate);
-    let answer = dictionary.score_counted(alloc, "cabd", &mut count);
-    step(gate);
-    write_scored(&values_of(alloc, answer), is_kept(&count, 4, 2), output)
+    pass_gate(gate);
+    let result = dictionary.score_counted(alloc, "cabd", &mut count);
+    pass_gate(gate);
+    write_scored(
+        &values_without_changes(alloc, result),
+        are_counts_bounded(&count, 4, 2),
+        output,
+    )
 }
 
-/// `score_counted`, and whether its counts keep their bounds.
+/// Makes the call `score_counted`, and writes whether its counts keep their bounds.
 pub fn score<G: Read, O: Write>(
     alloc: Global,
     which: &str,
@@ -84,17 +89,17 @@ pub fn score<G: Read, O: Write>(
     }
 }
 
-fn hyphenate_by<'h, H: Hyphenator<'h>, G: Read, O: Write>(
+fn hyphenate_word<'h, H: Hyphenator<'h>, G: Read, O: Write>(
     alloc: Global,
     dictionary: &'h H,
     word: &str,
     gate: &mut G,
     output: &mut O,
 ) -> io::Result<()> {
-    step(gate);
-    let answer = dictionary.hyphenate(alloc, word);
-    step(gate);
-    let found = match answer {
+    pass_gate(gate);
+    let result = dictionary.hyphenate(alloc, word);
+    pass_gate(gate);
+    let found = match result {
         Ok(found) => found,
         Err(_) => {
             output.write_all(b"no memory, and then ")?;
@@ -106,7 +111,7 @@ fn hyphenate_by<'h, H: Hyphenator<'h>, G: Read, O: Write>(
     writeln!(output, "{marked}")
 }
 
-/// `hyphenate`, and the same again where it was refused.
+/// Makes the call `hyphenate`, and makes it again if memory was refused.
 pub fn hyphenate<G: Read, O: Write>(
     alloc: Global,
     which: &str,
@@ -116,22 +121,22 @@ pub fn hyphenate<G: Read, O: Write>(
     match which.split_once(' ') {
         Some(("standard", word)) => {
             let words: Standard = dictionary(alloc, WORDS)?;
-            hyphenate_by(alloc, &words, word, gate, output)
+            hyphenate_word(alloc, &words, word, gate, output)
         }
         Some(("firkin", word)) => {
             let firkin: Standard = dictionary(alloc, FIRKIN)?;
-            hyphenate_by(alloc, &firkin, word, gate, output)
+            hyphenate_word(alloc, &firkin, word, gate, output)
         }
         Some((_, word)) => {
             let changes: Extended = dictionary(alloc, CHANGES)?;
-            hyphenate_by(alloc, &changes, word, gate, output)
+            hyphenate_word(alloc, &changes, word, gate, output)
         }
         None => Ok(()),
     }
 }
 
-/// One of the four questions for a word in small letters.
-fn ask<'h, H: Hyphenator<'h>>(
+// Makes one of four calls for a word in small letters.
+fn find_breaks<'h, H: Hyphenator<'h>>(
     alloc: Global,
     dictionary: &'h H,
     question: &str,
@@ -148,7 +153,7 @@ fn ask<'h, H: Hyphenator<'h>>(
     }
 }
 
-fn breaks_by<'h, H: Hyphenator<'h>, G: Read, O: Write>(
+fn write_breaks<'h, H: Hyphenator<'h>, G: Read, O: Write>(
     alloc: Global,
     dictionary: &'h H,
     question: &str,
@@ -156,14 +161,14 @@ fn breaks_by<'h, H: Hyphenator<'h>, G: Read, O: Write>(
     gate: &mut G,
     output: &mut O,
 ) -> io::Result<()> {
-    step(gate);
-    let answer = ask(alloc, dictionary, question, word);
-    step(gate);
-    let found = match answer {
+    pass_gate(gate);
+    let result = find_breaks(alloc, dictionary, question, word);
+    pass_gate(gate);
+    let found = match result {
         Ok(found) => found,
         Err(_) => {
             output.write_all(b"no memory, and then ")?;
-            ask(alloc, dictionary, question, word)?
+            find_breaks(alloc, dictionary, question, word)?
         }
     };
     match found {
@@ -178,7 +183,8 @@ fn breaks_by<'h, H: Hyphenator<'h>, G: Read, O: Write>(
     }
 }
 
-/// `opportunities`, `exception` and the two within bounds, and the same again where it was refused.
+/// Makes the call `opportunities`, `exception` or one of the two within bounds, and makes it again if memory was
+/// refused.
 pub fn breaks<G: Read, O: Write>(
     alloc: Global,
     which: &str,
@@ -188,15 +194,15 @@ pub fn breaks<G: Read, O: Write>(
     match which.split_once(' ') {
         Some(("standard", question)) => {
             let words: Standard = dictionary(alloc, WORDS)?;
-            breaks_by(alloc, &words, question, "hyphenation", gate, output)
+            write_breaks(alloc, &words, question, "hyphenation", gate, output)
         }
         Some(("firkin", question)) => {
             let firkin: Standard = dictionary(alloc, FIRKIN)?;
-            breaks_by(alloc, &firkin, question, "firkins", gate, output)
+            write_breaks(alloc, &firkin, question, "firkins", gate, output)
         }
         Some((_, question)) => {
             let changes: Extended = dictionary(alloc, CHANGES)?;
-            breaks_by(alloc, &changes, question, "asszonnyal", gate, output)
+            write_breaks(alloc, &changes, question, "asszonnyal", gate, output)
         }
         None => Ok(()),
     }

@@ -1,8 +1,7 @@
 //! Work to be measured: loads a dictionary, and scores or hyphenates each word of a list.
 //!
-//! It has no clock: `bench/measure` runs it and counts its instructions. Each task does all that the one before it in
-//! `Task` does, but that scoring and hyphenating stand side by side, so what a task takes is the difference of two
-//! runs.
+//! It has no clock: `bench/measure` runs it and counts its instructions. Each task includes the ones before it in
+//! `Task`, but `Hyphenate` does not include `Score`. So the cost of a task is the difference of two runs.
 
 use hyphenation::engine::Kind;
 use hyphenation::extended::Extended;
@@ -15,18 +14,18 @@ use std::{fs, io};
 const USAGE: &str =
     "usage: fault_harness measure load|words|score|hyphenate|memory KIND DICTIONARY WORDS\n";
 
-/// What is done with a loaded dictionary, and with a list of words, one a line.
+// The work done with a loaded dictionary and with a list of words, one a line.
 #[derive(Clone, Copy)]
 enum Task {
-    /// Nothing.
+    // Nothing besides loading.
     Load,
-    /// The words are read and counted.
+    // The words are read and counted.
     Words,
-    /// The words are scored too, and their places counted.
+    // The words are scored too, and their places counted.
     Score,
-    /// The words are hyphenated too, and their breaks counted.
+    // The words are hyphenated too, and their breaks counted.
     Hyphenate,
-    /// The greatest number of KB that the process had in memory is asked of the system.
+    // The system is asked for the peak of the process's memory in KB.
     Memory,
 }
 
@@ -43,7 +42,7 @@ impl Task {
     }
 }
 
-/// The number of places of all words.
+// The number of places of all words.
 fn score_all<'d, D: Score<'d>>(alloc: Global, dictionary: &'d D, words: &str) -> Result<usize> {
     let mut places = 0usize;
     for word in words.lines() {
@@ -53,7 +52,7 @@ fn score_all<'d, D: Score<'d>>(alloc: Global, dictionary: &'d D, words: &str) ->
     Ok(places)
 }
 
-/// The number of breaks of all words.
+// The number of breaks of all words.
 fn hyphenate_all<'h, H: Hyphenator<'h>>(
     alloc: Global,
     dictionary: &'h H,
@@ -67,7 +66,7 @@ fn hyphenate_all<'h, H: Hyphenator<'h>>(
     Ok(breaks)
 }
 
-/// The KB of the line `VmHWM` of what the system says of this process; 0 where there is none.
+// The KB of the line `VmHWM` in a process's status; 0 if there is no such line.
 fn peak_of(status: &str) -> usize {
     for line in status.lines() {
         if let Some(rest) = line.strip_prefix("VmHWM:") {
@@ -77,8 +76,8 @@ fn peak_of(status: &str) -> usize {
     0
 }
 
-/// Does a task, and gives the number that it counts.
-fn done<'d, D: Score<'d> + Hyphenator<'d>>(
+// Does a task, and returns the number that it counts.
+fn do_task<'d, D: Score<'d> + Hyphenator<'d>>(
     rt: &HostRuntime,
     task: Task,
     dictionary: &'d D,
@@ -94,24 +93,24 @@ fn done<'d, D: Score<'d> + Hyphenator<'d>>(
     }
 }
 
-/// Loads a dictionary of a kind, and does a task.
-fn measured(rt: &HostRuntime, task: Task, kind: Kind, path: &str, list: &str) -> Result<usize> {
+// Loads a dictionary of a kind, and does a task.
+fn measure_file(rt: &HostRuntime, task: Task, kind: Kind, path: &str, list: &str) -> Result<usize> {
     let mut file = fs::open(rt, path)?;
     match kind {
         Kind::Standard => {
             let dictionary = Standard::any_from_reader(rt.alloc(), &mut file)?;
-            done(rt, task, &dictionary, list)
+            do_task(rt, task, &dictionary, list)
         }
         Kind::Extended => {
             let dictionary = Extended::any_from_reader(rt.alloc(), &mut file)?;
-            done(rt, task, &dictionary, list)
+            do_task(rt, task, &dictionary, list)
         }
     }
 }
 
-/// Does the task that the words after `measure` name, and writes the number that it counts; the status.
-pub fn measure(rt: &HostRuntime, words: &[&str]) -> io::Result<u8> {
-    let [task, kind, path, list] = words else {
+/// Does the task of these arguments and writes the number that it counts. Returns the exit status.
+pub fn measure(rt: &HostRuntime, args: &[&str]) -> io::Result<u8> {
+    let [task, kind, path, list] = args else {
         eprint!(rt; "{USAGE}")?;
         return Ok(2);
     };
@@ -119,7 +118,7 @@ pub fn measure(rt: &HostRuntime, words: &[&str]) -> io::Result<u8> {
         eprint!(rt; "{USAGE}")?;
         return Ok(2);
     };
-    match measured(rt, task, kind, path, list) {
+    match measure_file(rt, task, kind, path, list) {
         Ok(count) => {
             println!(rt; "{count}")?;
             Ok(0)

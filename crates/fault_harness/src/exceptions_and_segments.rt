@@ -1,7 +1,7 @@
-//! Exceptions that are added, words that are copied, and segments that are gone through.
+//! Calls that add exceptions, copy and fold words, and iterate over segments.
 
-use crate::step;
-use crate::texts::{CHANGES, FIRKIN, FULL, FULL_CHANGES, WORDS, dictionary};
+use crate::dictionary_texts::{CHANGES, FIRKIN, FULL, FULL_CHANGES, WORDS, dictionary};
+use crate::pass_gate;
 use hyphenation::case_folding::refold;
 use hyphenation::extended::Extended;
 use hyphenation::hyphenator::{Hyphenator, Word, soft_hyphen_indices};
@@ -22,12 +22,12 @@ fn write_marked<'h, H: Hyphenator<'h>, O: Write>(
     writeln!(output, "{marked}")
 }
 
-/// Says how an exception was added, and how many breaks were listed before.
+// Says whether an exception was added, and how many breaks were listed before.
 fn write_added<B: Drop, O: Write>(
-    answer: Result<Option<Vec<B>>, AllocError>,
+    result: Result<Option<Vec<B>>, AllocError>,
     output: &mut O,
 ) -> io::Result<()> {
-    match answer {
+    match result {
         Ok(None) => output.write_all(b"set, and then "),
         Ok(Some(old)) => write!(output, "set in place of {}, and then ", old.len()),
         Err(_) => output.write_all(b"no memory, and then "),
@@ -46,10 +46,10 @@ fn add_place<G: Read, O: Write>(
     if !Standard::fits(&word, &places) {
         return Err(io::Error::from(ErrorKind::InvalidInput));
     }
-    step(gate);
-    let answer = dictionary.add_exception(word, places);
-    step(gate);
-    write_added(answer, output)
+    pass_gate(gate);
+    let result = dictionary.add_exception(word, places);
+    pass_gate(gate);
+    write_added(result, output)
 }
 
 fn add_plain<G: Read, O: Write>(
@@ -64,10 +64,10 @@ fn add_plain<G: Read, O: Write>(
     if !Extended::fits(&word, &places) {
         return Err(io::Error::from(ErrorKind::InvalidInput));
     }
-    step(gate);
-    let answer = dictionary.add_exception(word, places);
-    step(gate);
-    write_added(answer, output)
+    pass_gate(gate);
+    let result = dictionary.add_exception(word, places);
+    pass_gate(gate);
+    write_added(result, output)
 }
 
 fn add_first<G: Read, O: Write>(alloc: Global, gate: &mut G, output: &mut O) -> io::Result<()> {
@@ -88,18 +88,18 @@ fn add_second<G: Read, O: Write>(alloc: Global, gate: &mut G, output: &mut O) ->
 
 fn add_extended<G: Read, O: Write>(
     alloc: Global,
-    text: &str,
+    append_text: &str,
     word: &str,
     gate: &mut G,
     output: &mut O,
 ) -> io::Result<()> {
-    let mut changes: Extended = dictionary(alloc, text)?;
+    let mut changes: Extended = dictionary(alloc, append_text)?;
     add_plain(alloc, &mut changes, word, gate, output)?;
     write_marked(alloc, &changes, word, output)
 }
 
-/// `add_exception` of a word that was none, where the list has to grow, and of one that was, which takes no memory; and
-/// what the word's breaks are then.
+/// Makes the call `add_exception`, for a new word and for one that is listed already, and writes the word's breaks
+/// after it. A new word makes the list grow; for a listed one no memory is requested.
 pub fn add<G: Read, O: Write>(
     alloc: Global,
     which: &str,
@@ -114,62 +114,62 @@ pub fn add<G: Read, O: Write>(
     }
 }
 
-fn copy<G: Read, O: Write>(alloc: Global, gate: &mut G, output: &mut O) -> io::Result<()> {
+fn copy_word<G: Read, O: Write>(alloc: Global, gate: &mut G, output: &mut O) -> io::Result<()> {
     let words: Standard = dictionary(alloc, WORDS)?;
     let word = words.hyphenate(alloc, "hyphenation")?;
-    step(gate);
-    let answer = word.try_clone(alloc);
-    step(gate);
-    match answer {
-        Ok(copy) => writeln!(output, "equal: {}", copy == word),
+    pass_gate(gate);
+    let result = word.try_clone(alloc);
+    pass_gate(gate);
+    match result {
+        Ok(copy_word) => writeln!(output, "equal: {}", copy_word == word),
         Err(_) => writeln!(output, "no memory, and then {} breaks", word.breaks.len()),
     }
 }
 
-fn fold<G: Read, O: Write>(
+fn refold_word<G: Read, O: Write>(
     alloc: Global,
     word: &str,
     gate: &mut G,
     output: &mut O,
 ) -> io::Result<()> {
-    step(gate);
-    let answer = refold(alloc, word);
-    step(gate);
-    match answer {
+    pass_gate(gate);
+    let result = refold(alloc, word);
+    pass_gate(gate);
+    match result {
         Ok((folded, shifts)) => writeln!(output, "{folded} with {} shifts", shifts.len()),
         Err(_) => output.write_all(b"no memory\n"),
     }
 }
 
-fn soft<G: Read, O: Write>(
+fn find_soft_hyphens<G: Read, O: Write>(
     alloc: Global,
     word: &str,
     gate: &mut G,
     output: &mut O,
 ) -> io::Result<()> {
-    step(gate);
-    let answer = soft_hyphen_indices(alloc, word);
-    step(gate);
-    match answer {
+    pass_gate(gate);
+    let result = soft_hyphen_indices(alloc, word);
+    pass_gate(gate);
+    match result {
         Ok(Some(places)) => writeln!(output, "{} soft hyphens", places.len()),
         Ok(None) => output.write_all(b"none\n"),
         Err(_) => output.write_all(b"no memory\n"),
     }
 }
 
-fn text<G: Read, O: Write>(alloc: Global, gate: &mut G, output: &mut O) -> io::Result<()> {
+fn append_text<G: Read, O: Write>(alloc: Global, gate: &mut G, output: &mut O) -> io::Result<()> {
     let firkin: Standard = dictionary(alloc, FIRKIN)?;
     let mut page = String::from_str(alloc, "Ale: ")?;
-    step(gate);
-    let answer = hyphenate_text(alloc, &mut page, &firkin, "Firkin, firkins.", "-");
-    step(gate);
-    match answer {
+    pass_gate(gate);
+    let result = hyphenate_text(alloc, &mut page, &firkin, "Firkin, firkins.", "-");
+    pass_gate(gate);
+    match result {
         Ok(()) => writeln!(output, "{page}"),
         Err(_) => writeln!(output, "no memory, and then {page}"),
     }
 }
 
-/// `try_clone`, `refold`, `soft_hyphen_indices`, and `hyphenate_text`, which appends to a text.
+/// Makes the call `try_clone`, `refold`, `soft_hyphen_indices` or `hyphenate_text`.
 pub fn word<G: Read, O: Write>(
     alloc: Global,
     which: &str,
@@ -177,15 +177,15 @@ pub fn word<G: Read, O: Write>(
     output: &mut O,
 ) -> io::Result<()> {
     match which.split_once(' ') {
-        Some(("refold", word)) => fold(alloc, word, gate, output),
-        Some((_, word)) => soft(alloc, word, gate, output),
-        None if which == "text" => text(alloc, gate, output),
-        None => copy(alloc, gate, output),
+        Some(("refold", word)) => refold_word(alloc, word, gate, output),
+        Some((_, word)) => find_soft_hyphens(alloc, word, gate, output),
+        None if which == "text" => append_text(alloc, gate, output),
+        None => copy_word(alloc, gate, output),
     }
 }
 
-/// Goes through all segments, the mark of the later ones set after the first, and says of each how many are to come
-/// after it; a cross stands for one that was refused.
+// Takes all segments, with a new mark after the first, and writes each with the number of those to come. A cross stands
+// for one that was refused.
 fn items<'m, I: Texts, G: Read, O: Write>(
     alloc: Global,
     mut items: Hyphenating<'m, I>,
@@ -193,9 +193,9 @@ fn items<'m, I: Texts, G: Read, O: Write>(
     gate: &mut G,
     output: &mut O,
 ) -> io::Result<()> {
-    // with room for all of them, so that keeping them takes nothing
+    // It has room for all of them, so that keeping them requests no memory.
     let mut kept: Vec<(Result<String, AllocError>, usize)> = Vec::with_capacity(alloc, 8)?;
-    step(gate);
+    pass_gate(gate);
     for number in 0..8 {
         if let Some(item) = items.next() {
             kept.push((item, items.len()))?;
@@ -204,7 +204,7 @@ fn items<'m, I: Texts, G: Read, O: Write>(
             items.mark_with(mark);
         }
     }
-    step(gate);
+    pass_gate(gate);
     for (item, left) in &kept {
         match item {
             Ok(item) => write!(output, "{item}{left} ")?,
@@ -214,13 +214,17 @@ fn items<'m, I: Texts, G: Read, O: Write>(
     writeln!(output, "then none: {}", items.next().is_none())
 }
 
-fn items_of_lent<G: Read, O: Write>(alloc: Global, gate: &mut G, output: &mut O) -> io::Result<()> {
+fn borrowed_word_items<G: Read, O: Write>(
+    alloc: Global,
+    gate: &mut G,
+    output: &mut O,
+) -> io::Result<()> {
     let words: Standard = dictionary(alloc, WORDS)?;
     let word = words.hyphenate(alloc, "hyphenation")?;
     items(alloc, word.iter(), "-", gate, output)
 }
 
-fn items_of_standard<G: Read, O: Write>(
+fn standard_items<G: Read, O: Write>(
     alloc: Global,
     mark: &str,
     gate: &mut G,
@@ -231,7 +235,7 @@ fn items_of_standard<G: Read, O: Write>(
     items(alloc, word.into_iter(), mark, gate, output)
 }
 
-fn items_of_extended<G: Read, O: Write>(
+fn extended_items<G: Read, O: Write>(
     alloc: Global,
     gate: &mut G,
     output: &mut O,
@@ -241,7 +245,7 @@ fn items_of_extended<G: Read, O: Write>(
     items(alloc, word.into_iter(), "-", gate, output)
 }
 
-/// Going through the segments of a word.
+/// Iterates over the segments of a word.
 pub fn iterate<G: Read, O: Write>(
     alloc: Global,
     which: &str,
@@ -249,9 +253,9 @@ pub fn iterate<G: Read, O: Write>(
     output: &mut O,
 ) -> io::Result<()> {
     match which {
-        "lent" => items_of_lent(alloc, gate, output),
-        "standard" => items_of_standard(alloc, "-", gate, output),
-        "marked" => items_of_standard(alloc, "=", gate, output),
-        _ => items_of_extended(alloc, gate, output),
+        "borrowed" => borrowed_word_items(alloc, gate, output),
+        "standard" => standard_items(alloc, "-", gate, output),
+        "marked" => standard_items(alloc, "=", gate, output),
+        _ => extended_items(alloc, gate, output),
     }
 }

@@ -1,6 +1,6 @@
-//! Dictionaries read and written.
+//! Calls that read and write dictionaries, and the texts of these dictionaries.
 
-use crate::step;
+use crate::pass_gate;
 use hyphenation::extended::Extended;
 use hyphenation::{Language, Load, Standard};
 use std::alloc::Global;
@@ -16,15 +16,15 @@ pub const WORDS: &str =
 pub const CHANGES: &str =
     "hyphenation 1 extended\nlanguage hu\nminima 1 1\n# two kinds\n\ne kilim 2\ne asszonnyal 2,1,2,2,szsz 6,1,2,2,nyny\ne aßb 1 3,2,0,2,ss\np s1szo0\np .fi2\np a1b 1,1,0,1,x\np ca1bd\ne \\e\n";
 
-/// Nine exceptions, for which the list of exceptions has room: one more makes it grow.
+/// The list of exceptions has room for nine, so one more makes it grow.
 pub const FULL: &str =
     "hyphenation 1 standard\nlanguage en-us\nminima 2 3\np .fi2\np i2r\np r2k\np r5kin\np k1in\np k2in.\ne a\ne b\ne c\ne d\ne e\ne f\ne g\ne h\ne i\n";
 
-/// Nine exceptions too, of an extended dictionary.
+/// The list of exceptions of an extended dictionary has room for nine, so one more makes it grow.
 pub const FULL_CHANGES: &str =
     "hyphenation 1 extended\nlanguage hu\nminima 1 1\np a1b 1,1,0,1,x\np ca1bd\ne a\ne b\ne c\ne d\ne e\ne f\ne g\ne h\ne i\n";
 
-/// A dictionary that is read before the part that counts.
+/// Loads a dictionary before the measured part begins.
 pub fn dictionary<D: Load>(alloc: Global, text: &str) -> io::Result<D> {
     let mut reader = text.as_bytes();
     D::any_from_reader(alloc, &mut reader).map_err(|_| io::Error::from(ErrorKind::InvalidData))
@@ -46,32 +46,32 @@ fn load_any<D: Load + Drop, G: Read, O: Write>(
     output: &mut O,
 ) -> io::Result<()> {
     let mut reader = text.as_bytes();
-    step(gate);
-    let answer = D::any_from_reader(alloc, &mut reader);
-    step(gate);
-    match answer {
+    pass_gate(gate);
+    let result = D::any_from_reader(alloc, &mut reader);
+    pass_gate(gate);
+    match result {
         Ok(dictionary) => write_joined(output, &dictionary.to_text(alloc)?),
         Err(error) => writeln!(output, "{error}"),
     }
 }
 
-fn load_asked<D: Load + Drop, G: Read, O: Write>(
+fn load_in_language<D: Load + Drop, G: Read, O: Write>(
     alloc: Global,
     text: &str,
     gate: &mut G,
     output: &mut O,
 ) -> io::Result<()> {
     let mut reader = text.as_bytes();
-    step(gate);
-    let answer = D::from_reader(alloc, Language::english_us(), &mut reader);
-    step(gate);
-    match answer {
+    pass_gate(gate);
+    let result = D::from_reader(alloc, Language::english_us(), &mut reader);
+    pass_gate(gate);
+    match result {
         Ok(dictionary) => write_joined(output, &dictionary.to_text(alloc)?),
         Err(error) => writeln!(output, "{error}"),
     }
 }
 
-/// `any_from_reader` and `from_reader`; the second is asked for American English.
+/// Makes the call `any_from_reader` or `from_reader`. The latter asks for American English.
 pub fn load<G: Read, O: Write>(
     alloc: Global,
     which: &str,
@@ -80,14 +80,14 @@ pub fn load<G: Read, O: Write>(
 ) -> io::Result<()> {
     match which {
         "standard" => load_any::<Standard, G, O>(alloc, WORDS, gate, output),
-        "standard en-us" => load_asked::<Standard, G, O>(alloc, WORDS, gate, output),
+        "standard en-us" => load_in_language::<Standard, G, O>(alloc, WORDS, gate, output),
         "standard faulty" => load_any::<Standard, G, O>(alloc, CHANGES, gate, output),
         "extended" => load_any::<Extended, G, O>(alloc, CHANGES, gate, output),
-        _ => load_asked::<Extended, G, O>(alloc, CHANGES, gate, output),
+        _ => load_in_language::<Extended, G, O>(alloc, CHANGES, gate, output),
     }
 }
 
-fn write_of<D: Load + Drop, G: Read, O: Write>(
+fn write_dictionary<D: Load + Drop, G: Read, O: Write>(
     alloc: Global,
     text: &str,
     gate: &mut G,
@@ -95,16 +95,16 @@ fn write_of<D: Load + Drop, G: Read, O: Write>(
 ) -> io::Result<()> {
     let dictionary: D = dictionary(alloc, text)?;
     let mut written: Vec<u8> = Vec::with_capacity(alloc, 1_000)?;
-    step(gate);
-    let answer = dictionary.to_writer(alloc, &mut written);
-    step(gate);
-    match answer {
+    pass_gate(gate);
+    let result = dictionary.to_writer(alloc, &mut written);
+    pass_gate(gate);
+    match result {
         Ok(()) => write_joined(output, &written),
         Err(error) => writeln!(output, "{error}, and {} bytes written", written.len()),
     }
 }
 
-/// `to_writer`.
+/// Makes the call `to_writer`.
 pub fn write<G: Read, O: Write>(
     alloc: Global,
     which: &str,
@@ -112,7 +112,7 @@ pub fn write<G: Read, O: Write>(
     output: &mut O,
 ) -> io::Result<()> {
     match which {
-        "standard" => write_of::<Standard, G, O>(alloc, WORDS, gate, output),
-        _ => write_of::<Extended, G, O>(alloc, CHANGES, gate, output),
+        "standard" => write_dictionary::<Standard, G, O>(alloc, WORDS, gate, output),
+        _ => write_dictionary::<Extended, G, O>(alloc, CHANGES, gate, output),
     }
 }

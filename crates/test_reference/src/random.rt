@@ -1,6 +1,6 @@
-//! Dictionaries and words by chance, the same at each run.
+//! Random dictionaries and words, which are the same at each run.
 
-use crate::book::{Book, Change, Cut, Listing, Pattern, Value};
+use crate::dictionary::{Change, Exception, ExpectedBreak, Pattern, ReferenceDictionary, Value};
 use std::alloc::{AllocError, Global};
 
 fn capital(c: char) -> char {
@@ -14,12 +14,12 @@ fn capital(c: char) -> char {
     }
 }
 
-/// Numbers that look like chance, from a seed.
+/// Random numbers from a seed.
 #[derive(Drop)]
-pub struct Dice(pub u64);
+pub struct Random(pub u64);
 
-impl Dice {
-    /// A number below the bound; 0 where that is 0.
+impl Random {
+    /// A number below the bound; 0 if the bound is 0.
     pub fn below(&mut self, bound: usize) -> usize {
         self.0 = self
             .0
@@ -29,11 +29,11 @@ impl Dice {
         (high as usize).checked_rem(bound).unwrap_or(0)
     }
 
-    fn one_in(&mut self, count: usize) -> bool {
+    fn one_chance_in(&mut self, count: usize) -> bool {
         self.below(count) == 0
     }
 
-    /// Fewer than so many of these letters, in a row.
+    // Fewer than `fewer_than` of these letters, in a row.
     fn letters(
         &mut self,
         alloc: Global,
@@ -48,9 +48,9 @@ impl Dice {
         Ok(text)
     }
 
-    /// A word, now and then with a capital or a soft hyphen.
+    // A word, now and then with a capital or a soft hyphen.
     fn word(&mut self, alloc: Global) -> Result<String, AllocError> {
-        if self.one_in(8) {
+        if self.one_chance_in(8) {
             return self.letters(alloc, 6, &['a', 'b', '\u{ad}', 'é']);
         }
         self.letters(
@@ -62,9 +62,9 @@ impl Dice {
         )
     }
 
-    /// A word of so many bytes: of small letters of one byte, or also of capitals and of longer letters.
-    pub fn word_of(&mut self, alloc: Global, bytes: usize) -> Result<String, AllocError> {
-        let letters: &[char] = if self.one_in(2) {
+    /// A word of this many bytes, in half of the cases with capitals and letters of several bytes.
+    pub fn word_of_bytes(&mut self, alloc: Global, bytes: usize) -> Result<String, AllocError> {
+        let letters: &[char] = if self.one_chance_in(2) {
             &['a', 'b', 'i']
         } else {
             &['a', 'b', 'i', 'A', 'B', 'é', 'ß', 'ẞ']
@@ -83,14 +83,18 @@ impl Dice {
         Ok(text)
     }
 
-    /// A word, now and then one that the book lists, with capitals.
-    pub fn word_near(&mut self, alloc: Global, book: &Book) -> Result<String, AllocError> {
-        let at = self.below(book.listings.len());
-        match book.listings.get(at) {
-            Some(listing) if self.one_in(3) => {
+    /// A word, now and then one that the dictionary lists, with capitals.
+    pub fn word_near(
+        &mut self,
+        alloc: Global,
+        dictionary: &ReferenceDictionary,
+    ) -> Result<String, AllocError> {
+        let at = self.below(dictionary.exceptions.len());
+        match dictionary.exceptions.get(at) {
+            Some(exception) if self.one_chance_in(3) => {
                 let mut word = String::new(alloc);
-                for c in listing.word.chars() {
-                    let is_capital = self.one_in(3);
+                for c in exception.word.chars() {
+                    let is_capital = self.one_chance_in(3);
                     word.push(if is_capital { capital(c) } else { c })?;
                 }
                 Ok(word)
@@ -99,17 +103,17 @@ impl Dice {
         }
     }
 
-    /// A change at a place of a text, whose range lies in it, between characters.
+    // A change at a place of a text, whose range lies in it and ends between characters.
     fn change(&mut self, text: &str, place: usize) -> Option<Change> {
         let (mut left, mut right) = (0, 0);
-        if self.one_in(2) {
+        if self.one_chance_in(2) {
             left = text
                 .get(..place)?
                 .chars()
                 .next_back()
                 .map_or(0, |c| c.len_utf8());
         }
-        if self.one_in(2) {
+        if self.one_chance_in(2) {
             right = text
                 .get(place..)?
                 .chars()
@@ -118,7 +122,7 @@ impl Dice {
         }
         let substitutions = ["", "x", "xy", "é,"];
         let substitution: &'static str = substitutions.get(self.below(4)).copied().unwrap_or("");
-        let breakpoint = if self.one_in(2) {
+        let breakpoint = if self.one_chance_in(2) {
             0
         } else {
             substitution.len()
@@ -131,52 +135,52 @@ impl Dice {
         })
     }
 
-    /// Places of a text, ascending, of an extended dictionary now and then with a change.
-    pub fn cuts(
+    /// Ascending places of a text, in an extended dictionary now and then with a change.
+    pub fn expected_breaks(
         &mut self,
         alloc: Global,
         text: &str,
         is_extended: bool,
-    ) -> Result<Vec<Cut>, AllocError> {
-        let mut cuts = Vec::new(alloc);
+    ) -> Result<Vec<ExpectedBreak>, AllocError> {
+        let mut expected_breaks = Vec::new(alloc);
         for place in 0..=text.len() {
-            if text.is_char_boundary(place) && self.one_in(2) {
-                let is_changed = is_extended && self.one_in(2);
+            if text.is_char_boundary(place) && self.one_chance_in(2) {
+                let is_changed = is_extended && self.one_chance_in(2);
                 let change = if is_changed {
                     self.change(text, place)
                 } else {
                     None
                 };
-                cuts.push(Cut { place, change })?;
+                expected_breaks.push(ExpectedBreak { place, change })?;
             }
         }
-        Ok(cuts)
+        Ok(expected_breaks)
     }
 
     fn pattern(
         &mut self,
         alloc: Global,
         is_extended: bool,
-        is_first: bool,
+        fits_version_1: bool,
     ) -> Result<Pattern, AllocError> {
         let key = self.letters(alloc, 5, &['a', 'b', 'i', 'ß', 'é', 'a', 'b', '.'])?;
         let mut values = Vec::new(alloc);
-        for cut in &self.cuts(alloc, &key, is_extended)? {
-            let number = self.below(if is_first { 9 } else { 255 });
+        for expected in &self.expected_breaks(alloc, &key, is_extended)? {
+            let number = self.below(if fits_version_1 { 9 } else { 255 });
             values.push(Value {
                 value: u8::try_from(number).unwrap_or(0).saturating_add(1),
-                cut: *cut,
+                expected: *expected,
             })?;
         }
         Ok(Pattern { key, values })
     }
 
-    /// Fewer than nine patterns, each key once.
+    // Fewer than nine patterns, each key once.
     fn patterns(&mut self, alloc: Global, is_extended: bool) -> Result<Vec<Pattern>, AllocError> {
-        let is_first = !self.one_in(4);
+        let fits_version_1 = !self.one_chance_in(4);
         let mut patterns: Vec<Pattern> = Vec::new(alloc);
         for _ in 0..self.below(9) {
-            let pattern = self.pattern(alloc, is_extended, is_first)?;
+            let pattern = self.pattern(alloc, is_extended, fits_version_1)?;
             let has_letter = pattern.key.chars().any(|c| c != '.');
             if has_letter && !patterns.iter().any(|other| other.key == pattern.key) {
                 patterns.push(pattern)?;
@@ -185,35 +189,46 @@ impl Dice {
         Ok(patterns)
     }
 
-    /// A word with a list.
-    fn listing(&mut self, alloc: Global, is_extended: bool) -> Result<Listing, AllocError> {
+    // A word with its breaks.
+    fn exception(&mut self, alloc: Global, is_extended: bool) -> Result<Exception, AllocError> {
         let word = self.letters(alloc, 6, &['a', 'b', 'i', 'ß', 'é', 'a'])?;
-        let cuts = self.cuts(alloc, &word, is_extended)?;
-        Ok(Listing { word, cuts })
+        let expected_breaks = self.expected_breaks(alloc, &word, is_extended)?;
+        Ok(Exception {
+            word,
+            expected_breaks,
+        })
     }
 
-    /// Fewer than four listings, each word once.
-    fn listings(&mut self, alloc: Global, is_extended: bool) -> Result<Vec<Listing>, AllocError> {
-        let mut listings: Vec<Listing> = Vec::new(alloc);
+    // Fewer than four exceptions, each word once.
+    fn exceptions(
+        &mut self,
+        alloc: Global,
+        is_extended: bool,
+    ) -> Result<Vec<Exception>, AllocError> {
+        let mut exceptions: Vec<Exception> = Vec::new(alloc);
         for _ in 0..self.below(4) {
-            let listing = self.listing(alloc, is_extended)?;
-            if !listings.iter().any(|other| other.word == listing.word) {
-                listings.push(listing)?;
+            let exception = self.exception(alloc, is_extended)?;
+            if !exceptions.iter().any(|other| other.word == exception.word) {
+                exceptions.push(exception)?;
             }
         }
-        Ok(listings)
+        Ok(exceptions)
     }
 
     /// A small dictionary.
-    pub fn book(&mut self, alloc: Global, is_extended: bool) -> Result<Book, AllocError> {
+    pub fn dictionary(
+        &mut self,
+        alloc: Global,
+        is_extended: bool,
+    ) -> Result<ReferenceDictionary, AllocError> {
         let patterns = self.patterns(alloc, is_extended)?;
-        let listings = self.listings(alloc, is_extended)?;
+        let exceptions = self.exceptions(alloc, is_extended)?;
         let (left, right) = (self.below(3), self.below(3));
-        Ok(Book {
+        Ok(ReferenceDictionary {
             left,
             right,
             patterns,
-            listings,
+            exceptions,
         })
     }
 }

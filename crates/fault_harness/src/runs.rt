@@ -1,7 +1,7 @@
-//! Whole runs, from bytes to bytes, and lines.
+//! Calls of whole runs, from bytes to bytes, and of lines.
 
-use crate::step;
-use crate::texts::{CHANGES, FIRKIN, dictionary, write_joined};
+use crate::dictionary_texts::{CHANGES, FIRKIN, dictionary, write_joined};
+use crate::pass_gate;
 use hyphenation::engine::{Kind, RunError, run, run_score};
 use hyphenation::{Language, Standard};
 use linefill::{fill, run_fill};
@@ -12,7 +12,7 @@ use std::io::{Read, Write};
 const VERSE: &str =
     "hyphenation 1 standard\nlanguage en-us\nminima 2 3\ne noble 2\ne accents 2\ne lucid 2\ne inescapable 2\n";
 
-/// Says how a run ended, and what it wrote.
+// Says how a run ended, and what it wrote.
 fn write_run<O: Write>(
     end: &Result<(), RunError>,
     written: &[u8],
@@ -25,7 +25,7 @@ fn write_run<O: Write>(
     }
 }
 
-fn run_by<G: Read, O: Write>(
+fn run_text<G: Read, O: Write>(
     alloc: Global,
     kind: Kind,
     text: (&str, &str),
@@ -39,7 +39,7 @@ fn run_by<G: Read, O: Write>(
         Kind::Extended => Language::hungarian(),
     };
     let mut written: Vec<u8> = Vec::with_capacity(alloc, 1_000)?;
-    step(gate);
+    pass_gate(gate);
     let end = run(
         alloc,
         kind,
@@ -50,11 +50,11 @@ fn run_by<G: Read, O: Write>(
         &mut input,
         &mut written,
     );
-    step(gate);
+    pass_gate(gate);
     write_run(&end, &written, output)
 }
 
-fn score_by<G: Read, O: Write>(
+fn run_word_values<G: Read, O: Write>(
     alloc: Global,
     kind: Kind,
     text: (&str, &str),
@@ -67,14 +67,14 @@ fn score_by<G: Read, O: Write>(
         Kind::Extended => Language::hungarian(),
     };
     let mut written: Vec<u8> = Vec::with_capacity(alloc, 1_000)?;
-    step(gate);
+    pass_gate(gate);
     let end = run_score(alloc, kind, language, text.1, &mut reader, &mut written);
-    step(gate);
+    pass_gate(gate);
     write_run(&end, &written, output)
 }
 
-/// `run` and `run_score`.
-pub fn run_named<G: Read, O: Write>(
+/// Makes the call `run` or `run_score`.
+pub fn run_call<G: Read, O: Write>(
     alloc: Global,
     which: &str,
     gate: &mut G,
@@ -86,24 +86,24 @@ pub fn run_named<G: Read, O: Write>(
                 VERSE,
                 "I know noble accents / And lucid, inescapable rhythms; […]",
             );
-            run_by(alloc, Kind::Standard, text, &[], gate, output)
+            run_text(alloc, Kind::Standard, text, &[], gate, output)
         }
         "firkin" => {
             let text = (FIRKIN, "Firkin, firkins.");
             let edits = ["+firkins 3", "-other", "+ale 1", "-ale"];
-            run_by(alloc, Kind::Standard, text, &edits, gate, output)
+            run_text(alloc, Kind::Standard, text, &edits, gate, output)
         }
         "extended" => {
             let text = (CHANGES, "Az asszonnyal. AẞB \u{ad}b");
             let edits = ["+kabab 1,1,0,0,x", "-kilim"];
-            run_by(alloc, Kind::Extended, text, &edits, gate, output)
+            run_text(alloc, Kind::Extended, text, &edits, gate, output)
         }
-        "score" => score_by(alloc, Kind::Standard, (FIRKIN, "firkins"), gate, output),
-        _ => score_by(alloc, Kind::Extended, (CHANGES, "cabd"), gate, output),
+        "score" => run_word_values(alloc, Kind::Standard, (FIRKIN, "firkins"), gate, output),
+        _ => run_word_values(alloc, Kind::Extended, (CHANGES, "cabd"), gate, output),
     }
 }
 
-/// `fill` and `run_fill`.
+/// Makes the call `fill` or `run_fill`.
 pub fn lines<G: Read, O: Write>(
     alloc: Global,
     which: &str,
@@ -116,16 +116,16 @@ pub fn lines<G: Read, O: Write>(
         let mut input = text.as_bytes();
         let language = Language::english_us();
         let mut written: Vec<u8> = Vec::with_capacity(alloc, 1_000)?;
-        step(gate);
+        pass_gate(gate);
         let end = run_fill(alloc, language, 10, &mut reader, &mut input, &mut written);
-        step(gate);
+        pass_gate(gate);
         return write_run(&end, &written, output);
     }
     let verse: Standard = dictionary(alloc, VERSE)?;
-    step(gate);
-    let answer = fill(alloc, &verse, text, 10);
-    step(gate);
-    match answer {
+    pass_gate(gate);
+    let result = fill(alloc, &verse, text, 10);
+    pass_gate(gate);
+    match result {
         Ok(lines) => {
             for line in &lines {
                 write!(output, "{line}|")?;
