@@ -1,4 +1,4 @@
-//! The library beside the second hand.
+//! The library compared with the reference implementation.
 
 use hyphenation_breaks::breaks::Break;
 use hyphenation_breaks::extended::Subregion;
@@ -8,17 +8,17 @@ use hyphenation_load::Load;
 use hyphenation_score::Score;
 use std::alloc::{AllocError, Global};
 use std::test::Fail;
-use test_books::book::{Book, Cut};
-use test_books::chance::Dice;
-use test_support::holds;
+use test_reference::dictionary::{ExpectedBreak, ReferenceDictionary};
+use test_reference::random::Random;
+use test_support::expect;
 
-/// The break is that cut, with its range and the halves of its substitution.
-fn is_that<B: Break>(found: &B, cut: &Cut) -> bool {
+// Whether a break has the place, the range and the halves of the substitution that are expected.
+fn is_expected<B: Break>(found: &B, expected: &ExpectedBreak) -> bool {
     let Some((begin, end)) = found.range() else {
         return false;
     };
-    let is_same = match cut.change {
-        None => !found.changed() && begin == cut.place && end == cut.place,
+    let is_same = match expected.change {
+        None => !found.changed() && begin == expected.place && end == expected.place,
         Some(change) => {
             let (before, after) = change
                 .substitution
@@ -26,97 +26,100 @@ fn is_that<B: Break>(found: &B, cut: &Cut) -> bool {
                 .split_at_checked(change.breakpoint)
                 .unwrap_or((b"", b""));
             found.changed()
-                && begin.wrapping_add(change.left) == cut.place
-                && end == cut.place.wrapping_add(change.right)
+                && begin.wrapping_add(change.left) == expected.place
+                && end == expected.place.wrapping_add(change.right)
                 && found.before().as_bytes() == before
                 && found.after().as_bytes() == after
         }
     };
-    found.place() == cut.place && is_same
+    found.place() == expected.place && is_same
 }
 
-fn are_those<B: Break>(found: &[B], cuts: &[Cut]) -> bool {
-    found.len() == cuts.len() && found.iter().zip(cuts).all(|(b, cut)| is_that(b, cut))
+fn are_expected<B: Break>(found: &[B], breaks: &[ExpectedBreak]) -> bool {
+    found.len() == breaks.len()
+        && found
+            .iter()
+            .zip(breaks)
+            .all(|(b, expected)| is_expected(b, expected))
 }
 
-/// The places alone.
-fn listed_places(alloc: Global, cuts: &[Cut]) -> Result<Vec<usize>, AllocError> {
+fn listed_places(alloc: Global, breaks: &[ExpectedBreak]) -> Result<Vec<usize>, AllocError> {
     let mut places = Vec::new(alloc);
-    for cut in cuts {
-        places.push(cut.place)?;
+    for expected in breaks {
+        places.push(expected.place)?;
     }
     Ok(places)
 }
 
-/// Whether this value with this change is what the book says of a place of the word.
+// Whether the reference has this value with this change at a place of the word.
 fn is_scored_as(
     alloc: Global,
-    book: &Book,
+    reference: &ReferenceDictionary,
     word: &str,
     place: usize,
     found: (u8, Option<&Subregion>),
 ) -> Result<bool, AllocError> {
     let (value, change) = found;
-    Ok(match book.value_at(alloc, word, place)? {
+    Ok(match reference.value_at(alloc, word, place)? {
         None => value == 0 && change.is_none(),
         Some(wanted) => {
-            value == wanted.value && is_that(&(wanted.cut.place, change), &wanted.cut)
+            value == wanted.value && is_expected(&(wanted.expected.place, change), &wanted.expected)
         }
     })
 }
 
-/// Whether a standard dictionary scores the word as the book says.
+// Whether a standard dictionary scores the word as the reference does.
 fn is_standard_scored(
     alloc: Global,
     dictionary: &Standard,
-    book: &Book,
+    reference: &ReferenceDictionary,
     word: &str,
 ) -> Result<bool, AllocError> {
     let scores = dictionary.score(alloc, word)?;
     let mut is_same = scores.len() == word.len().saturating_sub(1);
     for (index, value) in scores.iter().enumerate() {
         let place = index.wrapping_add(1);
-        is_same = is_same && is_scored_as(alloc, book, word, place, (*value, None))?;
+        is_same = is_same && is_scored_as(alloc, reference, word, place, (*value, None))?;
     }
     Ok(is_same)
 }
 
-/// Whether an extended dictionary scores the word as the book says, changes included.
+// Whether an extended dictionary scores the word, with its changes, as the reference does.
 fn is_extended_scored(
     alloc: Global,
     dictionary: &Extended,
-    book: &Book,
+    reference: &ReferenceDictionary,
     word: &str,
 ) -> Result<bool, AllocError> {
     let scores = dictionary.score(alloc, word)?;
     let mut is_same = scores.len() == word.len().saturating_sub(1);
     for (index, found) in scores.iter().enumerate() {
         let place = index.wrapping_add(1);
-        is_same = is_same && is_scored_as(alloc, book, word, place, *found)?;
+        is_same = is_same && is_scored_as(alloc, reference, word, place, *found)?;
     }
     Ok(is_same)
 }
 
-/// Whether breaks of a word are those that the book says.
-fn are_of_book<B: Break>(
+// Whether these are the word's breaks by the reference.
+fn are_reference_breaks<B: Break>(
     alloc: Global,
     found: &[B],
-    book: &Book,
+    reference: &ReferenceDictionary,
     word: &str,
 ) -> Result<bool, AllocError> {
-    Ok(are_those(found, &book.breaks(alloc, word)?))
+    Ok(are_expected(found, &reference.breaks(alloc, word)?))
 }
 
-/// What was compared: words, and among the books those of version 2; exceptions set, exceptions set with a change, and
-/// exceptions taken out that stood in the dictionary; words of 62 to 67 bytes, and those of them that are broken.
+// Counts of what was compared. `removed` counts exceptions that stood in the dictionary, and a long word has 62 to 67
+// bytes.
 #[derive(Clone, Copy)]
 struct Compared {
     words: u32,
-    second: u32,
-    set: u32,
+    version_2: u32,
+    added: u32,
     changed: u32,
-    taken_out: u32,
-    long: u32,
+    removed: u32,
+    long_words: u32,
     long_broken: u32,
 }
 
@@ -126,62 +129,67 @@ impl Compared {
     }
 
     fn note_text(&mut self, text: &str) {
-        let second = text.starts_with("hyphenation 2 ");
-        self.second = self.second.saturating_add(u32::from(second));
+        let is_version_2 = text.starts_with("hyphenation 2 ");
+        self.version_2 = self.version_2.saturating_add(u32::from(is_version_2));
     }
 
     fn note_edit(&mut self, edit: &Edit) {
-        let changed = edit.has_change && !edit.takes_out;
-        let taken_out = edit.takes_out && edit.is_listed;
-        self.set = self.set.saturating_add(u32::from(!edit.takes_out));
+        let changed = edit.has_change && !edit.removes;
+        let removed = edit.removes && edit.is_listed;
+        self.added = self.added.saturating_add(u32::from(!edit.removes));
         self.changed = self.changed.saturating_add(u32::from(changed));
-        self.taken_out = self.taken_out.saturating_add(u32::from(taken_out));
+        self.removed = self.removed.saturating_add(u32::from(removed));
     }
 
-    fn note_long(&mut self, is_broken: bool) {
-        self.long = self.long.saturating_add(1);
+    fn note_long_word(&mut self, is_broken: bool) {
+        self.long_words = self.long_words.saturating_add(1);
         self.long_broken = self.long_broken.saturating_add(u32::from(is_broken));
     }
 
     fn is_enough(&self) -> bool {
-        self.words == 10_000 && self.second > 200 && self.set > 1_000 && self.taken_out > 50
+        self.words == 10_000 && self.version_2 > 200 && self.added > 1_000 && self.removed > 50
     }
 }
 
-const NOTHING: Compared = Compared {
+const NOTHING_COMPARED: Compared = Compared {
     words: 0,
-    second: 0,
-    set: 0,
+    version_2: 0,
+    added: 0,
     changed: 0,
-    taken_out: 0,
-    long: 0,
+    removed: 0,
+    long_words: 0,
     long_broken: 0,
 };
 
-/// An exception set or taken out: whether it has a change, and whether the word stood in the dictionary.
+// An exception that was added or removed.
 #[derive(Clone, Copy)]
 struct Edit {
-    takes_out: bool,
+    removes: bool,
     has_change: bool,
     is_listed: bool,
 }
 
-/// A kind of dictionary, as it is compared with a book.
+// A kind of dictionary, compared with the reference.
 trait Kind: Load + Drop {
-    /// Its name in line 1 of a text.
+    // Its name in line 1 of a text.
     fn name() -> &'static str;
 
-    /// Whether its breaks may have changes.
+    // Whether its breaks may have changes.
     fn has_changes() -> bool;
 
-    /// Whether it scores and breaks the word as the book says.
-    fn is_as(&self, alloc: Global, book: &Book, word: &str) -> Result<bool, AllocError>;
+    // Whether it scores and breaks the word as the reference does.
+    fn agrees_with(
+        &self,
+        alloc: Global,
+        reference: &ReferenceDictionary,
+        word: &str,
+    ) -> Result<bool, AllocError>;
 
-    /// Lists the cuts for the word. Whether the word was an exception.
-    fn set(&mut self, alloc: Global, word: &str, cuts: &[Cut]) -> Result<bool, Fail>;
+    // Lists the breaks for the word, and returns whether the word was an exception.
+    fn add(&mut self, alloc: Global, word: &str, breaks: &[ExpectedBreak]) -> Result<bool, Fail>;
 
-    /// Takes the word out of the exceptions. Whether it was one.
-    fn take_out(&mut self, word: &str) -> bool;
+    // Removes the word from the exceptions, and returns whether it was one.
+    fn remove(&mut self, word: &str) -> bool;
 }
 
 impl Kind for Standard {
@@ -193,14 +201,19 @@ impl Kind for Standard {
         false
     }
 
-    fn is_as(&self, alloc: Global, book: &Book, word: &str) -> Result<bool, AllocError> {
+    fn agrees_with(
+        &self,
+        alloc: Global,
+        reference: &ReferenceDictionary,
+        word: &str,
+    ) -> Result<bool, AllocError> {
         let broken = self.hyphenate(alloc, word)?;
-        let is_broken = are_of_book(alloc, &broken.breaks, book, word)?;
-        Ok(is_broken && is_standard_scored(alloc, self, book, word)?)
+        let is_broken = are_reference_breaks(alloc, &broken.breaks, reference, word)?;
+        Ok(is_broken && is_standard_scored(alloc, self, reference, word)?)
     }
 
-    fn set(&mut self, alloc: Global, word: &str, cuts: &[Cut]) -> Result<bool, Fail> {
-        let list = listed_places(alloc, cuts)?;
+    fn add(&mut self, alloc: Global, word: &str, breaks: &[ExpectedBreak]) -> Result<bool, Fail> {
+        let list = listed_places(alloc, breaks)?;
         if !Standard::fits(word, &list) {
             return Err(Fail::from("the list does not fit"));
         }
@@ -208,19 +221,19 @@ impl Kind for Standard {
         Ok(old.is_some())
     }
 
-    fn take_out(&mut self, word: &str) -> bool {
+    fn remove(&mut self, word: &str) -> bool {
         self.remove_exception(word).is_some()
     }
 }
 
-/// The list of an exception, as an extended dictionary takes it; nothing where a change can't be made.
+// The breaks of an exception as an extended dictionary takes them; nothing if a change cuts a character.
 fn listed_changes(
     alloc: Global,
-    cuts: &[Cut],
+    breaks: &[ExpectedBreak],
 ) -> Result<Option<Vec<(usize, Option<Subregion>)>>, AllocError> {
     let mut list = Vec::new(alloc);
-    for cut in cuts {
-        let change = match cut.change {
+    for expected in breaks {
+        let change = match expected.change {
             None => None,
             Some(change) => {
                 let substitution = String::from_str(alloc, change.substitution)?;
@@ -231,7 +244,7 @@ fn listed_changes(
                 Some(Subregion::new(change.left, change.right, substitution, at))
             }
         };
-        list.push((cut.place, change))?;
+        list.push((expected.place, change))?;
     }
     Ok(Some(list))
 }
@@ -245,14 +258,19 @@ impl Kind for Extended {
         true
     }
 
-    fn is_as(&self, alloc: Global, book: &Book, word: &str) -> Result<bool, AllocError> {
+    fn agrees_with(
+        &self,
+        alloc: Global,
+        reference: &ReferenceDictionary,
+        word: &str,
+    ) -> Result<bool, AllocError> {
         let broken = self.hyphenate(alloc, word)?;
-        let is_broken = are_of_book(alloc, &broken.breaks, book, word)?;
-        Ok(is_broken && is_extended_scored(alloc, self, book, word)?)
+        let is_broken = are_reference_breaks(alloc, &broken.breaks, reference, word)?;
+        Ok(is_broken && is_extended_scored(alloc, self, reference, word)?)
     }
 
-    fn set(&mut self, alloc: Global, word: &str, cuts: &[Cut]) -> Result<bool, Fail> {
-        let list = listed_changes(alloc, cuts)?.ok_or("no change")?;
+    fn add(&mut self, alloc: Global, word: &str, breaks: &[ExpectedBreak]) -> Result<bool, Fail> {
+        let list = listed_changes(alloc, breaks)?.ok_or("no change")?;
         if !Extended::fits(word, &list) {
             return Err(Fail::from("the list does not fit"));
         }
@@ -260,17 +278,22 @@ impl Kind for Extended {
         Ok(old.is_some())
     }
 
-    fn take_out(&mut self, word: &str) -> bool {
+    fn remove(&mut self, word: &str) -> bool {
         self.remove_exception(word).is_some()
     }
 }
 
-/// Fails, with the dictionary's text, where a word is not scored and broken as the book says.
-fn agree<K: Kind>(alloc: Global, dictionary: &K, book: &Book, word: &str) -> Result<(), Fail> {
-    if dictionary.is_as(alloc, book, word)? {
+// Fails, with the dictionary's text, unless the word has the scores and breaks of the reference.
+fn expect_agreement<K: Kind>(
+    alloc: Global,
+    dictionary: &K,
+    reference: &ReferenceDictionary,
+    word: &str,
+) -> Result<(), Fail> {
+    if dictionary.agrees_with(alloc, reference, word)? {
         Ok(())
     } else {
-        Err(mismatch(&book.text(alloc, K::name())?, word))
+        Err(mismatch(&reference.text(alloc, K::name())?, word))
     }
 }
 
@@ -278,167 +301,171 @@ fn mismatch(text: &str, word: &str) -> Fail {
     Fail::new(format_args!("{word:?} by {text:?}"))
 }
 
-/// Fails where one of four words near the book is not scored and broken as it says.
-fn words_agree<K: Kind>(
+// Fails unless four words have the scores and breaks of the reference.
+fn expect_words_agree<K: Kind>(
     alloc: Global,
-    dice: &mut Dice,
+    random: &mut Random,
     dictionary: &K,
-    book: &Book,
+    reference: &ReferenceDictionary,
 ) -> Result<(), Fail> {
     for _ in 0..4 {
-        let word = dice.word_near(alloc, book)?;
-        agree(alloc, dictionary, book, &word)?;
+        let word = random.word_near(alloc, reference)?;
+        expect_agreement(alloc, dictionary, reference, &word)?;
     }
     Ok(())
 }
 
-/// Sets a word as an exception, of which some places may have changes, or takes it out.
+// Adds a word to the exceptions or removes it, in the dictionary and in the reference.
 fn make_edit<K: Kind>(
     alloc: Global,
-    dice: &mut Dice,
+    random: &mut Random,
     dictionary: &mut K,
-    book: &mut Book,
+    reference: &mut ReferenceDictionary,
     word: &str,
 ) -> Result<Edit, Fail> {
-    let cuts = dice.cuts(alloc, word, K::has_changes())?;
-    let has_change = cuts.iter().any(|cut| cut.change.is_some());
-    let is_listed = book.take_out(word);
-    let takes_out = dice.below(3) == 0;
-    let had = if takes_out {
-        dictionary.take_out(word)
+    let breaks = random.expected_breaks(alloc, word, K::has_changes())?;
+    let has_change = breaks.iter().any(|expected| expected.change.is_some());
+    let is_listed = reference.remove_exception(word);
+    let removes = random.below(3) == 0;
+    let was_listed = if removes {
+        dictionary.remove(word)
     } else {
-        let had = dictionary.set(alloc, word, &cuts)?;
-        book.list(alloc, word, cuts)?;
-        had
+        let was_listed = dictionary.add(alloc, word, &breaks)?;
+        reference.add_exception(alloc, word, breaks)?;
+        was_listed
     };
-    if had != is_listed {
-        return Err(Fail::from("an exception stood in one and not in the other"));
+    if was_listed != is_listed {
+        return Err(Fail::from("a word was an exception in one and not in the other"));
     }
     Ok(Edit {
-        takes_out,
+        removes,
         has_change,
         is_listed,
     })
 }
 
-/// Fails where a word is not scored and broken as the book says after it was set as an exception or taken out.
-fn edit_agrees<K: Kind>(
+// Adds a word to the exceptions or removes it. Fails unless the word then has the breaks of the reference.
+fn edit_and_compare<K: Kind>(
     alloc: Global,
-    dice: &mut Dice,
+    random: &mut Random,
     dictionary: &mut K,
-    book: &mut Book,
+    reference: &mut ReferenceDictionary,
     word: &str,
 ) -> Result<Edit, Fail> {
-    let edit = make_edit(alloc, dice, dictionary, book, word)?;
-    agree(alloc, dictionary, book, word)?;
+    let edit = make_edit(alloc, random, dictionary, reference, word)?;
+    expect_agreement(alloc, dictionary, reference, word)?;
     Ok(edit)
 }
 
-/// The dictionary of a book.
-fn loaded<K: Kind>(alloc: Global, book: &Book, compared: &mut Compared) -> Result<K, Fail> {
-    let text = book.text(alloc, K::name())?;
+fn load<K: Kind>(
+    alloc: Global,
+    reference: &ReferenceDictionary,
+    compared: &mut Compared,
+) -> Result<K, Fail> {
+    let text = reference.text(alloc, K::name())?;
     compared.note_text(&text);
     let mut reader = text.as_bytes();
     Ok(K::any_from_reader(alloc, &mut reader)?)
 }
 
-/// Fails where one of five words by a dictionary by chance is not scored and broken as its book says, the fifth after
-/// it was set as an exception or taken out.
-fn round<K: Kind>(alloc: Global, dice: &mut Dice, compared: &mut Compared) -> Result<(), Fail> {
-    let mut book = dice.book(alloc, K::has_changes())?;
-    let mut dictionary = loaded::<K>(alloc, &book, compared)?;
-    words_agree(alloc, dice, &dictionary, &book)?;
-    let word = dice.word_near(alloc, &book)?;
-    let edit = edit_agrees(alloc, dice, &mut dictionary, &mut book, &word)?;
+// Fails unless five words by a random dictionary have the scores and breaks of its reference, the fifth after an edit.
+fn compare_dictionary<K: Kind>(
+    alloc: Global,
+    random: &mut Random,
+    compared: &mut Compared,
+) -> Result<(), Fail> {
+    let mut reference = random.dictionary(alloc, K::has_changes())?;
+    let mut dictionary = load::<K>(alloc, &reference, compared)?;
+    expect_words_agree(alloc, random, &dictionary, &reference)?;
+    let word = random.word_near(alloc, &reference)?;
+    let edit = edit_and_compare(alloc, random, &mut dictionary, &mut reference, &word)?;
     compared.note_words(5);
     compared.note_edit(&edit);
     Ok(())
 }
 
-/// So many rounds.
-fn rounds<K: Kind>(alloc: Global, seed: u64, count: usize) -> Result<Compared, Fail> {
-    let mut dice = Dice(seed);
-    let mut compared = NOTHING;
+// Compares this many random dictionaries.
+fn compare_dictionaries<K: Kind>(alloc: Global, seed: u64, count: usize) -> Result<Compared, Fail> {
+    let mut random = Random(seed);
+    let mut compared = NOTHING_COMPARED;
     for _ in 0..count {
-        round::<K>(alloc, &mut dice, &mut compared)?;
+        compare_dictionary::<K>(alloc, &mut random, &mut compared)?;
     }
     Ok(compared)
 }
 
 #[test]
-fn standard_dictionaries_answer_as_the_second_hand(rt: HostRuntime) -> Result<(), Fail> {
-    let compared = rounds::<Standard>(rt.alloc(), 1, 2_000)?;
-    holds(compared.is_enough(), "enough is compared")
+fn standard_dictionaries_agree_with_the_reference(rt: HostRuntime) -> Result<(), Fail> {
+    let compared = compare_dictionaries::<Standard>(rt.alloc(), 1, 2_000)?;
+    expect(compared.is_enough(), "enough is compared")
 }
 
 #[test]
-fn extended_dictionaries_answer_as_the_second_hand(rt: HostRuntime) -> Result<(), Fail> {
-    let compared = rounds::<Extended>(rt.alloc(), 2, 2_000)?;
-    holds(
+fn extended_dictionaries_agree_with_the_reference(rt: HostRuntime) -> Result<(), Fail> {
+    let compared = compare_dictionaries::<Extended>(rt.alloc(), 2, 2_000)?;
+    expect(
         compared.is_enough() && compared.changed > 500,
         "enough is compared",
     )
 }
 
-/// Fails where a word of so many bytes is not scored and broken as the book says.
-fn long_word_agrees<K: Kind>(
+// Fails unless a word of this many bytes has the scores and breaks of the reference. Returns whether it is broken.
+fn compare_long_word<K: Kind>(
     alloc: Global,
-    dice: &mut Dice,
+    random: &mut Random,
     dictionary: &K,
-    book: &Book,
+    reference: &ReferenceDictionary,
     bytes: usize,
 ) -> Result<bool, Fail> {
-    let word = dice.word_of(alloc, bytes)?;
-    agree(alloc, dictionary, book, &word)?;
-    Ok(!book.breaks(alloc, &word)?.is_empty())
+    let word = random.word_of_bytes(alloc, bytes)?;
+    expect_agreement(alloc, dictionary, reference, &word)?;
+    Ok(!reference.breaks(alloc, &word)?.is_empty())
 }
 
-/// Fails where a word of so many bytes is not scored and broken as the book says, before and after it was set as an
-/// exception or taken out.
-fn long_edit_agrees<K: Kind>(
+// Fails unless a word of this many bytes has the scores and breaks of the reference, before and after an edit.
+fn edit_long_word<K: Kind>(
     alloc: Global,
-    dice: &mut Dice,
+    random: &mut Random,
     dictionary: &mut K,
-    book: &mut Book,
+    reference: &mut ReferenceDictionary,
     bytes: usize,
 ) -> Result<(), Fail> {
-    let word = dice.word_of(alloc, bytes)?;
-    agree(alloc, dictionary, book, &word)?;
-    let _edit = edit_agrees(alloc, dice, dictionary, book, &word)?;
+    let word = random.word_of_bytes(alloc, bytes)?;
+    expect_agreement(alloc, dictionary, reference, &word)?;
+    let _edit = edit_and_compare(alloc, random, dictionary, reference, &word)?;
     Ok(())
 }
 
-/// Fails where one of the words of 62 to 67 bytes, by a dictionary by chance, is not scored and broken as its book says,
-/// or that of 64 or of 65 bytes after it was set as an exception or taken out. Words of more than 64 bytes are scored
-/// and broken on another way than shorter ones.
-fn long_round<K: Kind>(
+// Compares words of 62 to 67 bytes by a random dictionary, those of 64 and 65 bytes also after an edit. Words of more
+// than 64 bytes take another path than shorter ones.
+fn compare_long_words<K: Kind>(
     alloc: Global,
-    dice: &mut Dice,
+    random: &mut Random,
     compared: &mut Compared,
 ) -> Result<(), Fail> {
-    let mut book = dice.book(alloc, K::has_changes())?;
-    let mut dictionary = loaded::<K>(alloc, &book, compared)?;
+    let mut reference = random.dictionary(alloc, K::has_changes())?;
+    let mut dictionary = load::<K>(alloc, &reference, compared)?;
     for bytes in 62..=67 {
-        let is_broken = long_word_agrees(alloc, dice, &dictionary, &book, bytes)?;
-        compared.note_long(is_broken);
+        let is_broken = compare_long_word(alloc, random, &dictionary, &reference, bytes)?;
+        compared.note_long_word(is_broken);
     }
-    long_edit_agrees(alloc, dice, &mut dictionary, &mut book, 64)?;
-    long_edit_agrees(alloc, dice, &mut dictionary, &mut book, 65)
+    edit_long_word(alloc, random, &mut dictionary, &mut reference, 64)?;
+    edit_long_word(alloc, random, &mut dictionary, &mut reference, 65)
 }
 
-/// Fails where so many rounds of long words do not agree, or few of the words are broken.
-fn long_rounds<K: Kind>(alloc: Global, seed: u64, count: u32) -> Result<(), Fail> {
-    let mut dice = Dice(seed);
-    let mut compared = NOTHING;
+// Compares long words by this many random dictionaries. Fails if few of the words are broken.
+fn compare_long_words_often<K: Kind>(alloc: Global, seed: u64, count: u32) -> Result<(), Fail> {
+    let mut random = Random(seed);
+    let mut compared = NOTHING_COMPARED;
     for _ in 0..count {
-        long_round::<K>(alloc, &mut dice, &mut compared)?;
+        compare_long_words::<K>(alloc, &mut random, &mut compared)?;
     }
-    let is_enough = compared.long == count.saturating_mul(6) && compared.long_broken > count;
-    holds(is_enough, "enough words are broken")
+    let is_enough = compared.long_words == count.saturating_mul(6) && compared.long_broken > count;
+    expect(is_enough, "enough words are broken")
 }
 
 #[test]
-fn long_words_are_broken_as_the_second_hand_says(rt: HostRuntime) -> Result<(), Fail> {
-    long_rounds::<Standard>(rt.alloc(), 3, 8)?;
-    long_rounds::<Extended>(rt.alloc(), 4, 8)
+fn long_words_are_broken_as_by_the_reference(rt: HostRuntime) -> Result<(), Fail> {
+    compare_long_words_often::<Standard>(rt.alloc(), 3, 8)?;
+    compare_long_words_often::<Extended>(rt.alloc(), 4, 8)
 }

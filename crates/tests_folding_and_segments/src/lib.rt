@@ -1,4 +1,5 @@
-//! Tests of single calls: words folded to small letters, soft hyphens, words with breaks that fit them, and segments.
+//! Tests of calls that use no dictionary: words folded to small letters, soft hyphens, words with breaks that fit them,
+//! and segments.
 #![tactic(auto)]
 
 #[cfg(test)]

@@ -1,4 +1,4 @@
-//! Segments of words, with marks or without, and what their callers can promise.
+//! Segments of words, with marks or without, and contracts that callers can promise.
 
 ghost use Rattle.std.specs.Prelude.{◌≡◌, ◌+◌, false, map, vec_len, IfOk, codes};
 ghost use Rattle.std.specs.List.{concat};
@@ -18,7 +18,7 @@ use std::alloc::{AllocError, Global};
 use std::iter::Copied;
 use std::slice;
 use std::test::Fail;
-use test_support::gives;
+use test_support::expect_text;
 
 // Callers of the iterators, which are proved with the tests.
 
@@ -31,7 +31,7 @@ fn all_segments<'t>(
     ensures { IfOk result (λ list. map (λ segment. segment.now) list.items
         ≡ segments text.now (map plain_break breaks.now)) }
 {
-    Segments::new(text, breaks.iter().copied()).collect(alloc)
+    Segments::new(text, breaks.iter().copy_midway()).collect(alloc)
 }
 
 fn number_of_segments(text: &str, breaks: Vec<usize>) -> usize
@@ -48,7 +48,7 @@ fn joined_segments(alloc: Global, text: &str, breaks: &[usize]) -> Result<String
 {
     laws::segments_join();
     let mut joined = String::new(alloc);
-    for segment in Segments::new(text, breaks.iter().copied()) {
+    for segment in Segments::new(text, breaks.iter().copy_midway()) {
         joined.push_str(segment)?;
     }
     Ok(joined)
@@ -114,11 +114,11 @@ fn left_unmarked<'t>(alloc: Global, word: Word<'t, usize>) -> Result<Vec<&'t str
     word.into_iter().segments().collect(alloc)
 }
 
-/// A text, or a refusal in its place.
+// A text, or a refusal in its place.
 #[derive(Drop)]
-struct Given<'t>(Option<&'t str>);
+struct TextOrRefusal<'t>(Option<&'t str>);
 
-impl<'t> SegmentText for Given<'t> {
+impl<'t> SegmentText for TextOrRefusal<'t> {
     ghost use Rattle.std.specs.Option.{option_copied};
 
     ghost held = { λ given. option_copied given.0 };
@@ -131,19 +131,19 @@ impl<'t> SegmentText for Given<'t> {
     }
 }
 
-/// Segments, of which the second from the end is refused.
+// Segments of which the last but one is refused.
 #[derive(Drop)]
-struct Refusing<'t>(Segments<'t, Copied<slice::Iter<'t, usize>>>);
+struct SegmentsWithRefusal<'t>(Segments<'t, Copied<slice::Iter<'t, usize>>>);
 
-impl<'t> Texts for Refusing<'t> {
-    type Item = Given<'t>;
+impl<'t> Texts for SegmentsWithRefusal<'t> {
+    type Item = TextOrRefusal<'t>;
 
     ghost texts = { λ refusing. refusing.0 };
 
-    fn pull(&mut self) -> Option<Given<'t>> {
+    fn pull(&mut self) -> Option<TextOrRefusal<'t>> {
         let is_refused = self.0.len() == 2;
         let text = self.0.next()?;
-        Some(Given(if is_refused { None } else { Some(text) }))
+        Some(TextOrRefusal(if is_refused { None } else { Some(text) }))
     }
 
     fn left(&self) -> usize {
@@ -151,14 +151,14 @@ impl<'t> Texts for Refusing<'t> {
     }
 }
 
-/// A break that comes again each time that the list has answered that it is empty.
+// A list of one break that has it again each time after it was empty.
 #[derive(Drop)]
-struct ComesAgain<B: Break + Copy> {
+struct RepeatingBreak<B: Break + Copy> {
     place: B,
     is_taken: bool,
 }
 
-impl<B: Break + Copy> Breaks for ComesAgain<B> {
+impl<B: Break + Copy> Breaks for RepeatingBreak<B> {
     ghost use Rattle.std.specs.Prelude.{[], ◌∷◌, if◌then◌else◌};
 
     type Item = B;
@@ -180,10 +180,10 @@ impl<B: Break + Copy> Breaks for ComesAgain<B> {
     }
 }
 
-fn coming_again<B: Break + Copy>(place: B) -> ComesAgain<B>
+fn repeating_break<B: Break + Copy>(place: B) -> RepeatingBreak<B>
     ensures { result ≡ record { place = place; is_taken = false } }
 {
-    ComesAgain {
+    RepeatingBreak {
         place,
         is_taken: false,
     }
@@ -197,8 +197,8 @@ fn word_of<'t>(alloc: Global, text: &'t str, breaks: &[usize]) -> Result<Word<'t
     }
 }
 
-/// The segments of a word, with a bar between each two.
-fn barred(alloc: Global, text: &str, breaks: &[usize]) -> Result<String, Fail> {
+// The segments of a word, with a bar between each two.
+fn joined_by_bars(alloc: Global, text: &str, breaks: &[usize]) -> Result<String, Fail> {
     let segments = left_unmarked(alloc, word_of(alloc, text, breaks)?)?;
     let mut joined = String::new(alloc);
     for (number, segment) in segments.iter().enumerate() {
@@ -212,16 +212,16 @@ fn barred(alloc: Global, text: &str, breaks: &[usize]) -> Result<String, Fail> {
 
 #[test]
 fn a_word_is_cut_at_its_breaks(rt: HostRuntime) -> Result<(), Fail> {
-    gives(
-        barred(rt.alloc(), "hyphenation", &[2, 6, 7]),
+    expect_text(
+        joined_by_bars(rt.alloc(), "hyphenation", &[2, 6, 7]),
         "hy|phen|a|tion",
     )?;
-    gives(barred(rt.alloc(), "ab", &[0, 2]), "|ab|")?;
-    gives(barred(rt.alloc(), "", &[]), "")
+    expect_text(joined_by_bars(rt.alloc(), "ab", &[0, 2]), "|ab|")?;
+    expect_text(joined_by_bars(rt.alloc(), "", &[]), "")
 }
 
-/// The segments of a word with their marks, and a space between each two.
-fn spaced(alloc: Global, text: &str, breaks: &[usize]) -> Result<String, Fail> {
+// The segments of a word with their marks, and a space between each two.
+fn joined_by_spaces(alloc: Global, text: &str, breaks: &[usize]) -> Result<String, Fail> {
     let list = all_marked(alloc, word_of(alloc, text, breaks)?)?;
     let mut joined = String::new(alloc);
     for (number, item) in list.iter().enumerate() {
@@ -235,25 +235,25 @@ fn spaced(alloc: Global, text: &str, breaks: &[usize]) -> Result<String, Fail> {
 
 #[test]
 fn a_mark_stands_after_each_segment_but_the_last(rt: HostRuntime) -> Result<(), Fail> {
-    gives(
-        spaced(rt.alloc(), "hyphenation", &[2, 6, 7]),
+    expect_text(
+        joined_by_spaces(rt.alloc(), "hyphenation", &[2, 6, 7]),
         "hy- phen- a- tion",
     )?;
-    gives(
-        spaced(rt.alloc(), "anfractuous", &[2, 6, 8]),
+    expect_text(
+        joined_by_spaces(rt.alloc(), "anfractuous", &[2, 6, 8]),
         "an- frac- tu- ous",
     )?;
-    gives(spaced(rt.alloc(), "firkin", &[3]), "fir- kin")?;
-    gives(spaced(rt.alloc(), "bevies", &[]), "bevies")
+    expect_text(joined_by_spaces(rt.alloc(), "firkin", &[3]), "fir- kin")?;
+    expect_text(joined_by_spaces(rt.alloc(), "bevies", &[]), "bevies")
 }
 
-/// The next segment with its mark.
+// The next segment with its mark.
 fn next<I: Texts>(items: &mut Hyphenating<'_, I>) -> Result<String, Fail> {
     Ok(items.next().ok_or("none")??)
 }
 
-/// The first item of a word, the second one with a new mark, and the segment after it.
-fn marked_anew(alloc: Global) -> Result<String, Fail> {
+// The first item of a word, the second one with a new mark, and the segment after it.
+fn with_new_mark(alloc: Global) -> Result<String, Fail> {
     let word = word_of(alloc, "hyphenation", &[2, 6, 7])?;
     let mut items = word.iter();
     let first = next(&mut items)?;
@@ -265,11 +265,11 @@ fn marked_anew(alloc: Global) -> Result<String, Fail> {
 
 #[test]
 fn a_new_mark_holds_for_the_segments_to_come(rt: HostRuntime) -> Result<(), Fail> {
-    gives(marked_anew(rt.alloc()), "hy- phen= a")
+    expect_text(with_new_mark(rt.alloc()), "hy- phen= a")
 }
 
-/// The first item of a word, and of a copy that is made then how many items are left, and what they join to.
-fn copied(alloc: Global) -> Result<String, Fail> {
+// The first item of a word, and the number of the items of a copy that is made then, with their text.
+fn copy_midway(alloc: Global) -> Result<String, Fail> {
     let word = word_of(alloc, "hyphenation", &[2, 6, 7])?;
     let mut items = word.iter();
     let first = next(&mut items)?;
@@ -281,69 +281,64 @@ fn copied(alloc: Global) -> Result<String, Fail> {
 
 #[test]
 fn a_copy_has_the_segments_to_come(rt: HostRuntime) -> Result<(), Fail> {
-    gives(copied(rt.alloc()), "hy- 3 phen-a-tion")
+    expect_text(copy_midway(rt.alloc()), "hy- 3 phen-a-tion")
 }
 
-/// Writes what was handed out, and the number of those that are left.
-fn push_answer(
+// Writes a returned item, and the number of the remaining ones.
+fn push_step(
     output: &mut String,
     alloc: Global,
-    answer: Option<&str>,
+    item: Option<&str>,
     left: usize,
 ) -> Result<(), AllocError> {
-    let one = format!(in alloc; "{} {left},", answer.unwrap_or("none"))?;
+    let one = format!(in alloc; "{} {left},", item.unwrap_or("none"))?;
     output.push_str(&one)
 }
 
-/// What segments hand out when they are asked so many times, each with the number of those that are left after it.
-fn handed_out<B: Breaks<Item = usize>>(
+// The items that segments return at this many calls, each with the number of the remaining ones.
+fn trace_segments<B: Breaks<Item = usize>>(
     alloc: Global,
     mut segments: Segments<'_, B>,
     times: usize,
 ) -> Result<String, AllocError> {
     let mut output = String::new(alloc);
     for _ in 0..times {
-        let answer = segments.next();
-        push_answer(&mut output, alloc, answer, segments.len())?;
+        let item = segments.next();
+        push_step(&mut output, alloc, item, segments.len())?;
     }
     Ok(output)
 }
 
-/// The same of the segments of a word.
-fn handed_out_of(
-    alloc: Global,
-    text: &str,
-    breaks: &[usize],
-    times: usize,
-) -> Result<String, Fail> {
+// The items that the segments of a word return at this many calls.
+fn trace_word(alloc: Global, text: &str, breaks: &[usize], times: usize) -> Result<String, Fail> {
     let word = word_of(alloc, text, breaks)?;
-    Ok(handed_out(alloc, word.iter().segments(), times)?)
+    Ok(trace_segments(alloc, word.iter().segments(), times)?)
 }
 
 #[test]
 fn a_word_without_breaks_is_one_segment(rt: HostRuntime) -> Result<(), Fail> {
-    gives(
-        handed_out_of(rt.alloc(), "bevies", &[], 3),
+    expect_text(
+        trace_word(rt.alloc(), "bevies", &[], 3),
         "bevies 0,none 0,none 0,",
     )
 }
 
 #[test]
 fn each_segment_leaves_one_less(rt: HostRuntime) -> Result<(), Fail> {
-    gives(
-        handed_out_of(rt.alloc(), "hypha", &[2], 3),
+    expect_text(
+        trace_word(rt.alloc(), "hypha", &[2], 3),
         "hy 1,pha 0,none 0,",
     )
 }
 
-/// The hints of a word's segments, before the first one and after each.
-fn hints_of(alloc: Global, text: &str, breaks: &[usize]) -> Result<String, Fail> {
+// The size hints of a word's segments, before the first one and after each.
+fn size_hints_of_word(alloc: Global, text: &str, breaks: &[usize]) -> Result<String, Fail> {
     let word = word_of(alloc, text, breaks)?;
-    Ok(hints(alloc, word.iter().segments(), breaks.len())?)
+    Ok(size_hints(alloc, word.iter().segments(), breaks.len())?)
 }
 
-/// The hints of segments after so many of them and one more.
-fn hints<B: Breaks<Item = usize>>(
+// The size hints of segments, before the first one and after each of `breaks + 1`.
+fn size_hints<B: Breaks<Item = usize>>(
     alloc: Global,
     mut segments: Segments<'_, B>,
     breaks: usize,
@@ -358,21 +353,21 @@ fn hints<B: Breaks<Item = usize>>(
 }
 
 #[test]
-fn hints_count_the_segments_to_come(rt: HostRuntime) -> Result<(), Fail> {
-    gives(
-        hints_of(rt.alloc(), "bevies", &[]),
+fn size_hints_count_the_segments_to_come(rt: HostRuntime) -> Result<(), Fail> {
+    expect_text(
+        size_hints_of_word(rt.alloc(), "bevies", &[]),
         "(1, Some(1)) (0, Some(0)) ",
     )?;
-    gives(
-        hints_of(rt.alloc(), "hypha", &[2]),
+    expect_text(
+        size_hints_of_word(rt.alloc(), "hypha", &[2]),
         "(2, Some(2)) (1, Some(1)) (0, Some(0)) ",
     )
 }
 
-/// What the segments of `ab` hand out whose break at 1 comes again.
-fn handed_out_again(alloc: Global) -> Result<String, Fail> {
+// The items that the segments of `ab` return, where the break at 1 repeats.
+fn trace_repeating_break(alloc: Global) -> Result<String, Fail> {
     if Word::fits("ab", &[1]) {
-        Ok(handed_out(alloc, Segments::new("ab", coming_again(1)), 7)?)
+        Ok(trace_segments(alloc, Segments::new("ab", repeating_break(1)), 7)?)
     } else {
         Err(Fail::from("the break does not fit"))
     }
@@ -380,14 +375,14 @@ fn handed_out_again(alloc: Global) -> Result<String, Fail> {
 
 #[test]
 fn breaks_are_asked_nothing_after_their_end(rt: HostRuntime) -> Result<(), Fail> {
-    gives(
-        handed_out_again(rt.alloc()),
+    expect_text(
+        trace_repeating_break(rt.alloc()),
         "a 1,b 0,none 0,none 0,none 0,none 0,none 0,",
     )
 }
 
-/// What changed segments hand out when they are asked seven times, each with the number of those that are left.
-fn handed_out_changed<B: Breaks>(
+// The items that changed segments return at seven calls, each with the number of the remaining ones.
+fn trace_changed_segments<B: Breaks>(
     alloc: Global,
     mut segments: SegmentsExt<'_, B>,
 ) -> Result<String, AllocError> {
@@ -395,20 +390,20 @@ fn handed_out_changed<B: Breaks>(
     for _ in 0..7 {
         match segments.next() {
             Some(segment) => {
-                push_answer(&mut output, alloc, Some(segment?.as_str()), segments.len())?;
+                push_step(&mut output, alloc, Some(segment?.as_str()), segments.len())?;
             }
-            None => push_answer(&mut output, alloc, None, segments.len())?,
+            None => push_step(&mut output, alloc, None, segments.len())?,
         }
     }
     Ok(output)
 }
 
-/// What the changed segments of `ab` hand out whose break at 1 comes again.
-fn handed_out_changed_again(alloc: Global) -> Result<String, Fail> {
+// The items that the changed segments of `ab` return, where the break at 1 repeats.
+fn trace_changed_repeating_break(alloc: Global) -> Result<String, Fail> {
     let pair: (usize, Option<&Subregion>) = (1, None);
     if Word::fits("ab", &[pair]) {
-        let segments = SegmentsExt::new(alloc, "ab", coming_again(pair));
-        Ok(handed_out_changed(alloc, segments)?)
+        let segments = SegmentsExt::new(alloc, "ab", repeating_break(pair));
+        Ok(trace_changed_segments(alloc, segments)?)
     } else {
         Err(Fail::from("the break does not fit"))
     }
@@ -416,14 +411,14 @@ fn handed_out_changed_again(alloc: Global) -> Result<String, Fail> {
 
 #[test]
 fn changed_breaks_are_asked_nothing_after_their_end(rt: HostRuntime) -> Result<(), Fail> {
-    gives(
-        handed_out_changed_again(rt.alloc()),
+    expect_text(
+        trace_changed_repeating_break(rt.alloc()),
         "a 1,b 0,none 0,none 0,none 0,none 0,none 0,",
     )
 }
 
-/// What marked segments hand out when they are asked so many times, each with the number of those that are left.
-fn handed_out_marked<I: Texts>(
+// The items that marked segments return at this many calls, each with the number of the remaining ones.
+fn trace_marked_segments<I: Texts>(
     alloc: Global,
     mut items: Hyphenating<'_, I>,
     times: usize,
@@ -431,19 +426,19 @@ fn handed_out_marked<I: Texts>(
     let mut output = String::new(alloc);
     for _ in 0..times {
         match items.next() {
-            Some(Ok(item)) => push_answer(&mut output, alloc, Some(&item), items.len())?,
-            Some(Err(_)) => push_answer(&mut output, alloc, Some("refused"), items.len())?,
-            None => push_answer(&mut output, alloc, None, items.len())?,
+            Some(Ok(item)) => push_step(&mut output, alloc, Some(&item), items.len())?,
+            Some(Err(_)) => push_step(&mut output, alloc, Some("refused"), items.len())?,
+            None => push_step(&mut output, alloc, None, items.len())?,
         }
     }
     Ok(output)
 }
 
-/// What the marked segments of `ab` hand out whose break at 1 comes again.
-fn handed_out_marked_again(alloc: Global) -> Result<String, Fail> {
+// The items that the marked segments of `ab` return, where the break at 1 repeats.
+fn trace_marked_repeating_break(alloc: Global) -> Result<String, Fail> {
     if Word::fits("ab", &[1]) {
-        let items = Hyphenating::new(alloc, Segments::new("ab", coming_again(1)));
-        Ok(handed_out_marked(alloc, items, 7)?)
+        let items = Hyphenating::new(alloc, Segments::new("ab", repeating_break(1)));
+        Ok(trace_marked_segments(alloc, items, 7)?)
     } else {
         Err(Fail::from("the break does not fit"))
     }
@@ -451,29 +446,29 @@ fn handed_out_marked_again(alloc: Global) -> Result<String, Fail> {
 
 #[test]
 fn marked_segments_ask_nothing_after_their_end(rt: HostRuntime) -> Result<(), Fail> {
-    gives(
-        handed_out_marked_again(rt.alloc()),
+    expect_text(
+        trace_marked_repeating_break(rt.alloc()),
         "a- 1,b 0,none 0,none 0,none 0,none 0,none 0,",
     )
 }
 
-/// What the marked segments of `hyphenation` hand out, of which the second from the end is refused.
-fn handed_out_refusing(alloc: Global) -> Result<String, Fail> {
+// The items that the marked segments of `hyphenation` return, of which the last but one is refused.
+fn trace_refused_segment(alloc: Global) -> Result<String, Fail> {
     let word = word_of(alloc, "hyphenation", &[2, 6, 7])?;
-    let items = Hyphenating::new(alloc, Refusing(word.iter().segments()));
-    Ok(handed_out_marked(alloc, items, 5)?)
+    let items = Hyphenating::new(alloc, SegmentsWithRefusal(word.iter().segments()));
+    Ok(trace_marked_segments(alloc, items, 5)?)
 }
 
 #[test]
 fn a_refusal_stands_in_its_place(rt: HostRuntime) -> Result<(), Fail> {
-    gives(
-        handed_out_refusing(rt.alloc()),
+    expect_text(
+        trace_refused_segment(rt.alloc()),
         "hy- 3,phen- 2,refused 1,tion 0,none 0,",
     )
 }
 
-/// What the segments of `hyphenation` join to, how many there are, and how many are promised.
-fn joined_and_counted(alloc: Global) -> Result<String, Fail> {
+// The joined segments of `hyphenation`, their number, and the number that a caller promises.
+fn join_and_count(alloc: Global) -> Result<String, Fail> {
     let breaks = vec![in alloc; 2, 6, 7]?;
     if Word::fits("hyphenation", &breaks) {
         let joined = joined_segments(alloc, "hyphenation", &breaks)?;
@@ -486,12 +481,12 @@ fn joined_and_counted(alloc: Global) -> Result<String, Fail> {
 }
 
 #[test]
-fn callers_count_and_join(rt: HostRuntime) -> Result<(), Fail> {
-    gives(joined_and_counted(rt.alloc()), "hyphenation 4 4")
+fn segments_join_to_the_word_and_are_one_more_than_its_breaks(rt: HostRuntime) -> Result<(), Fail> {
+    expect_text(join_and_count(rt.alloc()), "hyphenation 4 4")
 }
 
-/// The same of `firkin` with a mark.
-fn marked_and_counted(alloc: Global) -> Result<String, Fail> {
+// The joined items of `firkin` with a mark, their number, and the number that a caller promises.
+fn mark_and_count(alloc: Global) -> Result<String, Fail> {
     let word = word_of(alloc, "firkin", &[3])?;
     let number = number_of_marked_segments(&word);
     let joined = marked_word(alloc, word.try_clone(alloc)?, "=")?;
@@ -500,6 +495,6 @@ fn marked_and_counted(alloc: Global) -> Result<String, Fail> {
 }
 
 #[test]
-fn callers_count_and_join_with_marks(rt: HostRuntime) -> Result<(), Fail> {
-    gives(marked_and_counted(rt.alloc()), "fir=kin 2 2")
+fn marked_segments_join_to_the_marked_word(rt: HostRuntime) -> Result<(), Fail> {
+    expect_text(mark_and_count(rt.alloc()), "fir=kin 2 2")
 }

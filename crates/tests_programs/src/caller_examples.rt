@@ -1,4 +1,4 @@
-//! What the callers of `callers` answer, once each.
+//! Each caller of the crate `callers`, called once.
 
 use callers::discretionaries::discretionaries;
 use callers::line_filler::break_to_fit;
@@ -12,9 +12,9 @@ use hyphenation::{Hyphenator, Load, Standard};
 use std::alloc::Global;
 use std::test::Fail;
 use test_dictionaries::{DOUBLED, dictionary};
-use test_support::{gives, holds, same};
+use test_support::{expect, expect_equal, expect_text};
 
-/// The breaks of `hyphenation`, in American English.
+// The breaks of `hyphenation`, in American English.
 const ENGLISH: &str = "hyphenation 1 standard\nlanguage en-us\nminima 2 3\ne hyphenation 2 6 7\n";
 
 fn hungarian(alloc: Global) -> Result<Extended, Error> {
@@ -29,9 +29,9 @@ fn changed_letters_are_set_at_a_break_alone(rt: HostRuntime) -> Result<(), Fail>
     let dictionary = Extended::any_from_reader(rt.alloc(), &mut text)?;
     let word = dictionary.hyphenate(rt.alloc(), "asszonnyal")?;
     let all = discretionaries(rt.alloc(), &word, "-")?;
-    holds(all.len() == 1, "one break")?;
+    expect(all.len() == 1, "one break")?;
     match all.first() {
-        Some(found) => holds(
+        Some(found) => expect(
             found.before.as_str() == "sz-"
                 && found.after.as_str() == "sz"
                 && found.unbroken == "ssz",
@@ -45,27 +45,27 @@ fn changed_letters_are_set_at_a_break_alone(rt: HostRuntime) -> Result<(), Fail>
 fn the_last_break_with_room_is_taken(rt: HostRuntime) -> Result<(), Fail> {
     let english = dictionary(rt.alloc(), ENGLISH)?;
     let found = break_to_fit(rt.alloc(), &english, "Hyphenation", 7)?;
-    same(&found, &Some(("Hyphen", "ation")))?;
+    expect_equal(&found, &Some(("Hyphen", "ation")))?;
     let none = break_to_fit(rt.alloc(), &english, "Hyphenation", 2)?;
-    same(&none, &None)
+    expect_equal(&none, &None)
 }
 
 #[test]
 fn breaks_of_both_kinds_are_marked(rt: HostRuntime) -> Result<(), Fail> {
     let english = dictionary(rt.alloc(), ENGLISH)?;
-    gives(
+    expect_text(
         marked_word(rt.alloc(), &english, "Hyphenation", "-"),
         "Hy-phen-a-tion",
     )?;
     let hungarian = hungarian(rt.alloc())?;
-    gives(
+    expect_text(
         marked_word(rt.alloc(), &hungarian, "asszonnyal", "="),
         "asz=szony=nyal",
     )
 }
 
-/// Whether listing a word at a place answers so, and leaves this written.
-fn lists(
+// Whether listing a word at a place returns `is_listed`, and leaves this text written.
+fn lists_and_writes(
     alloc: Global,
     dictionary: &mut Standard,
     word: &str,
@@ -83,13 +83,13 @@ fn lists(
 fn a_word_is_listed_and_kept(rt: HostRuntime) -> Result<(), Fail> {
     let head = "hyphenation 1 standard\nlanguage en-us\nminima 2 3\np a1b\n";
     let mut known = dictionary(rt.alloc(), head)?;
-    holds(
-        lists(rt.alloc(), &mut known, "é", 1, false, "")?,
+    expect(
+        lists_and_writes(rt.alloc(), &mut known, "é", 1, false, "")?,
         "a place within a character is refused",
     )?;
     let wanted = "hyphenation 1 standard\nlanguage en-us\nminima 2 3\np a1b\ne table 2\n";
-    holds(
-        lists(rt.alloc(), &mut known, "table", 2, true, wanted)?,
+    expect(
+        lists_and_writes(rt.alloc(), &mut known, "table", 2, true, wanted)?,
         "the word is listed and written",
     )
 }
@@ -98,7 +98,7 @@ fn a_word_is_listed_and_kept(rt: HostRuntime) -> Result<(), Fail> {
 fn each_paragraph_is_filled_by_itself(rt: HostRuntime) -> Result<(), Fail> {
     let text = "hyphenation 1 standard\nlanguage en-us\nminima 2 3\ne noble 2\ne accents 2\n";
     let dictionary = dictionary(rt.alloc(), text)?;
-    gives(
+    expect_text(
         fill_paragraphs(rt.alloc(), &dictionary, "I know\r\n\nnoble accents", 10),
         "I know\n\nnoble ac-\ncents\n",
     )
@@ -108,9 +108,9 @@ fn each_paragraph_is_filled_by_itself(rt: HostRuntime) -> Result<(), Fail> {
 fn words_get_soft_hyphens_once(rt: HostRuntime) -> Result<(), Fail> {
     let english = dictionary(rt.alloc(), ENGLISH)?;
     let marked = "On hy\u{ad}phen\u{ad}a\u{ad}tion.";
-    gives(
+    expect_text(
         with_soft_hyphens(rt.alloc(), &english, "On hyphenation."),
         marked,
     )?;
-    gives(with_soft_hyphens(rt.alloc(), &english, marked), marked)
+    expect_text(with_soft_hyphens(rt.alloc(), &english, marked), marked)
 }

@@ -1,41 +1,40 @@
-//! Each fault of a dictionary has the status 3, and is told after the dictionary's path.
+//! Each error of a dictionary has the status 3, and its message stands after the dictionary's path.
 
-use crate::hyphenate::{Answer, answer_to, file};
-use crate::shelf::{Shelf, whole};
+use crate::hyphenate::{ProgramResult, new_file, run_hyphenate};
+use crate::memory_files::{MemoryFiles, files_without_errors};
 use hyphenate_command::answer;
 use std::io::ErrorKind;
 use std::test::Fail;
 use std::{fs, io};
-use test_support::holds;
+use test_support::expect;
 
-/// How the program ends, what it writes, and what it says after the path.
+// The status of the program, its output, and its message after the path.
 type Ending = (u8, &'static str, &'static str);
 
-/// Whether the program has ended so over the dictionary of that path.
-fn is_end(given: &Answer, path: &str, wanted: Ending) -> bool {
-    let (status, output, said) = wanted;
-    let is_told = match given.said_of(path) {
-        Some(told) => told == said.as_bytes(),
-        None => said.is_empty() && given.faults.is_empty(),
+// Whether the program has this ending over the dictionary of this path.
+fn has_ending(result: &ProgramResult, path: &str, wanted: Ending) -> bool {
+    let (status, output, message) = wanted;
+    let has_message = match result.message_after(path) {
+        Some(found) => found == message.as_bytes(),
+        None => message.is_empty() && result.messages.is_empty(),
     };
-    given.status == status && given.output.as_slice() == output.as_bytes() && is_told
+    result.status == status && result.output.as_slice() == output.as_bytes() && has_message
 }
 
-/// Fails where the score of `ab` does not end so by these bytes, which the file of that path has then.
-fn ends(rt: &HostRuntime, path: &str, bytes: &[u8], wanted: Ending) -> Result<(), Fail> {
+// Writes these bytes into the file of this path. Fails unless the score of `ab` by them has this ending.
+fn expect_ending(rt: &HostRuntime, path: &str, bytes: &[u8], wanted: Ending) -> Result<(), Fail> {
     fs::write(rt, path, bytes)?;
-    let given = answer_to(rt, &["score", "standard", "en-us", path, "ab"]);
-    holds(
-        is_end(&given, path, wanted),
+    let result = run_hyphenate(rt, &["score", "standard", "en-us", path, "ab"]);
+    expect(
+        has_ending(&result, path, wanted),
         format_args!("{}", bytes.escape_ascii()),
     )
 }
 
-/// The least text that has a key of two letters.
-const LEAST: &[u8] = b"hyphenation 1 standard\nlanguage en-us\nminima 2 3\np a1b";
+const SMALLEST: &[u8] = b"hyphenation 1 standard\nlanguage en-us\nminima 2 3\np a1b";
 
-/// How the program ends by the first bytes of that text.
-fn end_of_beginning(length: usize) -> Ending {
+// The ending by the first bytes of the shortest text with a pattern.
+fn ending_of_beginning(length: usize) -> Ending {
     match length {
         0..=21 => (3, "", "line 1: not the head of this kind of dictionary\n"),
         22..=32 => (3, "", "line 2: not a language line\n"),
@@ -49,9 +48,9 @@ fn end_of_beginning(length: usize) -> Ending {
 
 #[test]
 fn each_beginning_of_a_text_is_judged(rt: HostRuntime) -> Result<(), Fail> {
-    let path = file(&rt, "beginning", b"")?;
-    for length in 0..LEAST.len() + 1 {
-        ends(&rt, &path, &LEAST[..length], end_of_beginning(length))?;
+    let path = new_file(&rt, "beginning", b"")?;
+    for length in 0..SMALLEST.len() + 1 {
+        expect_ending(&rt, &path, &SMALLEST[..length], ending_of_beginning(length))?;
     }
     fs::remove_file(&rt, path.as_str())?;
     Ok(())
@@ -59,69 +58,69 @@ fn each_beginning_of_a_text_is_judged(rt: HostRuntime) -> Result<(), Fail> {
 
 #[test]
 fn each_byte_alone_is_refused(rt: HostRuntime) -> Result<(), Fail> {
-    let path = file(&rt, "byte", b"")?;
+    let path = new_file(&rt, "byte", b"")?;
     for byte in 0..=127u8 {
         let head = "line 1: not the head of this kind of dictionary\n";
-        ends(&rt, &path, &[byte], (3, "", head))?;
+        expect_ending(&rt, &path, &[byte], (3, "", head))?;
     }
     for byte in 128..=255u8 {
-        ends(&rt, &path, &[byte], (3, "", "line 1: not UTF-8\n"))?;
+        expect_ending(&rt, &path, &[byte], (3, "", "line 1: not UTF-8\n"))?;
     }
     fs::remove_file(&rt, path.as_str())?;
     Ok(())
 }
 
-/// The answer of the score of `ab`, of the dictionary in the file `least` of a shelf.
-fn score_over(rt: &HostRuntime, shelf: &Shelf<'_>) -> Answer {
-    let words = ["score", "standard", "en-us", "least", "ab"];
+// The result of scoring `ab` by the dictionary in the file `least`.
+fn score_over(rt: &HostRuntime, memory_files: &MemoryFiles<'_>) -> ProgramResult {
+    let args = ["score", "standard", "en-us", "least", "ab"];
     let mut input: &[u8] = b"";
     let mut output: Vec<u8> = Vec::new(rt.alloc());
-    let mut faults: Vec<u8> = Vec::new(rt.alloc());
+    let mut messages: Vec<u8> = Vec::new(rt.alloc());
     let status = answer(
-        shelf,
+        memory_files,
         rt.alloc(),
-        &words,
+        &args,
         &mut input,
         &mut output,
-        &mut faults,
+        &mut messages,
     );
-    Answer {
+    ProgramResult {
         status,
         output,
-        faults,
+        messages,
     }
 }
 
-const FILES: [(&str, &[u8]); 1] = [("least", LEAST)];
+const FILES: [(&str, &[u8]); 1] = [("least", SMALLEST)];
 
-/// Fails where the fault of an opening, or of a read of that number, has another status or message.
-fn fails(
+// Fails unless an error at the opening, or at a read of this number, has this status and message.
+fn expect_failure(
     rt: &HostRuntime,
     files: &[(&str, &[u8])],
     read: usize,
     kind: ErrorKind,
     status: u8,
-    said: &str,
+    message: &str,
 ) -> Result<(), Fail> {
-    let shelf = Shelf {
+    let memory_files = MemoryFiles {
         files,
-        missing: kind,
-        until: read,
-        torn: kind,
+        open_error: kind,
+        failing_read: read,
+        read_error: kind,
     };
-    let given = score_over(rt, &shelf);
-    holds(
-        given.is(status, b"", said.as_bytes()),
+    let result = score_over(rt, &memory_files);
+    expect(
+        result.is(status, b"", message.as_bytes()),
         format_args!("{status}, read {read}"),
     )
 }
 
 #[test]
-fn an_opening_that_fails_is_told(rt: HostRuntime) -> Result<(), Fail> {
+fn an_opening_that_fails_has_its_message(rt: HostRuntime) -> Result<(), Fail> {
     let reason = io::Error::from(ErrorKind::PermissionDenied);
-    let said = format!(in rt.alloc(); "hyphenate: least: {reason}\n")?;
-    fails(&rt, &[], 1, ErrorKind::PermissionDenied, 3, &said)?;
-    fails(
+    let message = format!(in rt.alloc(); "hyphenate: least: {reason}\n")?;
+    expect_failure(&rt, &[], 1, ErrorKind::PermissionDenied, 3, &message)?;
+    expect_failure(
         &rt,
         &[],
         1,
@@ -132,12 +131,12 @@ fn an_opening_that_fails_is_told(rt: HostRuntime) -> Result<(), Fail> {
 }
 
 #[test]
-fn each_read_of_the_dictionary_that_fails_is_told(rt: HostRuntime) -> Result<(), Fail> {
+fn each_read_that_fails_has_its_message(rt: HostRuntime) -> Result<(), Fail> {
     let reason = io::Error::from(ErrorKind::ConnectionReset);
-    let said = format!(in rt.alloc(); "hyphenate: least: {reason}\n")?;
-    for read in 1..LEAST.len() + 2 {
-        fails(&rt, &FILES, read, ErrorKind::ConnectionReset, 3, &said)?;
-        fails(
+    let message = format!(in rt.alloc(); "hyphenate: least: {reason}\n")?;
+    for read in 1..SMALLEST.len() + 2 {
+        expect_failure(&rt, &FILES, read, ErrorKind::ConnectionReset, 3, &message)?;
+        expect_failure(
             &rt,
             &FILES,
             read,
@@ -146,6 +145,6 @@ fn each_read_of_the_dictionary_that_fails_is_told(rt: HostRuntime) -> Result<(),
             "hyphenate: no memory\n",
         )?;
     }
-    let given = score_over(&rt, &whole(&FILES));
-    holds(given.is(0, b"1\n", b""), "no read fails")
+    let result = score_over(&rt, &files_without_errors(&FILES));
+    expect(result.is(0, b"1\n", b""), "no read fails")
 }

@@ -1,49 +1,49 @@
-//! Files that lie in memory, of which an opening or a read fails.
+//! Files in memory, of which an opening or a read fails.
 
 use std::alloc::Allocator;
 use std::fs::{Files, Metadata, OpenFile, OpenOptions};
 use std::io;
 use std::io::{ErrorKind, Read, Seek, SeekFrom, Write};
 
-/// Files by their paths, each read a byte at a time.
+// Files by their paths, each read a byte at a time.
 #[derive(Clone, Copy)]
-pub(crate) struct Shelf<'b> {
+pub(crate) struct MemoryFiles<'b> {
     pub(crate) files: &'b [(&'b str, &'b [u8])],
-    /// How the opening of another path fails.
-    pub(crate) missing: ErrorKind,
-    /// The read that fails in each file, counted from 1, and how.
-    pub(crate) until: usize,
-    pub(crate) torn: ErrorKind,
+    // The error of opening any other path.
+    pub(crate) open_error: ErrorKind,
+    // The read, counted from 1, that fails in each file, and its error.
+    pub(crate) failing_read: usize,
+    pub(crate) read_error: ErrorKind,
 }
 
-/// Such files, which never fail.
-pub(crate) fn whole<'b>(files: &'b [(&'b str, &'b [u8])]) -> Shelf<'b> {
-    Shelf {
+// Files that never fail.
+pub(crate) fn files_without_errors<'b>(files: &'b [(&'b str, &'b [u8])]) -> MemoryFiles<'b> {
+    MemoryFiles {
         files,
-        missing: ErrorKind::NotFound,
-        until: usize::MAX,
-        torn: ErrorKind::Other,
+        open_error: ErrorKind::NotFound,
+        failing_read: usize::MAX,
+        read_error: ErrorKind::Other,
     }
 }
 
-/// A file, as it is read.
+// A file that is being read.
 #[derive(Drop)]
-pub(crate) struct Book<'b> {
+pub(crate) struct MemoryFile<'b> {
     left: &'b [u8],
-    until: usize,
-    torn: ErrorKind,
+    failing_read: usize,
+    read_error: ErrorKind,
 }
 
 fn unsupported<T>() -> io::Result<T> {
     Err(io::Error::from(ErrorKind::Unsupported))
 }
 
-impl Read for Book<'_> {
+impl Read for MemoryFile<'_> {
     fn read(&mut self, buf: &mut [u8]) -> io::Result<usize> {
-        if self.until <= 1 {
-            return Err(io::Error::from(self.torn));
+        if self.failing_read <= 1 {
+            return Err(io::Error::from(self.read_error));
         }
-        self.until -= 1;
+        self.failing_read -= 1;
         let Some((first, rest)) = self.left.split_first() else {
             return Ok(0);
         };
@@ -56,7 +56,7 @@ impl Read for Book<'_> {
     }
 }
 
-impl Write for Book<'_> {
+impl Write for MemoryFile<'_> {
     fn write(&mut self, _buf: &[u8]) -> io::Result<usize> {
         Err(io::Error::from(ErrorKind::Unsupported))
     }
@@ -66,13 +66,13 @@ impl Write for Book<'_> {
     }
 }
 
-impl Seek for Book<'_> {
+impl Seek for MemoryFile<'_> {
     fn seek(&mut self, _to: SeekFrom) -> io::Result<u64> {
         unsupported()
     }
 }
 
-impl OpenFile for Book<'_> {
+impl OpenFile for MemoryFile<'_> {
     fn metadata(&self) -> io::Result<Metadata> {
         unsupported()
     }
@@ -90,25 +90,25 @@ impl OpenFile for Book<'_> {
     }
 }
 
-impl<'b> Files for Shelf<'b> {
-    type File = Book<'b>;
+impl<'b> Files for MemoryFiles<'b> {
+    type File = MemoryFile<'b>;
 
-    type Dir = Book<'b>;
+    type Dir = MemoryFile<'b>;
 
-    fn open_file(&self, _how: &OpenOptions, path: &str) -> io::Result<Book<'b>> {
+    fn open_file(&self, _how: &OpenOptions, path: &str) -> io::Result<MemoryFile<'b>> {
         for (name, bytes) in self.files {
             if *name == path {
-                return Ok(Book {
+                return Ok(MemoryFile {
                     left: bytes,
-                    until: self.until,
-                    torn: self.torn,
+                    failing_read: self.failing_read,
+                    read_error: self.read_error,
                 });
             }
         }
-        Err(io::Error::from(self.missing))
+        Err(io::Error::from(self.open_error))
     }
 
-    fn open_dir(&self, _path: &str) -> io::Result<Book<'b>> {
+    fn open_dir(&self, _path: &str) -> io::Result<MemoryFile<'b>> {
         unsupported()
     }
 

@@ -1,6 +1,6 @@
-//! What no clause says of awkward words: dots, edges, soft hyphens, NUL, combining characters, joined emoji, and the
-//! least and the greatest minima, by tests.
+//! Tests of unusual words: dots, edges, soft hyphens, NUL, combining characters, joined emoji, and the least and
+//! greatest minima. No clause says what they show.
 #![tactic(auto)]
 
 #[cfg(test)]
-mod awkward;
+mod unusual_words;

@@ -1,4 +1,4 @@
-//! Edits of the exceptions of a dictionary, judged and done one by one.
+//! Edits of the exceptions of a dictionary, judged and made one by one.
 
 use hyphenation_breaks::extended::Subregion;
 use hyphenation_dictionary::dictionary::{Extended, Standard};
@@ -7,7 +7,7 @@ use hyphenation_reader::edits::apply_edit;
 use hyphenation_reader::reader::{read_extended, read_standard};
 use std::alloc::Global;
 use std::test::Fail;
-use test_support::{holds, same, same_in};
+use test_support::{expect, expect_equal, expect_equal_in};
 
 fn standard(alloc: Global) -> Result<Standard, Fail> {
     let text = b"hyphenation 1 standard\nlanguage en-us\nminima 2 3\ne other 2\ne \\e\n";
@@ -19,23 +19,30 @@ fn extended(alloc: Global) -> Result<Extended, Fail> {
     Ok(read_extended(alloc, text).ok().ok_or("a dictionary")?)
 }
 
-fn is_standard(alloc: Global, edit: &str) -> Result<bool, Fail> {
+fn is_good_for_standard(alloc: Global, edit: &str) -> Result<bool, Fail> {
     Ok(apply_edit(alloc, Kind::Standard, &mut standard(alloc)?, edit)?)
 }
 
-fn is_extended(alloc: Global, edit: &str) -> Result<bool, Fail> {
+fn is_good_for_extended(alloc: Global, edit: &str) -> Result<bool, Fail> {
     Ok(apply_edit(alloc, Kind::Extended, &mut extended(alloc)?, edit)?)
 }
 
-/// Whether an edit is good for a standard dictionary, and for an extended one.
-fn judged(alloc: Global, edit: &str) -> Result<(bool, bool), Fail> {
-    Ok((is_standard(alloc, edit)?, is_extended(alloc, edit)?))
+// Whether an edit is good for a standard dictionary, and for an extended one.
+fn is_good_for_each_kind(alloc: Global, edit: &str) -> Result<(bool, bool), Fail> {
+    Ok((
+        is_good_for_standard(alloc, edit)?,
+        is_good_for_extended(alloc, edit)?,
+    ))
 }
 
-/// Fails where one of these edits is not judged so by a standard dictionary and by an extended one.
-fn each_is_judged(alloc: Global, edits: &[&str], wanted: (bool, bool)) -> Result<(), Fail> {
+// Fails unless each edit is good for the kinds that are expected.
+fn expect_judged(alloc: Global, edits: &[&str], wanted: (bool, bool)) -> Result<(), Fail> {
     for edit in edits {
-        same_in(format_args!("{edit:?}"), &judged(alloc, edit)?, &wanted)?;
+        expect_equal_in(
+            format_args!("{edit:?}"),
+            &is_good_for_each_kind(alloc, edit)?,
+            &wanted,
+        )?;
     }
     Ok(())
 }
@@ -55,8 +62,8 @@ const GOOD: [&str; 11] = [
 ];
 
 #[test]
-fn some_edits_are_good_for_both_kinds(rt: HostRuntime) -> Result<(), Fail> {
-    each_is_judged(rt.alloc(), &GOOD, (true, true))
+fn well_formed_edits_are_good_for_both_kinds(rt: HostRuntime) -> Result<(), Fail> {
+    expect_judged(rt.alloc(), &GOOD, (true, true))
 }
 
 const REFUSED: [&str; 23] = [
@@ -86,8 +93,8 @@ const REFUSED: [&str; 23] = [
 ];
 
 #[test]
-fn some_edits_are_refused_by_both_kinds(rt: HostRuntime) -> Result<(), Fail> {
-    each_is_judged(rt.alloc(), &REFUSED, (false, false))
+fn bad_edits_are_refused_by_both_kinds(rt: HostRuntime) -> Result<(), Fail> {
+    expect_judged(rt.alloc(), &REFUSED, (false, false))
 }
 
 const WITH_CHANGES: [&str; 3] = [
@@ -98,16 +105,21 @@ const WITH_CHANGES: [&str; 3] = [
 
 #[test]
 fn changes_are_for_extended_dictionaries_alone(rt: HostRuntime) -> Result<(), Fail> {
-    each_is_judged(rt.alloc(), &WITH_CHANGES, (false, true))
+    expect_judged(rt.alloc(), &WITH_CHANGES, (false, true))
 }
 
-/// Does an edit, which is to be good or not.
-fn edited(alloc: Global, dictionary: &mut Standard, edit: &str, is_good: bool) -> Result<(), Fail> {
+// Makes an edit. Fails unless it is good or refused as is expected.
+fn expect_edit(
+    alloc: Global,
+    dictionary: &mut Standard,
+    edit: &str,
+    is_good: bool,
+) -> Result<(), Fail> {
     let found = apply_edit(alloc, Kind::Standard, dictionary, edit)?;
-    same_in(edit, &found, &is_good)
+    expect_equal_in(edit, &found, &is_good)
 }
 
-/// The one place that is listed for a word, where there is just one.
+// The one place that is listed for a word, if there is just one.
 fn place_of(dictionary: &Standard, word: &str) -> Option<usize> {
     match dictionary.listed(word)? {
         [place] => Some(*place),
@@ -118,40 +130,40 @@ fn place_of(dictionary: &Standard, word: &str) -> Option<usize> {
 #[test]
 fn the_last_edit_of_a_word_decides(rt: HostRuntime) -> Result<(), Fail> {
     let mut dictionary = standard(rt.alloc())?;
-    edited(rt.alloc(), &mut dictionary, "+firkins 3", true)?;
-    edited(rt.alloc(), &mut dictionary, "+firkins 4", true)?;
-    same(&place_of(&dictionary, "firkins"), &Some(4))?;
-    edited(rt.alloc(), &mut dictionary, "+firkins 8", false)?;
-    same(&place_of(&dictionary, "firkins"), &Some(4))
+    expect_edit(rt.alloc(), &mut dictionary, "+firkins 3", true)?;
+    expect_edit(rt.alloc(), &mut dictionary, "+firkins 4", true)?;
+    expect_equal(&place_of(&dictionary, "firkins"), &Some(4))?;
+    expect_edit(rt.alloc(), &mut dictionary, "+firkins 8", false)?;
+    expect_equal(&place_of(&dictionary, "firkins"), &Some(4))
 }
 
 #[test]
 fn a_removed_word_is_listed_no_more(rt: HostRuntime) -> Result<(), Fail> {
     let mut dictionary = standard(rt.alloc())?;
-    edited(rt.alloc(), &mut dictionary, "+firkins 3", true)?;
-    edited(rt.alloc(), &mut dictionary, "-firkins", true)?;
-    edited(rt.alloc(), &mut dictionary, "-\\e", true)?;
-    holds(
+    expect_edit(rt.alloc(), &mut dictionary, "+firkins 3", true)?;
+    expect_edit(rt.alloc(), &mut dictionary, "-firkins", true)?;
+    expect_edit(rt.alloc(), &mut dictionary, "-\\e", true)?;
+    expect(
         dictionary.listed("firkins").is_none(),
         "firkins is not listed",
     )?;
-    holds(
+    expect(
         dictionary.listed("").is_none(),
         "the empty word is not listed",
     )?;
-    same(&dictionary.listed("other"), &Some([2].as_slice()))
+    expect_equal(&dictionary.listed("other"), &Some([2].as_slice()))
 }
 
 #[test]
 fn a_change_is_listed_as_it_is_written(rt: HostRuntime) -> Result<(), Fail> {
     let mut dictionary = extended(rt.alloc())?;
     let edit = "+asszonnyal 2,1,2,2,szsz 8";
-    holds(
+    expect(
         apply_edit(rt.alloc(), Kind::Extended, &mut dictionary, edit)?,
         edit,
     )?;
     let change = Subregion::new(1, 2, String::from_str(rt.alloc(), "szsz")?, 2);
-    same(
+    expect_equal(
         &dictionary.listed("asszonnyal"),
         &Some([(2, Some(change)), (8, None)].as_slice()),
     )

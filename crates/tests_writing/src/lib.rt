@@ -1,5 +1,5 @@
-//! What no clause says of dictionaries that are written again and edited: the order of lines, escapes, the choice of the
-//! version, edits that are good or refused, long texts, and writers that fail, by tests.
+//! Tests of dictionaries that are written and edited: the order of lines, escapes, the version, good and refused edits,
+//! long texts, and writers that fail. No clause says what they show.
 #![tactic(auto)]
 
 #[cfg(test)]

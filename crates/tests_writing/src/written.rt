@@ -1,39 +1,39 @@
-//! Dictionaries written again: the order of lines, escapes, and the choice of the version.
+//! Written dictionaries: the order of lines, escapes, and the choice of the version.
 
 use hyphenation_dictionary::dictionary::{Extended, Standard};
 use hyphenation_load::{Error, Load};
 use std::alloc::{AllocError, Global};
 use std::test::Fail;
-use test_dictionaries::{LEAST, extended, rewritten, rewritten_from, standard};
-use test_support::faults::{BROKEN_PIPE, NO_MEMORY, is_fault};
-use test_support::readers::dripping;
+use test_dictionaries::{SMALLEST, extended, rewritten, rewritten_from, standard};
+use test_support::io_errors::{BROKEN_PIPE, OUT_OF_MEMORY, has_code};
+use test_support::readers::one_byte_reads;
 use test_support::writers::failing_at;
-use test_support::{holds, same_bytes};
+use test_support::{expect, expect_equal_bytes};
 
-/// A text of that head, of American English with the minima 2 and 3, and these lines.
+// A text with this first line, in American English with the minima 2 and 3, and these lines.
 fn text_of(alloc: Global, head: &str, lines: &str) -> Result<String, AllocError> {
     format!(in alloc; "{head}\nlanguage en-us\nminima 2 3\n{lines}\n")
 }
 
-/// Patterns and exceptions in no order, with a comment, an empty line and a value of 0.
-const IDLE: &[u8] =
+// Patterns and exceptions in no order, with a comment, an empty line and a value of 0.
+const UNORDERED: &[u8] =
     b"hyphenation 1 extended\nlanguage hu\nminima 2 2\n# two kinds\n\ne kilim 2\np s1szo0\np .fi2\np a1b 1,1,0,1,x\ne \\e\n";
 
 const ORDERED: &[u8] =
     b"hyphenation 1 extended\nlanguage hu\nminima 2 2\np .fi2\np a1b 1,1,0,1,x\np s1szo\ne \\e\ne kilim 2\n";
 
-/// Fails where what is written of these texts is not `ORDERED`.
-fn is_put_in_order(alloc: Global, text: &[u8]) -> Result<(), Fail> {
+// Fails unless this text is written as `ORDERED`.
+fn expect_ordered(alloc: Global, text: &[u8]) -> Result<(), Fail> {
     let written = rewritten::<Extended>(alloc, text)?;
-    same_bytes("read whole", &written, ORDERED)?;
-    let written = rewritten_from::<Extended, _>(alloc, &mut dripping(text))?;
-    same_bytes("read a byte at a time", &written, ORDERED)
+    expect_equal_bytes("read whole", &written, ORDERED)?;
+    let written = rewritten_from::<Extended, _>(alloc, &mut one_byte_reads(text))?;
+    expect_equal_bytes("read a byte at a time", &written, ORDERED)
 }
 
 #[test]
-fn lines_ascend_and_nothing_idle_is_written(rt: HostRuntime) -> Result<(), Fail> {
-    is_put_in_order(rt.alloc(), IDLE)?;
-    is_put_in_order(rt.alloc(), ORDERED)
+fn lines_ascend_and_nothing_without_effect_is_written(rt: HostRuntime) -> Result<(), Fail> {
+    expect_ordered(rt.alloc(), UNORDERED)?;
+    expect_ordered(rt.alloc(), ORDERED)
 }
 
 const FIRST: &str = "hyphenation 1 standard";
@@ -44,7 +44,7 @@ const FIRST_EXTENDED: &str = "hyphenation 1 extended";
 
 const SECOND_EXTENDED: &str = "hyphenation 2 extended";
 
-/// Whether a text of that head and these lines is written as one of that other head and those other lines.
+// Whether a text with this first line and these lines is written as the text that is expected.
 fn is_written<D: Load + Drop>(
     alloc: Global,
     head: &str,
@@ -79,12 +79,12 @@ const CANONICAL: [(&str, &str); 11] = [
 fn a_standard_text_is_written_as_is_canonical(rt: HostRuntime) -> Result<(), Fail> {
     for (lines, wanted) in &CANONICAL {
         let is_so = is_written::<Standard>(rt.alloc(), FIRST, lines, FIRST, wanted)?;
-        holds(is_so, lines)?;
+        expect(is_so, lines)?;
     }
     Ok(())
 }
 
-/// Lines of version 2, and the head and the lines that are written.
+// Lines of version 2, and the first line and the lines that are written.
 const VERSIONS: [(&str, &str, &str); 5] = [
     ("p a1b", FIRST, "p a1b"),
     ("p \\{1\\}", FIRST, "p {1}"),
@@ -97,12 +97,12 @@ const VERSIONS: [(&str, &str, &str); 5] = [
 fn a_text_is_written_in_the_least_version_that_says_it(rt: HostRuntime) -> Result<(), Fail> {
     for (lines, head, wanted) in &VERSIONS {
         let is_so = is_written::<Standard>(rt.alloc(), SECOND, lines, head, wanted)?;
-        holds(is_so, lines)?;
+        expect(is_so, lines)?;
     }
     Ok(())
 }
 
-/// Whether an extended text of these lines is written as it stands.
+// Whether an extended text with these lines is written as it stands.
 fn is_kept(alloc: Global, head: &str, lines: &str) -> Result<bool, Error> {
     is_written::<Extended>(alloc, head, lines, head, lines)
 }
@@ -116,13 +116,13 @@ const EXTENDED: [&str; 3] = [
 #[test]
 fn an_extended_text_is_written_as_is_canonical(rt: HostRuntime) -> Result<(), Fail> {
     for lines in &EXTENDED {
-        holds(is_kept(rt.alloc(), FIRST_EXTENDED, lines)?, lines)?;
+        expect(is_kept(rt.alloc(), FIRST_EXTENDED, lines)?, lines)?;
     }
     let second = "p \\{a{11}b 2,1,1,1,{1}";
-    holds(is_kept(rt.alloc(), SECOND_EXTENDED, second)?, second)
+    expect(is_kept(rt.alloc(), SECOND_EXTENDED, second)?, second)
 }
 
-/// A pattern and an exception in both orders, and an exception with a place within the range before it.
+// A pattern and an exception in both orders, and an exception with a place within the range before it.
 const AFTER_PATTERNS: [(&str, &str); 3] = [
     (
         "p b1c\ne asszonnyal 2,1,2,2,szsz 6,1,2,2,nyny",
@@ -144,7 +144,7 @@ fn exceptions_of_an_extended_text_are_written_after_its_patterns(
 ) -> Result<(), Fail> {
     for (lines, wanted) in &AFTER_PATTERNS {
         let (alloc, head) = (rt.alloc(), FIRST_EXTENDED);
-        holds(
+        expect(
             is_written::<Extended>(alloc, head, lines, head, wanted)?,
             lines,
         )?;
@@ -162,17 +162,18 @@ const ORDERS: [&str; 6] = [
 ];
 
 #[test]
-fn the_order_of_the_lines_read_is_not_seen(rt: HostRuntime) -> Result<(), Fail> {
+fn the_order_of_the_lines_read_does_not_matter(rt: HostRuntime) -> Result<(), Fail> {
     let wanted = "p .fi2\np i2r\np r2k";
     for lines in &ORDERS {
         let is_so = is_written::<Standard>(rt.alloc(), FIRST, lines, FIRST, wanted)?;
-        holds(is_so, lines)?;
+        expect(is_so, lines)?;
     }
     Ok(())
 }
 
-/// Whether a text of these lines, without its last line feed, is written as one of those lines.
-fn is_ended(alloc: Global, lines: &str, wanted: &str) -> Result<bool, Error> {
+// Whether a text with these lines, without its last line feed, is written with the lines that are expected and a line
+// feed.
+fn is_written_with_line_feed(alloc: Global, lines: &str, wanted: &str) -> Result<bool, Error> {
     let mut text = text_of(alloc, FIRST, lines).map_err(Error::Memory)?;
     let _feed = text.pop();
     let written = rewritten::<Standard>(alloc, text.as_bytes())?;
@@ -183,12 +184,15 @@ fn is_ended(alloc: Global, lines: &str, wanted: &str) -> Result<bool, Error> {
 #[test]
 fn a_last_line_without_its_line_feed_is_written_with_it(rt: HostRuntime) -> Result<(), Fail> {
     for lines in &ORDERS {
-        holds(is_ended(rt.alloc(), lines, "p .fi2\np i2r\np r2k")?, lines)?;
+        expect(
+            is_written_with_line_feed(rt.alloc(), lines, "p .fi2\np i2r\np r2k")?,
+            lines,
+        )?;
     }
     Ok(())
 }
 
-/// The lengths of the beginnings of the least text that are accepted, and what is written of each.
+// The lengths of the beginnings of the shortest text that are accepted, and the text that is written of each.
 const BEGINNINGS: [(usize, &[u8]); 5] = [
     (48, b"hyphenation 1 standard\nlanguage en-us\nminima 2 3\n"),
     (49, b"hyphenation 1 standard\nlanguage en-us\nminima 2 3\n"),
@@ -209,52 +213,63 @@ const BEGINNINGS: [(usize, &[u8]); 5] = [
 #[test]
 fn accepted_beginnings_are_written_as_what_they_spell(rt: HostRuntime) -> Result<(), Fail> {
     for (length, wanted) in &BEGINNINGS {
-        let (beginning, _) = LEAST.split_at((*length).min(LEAST.len()));
+        let (beginning, _) = SMALLEST.split_at((*length).min(SMALLEST.len()));
         let written = rewritten::<Standard>(rt.alloc(), beginning)?;
-        same_bytes(*length, &written, wanted)?;
+        expect_equal_bytes(*length, &written, wanted)?;
     }
     Ok(())
 }
 
-/// Whether a dictionary's writing to a writer of a byte a write ends with the fault of the write of this number, after
-/// the bytes before it.
-fn is_cut<D: Load>(alloc: Global, dictionary: &D, text: &[u8], number: usize, code: i32) -> bool {
+// Whether writing a dictionary to a writer that fails at this write returns its error, after the bytes before it.
+fn stops_at_write<D: Load>(
+    alloc: Global,
+    dictionary: &D,
+    text: &[u8],
+    number: usize,
+    code: i32,
+) -> bool {
     let mut output = failing_at(alloc, number, code);
     let end = dictionary.to_writer(alloc, &mut output);
-    matches!(end, Err(Error::IO(e)) if is_fault(&e, code))
+    matches!(end, Err(Error::IO(e)) if has_code(&e, code))
         && output.taken.len() + 1 == number
         && text.starts_with(&output.taken)
 }
 
-/// Whether a writer of a byte a write that does not fail gets this text of a dictionary.
-fn is_taken<D: Load>(alloc: Global, dictionary: &D, text: &[u8]) -> Result<bool, Error> {
+// Whether a writer of one byte a write that does not fail gets the whole text of a dictionary.
+fn takes_whole_text<D: Load>(alloc: Global, dictionary: &D, text: &[u8]) -> Result<bool, Error> {
     let mut output = failing_at(alloc, text.len() + 1, BROKEN_PIPE);
     dictionary.to_writer(alloc, &mut output)?;
     Ok(output.taken.as_slice() == text)
 }
 
-/// Fails where a fault is not told as it was at a write of a dictionary's text.
-fn each_is_cut<D: Load>(alloc: Global, dictionary: &D, text: &[u8]) -> Result<(), Fail> {
+// Fails unless the error of each write of a dictionary's text is returned, whether or not it is out of memory.
+fn expect_each_write_can_fail<D: Load>(
+    alloc: Global,
+    dictionary: &D,
+    text: &[u8],
+) -> Result<(), Fail> {
     for number in 1..=text.len() {
-        let is_so = is_cut(alloc, dictionary, text, number, BROKEN_PIPE)
-            && is_cut(alloc, dictionary, text, number, NO_MEMORY);
-        holds(is_so, number)?;
+        let is_so = stops_at_write(alloc, dictionary, text, number, BROKEN_PIPE)
+            && stops_at_write(alloc, dictionary, text, number, OUT_OF_MEMORY);
+        expect(is_so, number)?;
     }
-    holds(
-        is_taken(alloc, dictionary, text)?,
+    expect(
+        takes_whole_text(alloc, dictionary, text)?,
         "the whole text is taken",
     )
 }
 
 #[test]
-fn a_fault_of_the_writer_is_told(rt: HostRuntime) -> Result<(), Fail> {
+fn an_error_of_the_writer_is_returned(rt: HostRuntime) -> Result<(), Fail> {
     let text = b"hyphenation 1 standard\nlanguage x\nminima 2 3\np a1b\n";
-    each_is_cut(rt.alloc(), &standard(rt.alloc(), "2 3", "p a1b")?, text)
+    expect_each_write_can_fail(rt.alloc(), &standard(rt.alloc(), "2 3", "p a1b")?, text)
 }
 
 #[test]
-fn a_fault_of_the_writer_of_an_extended_dictionary_is_told(rt: HostRuntime) -> Result<(), Fail> {
+fn an_error_of_the_writer_of_an_extended_dictionary_is_returned(
+    rt: HostRuntime,
+) -> Result<(), Fail> {
     let text = b"hyphenation 1 extended\nlanguage hu\nminima 2 2\np a1b 1,1,0,1,x\n";
     let dictionary = extended(rt.alloc(), "2 2", "p a1b 1,1,0,1,x")?;
-    each_is_cut(rt.alloc(), &dictionary, text)
+    expect_each_write_can_fail(rt.alloc(), &dictionary, text)
 }
