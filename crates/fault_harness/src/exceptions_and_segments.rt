@@ -88,12 +88,12 @@ fn add_second<G: Read, O: Write>(alloc: Global, gate: &mut G, output: &mut O) ->
 
 fn add_extended<G: Read, O: Write>(
     alloc: Global,
-    append_text: &str,
+    text: &str,
     word: &str,
     gate: &mut G,
     output: &mut O,
 ) -> io::Result<()> {
-    let mut changes: Extended = dictionary(alloc, append_text)?;
+    let mut changes: Extended = dictionary(alloc, text)?;
     add_plain(alloc, &mut changes, word, gate, output)?;
     write_marked(alloc, &changes, word, output)
 }
@@ -121,7 +121,7 @@ fn copy_word<G: Read, O: Write>(alloc: Global, gate: &mut G, output: &mut O) -> 
     let result = word.try_clone(alloc);
     pass_gate(gate);
     match result {
-        Ok(copy_word) => writeln!(output, "equal: {}", copy_word == word),
+        Ok(copy) => writeln!(output, "equal: {}", copy == word),
         Err(_) => writeln!(output, "no memory, and then {} breaks", word.breaks.len()),
     }
 }

@@ -43,11 +43,11 @@ pub fn expect_outcome<D: Drop>(
 pub fn text_outcome<D: Load + Drop>(alloc: Global, text: &[u8]) -> Result<String, AllocError> {
     let mut reader = text;
     let whole = loading_outcome(alloc, D::any_from_reader(alloc, &mut reader))?;
-    let dripped = loading_outcome(alloc, D::any_from_reader(alloc, &mut one_byte_reads(text)))?;
-    if whole.as_str() == dripped.as_str() {
+    let by_bytes = loading_outcome(alloc, D::any_from_reader(alloc, &mut one_byte_reads(text)))?;
+    if whole.as_str() == by_bytes.as_str() {
         Ok(whole)
     } else {
-        format!(in alloc; "{whole}, and a byte at a time {dripped}")
+        format!(in alloc; "{whole}, and one byte a read {by_bytes}")
     }
 }
 
@@ -71,17 +71,28 @@ pub const AMERICAN: &str =
 pub const DOUBLED: &str =
     "hyphenation 1 extended\nlanguage hu\nminima 2 2\ne asszonnyal 2,1,2,2,szsz 6,1,2,2,nyny\n";
 
+/// The dictionary of this text.
+pub fn load<D: Load>(alloc: Global, text: &str) -> Result<D, Error> {
+    let mut reader = text.as_bytes();
+    D::any_from_reader(alloc, &mut reader)
+}
+
+// The dictionary of a text that was made, if there was memory for it.
+fn load_made<D: Load>(alloc: Global, text: Result<String, AllocError>) -> Result<D, Error> {
+    match text {
+        Ok(text) => load(alloc, &text),
+        Err(error) => Err(Error::Memory(error)),
+    }
+}
+
 /// The standard dictionary of this text.
 pub fn dictionary(alloc: Global, text: &str) -> Result<Standard, Error> {
-    let mut reader = text.as_bytes();
-    Standard::any_from_reader(alloc, &mut reader)
+    load(alloc, text)
 }
 
 /// The standard dictionary of a text with these minima and lines.
 pub fn standard(alloc: Global, minima: &str, lines: &str) -> Result<Standard, Error> {
-    let text = standard_text(alloc, minima, lines).map_err(Error::Memory)?;
-    let mut reader = text.as_bytes();
-    Standard::any_from_reader(alloc, &mut reader)
+    load_made(alloc, standard_text(alloc, minima, lines))
 }
 
 // A standard text with these minima and lines.
@@ -91,9 +102,7 @@ fn standard_text(alloc: Global, minima: &str, lines: &str) -> Result<String, All
 
 /// The extended dictionary of a text with these minima and lines.
 pub fn extended(alloc: Global, minima: &str, lines: &str) -> Result<Extended, Error> {
-    let text = extended_text(alloc, minima, lines).map_err(Error::Memory)?;
-    let mut reader = text.as_bytes();
-    Extended::any_from_reader(alloc, &mut reader)
+    load_made(alloc, extended_text(alloc, minima, lines))
 }
 
 /// An extended text with these minima and lines.
@@ -101,23 +110,19 @@ pub fn extended_text(alloc: Global, minima: &str, lines: &str) -> Result<String,
     format!(in alloc; "hyphenation 1 extended\nlanguage hu\nminima {minima}\n{lines}\n")
 }
 
-/// A text with this first line, in American English with the minima 1 and 1, and these lines.
-pub fn american_text(alloc: Global, head: &str, lines: &str) -> Result<String, AllocError> {
+// A text with this first line, in American English with the minima 1 and 1, and these lines.
+fn american_text(alloc: Global, head: &str, lines: &str) -> Result<String, AllocError> {
     format!(in alloc; "{head}\nlanguage en-us\nminima 1 1\n{lines}\n")
 }
 
 /// The standard dictionary of a text of version 2 with the minima 1 and 1 and these lines.
 pub fn standard_of_version_2(alloc: Global, lines: &str) -> Result<Standard, Error> {
-    let text = american_text(alloc, "hyphenation 2 standard", lines).map_err(Error::Memory)?;
-    let mut reader = text.as_bytes();
-    Standard::any_from_reader(alloc, &mut reader)
+    load_made(alloc, american_text(alloc, "hyphenation 2 standard", lines))
 }
 
 /// The extended dictionary of a text of version 2 with the minima 1 and 1 and these lines.
 pub fn extended_of_version_2(alloc: Global, lines: &str) -> Result<Extended, Error> {
-    let text = american_text(alloc, "hyphenation 2 extended", lines).map_err(Error::Memory)?;
-    let mut reader = text.as_bytes();
-    Extended::any_from_reader(alloc, &mut reader)
+    load_made(alloc, american_text(alloc, "hyphenation 2 extended", lines))
 }
 
 /// The text that is written of the dictionary of this text.

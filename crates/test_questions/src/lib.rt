@@ -18,15 +18,15 @@ use test_support::expect_text;
 // Breaks as a dictionary text writes them, each with a space after it, such as `3` or `2,1,2,2,szsz`. A range that
 // passes an edge is written `out of the word`.
 fn describe_breaks<B: Break>(alloc: Global, breaks: &[B]) -> Result<String, AllocError> {
-    let mut describe_breaks = String::new(alloc);
+    let mut described = String::new(alloc);
     for one in breaks {
-        if one.marked_with_changes() {
-            describe_breaks.push_str(&describe_changed_break(alloc, one)?)?;
+        if one.changed() {
+            described.push_str(&describe_changed_break(alloc, one)?)?;
         } else {
-            describe_breaks.push_str(&format!(in alloc; "{} ", one.place())?)?;
+            described.push_str(&format!(in alloc; "{} ", one.place())?)?;
         }
     }
-    Ok(describe_breaks)
+    Ok(described)
 }
 
 // A break with a change as a dictionary text writes it, with a space after it.
@@ -92,49 +92,28 @@ fn push_items<I: Texts>(
 }
 
 // Words, which are separated by spaces, each as its items with the mark `=` and a space after it.
-fn marked(alloc: Global, dictionary: &Standard, words: &str) -> Result<String, AllocError> {
-    let mut output = String::new(alloc);
-    for word in words.split(' ') {
-        push_items(&mut output, dictionary.hyphenate(alloc, word)?.into_iter())?;
-        output.push(' ')?;
-    }
-    Ok(output)
-}
-
-// Words by an extended dictionary, each as its items with the mark `=` and a space after it. The items have their
-// changes.
-fn marked_with_changes(
+fn marked<D: AnswersQuestions>(
     alloc: Global,
-    dictionary: &Extended,
+    dictionary: &D,
     words: &str,
 ) -> Result<String, AllocError> {
     let mut output = String::new(alloc);
     for word in words.split(' ') {
-        push_items(&mut output, dictionary.hyphenate(alloc, word)?.into_iter())?;
+        dictionary.push_marked(&mut output, alloc, word)?;
         output.push(' ')?;
     }
     Ok(output)
 }
 
-// Writes the values of a word's places, each with a space after it.
-fn push_values(
-    output: &mut String,
-    alloc: Global,
-    dictionary: &Standard,
-    word: &str,
-) -> Result<(), AllocError> {
-    for value in dictionary.score(alloc, word)? {
-        let value = format!(in alloc; "{value} ")?;
-        output.push_str(&value)?;
-    }
-    Ok(())
-}
-
 // The values of the places of words, with a comma after those of each word.
-fn values(alloc: Global, dictionary: &Standard, words: &str) -> Result<String, AllocError> {
+fn values<D: AnswersQuestions>(
+    alloc: Global,
+    dictionary: &D,
+    words: &str,
+) -> Result<String, AllocError> {
     let mut output = String::new(alloc);
     for word in words.split(' ') {
-        push_values(&mut output, alloc, dictionary, word)?;
+        dictionary.push_values(&mut output, alloc, word)?;
         output.push(',')?;
     }
     Ok(output)
@@ -154,33 +133,6 @@ fn describe_value(
         }
         None => format!(in alloc; "{value} "),
     }
-}
-
-// Writes the values of a word's places, each with its change and a space after it.
-fn push_values_with_changes(
-    output: &mut String,
-    alloc: Global,
-    dictionary: &Extended,
-    word: &str,
-) -> Result<(), AllocError> {
-    for (value, change) in dictionary.score(alloc, word)? {
-        output.push_str(&describe_value(alloc, value, change)?)?;
-    }
-    Ok(())
-}
-
-// The values of the places of words, each with its change, and a comma after those of each word.
-fn values_with_changes(
-    alloc: Global,
-    dictionary: &Extended,
-    words: &str,
-) -> Result<String, AllocError> {
-    let mut output = String::new(alloc);
-    for word in words.split(' ') {
-        push_values_with_changes(&mut output, alloc, dictionary, word)?;
-        output.push(',')?;
-    }
-    Ok(output)
 }
 
 // Writes the number of remaining items, and the next one.
@@ -221,9 +173,9 @@ pub fn add_firkins(
     place: usize,
 ) -> Result<String, AllocError> {
     let word = String::from_str(alloc, "firkins")?;
-    let places_of = vec![in alloc; place; 1]?;
-    if Standard::fits(&word, &places_of) {
-        describe_exception(alloc, dictionary.add_exception(word, places_of)?)
+    let places = vec![in alloc; place; 1]?;
+    if Standard::fits(&word, &places) {
+        describe_exception(alloc, dictionary.add_exception(word, places)?)
     } else {
         String::from_str(alloc, "unfit")
     }
@@ -260,11 +212,38 @@ pub enum Question<'q> {
 
 /// A dictionary that answers questions.
 pub trait AnswersQuestions: Drop {
+    /// Writes a word's items, with the mark `=`.
+    fn push_marked(&self, output: &mut String, alloc: Global, word: &str) -> Result<(), AllocError>;
+
+    /// Writes the values of a word's places, each with its change and a space after it.
+    fn push_values(&self, output: &mut String, alloc: Global, word: &str) -> Result<(), AllocError>;
+
     /// The answer to a question, as one text.
     fn answer(&self, alloc: Global, question: Question<'_>) -> Result<String, AllocError>;
 }
 
 impl AnswersQuestions for Standard {
+    fn push_marked(
+        &self,
+        output: &mut String,
+        alloc: Global,
+        word: &str,
+    ) -> Result<(), AllocError> {
+        push_items(output, self.hyphenate(alloc, word)?.into_iter())
+    }
+
+    fn push_values(
+        &self,
+        output: &mut String,
+        alloc: Global,
+        word: &str,
+    ) -> Result<(), AllocError> {
+        for value in self.score(alloc, word)? {
+            output.push_str(&describe_value(alloc, value, None)?)?;
+        }
+        Ok(())
+    }
+
     fn answer(&self, alloc: Global, question: Question<'_>) -> Result<String, AllocError> {
         match question {
             Question::Values(words) => values(alloc, self, words),
@@ -279,10 +258,31 @@ impl AnswersQuestions for Standard {
 }
 
 impl AnswersQuestions for Extended {
+    fn push_marked(
+        &self,
+        output: &mut String,
+        alloc: Global,
+        word: &str,
+    ) -> Result<(), AllocError> {
+        push_items(output, self.hyphenate(alloc, word)?.into_iter())
+    }
+
+    fn push_values(
+        &self,
+        output: &mut String,
+        alloc: Global,
+        word: &str,
+    ) -> Result<(), AllocError> {
+        for (value, change) in self.score(alloc, word)? {
+            output.push_str(&describe_value(alloc, value, change)?)?;
+        }
+        Ok(())
+    }
+
     fn answer(&self, alloc: Global, question: Question<'_>) -> Result<String, AllocError> {
         match question {
-            Question::Values(words) => values_with_changes(alloc, self, words),
-            Question::Marked(words) => marked_with_changes(alloc, self, words),
+            Question::Values(words) => values(alloc, self, words),
+            Question::Marked(words) => marked(alloc, self, words),
             Question::NewMark(word) => with_new_mark(
                 alloc,
                 self.hyphenate(alloc, word)?.into_iter(),

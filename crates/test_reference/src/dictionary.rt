@@ -51,7 +51,7 @@ fn push_change(
     expected: &ExpectedBreak,
 ) -> Result<(), AllocError> {
     let place = expected.place;
-    let realigned = match expected.change {
+    let written = match expected.change {
         None => format!(in alloc; " {place}")?,
         Some(
             Change {
@@ -69,19 +69,19 @@ fn push_change(
             format!(in alloc; " {place},{left},{right},{breakpoint},{substitution}")?
         }
     };
-    text.push_str(&realigned)
+    text.push_str(&written)
 }
 
 impl Pattern {
     fn push_value(&self, text: &mut String, alloc: Global, at: usize) -> Result<(), AllocError> {
         for Value { value, expected } in &self.values {
             if expected.place == at {
-                let realigned = if *value > 9 {
+                let written = if *value > 9 {
                     format!(in alloc; "{{{value}}}")?
                 } else {
                     format!(in alloc; "{value}")?
                 };
-                text.push_str(&realigned)?;
+                text.push_str(&written)?;
             }
         }
         Ok(())

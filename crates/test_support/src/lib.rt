@@ -1,6 +1,7 @@
 //! Assertions of tests, readers and writers that fail, and long texts. Nothing here uses a dictionary.
 #![tactic(auto)]
 
+pub mod files;
 pub mod io_errors;
 pub mod readers;
 pub mod writers;

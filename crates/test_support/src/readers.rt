@@ -4,6 +4,19 @@ use crate::io_errors::{CONNECTION_RESET, io_error};
 use std::io;
 use std::io::Read;
 
+/// Moves the first of the remaining bytes into a buffer, and returns the number of bytes moved: 0 if there is none, or no
+/// room.
+pub fn take_byte(left: &mut &[u8], buf: &mut [u8]) -> usize {
+    match (left.split_first(), buf.first_mut()) {
+        (Some((first, rest)), Some(slot)) => {
+            *slot = *first;
+            *left = rest;
+            1
+        }
+        _ => 0,
+    }
+}
+
 /// Gives one byte a read. The read of a number, counted from 1, and all later ones fail.
 #[derive(Drop)]
 pub struct FailingReader<'t> {
@@ -18,15 +31,7 @@ impl Read for FailingReader<'_> {
             return Err(io_error(self.code));
         }
         self.until -= 1;
-        let Some((first, rest)) = self.left.split_first() else {
-            return Ok(0);
-        };
-        let Some(slot) = buf.first_mut() else {
-            return Ok(0);
-        };
-        *slot = *first;
-        self.left = rest;
-        Ok(1)
+        Ok(take_byte(&mut self.left, buf))
     }
 }
 

@@ -68,30 +68,14 @@ fn is_scored_as(
     })
 }
 
-// Whether a standard dictionary scores the word as the reference does.
-fn is_standard_scored(
+// Whether a dictionary scores the word, with its changes, as the reference does.
+fn scores_agree<K: Kind>(
     alloc: Global,
-    dictionary: &Standard,
+    dictionary: &K,
     reference: &ReferenceDictionary,
     word: &str,
 ) -> Result<bool, AllocError> {
-    let scores = dictionary.score(alloc, word)?;
-    let mut is_same = scores.len() == word.len().saturating_sub(1);
-    for (index, value) in scores.iter().enumerate() {
-        let place = index.wrapping_add(1);
-        is_same = is_same && is_scored_as(alloc, reference, word, place, (*value, None))?;
-    }
-    Ok(is_same)
-}
-
-// Whether an extended dictionary scores the word, with its changes, as the reference does.
-fn is_extended_scored(
-    alloc: Global,
-    dictionary: &Extended,
-    reference: &ReferenceDictionary,
-    word: &str,
-) -> Result<bool, AllocError> {
-    let scores = dictionary.score(alloc, word)?;
+    let scores = dictionary.scores(alloc, word)?;
     let mut is_same = scores.len() == word.len().saturating_sub(1);
     for (index, found) in scores.iter().enumerate() {
         let place = index.wrapping_add(1);
@@ -100,14 +84,15 @@ fn is_extended_scored(
     Ok(is_same)
 }
 
-// Whether these are the word's breaks by the reference.
-fn are_reference_breaks<B: Break>(
+// Whether a dictionary breaks the word as the reference does.
+fn breaks_agree<'h, H: Hyphenator<'h>>(
     alloc: Global,
-    found: &[B],
+    dictionary: &'h H,
     reference: &ReferenceDictionary,
     word: &str,
 ) -> Result<bool, AllocError> {
-    Ok(are_expected(found, &reference.breaks(alloc, word)?))
+    let found = dictionary.hyphenate(alloc, word)?;
+    Ok(are_expected(&found.breaks, &reference.breaks(alloc, word)?))
 }
 
 // Counts of what was compared. `removed` counts exceptions that stood in the dictionary, and a long word has 62 to 67
@@ -177,13 +162,20 @@ trait Kind: Load + Drop {
     // Whether its breaks may have changes.
     fn has_changes() -> bool;
 
-    // Whether it scores and breaks the word as the reference does.
-    fn agrees_with(
+    // Whether it breaks the word as the reference does.
+    fn breaks_agree(
         &self,
         alloc: Global,
         reference: &ReferenceDictionary,
         word: &str,
     ) -> Result<bool, AllocError>;
+
+    // The values of the word's places, each with its change.
+    fn scores(
+        &self,
+        alloc: Global,
+        word: &str,
+    ) -> Result<Vec<(u8, Option<&Subregion>)>, AllocError>;
 
     // Lists the breaks for the word, and returns whether the word was an exception.
     fn add(&mut self, alloc: Global, word: &str, breaks: &[ExpectedBreak]) -> Result<bool, Fail>;
@@ -201,15 +193,25 @@ impl Kind for Standard {
         false
     }
 
-    fn agrees_with(
+    fn breaks_agree(
         &self,
         alloc: Global,
         reference: &ReferenceDictionary,
         word: &str,
     ) -> Result<bool, AllocError> {
-        let broken = self.hyphenate(alloc, word)?;
-        let is_broken = are_reference_breaks(alloc, &broken.breaks, reference, word)?;
-        Ok(is_broken && is_standard_scored(alloc, self, reference, word)?)
+        breaks_agree(alloc, self, reference, word)
+    }
+
+    fn scores(
+        &self,
+        alloc: Global,
+        word: &str,
+    ) -> Result<Vec<(u8, Option<&Subregion>)>, AllocError> {
+        let mut scores = Vec::new(alloc);
+        for value in self.score(alloc, word)? {
+            scores.push((value, None))?;
+        }
+        Ok(scores)
     }
 
     fn add(&mut self, alloc: Global, word: &str, breaks: &[ExpectedBreak]) -> Result<bool, Fail> {
@@ -258,15 +260,21 @@ impl Kind for Extended {
         true
     }
 
-    fn agrees_with(
+    fn breaks_agree(
         &self,
         alloc: Global,
         reference: &ReferenceDictionary,
         word: &str,
     ) -> Result<bool, AllocError> {
-        let broken = self.hyphenate(alloc, word)?;
-        let is_broken = are_reference_breaks(alloc, &broken.breaks, reference, word)?;
-        Ok(is_broken && is_extended_scored(alloc, self, reference, word)?)
+        breaks_agree(alloc, self, reference, word)
+    }
+
+    fn scores(
+        &self,
+        alloc: Global,
+        word: &str,
+    ) -> Result<Vec<(u8, Option<&Subregion>)>, AllocError> {
+        self.score(alloc, word)
     }
 
     fn add(&mut self, alloc: Global, word: &str, breaks: &[ExpectedBreak]) -> Result<bool, Fail> {
@@ -283,6 +291,19 @@ impl Kind for Extended {
     }
 }
 
+// Whether a dictionary scores and breaks the word as the reference does.
+fn agrees<K: Kind>(
+    alloc: Global,
+    dictionary: &K,
+    reference: &ReferenceDictionary,
+    word: &str,
+) -> Result<bool, AllocError> {
+    Ok(
+        dictionary.breaks_agree(alloc, reference, word)?
+            && scores_agree(alloc, dictionary, reference, word)?,
+    )
+}
+
 // Fails, with the dictionary's text, unless the word has the scores and breaks of the reference.
 fn expect_agreement<K: Kind>(
     alloc: Global,
@@ -290,7 +311,7 @@ fn expect_agreement<K: Kind>(
     reference: &ReferenceDictionary,
     word: &str,
 ) -> Result<(), Fail> {
-    if dictionary.agrees_with(alloc, reference, word)? {
+    if agrees(alloc, dictionary, reference, word)? {
         Ok(())
     } else {
         Err(mismatch(&reference.text(alloc, K::name())?, word))

@@ -120,8 +120,8 @@ fn have_dots_no_break(alloc: Global) -> Result<bool, Fail> {
     let word = repeated(alloc, ".", 100_000)?;
     let values = values_by_both(alloc, DOTS, &word)?;
     let zeros = repeated_between(alloc, "", "0 ", 99_999, ",")?;
-    let places_of = places_by_both(alloc, "0 0", DOTS, &word)?;
-    Ok(values.as_str() == zeros.as_str() && places_of.as_str() == ",")
+    let places = places_by_both(alloc, "0 0", DOTS, &word)?;
+    Ok(values.as_str() == zeros.as_str() && places.as_str() == ",")
 }
 
 #[test]

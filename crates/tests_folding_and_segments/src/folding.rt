@@ -11,11 +11,11 @@ use ucd_age::Age;
 fn folds_to(
     alloc: Global,
     word: &str,
-    changes_by_folding: &str,
+    folded: &str,
     shifts: &[(usize, isize)],
 ) -> Result<bool, AllocError> {
     let (text, found) = refold(alloc, word)?;
-    Ok(text.as_str() == changes_by_folding && are_shifts(&found, shifts))
+    Ok(text.as_str() == folded && are_shifts(&found, shifts))
 }
 
 fn are_shifts(found: &[Shift], shifts: &[(usize, isize)]) -> bool {
@@ -91,10 +91,10 @@ fn words_with_uppercase_are_owned(rt: HostRuntime) -> Result<(), Fail> {
 fn places_are_carried_back(rt: HostRuntime) -> Result<(), Fail> {
     // The bytes of `İẞab` end at 2, 5, 6 and 7, those of `ißab` at 1, 3, 4 and 5.
     let (_, shifts) = refold(rt.alloc(), "İẞab")?;
-    for (changes_by_folding, written) in [(0, 0), (1, 2), (3, 5), (4, 6), (5, 7)] {
+    for (folded, written) in [(0, 0), (1, 2), (3, 5), (4, 6), (5, 7)] {
         expect_equal_in(
             format_args!("place {folded}"),
-            &realign(changes_by_folding, &shifts),
+            &realign(folded, &shifts),
             &written,
         )?;
     }
@@ -126,8 +126,8 @@ fn characters_of_14(alloc: Global) -> Result<String, AllocError> {
 
 // The number of characters that folding changes, and of those whose number of bytes it changes.
 fn changes_by_folding(alloc: Global, all: &str) -> Result<(usize, usize), AllocError> {
-    let (changes_by_folding, shifts) = refold(alloc, all)?;
-    let pairs = all.chars().zip(changes_by_folding.as_str().chars());
+    let (folded, shifts) = refold(alloc, all)?;
+    let pairs = all.chars().zip(folded.as_str().chars());
     let changed = pairs.filter(|(c, d)| c != d).count();
     Ok((changed, shifts.len()))
 }

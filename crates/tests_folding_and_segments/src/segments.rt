@@ -31,7 +31,7 @@ fn all_segments<'t>(
     ensures { IfOk result (λ list. map (λ segment. segment.now) list.items
         ≡ segments text.now (map plain_break breaks.now)) }
 {
-    Segments::new(text, breaks.iter().copy_midway()).collect(alloc)
+    Segments::new(text, breaks.iter().copied()).collect(alloc)
 }
 
 fn number_of_segments(text: &str, breaks: Vec<usize>) -> usize
@@ -48,7 +48,7 @@ fn joined_segments(alloc: Global, text: &str, breaks: &[usize]) -> Result<String
 {
     laws::segments_join();
     let mut joined = String::new(alloc);
-    for segment in Segments::new(text, breaks.iter().copy_midway()) {
+    for segment in Segments::new(text, breaks.iter().copied()) {
         joined.push_str(segment)?;
     }
     Ok(joined)

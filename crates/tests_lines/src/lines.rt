@@ -1,12 +1,12 @@
 //! Lines of a column width: worked examples, runs and their errors, and the number of lines against all divisions.
 
 use hyphenation::engine::RunError;
-use hyphenation::{Language, Load, Standard};
+use hyphenation::{Language, Standard};
 use linefill::{fill, run_fill};
 use std::alloc::{AllocError, Global};
 use std::io::{Read, Write};
 use std::test::Fail;
-use test_dictionaries::is_connection_reset;
+use test_dictionaries::{is_connection_reset, load};
 use test_support::io_errors::{BROKEN_PIPE, CONNECTION_RESET, has_code};
 use test_support::readers::{one_byte_reads, resetting_at};
 use test_support::writers::breaking_pipe_at;
@@ -22,22 +22,21 @@ fn filled_with_bars(
     text: &str,
     columns: usize,
 ) -> Result<String, Fail> {
-    let mut reader = dictionary.as_bytes();
-    let dictionary = Standard::any_from_reader(alloc, &mut reader)?;
+    let dictionary: Standard = load(alloc, dictionary)?;
     let lines = fill(alloc, &dictionary, text, columns)?;
     Ok(joined_by_bars(alloc, &lines)?)
 }
 
 // Lines with a bar between them.
 fn joined_by_bars(alloc: Global, lines: &[String]) -> Result<String, AllocError> {
-    let mut filled_with_bars = String::new(alloc);
+    let mut joined = String::new(alloc);
     for (index, line) in lines.iter().enumerate() {
         if index > 0 {
-            filled_with_bars.push('|')?;
+            joined.push('|')?;
         }
-        filled_with_bars.push_str(line)?;
+        joined.push_str(line)?;
     }
-    Ok(filled_with_bars)
+    Ok(joined)
 }
 
 // Fails unless each text has the lines of its case.
@@ -163,17 +162,16 @@ fn widths_with_fewest_lines(
     text: &str,
     cuts: &[usize],
 ) -> Result<Option<usize>, Fail> {
-    let mut reader = VERSE.as_bytes();
-    let dictionary = Standard::any_from_reader(alloc, &mut reader)?;
-    let mut widths_with_fewest_lines: usize = 0;
+    let dictionary: Standard = load(alloc, VERSE)?;
+    let mut widths: usize = 0;
     for columns in 0..=text.chars().count() {
         match is_fewest(alloc, &dictionary, text, cuts, columns)? {
-            Some(true) => widths_with_fewest_lines = widths_with_fewest_lines.saturating_add(1),
+            Some(true) => widths = widths.saturating_add(1),
             Some(false) => return Ok(None),
             None => {}
         }
     }
-    Ok(Some(widths_with_fewest_lines))
+    Ok(Some(widths))
 }
 
 // Texts, and the places where a line of each may end.
@@ -201,7 +199,7 @@ fn no_division_that_fits_has_fewer_lines(rt: HostRuntime) -> Result<(), Fail> {
 }
 
 // Runs with a dictionary of American English.
-fn run_english<D: Read, I: Read, O: Write>(
+pub(crate) fn run_english<D: Read, I: Read, O: Write>(
     alloc: Global,
     columns: usize,
     dictionary: &mut D,

@@ -1,10 +1,8 @@
 //! Long texts, readers that give few bytes a read, and readers and writers that fail once.
 
-use hyphenation::Language;
+use crate::lines::run_english;
 use hyphenation::engine::RunError;
-use linefill::run_fill;
 use std::alloc::{AllocError, Global};
-use std::io::{Read, Write};
 use std::test::Fail;
 use test_dictionaries::AMERICAN;
 use test_support::io_errors::{CONNECTION_RESET, OUT_OF_MEMORY, has_code};
@@ -16,20 +14,12 @@ const TEXT: &[u8] = b"Firkin, firkins.";
 
 const LINES: &[u8] = b"Fir-\nkin, \nfirk-\nins.\n";
 
-fn run_english<D: Read, I: Read, O: Write>(
-    alloc: Global,
-    dictionary: &mut D,
-    input: &mut I,
-    output: &mut O,
-) -> Result<(), RunError> {
-    run_fill(alloc, Language::english_us(), 5, dictionary, input, output)
-}
-
 // Whether a run over readers of at most `most` bytes a read writes the lines.
 fn is_filled(alloc: Global, most: usize) -> bool {
     let mut output: Vec<u8> = Vec::new(alloc);
     let end = run_english(
         alloc,
+        5,
         &mut short_reads(AMERICAN.as_bytes(), most),
         &mut short_reads(TEXT, most),
         &mut output,
@@ -62,7 +52,7 @@ fn is_input_error(end: &Result<(), RunError>, code: i32) -> bool {
 fn ends_with_input_error(alloc: Global, number: usize, code: i32) -> bool {
     let mut output: Vec<u8> = Vec::new(alloc);
     let mut input = failing_once(TEXT, number, code);
-    let end = run_english(alloc, &mut AMERICAN.as_bytes(), &mut input, &mut output);
+    let end = run_english(alloc, 5, &mut AMERICAN.as_bytes(), &mut input, &mut output);
     output.is_empty() && is_input_error(&end, code)
 }
 
@@ -84,7 +74,13 @@ fn a_read_that_fails_once_ends_a_run_of_lines(rt: HostRuntime) -> Result<(), Fai
 // Whether a writer whose write of this number is interrupted gets the lines.
 fn fills_after_interruption(alloc: Global, until: usize) -> bool {
     let mut output = interrupting_at(alloc, until);
-    let end = run_english(alloc, &mut AMERICAN.as_bytes(), &mut &TEXT[..], &mut output);
+    let end = run_english(
+        alloc,
+        5,
+        &mut AMERICAN.as_bytes(),
+        &mut &TEXT[..],
+        &mut output,
+    );
     end.is_ok() && output.taken.as_slice() == LINES
 }
 
@@ -106,15 +102,7 @@ fn is_long_text_filled(alloc: Global) -> Result<bool, AllocError> {
     let mut dictionary = AMERICAN.as_bytes();
     let mut reader = input.as_bytes();
     let mut output: Vec<u8> = Vec::new(alloc);
-    let language = Language::english_us();
-    let end = run_fill(
-        alloc,
-        language,
-        7,
-        &mut dictionary,
-        &mut reader,
-        &mut output,
-    );
+    let end = run_english(alloc, 7, &mut dictionary, &mut reader, &mut output);
     Ok(end.is_ok() && output.as_slice() == wanted.as_bytes())
 }
 

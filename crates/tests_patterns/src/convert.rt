@@ -1,9 +1,10 @@
 //! The outputs, messages and statuses of `hyphenate-convert`.
 
 use convert_command::{USAGE, answer};
+use std::fs;
 use std::test::Fail;
-use std::{env, fs, process};
 use test_support::expect;
+use test_support::files::new_file;
 
 // The output and the messages of the program, and its status.
 #[derive(Drop)]
@@ -22,15 +23,6 @@ fn run_program(rt: &HostRuntime, args: &[&str]) -> ProgramResult {
         output,
         messages,
     }
-}
-
-// Writes a new file, and returns its path.
-fn new_file(rt: &HostRuntime, name: &str, bytes: &[u8]) -> Result<String, Fail> {
-    let folder = env::temp_dir(rt)?;
-    let id = process::id(rt.process());
-    let path = format!(in rt.alloc(); "{}/convert-test-{id}-{name}", folder.as_path().display())?;
-    fs::write(rt, path.as_str(), bytes)?;
-    Ok(path)
 }
 
 // Converts a new file of these bytes, and removes it.

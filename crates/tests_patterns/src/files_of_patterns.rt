@@ -28,7 +28,7 @@ fn refusal_of(alloc: Global, files: &[File<'_>]) -> Option<Refusal> {
     let converted: Result<Standard, Refusal> = convert(alloc, Language::english_us(), 2, 3, files);
     match converted {
         Ok(_) => None,
-        Err(refusal_of) => Some(refusal_of),
+        Err(refusal) => Some(refusal),
     }
 }
 
@@ -60,12 +60,12 @@ fn notes_of(alloc: Global, files: &[File<'_>]) -> Result<Vec<(What, usize, u64)>
         3,
         files,
     );
-    let notes_of = converted?
+    let notes = converted?
         .notes
         .iter()
         .map(|n| (n.what, n.first.line, n.times))
         .collect(alloc)?;
-    Ok(notes_of)
+    Ok(notes)
 }
 
 #[test]
@@ -264,7 +264,7 @@ fn a_dic_gives_its_changes_to_an_extended_dictionary(rt: HostRuntime) -> Result<
                 "hyphenation 1 extended\nlanguage hu\nminima 1 3\np .schif1fahrt 6,1,1,2,fff\np a1atje. 1,1,2,1,at\np l·1l 3,3,1,1,ll\np l·9m 3,2,0,0,\\e\np n1nyal. 1,1,0,2,ny\n";
             expect_equal_bytes("an extended text", &text, wanted.as_bytes())
         }
-        Err(refusal_of) => Err(refusal_of.into()),
+        Err(refusal) => Err(refusal.into()),
     }
 }
 
@@ -284,7 +284,7 @@ fn a_dic_of_a_legacy_charset_takes_the_last_of_repeated_lines(rt: HostRuntime) -
             let wanted = format!(in rt.alloc(); "{HEAD}p 8'8\np 8-8\np a2šb\n")?;
             expect_equal_bytes("a standard text", &text, wanted.as_bytes())
         }
-        Err(refusal_of) => Err(refusal_of.into()),
+        Err(refusal) => Err(refusal.into()),
     }
 }
 
@@ -298,14 +298,14 @@ fn standard_of_dic(
     match converted {
         Ok(converted) => {
             let text = write_standard(alloc, &converted.dictionary)?;
-            let notes_of = converted
+            let notes = converted
                 .notes
                 .iter()
                 .map(|n| (n.what, n.first.line, n.times))
                 .collect(alloc)?;
-            Ok((text, notes_of))
+            Ok((text, notes))
         }
-        Err(refusal_of) => Err(refusal_of.into()),
+        Err(refusal) => Err(refusal.into()),
     }
 }
 
@@ -314,13 +314,13 @@ fn a_standard_dictionary_forbids_the_breaks_that_a_dic_changes(
     rt: HostRuntime,
 ) -> Result<(), Fail> {
     let bytes = b"UTF-8\nn1n\n.tin1nye/ny=,4,1\nn9nyel/ny=,1,1\n1k1\n";
-    let (text, notes_of) = standard_of_dic(rt.alloc(), bytes)?;
+    let (text, notes) = standard_of_dic(rt.alloc(), bytes)?;
     let wanted = format!(in rt.alloc(); "{HEAD}p .tin2nye\np 1k1\np n1n\np n{{10}}nyel\n")?;
     let wanted = wanted
         .as_str()
         .replacen(rt.alloc(), "hyphenation 1", "hyphenation 2", 1)?;
     expect_equal_bytes("a standard text", &text, wanted.as_bytes())?;
-    let forbids = notes_of
+    let forbids = notes
         .iter()
         .find(|note| matches!(note.0, What::ChangeForbidden));
     expect_equal(&forbids.copied(), &Some((What::ChangeForbidden, 3, 2)))
@@ -343,10 +343,8 @@ fn a_pattern_that_hides_a_value_from_libreoffice_is_noted(rt: HostRuntime) -> Re
     for (patterns, wanted) in cases {
         let mut bytes = Vec::from_slice(rt.alloc(), b"UTF-8\n")?;
         bytes.extend_from_slice(patterns)?;
-        let (_, notes_of) = standard_of_dic(rt.alloc(), &bytes)?;
-        let hides = notes_of
-            .iter()
-            .find(|note| matches!(note.0, What::HidesValue));
+        let (_, notes) = standard_of_dic(rt.alloc(), &bytes)?;
+        let hides = notes.iter().find(|note| matches!(note.0, What::HidesValue));
         let hides = hides.map(|note| (note.1, note.2));
         expect_equal_in(patterns.escape_ascii(), &hides, &wanted)?;
     }
@@ -361,10 +359,8 @@ fn two_levels_are_noted_where_both_have_patterns(rt: HostRuntime) -> Result<(), 
         (b"UTF-8\na1b\nNEXTLEVEL\n% nothing\n", None),
     ];
     for (bytes, wanted) in cases {
-        let (_, notes_of) = standard_of_dic(rt.alloc(), bytes)?;
-        let levels = notes_of
-            .iter()
-            .find(|note| matches!(note.0, What::TwoLevels));
+        let (_, notes) = standard_of_dic(rt.alloc(), bytes)?;
+        let levels = notes.iter().find(|note| matches!(note.0, What::TwoLevels));
         expect_equal_in(bytes.escape_ascii(), &levels.map(|note| note.1), &wanted)?;
     }
     Ok(())
@@ -372,12 +368,10 @@ fn two_levels_are_noted_where_both_have_patterns(rt: HostRuntime) -> Result<(), 
 
 #[test]
 fn a_dic_without_a_charset_line_is_read_in_latin_1(rt: HostRuntime) -> Result<(), Fail> {
-    let (text, notes_of) = standard_of_dic(rt.alloc(), b"a1\xe4\nLEFTHYPHENMIN 1\n.b2\n")?;
+    let (text, notes) = standard_of_dic(rt.alloc(), b"a1\xe4\nLEFTHYPHENMIN 1\n.b2\n")?;
     let wanted = format!(in rt.alloc(); "{HEAD}p .b2\np a1ä\n")?;
     expect_equal_bytes("a standard text", &text, wanted.as_bytes())?;
-    let charset = notes_of
-        .iter()
-        .find(|note| matches!(note.0, What::NoCharset));
+    let charset = notes.iter().find(|note| matches!(note.0, What::NoCharset));
     expect_equal(&charset.copied(), &Some((What::NoCharset, 1, 1)))
 }
 

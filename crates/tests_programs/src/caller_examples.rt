@@ -8,25 +8,26 @@ use callers::paragraphs::fill_paragraphs;
 use callers::soft_hyphens::with_soft_hyphens;
 use hyphenation::extended::Extended;
 use hyphenation::load::Error;
-use hyphenation::{Hyphenator, Load, Standard};
+use hyphenation::{Hyphenator, Standard};
 use std::alloc::Global;
 use std::test::Fail;
-use test_dictionaries::{DOUBLED, dictionary};
+use test_dictionaries::{DOUBLED, dictionary, load};
 use test_support::{expect, expect_equal, expect_text};
 
 // The breaks of `hyphenation`, in American English.
 const ENGLISH: &str = "hyphenation 1 standard\nlanguage en-us\nminima 2 3\ne hyphenation 2 6 7\n";
 
 fn hungarian(alloc: Global) -> Result<Extended, Error> {
-    let mut reader = DOUBLED.as_bytes();
-    Extended::any_from_reader(alloc, &mut reader)
+    load(alloc, DOUBLED)
 }
+
+// A doubled letter that comes back at a break.
+const CHANGED: &str =
+    "hyphenation 1 extended\nlanguage hu\nminima 2 2\ne asszonnyal 2,1,2,2,szsz\n";
 
 #[test]
 fn changed_letters_are_set_at_a_break_alone(rt: HostRuntime) -> Result<(), Fail> {
-    let mut text =
-        &b"hyphenation 1 extended\nlanguage hu\nminima 2 2\ne asszonnyal 2,1,2,2,szsz\n"[..];
-    let dictionary = Extended::any_from_reader(rt.alloc(), &mut text)?;
+    let dictionary: Extended = load(rt.alloc(), CHANGED)?;
     let word = dictionary.hyphenate(rt.alloc(), "asszonnyal")?;
     let all = discretionaries(rt.alloc(), &word, "-")?;
     expect(all.len() == 1, "one break")?;

@@ -1,12 +1,14 @@
 //! Each error of a dictionary has the status 3, and its message stands after the dictionary's path.
 
-use crate::hyphenate::{ProgramResult, new_file, run_hyphenate};
+use crate::hyphenate::{ProgramResult, run_hyphenate};
 use crate::memory_files::{MemoryFiles, files_without_errors};
 use hyphenate_command::answer;
 use std::io::ErrorKind;
 use std::test::Fail;
 use std::{fs, io};
+use test_dictionaries::SMALLEST;
 use test_support::expect;
+use test_support::files::new_file;
 
 // The status of the program, its output, and its message after the path.
 type Ending = (u8, &'static str, &'static str);
@@ -30,8 +32,6 @@ fn expect_ending(rt: &HostRuntime, path: &str, bytes: &[u8], wanted: Ending) -> 
         format_args!("{}", bytes.escape_ascii()),
     )
 }
-
-const SMALLEST: &[u8] = b"hyphenation 1 standard\nlanguage en-us\nminima 2 3\np a1b";
 
 // The ending by the first bytes of the shortest text with a pattern.
 fn ending_of_beginning(length: usize) -> Ending {

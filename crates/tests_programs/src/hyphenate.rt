@@ -4,9 +4,10 @@ use hyphenate_command::{answer, report_words};
 use std::alloc::{AllocError, Global};
 use std::io::{ErrorKind, Read, Write};
 use std::test::Fail;
-use std::{env, fs, io, process};
+use std::{fs, io};
 use test_dictionaries::{DOUBLED, FIRKIN};
 use test_support::expect;
+use test_support::files::new_file;
 
 // The output and the messages of the program, and its status.
 #[derive(Drop)]
@@ -73,15 +74,6 @@ fn run_hyphenate_unwritable(rt: &HostRuntime, args: &[&str], text: &[u8]) -> Pro
         output: Vec::new(rt.alloc()),
         messages,
     }
-}
-
-// Writes a new file, and returns its path.
-pub(crate) fn new_file(rt: &HostRuntime, name: &str, bytes: &[u8]) -> Result<String, Fail> {
-    let folder = env::temp_dir(rt)?;
-    let id = process::id(rt.process());
-    let path = format!(in rt.alloc(); "{}/hyphenate-test-{id}-{name}", folder.as_path().display())?;
-    fs::write(rt, path.as_str(), bytes)?;
-    Ok(path)
 }
 
 // Fails unless the program has this status, output and messages for these arguments.

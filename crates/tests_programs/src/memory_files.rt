@@ -4,6 +4,7 @@ use std::alloc::Allocator;
 use std::fs::{Files, Metadata, OpenFile, OpenOptions};
 use std::io;
 use std::io::{ErrorKind, Read, Seek, SeekFrom, Write};
+use test_support::readers::take_byte;
 
 // Files by their paths, each read a byte at a time.
 #[derive(Clone, Copy)]
@@ -44,15 +45,7 @@ impl Read for MemoryFile<'_> {
             return Err(io::Error::from(self.read_error));
         }
         self.failing_read -= 1;
-        let Some((first, rest)) = self.left.split_first() else {
-            return Ok(0);
-        };
-        let Some(slot) = buf.first_mut() else {
-            return Ok(0);
-        };
-        *slot = *first;
-        self.left = rest;
-        Ok(1)
+        Ok(take_byte(&mut self.left, buf))
     }
 }
 

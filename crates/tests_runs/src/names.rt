@@ -28,12 +28,12 @@ fn words_are_folded_and_bounded(rt: HostRuntime) -> Result<(), Fail> {
 
 // Items with a space after each.
 fn with_spaces<I: Texts>(alloc: Global, items: Hyphenating<'_, I>) -> Result<String, AllocError> {
-    let mut with_spaces = String::new(alloc);
+    let mut spaced = String::new(alloc);
     for item in items {
-        with_spaces.push_str(item?.as_str())?;
-        with_spaces.push(' ')?;
+        spaced.push_str(item?.as_str())?;
+        spaced.push(' ')?;
     }
-    Ok(with_spaces)
+    Ok(spaced)
 }
 
 // The segments of `firkin`, broken at 3: those of a word, and those of its breaks alone.

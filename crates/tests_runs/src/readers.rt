@@ -11,11 +11,12 @@ use test_support::io_errors::{CONNECTION_RESET, INTERRUPTED, OUT_OF_MEMORY, has_
 use test_support::readers::{failing_once, short_reads};
 use test_support::writers::interrupting_at;
 
-const TEXT: &[u8] = b"Firkin, firkins.";
+pub(crate) const TEXT: &[u8] = b"Firkin, firkins.";
 
-const MARKED: &[u8] = b"Fir-kin, fir-k-ins.";
+pub(crate) const MARKED: &[u8] = b"Fir-kin, fir-k-ins.";
 
-fn run_marking<D: Read, I: Read, O: Write>(
+// Runs with a standard dictionary of American English and the mark `-`.
+pub(crate) fn run_marking<D: Read, I: Read, O: Write>(
     alloc: Global,
     dictionary: &mut D,
     input: &mut I,

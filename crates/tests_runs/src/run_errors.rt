@@ -1,46 +1,25 @@
 //! Runs over readers and writers that fail: each error is returned as it was, and nothing is written before it is
 //! known.
 
+use crate::readers::{MARKED, TEXT, run_marking};
 use hyphenation::Language;
-use hyphenation::engine::{Kind, RunError, run, run_score};
+use hyphenation::engine::{Kind, RunError, run_score};
 use hyphenation::load::Error;
 use std::alloc::Global;
 use std::io;
-use std::io::{Read, Write};
+use std::io::Write;
 use std::test::Fail;
 use test_dictionaries::{AMERICAN, FIRKIN, SMALLEST, is_connection_reset};
 use test_support::io_errors::{BROKEN_PIPE, CONNECTION_RESET, OUT_OF_MEMORY, has_code, io_error};
 use test_support::readers::{failing_from, one_byte_reads, resetting_at};
-use test_support::writers::{FailingWriter, breaking_pipe_at};
+use test_support::writers::breaking_pipe_at;
 use test_support::{expect, expect_equal, expect_equal_in, expect_written};
-
-const TEXT: &[u8] = b"Firkin, firkins.";
-
-const MARKED: &[u8] = b"Fir-kin, fir-k-ins.";
-
-fn run_with<D: Read, I: Read>(
-    alloc: Global,
-    dictionary: &mut D,
-    input: &mut I,
-    output: &mut FailingWriter,
-) -> Result<(), RunError> {
-    run(
-        alloc,
-        Kind::Standard,
-        Language::english_us(),
-        &[],
-        "-",
-        dictionary,
-        input,
-        output,
-    )
-}
 
 // Whether a run over a dictionary that fails at this read returns its error, before the text is read or anything is
 // written.
 fn stops_at_dictionary_read(alloc: Global, number: usize) -> bool {
     let mut output = breaking_pipe_at(alloc, usize::MAX);
-    let end = run_with(
+    let end = run_marking(
         alloc,
         &mut resetting_at(SMALLEST, number),
         &mut resetting_at(TEXT, 1),
@@ -83,7 +62,7 @@ fn each_read_of_the_dictionary_that_fails_ends_a_run(rt: HostRuntime) -> Result<
 // Whether a run whose text fails at this read returns its error, before anything is written.
 fn stops_at_input_read(alloc: Global, number: usize) -> bool {
     let mut output = breaking_pipe_at(alloc, usize::MAX);
-    let end = run_with(
+    let end = run_marking(
         alloc,
         &mut AMERICAN.as_bytes(),
         &mut resetting_at(TEXT, number),
@@ -104,7 +83,7 @@ fn each_read_of_the_input_that_fails_ends_a_run(rt: HostRuntime) -> Result<(), F
 #[test]
 fn readers_of_one_byte_a_read_change_nothing(rt: HostRuntime) -> Result<(), Fail> {
     let mut output = breaking_pipe_at(rt.alloc(), usize::MAX);
-    let end = run_with(
+    let end = run_marking(
         rt.alloc(),
         &mut one_byte_reads(AMERICAN.as_bytes()),
         &mut one_byte_reads(TEXT),
@@ -117,7 +96,7 @@ fn readers_of_one_byte_a_read_change_nothing(rt: HostRuntime) -> Result<(), Fail
 fn an_input_without_memory_is_out_of_memory(rt: HostRuntime) -> Result<(), Fail> {
     let mut input = failing_from(TEXT, 5, OUT_OF_MEMORY);
     let mut output = breaking_pipe_at(rt.alloc(), usize::MAX);
-    let end = run_with(
+    let end = run_marking(
         rt.alloc(),
         &mut AMERICAN.as_bytes(),
         &mut input,
@@ -130,7 +109,7 @@ fn an_input_without_memory_is_out_of_memory(rt: HostRuntime) -> Result<(), Fail>
 // Whether a run whose writer fails at this write returns its error, after the bytes before it.
 fn stops_at_write(alloc: Global, number: usize) -> bool {
     let mut output = breaking_pipe_at(alloc, number);
-    let end = run_with(alloc, &mut AMERICAN.as_bytes(), &mut &TEXT[..], &mut output);
+    let end = run_marking(alloc, &mut AMERICAN.as_bytes(), &mut &TEXT[..], &mut output);
     matches!(&end, Err(RunError::Output(e)) if has_code(e, BROKEN_PIPE))
         && output.taken.len() + 1 == number
         && MARKED.starts_with(&output.taken)

@@ -1,12 +1,12 @@
 //! Whole texts: the output of a run, and why it writes nothing.
 
 use hyphenation::engine::{Kind, RunError, run};
-use hyphenation::load::{Cause, Error, Load};
+use hyphenation::load::{Cause, Error};
 use hyphenation::{Language, Standard, hyphenate_text};
 use std::alloc::{AllocError, Global};
 use std::fmt::Display;
 use std::test::Fail;
-use test_dictionaries::{AMERICAN, DOUBLED};
+use test_dictionaries::{AMERICAN, DOUBLED, dictionary};
 use test_support::{expect, expect_equal, expect_text, expect_written, repeated};
 
 // The output and the result of a run.
@@ -300,8 +300,7 @@ fn appended(alloc: Global, dictionary: &Standard) -> Result<String, AllocError> 
 
 #[test]
 fn a_text_is_appended_by_a_loaded_dictionary(rt: HostRuntime) -> Result<(), Fail> {
-    let mut reader = AMERICAN.as_bytes();
-    let dictionary = Standard::any_from_reader(rt.alloc(), &mut reader)?;
+    let dictionary = dictionary(rt.alloc(), AMERICAN)?;
     expect_text(
         appended(rt.alloc(), &dictionary),
         "Ale: Fir-kin, fir-k-ins. Firkin",
@@ -319,25 +318,9 @@ fn is_long_text_marked(
     let times = 1_000_000 / piece.len().max(1) + 1;
     let input = repeated(alloc, piece, times)?;
     let wanted = repeated(alloc, wanted, times)?;
-    let language = match kind {
-        Kind::Standard => Language::english_us(),
-        Kind::Extended => Language::hungarian(),
-    };
-    let mut dictionary = text.as_bytes();
-    let mut reader = input.as_bytes();
-    let mut output: Vec<u8> = Vec::new(alloc);
-    let end = run(
-        alloc,
-        kind,
-        language,
-        &[],
-        "-",
-        &mut dictionary,
-        &mut reader,
-        &mut output,
-    );
+    let finished = run_by(alloc, kind, text, &[], "-", input.as_bytes());
     let is_long = input.len() > 1_000_000;
-    Ok(end.is_ok() && is_long && output.as_slice() == wanted.as_bytes())
+    Ok(finished.end.is_ok() && is_long && finished.output.as_slice() == wanted.as_bytes())
 }
 
 #[test]

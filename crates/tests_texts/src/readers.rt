@@ -64,8 +64,8 @@ fn the_bytes_of_a_read_are_judged(rt: HostRuntime) -> Result<(), Fail> {
 }
 
 // Loads from a read that returned this error.
-fn load_error(alloc: Global, fault: io::Error) -> Result<Standard, Error> {
-    Standard::from_read(alloc, Err(fault))
+fn load_error(alloc: Global, error: io::Error) -> Result<Standard, Error> {
+    Standard::from_read(alloc, Err(error))
 }
 
 #[test]
@@ -83,25 +83,35 @@ fn the_error_of_a_read_is_passed_on(rt: HostRuntime) -> Result<(), Fail> {
     )
 }
 
-// Whether loading a standard dictionary returns the error of a connection that was reset.
-fn is_load_reset<R: Read>(alloc: Global, reader: &mut R) -> bool {
-    let result = Standard::any_from_reader(alloc, reader);
+// Whether loading returns the error of a connection that was reset.
+fn is_load_reset<D: Load + Drop, R: Read>(alloc: Global, reader: &mut R) -> bool {
+    let result = D::any_from_reader(alloc, reader);
     matches!(&result, Err(e) if is_connection_reset(e))
 }
 
-// Whether loading in a language returns the error of a connection that was reset at this read.
-fn is_load_in_language_reset(alloc: Global, number: usize) -> bool {
-    let language = Language::english_us();
-    let result = Standard::from_reader(alloc, language, &mut resetting_at(SMALLEST, number));
+// Whether loading in a language returns the error of a connection that was reset.
+fn is_load_in_language_reset<D: Load + Drop, R: Read>(
+    alloc: Global,
+    language: Language,
+    reader: &mut R,
+) -> bool {
+    let result = D::from_reader(alloc, language, reader);
     matches!(&result, Err(e) if is_connection_reset(e))
+}
+
+// Whether loading in American English returns the error of a connection that was reset at this read.
+fn is_english_reset(alloc: Global, number: usize) -> bool {
+    let mut reader = resetting_at(SMALLEST, number);
+    is_load_in_language_reset::<Standard, _>(alloc, Language::english_us(), &mut reader)
 }
 
 #[test]
 fn each_read_of_a_dictionary_that_fails_is_an_io_error(rt: HostRuntime) -> Result<(), Fail> {
     for number in 1..=55 {
-        let is_reset = is_load_reset(rt.alloc(), &mut resetting_at(SMALLEST, number));
+        let mut reader = resetting_at(SMALLEST, number);
+        let is_reset = is_load_reset::<Standard, _>(rt.alloc(), &mut reader);
         expect(is_reset, format_args!("loading, read {number}"))?;
-        let is_reset = is_load_in_language_reset(rt.alloc(), number);
+        let is_reset = is_english_reset(rt.alloc(), number);
         expect(
             is_reset,
             format_args!("loading in a language, read {number}"),
@@ -114,15 +124,9 @@ fn each_read_of_a_dictionary_that_fails_is_an_io_error(rt: HostRuntime) -> Resul
 #[test]
 fn a_bad_line_before_the_error_is_not_judged(rt: HostRuntime) -> Result<(), Fail> {
     expect(
-        is_load_reset(rt.alloc(), &mut resetting_at(b"no head\n", 9)),
+        is_load_reset::<Standard, _>(rt.alloc(), &mut resetting_at(b"no head\n", 9)),
         "the connection was reset",
     )
-}
-
-// Whether loading an extended dictionary returns the error of a connection that was reset at this read.
-fn is_extended_load_reset(alloc: Global, text: &[u8], number: usize) -> bool {
-    let result = Extended::any_from_reader(alloc, &mut resetting_at(text, number));
-    matches!(&result, Err(e) if is_connection_reset(e))
 }
 
 // An extended text of 61 bytes.
@@ -133,7 +137,11 @@ fn each_read_of_an_extended_dictionary_that_fails_is_an_io_error(
     rt: HostRuntime,
 ) -> Result<(), Fail> {
     for number in 1..=EXTENDED.len() + 1 {
-        expect(is_extended_load_reset(rt.alloc(), EXTENDED, number), number)?;
+        let mut reader = resetting_at(EXTENDED, number);
+        expect(
+            is_load_reset::<Extended, _>(rt.alloc(), &mut reader),
+            number,
+        )?;
     }
     expect_text(text_outcome::<Extended>(rt.alloc(), EXTENDED), "loaded")
 }
@@ -143,11 +151,10 @@ fn load_failing_once(alloc: Global, number: usize, code: i32) -> Result<Standard
     Standard::any_from_reader(alloc, &mut failing_once(SMALLEST, number, code))
 }
 
-// Whether loading an extended dictionary in a language returns the error of a connection that was reset at this read.
-fn is_extended_in_language_reset(alloc: Global, number: usize) -> bool {
+// Whether loading in Hungarian returns the error of a connection that was reset at this read.
+fn is_hungarian_reset(alloc: Global, number: usize) -> bool {
     let mut reader = failing_once(SMALLEST, number, CONNECTION_RESET);
-    let result = Extended::from_reader(alloc, Language::hungarian(), &mut reader);
-    matches!(&result, Err(e) if is_connection_reset(e))
+    is_load_in_language_reset::<Extended, _>(alloc, Language::hungarian(), &mut reader)
 }
 
 // Whether a read without memory makes loading run out of memory.
@@ -161,14 +168,14 @@ fn a_read_that_fails_once_ends_the_loading(rt: HostRuntime) -> Result<(), Fail> 
     // 54 bytes in pairs are 27 reads, and one more finds the end.
     for number in 1..=28 {
         expect(
-            is_load_reset(
+            is_load_reset::<Standard, _>(
                 rt.alloc(),
                 &mut failing_once(SMALLEST, number, CONNECTION_RESET),
             ),
             format_args!("reset at read {number}"),
         )?;
         expect(
-            is_extended_in_language_reset(rt.alloc(), number),
+            is_hungarian_reset(rt.alloc(), number),
             format_args!("extended, reset at read {number}"),
         )?;
         expect(

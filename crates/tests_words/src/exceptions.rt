@@ -24,11 +24,11 @@ fn an_added_word_decides_alone(rt: HostRuntime) -> Result<(), Fail> {
 }
 
 // The places that the patterns allow in `firkins` within these bounds, though 3 alone is listed.
-fn pattern_breaks(alloc: Global, minima_and_boundaries: (usize, usize)) -> Result<String, Fail> {
+fn pattern_breaks(alloc: Global, bounds: (usize, usize)) -> Result<String, Fail> {
     ask(
         alloc,
         firkin_with_exception(alloc),
-        Question::OpportunitiesWithin("firkins", minima_and_boundaries),
+        Question::OpportunitiesWithin("firkins", bounds),
     )
 }
 
@@ -95,10 +95,10 @@ const FITTING: [(&str, &[usize], bool); 8] = [
 
 #[test]
 fn places_fit_a_word_where_they_ascend_on_its_characters(rt: HostRuntime) -> Result<(), Fail> {
-    for (word, places_of, fits) in &FITTING {
+    for (word, places, fits) in &FITTING {
         expect_equal_in(
             format_args!("{word:?} {places:?}"),
-            &Standard::fits(word, places_of),
+            &Standard::fits(word, places),
             fits,
         )?;
     }
@@ -122,12 +122,8 @@ fn listed_places_are_found_within_the_boundaries(rt: HostRuntime) -> Result<(), 
 }
 
 // The list of an exception within these bounds.
-fn exception_within(
-    alloc: Global,
-    word: &str,
-    minima_and_boundaries: (usize, usize),
-) -> Result<String, Fail> {
-    let question = Question::ExceptionWithin(word, minima_and_boundaries);
+fn exception_within(alloc: Global, word: &str, bounds: (usize, usize)) -> Result<String, Fail> {
+    let question = Question::ExceptionWithin(word, bounds);
     ask(alloc, dictionary(alloc, ANISOTROPIC), question)
 }
 
@@ -185,11 +181,11 @@ fn minima_and_boundaries(
 fn minima_and_boundaries_of(
     dictionary: &Standard,
 ) -> ((usize, usize), [Option<(usize, usize)>; 2]) {
-    let minima_and_boundaries = [
+    let bounds = [
         dictionary.boundaries("firkin"),
         dictionary.boundaries("fir"),
     ];
-    (dictionary.unbreakable_chars(), minima_and_boundaries)
+    (dictionary.unbreakable_chars(), bounds)
 }
 
 #[test]

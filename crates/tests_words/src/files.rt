@@ -3,22 +3,12 @@
 use hyphenation_breaks::language::Language;
 use hyphenation_dictionary::dictionary::{Extended, Standard};
 use hyphenation_load::{Error, Load};
+use std::fs;
 use std::test::Fail;
-use std::{env, fs, process};
 use test_dictionaries::{AMERICAN, DOUBLED, FIRKIN, expect_outcome};
 use test_questions::{Question, ask};
 use test_support::expect_text;
-
-// A path of no file, in the folder of temporary files.
-fn new_path(rt: &HostRuntime, name: &str) -> Result<String, Fail> {
-    let folder = env::temp_dir(rt)?;
-    let id = process::id(rt.process());
-    let path = format!(in rt.alloc();
-        "{}/dictionary-test-{id}-{name}",
-        folder.as_path().display()
-    )?;
-    Ok(path)
-}
+use test_support::files::new_path;
 
 // Loads a standard dictionary from a new file, which is then removed.
 fn load_standard(

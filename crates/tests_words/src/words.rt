@@ -84,9 +84,8 @@ fn marked_words(alloc: Global, words: &str) -> Result<String, Fail> {
 #[test]
 fn marks_stand_at_the_breaks(rt: HostRuntime) -> Result<(), Fail> {
     let words = "anfractuous hyphenation CAPITAL MUCİLAGİNOUS bevies \u{ad}ab  Hypha";
-    let marked_by_both =
-        "an=frac=tu=ous hy=phen=a=tion CAP=I=TAL MU=CİLAGİ=NOUS bevies =\u{ad}ab  Hy=pha ";
-    expect_text(marked_words(rt.alloc(), words), marked_by_both)
+    let broken = "an=frac=tu=ous hy=phen=a=tion CAP=I=TAL MU=CİLAGİ=NOUS bevies =\u{ad}ab  Hy=pha ";
+    expect_text(marked_words(rt.alloc(), words), broken)
 }
 
 // The joined items of a word, whose first mark is `-`.
@@ -131,22 +130,22 @@ fn the_segments_of_a_word_join_to_it(rt: HostRuntime) -> Result<(), Fail> {
 fn size_hints(alloc: Global, dictionary: &Standard, word: &str) -> Result<String, AllocError> {
     let found = dictionary.hyphenate(alloc, word)?;
     let mut segments = found.iter().segments();
-    let mut size_hints = String::new(alloc);
+    let mut hints = String::new(alloc);
     for _ in 0..=found.breaks.len() {
-        push_size_hint(&mut size_hints, alloc, segments.size_hint())?;
+        push_size_hint(&mut hints, alloc, segments.size_hint())?;
         let _segment = segments.next();
     }
-    push_size_hint(&mut size_hints, alloc, segments.size_hint())?;
-    Ok(size_hints)
+    push_size_hint(&mut hints, alloc, segments.size_hint())?;
+    Ok(hints)
 }
 
 fn push_size_hint(
-    size_hints: &mut String,
+    hints: &mut String,
     alloc: Global,
     hint: (usize, Option<usize>),
 ) -> Result<(), AllocError> {
     let hint = format!(in alloc; "{hint:?} ")?;
-    size_hints.push_str(&hint)
+    hints.push_str(&hint)
 }
 
 #[test]
