@@ -15,14 +15,14 @@ from programs import program, prove  # noqa: E402
 MARK = "="
 LEAST_LETTERS = 4
 
-# What Python calls a charset by another name.
+# Charsets that Python has under another name.
 CODECS = {"microsoft-cp1251": "cp1251"}
 
 Compared = namedtuple("Compared", "words same differing")
 
 
 def charset_of(dic):
-    """The charset that a .dic names in its first line. Libhyphen compares bytes where that names none; so does Latin-1."""
+    """The charset in the first line of a .dic. Without one libhyphen compares bytes, which Latin-1 does too."""
     with open(dic, "rb") as file:
         name = file.readline().strip().decode("latin-1")
     name = CODECS.get(name, name)
@@ -34,7 +34,7 @@ def charset_of(dic):
 
 
 def text_of(bytes_):
-    """The text of a list of words. Debian's lists are UTF-8 or Latin-1, and don't say which."""
+    """The text of a list of words, in UTF-8 or Latin-1, as Debian's lists are."""
     try:
         return bytes_.decode("utf-8")
     except UnicodeDecodeError:
@@ -42,7 +42,7 @@ def text_of(bytes_):
 
 
 def lines_of(path, charset):
-    """The lines of a file. No other characters than line feeds part them."""
+    """The lines of a file, which line feeds alone separate."""
     with open(path, "rb") as file:
         return file.read().decode(charset).rstrip("\n").split("\n")
 
@@ -60,7 +60,7 @@ def spelling_charset(affixes):
 
 
 def listed_words(path):
-    """The lines of a list of words; of a hunspell dictionary (.dic beside an .aff) what stands before the / of each."""
+    """The lines of a list of words. Of a hunspell dictionary (.dic next to an .aff) only the part before the / counts."""
     with open(path, "rb") as file:
         bytes_ = file.read()
     affixes = path[: -len(".dic")] + ".aff"
@@ -84,9 +84,9 @@ def can_be_written(word, charset):
 
 
 def chosen_words(path, charset, number):
-    """That many words, evenly from a list: in small letters, of at least four letters, of nothing but letters.
+    """This many words, evenly from a list: in small letters, of at least four letters and nothing else.
 
-    A word that the charset can't write is none that the other library can be asked about.
+    Words that the charset can't write are left out, since the other library can't be called with them.
     """
     small = (word.strip().lower() for word in listed_words(path))
     fitting = (word for word in small if len(word) >= LEAST_LETTERS and has_only_letters(word))
@@ -97,20 +97,20 @@ def chosen_words(path, charset, number):
 
 
 class Refused(Exception):
-    """A program of ours ended with a status other than 0: what it said."""
+    """A program of ours ended with a status other than 0. The argument is its message."""
 
 
-def run(words, **how):
+def run(command, **how):
     """The output of a program of ours."""
-    ran = subprocess.run(words, capture_output=True, check=False, **how)
+    ran = subprocess.run(command, capture_output=True, check=False, **how)
     if ran.returncode:
         said = ran.stderr.decode(errors="replace").strip()
-        raise Refused(said or f"{words[0]} ended with status {ran.returncode}")
+        raise Refused(said or f"{command[0]} ended with status {ran.returncode}")
     return ran.stdout
 
 
 def our_breaks(dic, kind, words):
-    """Each word with our breaks marked, by one call of hyphenate; and the dictionary's minima."""
+    """Each word with our breaks marked, by one call of hyphenate, and the dictionary's minima."""
     with tempfile.TemporaryDirectory() as folder:
         path = os.path.join(folder, "dictionary.txt")
         text = run([program("hyphenate-convert"), kind, "xx", "-", "-", dic])
@@ -129,7 +129,7 @@ def marked_at(word, places):
 
 
 def compare(theirs, dic, list_path, kind="standard", number=5000):
-    """Compares the breaks of words. `theirs(dic, kind, words, left, right)` gives each word with the other's breaks marked."""
+    """Compares the breaks of words. `theirs(dic, kind, words, left, right)` returns the words with the other's breaks marked."""
     words = chosen_words(list_path, charset_of(dic), number)
     ours, left, right = our_breaks(dic, kind, words)
     others = theirs(dic, kind, words, left, right)
@@ -138,7 +138,7 @@ def compare(theirs, dic, list_path, kind="standard", number=5000):
 
 
 def parser_of(name, text):
-    """What reads the arguments that both scripts take."""
+    """The parser of the arguments of both scripts."""
     raw = argparse.RawDescriptionHelpFormatter
     parser = argparse.ArgumentParser(prog=f"tests/{name}", description=text, formatter_class=raw)
     parser.add_argument("files", nargs="*", metavar="FILE", help="DIC WORDS DIC WORDS ..: each .dic with a list of words")
@@ -149,7 +149,10 @@ def parser_of(name, text):
 
 
 def status_of(name, main):
-    """Proves the programs where that is wanted, and does the work of a script of that name. The status to end with: 0 where all breaks are the same, 1 where some differ, 2 where nothing could be compared."""
+    """Proves the programs, does the work of a script, and returns its status.
+
+    The status is 0 if all breaks are the same, 1 if some differ, and 2 if nothing could be compared.
+    """
     try:
         return 0 if main(lambda: prove(name, "hyphenate-convert", "hyphenate")) else 1
     except (OSError, Refused) as error:
@@ -158,7 +161,7 @@ def status_of(name, main):
 
 
 def compare_all(theirs, given):
-    """Compares what the arguments name, and prints what is found; whether all words have the same breaks."""
+    """Compares the files of the arguments, prints the results, and returns whether all words have the same breaks."""
     all_same = True
     for dic, list_path in zip(given.files[::2], given.files[1::2]):
         found = compare(theirs, dic, list_path, given.kind, given.words)
