@@ -1,6 +1,7 @@
 -- What the `p` and `e` lines spell.
 use Rattle.std.specs.Prelude.{ℕ, ◌==◌, Bool, if◌then◌else◌, List, [], ◌∷◌, map, drop, codes, Option, Some, None, unwrap_or, slice_index_or}
 use Rattle.std.specs.List.{slice_split}
+use Rattle.hyphenation_breaks.specs.Ascii.{space}
 use Rattle.hyphenation_breaks.specs.Break.{Break, Change}
 use Rattle.hyphenation_grammar.specs.Lines.{starts_with}
 use Rattle.hyphenation_grammar.specs.Tokens.{elements_of, text_spelt, key_of, values_from, has_comma, place_of_token, change_of_token}
@@ -18,7 +19,7 @@ is_exception_line line = starts_with (codes "e ") line
 
 -- The tokens of such a line: what stands between single spaces after its first two bytes.
 abbrev pub tokens_of : List ℕ → List (List ℕ)
-tokens_of line = slice_split (λ b. b == 32) (drop 2 line)
+tokens_of line = slice_split (λ b. b == space) (drop 2 line)
 
 -- The first of them.
 abbrev pub first_token_of : List ℕ → List ℕ

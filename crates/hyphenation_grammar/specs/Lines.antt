@@ -2,6 +2,7 @@
 use Rattle.std.specs.Prelude.{ℕ, ◌+◌, ◌-◌, ◌*◌, ◌^◌, ◌==◌, ◌&&◌, ◌||◌, nat_le, nat_lt, nat_eq, Bool, false, not, if◌then◌else◌, List, [], ◌∷◌, length, fold, take, drop, codes, Option, Some, None, is_some, option_map, option_and_then, slice_index_or}
 use Rattle.std.specs.List.{list_all, slice_split}
 use Rattle.std.specs.Cmp.Lexicographic.{pointwise}
+use Rattle.hyphenation_breaks.specs.Ascii.{digit_nine, digit_zero, line_feed, space}
 use Rattle.hyphenation_breaks.specs.Language.{is_code}
 
 -- The pieces without the last one, where that is empty.
@@ -12,12 +13,12 @@ without_empty_last (x ∷ y ∷ more) = x ∷ without_empty_last (y ∷ more)
 
 -- The lines of a text: what stands between line feeds, without an empty last piece.
 abbrev pub lines_of : List ℕ → List (List ℕ)
-lines_of bytes = without_empty_last (slice_split (λ b. b == 10) bytes)
+lines_of bytes = without_empty_last (slice_split (λ b. b == line_feed) bytes)
 
 -- What stands between spaces, after a space if there is one.
 abbrev pub tokens_after : Option (List ℕ) → List (List ℕ)
 tokens_after None = []
-tokens_after (Some rest) = slice_split (λ b. b == 32) rest
+tokens_after (Some rest) = slice_split (λ b. b == space) rest
 
 -- Two texts are the same, byte for byte.
 abbrev pub is_same : List ℕ → List ℕ → Bool
@@ -33,11 +34,11 @@ starts_with start text = is_some (strip_prefix start text)
 
 -- A digit of ASCII.
 abbrev pub is_digit : ℕ → Bool
-is_digit b = nat_le 48 b && nat_le b 57
+is_digit b = nat_le digit_zero b && nat_le b digit_nine
 
 -- A number with one digit more at its end.
 abbrev pub with_digit : ℕ → ℕ → ℕ
-with_digit n b = n * 10 + (b - 48)
+with_digit n b = n * 10 + (b - digit_zero)
 
 -- The number that digits write; 0 where there are none.
 abbrev pub number : List ℕ → ℕ
@@ -46,7 +47,7 @@ number text = fold with_digit 0 text
 -- A text is not empty, and its first byte is no `0` unless it stands alone.
 abbrev pub has_no_leading_zero : List ℕ → Bool
 has_no_leading_zero [] = false
-has_no_leading_zero (b ∷ rest) = not (b == 48) || length rest == 0
+has_no_leading_zero (b ∷ rest) = not (b == digit_zero) || length rest == 0
 
 -- A number is `0`, or digits without a leading zero, and is below 2^64.
 abbrev pub is_number : List ℕ → Bool
@@ -62,22 +63,22 @@ language_of line =
     option_and_then (λ code. if is_code code then Some code else None) (strip_prefix (codes "language ") line)
 
 -- A number from 0 to 255.
-abbrev pub is_small : List ℕ → Bool
-is_small text = is_number text && nat_le (number text) 255
+abbrev pub is_number_to_255 : List ℕ → Bool
+is_number_to_255 text = is_number text && nat_le (number text) 255
 
 -- That number; none where the text is none.
-abbrev pub small_of : List ℕ → Option ℕ
-small_of text = if is_small text then Some (number text) else None
+abbrev pub number_to_255 : List ℕ → Option ℕ
+number_to_255 text = if is_number_to_255 text then Some (number text) else None
 
 -- Two such numbers, where there are exactly two parts.
-abbrev pub two_small : List (List ℕ) → Option (ℕ × ℕ)
-two_small parts =
+abbrev pub two_minima : List (List ℕ) → Option (ℕ × ℕ)
+two_minima parts =
     if length parts == 2
-    then option_and_then (λ left. option_map (λ right. (left, right)) (small_of (slice_index_or parts 1 [])))
-    (small_of (slice_index_or parts 0 []))
+    then option_and_then (λ left. option_map (λ right. (left, right)) (number_to_255 (slice_index_or parts 1 [])))
+    (number_to_255 (slice_index_or parts 0 []))
     else None
 
 -- Line 3 gives the minima.
 abbrev pub minima_of : List ℕ → Option (ℕ × ℕ)
 minima_of line =
-    option_and_then (λ rest. two_small (slice_split (λ b. b == 32) rest)) (strip_prefix (codes "minima ") line)
+    option_and_then (λ rest. two_minima (slice_split (λ b. b == space) rest)) (strip_prefix (codes "minima ") line)

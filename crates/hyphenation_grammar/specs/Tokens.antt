@@ -1,8 +1,9 @@
 -- Tokens: escapes, the elements of a pattern, and the parts of a later token.
 use Rattle.std.specs.Prelude.{ℕ, ◌+◌, ◌-◌, ◌==◌, ◌&&◌, ◌||◌, nat_lt, nat_le, Bool, true, false, not, if◌then◌else◌, List, [], ◌∷◌, ◌++◌, length, map, take, drop, codes, Option, Some, None, is_some, unwrap_or, option_map, option_and_then, slice_index_or}
 use Rattle.std.specs.List.{list_all, onto_first}
+use Rattle.hyphenation_breaks.specs.Ascii.{backslash, carriage_return, close_brace, comma, digit_zero, letter_n, letter_r, letter_s, line_feed, open_brace, space}
 use Rattle.hyphenation_breaks.specs.Break.{Change}
-use Rattle.hyphenation_grammar.specs.Lines.{is_digit, number, is_same, small_of}
+use Rattle.hyphenation_grammar.specs.Lines.{is_digit, number, is_same, number_to_255}
 use Rattle.hyphenation_grammar.specs.declared.tokens.Escapes.{Escapes}
 use Rattle.hyphenation_grammar.specs.declared.tokens.Escapes.TheVariants.{Plain, Digits, DigitsAndBraces}
 use Rattle.hyphenation_grammar.specs.declared.form.Version.{Version}
@@ -18,7 +19,7 @@ pattern_escapes Second = DigitsAndBraces
 
 -- A brace.
 abbrev pub is_brace : ℕ → Bool
-is_brace b = b == 123 || b == 125
+is_brace b = b == open_brace || b == close_brace
 
 -- A letter that stands for itself after a backslash, beside those that mean something in each token.
 abbrev pub escaped_also : Escapes → ℕ → Bool
@@ -29,17 +30,18 @@ escaped_also DigitsAndBraces c = is_digit c || is_brace c
 -- The byte that a letter after a backslash means; none where it begins no escape.
 abbrev pub byte_of_escape : Escapes → ℕ → Option ℕ
 byte_of_escape escapes c =
-    if c == 92 then Some 92
-    else (if c == 115 then Some 32
-    else (if c == 110 then Some 10
-    else (if c == 114 then Some 13 else (if escaped_also escapes c then Some c else None))))
+    if c == backslash then Some backslash
+    else (if c == letter_s then Some space
+    else (if c == letter_n then Some line_feed
+    else (if c == letter_r then Some carriage_return else (if escaped_also escapes c then Some c else None))))
 
 -- What a byte adds to what was read, after a backslash or not: after one what it means, else itself, and a backslash
 -- nothing. None where it can't stand there, as a carriage return.
-abbrev pub bytes_added : Escapes → Bool → ℕ → Option (List EscapedByte)
-bytes_added escapes true c = option_map (λ byte. record { byte = byte; escaped = true } ∷ []) (byte_of_escape escapes c)
-bytes_added escapes false b =
-    if b == 92 then Some [] else (if b == 13 then None else Some (record { byte = b; escaped = false } ∷ []))
+abbrev pub unescape_byte : Escapes → Bool → ℕ → Option (List EscapedByte)
+unescape_byte escapes true c = option_map (λ byte. record { byte = byte; escaped = true } ∷ []) (byte_of_escape escapes c)
+unescape_byte escapes false b =
+    if b == backslash then Some []
+    else (if b == carriage_return then None else Some (record { byte = b; escaped = false } ∷ []))
 
 -- One after the other; none where one of them is none.
 abbrev pub concatenation : Option (List EscapedByte) → Option (List EscapedByte) → Option (List EscapedByte)
@@ -51,7 +53,7 @@ abbrev pub escaped_bytes_after : Escapes → Bool → List ℕ → Option (List 
 escaped_bytes_after escapes true [] = None
 escaped_bytes_after escapes false [] = Some []
 escaped_bytes_after escapes after (b ∷ rest) =
-    concatenation (bytes_added escapes after b) (escaped_bytes_after escapes (not after && b == 92) rest)
+    concatenation (unescape_byte escapes after b) (escaped_bytes_after escapes (not after && b == backslash) rest)
 
 -- The bytes of a whole token, in the same way.
 abbrev pub escaped_bytes_of : Escapes → List ℕ → Option (List EscapedByte)
@@ -69,31 +71,31 @@ text_spelt written =
 
 -- In a pattern an unescaped digit is a value.
 abbrev pub element_of : EscapedByte → PatternElement
-element_of spelt = if not spelt.escaped && is_digit spelt.byte then Value (spelt.byte - 48) else Letter spelt.byte
+element_of spelt = if not spelt.escaped && is_digit spelt.byte then Value (spelt.byte - digit_zero) else Letter spelt.byte
 
 -- An unescaped byte.
-abbrev pub is_raw : ℕ → EscapedByte → Bool
-is_raw b spelt = not spelt.escaped && spelt.byte == b
+abbrev pub is_unescaped : ℕ → EscapedByte → Bool
+is_unescaped b spelt = not spelt.escaped && spelt.byte == b
 
 -- An unescaped digit.
-abbrev pub is_raw_digit : EscapedByte → Bool
-is_raw_digit spelt = not spelt.escaped && is_digit spelt.byte
+abbrev pub is_unescaped_digit : EscapedByte → Bool
+is_unescaped_digit spelt = not spelt.escaped && is_digit spelt.byte
 
 -- The value that digits in braces write: a number from 10 to 255.
 abbrev pub braced_value : List ℕ → Option ℕ
-braced_value digits = option_and_then (λ value. if nat_le 10 value then Some value else None) (small_of digits)
+braced_value digits = option_and_then (λ value. if nat_le 10 value then Some value else None) (number_to_255 digits)
 
 -- A byte outside braces: the digits in the braces that it opens, if it does, and the elements that it adds. None of a closing one.
 abbrev pub step_outside : EscapedByte → Option (Option (List ℕ) × List PatternElement)
 step_outside spelt =
-    if is_raw 123 spelt then Some (Some [], [])
-    else (if is_raw 125 spelt then None else Some (None, element_of spelt ∷ []))
+    if is_unescaped open_brace spelt then Some (Some [], [])
+    else (if is_unescaped close_brace spelt then None else Some (None, element_of spelt ∷ []))
 
 -- A byte in braces, after these digits: one more of them, or the brace that ends the value. None where it can't stand there.
 abbrev pub step_inside : List ℕ → EscapedByte → Option (Option (List ℕ) × List PatternElement)
 step_inside digits spelt =
-    if is_raw 125 spelt then option_map (λ value. (None, Value value ∷ [])) (braced_value digits)
-    else (if is_raw_digit spelt then Some (Some (digits ++ spelt.byte ∷ []), []) else None)
+    if is_unescaped close_brace spelt then option_map (λ value. (None, Value value ∷ [])) (braced_value digits)
+    else (if is_unescaped_digit spelt then Some (Some (digits ++ spelt.byte ∷ []), []) else None)
 
 -- The next byte: in the first version braces are letters; in the second it stands outside braces, or in them.
 abbrev pub step_at : Version → Option (List ℕ) → EscapedByte → Option (Option (List ℕ) × List PatternElement)
@@ -150,7 +152,7 @@ put_byte false b parts = onto_first b parts
 abbrev pub parts_within : ℕ → List ℕ → List (List ℕ)
 parts_within commas [] = [] ∷ []
 parts_within commas (b ∷ rest) =
-    let cuts = b == 44 && nat_lt 0 commas in put_byte cuts b (parts_within (if cuts then commas - 1 else commas) rest)
+    let cuts = b == comma && nat_lt 0 commas in put_byte cuts b (parts_within (if cuts then commas - 1 else commas) rest)
 
 -- A later token is parted by its first four commas.
 abbrev pub parts_of : List ℕ → List (List ℕ)
@@ -179,8 +181,8 @@ abbrev pub place_of_token : List ℕ → ℕ
 place_of_token token = number (part 0 token)
 
 -- All of place, left, right and breakpoint, and something after the fourth comma.
-abbrev pub is_whole : List ℕ → Bool
-is_whole token = length (parts_of token) == 5 && nat_lt 0 (length (part 4 token))
+abbrev pub has_five_parts : List ℕ → Bool
+has_five_parts token = length (parts_of token) == 5 && nat_lt 0 (length (part 4 token))
 
 -- Its change, by the parts after the first one.
 abbrev pub change_of_token : List ℕ → Change

@@ -53,16 +53,16 @@ fn braces()
         ≡ Some (codes "ab", record { place = 1; value = 255; change = None } ∷ []) }
     ensures letters { pattern_of_line Second (codes "p \\{1\\}")
         ≡ Some (codes "{}", record { place = 1; value = 1; change = None } ∷ []) }
-    ensures bad { map (first_cause standard_second) (codes "p a{9}b" ∷ codes "p a{010}b" ∷ codes "p a{256}b" ∷ codes "p a{}b"
+    ensures bad_values { map (first_cause standard_second) (codes "p a{9}b" ∷ codes "p a{010}b" ∷ codes "p a{256}b" ∷ codes "p a{}b"
         ∷ codes "p a{10" ∷ codes "p a}b" ∷ codes "p {1\\0}" ∷ codes "p {10\\}" ∷ codes "p }12" ∷ [])
         ≡ Some Value ∷ Some Value ∷ Some Value ∷ Some Value ∷ Some Value ∷ Some Value ∷ Some Value ∷ Some Value
         ∷ Some Value ∷ [] }
-    ensures other { map (first_cause standard_second)
+    ensures other_causes { map (first_cause standard_second)
         (codes "p a{10}{11}b" ∷ codes "p a1{10}b" ∷ codes "p {10}" ∷ codes "e a\\{b" ∷ [])
         ≡ Some Pattern ∷ Some Pattern ∷ Some NoLetters ∷ Some Token ∷ [] }
     ensures accepted { map (first_cause standard_second) (codes "p a{10}b" ∷ codes "p \\{1\\}" ∷ codes "e {b}" ∷ [])
         ≡ None ∷ None ∷ None ∷ [] }
-    ensures first { map (first_cause standard_first) (codes "p a{10}b" ∷ codes "p \\{1" ∷ codes "p {1}" ∷ [])
+    ensures version_1 { map (first_cause standard_first) (codes "p a{10}b" ∷ codes "p \\{1" ∷ codes "p {1}" ∷ [])
         ≡ Some Pattern ∷ Some Token ∷ None ∷ [] }
-    ensures third { refusal_of Standard (codes "hyphenation 3 standard") ≡ Some (1, Header) }
+    ensures no_version_3 { refusal_of Standard (codes "hyphenation 3 standard") ≡ Some (1, Header) }
 {}

@@ -3,9 +3,10 @@
 ghost use Rattle.std.specs.Prelude.{◌≡◌, ◌==◌, ◌^◌, ◌<◌, ◌∷◌, [], IsUtf8, IfOk, IfSome, IfNone, position, length, map, option_map, nat_lt, true, if◌then◌else◌, Some, None};
 ghost use Rattle.std.specs.List.{list_all, slice_split};
 ghost use Rattle.std.specs.Str.{is_utf8};
+ghost use Rattle.hyphenation_breaks.specs.Ascii.{line_feed, space};
 ghost use Rattle.hyphenation_grammar.specs.Form.{head_line, head_of, version_by};
-ghost use Rattle.hyphenation_grammar.specs.Lines.{lines_of, tokens_after, strip_prefix, starts_with, is_digit, has_no_leading_zero, number_of, with_digit, language_of, minima_of, small_of, two_small, is_same};
-ghost use Rattle.hyphenation_grammar.specs.Private.Lines.{value_below};
+ghost use Rattle.hyphenation_grammar.specs.Lines.{lines_of, tokens_after, strip_prefix, starts_with, is_digit, has_no_leading_zero, number_of, with_digit, language_of, minima_of, number_to_255, two_minima, is_same};
+ghost use Rattle.hyphenation_grammar.specs.Private.Lines.{value_in_64_bits};
 
 use crate::form::{Form, Kind, Version};
 use hyphenation_breaks::language::Language;
@@ -23,41 +24,41 @@ pub fn next_line(text: &[u8]) -> Option<(&[u8], &[u8])>
     if text.is_empty() {
         return None;
     }
-    match feed(text) {
+    match find_line_feed(text) {
         None => Some((text, &text[text.len()..])),
         Some(at) => Some((&text[..at], &text[at + 1..])),
     }
 }
 
 /// Where the first line feed stands.
-fn feed(text: &[u8]) -> Option<usize>
-    ensures { result ≡ position (λ b. b == 10) text.now }
+fn find_line_feed(text: &[u8]) -> Option<usize>
+    ensures { result ≡ position (λ b. b == line_feed) text.now }
 {
     text.iter().position(|b| *b == b'\n')
 }
 
 /// What stands between spaces.
 pub(crate) fn between_spaces(alloc: Global, text: &[u8]) -> Result<Vec<&[u8]>, AllocError>
-    ensures { IfOk result (λ v. map (λ token. token.now) v.items ≡ slice_split (λ b. b == 32) text.now) }
+    ensures { IfOk result (λ v. map (λ token. token.now) v.items ≡ slice_split (λ b. b == space) text.now) }
 {
     text.split(|b| *b == b' ').collect(alloc)
 }
 
 /// Where the first space stands.
-fn space(text: &[u8]) -> Option<usize>
-    ensures { result ≡ position (λ b. b == 32) text.now }
+fn find_space(text: &[u8]) -> Option<usize>
+    ensures { result ≡ position (λ b. b == space) text.now }
 {
     text.iter().position(|b| *b == b' ')
 }
 
 /// The first token of a text, and what stands after the space that ends it, if there is one.
 pub fn first_token(text: &[u8]) -> (&[u8], Option<&[u8]>)
-    ensures parts { slice_split (λ b. b == 32) text.now
+    ensures parts { slice_split (λ b. b == space) text.now
         ≡ result.0.now ∷ tokens_after (option_map (λ rest. rest.now) result.1) }
     ensures utf8 { IsUtf8 text.now → IsUtf8 result.0.now × IfSome result.1 (λ rest. IsUtf8 rest.now) }
     ensures shorter { IfSome result.1 (λ rest. length rest.now < length text.now) }
 {
-    match space(text) {
+    match find_space(text) {
         None => (text, None),
         Some(at) => (&text[..at], Some(&text[at + 1..])),
     }
@@ -127,27 +128,27 @@ pub fn minima_of(alloc: Global, line: &[u8]) -> Result<Option<(u8, u8)>, AllocEr
         None => Ok(None),
         Some(rest) => {
             let parts = between_spaces(alloc, rest)?;
-            Ok(two_small(&parts))
+            Ok(two_minima(&parts))
         }
     }
 }
 
 /// Two numbers from 0 to 255, where there are exactly two parts.
-fn two_small(parts: &[&[u8]]) -> Option<(u8, u8)>
-    ensures { result ≡ two_small (map (λ part. part.now) parts.now) }
+fn two_minima(parts: &[&[u8]]) -> Option<(u8, u8)>
+    ensures { result ≡ two_minima (map (λ part. part.now) parts.now) }
 {
     if parts.len() != 2 {
         return None;
     }
-    match (small(parts[0]), small(parts[1])) {
+    match (number_to_255(parts[0]), number_to_255(parts[1])) {
         (Some(left), Some(right)) => Some((left, right)),
         _ => None,
     }
 }
 
 /// A number from 0 to 255.
-pub(crate) fn small(text: &[u8]) -> Option<u8>
-    ensures { result ≡ small_of text.now }
+pub(crate) fn number_to_255(text: &[u8]) -> Option<u8>
+    ensures { result ≡ number_to_255 text.now }
 {
     let value = number_of(text)?;
     u8::try_from(value).ok()
@@ -190,7 +191,7 @@ fn has_no_leading_zero(text: &[u8]) -> bool
 /// The number of a row of digits, if it is below 2^64.
 fn digits_value(text: &[u8]) -> Option<usize>
     requires { list_all is_digit text.now ≡ true }
-    ensures { result ≡ value_below text.now }
+    ensures { result ≡ value_in_64_bits text.now }
 {
     let mut value: usize = 0;
     for byte in text {

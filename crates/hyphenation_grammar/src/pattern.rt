@@ -1,13 +1,14 @@
 //! A pattern's token, read in one pass.
 
 ghost use Rattle.std.specs.Prelude.{◌≡◌, ◌≢◌, IfOk, None, Some, false, if◌then◌else◌, true};
+ghost use Rattle.hyphenation_breaks.specs.Ascii.{backslash, carriage_return, close_brace, open_brace};
 ghost use Rattle.hyphenation_grammar.specs.Lines.{is_digit};
 ghost use Rattle.hyphenation_grammar.specs.Parsed.{read_pattern, pattern_view};
 ghost use Rattle.hyphenation_grammar.specs.Tokens.{braced_value, pattern_escapes};
 
 use crate::form::Version;
-use crate::lines::small;
-use crate::tokens::{EscapedByte, Escapes, PatternElement, added, element_of};
+use crate::lines::number_to_255;
+use crate::tokens::{EscapedByte, Escapes, PatternElement, element_of, unescape_byte};
 use std::alloc::{AllocError, Global};
 
 /// What a pattern's token says, as far as it is read. It may be read into again and again: its lists keep their room.
@@ -30,7 +31,7 @@ pub struct PatternToken {
 impl PatternToken {
     ghost use Rattle.std.specs.Prelude.{◌≡◌, None, Some, IfOk, OnOk, fold, if◌then◌else◌, option_map};
     ghost use Rattle.hyphenation_grammar.specs.Parsed.{is_bad, pattern_view, nothing_read, with_element, with_spelt, with_step};
-    ghost use Rattle.hyphenation_grammar.specs.Tokens.{bytes_added, step_inside, step_outside, pattern_escapes};
+    ghost use Rattle.hyphenation_grammar.specs.Tokens.{unescape_byte, step_inside, step_outside, pattern_escapes};
 
     /// A token of which nothing is read, without room yet.
     pub fn new(alloc: Global) -> Self
@@ -77,14 +78,14 @@ impl PatternToken {
         ensures { IfOk result (λ stands.
             (if stands then Some (pattern_view self.new) else None)
             ≡ option_map (fold (with_spelt version) (pattern_view self.old))
-            (bytes_added (pattern_escapes version) after byte)) }
+            (unescape_byte (pattern_escapes version) after byte)) }
     {
         // Most bytes are letters outside braces.
         if !after && is_plain(byte) && self.digits.is_none() {
             self.add_element(PatternElement::Letter(byte))?;
             return Ok(true);
         }
-        match added(pattern_escapes(version), after, byte) {
+        match unescape_byte(pattern_escapes(version), after, byte) {
             None => Ok(false),
             Some(None) => Ok(true),
             Some(Some(spelt)) => {
@@ -168,8 +169,8 @@ impl PatternToken {
 /// dot, are not told.
 fn is_plain(byte: u8) -> bool
     ensures digit { result ≡ true → is_digit byte ≡ false }
-    ensures escape { result ≡ true → (byte ≢ 92) × (byte ≢ 13) }
-    ensures brace { result ≡ true → (byte ≢ 123) × (byte ≢ 125) }
+    ensures escape { result ≡ true → (byte ≢ backslash) × (byte ≢ carriage_return) }
+    ensures brace { result ≡ true → (byte ≢ open_brace) × (byte ≢ close_brace) }
 {
     b'9' < byte && byte != b'\\' && byte != b'{' && byte != b'}'
 }
@@ -178,7 +179,7 @@ fn is_plain(byte: u8) -> bool
 fn braced(digits: &[u8]) -> Option<u8>
     ensures { result ≡ braced_value digits.now }
 {
-    let value = small(digits)?;
+    let value = number_to_255(digits)?;
     if value < 10 {
         return None;
     }

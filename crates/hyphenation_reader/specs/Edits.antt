@@ -2,6 +2,7 @@
 use Rattle.std.specs.Prelude.{ℕ, ◌+◌, ◌==◌, ◌&&◌, ◌||◌, Bool, false, not, if◌then◌else◌, List, [], ◌∷◌, ◌++◌, length, map, drop, fold, codes, Option, Some, None, is_none}
 use Rattle.std.specs.List.{list_any}
 use Rattle.std.specs.FinMap as finite
+use Rattle.hyphenation_breaks.specs.Ascii.{hyphen, line_feed, plus}
 use Rattle.hyphenation_breaks.specs.Break.{Break}
 use Rattle.hyphenation_breaks.specs.Dictionary.{Contents}
 use Rattle.hyphenation_grammar.specs.Items.{word_of_line, breaks_of_line, later_tokens_of}
@@ -21,11 +22,11 @@ first_byte_is sign (b ∷ bs) = b == sign
 
 -- With `+` it lists breaks for a word.
 abbrev pub is_addition : List ℕ → Bool
-is_addition edit = first_byte_is 43 edit
+is_addition edit = first_byte_is plus edit
 
 -- With `-` it takes a word out of the exceptions.
 abbrev pub is_removal : List ℕ → Bool
-is_removal edit = first_byte_is 45 edit
+is_removal edit = first_byte_is hyphen edit
 
 -- An exception as the line of a dictionary text.
 abbrev pub as_line : List ℕ → List ℕ
@@ -38,8 +39,8 @@ edit_line edit = as_line (drop 1 edit)
 -- ---- which edits are good
 
 -- It holds a line feed.
-abbrev pub has_feed : List ℕ → Bool
-has_feed edit = list_any (λ b. b == 10) edit
+abbrev pub has_line_feed : List ℕ → Bool
+has_line_feed edit = list_any (λ b. b == line_feed) edit
 
 -- The form of that kind and that version.
 abbrev pub form_in : Kind → Version → Form
@@ -67,7 +68,7 @@ is_good_removal kind edit = is_removal edit && is_word_alone kind (edit_line edi
 
 -- It is one of the two, and holds no line feed.
 abbrev pub is_good_edit : Kind → List ℕ → Bool
-is_good_edit kind edit = not (has_feed edit) && (is_good_addition kind edit || is_good_removal kind edit)
+is_good_edit kind edit = not (has_line_feed edit) && (is_good_addition kind edit || is_good_removal kind edit)
 
 -- The number, from one on, of the first that is not.
 abbrev pub first_refused_from : Kind → ℕ → List (List ℕ) → Option ℕ

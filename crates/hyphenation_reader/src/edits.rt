@@ -13,9 +13,9 @@
 ghost use Rattle.std.specs.Prelude.{◌≡◌, IfOk, IsTrue, IsUtf8, OnErr, not};
 ghost use Rattle.hyphenation_reader.specs.Laws.{FourTests, LastDecides, VersionsAgree};
 ghost use Rattle.hyphenation_reader.specs.Private.Edits.{ReadsException};
-ghost use Rattle.hyphenation_reader.specs.Edits.{as_line, after_edit, has_feed, is_good_edit, is_sound_line, is_word_alone, with_exception, without_exception};
+ghost use Rattle.hyphenation_reader.specs.Edits.{as_line, after_edit, has_line_feed, is_good_edit, is_sound_line, is_word_alone, with_exception, without_exception};
 
-use crate::items::{Fault, exception_of};
+use crate::items::exception_of;
 use crate::laws::spelt_is_sound;
 use hyphenation_breaks::entry::{Listing, Payload};
 use hyphenation_dictionary::dictionary::Dictionary;
@@ -33,13 +33,13 @@ pub fn apply_edit<C: Payload, B: Listing>(
     edit: &str,
 ) -> Result<bool, AllocError>
     ensures good { IfOk result (λ good. good ≡ is_good_edit kind edit.now) }
-    ensures done { IfOk result (λ good. IsTrue good
+    ensures applied { IfOk result (λ good. IsTrue good
         → dictionary.new ≡ after_edit B.listing_of dictionary.old edit.now) }
-    ensures refused { IfOk result (λ good. IsTrue (not good) → dictionary.new ≡ dictionary.old) }
-    ensures err { OnErr result (dictionary.new ≡ dictionary.old) }
+    ensures unchanged_if_refused { IfOk result (λ good. IsTrue (not good) → dictionary.new ≡ dictionary.old) }
+    ensures unchanged_on_error { OnErr result (dictionary.new ≡ dictionary.old) }
 {
     let edit = edit.as_bytes();
-    if has_feed(edit) {
+    if has_line_feed(edit) {
         return Ok(false);
     }
     match edit.split_first() {
@@ -50,8 +50,8 @@ pub fn apply_edit<C: Payload, B: Listing>(
 }
 
 /// Whether an edit holds a line feed.
-fn has_feed(edit: &[u8]) -> bool
-    ensures { result ≡ has_feed edit.now }
+fn has_line_feed(edit: &[u8]) -> bool
+    ensures { result ≡ has_line_feed edit.now }
 {
     edit.iter().any(|byte| *byte == b'\n')
 }
@@ -65,10 +65,10 @@ fn add<C: Payload, B: Listing>(
 ) -> Result<bool, AllocError>
     requires { IsUtf8 exception.now }
     ensures good { IfOk result (λ good. good ≡ is_sound_line kind (as_line exception.now)) }
-    ensures done { IfOk result (λ good.
+    ensures applied { IfOk result (λ good.
         IsTrue good → dictionary.new ≡ with_exception B.listing_of dictionary.old (as_line exception.now)) }
-    ensures refused { IfOk result (λ good. IsTrue (not good) → dictionary.new ≡ dictionary.old) }
-    ensures err { OnErr result (dictionary.new ≡ dictionary.old) }
+    ensures unchanged_if_refused { IfOk result (λ good. IsTrue (not good) → dictionary.new ≡ dictionary.old) }
+    ensures unchanged_on_error { OnErr result (dictionary.new ≡ dictionary.old) }
 {
     match read_exception(alloc, kind, exception)? {
         None => Ok(false),
@@ -89,10 +89,10 @@ fn remove<C: Payload, B: Listing>(
 ) -> Result<bool, AllocError>
     requires { IsUtf8 exception.now }
     ensures good { IfOk result (λ good. good ≡ is_word_alone kind (as_line exception.now)) }
-    ensures done { IfOk result (λ good.
+    ensures applied { IfOk result (λ good.
         IsTrue good → dictionary.new ≡ without_exception dictionary.old (as_line exception.now)) }
-    ensures refused { IfOk result (λ good. IsTrue (not good) → dictionary.new ≡ dictionary.old) }
-    ensures err { OnErr result (dictionary.new ≡ dictionary.old) }
+    ensures unchanged_if_refused { IfOk result (λ good. IsTrue (not good) → dictionary.new ≡ dictionary.old) }
+    ensures unchanged_on_error { OnErr result (dictionary.new ≡ dictionary.old) }
 {
     match read_exception::<B>(alloc, kind, exception)? {
         None => Ok(false),
@@ -120,10 +120,9 @@ fn read_exception<B: Listing>(
         kind,
         version: Version::First,
     };
-    match exception_of(alloc, form, exception) {
-        Ok((word, listed)) => Ok(Some((word, listed))),
-        Err(Fault::Fails(_)) => Ok(None),
-        Err(Fault::Memory) => Err(AllocError),
+    match exception_of(alloc, form, exception)? {
+        Ok(found) => Ok(Some(found)),
+        Err(_) => Ok(None),
     }
 }
 

@@ -4,14 +4,15 @@ ghost use Rattle.std.specs.Prelude.{◌≡◌, ◌==◌, IfOk, IfErr, IfSome, Is
 ghost use Rattle.std.specs.List.{list_all, slice_split};
 ghost use Rattle.std.specs.Str.{is_utf8};
 ghost use Rattle.std.specs.String.{string_bytes};
+ghost use Rattle.hyphenation_breaks.specs.Ascii.{space};
 ghost use Rattle.hyphenation_breaks.specs.Break.{ascend_on, keeps_within};
 ghost use Rattle.hyphenation_grammar.specs.Judging.{is_extended, is_known, own_cause};
 ghost use Rattle.hyphenation_reader.specs.Private.Judging.{early_cause};
 ghost use Rattle.hyphenation_grammar.specs.Lines.{strip_prefix, tokens_after};
-ghost use Rattle.hyphenation_reader.specs.Private.Matched.{ascend, cause_before_match, first_at, have_values, suits_form_in_pattern, left_at, from_next};
+ghost use Rattle.hyphenation_reader.specs.Private.Matched.{ascend, cause_before_match, head_change_at, have_values, suits_form_in_pattern, tail_after, pending};
 ghost use Rattle.hyphenation_grammar.specs.Parsed.{pattern_view};
 ghost use Rattle.hyphenation_reader.specs.Private.Parsed.{exception_parts, no_later, pattern_parts, read_later, later_view};
-ghost use Rattle.hyphenation_reader.specs.Private.LineAnswers.{Answers, IsFault, AnswersException, IsItemOf, breaks_listed, entries_of, exception_cause, suits_word, suits_form, places_cause};
+ghost use Rattle.hyphenation_reader.specs.Private.LineAnswers.{ReturnsItem, ReturnsException, IsItemOf, breaks_listed, entries_of, exception_cause, suits_word, suits_form, places_cause};
 
 use hyphenation_breaks::entry::{Entry, Listing, Payload};
 use hyphenation_breaks::extended::Subregion;
@@ -20,7 +21,7 @@ use hyphenation_grammar::form::{Form, Kind, Version};
 use hyphenation_grammar::lines::{first_token, is_utf8, starts_with, strip_prefix};
 use hyphenation_grammar::pattern::{PatternToken, read_pattern};
 use hyphenation_grammar::tokens::{LaterToken, is_boundary, later_token, string_of};
-use hyphenation_trie::in_32_bits;
+use hyphenation_trie::to_u32;
 use std::alloc::{AllocError, Global};
 use std::mem;
 use std::vec::IntoIter;
@@ -44,7 +45,7 @@ pub(crate) enum Item<C: Drop, B: Drop> {
 
 /// Lists that one line filled and a later one may fill again, so that not each line asks for memory. What stands
 /// in them means nothing.
-pub(crate) struct Scratch<C: Drop> {
+pub(crate) struct LineBuffers<C: Drop> {
     /// What a pattern's token says.
     pub pattern: PatternToken,
     /// The entries of a key.
@@ -53,41 +54,21 @@ pub(crate) struct Scratch<C: Drop> {
 
 // It does what the derived one would. As a call it is one step in the proof of a function that holds these lists; the
 // derived one is a step for each list, at each way out.
-impl<C: Drop> Drop for Scratch<C> {
+impl<C: Drop> Drop for LineBuffers<C> {
     fn drop(self) {
-        let Scratch { pattern, entries } = self;
+        let LineBuffers { pattern, entries } = self;
         drop(pattern);
         drop(entries);
     }
 }
 
-impl<C: Drop> Scratch<C> {
+impl<C: Drop> LineBuffers<C> {
     /// Lists without room yet.
     pub(crate) fn new(alloc: Global) -> Self {
-        Scratch {
+        LineBuffers {
             pattern: PatternToken::new(alloc),
             entries: Vec::new(alloc),
         }
-    }
-}
-
-/// Why a line is not read.
-#[derive(Drop)]
-pub(crate) enum Fault {
-    /// Memory was refused.
-    Memory,
-    /// The line fails this test, and none before it.
-    Fails(Cause),
-}
-
-impl From<AllocError> for Fault {
-    ghost use Rattle.std.specs.Prelude.{◌≡◌};
-    ghost use Rattle.hyphenation_reader.specs.declared.items.Fault.TheVariants.{Memory};
-
-    ghost from_gives = { λ _ e. e ≡ Memory };
-
-    fn from(_error: AllocError) -> Fault {
-        Fault::Memory
     }
 }
 
@@ -98,21 +79,22 @@ pub(crate) fn item_of<C: Payload, B: Listing>(
     form: Form,
     line: &[u8],
     known: bool,
-    scratch: &mut Scratch<C>,
-) -> Result<Item<C, B>, Fault>
+    buffers: &mut LineBuffers<C>,
+) -> Result<Result<Item<C, B>, Cause>, AllocError>
     requires utf8 { known ≡ true → IsUtf8 line.now }
-    ensures passes { OnOk result (own_cause form 4 line.now ≡ None) }
-    ensures says { IfOk result (λ item. IsItemOf form.version C.payload_of B.listing_of item line.now) }
-    ensures refused { IfErr result (λ fault. IsFault fault (own_cause form 4 line.now)) }
+    ensures passes { IfOk result (λ found. OnOk found (own_cause form 4 line.now ≡ None)) }
+    ensures says { IfOk result (λ found.
+        IfOk found (λ item. IsItemOf form.version C.payload_of B.listing_of item line.now)) }
+    ensures refused { IfOk result (λ found. IfErr found (λ cause. own_cause form 4 line.now ≡ Some cause)) }
 {
     if let Some(cause) = early_cause(line, known) {
-        return Err(Fault::Fails(cause));
+        return Ok(Err(cause));
     }
     match strip_prefix(b"p ", line) {
-        Some(text) => pattern_item(alloc, form, text, scratch),
+        Some(text) => pattern_item(alloc, form, text, buffers),
         None => match strip_prefix(b"e ", line) {
             Some(text) => exception_item(alloc, form, text),
-            None => Ok(Item::Nothing),
+            None => Ok(Ok(Item::Nothing)),
         },
     }
 }
@@ -155,25 +137,25 @@ fn pattern_item<C: Payload, B: Listing>(
     alloc: Global,
     form: Form,
     text: &[u8],
-    scratch: &mut Scratch<C>,
-) -> Result<Item<C, B>, Fault>
+    buffers: &mut LineBuffers<C>,
+) -> Result<Result<Item<C, B>, Cause>, AllocError>
     requires { IsUtf8 text.now }
-    ensures { (line : List ℕ) → Some text.now ≡ strip_prefix (codes "p ") line
-        → Answers form C.payload_of B.listing_of line result }
+    ensures { IfOk result (λ found. (line : List ℕ) → Some text.now ≡ strip_prefix (codes "p ") line
+        → ReturnsItem form C.payload_of B.listing_of line found) }
 {
-    let Some(later) = pattern_parts(alloc, form.version, text, &mut scratch.pattern)? else {
-        return Err(Fault::Fails(Cause::Token));
+    let Some(later) = pattern_parts(alloc, form.version, text, &mut buffers.pattern)? else {
+        return Ok(Err(Cause::Token));
     };
-    if let Some(cause) = pattern_cause(form, &scratch.pattern, &later) {
-        return Err(Fault::Fails(cause));
+    if let Some(cause) = pattern_cause(form, &buffers.pattern, &later) {
+        return Ok(Err(cause));
     }
-    if !matched(&scratch.pattern.values, later.listed, &mut scratch.entries)? {
-        return Err(Fault::Fails(Cause::Change));
+    if !entries_with_changes(&buffers.pattern.values, later.listed, &mut buffers.entries)? {
+        return Ok(Err(Cause::Change));
     }
-    Ok(Item::Pattern {
-        key: mem::replace(&mut scratch.pattern.key, Vec::new(alloc)),
-        entries: mem::replace(&mut scratch.entries, Vec::new(alloc)),
-    })
+    Ok(Ok(Item::Pattern {
+        key: mem::replace(&mut buffers.pattern.key, Vec::new(alloc)),
+        entries: mem::replace(&mut buffers.entries, Vec::new(alloc)),
+    }))
 }
 
 // Inlined; so are the two tests of each pattern.
@@ -189,7 +171,7 @@ fn pattern_parts(
     requires { IsUtf8 text.now }
     ensures { IfOk result (λ found.
         option_map (λ later. (pattern_view pattern.new, later_view later)) found
-        ≡ pattern_parts version (slice_split (λ b. b == 32) text.now)) }
+        ≡ pattern_parts version (slice_split (λ b. b == space) text.now)) }
 {
     let (first, later) = first_token(text);
     if first.is_empty() {
@@ -289,14 +271,14 @@ fn keeps_within(text: &[u8], place: usize, change: &Subregion) -> bool
 /// Makes the entries of values, each with the change that is listed at its place, in place of what stood in their list.
 /// Whether each is listed at the place of a value; where one is not, what is made means nothing. The caller owes that the
 /// places ascend in both: so one pass is enough.
-fn matched<C: Payload>(
+fn entries_with_changes<C: Payload>(
     values: &[(usize, u8)],
     listed: Vec<(usize, Option<Subregion>)>,
     entries: &mut Vec<Entry<C>>,
 ) -> Result<bool, AllocError>
     requires values { IsTrue (ascend 0 values.now) }
     requires listed { IsTrue (ascend 0 listed.items) }
-    ensures known { IfOk result (λ all. all ≡ have_values values.now listed.items) }
+    ensures each_has_value { IfOk result (λ all. all ≡ have_values values.now listed.items) }
     ensures entries { IfOk result (λ all.
         IsTrue all → entries.new.items ≡ entries_of C.payload_of values.now listed.items) }
 {
@@ -304,8 +286,8 @@ fn matched<C: Payload>(
     let mut rest = listed.into_iter();
     let mut next = rest.next();
     for value in values {
-        let place = in_32_bits(value.0)?;
-        let change = taken_at(value.0, &mut next, &mut rest);
+        let place = to_u32(value.0)?;
+        let change = take_change_at(value.0, &mut next, &mut rest);
         entries.push(Entry {
             place,
             value: value.1,
@@ -316,13 +298,13 @@ fn matched<C: Payload>(
 }
 
 /// Takes the change that is listed next, if it is listed at the place, and goes on to the one after it.
-fn taken_at(
+fn take_change_at(
     place: usize,
     next: &mut Option<(usize, Option<Subregion>)>,
     rest: &mut IntoIter<(usize, Option<Subregion>)>,
 ) -> Option<Subregion>
-    ensures taken { result ≡ first_at place (from_next next.old rest.old.rest.items) }
-    ensures left { from_next next.new rest.new.rest.items ≡ left_at place (from_next next.old rest.old.rest.items) }
+    ensures change { result ≡ head_change_at place (pending next.old rest.old.rest.items) }
+    ensures tail { pending next.new rest.new.rest.items ≡ tail_after place (pending next.old rest.old.rest.items) }
 {
     match next.take() {
         Some((at, change)) if at == place => {
@@ -341,13 +323,15 @@ fn exception_item<C: Payload, B: Listing>(
     alloc: Global,
     form: Form,
     text: &[u8],
-) -> Result<Item<C, B>, Fault>
+) -> Result<Result<Item<C, B>, Cause>, AllocError>
     requires { IsUtf8 text.now }
-    ensures { (line : List ℕ) → Some text.now ≡ strip_prefix (codes "e ") line
-        → Answers form C.payload_of B.listing_of line result }
+    ensures { IfOk result (λ found. (line : List ℕ) → Some text.now ≡ strip_prefix (codes "e ") line
+        → ReturnsItem form C.payload_of B.listing_of line found) }
 {
-    let (word, listed) = exception_of(alloc, form, text)?;
-    Ok(Item::Exception { word, listed })
+    match exception_of(alloc, form, text)? {
+        Ok((word, listed)) => Ok(Ok(Item::Exception { word, listed })),
+        Err(cause) => Ok(Err(cause)),
+    }
 }
 
 /// The word of an `e` line, of which the text stands after `e `, and its listed breaks.
@@ -355,19 +339,19 @@ pub(crate) fn exception_of<B: Listing>(
     alloc: Global,
     form: Form,
     text: &[u8],
-) -> Result<(String, Vec<B>), Fault>
+) -> Result<Result<(String, Vec<B>), Cause>, AllocError>
     requires { IsUtf8 text.now }
-    ensures { (line : List ℕ) → Some text.now ≡ strip_prefix (codes "e ") line
-        → AnswersException form B.listing_of line result }
+    ensures { IfOk result (λ found. (line : List ℕ) → Some text.now ≡ strip_prefix (codes "e ") line
+        → ReturnsException form B.listing_of line found) }
 {
     let Some((word, later)) = exception_parts(alloc, text)? else {
-        return Err(Fault::Fails(Cause::Token));
+        return Ok(Err(Cause::Token));
     };
     if let Some(cause) = exception_cause(form, word.as_bytes(), &later) {
-        return Err(Fault::Fails(cause));
+        return Ok(Err(cause));
     }
     let listed = listed_of(alloc, later.listed)?;
-    Ok((word, listed))
+    Ok(Ok((word, listed)))
 }
 
 /// The word of an `e` line and its later tokens, where each can be read.
@@ -376,7 +360,7 @@ fn exception_parts(alloc: Global, text: &[u8]) -> Result<Option<(String, Later)>
     requires { IsUtf8 text.now }
     ensures { IfOk result (λ found.
         option_map (λ x. (string_bytes x.0, later_view x.1)) found
-        ≡ exception_parts (slice_split (λ b. b == 32) text.now)) }
+        ≡ exception_parts (slice_split (λ b. b == space) text.now)) }
 {
     let (first, later) = first_token(text);
     if first.is_empty() {
@@ -398,18 +382,18 @@ fn exception_cause(form: Form, word: &[u8], later: &Later) -> Option<Cause>
     if let Some(cause) = places_cause(word, later) {
         return Some(cause);
     }
-    if !later.are_sound || !all_fit_word(form, word, &later.listed) {
+    if !later.are_sound || !suit_word(form, word, &later.listed) {
         return Some(Cause::Change);
     }
     None
 }
 
 /// Whether each may be listed for a word.
-fn all_fit_word(form: Form, word: &[u8], listed: &[(usize, Option<Subregion>)]) -> bool
+fn suit_word(form: Form, word: &[u8], listed: &[(usize, Option<Subregion>)]) -> bool
     ensures { result ≡ list_all (suits_word form word.now) listed.now }
 {
     for b in listed {
-        if !fits_word(form, word, b) {
+        if !suits_word(form, word, b) {
             return false;
         }
     }
@@ -417,7 +401,7 @@ fn all_fit_word(form: Form, word: &[u8], listed: &[(usize, Option<Subregion>)]) 
 }
 
 /// Whether the change of a break, where there is one, may be listed for a word.
-fn fits_word(form: Form, word: &[u8], b: &(usize, Option<Subregion>)) -> bool
+fn suits_word(form: Form, word: &[u8], b: &(usize, Option<Subregion>)) -> bool
     ensures { result ≡ suits_word form word.now b.now }
 {
     let place = b.0;

@@ -2,6 +2,7 @@
 use Rattle.std.specs.Prelude.{ℕ, ◌+◌, ◌==◌, nat_le, Bool, if◌then◌else◌, List, [], ◌∷◌, ◌++◌, map, codes, Option, Some, None, decimal, flat_map}
 use Rattle.std.specs.List.{list_all}
 use Rattle.std.specs.FinMap as finite
+use Rattle.hyphenation_breaks.specs.Ascii.{backslash, carriage_return, close_brace, comma, digit_zero, line_feed, open_brace, space}
 use Rattle.hyphenation_breaks.specs.Break.{Break, Change, break_at, plain_break}
 use Rattle.hyphenation_breaks.specs.Dictionary.{Contents}
 use Rattle.hyphenation_grammar.specs.Form.{head_line}
@@ -20,11 +21,11 @@ use Rattle.hyphenation_grammar.specs.declared.tokens.PatternElement.TheVariants.
 -- A byte of a text as it is spelt: escaped only where it must be.
 abbrev pub byte_spelling : Escapes → ℕ → List ℕ
 byte_spelling escapes b =
-    if b == 92 then codes "\\\\"
-    else (if b == 32 then codes "\\s"
-    else (if b == 10 then codes "\\n"
-    else (if b == 13 then codes "\\r"
-    else (if escaped_also escapes b then 92 ∷ b ∷ [] else b ∷ []))))
+    if b == backslash then codes "\\\\"
+    else (if b == space then codes "\\s"
+    else (if b == line_feed then codes "\\n"
+    else (if b == carriage_return then codes "\\r"
+    else (if escaped_also escapes b then backslash ∷ b ∷ [] else b ∷ []))))
 
 -- A word or a substitution: the empty text is `\e`.
 abbrev pub text_token : List ℕ → List ℕ
@@ -44,7 +45,7 @@ elements_for at (b ∷ key) (e ∷ es) =
 -- A value up to 9 is a digit; a greater one stands in braces.
 abbrev pub element_spelling : Version → PatternElement → List ℕ
 element_spelling version (Letter b) = byte_spelling (pattern_escapes version) b
-element_spelling version (Value v) = if nat_le v 9 then (48 + v) ∷ [] else 123 ∷ (decimal v ++ 125 ∷ [])
+element_spelling version (Value v) = if nat_le v 9 then (digit_zero + v) ∷ [] else open_brace ∷ (decimal v ++ close_brace ∷ [])
 
 -- The token of a key with its values.
 abbrev pub pattern_token : Version → List ℕ → List (Entry (Option Change)) → List ℕ
@@ -52,7 +53,7 @@ pattern_token version key entries = flat_map (element_spelling version) (element
 
 -- A number and a comma before the rest of a token.
 abbrev pub before_comma : ℕ → List ℕ → List ℕ
-before_comma n rest = decimal n ++ 44 ∷ rest
+before_comma n rest = decimal n ++ comma ∷ rest
 
 -- A later token: a place, or a change at a place.
 abbrev pub break_token : ℕ → Option Change → List ℕ
@@ -63,7 +64,7 @@ break_token place (Some c) =
 
 -- Later tokens, each after a space.
 abbrev pub later_tokens : List Break → List ℕ
-later_tokens breaks = flat_map (λ b. 32 ∷ break_token b.place b.change) breaks
+later_tokens breaks = flat_map (λ b. space ∷ break_token b.place b.change) breaks
 
 -- A break with a change before others; nothing is added of a place without one.
 abbrev pub onto_changes : ℕ → Option Change → List Break → List Break
@@ -90,16 +91,16 @@ language_line language = codes "language " ++ language
 
 -- Line 3.
 abbrev pub minima_line : ℕ → ℕ → List ℕ
-minima_line left right = codes "minima " ++ (decimal left ++ 32 ∷ decimal right)
+minima_line left right = codes "minima " ++ (decimal left ++ space ∷ decimal right)
 
 -- An entry that a dictionary of one kind holds, as a text says it.
-abbrev pub entry_as_said : {C : Type 0} → (C → Option Change) → Entry C → Entry (Option Change)
-entry_as_said change_of entry = record { place = entry.place; value = entry.value; change = change_of entry.change }
+abbrev pub entry_as_spelt : {C : Type 0} → (C → Option Change) → Entry C → Entry (Option Change)
+entry_as_spelt change_of entry = record { place = entry.place; value = entry.value; change = change_of entry.change }
 
 -- The lines of all keys, ascending by their bytes, as the map holds them.
 abbrev pub pattern_lines : {C B : Type 0} → Version → (C → Option Change) → Contents C B → List (List ℕ)
 pattern_lines version change_of contents =
-    map (λ x. pattern_line version x.0 (map (entry_as_said change_of) x.1)) (finite.entries contents.patterns)
+    map (λ x. pattern_line version x.0 (map (entry_as_spelt change_of) x.1)) (finite.entries contents.patterns)
 
 -- The lines of all words, in the same way.
 abbrev pub exception_lines : {C B : Type 0} → (B → Break) → Contents C B → List (List ℕ)
@@ -122,7 +123,7 @@ version_for contents = if list_all (λ x. are_digits x.1) (finite.entries conten
 
 -- Each line is ended by a line feed.
 abbrev pub with_line_feeds : List (List ℕ) → List ℕ
-with_line_feeds lines = flat_map (λ line. line ++ 10 ∷ []) lines
+with_line_feeds lines = flat_map (λ line. line ++ line_feed ∷ []) lines
 
 -- The canonical text of a dictionary of that kind, which holds a change as change_of says, and a listed break as break_of says.
 abbrev pub canonical_text_of : {C B : Type 0} → Kind → (C → Option Change) → (B → Break) → Contents C B → List ℕ

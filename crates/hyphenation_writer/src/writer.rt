@@ -3,7 +3,8 @@
 ghost use Rattle.std.specs.Prelude.{◌≡◌, ◌++◌, ◌∷◌, [], None, Some, OnOk, IfOk, IfSome, IfNone, decimal, flat_map, map, nat_le, option_copied};
 ghost use Rattle.std.specs.List.{list_all};
 ghost use Rattle.std.specs.FinMap as finite;
-ghost use Rattle.hyphenation_writer.specs.Canonical.{are_digits, before_comma, break_token, byte_spelling, canonical_text_of, changes_of, with_line_feeds, entry_as_said, exception_line, language_line, later_tokens, element_spelling, minima_line, pattern_line, pattern_token, text_token, standard_text, extended_text};
+ghost use Rattle.hyphenation_breaks.specs.Ascii.{backslash, line_feed};
+ghost use Rattle.hyphenation_writer.specs.Canonical.{are_digits, before_comma, break_token, byte_spelling, canonical_text_of, changes_of, with_line_feeds, entry_as_spelt, exception_line, language_line, later_tokens, element_spelling, minima_line, pattern_line, pattern_token, text_token, standard_text, extended_text};
 ghost use Rattle.hyphenation_grammar.specs.Form.{head_line};
 ghost use Rattle.hyphenation_grammar.specs.declared.form.Kind.TheVariants.{Standard as OfStandard, Extended as OfExtended};
 ghost use Rattle.hyphenation_grammar.specs.Judging.{refusal_of};
@@ -31,8 +32,8 @@ use std::alloc::{AllocError, Global};
 
 /// The byte that stands for this one after a backslash, where this one must be escaped.
 fn escape_of(escapes: Escapes, byte: u8) -> Option<u8>
-    ensures some { IfSome result (λ sign. byte_spelling escapes byte ≡ 92 ∷ sign ∷ []) }
-    ensures none { IfNone result (byte_spelling escapes byte ≡ byte ∷ []) }
+    ensures escaped { IfSome result (λ letter. byte_spelling escapes byte ≡ backslash ∷ letter ∷ []) }
+    ensures as_itself { IfNone result (byte_spelling escapes byte ≡ byte ∷ []) }
 {
     match byte {
         b'\\' => Some(b'\\'),
@@ -49,7 +50,7 @@ fn push_byte(text: &mut Vec<u8>, escapes: Escapes, byte: u8) -> Result<(), Alloc
     ensures { OnOk result (text.new.items ≡ text.old.items ++ byte_spelling escapes byte) }
 {
     match escape_of(escapes, byte) {
-        Some(sign) => text.extend_from_slice(&[b'\\', sign]),
+        Some(letter) => text.extend_from_slice(&[b'\\', letter]),
         None => text.extend_from_slice(&[byte]),
     }
 }
@@ -180,7 +181,7 @@ fn push_key<C: Payload>(
     entries: &[Entry<C>],
 ) -> Result<(), AllocError>
     ensures { OnOk result (text.new.items ≡ text.old.items ++ pattern_token version key.now
-        (map (entry_as_said C.change_of) entries.now)) }
+        (map (entry_as_spelt C.change_of) entries.now)) }
 {
     let escapes = pattern_escapes(version);
     let mut rest = entries;
@@ -197,7 +198,7 @@ fn push_key<C: Payload>(
 /// The changes of entries at their places, each after a space.
 fn push_changes<C: Payload>(text: &mut Vec<u8>, entries: &[Entry<C>]) -> Result<(), AllocError>
     ensures { OnOk result (text.new.items ≡ text.old.items ++ later_tokens
-        (changes_of (map (entry_as_said C.change_of) entries.now))) }
+        (changes_of (map (entry_as_spelt C.change_of) entries.now))) }
 {
     for entry in entries {
         if let Some(change) = entry.change.as_change() {
@@ -216,7 +217,7 @@ fn push_pattern<C: Payload>(
     entries: &[Entry<C>],
 ) -> Result<(), AllocError>
     ensures { OnOk result (text.new.items ≡ text.old.items ++ pattern_line version key.now
-        (map (entry_as_said C.change_of) entries.now)) }
+        (map (entry_as_spelt C.change_of) entries.now)) }
 {
     text.extend_from_slice(b"p ")?;
     push_key(text, version, key, entries)?;
@@ -256,7 +257,7 @@ fn push_exceptions<B: Listing>(
 
 /// Line 1.
 fn push_head(text: &mut Vec<u8>, form: Form) -> Result<(), AllocError>
-    ensures { OnOk result (text.new.items ≡ text.old.items ++ (head_line form ++ 10 ∷ [])) }
+    ensures { OnOk result (text.new.items ≡ text.old.items ++ (head_line form ++ line_feed ∷ [])) }
 {
     text.extend_from_slice(head_of(form.kind, form.version))?;
     text.push(b'\n')?;
@@ -265,7 +266,7 @@ fn push_head(text: &mut Vec<u8>, form: Form) -> Result<(), AllocError>
 
 /// Line 2.
 fn push_language(text: &mut Vec<u8>, language: Language) -> Result<(), AllocError>
-    ensures { OnOk result (text.new.items ≡ text.old.items ++ (language_line language ++ 10 ∷ [])) }
+    ensures { OnOk result (text.new.items ≡ text.old.items ++ (language_line language ++ line_feed ∷ [])) }
 {
     text.extend_from_slice(b"language ")?;
     text.extend_from_slice(language.code().as_bytes())?;
@@ -275,7 +276,7 @@ fn push_language(text: &mut Vec<u8>, language: Language) -> Result<(), AllocErro
 
 /// Line 3.
 fn push_minima(text: &mut Vec<u8>, left: usize, right: usize) -> Result<(), AllocError>
-    ensures { OnOk result (text.new.items ≡ text.old.items ++ (minima_line left right ++ 10 ∷ [])) }
+    ensures { OnOk result (text.new.items ≡ text.old.items ++ (minima_line left right ++ line_feed ∷ [])) }
 {
     text.extend_from_slice(b"minima ")?;
     push_number(text, left)?;
@@ -304,22 +305,22 @@ fn version_for<C>(keys: &[(&[u8], &[Entry<C>])]) -> Version
     Version::First
 }
 
-/// Keys that are held, as they are lent.
-fn lent_keys<'a, X>(
+/// Keys that are held, as they are borrowed.
+fn borrowed_keys<'a, X>(
     alloc: Global,
     keys: &'a [(Vec<u8>, &'a [X])],
 ) -> Result<Vec<(&'a [u8], &'a [X])>, AllocError>
-    ensures { IfOk result (λ lent. pair_views lent.items ≡ key_views keys.now) }
+    ensures { IfOk result (λ borrowed. pair_views borrowed.items ≡ key_views keys.now) }
 {
-    let mut lent = Vec::with_capacity(alloc, keys.len())?;
+    let mut borrowed = Vec::with_capacity(alloc, keys.len())?;
     for (key, held) in keys {
-        lent.push((key.as_slice(), *held))?;
+        borrowed.push((key.as_slice(), *held))?;
     }
-    Ok(lent)
+    Ok(borrowed)
 }
 
 /// The three head lines, and after them the lines of keys and of words, in the order that they have here.
-fn whole_text<C: Payload, B: Listing>(
+fn assemble_text<C: Payload, B: Listing>(
     alloc: Global,
     form: Form,
     language: Language,
@@ -355,13 +356,13 @@ pub fn write_text<C: Payload, B: Listing>(
     ensures { IfOk result (λ text. text.items ≡ canonical_text_of kind C.change_of B.meaning dictionary.now) }
 {
     let keys = parts::keys(dictionary, alloc)?;
-    let lent = lent_keys(alloc, &keys)?;
-    let keys = in_order(alloc, &lent)?;
+    let borrowed = borrowed_keys(alloc, &keys)?;
+    let keys = in_order(alloc, &borrowed)?;
     let words = parts::words(dictionary, alloc)?;
     let words = in_order(alloc, &words)?;
     let version = version_for(&keys);
     let form = Form { kind, version };
-    whole_text(
+    assemble_text(
         alloc,
         form,
         dictionary.language(),
@@ -375,7 +376,7 @@ pub fn write_text<C: Payload, B: Listing>(
 pub fn write_standard(alloc: Global, dictionary: &Standard) -> Result<Vec<u8>, AllocError>
     ensures text { IfOk result (λ text. text.items ≡ standard_text dictionary.now) }
     ensures accepted { IfOk result (λ text. refusal_of OfStandard text.items ≡ None) }
-    ensures given { IfOk result (λ text. dictionary.now ≡ standard_contents text.items) }
+    ensures read_again { IfOk result (λ text. dictionary.now ≡ standard_contents text.items) }
 {
     // The law of all texts that are written.
     written_is_read_again::<(), usize>();
@@ -388,7 +389,7 @@ pub fn write_standard(alloc: Global, dictionary: &Standard) -> Result<Vec<u8>, A
 pub fn write_extended(alloc: Global, dictionary: &Extended) -> Result<Vec<u8>, AllocError>
     ensures text { IfOk result (λ text. text.items ≡ extended_text dictionary.now) }
     ensures accepted { IfOk result (λ text. refusal_of OfExtended text.items ≡ None) }
-    ensures given { IfOk result (λ text. dictionary.now ≡ extended_contents text.items) }
+    ensures read_again { IfOk result (λ text. dictionary.now ≡ extended_contents text.items) }
 {
     // The law of all texts that are written.
     written_is_read_again::<Option<Subregion>, (usize, Option<Subregion>)>();

@@ -10,6 +10,6 @@ pub returns-clause-accepted : goal.returns-clause-accepted
 returns-clause-accepted c =
     IfOk-weaker c.write_text.result _ _ (λ text is. rw is (c.written_is_read_again.ensures.accepted Extended change_as_payload break_as_listing (λ change. change) (λ b. break_at b.0 b.1) c.args.dictionary.now extended_holds c.invariant.ensures)) c.write_text.ensures
 
-pub returns-clause-given : goal.returns-clause-given
-returns-clause-given c =
+pub returns-clause-read_again : goal.returns-clause-read_again
+returns-clause-read_again c =
     IfOk-weaker c.write_text.result _ _ (λ text is. rw is (sym (c.written_is_read_again.ensures.equal Extended change_as_payload break_as_listing (λ change. change) (λ b. break_at b.0 b.1) c.args.dictionary.now extended_holds c.invariant.ensures))) c.write_text.ensures

@@ -10,6 +10,6 @@ pub returns-clause-accepted : goal.returns-clause-accepted
 returns-clause-accepted c =
     IfOk-weaker c.write_text.result _ _ (λ text is. rw is (c.written_is_read_again.ensures.accepted Standard no_payload place_as_listing (λ _. None) plain_break c.args.dictionary.now standard_holds c.invariant.ensures)) c.write_text.ensures
 
-pub returns-clause-given : goal.returns-clause-given
-returns-clause-given c =
+pub returns-clause-read_again : goal.returns-clause-read_again
+returns-clause-read_again c =
     IfOk-weaker c.write_text.result _ _ (λ text is. rw is (sym (c.written_is_read_again.ensures.equal Standard no_payload place_as_listing (λ _. None) plain_break c.args.dictionary.now standard_holds c.invariant.ensures))) c.write_text.ensures
