@@ -1,4 +1,4 @@
--- What is true of all texts, tokens and patterns.
+-- Laws of texts, tokens and patterns.
 use Rattle.std.specs.Prelude.{◌≡◌, ◌≢◌, ◌↔◌, ◌⊎◌, ℕ, ◌+◌, ◌==◌, ◌<◌, ◌≤◌, ◌||◌, Bool, true, false, List, [], ◌∷◌, ◌++◌, map, Some, None, IsUtf8, IsCharBoundary}
 use Rattle.std.specs.List.{slice_split, AllByRecursion}
 use Rattle.hyphenation_breaks.specs.Ascii.{backslash, carriage_return, close_brace, digit_zero, open_brace}
@@ -10,25 +10,25 @@ use Rattle.hyphenation_grammar.specs.declared.tokens.EscapedByte.{EscapedByte}
 use Rattle.hyphenation_grammar.specs.declared.tokens.PatternElement.{PatternElement}
 use Rattle.hyphenation_grammar.specs.declared.tokens.PatternElement.TheVariants.{Letter, Value}
 
--- A byte of ASCII in a text stands between two texts.
+-- An ASCII byte in UTF-8 stands between two texts in UTF-8.
 abbrev pub AsciiPartsText : Type 0
 AsciiPartsText =
     (before : List ℕ) (b : ℕ) (after : List ℕ) → b < 128 → IsUtf8 (before ++ b ∷ after) → IsUtf8 before × IsUtf8 after
 
--- What stands between the places of such a byte is text.
+-- The pieces of UTF-8 between the places of an ASCII byte are UTF-8.
 abbrev pub PiecesAreText : Type 0
 PiecesAreText =
     (b : ℕ) (text : List ℕ) → b < 128 → IsUtf8 text → AllByRecursion IsUtf8 (slice_split (λ c. c == b) text)
 
--- The parts of a later token that is text are text.
+-- The parts of a later token in UTF-8 are UTF-8.
 abbrev pub PartsAreText : Type 0
 PartsAreText = (i : ℕ) (token : List ℕ) → IsUtf8 token → IsUtf8 (part i token)
 
--- A text that is spelt in a text is text.
+-- A text that is spelt in UTF-8 is UTF-8.
 abbrev pub SpeltIsText : Type 0
 SpeltIsText = (written text : List ℕ) → IsUtf8 written → text_spelt written ≡ Some text → IsUtf8 text
 
--- The key of a pattern is text, and its values stand between characters of it.
+-- The key of a pattern in UTF-8 is UTF-8, and its values stand between characters of it.
 abbrev pub KeysAreText : Type 0
 KeysAreText =
     (version : Version) (token : List ℕ) (elements : List PatternElement) → IsUtf8 token
@@ -36,8 +36,7 @@ KeysAreText =
     → IsUtf8 (key_of elements)
     × AllByRecursion (λ value. IsCharBoundary (key_of elements) value.0) (values_from 0 elements)
 
--- ---- each way of spelling, in the format's own terms. These laws say what the definitions in Tokens read, that go
--- over a token byte by byte.
+-- ---- each way of spelling, in the format's own terms, in place of the byte-by-byte definitions in Tokens
 
 -- Pieces of a text, one after the other, spell these things.
 abbrev pub SpeltOneByOne : {X Y : Type 0} → (Y → List X → Type 0) → List Y → List X → Type 0

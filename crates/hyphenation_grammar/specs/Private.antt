@@ -1,4 +1,4 @@
--- What private functions and proofs are stated by. No contract of a public call cites it, so it is not for signing.
+-- Definitions that private functions and proofs cite. No contract of a public call cites them, so they are not to be signed.
 pub mod Examples
 pub mod Lines
 pub mod Tokens

@@ -1,4 +1,4 @@
--- The canonical text of a dictionary: what `to_writer` writes.
+-- The canonical text of a dictionary, which `to_writer` writes.
 use Rattle.std.specs.Prelude.{ℕ, ◌+◌, ◌==◌, nat_le, Bool, if◌then◌else◌, List, [], ◌∷◌, ◌++◌, map, codes, Option, Some, None, decimal, flat_map}
 use Rattle.std.specs.List.{list_all}
 use Rattle.std.specs.FinMap as finite
@@ -18,7 +18,7 @@ use Rattle.hyphenation_grammar.specs.declared.tokens.Escapes.TheVariants.{Plain}
 use Rattle.hyphenation_grammar.specs.declared.tokens.PatternElement.{PatternElement}
 use Rattle.hyphenation_grammar.specs.declared.tokens.PatternElement.TheVariants.{Letter, Value}
 
--- A byte of a text as it is spelt: escaped only where it must be.
+-- A byte as it is spelt: escaped only if it must be.
 abbrev pub byte_spelling : Escapes → ℕ → List ℕ
 byte_spelling escapes b =
     if b == backslash then codes "\\\\"
@@ -32,8 +32,8 @@ abbrev pub text_token : List ℕ → List ℕ
 text_token [] = codes "\\e"
 text_token (b ∷ text) = flat_map (byte_spelling Plain) (b ∷ text)
 
--- A key from a place on, with the values of its entries at their places. The entries ascend by place, from there on to
--- the key's end.
+-- A key from a place on, with the values of its entries at their places. Entries ascend by place, from there to the
+-- key's end.
 abbrev pub elements_for : ℕ → List ℕ → List (Entry (Option Change)) → List PatternElement
 elements_for at [] [] = []
 elements_for at [] (e ∷ es) = Value e.value ∷ []
@@ -66,7 +66,7 @@ break_token place (Some c) =
 abbrev pub later_tokens : List Break → List ℕ
 later_tokens breaks = flat_map (λ b. space ∷ break_token b.place b.change) breaks
 
--- A break with a change before others; nothing is added of a place without one.
+-- A break with a change in front of others. A place without a change adds nothing.
 abbrev pub onto_changes : ℕ → Option Change → List Break → List Break
 onto_changes place None breaks = breaks
 onto_changes place (Some c) breaks = break_at place (Some c) ∷ breaks
@@ -93,7 +93,7 @@ language_line language = codes "language " ++ language
 abbrev pub minima_line : ℕ → ℕ → List ℕ
 minima_line left right = codes "minima " ++ (decimal left ++ space ∷ decimal right)
 
--- An entry that a dictionary of one kind holds, as a text says it.
+-- An entry that a dictionary holds, as a text spells it.
 abbrev pub entry_as_spelt : {C : Type 0} → (C → Option Change) → Entry C → Entry (Option Change)
 entry_as_spelt change_of entry = record { place = entry.place; value = entry.value; change = change_of entry.change }
 
@@ -102,12 +102,12 @@ abbrev pub pattern_lines : {C B : Type 0} → Version → (C → Option Change) 
 pattern_lines version change_of contents =
     map (λ x. pattern_line version x.0 (map (entry_as_spelt change_of) x.1)) (finite.entries contents.patterns)
 
--- The lines of all words, in the same way.
+-- The lines of all words, ascending by their bytes.
 abbrev pub exception_lines : {C B : Type 0} → (B → Break) → Contents C B → List (List ℕ)
 exception_lines break_of contents =
     map (λ x. exception_line x.0 (map break_of x.1)) (finite.entries contents.exceptions)
 
--- All lines: the head, then those of the keys, then those of the words.
+-- All lines: the head, then the keys, then the words.
 abbrev pub canonical_lines : {C B : Type 0} → Form → (C → Option Change) → (B → Break) → Contents C B → List (List ℕ)
 canonical_lines form change_of break_of contents =
     head_line form ∷ language_line contents.language ∷ minima_line contents.left contents.right
@@ -117,15 +117,15 @@ canonical_lines form change_of break_of contents =
 abbrev pub are_digits : {C : Type 0} → List (Entry C) → Bool
 are_digits entries = list_all (λ e. nat_le e.value 9) entries
 
--- The first version where it can say each value, else the second.
+-- The first version if it can write each value, else the second.
 abbrev pub version_for : {C B : Type 0} → Contents C B → Version
 version_for contents = if list_all (λ x. are_digits x.1) (finite.entries contents.patterns) then First else Second
 
--- Each line is ended by a line feed.
+-- Lines as a text, each with a line feed after it.
 abbrev pub with_line_feeds : List (List ℕ) → List ℕ
 with_line_feeds lines = flat_map (λ line. line ++ line_feed ∷ []) lines
 
--- The canonical text of a dictionary of that kind, which holds a change as change_of says, and a listed break as break_of says.
+-- The canonical text of a dictionary of that kind. change_of and break_of say which changes and breaks it holds.
 abbrev pub canonical_text_of : {C B : Type 0} → Kind → (C → Option Change) → (B → Break) → Contents C B → List ℕ
 canonical_text_of kind change_of break_of contents =
     with_line_feeds
@@ -135,6 +135,6 @@ canonical_text_of kind change_of break_of contents =
 abbrev pub standard_text : Contents (Unit {0}) ℕ → List ℕ
 standard_text contents = canonical_text_of Standard (λ _. None) plain_break contents
 
--- That of an extended dictionary, which holds a change or none as it is.
+-- The canonical text of an extended dictionary, which holds a change or none as it is.
 abbrev pub extended_text : Contents (Option Change) (ℕ × Option Change) → List ℕ
 extended_text contents = canonical_text_of Extended (λ change. change) (λ b. break_at b.0 b.1) contents

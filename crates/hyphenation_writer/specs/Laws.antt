@@ -1,6 +1,6 @@
--- What is true of all canonical texts, of either kind and in either version.
--- In each law payload_of and listing_of say what a kind of dictionary holds of a change and of a listed break, and
--- change_of and break_of say what that means; so one law is of all kinds.
+-- Laws of canonical texts, for both kinds and both versions.
+-- Each law is for all kinds: payload_of and listing_of say what a kind of dictionary holds for a change and for a listed
+-- break, and change_of and break_of what that means.
 use Rattle.std.specs.Prelude.{◌≡◌, ℕ, ◌≤◌, ◌↔◌, All, List, [], Option, Some, None, slice_index_or}
 use Rattle.std.specs.FinMap as finite
 use Rattle.hyphenation_breaks.specs.Break.{Break, Change}
@@ -16,8 +16,8 @@ use Rattle.hyphenation_grammar.specs.declared.form.Kind.{Kind}
 use Rattle.hyphenation_grammar.specs.declared.form.Version.TheVariants.{First}
 use Rattle.hyphenation_grammar.specs.declared.form.Kind.TheVariants.{Standard}
 
--- A kind of dictionary holds exactly what its texts say: what it holds of a change or a listed break says
--- that again, and a standard one holds no change.
+-- A kind of dictionary holds exactly the contents of its texts: each change and each listed break that it holds is read
+-- again as it is written, and a standard dictionary holds no change.
 pub record HoldsExactly {C B : Type 0} (kind : Kind) (payload_of : Option Change → C) (listing_of : Break → B)
     (change_of : C → Option Change) (break_of : B → Break) : Type 0 where
   pub changes : (c : C) → payload_of (change_of c) ≡ c
@@ -33,7 +33,7 @@ WrittenIsAccepted C B =
     → HoldsExactly kind payload_of listing_of change_of break_of → IsDictionary change_of break_of contents
     → refusal_of kind (canonical_text_of kind change_of break_of contents) ≡ None
 
--- It gives that very dictionary again.
+-- The canonical text of a dictionary gives that very dictionary.
 abbrev pub WrittenGivesItAgain : Type 0 → Type 0 → Type 0
 WrittenGivesItAgain C B =
     (kind : Kind) (payload_of : Option Change → C) (listing_of : Break → B) (change_of : C → Option Change)
@@ -41,7 +41,7 @@ WrittenGivesItAgain C B =
     → HoldsExactly kind payload_of listing_of change_of break_of → IsDictionary change_of break_of contents
     → contents_of kind payload_of listing_of (lines_of (canonical_text_of kind change_of break_of contents)) ≡ contents
 
--- What is read of a canonical text has that very text.
+-- The dictionary that a canonical text gives has that very text.
 abbrev pub CanonicalIsWrittenAgain : Type 0 → Type 0 → Type 0
 CanonicalIsWrittenAgain C B =
     (kind : Kind) (payload_of : Option Change → C) (listing_of : Break → B) (change_of : C → Option Change)
@@ -61,7 +61,7 @@ EqualTextsAreOfEquals C B =
     → canonical_text_of kind change_of break_of contents ≡ canonical_text_of kind change_of break_of others
     → contents ≡ others
 
--- The canonical text of a dictionary is of the first version exactly where each value is at most 9.
+-- The canonical text of a dictionary has the first version exactly if each value is at most 9.
 abbrev pub VersionIsLeast : Type 0 → Type 0 → Type 0
 VersionIsLeast C B =
     (kind : Kind) (change_of : C → Option Change) (break_of : B → Break) (contents : Contents C B)

@@ -1,3 +1,3 @@
--- What private functions and proofs are stated by. No contract of a public call cites it, so it is not for signing.
+-- Definitions that private functions and proofs cite. No contract of a public call cites them, so they are not to be signed.
 pub mod Writing
 pub mod Ordered

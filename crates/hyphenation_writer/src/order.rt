@@ -1,4 +1,4 @@
-//! Texts in the order of their bytes.
+//! Texts sorted by their bytes.
 
 ghost use Rattle.std.specs.Prelude.{◌≡◌, IfOk, map};
 ghost use Rattle.std.specs.FinMap as finite;
@@ -8,7 +8,7 @@ ghost use Rattle.hyphenation_writer.specs.Private.Ordered.{in_byte_order};
 use std::alloc::{AllocError, Global};
 use std::collections::BTreeMap;
 
-/// A map of texts, each with what is held of it. Of a text that stands twice the first counts.
+// Returns a map of texts with their values. If a text comes twice, its first value counts.
 fn sorted_map<'a, X>(
     alloc: Global,
     pairs: &[(&'a [u8], &'a [X])],
@@ -23,7 +23,7 @@ fn sorted_map<'a, X>(
     Ok(found)
 }
 
-/// Texts, each with what is held of it, in the order of their bytes. Of a text that stands twice the first counts.
+// Returns texts with their values, sorted by their bytes. If a text comes twice, its first value counts.
 pub(crate) fn in_order<'a, X>(
     alloc: Global,
     pairs: &[(&'a [u8], &'a [X])],

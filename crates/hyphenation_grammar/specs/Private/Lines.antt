@@ -1,4 +1,4 @@
--- Lines, numbers and the three head lines of a dictionary text: what private functions and proofs need of it beside, and no public contract cites.
+-- The number of digits, if it is below 2^64.
 use Rattle.std.specs.Prelude.{ℕ, ◌^◌, nat_lt, if◌then◌else◌, List, Option, Some, None}
 use Rattle.hyphenation_grammar.specs.Lines.{number}
 

@@ -6,9 +6,17 @@ pub returns-clause-bad_values : goal.returns-clause-bad_values
 unfolding is_utf8 chars lib.Utf8.encode
 returns-clause-bad_values c = refl
 
-pub returns-clause-other_causes : goal.returns-clause-other_causes
+pub returns-clause-two_values : goal.returns-clause-two_values
 unfolding is_utf8 chars lib.Utf8.encode
-returns-clause-other_causes c = refl
+returns-clause-two_values c = refl
+
+pub returns-clause-no_letters : goal.returns-clause-no_letters
+unfolding is_utf8 chars lib.Utf8.encode
+returns-clause-no_letters c = refl
+
+pub returns-clause-bad_token : goal.returns-clause-bad_token
+unfolding is_utf8 chars lib.Utf8.encode
+returns-clause-bad_token c = refl
 
 pub returns-clause-accepted : goal.returns-clause-accepted
 unfolding is_utf8 chars lib.Utf8.encode
