@@ -1,4 +1,4 @@
--- What a dictionary text can say of a change.
+-- A change can be written in a dictionary text.
 use Rattle.std.proofs.Common.{◌≡◌, ℕ, ◌<◌, ◌^◌, Bool, true, ◌&&◌, arith, List, refl}
 use Rattle.std.specs.Prelude.{IsUtf8}
 use Rattle.std.specs.Str.{is_utf8}

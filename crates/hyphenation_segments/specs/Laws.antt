@@ -2,7 +2,7 @@
 use Rattle.std.specs.Prelude.{◌≡◌, ◌↔◌, ℕ, ◌+◌, ◌≤◌, ◌<◌, ◌^◌, List, map, length, slice_get, Some, [], drop, slice_index_or, take, ◌++◌, ◌∷◌, ⊤, IsTrue}
 use Rattle.std.specs.List.{concat}
 use Rattle.hyphenation_breaks.specs.Break.{Break, plain_break, has_boundary}
-use Rattle.hyphenation_breaks.specs.Invariant.{are_listed, can_be_written_if_any}
+use Rattle.hyphenation_breaks.specs.Invariant.{are_listed, can_be_said_if_any}
 use Rattle.hyphenation_segments.specs.Fits.{Fits, Stands}
 use Rattle.hyphenation_segments.specs.ChangedSegments.{made_segments}
 use Rattle.hyphenation_segments.specs.Segments.{segments, segment_between, marked_segments}
@@ -57,7 +57,7 @@ MayBeListed text least (b ∷ bs) = Stands text 0 least b × MayBeListed text (b
 -- Each break is as its type keeps it, which `Break::invariant` tells.
 abbrev pub AreKept : List Break → Type 0
 AreKept [] = ⊤
-AreKept (b ∷ bs) = IsTrue (has_boundary b.change) × IsTrue (can_be_written_if_any b.change) × AreKept bs
+AreKept (b ∷ bs) = IsTrue (has_boundary b.change) × IsTrue (can_be_said_if_any b.change) × AreKept bs
 
 -- Breaks may be listed for a word exactly where they may by the rule alone: what `are_listed` asks besides is true of
 -- each word and each break that there is.
