@@ -4,6 +4,7 @@ use Rattle.std.specs.List.{list_all, list_any}
 use Rattle.std.specs.Option.{option_or, option_map_or}
 use Rattle.std.specs.Str.{is_utf8}
 use Rattle.hyphenation_breaks.specs.Break.{ascend_on, keeps_within}
+use Rattle.hyphenation_breaks.specs.Invariant.{has_letter}
 use Rattle.hyphenation_grammar.specs.Form.{head_line, form_of}
 use Rattle.hyphenation_grammar.specs.Lines.{is_same, starts_with, language_of, minima_of, is_number, lines_of}
 use Rattle.hyphenation_grammar.specs.Tokens.{elements_of, pattern_bytes, text_spelt, two_values, has_comma, numerals_of, is_readable, place_of_token, has_five_parts, change_of_token, values_from}
@@ -73,7 +74,7 @@ fails form number line Token =
     is_item_line line && not (is_readable_first form.version line && list_all is_readable (later_tokens_of line))
 fails form number line Value = is_pattern_line line && is_none (elements_of form.version (first_token_of line))
 fails form number line Pattern = is_pattern_line line && two_values false (pattern_elements form.version line)
-fails form number line NoLetters = is_pattern_line line && list_all (λ b. b == 46) (key_of_line form.version line)
+fails form number line NoLetters = is_pattern_line line && not (has_letter (key_of_line form.version line))
 fails form number line Number = is_item_line line && has_bad_number (later_tokens_of line)
 fails form number line Place =
     is_item_line line && has_bad_place (counted_text form.version line) (later_tokens_of line)

@@ -4,6 +4,7 @@ ghost use Rattle.std.specs.Prelude.{◌≡◌, ◌==◌, ◌^◌, ◌<◌, ◌�
 ghost use Rattle.std.specs.Prelude.{map, option_map, nat_lt, true, if◌then◌else◌, Some, None};
 ghost use Rattle.std.specs.List.{list_all};
 ghost use Rattle.std.specs.Str.{is_utf8};
+ghost use Rattle.hyphenation_breaks.specs.Borrowed.{texts_now};
 ghost use Rattle.hyphenation_breaks.specs.Ascii.{line_feed, space};
 ghost use Rattle.hyphenation_grammar.specs.Form.{head_line, head_of, version_by};
 ghost use Rattle.hyphenation_grammar.specs.Lines.{between_spaces, lines_of, tokens_after, strip_prefix, starts_with, is_digit};
@@ -42,7 +43,7 @@ fn find_line_feed(text: &[u8]) -> Option<usize>
 
 // Splits a text at its spaces.
 pub(crate) fn between_spaces(alloc: Global, text: &[u8]) -> Result<Vec<&[u8]>, AllocError>
-    ensures { IfOk result (λ v. map (λ token. token.now) v.items ≡ between_spaces text.now) }
+    ensures { IfOk result (λ v. texts_now v.items ≡ between_spaces text.now) }
 {
     text.split(|b| *b == b' ').collect(alloc)
 }
@@ -137,7 +138,7 @@ pub fn minima_of(alloc: Global, line: &[u8]) -> Result<Option<(u8, u8)>, AllocEr
 
 // Returns two numbers from 0 to 255, if there are exactly two parts.
 fn two_minima(parts: &[&[u8]]) -> Option<(u8, u8)>
-    ensures { result ≡ two_minima (map (λ part. part.now) parts.now) }
+    ensures { result ≡ two_minima (texts_now parts.now) }
 {
     if parts.len() != 2 {
         return None;

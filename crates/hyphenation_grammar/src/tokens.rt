@@ -5,6 +5,7 @@ ghost use Rattle.std.specs.Prelude.{drop, slice_index_or, false, Some, None, opt
 ghost use Rattle.std.specs.Prelude.{position, MatchOption};
 ghost use Rattle.std.specs.Option.{option_to_list};
 ghost use Rattle.std.specs.List.{list_all};
+ghost use Rattle.hyphenation_breaks.specs.Borrowed.{texts_now};
 ghost use Rattle.hyphenation_breaks.specs.Ascii.{comma};
 ghost use Rattle.hyphenation_breaks.specs.Break.{is_boundary};
 ghost use Rattle.hyphenation_grammar.specs.declared.tokens.Escapes.TheVariants.{Plain};
@@ -205,7 +206,7 @@ fn at_comma(commas: usize, text: &[u8]) -> Option<(&[u8], &[u8])>
 
 // Splits a later token at its first four commas.
 fn parts_of(alloc: Global, token: &[u8]) -> Result<Vec<&[u8]>, AllocError>
-    ensures { IfOk result (λ v. map (λ part. part.now) v.items ≡ parts_of token.now) }
+    ensures { IfOk result (λ v. texts_now v.items ≡ parts_of token.now) }
 {
     let mut parts = Vec::new(alloc);
     let mut rest = token;
@@ -275,9 +276,9 @@ fn change_token(alloc: Global, token: &[u8]) -> Result<Option<LaterToken>, Alloc
 
 // Parses the parts of a token that has a comma.
 fn parse_change_token(alloc: Global, parts: &[&[u8]]) -> Result<LaterToken, AllocError>
-    requires utf8 { IsUtf8 (part_at (map (λ part. part.now) parts.now) 4) }
+    requires utf8 { IsUtf8 (part_at (texts_now parts.now) 4) }
     requires several_parts { 1 < length parts.now }
-    ensures { IfOk result (λ token. token ≡ parse_change_token (map (λ part. part.now) parts.now)) }
+    ensures { IfOk result (λ token. token ≡ parse_change_token (texts_now parts.now)) }
 {
     match first_number(parts) {
         None => Ok(LaterToken::NoNumber),
@@ -300,8 +301,8 @@ fn token_with(place: usize, change: Option<Subregion>) -> LaterToken
 
 // Returns the change of five parts, if each can be read and the breakpoint is between characters.
 fn change_of(alloc: Global, parts: &[&[u8]]) -> Result<Option<Subregion>, AllocError>
-    requires { IsUtf8 (part_at (map (λ part. part.now) parts.now) 4) }
-    ensures { IfOk result (λ found. found ≡ sound_change (map (λ part. part.now) parts.now)) }
+    requires { IsUtf8 (part_at (texts_now parts.now) 4) }
+    ensures { IfOk result (λ found. found ≡ sound_change (texts_now parts.now)) }
 {
     let [_, left, right, breakpoint, written] = parts else {
         return Ok(None);
@@ -352,7 +353,7 @@ pub fn string_of(alloc: Global, token: &[u8]) -> Result<Option<String>, AllocErr
 
 // Whether each part can be read. `\e` is allowed after the fourth comma alone.
 fn are_readable(parts: &[&[u8]]) -> bool
-    ensures { result ≡ are_readable (map (λ part. part.now) parts.now) }
+    ensures { result ≡ are_readable (texts_now parts.now) }
 {
     let commas = parts.len().min(4);
     have_good_escapes(&parts[..commas]) && are_texts(&parts[commas..])
@@ -361,7 +362,7 @@ fn are_readable(parts: &[&[u8]]) -> bool
 // Whether the escapes of each part are good.
 fn have_good_escapes(parts: &[&[u8]]) -> bool
     ensures { result
-        ≡ list_all (λ written. is_some (escaped_bytes_of Plain written)) (map (λ part. part.now) parts.now) }
+        ≡ list_all (λ written. is_some (escaped_bytes_of Plain written)) (texts_now parts.now) }
 {
     for part in parts {
         if !has_good_escapes(Escapes::Plain, part) {
@@ -373,7 +374,7 @@ fn have_good_escapes(parts: &[&[u8]]) -> bool
 
 // Whether each part spells a text.
 fn are_texts(parts: &[&[u8]]) -> bool
-    ensures { result ≡ list_all (λ written. is_some (text_spelt written)) (map (λ part. part.now) parts.now) }
+    ensures { result ≡ list_all (λ written. is_some (text_spelt written)) (texts_now parts.now) }
 {
     for part in parts {
         if !is_text(part) {
@@ -393,7 +394,7 @@ fn is_text(written: &[u8]) -> bool
 // Returns the number of the first part, if each part but the last is a number.
 fn first_number(parts: &[&[u8]]) -> Option<usize>
     requires { 1 < length parts.now }
-    ensures { result ≡ first_number (length parts.now - 1) (map (λ part. part.now) parts.now) }
+    ensures { result ≡ first_number (length parts.now - 1) (texts_now parts.now) }
 {
     if !are_numbers(&parts[..parts.len() - 1]) {
         return None;
@@ -403,7 +404,7 @@ fn first_number(parts: &[&[u8]]) -> Option<usize>
 
 // Whether each part is a number.
 fn are_numbers(parts: &[&[u8]]) -> bool
-    ensures { result ≡ list_all is_number (map (λ part. part.now) parts.now) }
+    ensures { result ≡ list_all is_number (texts_now parts.now) }
 {
     for part in parts {
         if number_of(part).is_none() {

@@ -10,7 +10,7 @@ use Rattle.std.proofs.lemmas.Str.{IsUtf8-from_is_utf8, is_utf8-from_IsUtf8, IsUt
 use Rattle.hyphenation_breaks.specs.Break.{Break, Change, ascend_on, is_boundary, keeps_within}
 use Rattle.std.specs.Cmp.{first_so, second_so}
 use Rattle.hyphenation_grammar.specs.declared.form.Form.{Form}
-use Rattle.hyphenation_breaks.specs.Invariant.{fits_usize, can_be_written, is_value, stays_within, lists_within, are_listed, IsPattern, IsException}
+use Rattle.hyphenation_breaks.specs.Invariant.{fits_usize, can_be_written, has_letter, is_value, stays_within, lists_within, are_listed, IsPattern, IsException}
 use Rattle.hyphenation_grammar.specs.Lines.{is_digit, has_no_leading_zero, is_number, is_number_to_255, number}
 use Rattle.hyphenation_grammar.specs.Tokens.{element_of, is_unescaped, is_unescaped_digit, braced_value, step_outside, step_inside, elements_from, elements_of, pattern_bytes, text_spelt, key_of, values_from, two_values, has_comma, parts_of, numerals_of, place_of_token, change_of_token, has_five_parts}
 use Rattle.hyphenation_grammar.specs.Items.{is_pattern_line, is_exception_line, tokens_of, first_token_of, later_tokens_of, pattern_elements, key_of_line, word_of_line, counted_text, break_of_token, breaks_of_line, change_at, entries_of_line}
@@ -43,9 +43,9 @@ on_from_not : (b : Bool) → not b ≡ false → b ≡ true
 on_from_not true e = refl
 on_from_not false e = absurd cc
 
-not_off : (b : Bool) → b ≡ false → not b ≡ true
-not_off true e = absurd cc
-not_off false e = refl
+not_none : (b : Bool) → not b ≡ false → b ≡ true
+not_none true e = refl
+not_none false e = absurd cc
 
 pub found_none : {X : Type 0} (p : X → Bool) (x : X) (xs : List X) → find p (x ∷ xs) ≡ None → (p x ≡ false) × (find p xs ≡ None)
 found_none {X} p x xs e = by (p x) refl e
@@ -382,7 +382,7 @@ module _ (laws : TextLaws) (form : Form) (number : ℕ) (line : List ℕ) (none 
       let by_key : list_all (is_good_later_token form (is_pattern_line line) (pattern_elements form.version line) (key_of_line form.version line)) (later_tokens_of line) ≡ true = subst (λ (t : Bool). list_all (is_good_later_token form (is_pattern_line line) (pattern_elements form.version line) (cond t (key_of_line form.version line) (word_of_line line))) (later_tokens_of line) ≡ true) sort good in
       record {
         utf8 = read.0;
-        letter = not_off (list_all (λ b. b == 46) (key_of_line form.version line)) (off_right (is_pattern_line line) (list_all (λ b. b == 46) (key_of_line form.version line)) passed.letters sort);
+        letter = not_none (has_letter (key_of_line form.version line)) (off_right (is_pattern_line line) (not (has_letter (key_of_line form.version line))) passed.letters sort);
         ascend = laws.order (λ c. c) (key_of_line form.version line) (entries_of_line form.version line)
             ∙ values-stand laws (key_of_line form.version line) (breaks_of_line line) (changes-stay laws form (is_pattern_line line) (pattern_elements form.version line) (key_of_line form.version line) (later_tokens_of line) (later-utf8 rest) numbers by_key) (pattern_elements form.version line) 0 0 false read.1 (values-small form.version (first_token_of line))
             (off_right (is_pattern_line line) (two_values false (pattern_elements form.version line)) passed.pattern sort) (omega arith);

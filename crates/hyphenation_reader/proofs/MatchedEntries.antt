@@ -7,6 +7,7 @@ use Rattle.std.specs.Option.{option_or}
 use Rattle.std.specs.List.{list_all, list_any}
 use Rattle.std.proofs.lemmas.Bool.Decides.{nat_tests}
 use Rattle.hyphenation_breaks.specs.Break.{Change as Changed, ascend_on, is_boundary}
+use Rattle.hyphenation_breaks.specs.Invariant.{has_letter}
 use Rattle.hyphenation_grammar.specs.Items.{change_at}
 use Rattle.hyphenation_reader.specs.Private.Matched.{ascend, have_values, pending, head_change_at, tail_after, matched_entries, unmatched_changes, suits_form_in_pattern, cause_before_match}
 use Rattle.hyphenation_grammar.specs.Parsed.{ReadPattern, is_bad, read_pattern}
@@ -258,8 +259,8 @@ chain false false false true true false None = refl
 
 pub in_two : (form : Form) (r : ReadPattern) (l : ReadLater) → pattern_cause form r l ≡ option_or (cause_before_match form r l) (match_cause (have_values r.values l.listed))
 in_two form r l =
-    ap (λ (b : Bool). cond (is_bad r) (Some BadValue) (cond r.has_two_values (Some Pattern) (cond (list_all (λ x. eqb x 46) r.key) (Some NoLetters) (option_or (places_cause r.key l) (cond (not (l.are_sound && b)) (Some Change) None))))) (all_fit_apart form r.key r.values l.listed)
-    ∙ chain (is_bad r) r.has_two_values (list_all (λ x. eqb x 46) r.key) l.are_sound (list_all (suits_form_in_pattern form r.key) l.listed) (have_values r.values l.listed) (places_cause r.key l)
+    ap (λ (b : Bool). cond (is_bad r) (Some BadValue) (cond r.has_two_values (Some Pattern) (cond (not (has_letter r.key)) (Some NoLetters) (option_or (places_cause r.key l) (cond (not (l.are_sound && b)) (Some Change) None))))) (all_fit_apart form r.key r.values l.listed)
+    ∙ chain (is_bad r) r.has_two_values (not (has_letter r.key)) l.are_sound (list_all (suits_form_in_pattern form r.key) l.listed) (have_values r.values l.listed) (places_cause r.key l)
 
 pub before_match : (form : Form) (r : ReadPattern) (l : ReadLater) (cause : Cause) → cause_before_match form r l ≡ Some cause → pattern_cause form r l ≡ Some cause
 before_match form r l cause is = in_two form r l ∙ ap (λ (o : Option Cause). option_or o (match_cause (have_values r.values l.listed))) is
@@ -290,6 +291,6 @@ passed false false false sound kept true true e = (refl, refl, refl)
 pub both_ascend : (form : Form) (tokens : List (List ℕ)) (r : ReadPattern) (l : ReadLater) → pattern_parts form.version tokens ≡ Some (r, l) → cause_before_match form r l ≡ None → (ascend 0 r.values ≡ true) × (ascend 0 l.listed ≡ true)
 both_ascend form tokens r l e none =
     let parts = both_parts (eqb (length (first_token tokens)) 0) (read_pattern form.version (first_token tokens)) (read_later no_later (drop 1 tokens)) r l e in
-    let ok = passed (is_bad r) r.has_two_values (list_all (λ x. eqb x 46) r.key) l.are_sound (list_all (suits_form_in_pattern form r.key) l.listed) l.are_numbers (ascend_on r.key 0 (map (λ b. b.0) l.listed)) none in
+    let ok = passed (is_bad r) r.has_two_values (not (has_letter r.key)) l.are_sound (list_all (suits_form_in_pattern form r.key) l.listed) l.are_numbers (ascend_on r.key 0 (map (λ b. b.0) l.listed)) none in
     let m = read_marks r (elements_of form.version (first_token tokens)) (found_marks form.version (first_token tokens) r parts.0) ok.0 in
     (sym (ap (ascend 0) m.2.values) ∙ values_ascend false 0 m.0 (m.2.twice ∙ ok.1), listed_ascend r.key 0 l.listed ok.2)

@@ -18,7 +18,7 @@ ghost use Rattle.hyphenation_reader.specs.Private.LineAnswers.{ReturnsItem, Retu
 ghost use Rattle.hyphenation_reader.specs.Private.LineAnswers.{breaks_listed, entries_of, exception_cause};
 ghost use Rattle.hyphenation_reader.specs.Private.LineAnswers.{suits_word, suits_form, places_cause};
 
-use hyphenation_breaks::entry::{Entry, Listing, Payload};
+use hyphenation_breaks::entry::{Entry, Listing, Payload, has_letter};
 use hyphenation_breaks::extended::Subregion;
 use hyphenation_grammar::Cause;
 use hyphenation_grammar::form::{Form, Kind, Version};
@@ -203,7 +203,7 @@ fn pattern_cause(form: Form, pattern: &PatternToken, later: &Later) -> Option<Ca
     if pattern.has_two_values {
         return Some(Cause::Pattern);
     }
-    if is_dots(&pattern.key) {
+    if !has_letter(&pattern.key) {
         return Some(Cause::NoLetters);
     }
     if let Some(cause) = places_cause(&pattern.key, later) {
@@ -213,13 +213,6 @@ fn pattern_cause(form: Form, pattern: &PatternToken, later: &Later) -> Option<Ca
         return Some(Cause::Change);
     }
     None
-}
-
-// Whether a key has dots alone.
-fn is_dots(key: &[u8]) -> bool
-    ensures { result ≡ list_all (λ b. b == 46) key.now }
-{
-    key.iter().all(|byte| *byte == b'.')
 }
 
 // Whether each change is allowed in a pattern, even without a value at its place.

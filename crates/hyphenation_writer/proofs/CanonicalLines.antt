@@ -7,7 +7,7 @@ use Rattle.std.proofs.lemmas.List.{append-nil}
 use Rattle.std.proofs.lemmas.List.Elements.{All-from_recursion}
 use Rattle.std.proofs.lemmas.List.Splits.{slice_split_at, slice_split_none}
 use Rattle.std.proofs.lemmas.Str.{IsUtf8-append, IsUtf8-nil, is_utf8-from_IsUtf8}
-use Rattle.std.proofs.lemmas.Bool.{leb-true, and_from, and_left, and_right, le-leb, ltb-true, not-true, or_left, or_right}
+use Rattle.std.proofs.lemmas.Bool.{leb-true, and_from, and_left, and_right, le-leb, ltb-true, or_left, or_right}
 use Rattle.std.proofs.lemmas.Bool.Decides.{nat_tests}
 use Rattle.hyphenation_breaks.specs.Break.{Break, Change, ascend_on, is_boundary, keeps_within}
 use Rattle.hyphenation_grammar.specs.declared.form.Form.{Form}
@@ -403,7 +403,7 @@ module _ (in_order : EntriesInOrder (Option Change)) (form : Form) (whole : List
             ∙ ap not (and_from (nat_lt 0 (length first) && is_some (pattern_bytes form.version first)) (list_all is_readable (tokens_for the_breaks)) (and_from (nat_lt 0 (length first)) (is_some (pattern_bytes form.version first)) (some_byte form.version first the_marks whole p_marks p_key letter) (signs-again form.version the_marks p_spelt)) (readable_each form the_breaks p_writable));
         value = ap (λ (ts : List (List ℕ)). is_none (elements_of form.version (get_or ts 0 []))) p_toks ∙ ap is_none p_marks;
         pattern = ap (λ (ts : List (List ℕ)). two_values false (read_marks (get_or ts 0 []))) p_toks ∙ ap (λ (o : Option (List PatternElement)). two_values false (unwrap_or o [])) p_marks ∙ no_two 0 whole es;
-        letters = ap (λ (ts : List (List ℕ)). list_all (λ b. b == 46) (key_of (read_marks (get_or ts 0 [])))) p_toks ∙ ap (λ (o : Option (List PatternElement)). list_all (λ b. b == 46) (key_of (unwrap_or o []))) p_marks ∙ ap (list_all (λ b. b == 46)) p_key ∙ not-true (list_all (λ b. b == 46) whole) letter;
+        letters = ap (λ (ts : List (List ℕ)). not (has_letter (key_of (read_marks (get_or ts 0 []))))) p_toks ∙ ap (λ (o : Option (List PatternElement)). not (has_letter (key_of (unwrap_or o [])))) p_marks ∙ ap (λ (k : List ℕ). not (has_letter k)) p_key ∙ ap not letter;
         number = ap (λ (ts : List (List ℕ)). not (list_all (λ token. list_all is_number (numerals_of token)) (drop 1 ts))) p_toks ∙ ap not (numbers_each form the_breaks p_writable);
         place = ap (λ (ts : List (List ℕ)). not (ascend_on (key_of (read_marks (get_or ts 0 []))) 0 (map place_of_token (drop 1 ts)))) p_toks
             ∙ ap (λ (o : Option (List PatternElement)). not (ascend_on (key_of (unwrap_or o [])) 0 (map place_of_token (tokens_for the_breaks)))) p_marks

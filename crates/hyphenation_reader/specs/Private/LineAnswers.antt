@@ -7,6 +7,7 @@ use Rattle.std.specs.String.{string_bytes}
 use Rattle.std.specs.declared.string.String.{String}
 use Rattle.std.specs.declared.vec.Vec.{Vec}
 use Rattle.hyphenation_breaks.specs.Break.{Break, Change as Changed, break_at, ascend_on, keeps_within}
+use Rattle.hyphenation_breaks.specs.Invariant.{has_letter}
 use Rattle.hyphenation_grammar.specs.Items.{pattern_of_line, exception_of_line, change_at}
 use Rattle.hyphenation_grammar.specs.Judging.{fails, is_extended}
 use Rattle.hyphenation_grammar.specs.Parsed.{ReadPattern, is_bad}
@@ -77,7 +78,7 @@ abbrev pub cause_by : (ℕ × Option Changed → Bool) → ReadPattern → ReadL
 cause_by fits pattern later =
     if is_bad pattern then Some BadValue
     else (if pattern.has_two_values then Some TwoValues
-    else (if list_all (λ b. b == 46) pattern.key then Some NoLetters
+    else (if not (has_letter pattern.key) then Some NoLetters
     else option_or (places_cause pattern.key later)
     (if not (later.are_sound && list_all fits later.listed) then Some Change else None)))
 
