@@ -1,4 +1,4 @@
--- What a later token says, by its parts.
+-- The meaning of a later token, by its parts.
 use Rattle.std.proofs.Common.{◌≡◌, ◌∙◌, ℕ, suc, ◌-◌, ◌<◌, Bool, true, false, cond, ◌&&◌, nat_lt, eqb, List, [], ◌∷◌, length, take, drop, map, get_or, Option, Some, None, refl, sym, ap, arith, Bor}
 use Rattle.std.specs.Prelude.{position, is_some}
 use Rattle.std.specs.List.{list_all}
@@ -86,7 +86,7 @@ parted token parts b said some are two read on is =
     (more 0 (length token) some) (sym read ∙ on) (more 1 (length (now_of parts)) (omega arith))
     ∙ ap (told_by token) are
 
--- what is said where all numbers are told, with the first of them, and where some are none
+-- the token if all its numbers are read, with the first of them, and if some are none
 with_first : (all : Bool) (first place : ℕ) (change : Option Change) → Some place ≡ cond all (Some first) None → token_with place change ≡ cond {A = LaterToken} all (token_with first change) NoNumber
 with_first true first place change e = ap (λ (p : ℕ). token_with p change) cc
 with_first false first place change e = absurd cc

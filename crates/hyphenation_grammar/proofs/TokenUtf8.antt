@@ -1,4 +1,4 @@
--- What is read of a UTF-8 token is UTF-8, and so is what stands between the values of a pattern.
+-- The bytes that a UTF-8 token spells are UTF-8, and so are the letters between the values of a pattern.
 use Rattle.std.proofs.Common.{◌≡◌, ◌∙◌, ℕ, ◌+◌, ◌-◌, ◌<◌, Bool, true, false, cond, not, ◌&&◌, eqb, List, [], ◌∷◌, ◌++◌, Option, Some, None, refl, sym, subst, append_assoc, arith, length, length-append}
 use Rattle.std.specs.Prelude.{IsUtf8, IsCharBoundary}
 use Rattle.std.specs.List.{AllByRecursion}

@@ -41,8 +41,8 @@ is_extended Extended = true
 abbrev pub has_value_at : List PatternElement → ℕ → Bool
 has_value_at elements place = list_any (λ v. v.0 == place) (values_from 0 elements)
 
--- A later token without a comma belongs in an `e` line. One with a comma is a change with all parts, of an extended
--- text, that keeps within the key or word; in a `p` line a value other than 0 is at its place.
+-- A later token without a comma belongs in an `e` line. One with a comma must be a change with all parts, in an extended
+-- text, and keep within the key or word. In a `p` line a value other than 0 must be at its place.
 abbrev pub is_good_later_token : Form → Bool → List PatternElement → List ℕ → List ℕ → Bool
 is_good_later_token form in_pattern elements text token =
     if has_comma token then is_extended form.kind && has_five_parts token

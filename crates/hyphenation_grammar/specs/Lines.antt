@@ -70,7 +70,7 @@ language_of line =
 abbrev pub is_number_to_255 : List ℕ → Bool
 is_number_to_255 text = is_number text && nat_le (number text) 255
 
--- That number; none for any other text.
+-- The number from 0 to 255 that a text spells; none if it is no such number.
 abbrev pub number_to_255 : List ℕ → Option ℕ
 number_to_255 text = if is_number_to_255 text then Some (number text) else None
 

@@ -13,8 +13,8 @@ use Rattle.hyphenation_grammar.specs.declared.tokens.EscapedByte.{EscapedByte}
 use Rattle.hyphenation_grammar.specs.declared.tokens.PatternElement.{PatternElement}
 use Rattle.hyphenation_grammar.specs.declared.tokens.PatternElement.TheVariants.{Letter, Value}
 
--- The contents of a pattern, as far as it is read: the key, the values other than 0 at their places, whether the last
--- element is a value, whether two values follow one another, whether a value is bad, and the digits in an open brace.
+-- The contents of a pattern, as far as it is read: the key, and the values other than 0 at their places. Whether the last
+-- element is a value, two values follow one another, or a value is bad; and the digits in an open brace.
 pub record ReadPattern : Type 0 where
   pub key : List ℕ
   pub values : List (ℕ × ℕ)

@@ -1,4 +1,4 @@
--- Definitions that private functions and proofs cite. No contract of a public call cites them, so they are not to be signed.
+-- Definitions for private functions and proofs. No contract of a public call cites them, so nobody need sign them.
 pub mod Examples
 pub mod Lines
 pub mod Tokens

@@ -39,6 +39,8 @@ pub enum Version {
 /// The form of a dictionary text: the kind that the reader asks for, and the version that its first line names.
 #[derive(Clone, Copy, Debug, PartialEq, Eq)]
 pub struct Form {
+    /// Whether the text may have changes.
     pub kind: Kind,
+    /// How the text writes values.
     pub version: Version,
 }

@@ -16,7 +16,7 @@ pub fn spelt_is_text()
     ensures key { KeysAreText }
 {}
 
-/// A token is read as the bytes and the pattern elements that it spells, in each way of spelling them, and as no others.
+/// Each spelling of bytes, and of a pattern's elements, is read as exactly these; nothing else is read.
 ///
 /// A byte is spelt as itself or by an escape, a value as a digit or as a number in braces.
 pub fn each_spelling_is_read()

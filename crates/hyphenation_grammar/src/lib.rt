@@ -19,7 +19,8 @@ use std::alloc::AllocError;
 use std::{fmt, io};
 use thiserror::Error;
 
-/// The tests of a line of a dictionary text, in the order in which they are tried. A refusal names the first that fails.
+/// The tests of a line of a dictionary text, in the order in which they are tried.
+/// A refusal names the first that fails.
 #[derive(Clone, Copy, Debug, PartialEq, Eq)]
 pub enum Cause {
     /// The bytes of the line are not UTF-8.

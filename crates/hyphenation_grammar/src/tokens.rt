@@ -35,7 +35,9 @@ pub enum Escapes {
 /// A byte that a token spells, and whether it was written with an escape.
 #[derive(Clone, Copy)]
 pub struct EscapedByte {
+    /// The byte that is meant.
     pub byte: u8,
+    /// Whether an escape means it.
     pub escaped: bool,
 }
 

@@ -1,4 +1,4 @@
--- What a line that fails no test of its own spells: well-formed keys with their entries, and words with their listed breaks.
+-- A line that fails no test by itself spells a key with well-formed entries, or a word with breaks that may be listed.
 use Rattle.std.proofs.Common.{◌≡◌, ℕ, ◌+◌, ◌-◌, ◌^◌, ◌<◌, ◌≤◌, Bool, true, false, cond, not, ◌==◌, ◌&&◌, ◌||◌, eqb, nat_le, nat_lt, nat_eq, List, [], ◌∷◌, ◌++◌, length, map, take, drop, get_or, Option, Some, None, is_some, unwrap_or, refl, ap, subst, ◌∙◌, arith}
 use Rattle.std.specs.Prelude.{IsUtf8, IsCharBoundary}
 use Rattle.std.specs.Option.{option_map, option_and_then, is_none}
@@ -300,7 +300,7 @@ values-small version token = by (pattern_bytes version token)
     by None = tt
     by (Some ss) = marked (elements_from version None ss) (all-small version ss None)
 
--- the values of marks between which the key is parted on its characters
+-- the values of elements that stand between characters of the key
 module _ (laws : TextLaws) (key : List ℕ) (said : List Break) (within : (place : ℕ) → stays_within key place (change_at place said) ≡ true) where
   abbrev entry : ℕ × ℕ → Entry (Option Change)
   entry v = record { place = v.0; value = v.1; change = change_at v.0 said }

@@ -273,7 +273,7 @@ pub none_by : (some none : Bool) → some ≡ not none → none ≡ not some
 none_by some true e = ap not (sym e)
 none_by some false e = ap not (sym e)
 
--- what the match tells of values that were lent
+-- the result of the match, for borrowed values
 pub told_of : (lent values : List (ℕ × ℕ)) (listed : List (ℕ × Option Changed)) (known all : Bool) → lent ≡ values → known ≡ have_values lent listed → known ≡ all → have_values values listed ≡ all
 told_of lent values listed known all same told is = ap (λ (vs : List (ℕ × ℕ)). have_values vs listed) (sym same) ∙ sym told ∙ is
 

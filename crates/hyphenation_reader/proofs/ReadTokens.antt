@@ -1,4 +1,4 @@
--- What one pass over tokens finds is what the definitions say of them.
+-- One pass over tokens finds the contents that the definitions give them.
 use Rattle.std.proofs.Common.{◌≡◌, ◌∙◌, ℕ, ◌+◌, ◌-◌, Bool, true, false, cond, not, ◌&&◌, ◌||◌, eqb, nat_lt, List, [], ◌∷◌, ◌++◌, length, take, drop, map, Option, Some, None, refl, sym, ap, arith, append_assoc, length-append, is_some}
 use Rattle.std.specs.Prelude.{fold}
 use Rattle.std.specs.Option.{option_map, option_and_then}

@@ -1,4 +1,4 @@
--- What an accepted text gives is a dictionary: its head lines, and each of its patterns and exceptions.
+-- An accepted text gives a dictionary with its invariant: head lines, patterns and exceptions.
 use Rattle.std.proofs.Common.{◌≡◌, ℕ, ◌+◌, ◌<◌, ◌≤◌, Bool, true, false, cond, ◌&&◌, ◌==◌, nat_le, List, [], ◌∷◌, ◌++◌, length, map, Option, Some, None, is_some, unwrap_or, refl, sym, ap, subst, ◌∙◌, arith, inl, inr}
 use Rattle.std.specs.Prelude.{◌⊎◌, is_none, option_and_then, slice_index_or, codes}
 use Rattle.std.specs.Option.{option_map}

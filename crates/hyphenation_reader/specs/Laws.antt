@@ -1,6 +1,5 @@
 -- Laws of texts that are read, and of edits, for both kinds and both versions.
--- Each law is for all kinds: payload_of and listing_of say what a kind of dictionary holds for a change and for a listed
--- break.
+-- Each law is for all kinds: payload_of and listing_of say what a kind of dictionary holds for a change and a break.
 use Rattle.std.specs.Prelude.{◌≡◌, ℕ, ◌↔◌, Any, Contains, List, [], ◌∷◌, Option, Some, None, IsTrue, IsUtf8, find, if◌then◌else◌, map, unwrap_or}
 use Rattle.std.specs.List.Sorted.{IsPermutation}
 use Rattle.std.specs.FinMap as finite
@@ -21,7 +20,7 @@ use Rattle.hyphenation_grammar.specs.declared.form.Version.{Version}
 use Rattle.hyphenation_reader.specs.Edits.{after_edits, as_line, cause_in, edit_line, form_in, is_addition}
 use Rattle.std.specs.Option.{option_or}
 
--- A dictionary may hold the entries of a key, or the breaks of a word, that a line spells which fails no test by itself.
+-- A line that fails no test by itself spells a key with entries, or a word with breaks, that a dictionary may hold.
 abbrev pub SpeltIsSound : Type 0
 SpeltIsSound =
     (form : Form) (number : ℕ) (line : List ℕ) → own_cause form number line ≡ None

@@ -4,7 +4,7 @@
 //! ```text
 //! +hyphenation 2 6 7              breaks for the word, in place of its old ones
 //! +asszonnyal 2,1,2,2,szsz        a break with a change, in an extended dictionary
-//! -present                        the word is no exception
+//! -present                        the word is no exception any more
 //! ```
 //!
 //! An edit is judged as the `e` line with the same exception, but without the test for repetition: the word may be an

@@ -56,7 +56,7 @@ pub(crate) struct LineBuffers<C: Drop> {
     pub entries: Vec<Entry<C>>,
 }
 
-// Does as the derived one would. As a call it is one step in the proof of a function that holds these buffers; the
+// Does as the derived one would. As a call it is one step in the proof of a function that holds these buffers. The
 // derived one is a step for each buffer, at each way out.
 impl<C: Drop> Drop for LineBuffers<C> {
     fn drop(self) {

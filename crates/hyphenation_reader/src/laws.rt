@@ -8,7 +8,7 @@ use hyphenation_breaks::extended::Subregion;
 use hyphenation_breaks::laws::{boundary_is_of_chars, entries_in_order};
 use hyphenation_grammar::laws::{parts_are_text, spelt_is_text};
 
-/// A dictionary may hold the entries of a key, or the breaks of a word, that a line spells which fails no test by itself.
+/// A line that fails no test by itself spells a key with entries, or a word with breaks, that a dictionary may hold.
 pub fn spelt_is_sound()
     ensures { SpeltIsSound }
 {

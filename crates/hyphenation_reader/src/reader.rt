@@ -71,7 +71,7 @@ impl<C: Payload, B: Listing> Drop for Builder<C, B> {
 }
 
 impl<C: Payload, B: Listing> Builder<C, B> {
-    // Returns an empty builder, with room for a text of so many bytes: a text of patterns has six to eight bytes for
+    // Returns an empty builder, with room for a text of so many bytes. Texts of patterns have six to eight bytes for
     // each node, and seldom more than one exception in 40 bytes.
     fn new(alloc: Global, bytes: usize) -> Result<Builder<C, B>, AllocError>
         ensures empty { IfOk result (λ builder. items_held builder ≡ no_items) }
@@ -377,8 +377,8 @@ fn form_of(kind: Kind, bytes: &[u8]) -> Form
     Form { kind, version }
 }
 
-/// Reads a dictionary of a kind from its text, in either version, in one pass. A refusal names the first line that fails
-/// a test and the first test that it fails, or says that memory ran out.
+/// Reads a dictionary of a kind from its text, in either version, in one pass. A refusal names the first line that
+/// fails a test, with that test, or says that memory ran out.
 ///
 /// The kind must be that of the dictionary type: with the other kind changes are refused, or dropped.
 pub fn read_text<C: Payload, B: Listing>(

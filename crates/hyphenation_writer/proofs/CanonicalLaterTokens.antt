@@ -1,4 +1,4 @@
--- A later token that is spelt says again what it was spelt of.
+-- A later token as it is written is read again as the break that it was written for.
 use Rattle.std.proofs.Common.{◌≡◌, ℕ, suc, ◌-◌, ◌^◌, ◌<◌, Bool, true, false, cond, not, ◌&&◌, ◌||◌, eqb, nat_lt, List, [], ◌∷◌, ◌++◌, length, take, drop, get_or, Option, Some, None, is_some, unwrap_or, refl, sym, ap, ◌∙◌, arith, length-append}
 use Rattle.std.specs.Prelude.{decimal, flat_map, IsUtf8}
 use Rattle.std.specs.Option.{option_map}

@@ -1,4 +1,4 @@
--- A line that is spelt passes its tests, and spells again what it was spelt of.
+-- A line as it is written passes its tests, and spells the pattern or exception that it was written for.
 use Rattle.std.proofs.Common.{◌≡◌, ℕ, suc, ◌+◌, ◌<◌, ◌≤◌, Bool, true, false, cond, not, ◌&&◌, ◌||◌, ◌==◌, eqb, nat_le, nat_lt, List, [], ◌∷◌, ◌++◌, length, drop, map, get_or, Option, Some, None, is_some, is_none, unwrap_or, refl, sym, ap, ◌∙◌, arith}
 use Rattle.std.specs.Prelude.{IsUtf8}
 use Rattle.std.specs.List.{find, list_all, list_any, slice_split, AllByRecursion}
@@ -40,14 +40,14 @@ token_of b = break_token b.place b.change
 abbrev pub tokens_for : List Break → List (List ℕ)
 tokens_for bs = map token_of bs
 
--- What a text of that kind can say as a break.
+-- A break that a text of that kind can write.
 abbrev pub is_sayable : Kind → Break → Bool
 is_sayable kind b = fits_usize b.place && can_be_written_if_any b.change && is_allowed kind b.change
 
 abbrev pub are_allowed : Kind → List Break → Bool
 are_allowed kind bs = list_all (λ b. is_allowed kind b.change) bs
 
--- What is listed for a text can be said.
+-- Breaks that may be listed for a text can be written.
 said_of : (text : List ℕ) (place : ℕ) (o : Option Change) → stays_within text place o ≡ true → can_be_written_if_any o ≡ true
 said_of text place None s = refl
 said_of text place (Some c) s = second_so (fits_usize place) (can_be_written c) (first_so (fits_usize place && can_be_written c) (keeps_within text place c) s)

@@ -1,4 +1,4 @@
--- Each kind of dictionary holds exactly what its texts say.
+-- Each kind of dictionary holds exactly the contents of its texts.
 use Rattle.std.proofs.Common.{◌≡◌, ℕ, Option, None, refl}
 use Rattle.hyphenation_breaks.specs.Break.{Change, plain_break, break_at}
 use Rattle.hyphenation_writer.specs.Laws.{HoldsExactly}

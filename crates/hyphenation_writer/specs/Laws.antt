@@ -1,6 +1,6 @@
 -- Laws of canonical texts, for both kinds and both versions.
--- Each law is for all kinds: payload_of and listing_of say what a kind of dictionary holds for a change and for a listed
--- break, and change_of and break_of what that means.
+-- Each law is for all kinds: payload_of and listing_of say what a kind of dictionary holds for a change and a break.
+-- change_of and break_of say which change and break that means.
 use Rattle.std.specs.Prelude.{◌≡◌, ℕ, ◌≤◌, ◌↔◌, All, List, [], Option, Some, None, slice_index_or}
 use Rattle.std.specs.FinMap as finite
 use Rattle.hyphenation_breaks.specs.Break.{Break, Change}
@@ -16,8 +16,8 @@ use Rattle.hyphenation_grammar.specs.declared.form.Kind.{Kind}
 use Rattle.hyphenation_grammar.specs.declared.form.Version.TheVariants.{First}
 use Rattle.hyphenation_grammar.specs.declared.form.Kind.TheVariants.{Standard}
 
--- A kind of dictionary holds exactly the contents of its texts: each change and each listed break that it holds is read
--- again as it is written, and a standard dictionary holds no change.
+-- A kind of dictionary holds exactly the contents of its texts. Each change and break that it holds is read again as it
+-- is written, and a standard dictionary holds no change.
 pub record HoldsExactly {C B : Type 0} (kind : Kind) (payload_of : Option Change → C) (listing_of : Break → B)
     (change_of : C → Option Change) (break_of : B → Break) : Type 0 where
   pub changes : (c : C) → payload_of (change_of c) ≡ c

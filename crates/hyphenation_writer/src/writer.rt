@@ -347,9 +347,9 @@ fn assemble_text<C: Payload, B: Listing>(
     Ok(text)
 }
 
-/// Returns the canonical text of a dictionary of that kind, from which the dictionary is read again. Keys come first, then
-/// words, each sorted by their bytes, with no more escapes than needed. It has version 1 if each value is at most 9,
-/// else version 2.
+/// Returns the canonical text of a dictionary of that kind, from which the dictionary is read again. Keys come first,
+/// then words, each sorted by their bytes, with no more escapes than needed. It has version 1 if each value is at most
+/// 9, else version 2.
 ///
 /// The kind must be that of the dictionary. The only error is memory.
 pub fn write_text<C: Payload, B: Listing>(
@@ -376,8 +376,8 @@ pub fn write_text<C: Payload, B: Listing>(
     )
 }
 
-/// Returns the canonical text of a standard dictionary, from which that very dictionary is read again. The only error is
-/// memory.
+/// Returns the canonical text of a standard dictionary, from which that very dictionary is read again. The only error
+/// is memory.
 pub fn write_standard(alloc: Global, dictionary: &Standard) -> Result<Vec<u8>, AllocError>
     ensures text { IfOk result (λ text. text.items ≡ standard_text dictionary.now) }
     ensures accepted { IfOk result (λ text. refusal_of OfStandard text.items ≡ None) }

@@ -9,7 +9,7 @@ use Rattle.hyphenation_grammar.specs.declared.tokens.LaterToken.{LaterToken}
 use Rattle.hyphenation_grammar.specs.declared.tokens.LaterToken.TheVariants.{NoNumber, Unsound, Sound}
 use Rattle.hyphenation_reader.specs.declared.items.Later.{Later}
 
--- The contents of later tokens: places with their changes; whether each part is a number that must be one; whether each
+-- The contents of later tokens: places with their changes. Whether each part is a number that must be one, and each
 -- change has all parts, and its breakpoint between characters.
 pub record ReadLater : Type 0 where
   pub listed : List (ℕ × Option Change)
