@@ -1,10 +1,10 @@
 use Rattle.std.proofs.Common.{◌∙◌, arith}
 use Rattle.std.proofs.lemmas.Grind.{common_steps}
 use Rattle.hyphenation_grammar.proofs.LaterTokens.{told_at, told_nowhere}
-use Rattle.hyphenation_grammar.proofs.tokens.told.Goals as goal
+use Rattle.hyphenation_grammar.proofs.tokens.parse_change_token.Goals as goal
 
 pub first_number-requires : goal.first_number-requires
-first_number-requires c = c.requires.parted
+first_number-requires c = c.requires.several_parts
 
 pub change_of-requires : goal.change_of-requires
 change_of-requires c = c.requires.utf8
