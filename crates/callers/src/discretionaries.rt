@@ -2,7 +2,7 @@
 
 ghost use Rattle.std.specs.Prelude.{◌≡◌, ◌++◌, IfOk, map};
 ghost use Rattle.std.specs.String.{string_bytes};
-ghost use Rattle.hyphenation_segments.specs.Fits.{Stands};
+ghost use Rattle.hyphenation_segments.specs.Fits.{BreakFitsAfter};
 ghost use Rattle.callers.specs.Discretionaries.{Parts, parts_at};
 
 use hyphenation::hyphenator::{Break, Word};
@@ -24,7 +24,7 @@ fn set_at<'t, B: Break>(
     b: &B,
     hyphen: &str,
 ) -> Result<Discretionary<'t>, AllocError>
-    requires { Stands text.now 0 0 (B.meaning b.now) }
+    requires { BreakFitsAfter text.now 0 0 (B.meaning b.now) }
     ensures { IfOk result (λ set.
         record { before = string_bytes set.before; after = string_bytes set.after; unbroken = set.unbroken.now }
         ≡ parts_at hyphen.now text.now (B.meaning b.now)) }

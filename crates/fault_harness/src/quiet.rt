@@ -123,7 +123,7 @@ fn of_segments<G: Read>(tally: &mut Tally, alloc: Global, gate: &mut G) -> io::R
     let mut segments = word.iter().segments();
     tally.note(segments.next() == Some("hy"));
     tally.note(segments.pull() == Some("phen"));
-    tally.note(segments.len() == 2 && segments.left() == 2);
+    tally.note(segments.len() == 2 && segments.remaining_len() == 2);
     let mut copied = segments.clone()?;
     tally.note(copied.next() == Some("a"));
     tally.note(word.into_iter().len() == 4);
@@ -144,9 +144,9 @@ fn of_changed_segments<G: Read>(tally: &mut Tally, alloc: Global, gate: &mut G) 
             Some(item) => tally.note(matches!(item.text(), Ok("phen"))),
             None => tally.note(false),
         }
-        tally.note(lent.len() == 2 && lent.left() == 2);
+        tally.note(lent.len() == 2 && lent.remaining_len() == 2);
         let mut places = breaks.iter().copied();
-        tally.note(places.left() == 3 && places.pull() == Some(2) && places.left() == 2);
+        tally.note(places.remaining_len() == 3 && places.pull() == Some(2) && places.remaining_len() == 2);
         let segments = Segments::new("hyphenation", breaks.iter().copied());
         let rest = Hyphenating::new(alloc, segments);
         tally.note(rest.len() == 4);
@@ -163,7 +163,7 @@ fn of_owned_breaks<G: Read>(tally: &mut Tally, alloc: Global, gate: &mut G) -> i
     let word = dictionary.hyphenate(alloc, "asszonnyal")?;
     step(gate);
     let mut places = breaks.into_iter();
-    tally.note(places.left() == 3 && places.pull() == Some(2) && places.left() == 2);
+    tally.note(places.remaining_len() == 3 && places.pull() == Some(2) && places.remaining_len() == 2);
     let items = word.into_iter();
     tally.note(items.len() == 3 && items.size_hint() == (3, Some(3)));
     step(gate);

@@ -17,19 +17,19 @@ abbrev pub fits_usize : ℕ → Bool
 fits_usize n = nat_lt n (2 ^ 64)
 
 -- What a dictionary text can say of a change: numbers below 2^64, and a substitution that is text.
-abbrev pub can_be_said : Change → Bool
-can_be_said change =
+abbrev pub can_be_written : Change → Bool
+can_be_written change =
     fits_usize change.left && fits_usize change.right && fits_usize change.breakpoint && is_utf8 change.substitution
 
 -- The same of a change where there is one.
-abbrev pub can_be_said_if_any : Option Change → Bool
-can_be_said_if_any None = true
-can_be_said_if_any (Some change) = can_be_said change
+abbrev pub can_be_written_if_any : Option Change → Bool
+can_be_written_if_any None = true
+can_be_written_if_any (Some change) = can_be_written change
 
 -- A change, where there is one, can be said at the place, and keeps within the text.
 abbrev pub stays_within : List ℕ → ℕ → Option Change → Bool
 stays_within text place None = true
-stays_within text place (Some change) = fits_usize place && can_be_said change && keeps_within text place change
+stays_within text place (Some change) = fits_usize place && can_be_written change && keeps_within text place change
 
 -- A place is below 2^64, and its change, where there is one, can be said there and keeps within the text. That the
 -- place is a character boundary is said where places ascend.

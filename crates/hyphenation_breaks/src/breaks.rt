@@ -2,7 +2,7 @@
 
 ghost use Rattle.std.specs.Prelude.{◌≡◌, ◌≤◌, ◌<◌, ◌^◌, ◌&&◌, IsTrue, IsSome, IfSome, ◌↔◌};
 ghost use Rattle.hyphenation_breaks.specs.Break.{left_of, begin_of, end_of, before_of, after_of, is_changed, is_boundary, has_boundary};
-ghost use Rattle.hyphenation_breaks.specs.Invariant.{can_be_said_if_any, lists_within};
+ghost use Rattle.hyphenation_breaks.specs.Invariant.{can_be_written_if_any, lists_within};
 
 /// A break of a word: a place, and a change or none.
 ///
@@ -43,7 +43,7 @@ pub trait Break: Drop {
     /// dictionary text can say it. The call does nothing.
     fn invariant(&self)
         ensures boundary { IsTrue (has_boundary (meaning self.now).change) }
-        ensures said { IsTrue (can_be_said_if_any (meaning self.now).change) };
+        ensures said { IsTrue (can_be_written_if_any (meaning self.now).change) };
 }
 
 /// A place alone changes nothing.
@@ -84,7 +84,7 @@ fn are_boundaries(text: &str, place: usize, range: (usize, usize)) -> bool
 }
 
 /// Whether a break's place, and the ends of its range, stand in a text between its characters.
-pub fn stands_in<B: Break>(text: &str, b: &B) -> bool
+pub fn lies_in<B: Break>(text: &str, b: &B) -> bool
     ensures { IsTrue result
         ↔ IsTrue (is_boundary text.now (B.meaning b.now).place && lists_within text.now (B.meaning b.now).place
         (B.meaning b.now).change) }

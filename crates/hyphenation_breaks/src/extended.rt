@@ -6,7 +6,7 @@
 ghost use Rattle.std.specs.Prelude.{◌≡◌, ◌+◌, ◌-◌, ◌<◌, ◌≤◌, ◌^◌, ◌↔◌, IsTrue, IsSome, IfSome, take, drop};
 ghost use Rattle.std.specs.String.{string_bytes};
 ghost use Rattle.hyphenation_breaks.specs.Break.{is_boundary};
-ghost use Rattle.hyphenation_breaks.specs.Invariant.{can_be_said};
+ghost use Rattle.hyphenation_breaks.specs.Invariant.{can_be_written};
 
 use crate::breaks::Break;
 use std::hash::{Hash, Hasher};
@@ -77,7 +77,7 @@ impl Subregion {
     /// text can say it. The call does nothing.
     pub fn invariant(&self)
         ensures boundary { IsTrue (is_boundary self.now.substitution self.now.breakpoint) }
-        ensures said { IsTrue (can_be_said self.now) }
+        ensures said { IsTrue (can_be_written self.now) }
     {
         // The look at the fields opens what the type holds.
         let (_left, _right, _breakpoint) = (self.left, self.right, self.breakpoint);

@@ -6,7 +6,7 @@ use Rattle.std.specs.Str.{is_utf8}
 use Rattle.hyphenation_breaks.specs.Break.{ascend_on, keeps_within}
 use Rattle.hyphenation_grammar.specs.Form.{head_line, form_of}
 use Rattle.hyphenation_grammar.specs.Lines.{is_same, starts_with, language_of, minima_of, is_number, lines_of}
-use Rattle.hyphenation_grammar.specs.Tokens.{elements_of, pattern_bytes, text_spelt, two_values, has_comma, numerals_of, is_readable, place_of_token, is_whole, change_of_token, values_from}
+use Rattle.hyphenation_grammar.specs.Tokens.{elements_of, pattern_bytes, text_spelt, two_values, has_comma, numerals_of, is_readable, place_of_token, has_five_parts, change_of_token, values_from}
 use Rattle.hyphenation_grammar.specs.Items.{is_pattern_line, is_exception_line, first_token_of, later_tokens_of, pattern_elements, key_of_line, word_of_line, counted_text, key_spelt, word_spelt}
 use Rattle.hyphenation_grammar.specs.declared.tokens.PatternElement.{PatternElement}
 use Rattle.hyphenation_grammar.specs.declared.form.Form.{Form}
@@ -44,7 +44,7 @@ has_value_at elements place = list_any (λ v. v.0 == place) (values_from 0 eleme
 -- within the key or word, and in a `p` line a value other than 0 stands at its place.
 abbrev pub is_good_later_token : Form → Bool → List PatternElement → List ℕ → List ℕ → Bool
 is_good_later_token form in_pattern elements text token =
-    if has_comma token then is_extended form.kind && is_whole token
+    if has_comma token then is_extended form.kind && has_five_parts token
     && keeps_within text (place_of_token token) (change_of_token token)
     && (not in_pattern || has_value_at elements (place_of_token token))
     else not in_pattern
@@ -92,16 +92,16 @@ own_cause form number line =
     ∷ Change ∷ [])
 
 -- An earlier line spells the text.
-abbrev pub stands_in : (List ℕ → Option (List ℕ)) → List (List ℕ) → List ℕ → Bool
-stands_in spells earlier text =
+abbrev pub is_repeated : (List ℕ → Option (List ℕ)) → List (List ℕ) → List ℕ → Bool
+is_repeated spells earlier text =
     list_any (λ line. option_map_or (λ other. is_same other text) (spells line) false) earlier
 
 -- The last two tests: the key or the word stands in an earlier line.
 abbrev pub repetition : Version → List (List ℕ) → List ℕ → Option Cause
 repetition version earlier line =
-    if is_pattern_line line && stands_in (key_spelt version) earlier (key_of_line version line)
+    if is_pattern_line line && is_repeated (key_spelt version) earlier (key_of_line version line)
     then Some RepeatedPattern
-    else (if is_exception_line line && stands_in word_spelt earlier (word_of_line line)
+    else (if is_exception_line line && is_repeated word_spelt earlier (word_of_line line)
     then Some RepeatedException
     else None)
 

@@ -62,22 +62,22 @@ language_of line =
     option_and_then (λ code. if is_code code then Some code else None) (strip_prefix (codes "language ") line)
 
 -- A number from 0 to 255.
-abbrev pub is_small : List ℕ → Bool
-is_small text = is_number text && nat_le (number text) 255
+abbrev pub is_number_to_255 : List ℕ → Bool
+is_number_to_255 text = is_number text && nat_le (number text) 255
 
 -- That number; none where the text is none.
-abbrev pub small_of : List ℕ → Option ℕ
-small_of text = if is_small text then Some (number text) else None
+abbrev pub number_to_255 : List ℕ → Option ℕ
+number_to_255 text = if is_number_to_255 text then Some (number text) else None
 
 -- Two such numbers, where there are exactly two parts.
-abbrev pub two_small : List (List ℕ) → Option (ℕ × ℕ)
-two_small parts =
+abbrev pub two_minima : List (List ℕ) → Option (ℕ × ℕ)
+two_minima parts =
     if length parts == 2
-    then option_and_then (λ left. option_map (λ right. (left, right)) (small_of (slice_index_or parts 1 [])))
-    (small_of (slice_index_or parts 0 []))
+    then option_and_then (λ left. option_map (λ right. (left, right)) (number_to_255 (slice_index_or parts 1 [])))
+    (number_to_255 (slice_index_or parts 0 []))
     else None
 
 -- Line 3 gives the minima.
 abbrev pub minima_of : List ℕ → Option (ℕ × ℕ)
 minima_of line =
-    option_and_then (λ rest. two_small (slice_split (λ b. b == 32) rest)) (strip_prefix (codes "minima ") line)
+    option_and_then (λ rest. two_minima (slice_split (λ b. b == 32) rest)) (strip_prefix (codes "minima ") line)

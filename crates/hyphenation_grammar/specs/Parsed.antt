@@ -100,18 +100,18 @@ token_with place None = Unsound place
 token_with place (Some change) = Sound place (Some change)
 
 -- What two parts or more say.
-abbrev pub parted_token_said : List (List ℕ) → LaterToken
-parted_token_said parts =
+abbrev pub parse_change_token : List (List ℕ) → LaterToken
+parse_change_token parts =
     if list_all is_number (take (length parts - 1) parts)
     then token_with (number (part_at parts 0)) (sound_change parts)
     else NoNumber
 
 -- What parts say.
-abbrev pub token_said : List (List ℕ) → LaterToken
-token_said parts =
-    if nat_lt 1 (length parts) then parted_token_said parts
+abbrev pub parse_parts : List (List ℕ) → LaterToken
+parse_parts parts =
+    if nat_lt 1 (length parts) then parse_change_token parts
     else (if list_all is_number parts then Sound (number (part_at parts 0)) None else NoNumber)
 
 -- What a later token says.
 abbrev pub later_token : List ℕ → Option LaterToken
-later_token token = if is_readable token then Some (token_said (parts_of token)) else None
+later_token token = if is_readable token then Some (parse_parts (parts_of token)) else None

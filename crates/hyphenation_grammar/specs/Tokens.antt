@@ -2,7 +2,7 @@
 use Rattle.std.specs.Prelude.{ℕ, ◌+◌, ◌-◌, ◌==◌, ◌&&◌, ◌||◌, nat_lt, nat_le, Bool, true, false, not, if◌then◌else◌, List, [], ◌∷◌, ◌++◌, length, map, take, drop, codes, Option, Some, None, is_some, unwrap_or, option_map, option_and_then, slice_index_or}
 use Rattle.std.specs.List.{list_all, onto_first}
 use Rattle.hyphenation_breaks.specs.Break.{Change}
-use Rattle.hyphenation_grammar.specs.Lines.{is_digit, number, is_same, small_of}
+use Rattle.hyphenation_grammar.specs.Lines.{is_digit, number, is_same, number_to_255}
 use Rattle.hyphenation_grammar.specs.declared.tokens.Escapes.{Escapes}
 use Rattle.hyphenation_grammar.specs.declared.tokens.Escapes.TheVariants.{Plain, Digits, DigitsAndBraces}
 use Rattle.hyphenation_grammar.specs.declared.form.Version.{Version}
@@ -36,9 +36,9 @@ byte_of_escape escapes c =
 
 -- What a byte adds to what was read, after a backslash or not: after one what it means, else itself, and a backslash
 -- nothing. None where it can't stand there, as a carriage return.
-abbrev pub bytes_added : Escapes → Bool → ℕ → Option (List EscapedByte)
-bytes_added escapes true c = option_map (λ byte. record { byte = byte; escaped = true } ∷ []) (byte_of_escape escapes c)
-bytes_added escapes false b =
+abbrev pub unescape_byte : Escapes → Bool → ℕ → Option (List EscapedByte)
+unescape_byte escapes true c = option_map (λ byte. record { byte = byte; escaped = true } ∷ []) (byte_of_escape escapes c)
+unescape_byte escapes false b =
     if b == 92 then Some [] else (if b == 13 then None else Some (record { byte = b; escaped = false } ∷ []))
 
 -- One after the other; none where one of them is none.
@@ -51,7 +51,7 @@ abbrev pub escaped_bytes_after : Escapes → Bool → List ℕ → Option (List 
 escaped_bytes_after escapes true [] = None
 escaped_bytes_after escapes false [] = Some []
 escaped_bytes_after escapes after (b ∷ rest) =
-    concatenation (bytes_added escapes after b) (escaped_bytes_after escapes (not after && b == 92) rest)
+    concatenation (unescape_byte escapes after b) (escaped_bytes_after escapes (not after && b == 92) rest)
 
 -- The bytes of a whole token, in the same way.
 abbrev pub escaped_bytes_of : Escapes → List ℕ → Option (List EscapedByte)
@@ -72,28 +72,28 @@ abbrev pub element_of : EscapedByte → PatternElement
 element_of spelt = if not spelt.escaped && is_digit spelt.byte then Value (spelt.byte - 48) else Letter spelt.byte
 
 -- An unescaped byte.
-abbrev pub is_raw : ℕ → EscapedByte → Bool
-is_raw b spelt = not spelt.escaped && spelt.byte == b
+abbrev pub is_unescaped : ℕ → EscapedByte → Bool
+is_unescaped b spelt = not spelt.escaped && spelt.byte == b
 
 -- An unescaped digit.
-abbrev pub is_raw_digit : EscapedByte → Bool
-is_raw_digit spelt = not spelt.escaped && is_digit spelt.byte
+abbrev pub is_unescaped_digit : EscapedByte → Bool
+is_unescaped_digit spelt = not spelt.escaped && is_digit spelt.byte
 
 -- The value that digits in braces write: a number from 10 to 255.
 abbrev pub braced_value : List ℕ → Option ℕ
-braced_value digits = option_and_then (λ value. if nat_le 10 value then Some value else None) (small_of digits)
+braced_value digits = option_and_then (λ value. if nat_le 10 value then Some value else None) (number_to_255 digits)
 
 -- A byte outside braces: the digits in the braces that it opens, if it does, and the elements that it adds. None of a closing one.
 abbrev pub step_outside : EscapedByte → Option (Option (List ℕ) × List PatternElement)
 step_outside spelt =
-    if is_raw 123 spelt then Some (Some [], [])
-    else (if is_raw 125 spelt then None else Some (None, element_of spelt ∷ []))
+    if is_unescaped 123 spelt then Some (Some [], [])
+    else (if is_unescaped 125 spelt then None else Some (None, element_of spelt ∷ []))
 
 -- A byte in braces, after these digits: one more of them, or the brace that ends the value. None where it can't stand there.
 abbrev pub step_inside : List ℕ → EscapedByte → Option (Option (List ℕ) × List PatternElement)
 step_inside digits spelt =
-    if is_raw 125 spelt then option_map (λ value. (None, Value value ∷ [])) (braced_value digits)
-    else (if is_raw_digit spelt then Some (Some (digits ++ spelt.byte ∷ []), []) else None)
+    if is_unescaped 125 spelt then option_map (λ value. (None, Value value ∷ [])) (braced_value digits)
+    else (if is_unescaped_digit spelt then Some (Some (digits ++ spelt.byte ∷ []), []) else None)
 
 -- The next byte: in the first version braces are letters; in the second it stands outside braces, or in them.
 abbrev pub step_at : Version → Option (List ℕ) → EscapedByte → Option (Option (List ℕ) × List PatternElement)
@@ -179,8 +179,8 @@ abbrev pub place_of_token : List ℕ → ℕ
 place_of_token token = number (part 0 token)
 
 -- All of place, left, right and breakpoint, and something after the fourth comma.
-abbrev pub is_whole : List ℕ → Bool
-is_whole token = length (parts_of token) == 5 && nat_lt 0 (length (part 4 token))
+abbrev pub has_five_parts : List ℕ → Bool
+has_five_parts token = length (parts_of token) == 5 && nat_lt 0 (length (part 4 token))
 
 -- Its change, by the parts after the first one.
 abbrev pub change_of_token : List ℕ → Change

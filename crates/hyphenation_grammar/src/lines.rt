@@ -4,8 +4,8 @@ ghost use Rattle.std.specs.Prelude.{◌≡◌, ◌==◌, ◌^◌, ◌<◌, ◌�
 ghost use Rattle.std.specs.List.{list_all, slice_split};
 ghost use Rattle.std.specs.Str.{is_utf8};
 ghost use Rattle.hyphenation_grammar.specs.Form.{head_line, head_of, version_by};
-ghost use Rattle.hyphenation_grammar.specs.Lines.{lines_of, tokens_after, strip_prefix, starts_with, is_digit, has_no_leading_zero, number_of, with_digit, language_of, minima_of, small_of, two_small, is_same};
-ghost use Rattle.hyphenation_grammar.specs.Private.Lines.{value_below};
+ghost use Rattle.hyphenation_grammar.specs.Lines.{lines_of, tokens_after, strip_prefix, starts_with, is_digit, has_no_leading_zero, number_of, with_digit, language_of, minima_of, number_to_255, two_minima, is_same};
+ghost use Rattle.hyphenation_grammar.specs.Private.Lines.{value_in_64_bits};
 
 use crate::form::{Form, Kind, Version};
 use hyphenation_breaks::language::Language;
@@ -127,14 +127,14 @@ pub fn minima_of(alloc: Global, line: &[u8]) -> Result<Option<(u8, u8)>, AllocEr
         None => Ok(None),
         Some(rest) => {
             let parts = between_spaces(alloc, rest)?;
-            Ok(two_small(&parts))
+            Ok(two_minima(&parts))
         }
     }
 }
 
 /// Two numbers from 0 to 255, where there are exactly two parts.
-fn two_small(parts: &[&[u8]]) -> Option<(u8, u8)>
-    ensures { result ≡ two_small (map (λ part. part.now) parts.now) }
+fn two_minima(parts: &[&[u8]]) -> Option<(u8, u8)>
+    ensures { result ≡ two_minima (map (λ part. part.now) parts.now) }
 {
     if parts.len() != 2 {
         return None;
@@ -147,7 +147,7 @@ fn two_small(parts: &[&[u8]]) -> Option<(u8, u8)>
 
 /// A number from 0 to 255.
 pub(crate) fn small(text: &[u8]) -> Option<u8>
-    ensures { result ≡ small_of text.now }
+    ensures { result ≡ number_to_255 text.now }
 {
     let value = number_of(text)?;
     u8::try_from(value).ok()
@@ -190,7 +190,7 @@ fn has_no_leading_zero(text: &[u8]) -> bool
 /// The number of a row of digits, if it is below 2^64.
 fn digits_value(text: &[u8]) -> Option<usize>
     requires { list_all is_digit text.now ≡ true }
-    ensures { result ≡ value_below text.now }
+    ensures { result ≡ value_in_64_bits text.now }
 {
     let mut value: usize = 0;
     for byte in text {

@@ -7,7 +7,7 @@ ghost use Rattle.hyphenation_grammar.specs.Tokens.{braced_value, pattern_escapes
 
 use crate::form::Version;
 use crate::lines::small;
-use crate::tokens::{EscapedByte, Escapes, PatternElement, added, element_of};
+use crate::tokens::{EscapedByte, Escapes, PatternElement, unescape_byte, element_of};
 use std::alloc::{AllocError, Global};
 
 /// What a pattern's token says, as far as it is read. It may be read into again and again: its lists keep their room.
@@ -30,7 +30,7 @@ pub struct PatternToken {
 impl PatternToken {
     ghost use Rattle.std.specs.Prelude.{◌≡◌, None, Some, IfOk, OnOk, fold, if◌then◌else◌, option_map};
     ghost use Rattle.hyphenation_grammar.specs.Parsed.{is_bad, pattern_view, nothing_read, with_element, with_spelt, with_step};
-    ghost use Rattle.hyphenation_grammar.specs.Tokens.{bytes_added, step_inside, step_outside, pattern_escapes};
+    ghost use Rattle.hyphenation_grammar.specs.Tokens.{unescape_byte, step_inside, step_outside, pattern_escapes};
 
     /// A token of which nothing is read, without room yet.
     pub fn new(alloc: Global) -> Self
@@ -77,14 +77,14 @@ impl PatternToken {
         ensures { IfOk result (λ stands.
             (if stands then Some (pattern_view self.new) else None)
             ≡ option_map (fold (with_spelt version) (pattern_view self.old))
-            (bytes_added (pattern_escapes version) after byte)) }
+            (unescape_byte (pattern_escapes version) after byte)) }
     {
         // Most bytes are letters outside braces.
         if !after && is_plain(byte) && self.digits.is_none() {
             self.add_element(PatternElement::Letter(byte))?;
             return Ok(true);
         }
-        match added(pattern_escapes(version), after, byte) {
+        match unescape_byte(pattern_escapes(version), after, byte) {
             None => Ok(false),
             Some(None) => Ok(true),
             Some(Some(spelt)) => {

@@ -7,9 +7,9 @@ ghost use Rattle.hyphenation_breaks.specs.Break.{is_boundary};
 ghost use Rattle.hyphenation_grammar.specs.declared.tokens.Escapes.TheVariants.{Plain};
 ghost use Rattle.hyphenation_grammar.specs.Lines.{is_number, number};
 ghost use Rattle.std.specs.String.{string_bytes};
-ghost use Rattle.hyphenation_grammar.specs.Parsed.{later_token, parted_token_said, sound_change, change_with, part_at, token_with};
-ghost use Rattle.hyphenation_grammar.specs.Tokens.{bytes_added, escaped_also, element_of, byte_of_escape, bytes_of, parts_of, parts_within, escaped_bytes_of, text_spelt};
-ghost use Rattle.hyphenation_grammar.specs.Private.Tokens.{is_itself};
+ghost use Rattle.hyphenation_grammar.specs.Parsed.{later_token, parse_change_token, sound_change, change_with, part_at, token_with};
+ghost use Rattle.hyphenation_grammar.specs.Tokens.{unescape_byte, escaped_also, element_of, byte_of_escape, bytes_of, parts_of, parts_within, escaped_bytes_of, text_spelt};
+ghost use Rattle.hyphenation_grammar.specs.Private.Tokens.{stands_for_itself};
 
 use crate::lines::number_of;
 use hyphenation_breaks::extended::Subregion;
@@ -43,7 +43,7 @@ pub enum PatternElement {
 }
 
 /// The byte that a letter after a backslash means.
-fn meaning(escapes: Escapes, letter: u8) -> Option<u8>
+fn byte_of_escape(escapes: Escapes, letter: u8) -> Option<u8>
     ensures { result ≡ byte_of_escape escapes letter }
 {
     match letter {
@@ -68,11 +68,11 @@ pub fn escaped_also(escapes: Escapes, letter: u8) -> bool
 
 /// What a byte adds to what was read before it, after a backslash or not: a byte, or nothing where it is a
 /// backslash itself. None where it cannot stand there.
-pub(crate) fn added(escapes: Escapes, after: bool, byte: u8) -> Option<Option<EscapedByte>>
-    ensures { option_map option_to_list result ≡ bytes_added escapes after byte }
+pub(crate) fn unescape_byte(escapes: Escapes, after: bool, byte: u8) -> Option<Option<EscapedByte>>
+    ensures { option_map option_to_list result ≡ unescape_byte escapes after byte }
 {
     if after {
-        let byte = meaning(escapes, byte)?;
+        let byte = byte_of_escape(escapes, byte)?;
         return Some(Some(EscapedByte {
             byte,
             escaped: true,
@@ -94,7 +94,7 @@ pub(crate) fn has_good_escapes(escapes: Escapes, text: &[u8]) -> bool
 {
     let mut after = false;
     for byte in text {
-        if added(escapes, after, *byte).is_none() {
+        if unescape_byte(escapes, after, *byte).is_none() {
             return false;
         }
         after = !after && *byte == b'\\';
@@ -103,17 +103,17 @@ pub(crate) fn has_good_escapes(escapes: Escapes, text: &[u8]) -> bool
 }
 
 /// Whether a byte stands for itself, and needs no escape to do so.
-fn is_itself(byte: u8) -> bool
-    ensures { result ≡ is_itself byte }
+fn stands_for_itself(byte: u8) -> bool
+    ensures { result ≡ stands_for_itself byte }
 {
     byte != b'\\' && byte != b'\r'
 }
 
 /// Whether all bytes stand for themselves in a token.
-fn are_themselves(text: &[u8]) -> bool
-    ensures { result ≡ list_all is_itself text.now }
+fn stand_for_themselves(text: &[u8]) -> bool
+    ensures { result ≡ list_all stands_for_itself text.now }
 {
-    text.iter().all(|byte| is_itself(*byte))
+    text.iter().all(|byte| stands_for_itself(*byte))
 }
 
 /// A copy of a text.
@@ -133,7 +133,7 @@ pub(crate) fn text_of(alloc: Global, written: &[u8]) -> Result<Option<Vec<u8>>, 
         return Ok(Some(Vec::new(alloc)));
     }
     // Most texts have no escape.
-    if are_themselves(written) {
+    if stand_for_themselves(written) {
         let copy = copied(alloc, written)?;
         return Ok(Some(copy));
     }
@@ -148,7 +148,7 @@ fn unescaped(alloc: Global, written: &[u8]) -> Result<Option<Vec<u8>>, AllocErro
     let mut text = Vec::with_capacity(alloc, written.len())?;
     let mut after = false;
     for byte in written {
-        match added(Escapes::Plain, after, *byte) {
+        match unescape_byte(Escapes::Plain, after, *byte) {
             None => return Ok(None),
             Some(None) => {}
             Some(Some(spelt)) => text.push(spelt.byte)?,
@@ -235,13 +235,13 @@ pub fn later_token(alloc: Global, token: &[u8]) -> Result<Option<LaterToken>, Al
         return Ok(None);
     }
     if comma(token).is_none() {
-        return Ok(whole_token(token));
+        return Ok(plain_token(token));
     }
-    parted_token(alloc, token)
+    change_token(alloc, token)
 }
 
 /// A token without a comma.
-fn whole_token(token: &[u8]) -> Option<LaterToken>
+fn plain_token(token: &[u8]) -> Option<LaterToken>
     requires some { 0 < length token.now }
     requires whole { None ≡ position (λ b. b == 44) token.now }
     ensures { result ≡ later_token token.now }
@@ -256,7 +256,7 @@ fn whole_token(token: &[u8]) -> Option<LaterToken>
 }
 
 /// A token with a comma.
-fn parted_token(alloc: Global, token: &[u8]) -> Result<Option<LaterToken>, AllocError>
+fn change_token(alloc: Global, token: &[u8]) -> Result<Option<LaterToken>, AllocError>
     requires utf8 { IsUtf8 token.now }
     requires some { 0 < length token.now }
     requires parted { IsSome (position (λ b. b == 44) token.now) }
@@ -273,7 +273,7 @@ fn parted_token(alloc: Global, token: &[u8]) -> Result<Option<LaterToken>, Alloc
 fn told(alloc: Global, parts: &[&[u8]]) -> Result<LaterToken, AllocError>
     requires utf8 { IsUtf8 (part_at (map (λ part. part.now) parts.now) 4) }
     requires parted { 1 < length parts.now }
-    ensures { IfOk result (λ token. token ≡ parted_token_said (map (λ part. part.now) parts.now)) }
+    ensures { IfOk result (λ token. token ≡ parse_change_token (map (λ part. part.now) parts.now)) }
 {
     match first_number(parts) {
         None => Ok(LaterToken::NoNumber),

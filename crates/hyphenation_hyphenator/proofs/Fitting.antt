@@ -12,7 +12,7 @@ use Rattle.std.proofs.lemmas.List.Folds.{list_all-append, list_any_at}
 use Rattle.std.proofs.lemmas.Str.{IsCharBoundary-start}
 use Rattle.std.proofs.lemmas.List.FromFn.{get_or-range_with_len, length-range_with_len}
 use Rattle.hyphenation_breaks.specs.Break.{Break, break_at, left_of, right_of, begin_of, end_of}
-use Rattle.hyphenation_segments.specs.Fits.{Fits, FitsFrom, Stands}
+use Rattle.hyphenation_segments.specs.Fits.{Fits, FitsFrom, BreakFitsAfter}
 use Rattle.hyphenation_hyphenator.specs.Fitting.{holds_changed, is_steady, is_after, keep_break, kept_breaks, fitted_breaks, KeepsRange}
 use Rattle.hyphenation_hyphenator.specs.Private.Fitting.{holds_shift, is_steady_by}
 use Rattle.hyphenation_hyphenator.specs.Folding.{fold_character, fold_case, carried_back, changes_length, shift_of, shifts_of}
@@ -171,7 +171,7 @@ carried_keeps_order word p q u a b h =
       | false ↦ λ e. let back = ltb-false p q e in let same : p ≡ q = omega arith in let carry = ap (carried_back word) same in omega arith
     ] refl
 
-stands : (word : List ℕ) (last_end least : ℕ) (b : Break) → IsUtf8 word → IsCharBoundary (fold_case word) last_end → CarriesRange word b → last_end ≤ begin_of b → least ≤ carried_back word b.place → Stands word (carried_back word last_end) least (break_carried_back word b)
+stands : (word : List ℕ) (last_end least : ℕ) (b : Break) → IsUtf8 word → IsCharBoundary (fold_case word) last_end → CarriesRange word b → last_end ≤ begin_of b → least ≤ carried_back word b.place → BreakFitsAfter word (carried_back word last_end) least (break_carried_back word b)
 stands word last_end least b u at range apart least_ok =
     let place = carried_back word b.place in
     let begin_is : carried_back word (begin_of b) ≡ place - left_of b.change = let e = range.begin in omega arith in

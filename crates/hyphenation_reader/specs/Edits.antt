@@ -38,8 +38,8 @@ edit_line edit = as_line (drop 1 edit)
 -- ---- which edits are good
 
 -- It holds a line feed.
-abbrev pub has_feed : List ℕ → Bool
-has_feed edit = list_any (λ b. b == 10) edit
+abbrev pub has_line_feed : List ℕ → Bool
+has_line_feed edit = list_any (λ b. b == 10) edit
 
 -- The form of that kind and that version.
 abbrev pub form_in : Kind → Version → Form
@@ -67,7 +67,7 @@ is_good_removal kind edit = is_removal edit && is_word_alone kind (edit_line edi
 
 -- It is one of the two, and holds no line feed.
 abbrev pub is_good_edit : Kind → List ℕ → Bool
-is_good_edit kind edit = not (has_feed edit) && (is_good_addition kind edit || is_good_removal kind edit)
+is_good_edit kind edit = not (has_line_feed edit) && (is_good_addition kind edit || is_good_removal kind edit)
 
 -- The number, from one on, of the first that is not.
 abbrev pub first_refused_from : Kind → ℕ → List (List ℕ) → Option ℕ

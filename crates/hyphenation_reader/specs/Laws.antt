@@ -69,22 +69,22 @@ abbrev pub word_named : List ℕ → List ℕ
 word_named edit = word_of_line (edit_line edit)
 
 -- What an edit says of its word: the breaks that are listed for it, or that it is no exception.
-abbrev pub said_of_word : {B : Type 0} → (Break → B) → List ℕ → Option (List B)
-said_of_word listing_of edit =
+abbrev pub effect_on_word : {B : Type 0} → (Break → B) → List ℕ → Option (List B)
+effect_on_word listing_of edit =
     if is_addition edit then Some (map listing_of (breaks_of_line (edit_line edit))) else None
 
 -- What the last edit that names a word says of it; none, where no edit names it.
-abbrev pub last_said_of : {B : Type 0} → (Break → B) → List ℕ → List (List ℕ) → Option (Option (List B))
-last_said_of listing_of word [] = None
-last_said_of listing_of word (edit ∷ edits) =
-    option_or (last_said_of listing_of word edits)
-    (if is_same (word_named edit) word then Some (said_of_word listing_of edit) else None)
+abbrev pub last_effect_on : {B : Type 0} → (Break → B) → List ℕ → List (List ℕ) → Option (Option (List B))
+last_effect_on listing_of word [] = None
+last_effect_on listing_of word (edit ∷ edits) =
+    option_or (last_effect_on listing_of word edits)
+    (if is_same (word_named edit) word then Some (effect_on_word listing_of edit) else None)
 
 -- Of the edits that name a word the last one decides, and where there is none, the dictionary before them.
 abbrev pub LastDecides : Type 0 → Type 0 → Type 0
 LastDecides C B = (listing_of : Break → B) (dictionary : Contents C B) (edits : List (List ℕ)) (word : List ℕ) →
     finite.get (after_edits listing_of dictionary edits).exceptions word
-    ≡ unwrap_or (last_said_of listing_of word edits) (finite.get dictionary.exceptions word)
+    ≡ unwrap_or (last_effect_on listing_of word edits) (finite.get dictionary.exceptions word)
 
 -- Both versions judge the line of an edit alike.
 abbrev pub VersionsAgree : Type 0

@@ -13,7 +13,7 @@
 ghost use Rattle.std.specs.Prelude.{◌≡◌, IfOk, IsTrue, IsUtf8, OnErr, not};
 ghost use Rattle.hyphenation_reader.specs.Laws.{FourTests, LastDecides, VersionsAgree};
 ghost use Rattle.hyphenation_reader.specs.Private.Edits.{ReadsException};
-ghost use Rattle.hyphenation_reader.specs.Edits.{as_line, after_edit, has_feed, is_good_edit, is_sound_line, is_word_alone, with_exception, without_exception};
+ghost use Rattle.hyphenation_reader.specs.Edits.{as_line, after_edit, has_line_feed, is_good_edit, is_sound_line, is_word_alone, with_exception, without_exception};
 
 use crate::items::{Fault, exception_of};
 use crate::laws::spelt_is_sound;
@@ -39,7 +39,7 @@ pub fn apply_edit<C: Payload, B: Listing>(
     ensures err { OnErr result (dictionary.new ≡ dictionary.old) }
 {
     let edit = edit.as_bytes();
-    if has_feed(edit) {
+    if has_line_feed(edit) {
         return Ok(false);
     }
     match edit.split_first() {
@@ -50,8 +50,8 @@ pub fn apply_edit<C: Payload, B: Listing>(
 }
 
 /// Whether an edit holds a line feed.
-fn has_feed(edit: &[u8]) -> bool
-    ensures { result ≡ has_feed edit.now }
+fn has_line_feed(edit: &[u8]) -> bool
+    ensures { result ≡ has_line_feed edit.now }
 {
     edit.iter().any(|byte| *byte == b'\n')
 }

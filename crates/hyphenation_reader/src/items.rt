@@ -8,10 +8,10 @@ ghost use Rattle.hyphenation_breaks.specs.Break.{ascend_on, keeps_within};
 ghost use Rattle.hyphenation_grammar.specs.Judging.{is_extended, is_known, own_cause};
 ghost use Rattle.hyphenation_reader.specs.Private.Judging.{early_cause};
 ghost use Rattle.hyphenation_grammar.specs.Lines.{strip_prefix, tokens_after};
-ghost use Rattle.hyphenation_reader.specs.Private.Matched.{ascend, cause_before_match, first_at, have_values, suits_form_in_pattern, left_at, from_next};
+ghost use Rattle.hyphenation_reader.specs.Private.Matched.{ascend, cause_before_match, head_change_at, have_values, suits_form_in_pattern, tail_after, pending};
 ghost use Rattle.hyphenation_grammar.specs.Parsed.{pattern_view};
 ghost use Rattle.hyphenation_reader.specs.Private.Parsed.{exception_parts, no_later, pattern_parts, read_later, later_view};
-ghost use Rattle.hyphenation_reader.specs.Private.LineAnswers.{Answers, IsFault, AnswersException, IsItemOf, breaks_listed, entries_of, exception_cause, suits_word, suits_form, places_cause};
+ghost use Rattle.hyphenation_reader.specs.Private.LineAnswers.{ReturnsItem, IsFault, ReturnsException, IsItemOf, breaks_listed, entries_of, exception_cause, suits_word, suits_form, places_cause};
 
 use hyphenation_breaks::entry::{Entry, Listing, Payload};
 use hyphenation_breaks::extended::Subregion;
@@ -20,7 +20,7 @@ use hyphenation_grammar::form::{Form, Kind, Version};
 use hyphenation_grammar::lines::{first_token, is_utf8, starts_with, strip_prefix};
 use hyphenation_grammar::pattern::{PatternToken, read_pattern};
 use hyphenation_grammar::tokens::{LaterToken, is_boundary, later_token, string_of};
-use hyphenation_trie::in_32_bits;
+use hyphenation_trie::to_u32;
 use std::alloc::{AllocError, Global};
 use std::mem;
 use std::vec::IntoIter;
@@ -44,7 +44,7 @@ pub(crate) enum Item<C: Drop, B: Drop> {
 
 /// Lists that one line filled and a later one may fill again, so that not each line asks for memory. What stands
 /// in them means nothing.
-pub(crate) struct Scratch<C: Drop> {
+pub(crate) struct LineBuffers<C: Drop> {
     /// What a pattern's token says.
     pub pattern: PatternToken,
     /// The entries of a key.
@@ -53,18 +53,18 @@ pub(crate) struct Scratch<C: Drop> {
 
 // It does what the derived one would. As a call it is one step in the proof of a function that holds these lists; the
 // derived one is a step for each list, at each way out.
-impl<C: Drop> Drop for Scratch<C> {
+impl<C: Drop> Drop for LineBuffers<C> {
     fn drop(self) {
-        let Scratch { pattern, entries } = self;
+        let LineBuffers { pattern, entries } = self;
         drop(pattern);
         drop(entries);
     }
 }
 
-impl<C: Drop> Scratch<C> {
+impl<C: Drop> LineBuffers<C> {
     /// Lists without room yet.
     pub(crate) fn new(alloc: Global) -> Self {
-        Scratch {
+        LineBuffers {
             pattern: PatternToken::new(alloc),
             entries: Vec::new(alloc),
         }
@@ -98,7 +98,7 @@ pub(crate) fn item_of<C: Payload, B: Listing>(
     form: Form,
     line: &[u8],
     known: bool,
-    scratch: &mut Scratch<C>,
+    buffers: &mut LineBuffers<C>,
 ) -> Result<Item<C, B>, Fault>
     requires utf8 { known ≡ true → IsUtf8 line.now }
     ensures passes { OnOk result (own_cause form 4 line.now ≡ None) }
@@ -109,7 +109,7 @@ pub(crate) fn item_of<C: Payload, B: Listing>(
         return Err(Fault::Fails(cause));
     }
     match strip_prefix(b"p ", line) {
-        Some(text) => pattern_item(alloc, form, text, scratch),
+        Some(text) => pattern_item(alloc, form, text, buffers),
         None => match strip_prefix(b"e ", line) {
             Some(text) => exception_item(alloc, form, text),
             None => Ok(Item::Nothing),
@@ -155,24 +155,24 @@ fn pattern_item<C: Payload, B: Listing>(
     alloc: Global,
     form: Form,
     text: &[u8],
-    scratch: &mut Scratch<C>,
+    buffers: &mut LineBuffers<C>,
 ) -> Result<Item<C, B>, Fault>
     requires { IsUtf8 text.now }
     ensures { (line : List ℕ) → Some text.now ≡ strip_prefix (codes "p ") line
-        → Answers form C.payload_of B.listing_of line result }
+        → ReturnsItem form C.payload_of B.listing_of line result }
 {
-    let Some(later) = pattern_parts(alloc, form.version, text, &mut scratch.pattern)? else {
+    let Some(later) = pattern_parts(alloc, form.version, text, &mut buffers.pattern)? else {
         return Err(Fault::Fails(Cause::Token));
     };
-    if let Some(cause) = pattern_cause(form, &scratch.pattern, &later) {
+    if let Some(cause) = pattern_cause(form, &buffers.pattern, &later) {
         return Err(Fault::Fails(cause));
     }
-    if !matched(&scratch.pattern.values, later.listed, &mut scratch.entries)? {
+    if !matched(&buffers.pattern.values, later.listed, &mut buffers.entries)? {
         return Err(Fault::Fails(Cause::Change));
     }
     Ok(Item::Pattern {
-        key: mem::replace(&mut scratch.pattern.key, Vec::new(alloc)),
-        entries: mem::replace(&mut scratch.entries, Vec::new(alloc)),
+        key: mem::replace(&mut buffers.pattern.key, Vec::new(alloc)),
+        entries: mem::replace(&mut buffers.entries, Vec::new(alloc)),
     })
 }
 
@@ -304,8 +304,8 @@ fn matched<C: Payload>(
     let mut rest = listed.into_iter();
     let mut next = rest.next();
     for value in values {
-        let place = in_32_bits(value.0)?;
-        let change = taken_at(value.0, &mut next, &mut rest);
+        let place = to_u32(value.0)?;
+        let change = take_change_at(value.0, &mut next, &mut rest);
         entries.push(Entry {
             place,
             value: value.1,
@@ -316,13 +316,13 @@ fn matched<C: Payload>(
 }
 
 /// Takes the change that is listed next, if it is listed at the place, and goes on to the one after it.
-fn taken_at(
+fn take_change_at(
     place: usize,
     next: &mut Option<(usize, Option<Subregion>)>,
     rest: &mut IntoIter<(usize, Option<Subregion>)>,
 ) -> Option<Subregion>
-    ensures taken { result ≡ first_at place (from_next next.old rest.old.rest.items) }
-    ensures left { from_next next.new rest.new.rest.items ≡ left_at place (from_next next.old rest.old.rest.items) }
+    ensures taken { result ≡ head_change_at place (pending next.old rest.old.rest.items) }
+    ensures left { pending next.new rest.new.rest.items ≡ tail_after place (pending next.old rest.old.rest.items) }
 {
     match next.take() {
         Some((at, change)) if at == place => {
@@ -344,7 +344,7 @@ fn exception_item<C: Payload, B: Listing>(
 ) -> Result<Item<C, B>, Fault>
     requires { IsUtf8 text.now }
     ensures { (line : List ℕ) → Some text.now ≡ strip_prefix (codes "e ") line
-        → Answers form C.payload_of B.listing_of line result }
+        → ReturnsItem form C.payload_of B.listing_of line result }
 {
     let (word, listed) = exception_of(alloc, form, text)?;
     Ok(Item::Exception { word, listed })
@@ -358,7 +358,7 @@ pub(crate) fn exception_of<B: Listing>(
 ) -> Result<(String, Vec<B>), Fault>
     requires { IsUtf8 text.now }
     ensures { (line : List ℕ) → Some text.now ≡ strip_prefix (codes "e ") line
-        → AnswersException form B.listing_of line result }
+        → ReturnsException form B.listing_of line result }
 {
     let Some((word, later)) = exception_parts(alloc, text)? else {
         return Err(Fault::Fails(Cause::Token));
@@ -398,18 +398,18 @@ fn exception_cause(form: Form, word: &[u8], later: &Later) -> Option<Cause>
     if let Some(cause) = places_cause(word, later) {
         return Some(cause);
     }
-    if !later.are_sound || !all_fit_word(form, word, &later.listed) {
+    if !later.are_sound || !suit_word(form, word, &later.listed) {
         return Some(Cause::Change);
     }
     None
 }
 
 /// Whether each may be listed for a word.
-fn all_fit_word(form: Form, word: &[u8], listed: &[(usize, Option<Subregion>)]) -> bool
+fn suit_word(form: Form, word: &[u8], listed: &[(usize, Option<Subregion>)]) -> bool
     ensures { result ≡ list_all (suits_word form word.now) listed.now }
 {
     for b in listed {
-        if !fits_word(form, word, b) {
+        if !suits_word(form, word, b) {
             return false;
         }
     }
@@ -417,7 +417,7 @@ fn all_fit_word(form: Form, word: &[u8], listed: &[(usize, Option<Subregion>)]) 
 }
 
 /// Whether the change of a break, where there is one, may be listed for a word.
-fn fits_word(form: Form, word: &[u8], b: &(usize, Option<Subregion>)) -> bool
+fn suits_word(form: Form, word: &[u8], b: &(usize, Option<Subregion>)) -> bool
     ensures { result ≡ suits_word form word.now b.now }
 {
     let place = b.0;

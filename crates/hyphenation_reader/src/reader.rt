@@ -4,18 +4,18 @@
 ghost use Rattle.std.specs.Prelude.{◌≡◌, [], None, Some, IfOk, IfErr, IsUtf8, ◌<◌, true, take, drop, OnOk, length};
 ghost use Rattle.std.specs.FinMap as finite;
 ghost use Rattle.std.specs.String.{string_bytes};
-ghost use Rattle.hyphenation_reader.specs.Private.Builder.{HasHead, IsAfterHead, are_idle, items_held, no_items, with_item, repeated_by};
+ghost use Rattle.hyphenation_reader.specs.Private.Builder.{HasHead, IsAfterHead, spell_nothing, items_held, no_items, with_item, repeated_by};
 ghost use Rattle.hyphenation_grammar.specs.Form.{form_of};
 ghost use Rattle.hyphenation_grammar.specs.Lines.{lines_of, language_of, minima_of};
 ghost use Rattle.hyphenation_grammar.specs.Judging.{own_cause, fault_after, refusal_of};
-ghost use Rattle.hyphenation_reader.specs.Private.Judging.{before_item};
+ghost use Rattle.hyphenation_reader.specs.Private.Judging.{cause_before_token};
 ghost use Rattle.hyphenation_grammar.specs.Reading.{items_of_lines, contents_in, contents_of, standard_contents, extended_contents};
 ghost use Rattle.hyphenation_reader.specs.Refusals.{IsRefusal};
 ghost use Rattle.hyphenation_reader.specs.Private.Refusals.{at_number};
 ghost use Rattle.hyphenation_reader.specs.Private.LineAnswers.{IsItemOf};
 ghost use Rattle.hyphenation_trie.specs.Trie.{EachBeginsKey};
 
-use crate::items::{Fault, Item, Scratch, item_of};
+use crate::items::{Fault, Item, LineBuffers, item_of};
 use crate::laws::spelt_is_sound;
 use hyphenation_breaks::entry::{Entry, Listing, Payload};
 use hyphenation_breaks::language::Language;
@@ -128,7 +128,7 @@ impl<C: Payload, B: Listing> Builder<C, B> {
     fn add(
         &mut self,
         item: Item<C, B>,
-        scratch: &mut Scratch<C>,
+        buffers: &mut LineBuffers<C>,
     ) -> Result<Option<Cause>, AllocError>
         ensures cause { IfOk result (λ cause. cause ≡ repeated_by (items_held self.old) item) }
         ensures added { OnOk result (items_held self.new ≡ with_item (items_held self.old) item) }
@@ -138,8 +138,8 @@ impl<C: Payload, B: Listing> Builder<C, B> {
             Item::Nothing => Ok(None),
             Item::Pattern { key, mut entries } => {
                 let had = self.add_pattern(&key, &mut entries)?;
-                scratch.pattern.key = key;
-                scratch.entries = entries;
+                buffers.pattern.key = key;
+                buffers.entries = entries;
                 Ok(had.then_some(Cause::RepeatedPattern))
             }
             Item::Exception { word, listed } => {
@@ -157,7 +157,7 @@ fn item_at<C: Payload, B: Listing>(
     number: usize,
     line: &[u8],
     known: bool,
-    scratch: &mut Scratch<C>,
+    buffers: &mut LineBuffers<C>,
 ) -> Result<Item<C, B>, Refusal>
     requires utf8 { known ≡ true → IsUtf8 line.now }
     requires late { 3 < number }
@@ -165,7 +165,7 @@ fn item_at<C: Payload, B: Listing>(
     ensures says { IfOk result (λ item. IsItemOf form.version C.payload_of B.listing_of item line.now) }
     ensures refused { IfErr result (λ refusal. IsRefusal refusal (at_number number (own_cause form number line.now))) }
 {
-    match item_of(alloc, form, line, known, scratch) {
+    match item_of(alloc, form, line, known, buffers) {
         Ok(item) => Ok(item),
         Err(Fault::Memory) => Err(Refusal::Memory),
         Err(Fault::Fails(cause)) => Err(Refusal::Fault {
@@ -186,8 +186,8 @@ struct Head<'t> {
 
 /// Judges line 1.
 fn read_first(form: Form, line: &[u8]) -> Result<(), Refusal>
-    ensures passes { OnOk result (before_item form 1 line.now ≡ None) }
-    ensures refused { IfErr result (λ refusal. IsRefusal refusal (at_number 1 (before_item form 1 line.now))) }
+    ensures passes { OnOk result (cause_before_token form 1 line.now ≡ None) }
+    ensures refused { IfErr result (λ refusal. IsRefusal refusal (at_number 1 (cause_before_token form 1 line.now))) }
 {
     if !is_utf8(line) {
         return Err(Refusal::Fault {
@@ -206,9 +206,9 @@ fn read_first(form: Form, line: &[u8]) -> Result<(), Refusal>
 
 /// The language of line 2.
 fn read_language(form: Form, line: &[u8]) -> Result<Language, Refusal>
-    ensures passes { OnOk result (before_item form 2 line.now ≡ None) }
+    ensures passes { OnOk result (cause_before_token form 2 line.now ≡ None) }
     ensures says { IfOk result (λ language. language_of line.now ≡ Some language) }
-    ensures refused { IfErr result (λ refusal. IsRefusal refusal (at_number 2 (before_item form 2 line.now))) }
+    ensures refused { IfErr result (λ refusal. IsRefusal refusal (at_number 2 (cause_before_token form 2 line.now))) }
 {
     if !is_utf8(line) {
         return Err(Refusal::Fault {
@@ -227,9 +227,9 @@ fn read_language(form: Form, line: &[u8]) -> Result<Language, Refusal>
 
 /// The minima of line 3.
 fn read_minima(alloc: Global, form: Form, line: &[u8]) -> Result<(u8, u8), Refusal>
-    ensures passes { OnOk result (before_item form 3 line.now ≡ None) }
+    ensures passes { OnOk result (cause_before_token form 3 line.now ≡ None) }
     ensures says { IfOk result (λ minima. minima_of line.now ≡ Some minima) }
-    ensures refused { IfErr result (λ refusal. IsRefusal refusal (at_number 3 (before_item form 3 line.now))) }
+    ensures refused { IfErr result (λ refusal. IsRefusal refusal (at_number 3 (cause_before_token form 3 line.now))) }
 {
     if !is_utf8(line) {
         return Err(Refusal::Fault {
@@ -292,7 +292,7 @@ fn add_lines<C: Payload, B: Listing>(
     requires long { 2 < length (lines_of bytes.now) }
     requires head { fault_after form [] (lines_of bytes.now)
         ≡ fault_after form (take 3 (lines_of bytes.now)) (drop 3 (lines_of bytes.now)) }
-    requires idle { are_idle (take 3 (lines_of bytes.now)) ≡ true }
+    requires spells_nothing { spell_nothing (take 3 (lines_of bytes.now)) ≡ true }
     requires rest { IsAfterHead bytes.now after_head.now }
     requires empty { items_held builder.old ≡ no_items }
     requires begins { EachBeginsKey builder.old.patterns }
@@ -302,14 +302,14 @@ fn add_lines<C: Payload, B: Listing>(
     ensures begins { OnOk result (EachBeginsKey builder.new.patterns) }
     ensures refused { IfErr result (λ refusal. IsRefusal refusal (fault_after form [] (lines_of bytes.now))) }
 {
-    let mut scratch = Scratch::new(alloc);
+    let mut buffers = LineBuffers::new(alloc);
     // Where the whole text is UTF-8, as it is wherever none is refused for that, so is each line, and none is tested.
     let known = is_utf8(bytes);
     let mut rest = after_head;
     let mut count: usize = 3;
     while let Some((line, after)) = next_line(rest) {
-        let item = item_at(alloc, form, count + 1, line, known, &mut scratch)?;
-        if let Some(cause) = builder.add(item, &mut scratch)? {
+        let item = item_at(alloc, form, count + 1, line, known, &mut buffers)?;
+        if let Some(cause) = builder.add(item, &mut buffers)? {
             return Err(Refusal::Fault {
                 line: count + 1,
                 cause,
@@ -331,7 +331,7 @@ fn read_lines<C: Payload, B: Listing>(
     requires long { 2 < length (lines_of bytes.now) }
     requires head { fault_after form [] (lines_of bytes.now)
         ≡ fault_after form (take 3 (lines_of bytes.now)) (drop 3 (lines_of bytes.now)) }
-    requires idle { are_idle (take 3 (lines_of bytes.now)) ≡ true }
+    requires spells_nothing { spell_nothing (take 3 (lines_of bytes.now)) ≡ true }
     requires rest { IsAfterHead bytes.now after_head.now }
     ensures accepted { OnOk result (fault_after form [] (lines_of bytes.now) ≡ None) }
     ensures spelt { IfOk result (λ builder. items_held builder

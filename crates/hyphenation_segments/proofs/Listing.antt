@@ -3,9 +3,9 @@ use Rattle.std.proofs.Common.{◌≡◌, ℕ, ◌+◌, ◌-◌, ◌≤◌, ◌<�
 use Rattle.std.proofs.Math.Nat.{sub-zero}
 use Rattle.std.proofs.lemmas.Bool.{and_parts, leb-true, lt-ltb}
 use Rattle.hyphenation_breaks.specs.Break.{Break, Change, break_at, is_boundary, has_boundary, keeps_within}
-use Rattle.hyphenation_breaks.specs.Invariant.{fits_usize, can_be_said, can_be_said_if_any, lists_within, stays_within}
+use Rattle.hyphenation_breaks.specs.Invariant.{fits_usize, can_be_written, can_be_written_if_any, lists_within, stays_within}
 use Rattle.hyphenation_breaks.specs.Laws.{listed_from, BoundaryIsOfChars}
-use Rattle.hyphenation_segments.specs.Fits.{Stands}
+use Rattle.hyphenation_segments.specs.Fits.{BreakFitsAfter}
 use Rattle.hyphenation_segments.specs.Laws.{MayBeListed, AreKept}
 
 both : (a b : Bool) → a ≡ true → b ≡ true → (a && b) ≡ true
@@ -13,7 +13,7 @@ both true b p q = q
 both false b p q = p
 
 -- A break whose tests pass stands in the word.
-tested : BoundaryIsOfChars → (word : List ℕ) (least place : ℕ) (change : Option Change) → nat_le least place ≡ true → is_boundary word place ≡ true → lists_within word place change ≡ true → Stands word 0 least (break_at place change)
+tested : BoundaryIsOfChars → (word : List ℕ) (least place : ℕ) (change : Option Change) → nat_le least place ≡ true → is_boundary word place ≡ true → lists_within word place change ≡ true → BreakFitsAfter word 0 least (break_at place change)
 tested chars word least place None ascends at within =
     let here : IsCharBoundary word place = (chars word place).0 at in
     record {
@@ -26,7 +26,7 @@ tested chars word least place None ascends at within =
     }
 tested chars word least place (Some change) ascends at within =
     let stays = (and_parts (fits_usize place) (stays_within word place (Some change)) within).1 in
-    let keeps = (and_parts (fits_usize place && can_be_said change) (keeps_within word place change) stays).1 in
+    let keeps = (and_parts (fits_usize place && can_be_written change) (keeps_within word place change) stays).1 in
     let low = nat_le change.left place in
     let begin = is_boundary word (place - change.left) in
     let end = is_boundary word (place + change.right) in
@@ -43,7 +43,7 @@ tested chars word least place (Some change) ascends at within =
     }
 
 -- A break that stands in the word passes the tests, where its change is as its type keeps it.
-passes : BoundaryIsOfChars → (word : List ℕ) (least place : ℕ) (change : Option Change) → length word < 2 ^ 64 → has_boundary change ≡ true → can_be_said_if_any change ≡ true → Stands word 0 least (break_at place change) → lists_within word place change ≡ true
+passes : BoundaryIsOfChars → (word : List ℕ) (least place : ℕ) (change : Option Change) → length word < 2 ^ 64 → has_boundary change ≡ true → can_be_written_if_any change ≡ true → BreakFitsAfter word 0 least (break_at place change) → lists_within word place change ≡ true
 passes chars word least place None size kept said s = both (fits_usize place) true (lt-ltb place (2 ^ 64) (omega (arith, s.place.0))) refl
 passes chars word least place (Some change) size kept said s =
     let small : fits_usize place ≡ true = lt-ltb place (2 ^ 64) (omega (arith, s.place.0)) in

@@ -5,7 +5,7 @@ use Rattle.std.proofs.Math.Seq.{drop-cons}
 use Rattle.std.proofs.lemmas.Str.{IsCharBoundary-start, IsCharBoundary-from_take}
 use Rattle.std.specs.Io.{StartsWith}
 use Rattle.hyphenation_breaks.specs.Break.{Break, plain_break, begin_of, end_of, before_of, after_of}
-use Rattle.hyphenation_segments.specs.Fits.{Stands, FitsFrom, Fits}
+use Rattle.hyphenation_segments.specs.Fits.{BreakFitsAfter, FitsFrom, Fits}
 use Rattle.hyphenation_segments.specs.Segments.{segments_after, marked_segments, mark_if_more}
 use Rattle.hyphenation_segments.proofs.SegmentsJoin.{more_come, last_segment}
 use Rattle.hyphenation_segments.proofs.SegmentSteps.{fits_earlier}
@@ -39,7 +39,7 @@ one_break mark text start b bs =
     rw (add-zero start, more_come mark text b bs, half_first mark text b bs)
     (sym (append_assoc (slice_range text start (begin_of b) ++ before_of b.change ++ mark) (after_of b.change) (to_append mark text (end_of b) bs)))
 
-pub first_stands : (text : List ℕ) (start : ℕ) (b : Break) (bs : List Break) → FitFrom text start (b ∷ bs) → Stands text start 0 b
+pub first_stands : (text : List ℕ) (start : ℕ) (b : Break) (bs : List Break) → FitFrom text start (b ∷ bs) → BreakFitsAfter text start 0 b
 first_stands text start b bs h = h.1.0
 
 pub rest_fit : (text : List ℕ) (start : ℕ) (b : Break) (bs : List Break) → FitFrom text start (b ∷ bs) → FitFrom text (end_of b) bs
@@ -77,7 +77,7 @@ one_more {X} meaning mark text whole before after start end i xs x lt is inv pus
 pub at_first : (text : List ℕ) (breaks : List Break) → IsUtf8 text → Fits text breaks → FitFrom text 0 breaks
 at_first text breaks u h = (IsCharBoundary-start text u, h)
 
-pub here_stands : {X : Type 0} (meaning : X → Break) (text : List ℕ) (start i : ℕ) (xs : List X) (x : X) → i < length xs → x ≡ get_or xs i x → FitFrom text start (map meaning (drop i xs)) → Stands text start 0 (meaning x)
+pub here_stands : {X : Type 0} (meaning : X → Break) (text : List ℕ) (start i : ℕ) (xs : List X) (x : X) → i < length xs → x ≡ get_or xs i x → FitFrom text start (map meaning (drop i xs)) → BreakFitsAfter text start 0 (meaning x)
 here_stands {X} meaning text start i xs x lt is h =
     first_stands text start (meaning x) (map meaning (drop (i + 1) xs)) (subst (λ (l : List Break). FitFrom text start l) (ap (map meaning) (from_here xs i x lt is)) h)
 

@@ -3,7 +3,7 @@ use Rattle.std.proofs.Common.{◌≡◌, ℕ, ◌+◌, ◌≤◌, ◌↔◌, Boo
 use Rattle.std.specs.Cow.{cow_str_bytes, IsBorrowedStr}
 use Rattle.std.specs.declared.borrow.CowStr.{CowStr}
 use Rattle.hyphenation_breaks.specs.Break.{Break, plain_break, end_of}
-use Rattle.hyphenation_segments.specs.Fits.{FitsFrom, Stands}
+use Rattle.hyphenation_segments.specs.Fits.{FitsFrom, BreakFitsAfter}
 use Rattle.hyphenation_segments.specs.ChangedSegments.{made_segments_after, text_held}
 use Rattle.hyphenation_segments.specs.Private.ChangedSegments.{last_break, FitsAfterLast, made_segments_from}
 use Rattle.hyphenation_segments.specs.Segments.{segments_after, segment_between}
@@ -54,7 +54,7 @@ held_is held first text e k = subst (λ o. IfSome o (λ value. value ≡ first))
 
 -- ---- breaks that may change the text
 
-pub step_of : (text : List ℕ) (start : Option ℕ) (last : Option Break) (p : ℕ) (b : Break) (all rest : List Break) → start ≡ Some p → all ≡ b ∷ rest → FitsAfterLast text start last all → Stands text p ((last_break last).place) b × FitsFrom text (end_of b) (b.place) rest
+pub step_of : (text : List ℕ) (start : Option ℕ) (last : Option Break) (p : ℕ) (b : Break) (all rest : List Break) → start ≡ Some p → all ≡ b ∷ rest → FitsAfterLast text start last all → BreakFitsAfter text p ((last_break last).place) b × FitsFrom text (end_of b) (b.place) rest
 step_of text start last p b all rest e d h =
     let h1 : FitsAfterLast text (Some p) last all = subst (λ s. FitsAfterLast text s last all) e h in
     let h2 : FitsAfterLast text (Some p) last (b ∷ rest) = subst (λ l. FitsAfterLast text (Some p) last l) d h1 in

@@ -2,8 +2,8 @@
 use Rattle.std.specs.Prelude.{◌≡◌, ◌↔◌, ℕ, ◌+◌, ◌≤◌, ◌<◌, ◌^◌, List, map, length, slice_get, Some, [], drop, slice_index_or, take, ◌++◌, ◌∷◌, ⊤, IsTrue}
 use Rattle.std.specs.List.{concat}
 use Rattle.hyphenation_breaks.specs.Break.{Break, plain_break, has_boundary}
-use Rattle.hyphenation_breaks.specs.Invariant.{are_listed, can_be_said_if_any}
-use Rattle.hyphenation_segments.specs.Fits.{Fits, Stands}
+use Rattle.hyphenation_breaks.specs.Invariant.{are_listed, can_be_written_if_any}
+use Rattle.hyphenation_segments.specs.Fits.{Fits, BreakFitsAfter}
 use Rattle.hyphenation_segments.specs.ChangedSegments.{made_segments}
 use Rattle.hyphenation_segments.specs.Segments.{segments, segment_between, marked_segments}
 
@@ -52,12 +52,12 @@ MadeAreSegments =
 -- it. Their ranges may overlap.
 abbrev pub MayBeListed : List ℕ → ℕ → List Break → Type 0
 MayBeListed text least [] = ⊤
-MayBeListed text least (b ∷ bs) = Stands text 0 least b × MayBeListed text (b.place + 1) bs
+MayBeListed text least (b ∷ bs) = BreakFitsAfter text 0 least b × MayBeListed text (b.place + 1) bs
 
 -- Each break is as its type keeps it, which `Break::invariant` tells.
 abbrev pub AreKept : List Break → Type 0
 AreKept [] = ⊤
-AreKept (b ∷ bs) = IsTrue (has_boundary b.change) × IsTrue (can_be_said_if_any b.change) × AreKept bs
+AreKept (b ∷ bs) = IsTrue (has_boundary b.change) × IsTrue (can_be_written_if_any b.change) × AreKept bs
 
 -- Breaks may be listed for a word exactly where they may by the rule alone: what `are_listed` asks besides is true of
 -- each word and each break that there is.

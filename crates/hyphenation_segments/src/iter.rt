@@ -36,7 +36,7 @@ pub trait Breaks: Drop {
         ensures { TakesFirst Self.Item.meaning to_come self.old result self.new };
 
     /// The number of breaks to come.
-    fn left(&self) -> usize
+    fn remaining_len(&self) -> usize
         ensures { result ≡ length (to_come self.now) };
 }
 
@@ -52,7 +52,7 @@ impl<T: Break> Breaks for vec::IntoIter<T> {
         self.next()
     }
 
-    fn left(&self) -> usize {
+    fn remaining_len(&self) -> usize {
         self.len()
     }
 }
@@ -70,7 +70,7 @@ impl<'a, T: Break + Copy> Breaks for Copied<slice::Iter<'a, T>> {
         self.next()
     }
 
-    fn left(&self) -> usize {
+    fn remaining_len(&self) -> usize {
         self.len()
     }
 }
@@ -145,6 +145,6 @@ pub trait Texts: Drop {
         ensures { TakesFirstOrRefuses Self.Item.held texts self.old result self.new };
 
     /// The number of texts to come.
-    fn left(&self) -> usize
+    fn remaining_len(&self) -> usize
         ensures { result ≡ length (texts self.now) };
 }

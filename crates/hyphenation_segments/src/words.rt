@@ -2,7 +2,7 @@
 
 ghost use Rattle.std.specs.Prelude.{◌≡◌, ◌↔◌, map, IsTrue, IfOk, MatchOption};
 ghost use Rattle.hyphenation_breaks.specs.Break.{end_of};
-ghost use Rattle.hyphenation_segments.specs.Fits.{Fits, Stands};
+ghost use Rattle.hyphenation_segments.specs.Fits.{Fits, BreakFitsAfter};
 ghost use Rattle.hyphenation_segments.specs.Private.Fits.{FitsFrom-prop};
 
 use hyphenation_breaks::breaks::Break;
@@ -65,8 +65,8 @@ impl<'t, B: Break + Copy> Word<'t, B> {
 /// Where the range of a break ends, if the break stands in the text after the end of the last range and no earlier than
 /// the least place.
 fn end_in<B: Break>(text: &str, last_end: usize, least: usize, b: &B) -> Option<usize>
-    ensures { MatchOption result (¬ (Stands text.now last_end least (B.meaning b.now)))
-        (λ end. (end ≡ end_of (B.meaning b.now)) × Stands text.now last_end least (B.meaning b.now)) }
+    ensures { MatchOption result (¬ (BreakFitsAfter text.now last_end least (B.meaning b.now)))
+        (λ end. (end ≡ end_of (B.meaning b.now)) × BreakFitsAfter text.now last_end least (B.meaning b.now)) }
 {
     let place = b.place();
     let (begin, end) = b.range()?;

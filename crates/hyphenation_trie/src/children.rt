@@ -2,7 +2,7 @@
 
 ghost use Rattle.std.specs.Prelude.{◌≡◌, ◌+◌, ◌<◌, ◌≤◌, ◌++◌, [], ◌∷◌, length, slice_index, slice_set, vec_len, vec_capacity, IfOk, OnOk, OnErr};
 
-use super::in_32_bits;
+use super::to_u32;
 use super::lists::begun;
 use std::alloc::{AllocError, Global};
 
@@ -68,7 +68,7 @@ impl Children {
         ensures err_chains { OnErr result ((self.new.last.items ≡ self.old.last.items)
             × (self.new.before.items ≡ self.old.before.items)) }
     {
-        let child = in_32_bits(self.before.len())?;
+        let child = to_u32(self.before.len())?;
         // Room first, so that no list has a node that is then refused.
         self.reserve()?;
         self.parents.push(node).unwrap();

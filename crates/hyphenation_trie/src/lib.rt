@@ -46,7 +46,7 @@ use std::alloc::AllocError;
 /// A number in 32 bits, as a dictionary holds those of its nodes, cells and entries, and the places of its keys.
 ///
 /// One from 2^32 on is refused. That is a limit: the error is the one of refused memory, though none was refused.
-pub fn in_32_bits(number: usize) -> Result<u32, AllocError>
+pub fn to_u32(number: usize) -> Result<u32, AllocError>
     ensures held { IfOk result (λ held. held ≡ number) }
     ensures refused { OnErr result (2 ^ 32 ≤ number) }
 {

@@ -8,7 +8,7 @@ ghost use Rattle.std.specs.Prelude.{◌≡◌, ◌+◌, ◌<◌, ◌≤◌, ◌�
 ghost use Rattle.hyphenation_trie.specs.Private.Rows.{child_in, AreChildren, OwnsNoChild, IsFreeRow, IsFullRow, HasRow, HasRows};
 
 use super::children::Children;
-use super::in_32_bits;
+use super::to_u32;
 use super::lists::begun;
 use std::alloc::{AllocError, Global};
 
@@ -290,7 +290,7 @@ fn place_row(
         return Ok(0);
     }
     let place = make_place(cells, free, gaps, node, children)?;
-    let base = in_32_bits(place)?;
+    let base = to_u32(place)?;
     write_row(cells, free, place, node, children);
     Ok(base)
 }
@@ -328,7 +328,7 @@ pub(crate) fn rows_of(alloc: Global, children: &Children) -> Result<Rows, AllocE
     ensures { IfOk result (λ rows.
         HasRows children.now.parents.items children.now.bytes.items rows.moves.items rows.cells.items) }
 {
-    let free = in_32_bits(children.parents.len())?;
+    let free = to_u32(children.parents.len())?;
     let mut cells = root_row(alloc, children)?;
     let mut moves = begun(alloc, children.parents.len(), Moves { base: 0, link: 0 })?;
     let mut gaps = Gaps {

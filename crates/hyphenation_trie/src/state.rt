@@ -4,7 +4,7 @@ ghost use Rattle.std.specs.Prelude.{◌≡◌, ◌+◌, ◌≤◌, length, Some,
 ghost use Rattle.std.specs.List.{slice_range};
 ghost use Rattle.hyphenation_trie.specs.Private.States.{span_in};
 
-use super::in_32_bits;
+use super::to_u32;
 use std::alloc::AllocError;
 
 /// Where the entries of a key stand among the entries of all keys.
@@ -19,8 +19,8 @@ impl Span {
     pub(crate) fn of(start: usize, count: usize) -> Result<Span, AllocError>
         ensures { IfOk result (λ span. (span.start ≡ start) × (span.count ≡ count)) }
     {
-        let start = in_32_bits(start)?;
-        let count = in_32_bits(count)?;
+        let start = to_u32(start)?;
+        let count = to_u32(count)?;
         Ok(Span { start, count })
     }
 }

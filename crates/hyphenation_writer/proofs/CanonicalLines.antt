@@ -15,7 +15,7 @@ use Rattle.hyphenation_grammar.specs.declared.form.Kind.{Kind}
 use Rattle.hyphenation_grammar.specs.declared.form.Version.{Version}
 use Rattle.hyphenation_grammar.specs.Items.{break_of_token, change_at, pattern_of_line, exception_of_line}
 use Rattle.hyphenation_grammar.specs.Judging.{is_good_later_token, has_value_at, fails, own_cause, is_known}
-use Rattle.hyphenation_breaks.specs.Invariant.{fits_usize, can_be_said, can_be_said_if_any, stays_within, lists_within, is_value, are_entries, are_listed, has_letter}
+use Rattle.hyphenation_breaks.specs.Invariant.{fits_usize, can_be_written, can_be_written_if_any, stays_within, lists_within, is_value, are_entries, are_listed, has_letter}
 use Rattle.hyphenation_grammar.specs.Lines.{is_number}
 use Rattle.hyphenation_grammar.specs.Tokens.{elements_of, pattern_bytes, text_spelt, key_of, values_from, two_values, numerals_of, is_readable, place_of_token}
 use Rattle.hyphenation_writer.specs.Canonical.{elements_for, pattern_token, text_token, break_token, later_tokens, onto_changes, changes_of, pattern_line, exception_line}
@@ -42,15 +42,15 @@ tokens_for bs = map token_of bs
 
 -- What a text of that kind can say as a break.
 abbrev pub is_sayable : Kind → Break → Bool
-is_sayable kind b = fits_usize b.place && can_be_said_if_any b.change && is_allowed kind b.change
+is_sayable kind b = fits_usize b.place && can_be_written_if_any b.change && is_allowed kind b.change
 
 abbrev pub are_allowed : Kind → List Break → Bool
 are_allowed kind bs = list_all (λ b. is_allowed kind b.change) bs
 
 -- What is listed for a text can be said.
-said_of : (text : List ℕ) (place : ℕ) (o : Option Change) → stays_within text place o ≡ true → can_be_said_if_any o ≡ true
+said_of : (text : List ℕ) (place : ℕ) (o : Option Change) → stays_within text place o ≡ true → can_be_written_if_any o ≡ true
 said_of text place None s = refl
-said_of text place (Some c) s = second_so (fits_usize place) (can_be_said c) (first_so (fits_usize place && can_be_said c) (keeps_within text place c) s)
+said_of text place (Some c) s = second_so (fits_usize place) (can_be_written c) (first_so (fits_usize place && can_be_written c) (keeps_within text place c) s)
 
 abbrev are_within : List ℕ → List Break → Bool
 are_within text bs = list_all (λ b. lists_within text b.place b.change) bs
@@ -60,16 +60,16 @@ listed-sayable kind text [] l w = refl
 listed-sayable kind text (b ∷ bs) l w =
     let here = first_so (lists_within text b.place b.change) (are_within text bs) l in
     and_from (is_sayable kind b) (list_all (is_sayable kind) bs)
-    (and_from (fits_usize b.place && can_be_said_if_any b.change) (is_allowed kind b.change)
-    (and_from (fits_usize b.place) (can_be_said_if_any b.change) (first_so (fits_usize b.place) (stays_within text b.place b.change) here) (said_of text b.place b.change (second_so (fits_usize b.place) (stays_within text b.place b.change) here)))
+    (and_from (fits_usize b.place && can_be_written_if_any b.change) (is_allowed kind b.change)
+    (and_from (fits_usize b.place) (can_be_written_if_any b.change) (first_so (fits_usize b.place) (stays_within text b.place b.change) here) (said_of text b.place b.change (second_so (fits_usize b.place) (stays_within text b.place b.change) here)))
     (first_so (is_allowed kind b.change) (are_allowed kind bs) w))
     (listed-sayable kind text bs (second_so (lists_within text b.place b.change) (are_within text bs) l) (second_so (is_allowed kind b.change) (are_allowed kind bs) w))
 
 module _ (form : Form) where
   tell : (b : Break) → is_sayable form.kind b ≡ true → Tells (token_of b) b
   tell b w =
-      let front = first_so (fits_usize b.place && can_be_said_if_any b.change) (is_allowed form.kind b.change) w in
-      tells b.place b.change (first_so (fits_usize b.place) (can_be_said_if_any b.change) front) (second_so (fits_usize b.place) (can_be_said_if_any b.change) front)
+      let front = first_so (fits_usize b.place && can_be_written_if_any b.change) (is_allowed form.kind b.change) w in
+      tells b.place b.change (first_so (fits_usize b.place) (can_be_written_if_any b.change) front) (second_so (fits_usize b.place) (can_be_written_if_any b.change) front)
 
   first_of : (b : Break) (bs : List Break) → list_all (is_sayable form.kind) (b ∷ bs) ≡ true → is_sayable form.kind b ≡ true
   first_of b bs w = first_so (is_sayable form.kind b) (list_all (is_sayable form.kind) bs) w
@@ -117,7 +117,7 @@ module _ (form : Form) where
   good_each in_pattern marks text [] w l belong = refl
   good_each in_pattern marks text (b ∷ bs) w l belong =
       and_from (is_good_later_token form in_pattern marks text (token_of b)) (list_all (is_good_later_token form in_pattern marks text) (tokens_for bs))
-      (good form in_pattern marks text (token_of b) b.place b.change (tell b (first_of b bs w)) (second_so (fits_usize b.place && can_be_said_if_any b.change) (is_allowed form.kind b.change) (first_of b bs w))
+      (good form in_pattern marks text (token_of b) b.place b.change (tell b (first_of b bs w)) (second_so (fits_usize b.place && can_be_written_if_any b.change) (is_allowed form.kind b.change) (first_of b bs w))
       (second_so (fits_usize b.place) (stays_within text b.place b.change) (first_so (lists_within text b.place b.change) (are_within text bs) l)) (λ e. (belong e).0))
       (good_each in_pattern marks text bs (rest_of b bs w) (second_so (lists_within text b.place b.change) (are_within text bs) l) (λ e. (belong e).1))
 
@@ -288,7 +288,7 @@ changes-within key least (e ∷ es) a = let t = entry_tests key least e es a in 
     by : (p : ℕ) (o : Option Change) → stays_within key p o ≡ true → are_within key (changes_of es) ≡ true → are_within key (onto_changes p o (changes_of es)) ≡ true
     by p None s more = more
     by p (Some c) s more =
-        let short = first_so (fits_usize p) (can_be_said c) (first_so (fits_usize p && can_be_said c) (keeps_within key p c) s) in
+        let short = first_so (fits_usize p) (can_be_written c) (first_so (fits_usize p && can_be_written c) (keeps_within key p c) s) in
         and_from (lists_within key p (Some c)) (are_within key (changes_of es)) (and_from (fits_usize p) (stays_within key p (Some c)) short s) more
 
 -- each of them belongs to a value

@@ -93,13 +93,13 @@ abbrev pub minima_line : ℕ → ℕ → List ℕ
 minima_line left right = codes "minima " ++ (decimal left ++ 32 ∷ decimal right)
 
 -- An entry that a dictionary of one kind holds, as a text says it.
-abbrev pub entry_as_said : {C : Type 0} → (C → Option Change) → Entry C → Entry (Option Change)
-entry_as_said change_of entry = record { place = entry.place; value = entry.value; change = change_of entry.change }
+abbrev pub entry_as_spelt : {C : Type 0} → (C → Option Change) → Entry C → Entry (Option Change)
+entry_as_spelt change_of entry = record { place = entry.place; value = entry.value; change = change_of entry.change }
 
 -- The lines of all keys, ascending by their bytes, as the map holds them.
 abbrev pub pattern_lines : {C B : Type 0} → Version → (C → Option Change) → Contents C B → List (List ℕ)
 pattern_lines version change_of contents =
-    map (λ x. pattern_line version x.0 (map (entry_as_said change_of) x.1)) (finite.entries contents.patterns)
+    map (λ x. pattern_line version x.0 (map (entry_as_spelt change_of) x.1)) (finite.entries contents.patterns)
 
 -- The lines of all words, in the same way.
 abbrev pub exception_lines : {C B : Type 0} → (B → Break) → Contents C B → List (List ℕ)

@@ -9,7 +9,7 @@ use std::alloc::{AllocError, Global};
 use std::collections::BTreeMap;
 
 /// A map of texts, each with what is held of it. Of a text that stands twice the first counts.
-fn by_text<'a, X>(
+fn sorted_map<'a, X>(
     alloc: Global,
     pairs: &[(&'a [u8], &'a [X])],
 ) -> Result<BTreeMap<&'a [u8], &'a [X]>, AllocError>
@@ -30,7 +30,7 @@ pub(crate) fn in_order<'a, X>(
 ) -> Result<Vec<(&'a [u8], &'a [X])>, AllocError>
     ensures { IfOk result (λ found. pair_views found.items ≡ in_byte_order (pair_views pairs.now)) }
 {
-    let found = by_text(alloc, pairs)?;
+    let found = sorted_map(alloc, pairs)?;
     let mut sorted = Vec::with_capacity(alloc, found.len())?;
     for (text, held) in &found {
         sorted.push((*text, *held))?;

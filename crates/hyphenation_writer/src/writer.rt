@@ -3,7 +3,7 @@
 ghost use Rattle.std.specs.Prelude.{◌≡◌, ◌++◌, ◌∷◌, [], None, Some, OnOk, IfOk, IfSome, IfNone, decimal, flat_map, map, nat_le, option_copied};
 ghost use Rattle.std.specs.List.{list_all};
 ghost use Rattle.std.specs.FinMap as finite;
-ghost use Rattle.hyphenation_writer.specs.Canonical.{are_digits, before_comma, break_token, byte_spelling, canonical_text_of, changes_of, with_line_feeds, entry_as_said, exception_line, language_line, later_tokens, element_spelling, minima_line, pattern_line, pattern_token, text_token, standard_text, extended_text};
+ghost use Rattle.hyphenation_writer.specs.Canonical.{are_digits, before_comma, break_token, byte_spelling, canonical_text_of, changes_of, with_line_feeds, entry_as_spelt, exception_line, language_line, later_tokens, element_spelling, minima_line, pattern_line, pattern_token, text_token, standard_text, extended_text};
 ghost use Rattle.hyphenation_grammar.specs.Form.{head_line};
 ghost use Rattle.hyphenation_grammar.specs.declared.form.Kind.TheVariants.{Standard as OfStandard, Extended as OfExtended};
 ghost use Rattle.hyphenation_grammar.specs.Judging.{refusal_of};
@@ -180,7 +180,7 @@ fn push_key<C: Payload>(
     entries: &[Entry<C>],
 ) -> Result<(), AllocError>
     ensures { OnOk result (text.new.items ≡ text.old.items ++ pattern_token version key.now
-        (map (entry_as_said C.change_of) entries.now)) }
+        (map (entry_as_spelt C.change_of) entries.now)) }
 {
     let escapes = pattern_escapes(version);
     let mut rest = entries;
@@ -197,7 +197,7 @@ fn push_key<C: Payload>(
 /// The changes of entries at their places, each after a space.
 fn push_changes<C: Payload>(text: &mut Vec<u8>, entries: &[Entry<C>]) -> Result<(), AllocError>
     ensures { OnOk result (text.new.items ≡ text.old.items ++ later_tokens
-        (changes_of (map (entry_as_said C.change_of) entries.now))) }
+        (changes_of (map (entry_as_spelt C.change_of) entries.now))) }
 {
     for entry in entries {
         if let Some(change) = entry.change.as_change() {
@@ -216,7 +216,7 @@ fn push_pattern<C: Payload>(
     entries: &[Entry<C>],
 ) -> Result<(), AllocError>
     ensures { OnOk result (text.new.items ≡ text.old.items ++ pattern_line version key.now
-        (map (entry_as_said C.change_of) entries.now)) }
+        (map (entry_as_spelt C.change_of) entries.now)) }
 {
     text.extend_from_slice(b"p ")?;
     push_key(text, version, key, entries)?;
@@ -304,22 +304,22 @@ fn version_for<C>(keys: &[(&[u8], &[Entry<C>])]) -> Version
     Version::First
 }
 
-/// Keys that are held, as they are lent.
-fn lent_keys<'a, X>(
+/// Keys that are held, as they are borrowed.
+fn borrowed_keys<'a, X>(
     alloc: Global,
     keys: &'a [(Vec<u8>, &'a [X])],
 ) -> Result<Vec<(&'a [u8], &'a [X])>, AllocError>
-    ensures { IfOk result (λ lent. pair_views lent.items ≡ key_views keys.now) }
+    ensures { IfOk result (λ borrowed. pair_views borrowed.items ≡ key_views keys.now) }
 {
-    let mut lent = Vec::with_capacity(alloc, keys.len())?;
+    let mut borrowed = Vec::with_capacity(alloc, keys.len())?;
     for (key, held) in keys {
-        lent.push((key.as_slice(), *held))?;
+        borrowed.push((key.as_slice(), *held))?;
     }
-    Ok(lent)
+    Ok(borrowed)
 }
 
 /// The three head lines, and after them the lines of keys and of words, in the order that they have here.
-fn whole_text<C: Payload, B: Listing>(
+fn assemble_text<C: Payload, B: Listing>(
     alloc: Global,
     form: Form,
     language: Language,
@@ -355,13 +355,13 @@ pub fn write_text<C: Payload, B: Listing>(
     ensures { IfOk result (λ text. text.items ≡ canonical_text_of kind C.change_of B.meaning dictionary.now) }
 {
     let keys = parts::keys(dictionary, alloc)?;
-    let lent = lent_keys(alloc, &keys)?;
-    let keys = in_order(alloc, &lent)?;
+    let borrowed = borrowed_keys(alloc, &keys)?;
+    let keys = in_order(alloc, &borrowed)?;
     let words = parts::words(dictionary, alloc)?;
     let words = in_order(alloc, &words)?;
     let version = version_for(&keys);
     let form = Form { kind, version };
-    whole_text(
+    assemble_text(
         alloc,
         form,
         dictionary.language(),

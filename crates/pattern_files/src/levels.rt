@@ -23,7 +23,7 @@ use crate::value::Value;
 use hyphenation_breaks::entry::{Entry, Listing, Payload};
 use hyphenation_breaks::extended::Subregion;
 use hyphenation_dictionary::maker::fits_key;
-use hyphenation_trie::{Automaton, Trie, in_32_bits};
+use hyphenation_trie::{Automaton, Trie, to_u32};
 use std::alloc::{AllocError, Global};
 use std::collections::BTreeMap;
 
@@ -416,7 +416,7 @@ fn plain_entries(alloc: Global, values: &[Value]) -> Result<Vec<Entry<()>>, Allo
     let mut entries = Vec::new(alloc);
     for value in values {
         entries.push(Entry {
-            place: in_32_bits(value.place)?,
+            place: to_u32(value.place)?,
             value: value.value,
             change: (),
         })?;
@@ -473,7 +473,7 @@ fn entries_of<C: Payload>(alloc: Global, pattern: &Pattern) -> Result<Vec<Entry<
     let mut entries = Vec::new(alloc);
     for value in &pattern.values {
         entries.push(carried(Entry {
-            place: in_32_bits(value.place)?,
+            place: to_u32(value.place)?,
             value: value.value,
             change: change_at(&pattern.change, value.place)?,
         }))?;

@@ -19,7 +19,7 @@ use hyphenation_dictionary::dictionary::Dictionary;
 use hyphenation_dictionary::maker::fits_key;
 use hyphenation_grammar::lines::is_utf8;
 use hyphenation_hyphenator::case_folding::refold;
-use hyphenation_trie::in_32_bits;
+use hyphenation_trie::to_u32;
 use std::alloc::{AllocError, Global};
 
 /// Whether a backslash or a brace stands in a text.
@@ -110,7 +110,7 @@ fn push_value<C: Payload>(
         return Ok(());
     }
     entries.push(Entry {
-        place: in_32_bits(place)?,
+        place: to_u32(place)?,
         value: digit - b'0',
         change: C::from_change(None),
     })?;

@@ -2,5 +2,5 @@
 use Rattle.std.specs.Prelude.{ℕ, ◌==◌, ◌||◌, Bool, not}
 
 -- A byte that stands for itself, without an escape.
-abbrev pub is_itself : ℕ → Bool
-is_itself b = not (b == 92 || b == 13)
+abbrev pub stands_for_itself : ℕ → Bool
+stands_for_itself b = not (b == 92 || b == 13)

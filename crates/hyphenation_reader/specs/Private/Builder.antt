@@ -39,8 +39,8 @@ repeated_by s (Exception word listed) =
     if finite.contains_key s.exceptions (string_bytes word) then Some RepeatedException else None
 
 -- The lines spell no item.
-abbrev pub are_idle : List (List ℕ) → Bool
-are_idle lines = list_all (λ line. not (is_item_line line)) lines
+abbrev pub spell_nothing : List (List ℕ) → Bool
+spell_nothing lines = list_all (λ line. not (is_item_line line)) lines
 
 -- The lines begin with three good head lines, which spell no item; the second and the third say these.
 pub record HasHead (form : Form) (lines : List (List ℕ)) (language : List ℕ) (minima : ℕ × ℕ) : Type 0 where
@@ -48,7 +48,7 @@ pub record HasHead (form : Form) (lines : List (List ℕ)) (language : List ℕ)
   pub second : language_of (slice_index_or lines 1 []) ≡ Some language
   pub third : minima_of (slice_index_or lines 2 []) ≡ Some minima
   pub goes_on : fault_after form [] lines ≡ fault_after form (take 3 lines) (drop 3 lines)
-  pub idle : are_idle (take 3 lines) ≡ true
+  pub spells_nothing : spell_nothing (take 3 lines) ≡ true
 
 -- This is what stands after the three head lines of the text.
 pub record IsAfterHead (bytes rest : List ℕ) : Type 0 where

@@ -7,8 +7,8 @@ use Rattle.hyphenation_grammar.specs.declared.Cause.TheVariants.{NotUtf8, Header
 use Rattle.hyphenation_grammar.specs.Judging.{fails, is_known}
 
 -- The first five of them.
-abbrev pub before_item : Form → ℕ → List ℕ → Option Cause
-before_item form number line = find (fails form number line) (NotUtf8 ∷ Header ∷ Language ∷ Minima ∷ UnknownLine ∷ [])
+abbrev pub cause_before_token : Form → ℕ → List ℕ → Option Cause
+cause_before_token form number line = find (fails form number line) (NotUtf8 ∷ Header ∷ Language ∷ Minima ∷ UnknownLine ∷ [])
 
 -- Those of them that a line after the third can fail.
 abbrev pub early_cause : List ℕ → Option Cause

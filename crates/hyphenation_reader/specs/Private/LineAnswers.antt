@@ -44,16 +44,16 @@ item_cause form line =
     find (fails form 4 line) (Token ∷ BadValue ∷ TwoValues ∷ NoLetters ∷ Number ∷ Place ∷ Change ∷ [])
 
 -- What is answered of a `p` or `e` line: what it says, or the first of these tests that it fails, or want of memory.
-abbrev pub Answers : {C B : Type 0} → Form → (Option Changed → C) → (Break → B) → List ℕ → Result (Item C B) Fault
+abbrev pub ReturnsItem : {C B : Type 0} → Form → (Option Changed → C) → (Break → B) → List ℕ → Result (Item C B) Fault
     → Type 0
-Answers form payload_of listing_of line result =
+ReturnsItem form payload_of listing_of line result =
     MatchResult result (λ item. (item_cause form line ≡ None) × IsItemOf form.version payload_of listing_of item line)
     (λ fault. IsFault fault (item_cause form line))
 
 -- The same of an `e` line: its word and its listed breaks.
-abbrev pub AnswersException : {B Y Z : Type 0} → Form → (Break → B) → List ℕ → Result (String Y × Vec B Z) Fault
+abbrev pub ReturnsException : {B Y Z : Type 0} → Form → (Break → B) → List ℕ → Result (String Y × Vec B Z) Fault
     → Type 0
-AnswersException form listing_of line result =
+ReturnsException form listing_of line result =
     MatchResult result (λ x. (item_cause form line ≡ None) ×
     ((pattern_of_line form.version line ≡ None)
     × (spelling_as listing_of exception_of_line line ≡ Some (string_bytes x.0, x.1.items))))

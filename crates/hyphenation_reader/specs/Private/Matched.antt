@@ -20,30 +20,30 @@ abbrev pub have_values : List (ℕ × ℕ) → List (ℕ × Option Changed) → 
 have_values values listed = list_all (λ b. list_any (λ v. v.0 == b.0) values) listed
 
 -- What is listed from the next one on, where there is a next one.
-abbrev pub from_next : Option (ℕ × Option Changed) → List (ℕ × Option Changed) → List (ℕ × Option Changed)
-from_next None rest = []
-from_next (Some b) rest = b ∷ rest
+abbrev pub pending : Option (ℕ × Option Changed) → List (ℕ × Option Changed) → List (ℕ × Option Changed)
+pending None rest = []
+pending (Some b) rest = b ∷ rest
 
 -- The change that is listed first, if it is at that place; and what is left of the listed ones then.
-abbrev pub first_at : ℕ → List (ℕ × Option Changed) → Option Changed
-first_at place [] = None
-first_at place (b ∷ rest) = if b.0 == place then b.1 else None
+abbrev pub head_change_at : ℕ → List (ℕ × Option Changed) → Option Changed
+head_change_at place [] = None
+head_change_at place (b ∷ rest) = if b.0 == place then b.1 else None
 
-abbrev pub left_at : ℕ → List (ℕ × Option Changed) → List (ℕ × Option Changed)
-left_at place [] = []
-left_at place (b ∷ rest) = if b.0 == place then rest else b ∷ rest
+abbrev pub tail_after : ℕ → List (ℕ × Option Changed) → List (ℕ × Option Changed)
+tail_after place [] = []
+tail_after place (b ∷ rest) = if b.0 == place then rest else b ∷ rest
 
 -- The entries that one pass over values and listed changes makes, and the listed ones that it leaves.
 abbrev pub matched_entries : {C : Type 0} → (Option Changed → C) → List (ℕ × ℕ) → List (ℕ × Option Changed)
     → List (Entry C)
 matched_entries payload_of [] listed = []
 matched_entries payload_of (v ∷ values) listed =
-    record { place = v.0; value = v.1; change = payload_of (first_at v.0 listed) }
-    ∷ matched_entries payload_of values (left_at v.0 listed)
+    record { place = v.0; value = v.1; change = payload_of (head_change_at v.0 listed) }
+    ∷ matched_entries payload_of values (tail_after v.0 listed)
 
 abbrev pub unmatched_changes : List (ℕ × ℕ) → List (ℕ × Option Changed) → List (ℕ × Option Changed)
 unmatched_changes [] listed = listed
-unmatched_changes (v ∷ values) listed = unmatched_changes values (left_at v.0 listed)
+unmatched_changes (v ∷ values) listed = unmatched_changes values (tail_after v.0 listed)
 
 -- What is asked of a change in a `p` line by itself, whether it has a value or not.
 abbrev pub suits_form_in_pattern : Form → List ℕ → ℕ × Option Changed → Bool

@@ -109,7 +109,7 @@ impl<'t, I: Breaks> Iterator for SegmentsExt<'t, I> {
         let start = self.start?;
         let text = self.text;
         let alloc = self.alloc;
-        if self.breaks.left() == 0 {
+        if self.breaks.remaining_len() == 0 {
             self.start = None;
             return Some(between(alloc, &self.last, &text[start..], &None));
         }
@@ -141,7 +141,7 @@ impl<'t, I: Breaks> ExactSizeIterator for SegmentsExt<'t, I> {
             Some(_) => {
                 // Breaks that fit are no more than the text's places, so that the sum stays in range.
                 let _text_len = self.text.len();
-                self.breaks.left() + 1
+                self.breaks.remaining_len() + 1
             }
         }
     }
@@ -163,7 +163,7 @@ impl<'t, I: Breaks> Texts for SegmentsExt<'t, I> {
     }
 
     /// What `len` gives.
-    fn left(&self) -> usize {
+    fn remaining_len(&self) -> usize {
         self.len()
     }
 }

@@ -5,7 +5,7 @@ ghost use Rattle.std.specs.Io.{StartsWith};
 ghost use Rattle.std.specs.Str.{IsCharBoundary};
 ghost use Rattle.std.specs.String.{string_bytes};
 ghost use Rattle.hyphenation_breaks.specs.Break.{begin_of, end_of, before_of, after_of};
-ghost use Rattle.hyphenation_segments.specs.Fits.{Fits, Stands};
+ghost use Rattle.hyphenation_segments.specs.Fits.{Fits, BreakFitsAfter};
 ghost use Rattle.hyphenation_segments.specs.Segments.{marked_word};
 
 use crate::words::Word;
@@ -22,7 +22,7 @@ fn push_break<B: Break>(
     mark: &str,
 ) -> Result<usize, AllocError>
     requires start { IsCharBoundary text.now start }
-    requires stands { Stands text.now start 0 (B.meaning b.now) }
+    requires stands { BreakFitsAfter text.now start 0 (B.meaning b.now) }
     ensures appended { OnOk result (string_bytes output.new ≡ string_bytes output.old ++ slice_range text.now start
         (begin_of (B.meaning b.now)) ++ before_of (B.meaning b.now).change ++ mark.now ++ after_of (B.meaning
         b.now).change) }

@@ -70,7 +70,7 @@ impl<'m, I: Texts> Hyphenating<'m, I> {
 fn mark_after<'m, I: Texts>(texts: &I, mark: &'m str) -> &'m str
     ensures { result.now ≡ mark_if_more mark.now (I.texts texts.now) }
 {
-    if texts.left() > 0 { mark } else { "" }
+    if texts.remaining_len() > 0 { mark } else { "" }
 }
 
 /// A text with its mark.
@@ -95,7 +95,7 @@ impl<'m, I: Texts> Iterator for Hyphenating<'m, I> {
     /// it is asked, and takes nothing more from the iterator inside.
     fn next(&mut self) -> Option<Result<String, AllocError>> {
         let alloc = self.alloc;
-        if self.inner.left() == 0 {
+        if self.inner.remaining_len() == 0 {
             return None;
         }
         let segment = self.inner.pull()?;
@@ -120,7 +120,7 @@ impl<'m, I: Texts> Iterator for Hyphenating<'m, I> {
 impl<'m, I: Texts> ExactSizeIterator for Hyphenating<'m, I> {
     /// The number of texts to come.
     fn len(&self) -> usize {
-        self.inner.left()
+        self.inner.remaining_len()
     }
 }
 

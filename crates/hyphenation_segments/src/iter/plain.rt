@@ -60,7 +60,7 @@ impl<'t, I: Breaks<Item = usize>> Iterator for Segments<'t, I> {
     fn next(&mut self) -> Option<&'t str> {
         let start = self.start?;
         let text = self.text;
-        if self.breaks.left() == 0 {
+        if self.breaks.remaining_len() == 0 {
             self.start = None;
             return Some(&text[start..]);
         }
@@ -88,7 +88,7 @@ impl<'t, I: Breaks<Item = usize>> ExactSizeIterator for Segments<'t, I> {
             Some(_) => {
                 // Breaks that fit are no more than the text's places, so that the sum stays in range.
                 let _text_len = self.text.len();
-                self.breaks.left() + 1
+                self.breaks.remaining_len() + 1
             }
         }
     }
@@ -108,7 +108,7 @@ impl<'t, I: Breaks<Item = usize>> Texts for Segments<'t, I> {
     }
 
     /// What `len` gives.
-    fn left(&self) -> usize {
+    fn remaining_len(&self) -> usize {
         self.len()
     }
 }

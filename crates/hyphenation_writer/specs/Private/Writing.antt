@@ -3,7 +3,7 @@
 use Rattle.std.specs.Prelude.{ℕ, ◌==◌, if◌then◌else◌, List, [], ◌∷◌, map, Option}
 use Rattle.std.specs.List.{list_all}
 use Rattle.hyphenation_breaks.specs.Break.{Break, Change}
-use Rattle.hyphenation_writer.specs.Canonical.{are_digits, entry_as_said, exception_line, element_spelling, pattern_line}
+use Rattle.hyphenation_writer.specs.Canonical.{are_digits, entry_as_spelt, exception_line, element_spelling, pattern_line}
 use Rattle.hyphenation_breaks.specs.declared.entry.Entry.{Entry}
 use Rattle.hyphenation_grammar.specs.declared.form.Version.{Version}
 use Rattle.hyphenation_grammar.specs.declared.form.Version.TheVariants.{First, Second}
@@ -20,7 +20,7 @@ entries_after at (e ∷ es) = if e.place == at then es else e ∷ es
 
 -- The line of a key with its entries, and that of a word with its listed breaks.
 abbrev pub key_line : {C : Type 0} → Version → (C → Option Change) → List ℕ × List (Entry C) → List ℕ
-key_line version change_of x = pattern_line version x.0 (map (entry_as_said change_of) x.1)
+key_line version change_of x = pattern_line version x.0 (map (entry_as_spelt change_of) x.1)
 
 abbrev pub word_line : {B : Type 0} → (B → Break) → List ℕ × List B → List ℕ
 word_line break_of x = exception_line x.0 (map break_of x.1)

@@ -1,6 +1,6 @@
 use Rattle.std.proofs.Common.{refl}
 use Rattle.hyphenation_breaks.proofs.StandsIn.{within}
-use Rattle.hyphenation_breaks.proofs.breaks.stands_in.Goals as goal
+use Rattle.hyphenation_breaks.proofs.breaks.lies_in.Goals as goal
 
 pub returns-in-Some : goal.returns-in-Some
 returns-in-Some g c =

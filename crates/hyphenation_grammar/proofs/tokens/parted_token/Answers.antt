@@ -4,7 +4,7 @@ use Rattle.std.proofs.lemmas.List.{length-map}
 use Rattle.hyphenation_grammar.proofs.AsciiSplits.{part-utf8}
 use Rattle.hyphenation_grammar.proofs.LaterTokens.{parted}
 use Rattle.hyphenation_grammar.proofs.TokenParts.{two_parts}
-use Rattle.hyphenation_grammar.proofs.tokens.parted_token.Goals as goal
+use Rattle.hyphenation_grammar.proofs.tokens.change_token.Goals as goal
 
 pub told-requires-clause-utf8 : goal.told-requires-clause-utf8
 told-requires-clause-utf8 c =

@@ -1,6 +1,6 @@
 use Rattle.std.proofs.Common.{◌∙◌, sym, Some, None}
 use Rattle.hyphenation_grammar.proofs.LaterTokens.{whole_none, whole_some}
-use Rattle.hyphenation_grammar.proofs.tokens.whole_token.Goals as goal
+use Rattle.hyphenation_grammar.proofs.tokens.plain_token.Goals as goal
 
 pub returns-then-not-has_good_escapes : goal.returns-then-not-has_good_escapes
 returns-then-not-has_good_escapes c = whole_none c.args.token.now c.requires.some c.requires.whole (sym c.has_good_escapes.ensures ∙ c.if-not-has_good_escapes.true)

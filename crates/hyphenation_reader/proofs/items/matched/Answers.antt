@@ -1,13 +1,13 @@
 use Rattle.std.proofs.Common.{◌≡◌, ◌∙◌, ℕ, ◌++◌, ◌∷◌, [], get_or, sym, subst}
-use Rattle.hyphenation_reader.specs.Private.Matched.{from_next}
+use Rattle.hyphenation_reader.specs.Private.Matched.{pending}
 use Rattle.hyphenation_reader.proofs.MatchedEntries.{goes_on, none_by, told, made_all}
 use Rattle.hyphenation_reader.proofs.items.matched.Goals as goal
 
 pub loop-value-preserved : goal.loop-value-preserved
 loop-value-preserved g c =
     let pushed = subst (λ (place : ℕ). c.push.new.self.items ≡ c.loop-value.entries.items ++ record { place = place; value = (get_or c.args.values.now c.loop-value.value-index (0, 0)).1; change = c.from_change.result } ∷ []) c.in_ok-place.ensures.held c.in_ok-push.ensures.items in
-    let on = goes_on g.C.Payload.payload_of c.loop-value.entries.items c.push.new.self.items c.args.values.now c.loop-value.value-index (from_next c.loop-value.next c.loop-value.rest.rest.items)
-    (from_next c.taken_at-change.new.next c.taken_at-change.new.rest.rest.items) c.taken_at-change.result c.from_change.result c.loop-value-test.true pushed c.from_change.ensures c.taken_at-change.ensures.taken c.taken_at-change.ensures.left in
+    let on = goes_on g.C.Payload.payload_of c.loop-value.entries.items c.push.new.self.items c.args.values.now c.loop-value.value-index (pending c.loop-value.next c.loop-value.rest.rest.items)
+    (pending c.take_change_at-change.new.next c.take_change_at-change.new.rest.rest.items) c.take_change_at-change.result c.from_change.result c.loop-value-test.true pushed c.from_change.ensures c.take_change_at-change.ensures.taken c.take_change_at-change.ensures.left in
     record { made = on.0 ∙ c.loop-value.invariant.made; left = on.1 ∙ c.loop-value.invariant.left }
 
 pub returns-clause-known : goal.returns-clause-known

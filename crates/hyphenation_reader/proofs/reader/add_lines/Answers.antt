@@ -2,7 +2,7 @@ use Rattle.std.proofs.Common.{◌∙◌, sym, ap, take, arith}
 use Rattle.std.proofs.lemmas.Str.{IsUtf8-from_is_utf8}
 use Rattle.hyphenation_grammar.specs.Lines.{lines_of}
 use Rattle.hyphenation_grammar.specs.Reading.{items_of_lines}
-use Rattle.hyphenation_reader.proofs.JudgingHead.{idle-spelt}
+use Rattle.hyphenation_reader.proofs.JudgingHead.{spells_nothing-spelt}
 use Rattle.hyphenation_reader.proofs.ReadingLines.{own-fault, repeated-fault, goes-on, spells-more, no_cause, refused, rest_is, reaches, ended, ended-fault}
 use Rattle.hyphenation_reader.proofs.reader.add_lines.Goals as goal
 
@@ -41,7 +41,7 @@ loop-line-init g c = record {
   within = c.requires.long;
   rest = c.requires.rest.lines;
   fault = sym c.requires.head;
-  spelt = c.requires.empty ∙ sym (idle-spelt c.args.form.version g.C.Payload.payload_of g.B.Listing.listing_of (take 3 (lines_of c.args.bytes.now)) c.requires.idle);
+  spelt = c.requires.empty ∙ sym (spells_nothing-spelt c.args.form.version g.C.Payload.payload_of g.B.Listing.listing_of (take 3 (lines_of c.args.bytes.now)) c.requires.spells_nothing);
   utf8 = λ known. c.requires.rest.utf8 (IsUtf8-from_is_utf8 c.args.bytes.now (sym c.is_utf8-known.ensures ∙ known));
   begins = c.requires.begins;
 }

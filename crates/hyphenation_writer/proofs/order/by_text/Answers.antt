@@ -1,5 +1,5 @@
 use Rattle.hyphenation_writer.proofs.TextMapOrder.{put_none, put_step}
-use Rattle.hyphenation_writer.proofs.order.by_text.Goals as goal
+use Rattle.hyphenation_writer.proofs.order.sorted_map.Goals as goal
 
 pub loop-index-init : goal.loop-index-init
 loop-index-init g c = put_none c.args.pairs.now c.new-found.result.entries c.new-found.ensures.empty

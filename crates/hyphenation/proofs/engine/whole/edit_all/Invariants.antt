@@ -4,5 +4,5 @@ use Rattle.hyphenation.proofs.engine.whole.edit_all.Given as goal
 
 abbrev pub invariant-loop-index : goal.invariant-loop-index
 invariant-loop-index g l =
-    (l.dictionary ≡ fold g.K.WholeTexts.edited l.initial.dictionary (map (λ edit. edit.now) (take l.index l.edits)))
-    × (first_refused_from g.K.WholeTexts.kind (l.index + 1) (map (λ edit. edit.now) (drop l.index l.edits)) ≡ first_refused g.K.WholeTexts.kind (map (λ edit. edit.now) l.edits))
+    (l.dictionary ≡ fold g.K.RunDictionary.edited l.initial.dictionary (map (λ edit. edit.now) (take l.index l.edits)))
+    × (first_refused_from g.K.RunDictionary.kind (l.index + 1) (map (λ edit. edit.now) (drop l.index l.edits)) ≡ first_refused g.K.RunDictionary.kind (map (λ edit. edit.now) l.edits))
