@@ -16,7 +16,7 @@ use Rattle.hyphenation_breaks.specs.Invariant.{IsDictionary}
 use Rattle.hyphenation_breaks.specs.declared.entry.Entry.{Entry}
 use Rattle.hyphenation_hyphenator.specs.Fitting.{keep_break, kept_breaks}
 use Rattle.hyphenation_hyphenator.specs.Opportunities.{within, breaks_within, is_odd, winning_break, breaks_at_odd_values, rules_of, by_patterns, by_exception, Ascending}
-use Rattle.hyphenation_hyphenator.specs.Private.Opportunities.{won_at, won_break, is_won, won_within}
+use Rattle.hyphenation_hyphenator.specs.Private.Opportunities.{break_at_winner, break_at_index, has_break_at_index, breaks_at_winners}
 use Rattle.hyphenation_score.specs.Laws.{ValueIsBorne, WinnerHasValue}
 use Rattle.hyphenation_score.specs.Scoring.{value_of, value_at, winner_at, winners}
 use Rattle.hyphenation_hyphenator.proofs.Fitting.{EndsAt}
@@ -63,26 +63,26 @@ all_written_over f all i h = ap (λ xs. map f xs ++ drop i all) (take_all i all 
 
 -- One more place may be won.
 pub won_more : {C : Type 0} (change_of : C → Option Change) (winners : List (Option (Entry C))) (bounds : ℕ × ℕ) (i : ℕ) (breaks : List Break)
-    → breaks ≡ map (won_break change_of winners) (filter (is_won winners bounds) (range_with_len 0 i))
-    → map (won_break change_of winners) (filter (is_won winners bounds) (range_with_len 0 (i + 1))) ≡ breaks ++ cond (is_won winners bounds i) (won_break change_of winners i ∷ []) []
+    → breaks ≡ map (break_at_index change_of winners) (filter (has_break_at_index winners bounds) (range_with_len 0 i))
+    → map (break_at_index change_of winners) (filter (has_break_at_index winners bounds) (range_with_len 0 (i + 1))) ≡ breaks ++ cond (has_break_at_index winners bounds i) (break_at_index change_of winners i ∷ []) []
 won_more change_of winners bounds i breaks is =
-    picked_more (won_break change_of winners) (is_won winners bounds) i ∙ ap (λ bs. bs ++ cond (is_won winners bounds i) (won_break change_of winners i ∷ []) []) (sym is)
+    picked_more (break_at_index change_of winners) (has_break_at_index winners bounds) i ∙ ap (λ bs. bs ++ cond (has_break_at_index winners bounds i) (break_at_index change_of winners i ∷ []) []) (sym is)
 
 pub is_won_at : {C : Type 0} (change_of : C → Option Change) (winners : List (Option (Entry C))) (bounds : ℕ × ℕ) (i : ℕ) (breaks : List Break) (b : Break) (winner : Option (Entry C))
-    → winner ≡ slice_index_or winners i None → breaks ≡ map (won_break change_of winners) (filter (is_won winners bounds) (range_with_len 0 i)) → Some b ≡ won_at change_of (i + 1) winner bounds
-    → breaks ++ b ∷ [] ≡ map (won_break change_of winners) (filter (is_won winners bounds) (range_with_len 0 (i + 1)))
+    → winner ≡ slice_index_or winners i None → breaks ≡ map (break_at_index change_of winners) (filter (has_break_at_index winners bounds) (range_with_len 0 i)) → Some b ≡ break_at_winner change_of (i + 1) winner bounds
+    → breaks ++ b ∷ [] ≡ map (break_at_index change_of winners) (filter (has_break_at_index winners bounds) (range_with_len 0 (i + 1)))
 is_won_at {C} change_of winners bounds i breaks b winner at is e =
-    let here : Some b ≡ cond (is_won winners bounds i) (Some (won_break change_of winners i)) None = e ∙ ap (λ w. won_at change_of (i + 1) w bounds) at in
-    let found = some_if (is_won winners bounds i) b (won_break change_of winners i) here in
-    ap (λ y. breaks ++ y ∷ []) found.1 ∙ sym (won_more change_of winners bounds i breaks is ∙ ap (λ t. breaks ++ cond t (won_break change_of winners i ∷ []) []) found.0)
+    let here : Some b ≡ cond (has_break_at_index winners bounds i) (Some (break_at_index change_of winners i)) None = e ∙ ap (λ w. break_at_winner change_of (i + 1) w bounds) at in
+    let found = some_if (has_break_at_index winners bounds i) b (break_at_index change_of winners i) here in
+    ap (λ y. breaks ++ y ∷ []) found.1 ∙ sym (won_more change_of winners bounds i breaks is ∙ ap (λ t. breaks ++ cond t (break_at_index change_of winners i ∷ []) []) found.0)
 
 pub is_not_won : {C : Type 0} (change_of : C → Option Change) (winners : List (Option (Entry C))) (bounds : ℕ × ℕ) (i : ℕ) (breaks : List Break) (winner : Option (Entry C))
-    → winner ≡ slice_index_or winners i None → breaks ≡ map (won_break change_of winners) (filter (is_won winners bounds) (range_with_len 0 i)) → None ≡ won_at change_of (i + 1) winner bounds
-    → breaks ≡ map (won_break change_of winners) (filter (is_won winners bounds) (range_with_len 0 (i + 1)))
+    → winner ≡ slice_index_or winners i None → breaks ≡ map (break_at_index change_of winners) (filter (has_break_at_index winners bounds) (range_with_len 0 i)) → None ≡ break_at_winner change_of (i + 1) winner bounds
+    → breaks ≡ map (break_at_index change_of winners) (filter (has_break_at_index winners bounds) (range_with_len 0 (i + 1)))
 is_not_won change_of winners bounds i breaks winner at is e =
-    let here : None ≡ cond (is_won winners bounds i) (Some (won_break change_of winners i)) None = e ∙ ap (λ w. won_at change_of (i + 1) w bounds) at in
-    let no = none_if (is_won winners bounds i) (won_break change_of winners i) here in
-    sym (won_more change_of winners bounds i breaks is ∙ ap (λ t. breaks ++ cond t (won_break change_of winners i ∷ []) []) no ∙ append-nil breaks)
+    let here : None ≡ cond (has_break_at_index winners bounds i) (Some (break_at_index change_of winners i)) None = e ∙ ap (λ w. break_at_winner change_of (i + 1) w bounds) at in
+    let no = none_if (has_break_at_index winners bounds i) (break_at_index change_of winners i) here in
+    sym (won_more change_of winners bounds i breaks is ∙ ap (λ t. breaks ++ cond t (break_at_index change_of winners i ∷ []) []) no ∙ append-nil breaks)
 
 -- ---- what is found, by the rules of a dictionary
 
@@ -104,16 +104,16 @@ same_won f g test odd bounds placed a (suc n) agree =
 
 -- The places that are won within bounds are the breaks that the keys allow.
 pub won_allowed : {C : Type 0} (change_of : C → Option Change) (keys : Patterns C) (word : List ℕ) (bounds : ℕ × ℕ) (found : List (Option (Entry C)))
-    → WinnerHasValue C → found ≡ winners keys word → won_within change_of found bounds ≡ breaks_within (breaks_at_odd_values change_of keys word) bounds
+    → WinnerHasValue C → found ≡ winners keys word → breaks_at_winners change_of found bounds ≡ breaks_within (breaks_at_odd_values change_of keys word) bounds
 unfolding breaks_at_odd_values
 won_allowed {C} change_of keys word bounds found has_value is =
     let n = length word - 1 in
     let ws : List (Option (Entry C)) = winners keys word in
     let count : length ws ≡ n = length-map-range_with_len (λ p. winner_at keys word p) 1 n in
     let at : (i : ℕ) → i < n → slice_index_or ws i None ≡ winner_at keys word (i + 1) = λ i lt. get_or-map-range_with_len (λ p. winner_at keys word p) 1 n i (i + 1) None lt (omega arith) in
-    ap (λ (vs : List (Option (Entry C))). won_within change_of vs bounds) is
-    ∙ ap (λ m. map (won_break change_of ws) (filter (is_won ws bounds) (range_with_len 0 m))) count
-    ∙ same_won (won_break change_of ws) (winning_break change_of keys word) (is_won ws bounds) (λ place. is_odd (value_at keys word place)) bounds (λ _. refl) 0 n
+    ap (λ (vs : List (Option (Entry C))). breaks_at_winners change_of vs bounds) is
+    ∙ ap (λ m. map (break_at_index change_of ws) (filter (has_break_at_index ws bounds) (range_with_len 0 m))) count
+    ∙ same_won (break_at_index change_of ws) (winning_break change_of keys word) (has_break_at_index ws bounds) (λ place. is_odd (value_at keys word place)) bounds (λ _. refl) 0 n
     (λ i l h.
     let winner : slice_index_or ws i None ≡ winner_at keys word (i + 1) = at i (omega arith) in (
       ap (λ w. break_at (i + 1) (option_and_then (λ entry. change_of entry.change) w)) winner,

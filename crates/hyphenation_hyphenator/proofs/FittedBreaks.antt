@@ -11,7 +11,7 @@ use Rattle.hyphenation_hyphenator.specs.declared.case_folding.Shift.{Shift}
 use Rattle.hyphenation_score.specs.Laws.{ValueIsBorne, WinnerIsFirst}
 use Rattle.hyphenation_segments.specs.Fits.{Fits}
 use Rattle.hyphenation_hyphenator.specs.Fitting.{kept_breaks, fitted_breaks, fitted_breaks_of, KeepRanges}
-use Rattle.hyphenation_hyphenator.specs.Private.Fitting.{is_steady_by}
+use Rattle.hyphenation_hyphenator.specs.Private.Fitting.{range_holds_no_shift}
 use Rattle.hyphenation_hyphenator.specs.Folding.{fold_case, shifts_of}
 use Rattle.hyphenation_hyphenator.specs.Opportunities.{Rules, rules_of, opportunities, break_carried_back, Ascending, breaks_as_written}
 use Rattle.hyphenation_hyphenator.specs.Private.Opportunities.{realigned_break}
@@ -46,7 +46,7 @@ pub record Carries (rules : Rules) (word folded : List ℕ) (size : ℕ) (shifts
   pub shifts_are : shifts ≡ shifts_of word
   pub found_are : found ≡ opportunities rules folded
   pub ascend : Ascending folded found
-  pub kept_are : kept ≡ kept_breaks (is_steady_by size shifts) found
+  pub kept_are : kept ≡ kept_breaks (range_holds_no_shift size shifts) found
   pub new_are : new ≡ map (realigned_break shifts) kept
 
 pub carried_fitted : (rules : Rules) (word folded : List ℕ) (size : ℕ) (shifts : List Shift) (found kept new : List Break) → IsUtf8 word → length word < 2 ^ 64 → Carries rules word folded size shifts found kept new
@@ -57,8 +57,8 @@ carried_fitted rules word folded size shifts found kept new u l c =
     let size_is : size ≡ length (fold_case word) = c.size_is ∙ ap length c.folded_is in
     let ascend : Ascending (fold_case word) all = subst (Ascending (fold_case word)) found_is (subst (λ t. Ascending t found) c.folded_is c.ascend) in
     let kept_is : kept ≡ fitted_breaks word all =
-    c.kept_are ∙ ap (λ n. kept_breaks (is_steady_by n shifts) found) size_is ∙ ap (λ s. kept_breaks (is_steady_by (length (fold_case word)) s) found) c.shifts_are
-    ∙ ap (kept_breaks (is_steady_by (length (fold_case word)) (shifts_of word))) found_is ∙ fitted_by_shifts word all in
+    c.kept_are ∙ ap (λ n. kept_breaks (range_holds_no_shift n shifts) found) size_is ∙ ap (λ s. kept_breaks (range_holds_no_shift (length (fold_case word)) s) found) c.shifts_are
+    ∙ ap (kept_breaks (range_holds_no_shift (length (fold_case word)) (shifts_of word))) found_is ∙ fitted_by_shifts word all in
     c.new_are ∙ ap (λ s. map (realigned_break s) kept) c.shifts_are ∙ ap (map (realigned_break (shifts_of word))) kept_is ∙ fitted_realigned word all u l ascend
 
 pub breaks_are : (rules : Rules) (word folded : List ℕ) (size : ℕ) (shifts : List Shift) (found kept new : List Break) → IsUtf8 word → length word < 2 ^ 64 → (length (soft_hyphens word) == 0) ≡ true → Carries rules word folded size shifts found kept new

@@ -11,8 +11,8 @@ use Rattle.hyphenation_breaks.specs.Dictionary.{Contents, Patterns, entries_of_k
 use Rattle.hyphenation_breaks.specs.Invariant.{IsDictionary}
 use Rattle.hyphenation_hyphenator.specs.declared.case_folding.Shift.{Shift}
 use Rattle.hyphenation_hyphenator.specs.Fitting.{kept_breaks, fitted_breaks_of}
-use Rattle.hyphenation_hyphenator.specs.Private.Fitting.{holds_shift, is_steady_by}
-use Rattle.hyphenation_hyphenator.specs.Private.Opportunities.{lent_break}
+use Rattle.hyphenation_hyphenator.specs.Private.Fitting.{holds_shift, range_holds_no_shift}
+use Rattle.hyphenation_hyphenator.specs.Private.Opportunities.{borrowed_break}
 use Rattle.hyphenation_hyphenator.specs.Folding.{fold_case, carried_back, shifts_of}
 use Rattle.hyphenation_hyphenator.specs.Opportunities.{Rules, no_change, rules_of, within, breaks_within, winning_break, breaks_at_odd_values, by_patterns, opportunities_in, opportunities, boundaries_by, all_breaks_of, breaks_as_written, break_carried_back, Ascending}
 use Rattle.hyphenation_hyphenator.specs.SoftHyphens.{soft_hyphens}
@@ -37,8 +37,8 @@ none_between place (s ∷ ss) =
       | false ↦ λ e. grind (arith, none_between place ss)
     ] refl
 
-plain_is_steady : (size : ℕ) (shifts : List Shift) (place : ℕ) → place ≤ size → is_steady_by size shifts (plain_break place) ≡ true
-unfolding is_steady_by
+plain_is_steady : (size : ℕ) (shifts : List Shift) (place : ℕ) → place ≤ size → range_holds_no_shift size shifts (plain_break place) ≡ true
+unfolding range_holds_no_shift
 plain_is_steady size shifts place h =
     ap (λ t. (nat_le 0 place && t) && not (holds_shift shifts (place - 0) (place + 0))) (le-leb (place + 0) size (omega arith))
     ∙ ap (λ t. (t && true) && not (holds_shift shifts (place - 0) (place + 0))) (le-leb 0 place (omega arith))
@@ -53,8 +53,8 @@ all_kept text test last_end least (b ∷ bs) steady h a p =
     ap (λ x. test x && nat_le last_end (begin_of x)) p.0 ∙ ap (λ t. t && nat_le last_end (place - 0)) (steady place (a.1).0) ∙ le-leb last_end (place - 0) (omega (arith, a.0)) in
     cond-true _ (b ∷ kept_from test (end_of b) bs) (kept_from test last_end bs) passes ∙ ap (λ rest. b ∷ rest) (all_kept text test (end_of b) (place + 1) bs steady (omega arith) a.2 p.1)
 
-pub plain_kept : (text : List ℕ) (shifts : List Shift) (breaks : List Break) → Ascending text breaks → ArePlain breaks → kept_breaks (is_steady_by (length text) shifts) breaks ≡ breaks
-plain_kept text shifts breaks a p = kept_is _ breaks ∙ all_kept text (is_steady_by (length text) shifts) 0 0 breaks (plain_is_steady (length text) shifts) (omega arith) (from_ascending text breaks a) p
+pub plain_kept : (text : List ℕ) (shifts : List Shift) (breaks : List Break) → Ascending text breaks → ArePlain breaks → kept_breaks (range_holds_no_shift (length text) shifts) breaks ≡ breaks
+plain_kept text shifts breaks a p = kept_is _ breaks ∙ all_kept text (range_holds_no_shift (length text) shifts) 0 0 breaks (plain_is_steady (length text) shifts) (omega arith) (from_ascending text breaks a) p
 
 carried_plain : (word : List ℕ) (breaks : List Break) → ArePlain breaks → ArePlain (map (break_carried_back word) breaks)
 carried_plain word [] p = tt
@@ -67,7 +67,7 @@ plain_made make h [] = tt
 plain_made make h (x ∷ xs) = (h x, plain_made make h xs)
 
 -- Of lent breaks without a change.
-pub plain_lent : (found : List (ℕ × Option (Bor Change))) → list_all (λ b. is_none b.1) found ≡ true → ArePlain (map lent_break found)
+pub plain_lent : (found : List (ℕ × Option (Bor Change))) → list_all (λ b. is_none b.1) found ≡ true → ArePlain (map borrowed_break found)
 plain_lent [] none = tt
 plain_lent (b ∷ bs) none =
     let parts = and_parts (is_none b.1) (list_all (λ b. is_none b.1) bs) none in

@@ -9,17 +9,17 @@ use Rattle.hyphenation_hyphenator.specs.Opportunities.{Rules, opportunities, bre
 use Rattle.hyphenation_hyphenator.specs.Places.{place_of_character}
 
 -- From begin on and before end there begins a character of the folded word whose number of bytes the folding changed.
-abbrev pub holds_changed : List ℕ → ℕ → ℕ → Bool
-holds_changed word begin end =
+abbrev pub holds_length_change : List ℕ → ℕ → ℕ → Bool
+holds_length_change word begin end =
     list_any (λ j. changes_length word j &&
     (nat_le begin (place_of_character (fold_case word) j) && nat_lt (place_of_character (fold_case word) j) end))
     (range_with_len 0 (length (chars word)))
 
 -- The range of a break lies in the folded word, and holds no such character.
-abbrev pub is_steady : List ℕ → Break → Bool
-is_steady word b =
+abbrev pub range_keeps_lengths : List ℕ → Break → Bool
+range_keeps_lengths word b =
     nat_le (left_of b.change) b.place && nat_le (end_of b) (length (fold_case word))
-    && not (holds_changed word (begin_of b) (end_of b))
+    && not (holds_length_change word (begin_of b) (end_of b))
 
 -- The range of a break begins at or after the end of the range of each of the others.
 abbrev pub is_after : List Break → Break → Bool
@@ -35,7 +35,7 @@ kept_breaks test breaks = lists.fold (keep_break test) [] breaks
 
 -- The breaks of the folded word that are kept.
 unfoldable pub fitted_breaks : List ℕ → List Break → List Break
-fitted_breaks word breaks = kept_breaks (is_steady word) breaks
+fitted_breaks word breaks = kept_breaks (range_keeps_lengths word) breaks
 
 -- The breaks of a word as written, where those opportunities of the folded word that are kept are carried back.
 unfoldable pub fitted_breaks_of : Rules → List ℕ → List Break

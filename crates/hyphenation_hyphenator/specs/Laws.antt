@@ -4,7 +4,7 @@ use Rattle.std.specs.FinMap as finite
 use Rattle.hyphenation_breaks.specs.Break.{Break, plain_break, ascend_on}
 use Rattle.hyphenation_breaks.specs.Dictionary.{TextMap}
 use Rattle.hyphenation_segments.specs.Fits.{Fits}
-use Rattle.hyphenation_hyphenator.specs.Fitting.{fitted_breaks, is_steady, is_after}
+use Rattle.hyphenation_hyphenator.specs.Fitting.{fitted_breaks, range_keeps_lengths, is_after}
 
 -- Plain breaks fit exactly where their places ascend strictly, on character boundaries.
 abbrev pub FitWhereAscending : Type 0
@@ -17,8 +17,8 @@ RemovalUndoes B =
     → finite.remove (finite.insert exceptions word listed) word ≡ exceptions
 
 -- A break after others is kept exactly where its own range is steady and begins after that of each other that is kept; the others are kept as without it.
-abbrev pub FittedOneMore : Type 0
-FittedOneMore = (word : List ℕ) (breaks : List Break) (b : Break) →
+abbrev pub KeepsOneMore : Type 0
+KeepsOneMore = (word : List ℕ) (breaks : List Break) (b : Break) →
     fitted_breaks word (breaks ++ b ∷ [])
-    ≡ (if is_steady word b && is_after (fitted_breaks word breaks) b then fitted_breaks word breaks ++ b ∷ []
+    ≡ (if range_keeps_lengths word b && is_after (fitted_breaks word breaks) b then fitted_breaks word breaks ++ b ∷ []
     else fitted_breaks word breaks)

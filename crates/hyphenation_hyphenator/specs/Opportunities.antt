@@ -106,7 +106,7 @@ abbrev pub Ascending : List ℕ → List Break → Type 0
 Ascending text breaks = IsTrue (ascend_on text 0 (map (λ b. b.place) breaks))
 
 -- The rules are as before, but for the word, which now has this list, or is no exception.
-pub record ListsAnew (old new : Rules) (word : List ℕ) (list : Option (List Break)) : Type 0 where
+pub record SetsListOnly (old new : Rules) (word : List ℕ) (list : Option (List Break)) : Type 0 where
   pub minima : new.minima ≡ old.minima
   pub listed : (other : List ℕ) → new.listed other ≡ (if pointwise nat_eq word other then list else old.listed other)
   pub allowed : (other : List ℕ) → new.allowed other ≡ old.allowed other

@@ -23,7 +23,7 @@ ghost use Rattle.std.specs.Option.{option_copied, option_map_or};
 ghost use Rattle.std.specs.Str.Pattern.{HasPassingCharAt};
 ghost use Rattle.unicode.specs.Binary.{is_uppercase};
 ghost use Rattle.hyphenation_hyphenator.specs.Places.{place_of_character};
-ghost use Rattle.hyphenation_hyphenator.specs.Private.SmallLetters.{is_small_letter, is_small_pair, are_small_letters};
+ghost use Rattle.hyphenation_hyphenator.specs.Private.CommonLowercase.{is_common_lowercase, is_common_pair, are_common_lowercase};
 ghost use Rattle.hyphenation_hyphenator.specs.Folding.{fold_character, fold_case, has_uppercase, shifts_of, delta_below, carried_back};
 
 use std::alloc::{AllocError, Global};
@@ -55,7 +55,7 @@ pub fn refold<'t>(alloc: Global, original: &'t str) -> Result<(CowStr<'t>, Vec<S
 {
     match first_uppercase(original) {
         Some(start) => {
-            let (folded, shifts) = folded_from(alloc, original, start)?;
+            let (folded, shifts) = fold_from(alloc, original, start)?;
             Ok((CowStr::Owned(folded), shifts))
         }
         None => Ok((CowStr::Borrowed(original), Vec::new(alloc))),
@@ -63,7 +63,7 @@ pub fn refold<'t>(alloc: Global, original: &'t str) -> Result<(CowStr<'t>, Vec<S
 }
 
 /// A text with room for so many bytes, which begins with another one.
-fn begun_with(alloc: Global, front: &str, room: usize) -> Result<String, AllocError>
+fn copied_with_capacity(alloc: Global, front: &str, room: usize) -> Result<String, AllocError>
     ensures { IfOk result (λ text. string_bytes text ≡ front.now) }
 {
     let mut text = String::with_capacity(alloc, room)?;
@@ -72,7 +72,7 @@ fn begun_with(alloc: Global, front: &str, room: usize) -> Result<String, AllocEr
 }
 
 /// The folded word and its shifts, where no character before a place is Uppercase.
-fn folded_from(
+fn fold_from(
     alloc: Global,
     original: &str,
     start: usize,
@@ -84,7 +84,7 @@ fn folded_from(
 {
     let (unchanged, rest) = original.split_at(start);
     // Most words fold to as many bytes.
-    let mut folded = begun_with(alloc, unchanged, original.len())?;
+    let mut folded = copied_with_capacity(alloc, unchanged, original.len())?;
     let mut shifts = Vec::new(alloc);
     let mut written = start;
     for c in rest.chars() {
@@ -107,15 +107,15 @@ fn first_uppercase(text: &str) -> Option<usize>
     ensures first { IfSome result (λ place. has_uppercase (take place text.now) ≡ false) }
     ensures uppercase { IfSome result (λ place. (end : ℕ) × HasPassingCharAt is_uppercase text.now place end) }
 {
-    text.find(|c: char| is_upper(c))
+    text.find(|c: char| has_uppercase_property(c))
 }
 
 /// Whether a character is one of the small letters of which most words are made.
 ///
 /// It may say no of others; the `÷` counts as one.
 #[inline(always)]
-fn is_small_letter(c: char) -> bool
-    ensures { result ≡ is_small_letter c }
+fn is_common_lowercase(c: char) -> bool
+    ensures { result ≡ is_common_lowercase c }
 {
     ('a' <= c && c <= 'z')
         || ('ß' <= c && c <= 'ÿ')
@@ -125,8 +125,8 @@ fn is_small_letter(c: char) -> bool
 
 /// Whether two bytes are such a letter beyond ASCII: those of Cyrillic, of Latin-1, and the `ő` and the `ű`.
 #[inline(always)]
-fn is_small_pair(first: u8, second: u8) -> bool
-    ensures { result ≡ is_small_pair first second }
+fn is_common_pair(first: u8, second: u8) -> bool
+    ensures { result ≡ is_common_pair first second }
 {
     (first == 0xD0 && 0xB0 <= second && second <= 0xBF)
         || (first == 0xD1 && 0x80 <= second && second <= 0x9F)
@@ -137,8 +137,8 @@ fn is_small_pair(first: u8, second: u8) -> bool
 /// Whether a word is made of such letters: then it folds to itself, and has no soft hyphen.
 ///
 /// The bytes are looked at as they stand, since to put characters together takes more than twice as long.
-pub(crate) fn are_small_letters(word: &str) -> bool
-    ensures { result ≡ are_small_letters word.now }
+pub(crate) fn are_common_lowercase(word: &str) -> bool
+    ensures { result ≡ are_common_lowercase word.now }
 {
     let bytes = word.as_bytes();
     let last = bytes.len().saturating_sub(1);
@@ -151,7 +151,7 @@ pub(crate) fn are_small_letters(word: &str) -> bool
             }
             at += 1;
         } else {
-            if !is_small_pair(first, bytes[at + 1]) {
+            if !is_common_pair(first, bytes[at + 1]) {
                 return false;
             }
             at += 2;
@@ -162,12 +162,12 @@ pub(crate) fn are_small_letters(word: &str) -> bool
 
 /// Whether a character has the property Uppercase, by short roads for ASCII and for the letters of which most words
 /// are.
-fn is_upper(c: char) -> bool
+fn has_uppercase_property(c: char) -> bool
     ensures { result ≡ is_uppercase c }
 {
     if c.is_ascii() {
         c.is_ascii_uppercase()
-    } else if is_small_letter(c) {
+    } else if is_common_lowercase(c) {
         false
     } else {
         is_uppercase(c)
@@ -180,7 +180,7 @@ fn fold_char(c: char) -> char
 {
     if c == '\u{130}' {
         'i'
-    } else if is_upper(c) {
+    } else if has_uppercase_property(c) {
         simple_fold(c)
     } else {
         c
@@ -210,11 +210,11 @@ pub fn realign(i: usize, shifts: &[Shift]) -> usize
         → shifts.now ≡ shifts_of original → i ≡ place_of_character (fold_case original) j
         → result ≡ place_of_character original j }
 {
-    carried_by(i, last_shift_below(i, shifts))
+    shifted_back(i, last_shift_below(i, shifts))
 }
 
 /// The place less the delta of a shift, if there is one, held between 0 and the greatest `usize`.
-fn carried_by(i: usize, shift: Option<&Shift>) -> usize
+fn shifted_back(i: usize, shift: Option<&Shift>) -> usize
     ensures { result
         ≡ saturate_unsigned w64 (pos i -ℤ option_map_or (λ shift. shift.delta) (option_copied shift.entry) (pos 0)) }
 {
@@ -224,15 +224,15 @@ fn carried_by(i: usize, shift: Option<&Shift>) -> usize
 
 /// What [`realign`] answers, for shifts in the order of their indices: of these it asks few, by
 /// halving.
-pub(crate) fn realign_in_order(i: usize, shifts: &[Shift]) -> usize
+pub(crate) fn realign_sorted(i: usize, shifts: &[Shift]) -> usize
     requires { IsNonDecreasingBy (λ shift. shift.index) shifts.now }
     ensures { result ≡ saturate_unsigned w64 (pos i -ℤ delta_below shifts.now i) }
 {
-    carried_by(i, last_in_order(i, shifts))
+    shifted_back(i, last_sorted_shift_below(i, shifts))
 }
 
 /// The last shift whose index is below `i`, where they stand in order.
-fn last_in_order(i: usize, shifts: &[Shift]) -> Option<&Shift>
+fn last_sorted_shift_below(i: usize, shifts: &[Shift]) -> Option<&Shift>
     requires { IsNonDecreasingBy (λ shift. shift.index) shifts.now }
     ensures { option_copied result ≡ find (λ shift. nat_lt shift.index i) (reverse shifts.now) }
 {

@@ -12,14 +12,14 @@ ghost use Rattle.hyphenation_breaks.specs.Break.{Break};
 ghost use Rattle.hyphenation_breaks.specs.Invariant.{are_listed};
 ghost use Rattle.hyphenation_segments.specs.Fits.{Fits};
 ghost use Rattle.hyphenation_hyphenator.specs.Fitting.{KeepRanges};
-ghost use Rattle.hyphenation_hyphenator.specs.Opportunities.{Rules, by_patterns, by_exception, boundaries_by, exception_within_boundaries, opportunities, Ascending, ListsAnew};
+ghost use Rattle.hyphenation_hyphenator.specs.Opportunities.{Rules, by_patterns, by_exception, boundaries_by, exception_within_boundaries, opportunities, Ascending, SetsListOnly};
 
+mod ascii_lowercase;
 mod boundaries;
 mod break_kind;
 mod extended;
 mod fitting;
 pub mod laws;
-mod letters;
 mod pattern_breaks;
 mod standard;
 mod word_paths;
@@ -129,7 +129,7 @@ pub trait Hyphenator<'h> {
         ops: Vec<Self::Exact>,
     ) -> Result<Option<Vec<Self::Exact>>, AllocError>
         requires { IsTrue (are_listed Self.Exact.meaning (string_bytes lowercase_word) ops.items) }
-        ensures lists { OnOk result (ListsAnew (rules self.old) (rules self.new) (string_bytes lowercase_word)
+        ensures lists { OnOk result (SetsListOnly (rules self.old) (rules self.new) (string_bytes lowercase_word)
             (Some (map Self.Exact.meaning ops.items))) }
         ensures old { IfOk result (λ old.
             option_map (λ v. map Self.Exact.meaning v.items) old
@@ -140,7 +140,7 @@ pub trait Hyphenator<'h> {
     ///
     /// Nothing else changes.
     fn remove_exception(&mut self, word: &str) -> Option<Vec<Self::Exact>>
-        ensures lists { ListsAnew (rules self.old) (rules self.new) word.now None }
+        ensures lists { SetsListOnly (rules self.old) (rules self.new) word.now None }
         ensures old { option_map (λ v. map Self.Exact.meaning v.items) result ≡ (rules self.old).listed word.now };
 
     /// The breaks of a word as written, as [`hyphenate`](Hyphenator::hyphenate) has them.

@@ -6,7 +6,7 @@ use Rattle.hyphenation_breaks.specs.Break.{Break, Change, break_at, is_boundary,
 use Rattle.hyphenation_breaks.specs.Invariant.{fits_usize, can_be_written, can_be_written_if_any, lists_within, stays_within}
 use Rattle.hyphenation_breaks.specs.Laws.{listed_from, BoundaryIsOfChars}
 use Rattle.hyphenation_segments.specs.Fits.{BreakFitsAfter}
-use Rattle.hyphenation_segments.specs.Laws.{MayBeListed, AreKept}
+use Rattle.hyphenation_segments.specs.Laws.{MayBeListed, MeetInvariant}
 
 both : (a b : Bool) → a ≡ true → b ≡ true → (a && b) ≡ true
 both true b p q = q
@@ -64,7 +64,7 @@ by_rule break_of chars word least (x ∷ xs) h =
     let at = and_parts (nat_le least b.place) (is_boundary word b.place) one.0 in
     (tested chars word least b.place b.change at.0 at.1 one.1, by_rule break_of chars word (b.place + 1) xs all.1)
 
-pub from_rule : {B : Type 0} (break_of : B → Break) → BoundaryIsOfChars → (word : List ℕ) (least : ℕ) (listed : List B) → length word < 2 ^ 64 → AreKept (map break_of listed) → MayBeListed word least (map break_of listed) → listed_from break_of word least listed ≡ true
+pub from_rule : {B : Type 0} (break_of : B → Break) → BoundaryIsOfChars → (word : List ℕ) (least : ℕ) (listed : List B) → length word < 2 ^ 64 → MeetInvariant (map break_of listed) → MayBeListed word least (map break_of listed) → listed_from break_of word least listed ≡ true
 from_rule break_of chars word least [] size kept h = refl
 from_rule break_of chars word least (x ∷ xs) size kept h =
     let b = break_of x in

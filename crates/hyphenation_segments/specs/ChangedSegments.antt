@@ -16,9 +16,9 @@ abbrev pub made_segments : List ℕ → List Break → List (List ℕ × Bool)
 made_segments text breaks = made_segments_after text (plain_break 0) breaks
 
 -- An item is the first of the segments to come, or a refusal in its place; it is borrowed exactly where it isn't made anew, and such a one is never refused. After the end there is none again.
-abbrev pub GivesMade : {Z E : Type 0} → List (List ℕ × Bool) → Option (Result (CowStr Z) E) → List (List ℕ × Bool)
+abbrev pub YieldsMade : {Z E : Type 0} → List (List ℕ × Bool) → Option (Result (CowStr Z) E) → List (List ℕ × Bool)
     → Type 0
-GivesMade old item new =
+YieldsMade old item new =
     MatchOption item ((old ≡ []) × (new ≡ []))
     (λ x.
     (first : List ℕ × Bool) × (old ≡ first ∷ new)
@@ -26,6 +26,6 @@ GivesMade old item new =
     × (first.1 ≡ false → IsOk x))
 
 -- The text that an item holds, and none where it holds a refusal.
-abbrev pub text_held : {Z E : Type 0} → Result (CowStr Z) E → Option (List ℕ)
-text_held (Ok segment) = Some (cow_str_bytes segment)
-text_held (Err error) = None
+abbrev pub text_if_made : {Z E : Type 0} → Result (CowStr Z) E → Option (List ℕ)
+text_if_made (Ok segment) = Some (cow_str_bytes segment)
+text_if_made (Err error) = None

@@ -29,8 +29,8 @@ IsGivenByNeighbours = (text : List ℕ) (breaks : List Break) (number : ℕ) →
     (break_number (with_ends text breaks) (number + 1)))
 
 -- There is one more segment than there are breaks.
-abbrev pub IsOneMore : Type 0
-IsOneMore = (text : List ℕ) (breaks : List Break) → length (segments text breaks) ≡ length breaks + 1
+abbrev pub AreOneMoreThanBreaks : Type 0
+AreOneMoreThanBreaks = (text : List ℕ) (breaks : List Break) → length (segments text breaks) ≡ length breaks + 1
 
 -- The segments at plain breaks that fit the text join to it.
 abbrev pub JoinsToText : Type 0
@@ -55,13 +55,13 @@ MayBeListed text least [] = ⊤
 MayBeListed text least (b ∷ bs) = BreakFitsAfter text 0 least b × MayBeListed text (b.place + 1) bs
 
 -- Each break is as its type keeps it, which `Break::invariant` tells.
-abbrev pub AreKept : List Break → Type 0
-AreKept [] = ⊤
-AreKept (b ∷ bs) = IsTrue (has_boundary b.change) × IsTrue (can_be_written_if_any b.change) × AreKept bs
+abbrev pub MeetInvariant : List Break → Type 0
+MeetInvariant [] = ⊤
+MeetInvariant (b ∷ bs) = IsTrue (has_boundary b.change) × IsTrue (can_be_written_if_any b.change) × MeetInvariant bs
 
 -- Breaks may be listed for a word exactly where they may by the rule alone: what `are_listed` asks besides is true of
 -- each word and each break that there is.
-abbrev pub ListedByRule : (B : Type 0) → (B → Break) → Type 0
-ListedByRule B break_of =
-    (word : List ℕ) (listed : List B) → length word < 2 ^ 64 → AreKept (map break_of listed)
+abbrev pub ListedWhereEachFits : (B : Type 0) → (B → Break) → Type 0
+ListedWhereEachFits B break_of =
+    (word : List ℕ) (listed : List B) → length word < 2 ^ 64 → MeetInvariant (map break_of listed)
     → IsTrue (are_listed break_of word listed) ↔ MayBeListed word 0 (map break_of listed)

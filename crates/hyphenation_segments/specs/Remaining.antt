@@ -14,7 +14,7 @@ TakesFirstOrRefuses {X = X} held list old item new =
     (λ x. (first : X) × (list old ≡ first ∷ list new) × IfSome (held x) (λ value. value ≡ first))
 
 -- An item is the first of the texts to come, or a refusal in its place; after the end there is none again.
-abbrev pub GivesMarked : {Z E : Type 0} → List (List ℕ) → Option (Result (String Z) E) → List (List ℕ) → Type 0
-GivesMarked old item new =
+abbrev pub YieldsMarked : {Z E : Type 0} → List (List ℕ) → Option (Result (String Z) E) → List (List ℕ) → Type 0
+YieldsMarked old item new =
     MatchOption item ((old ≡ []) × (new ≡ []))
     (λ x. (first : List ℕ) × (old ≡ first ∷ new) × IfOk x (λ text. string_bytes text ≡ first))

@@ -8,17 +8,17 @@ ghost use Rattle.std.specs.Prelude.{◌≡◌, ℕ, List, Option, Some, None, le
 ghost use Rattle.hyphenation_breaks.specs.Break.{Break};
 ghost use Rattle.hyphenation_segments.specs.Remaining.{TakesFirst, TakesFirstOrRefuses};
 
-mod changed;
-mod joined;
+mod extended;
 pub mod laws;
 mod marks;
 mod plain;
+mod pushing;
 
-pub use changed::SegmentsExt;
+pub use extended::SegmentsExt;
 use hyphenation_breaks::breaks::Break;
-pub use joined::push_marked;
 pub use marks::{Hyphenating, Iter};
 pub use plain::Segments;
+pub use pushing::push_marked;
 use std::alloc::AllocError;
 use std::borrow::CowStr;
 use std::iter::Copied;
@@ -104,9 +104,9 @@ impl<'t> SegmentText for CowStr<'t> {
 }
 
 impl<'t> SegmentText for Result<CowStr<'t>, AllocError> {
-    ghost use Rattle.hyphenation_segments.specs.ChangedSegments.{text_held};
+    ghost use Rattle.hyphenation_segments.specs.ChangedSegments.{text_if_made};
 
-    ghost held = { text_held };
+    ghost held = { text_if_made };
 
     fn text(&self) -> Result<&str, AllocError> {
         match self {
@@ -118,14 +118,14 @@ impl<'t> SegmentText for Result<CowStr<'t>, AllocError> {
 
 /// A segment that was made, or a refusal of the memory for it.
 #[derive(Drop)]
-pub struct Pulled<'t> {
+pub struct MadeSegment<'t> {
     pub segment: Result<CowStr<'t>, AllocError>,
 }
 
-impl<'t> SegmentText for Pulled<'t> {
-    ghost use Rattle.hyphenation_segments.specs.ChangedSegments.{text_held};
+impl<'t> SegmentText for MadeSegment<'t> {
+    ghost use Rattle.hyphenation_segments.specs.ChangedSegments.{text_if_made};
 
-    ghost held = { λ item. text_held item.segment };
+    ghost held = { λ item. text_if_made item.segment };
 
     fn text(&self) -> Result<&str, AllocError> {
         self.segment.text()

@@ -36,7 +36,7 @@ impl<'t, B: Break> Word<'t, B> {
         let mut last_end = 0;
         let mut least = 0;
         for b in breaks {
-            match end_in(text, last_end, least, b) {
+            match fitting_end(text, last_end, least, b) {
                 None => return false,
                 Some(end) => {
                     last_end = end;
@@ -64,7 +64,7 @@ impl<'t, B: Break + Copy> Word<'t, B> {
 
 /// Where the range of a break ends, if the break stands in the text after the end of the last range and no earlier than
 /// the least place.
-fn end_in<B: Break>(text: &str, last_end: usize, least: usize, b: &B) -> Option<usize>
+fn fitting_end<B: Break>(text: &str, last_end: usize, least: usize, b: &B) -> Option<usize>
     ensures { MatchOption result (¬ (BreakFitsAfter text.now last_end least (B.meaning b.now)))
         (λ end. (end ≡ end_of (B.meaning b.now)) × BreakFitsAfter text.now last_end least (B.meaning b.now)) }
 {

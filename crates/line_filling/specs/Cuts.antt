@@ -18,12 +18,12 @@ abbrev pub is_plain : List ℕ → ℕ → Bool
 is_plain text place = slice_index text (place - 1) == 32 || place == length text
 
 -- The place is one of some.
-abbrev pub is_in : ℕ → List ℕ → Bool
-is_in place places = list_any (λ p. place == p) places
+abbrev pub is_one_of : ℕ → List ℕ → Bool
+is_one_of place places = list_any (λ p. place == p) places
 
 -- A line may end at a plain place, and at one of the breaks; asked of places above 0.
 abbrev pub is_cut : List ℕ → List ℕ → ℕ → Bool
-is_cut text breaks place = is_plain text place || is_in place breaks
+is_cut text breaks place = is_plain text place || is_one_of place breaks
 
 -- The cuts after a place, in ascending order.
 abbrev pub cuts_after : List ℕ → List ℕ → ℕ → List ℕ

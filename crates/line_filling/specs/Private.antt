@@ -1,4 +1,4 @@
 -- What private functions and proofs are stated by. No contract of a public call cites it, so it is not for signing.
 pub mod Filling
-pub mod Open
+pub mod OpenLine
 pub mod WordBreaks

@@ -10,8 +10,8 @@ ghost use Rattle.std.specs.String.{string_bytes};
 ghost use Rattle.hyphenation_hyphenator.specs.Opportunities.{Ascending};
 ghost use Rattle.line_filling.specs.Cuts.{word_breaks, is_plain, is_cut};
 ghost use Rattle.line_filling.specs.Lines.{line, fits, lines_by, IsFittingDivision, EndGreatestOrLeast, JoinToText};
-ghost use Rattle.line_filling.specs.Private.Filling.{after_cut, all_lines};
-ghost use Rattle.line_filling.specs.Private.Open.{IsOpen, state_of};
+ghost use Rattle.line_filling.specs.Private.Filling.{state_after_cut, all_lines};
+ghost use Rattle.line_filling.specs.Private.OpenLine.{IsOpenLine, state_of};
 ghost use Rattle.line_filling.specs.Private.WordBreaks.{HasBreaksAfter};
 
 use crate::word_breaks::WordBreaks;
@@ -22,7 +22,7 @@ use std::alloc::{AllocError, Global};
 /// The line that is being filled: it begins at `start`, and `end` is the last cut that was passed, at which it will
 /// end unless the next one's line fits too. Before the first cut both are 0.
 #[derive(Clone, Copy)]
-struct Open {
+struct OpenLine {
     start: usize,
     end: usize,
     /// The number of characters between them.
@@ -39,7 +39,7 @@ fn is_plain(text: &str, place: usize) -> bool
 }
 
 /// The number of characters between two places.
-fn count(text: &str, start: usize, end: usize) -> usize
+fn count_characters(text: &str, start: usize, end: usize) -> usize
     requires order { start ≤ end }
     requires start { IsCharBoundary text.now start }
     requires end { IsCharBoundary text.now end }
@@ -49,13 +49,13 @@ fn count(text: &str, start: usize, end: usize) -> usize
 }
 
 /// The number of characters from the start of the line to a place after its last cut.
-fn count_to(text: &str, current: Open, place: usize) -> usize
-    requires current { IsOpen text.now current }
+fn count_characters_to(text: &str, current: OpenLine, place: usize) -> usize
+    requires current { IsOpenLine text.now current }
     requires after { current.end < place }
     requires place { IsCharBoundary text.now place }
     ensures { result ≡ length (chars (slice_range text.now current.start place)) }
 {
-    current.width + count(text, current.end, place)
+    current.width + count_characters(text, current.end, place)
 }
 
 /// The line between two places.
@@ -73,7 +73,7 @@ fn line(alloc: Global, text: &str, start: usize, end: usize) -> Result<String, A
 }
 
 /// Where the first space after a place ends; the text's end where there is none.
-fn next_plain(text: &str, from: usize) -> usize
+fn next_plain_cut(text: &str, from: usize) -> usize
     requires { from < length text.now }
     ensures after { from < result }
     ensures within { result ≤ length text.now }
@@ -89,8 +89,8 @@ fn next_plain(text: &str, from: usize) -> usize
 }
 
 /// Whether the line of so many characters fits where it ends at a place.
-fn fits(text: &str, columns: usize, current: Open, place: usize, width: usize) -> bool
-    requires current { IsOpen text.now current }
+fn fits(text: &str, columns: usize, current: OpenLine, place: usize, width: usize) -> bool
+    requires current { IsOpenLine text.now current }
     requires after { current.end < place }
     requires place { IsCharBoundary text.now place }
     requires width { width ≡ length (chars (slice_range text.now current.start place)) }
@@ -104,23 +104,23 @@ fn fits(text: &str, columns: usize, current: Open, place: usize, width: usize) -
 }
 
 /// Passes the next cut: the line goes on to it where it fits, and else ends at the last one.
-fn pass(
+fn pass_cut(
     text: &str,
     columns: usize,
     lines: &mut Vec<String>,
-    current: Open,
+    current: OpenLine,
     place: usize,
-) -> Result<Open, AllocError>
-    requires current { IsOpen text.now current }
+) -> Result<OpenLine, AllocError>
+    requires current { IsOpenLine text.now current }
     requires after { current.end < place }
     requires place { IsCharBoundary text.now place }
     ensures state { IfOk result (λ next.
-        state_of next lines.new.items ≡ after_cut text.now columns (state_of current lines.old.items) place) }
-    ensures next { IfOk result (λ next. IsOpen text.now next) }
+        state_of next lines.new.items ≡ state_after_cut text.now columns (state_of current lines.old.items) place) }
+    ensures next { IfOk result (λ next. IsOpenLine text.now next) }
 {
-    let width = count_to(text, current, place);
+    let width = count_characters_to(text, current, place);
     if fits(text, columns, current, place, width) || current.start == current.end {
-        return Ok(Open {
+        return Ok(OpenLine {
             start: current.start,
             end: place,
             width,
@@ -128,10 +128,10 @@ fn pass(
     }
     let line = line(*lines.allocator(), text, current.start, current.end)?;
     lines.push(line)?;
-    Ok(Open {
+    Ok(OpenLine {
         start: current.end,
         end: place,
-        width: count(text, current.end, place),
+        width: count_characters(text, current.end, place),
     })
 }
 
@@ -142,11 +142,11 @@ fn pass_breaks<'h, H: Hyphenator<'h, Opportunity = usize>>(
     columns: usize,
     breaks: &mut WordBreaks,
     lines: &mut Vec<String>,
-    current: Open,
+    current: OpenLine,
     until: usize,
-) -> Result<Open, AllocError>
+) -> Result<OpenLine, AllocError>
     requires ascend { (word : List ℕ) → IsUtf8 word → Ascending word (H.breaks_of dictionary.now word) }
-    requires current { IsOpen text.now current }
+    requires current { IsOpenLine text.now current }
     requires breaks { HasBreaksAfter (H.breaks_of dictionary.now) text.now current.end breaks.old }
     requires after { current.end < until }
     requires none { (p : ℕ) → current.end < p → p < until → is_plain text.now p ≡ false }
@@ -154,7 +154,7 @@ fn pass_breaks<'h, H: Hyphenator<'h, Opportunity = usize>>(
         all_lines text.now columns (word_breaks (H.breaks_of dictionary.now) text.now) (state_of next lines.new.items)
         ≡ all_lines text.now columns (word_breaks (H.breaks_of dictionary.now) text.now)
         (state_of current lines.old.items)) }
-    ensures next { IfOk result (λ next. IsOpen text.now next) }
+    ensures next { IfOk result (λ next. IsOpenLine text.now next) }
     ensures breaks { IfOk result (λ next. HasBreaksAfter (H.breaks_of dictionary.now) text.now next.end breaks.new) }
     ensures before { IfOk result (λ next. next.end < until) }
     ensures passed { IfOk result (λ next.
@@ -172,7 +172,7 @@ fn pass_breaks<'h, H: Hyphenator<'h, Opportunity = usize>>(
         if until <= place {
             return Ok(current);
         }
-        current = pass(text, columns, lines, current, place)?;
+        current = pass_cut(text, columns, lines, current, place)?;
     }
     Ok(current)
 }
@@ -191,16 +191,16 @@ fn fill_all<'h, H: Hyphenator<'h, Opportunity = usize>>(
     plain_breaks_fit_where_ascending();
     let mut lines = Vec::new(alloc);
     let mut breaks = WordBreaks::new(alloc, text);
-    let mut current = Open {
+    let mut current = OpenLine {
         start: 0,
         end: 0,
         width: 0,
     };
     while current.end < text.len() {
-        let next = next_plain(text, current.end);
-        let width = count_to(text, current, next);
+        let next = next_plain_cut(text, current.end);
+        let width = count_characters_to(text, current, next);
         if width <= columns {
-            current = Open {
+            current = OpenLine {
                 start: current.start,
                 end: next,
                 width,
@@ -215,7 +215,7 @@ fn fill_all<'h, H: Hyphenator<'h, Opportunity = usize>>(
                 current,
                 next,
             )?;
-            current = pass(text, columns, &mut lines, passed, next)?;
+            current = pass_cut(text, columns, &mut lines, passed, next)?;
         }
     }
     if current.start < current.end {

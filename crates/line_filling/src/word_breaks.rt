@@ -4,8 +4,8 @@ ghost use Rattle.std.specs.Prelude.{◌≡◌, ℕ, ◌<◌, [], None, All, IfOk
 ghost use Rattle.std.specs.Option.{MatchOption};
 ghost use Rattle.unicode_segmentation.specs.Segments.{with_offsets};
 ghost use Rattle.unicode_segmentation.specs.Word.{word_bounds};
-ghost use Rattle.line_filling.specs.Cuts.{is_in};
-ghost use Rattle.line_filling.specs.Private.WordBreaks.{in_hand, remaining_pieces, next_then, remaining_breaks, places_after, first_place, InOrder, NoneWithin, IsFirstAfter, IsSmall};
+ghost use Rattle.line_filling.specs.Cuts.{is_one_of};
+ghost use Rattle.line_filling.specs.Private.WordBreaks.{pending_breaks, remaining_pieces, with_next_piece, remaining_breaks, places_after, first_place, InOrder, NoneWithin, IsFirstAfter, FitsUsize};
 
 use hyphenation_hyphenator::hyphenator::Hyphenator;
 use std::alloc::{AllocError, Global};
@@ -32,7 +32,7 @@ pub(crate) struct WordBreaks<'t> {
 impl<'t> WordBreaks<'t> {
     /// The breaks of all pieces of a text.
     pub(crate) fn new(alloc: Global, text: &'t str) -> WordBreaks<'t>
-        ensures hand { in_hand result ≡ [] }
+        ensures hand { pending_breaks result ≡ [] }
         ensures pieces { remaining_pieces result ≡ with_offsets 0 (word_bounds text.now) }
         ensures reached { result.reached ≡ 0 }
     {
@@ -46,12 +46,12 @@ impl<'t> WordBreaks<'t> {
     }
 
     /// The first break after a place, of the piece that was broken last. Those before it are passed.
-    fn first_in_hand(&mut self, from: usize) -> Option<usize>
-        requires { All IsSmall (in_hand self.old) }
-        ensures hand { in_hand self.new ≡ places_after from (in_hand self.old) }
+    fn first_pending(&mut self, from: usize) -> Option<usize>
+        requires { All FitsUsize (pending_breaks self.old) }
+        ensures hand { pending_breaks self.new ≡ places_after from (pending_breaks self.old) }
         ensures pieces { remaining_pieces self.new ≡ remaining_pieces self.old }
         ensures reached { self.new.reached ≡ self.old.reached }
-        ensures first { result ≡ first_place (in_hand self.new) }
+        ensures first { result ≡ first_place (pending_breaks self.new) }
     {
         while self.passed < self.breaks.len() {
             let place = self.offset + self.breaks[self.passed];
@@ -65,8 +65,8 @@ impl<'t> WordBreaks<'t> {
 
     /// Takes the next piece, and where it begins.
     fn next_piece(&mut self) -> Option<(usize, &'t str)>
-        ensures hand { in_hand self.new ≡ in_hand self.old }
-        ensures pieces { remaining_pieces self.old ≡ next_then result (remaining_pieces self.new) }
+        ensures hand { pending_breaks self.new ≡ pending_breaks self.old }
+        ensures pieces { remaining_pieces self.old ≡ with_next_piece result (remaining_pieces self.new) }
         ensures end { result ≡ None → remaining_pieces self.new ≡ [] }
         ensures reached { self.new.reached ≡ self.old.reached }
     {
@@ -87,14 +87,14 @@ impl<'t> WordBreaks<'t> {
         ensures order { IfOk result (λ _. InOrder (H.breaks_of dictionary.now) self.new) }
         ensures stay { IfOk result (λ _.
             (p : ℕ) → from < p
-            → is_in p (remaining_breaks (H.breaks_of dictionary.now) self.new)
-            ≡ is_in p (remaining_breaks (H.breaks_of dictionary.now) self.old)) }
+            → is_one_of p (remaining_breaks (H.breaks_of dictionary.now) self.new)
+            ≡ is_one_of p (remaining_breaks (H.breaks_of dictionary.now) self.old)) }
         ensures first { IfOk result (λ first.
             MatchOption first (NoneWithin (remaining_breaks (H.breaks_of dictionary.now) self.new) from until)
             (IsFirstAfter (remaining_breaks (H.breaks_of dictionary.now) self.new) from)) }
     {
         loop {
-            if let Some(place) = self.first_in_hand(from) {
+            if let Some(place) = self.first_pending(from) {
                 return Ok(Some(place));
             }
             if until <= self.reached {

@@ -12,28 +12,28 @@ use Rattle.hyphenation_score.specs.Scoring.{value_of}
 use Rattle.hyphenation_hyphenator.specs.Opportunities.{is_odd, within}
 
 -- The same, where the change is lent.
-abbrev pub lent_break : ℕ × Option (Bor Change) → Break
-lent_break found = break_at found.0 (option_copied found.1)
+abbrev pub borrowed_break : ℕ × Option (Bor Change) → Break
+borrowed_break found = break_at found.0 (option_copied found.1)
 
 -- The break at a place, by the entry that wins it: where its value is odd and the place within bounds.
-abbrev pub won_at : {C : Type 0} → (C → Option Change) → ℕ → Option (Entry C) → ℕ × ℕ → Option Break
-won_at change_of place winner bounds =
+abbrev pub break_at_winner : {C : Type 0} → (C → Option Change) → ℕ → Option (Entry C) → ℕ × ℕ → Option Break
+break_at_winner change_of place winner bounds =
     if is_odd (value_of winner) && within bounds place
     then Some (break_at place (option_and_then (λ entry. change_of entry.change) winner))
     else None
 
 -- The same, where the entries are those that win a word's places from place 1 on: the break of a number, and whether there is one.
-abbrev pub won_break : {C : Type 0} → (C → Option Change) → List (Option (Entry C)) → ℕ → Break
-won_break change_of winners index =
+abbrev pub break_at_index : {C : Type 0} → (C → Option Change) → List (Option (Entry C)) → ℕ → Break
+break_at_index change_of winners index =
     break_at (index + 1) (option_and_then (λ entry. change_of entry.change) (slice_index_or winners index None))
 
-abbrev pub is_won : {C : Type 0} → List (Option (Entry C)) → ℕ × ℕ → ℕ → Bool
-is_won winners bounds index = is_odd (value_of (slice_index_or winners index None)) && within bounds (index + 1)
+abbrev pub has_break_at_index : {C : Type 0} → List (Option (Entry C)) → ℕ × ℕ → ℕ → Bool
+has_break_at_index winners bounds index = is_odd (value_of (slice_index_or winners index None)) && within bounds (index + 1)
 
 -- Such breaks of a word.
-abbrev pub won_within : {C : Type 0} → (C → Option Change) → List (Option (Entry C)) → ℕ × ℕ → List Break
-won_within change_of winners bounds =
-    map (won_break change_of winners) (filter (is_won winners bounds) (range_with_len 0 (length winners)))
+abbrev pub breaks_at_winners : {C : Type 0} → (C → Option Change) → List (Option (Entry C)) → ℕ × ℕ → List Break
+breaks_at_winners change_of winners bounds =
+    map (break_at_index change_of winners) (filter (has_break_at_index winners bounds) (range_with_len 0 (length winners)))
 
 -- A break of the folded word is carried back by the shifts of the folding.
 unfoldable pub realigned_break : List Shift → Break → Break

@@ -16,8 +16,8 @@ pub fn boundaries_of(minima: (usize, usize), word: &str) -> Option<(usize, usize
 {
     // Only the characters outside of the bounds are read: those before the first, and those after the last.
     let (left, right) = minima;
-    let last = place_from_end(word, right.max(1))?;
-    let first = place_of(word, left);
+    let last = place_of_character_from_end(word, right.max(1))?;
+    let first = place_of_character(word, left);
     if last < first {
         return None;
     }
@@ -38,7 +38,7 @@ pub(super) fn boundaries_of_ascii(minima: (usize, usize), word: &str) -> Option<
 }
 
 /// The place of a character by its number from 0, and the text's end where there are not so many.
-fn place_of(text: &str, number: usize) -> usize
+fn place_of_character(text: &str, number: usize) -> usize
     ensures value { result ≡ place_of_character text.now number }
     ensures boundary { IsCharBoundary text.now result }
 {
@@ -49,7 +49,7 @@ fn place_of(text: &str, number: usize) -> usize
 }
 
 /// The place from which on the text has so many characters; `None` where it has fewer.
-fn place_from_end(text: &str, number: usize) -> Option<usize>
+fn place_of_character_from_end(text: &str, number: usize) -> Option<usize>
     ensures enough { IfSome result (λ place. number ≤ length (chars text.now)) }
     ensures value { IfSome result (λ place. place ≡ place_of_character text.now (length (chars text.now) - number)) }
     ensures boundary { IfSome result (λ place. IsCharBoundary text.now place) }

@@ -8,7 +8,7 @@ ghost use Rattle.std.specs.String.{string_bytes};
 ghost use Rattle.hyphenation_breaks.specs.Invariant.{are_listed};
 ghost use Rattle.hyphenation_segments.specs.Fits.{Fits};
 ghost use Rattle.hyphenation_hyphenator.specs.Fitting.{fitted_breaks_of};
-ghost use Rattle.hyphenation_hyphenator.specs.Opportunities.{own_break, rules_of, boundaries_by, Ascending, ListsAnew};
+ghost use Rattle.hyphenation_hyphenator.specs.Opportunities.{own_break, rules_of, boundaries_by, Ascending, SetsListOnly};
 ghost use Rattle.hyphenation_score.specs.Scoring.{own_change};
 
 use super::word_paths::{breaks, exception, exception_within, opportunities, opportunities_within};
@@ -97,7 +97,7 @@ impl<'h> Hyphenator<'h> for Extended {
         ops: Vec<(usize, Option<Subregion>)>,
     ) -> Result<Option<Vec<(usize, Option<Subregion>)>>, AllocError>
         requires { IsTrue (are_listed own_break (string_bytes lowercase_word) ops.items) }
-        ensures lists { OnOk result (ListsAnew (rules_of own_change own_break self.old)
+        ensures lists { OnOk result (SetsListOnly (rules_of own_change own_break self.old)
             (rules_of own_change own_break self.new) (string_bytes lowercase_word) (Some (map own_break ops.items))) }
         ensures old { IfOk result (λ old.
             option_map (λ v. map own_break v.items) old
@@ -110,7 +110,7 @@ impl<'h> Hyphenator<'h> for Extended {
     }
 
     fn remove_exception(&mut self, word: &str) -> Option<Vec<(usize, Option<Subregion>)>>
-        ensures lists { ListsAnew (rules_of own_change own_break self.old)
+        ensures lists { SetsListOnly (rules_of own_change own_break self.old)
             (rules_of own_change own_break self.new) word.now
             None }
         ensures old { option_map (λ v. map own_break v.items) result

@@ -5,7 +5,7 @@ ghost use Rattle.std.specs.List.{list_all};
 ghost use Rattle.std.specs.List.Sorted.{IsNonDecreasingBy};
 ghost use Rattle.hyphenation_breaks.specs.Break.{begin_of, end_of};
 ghost use Rattle.hyphenation_hyphenator.specs.Fitting.{kept_breaks};
-ghost use Rattle.hyphenation_hyphenator.specs.Private.Fitting.{holds_shift, is_steady_by};
+ghost use Rattle.hyphenation_hyphenator.specs.Private.Fitting.{holds_shift, range_holds_no_shift};
 
 use crate::case_folding::Shift;
 use hyphenation_breaks::breaks::Break;
@@ -13,7 +13,7 @@ use hyphenation_breaks::extended::Subregion;
 use std::alloc::{AllocError, Global};
 
 /// Whether none of the breaks changes anything.
-pub(super) fn change_nothing(breaks: &[(usize, Option<&Subregion>)]) -> bool
+pub(super) fn are_plain(breaks: &[(usize, Option<&Subregion>)]) -> bool
     ensures { result ≡ list_all (λ b. is_none b.1) breaks.now }
 {
     breaks.iter().all(|b| b.1.is_none())
@@ -34,11 +34,11 @@ fn holds_shift(shifts: &[Shift], begin: usize, end: usize) -> bool
 
 /// Where the range of a break ends, if it begins at the last end or after it, lies in a folded word of so many bytes
 /// and holds no character whose number of bytes the folding changed.
-#[tactic(auto, unfolding(crate::specs::Private::Fitting::is_steady_by))]
-fn steady_end<B: Break>(length: usize, shifts: &[Shift], last_end: usize, b: &B) -> Option<usize>
+#[tactic(auto, unfolding(crate::specs::Private::Fitting::range_holds_no_shift))]
+fn fitting_end<B: Break>(length: usize, shifts: &[Shift], last_end: usize, b: &B) -> Option<usize>
     requires { IsNonDecreasingBy (λ shift. shift.index) shifts.now }
     ensures { result
-        ≡ (if is_steady_by length shifts.now (B.meaning b.now)
+        ≡ (if range_holds_no_shift length shifts.now (B.meaning b.now)
         && nat_le last_end (begin_of (B.meaning b.now)) then Some (end_of (B.meaning b.now))
         else None) }
 {
@@ -51,7 +51,7 @@ fn steady_end<B: Break>(length: usize, shifts: &[Shift], last_end: usize, b: &B)
 }
 
 /// The breaks of a folded word of so many bytes that are kept, so that they fit the word as written.
-pub(crate) fn fit<B: Break + Copy>(
+pub(crate) fn keep_fitting<B: Break + Copy>(
     alloc: Global,
     length: usize,
     shifts: &[Shift],
@@ -59,12 +59,12 @@ pub(crate) fn fit<B: Break + Copy>(
 ) -> Result<Vec<B>, AllocError>
     requires { IsNonDecreasingBy (λ shift. shift.index) shifts.now }
     ensures { IfOk result (λ v.
-        map B.meaning v.items ≡ kept_breaks (is_steady_by length shifts.now) (map B.meaning breaks.now)) }
+        map B.meaning v.items ≡ kept_breaks (range_holds_no_shift length shifts.now) (map B.meaning breaks.now)) }
 {
     let mut kept = Vec::new(alloc);
     let mut last_end = 0;
     for b in breaks {
-        if let Some(end) = steady_end(length, shifts, last_end, b) {
+        if let Some(end) = fitting_end(length, shifts, last_end, b) {
             kept.push(*b)?;
             last_end = end;
         }

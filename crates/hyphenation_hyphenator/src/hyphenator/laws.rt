@@ -4,7 +4,7 @@
 ghost use Rattle.std.specs.Prelude.{◌≡◌, List, [], ℕ, IsUtf8};
 ghost use Rattle.hyphenation_breaks.specs.Break.{plain_break};
 ghost use Rattle.hyphenation_hyphenator.specs.Hyphenated.{hyphenated_text};
-ghost use Rattle.hyphenation_hyphenator.specs.Laws.{FitWhereAscending, RemovalUndoes, FittedOneMore};
+ghost use Rattle.hyphenation_hyphenator.specs.Laws.{FitWhereAscending, RemovalUndoes, KeepsOneMore};
 ghost use Rattle.hyphenation_hyphenator.specs.Opportunities.{no_change, rules_of, all_breaks_of};
 
 use hyphenation_dictionary::dictionary::Standard;
@@ -25,14 +25,14 @@ pub fn removal_undoes_an_addition<B>()
 /// Of one more break after others, it is kept exactly where its range lies in the folded word, holds no character whose
 /// number of bytes the folding changes, and begins at or after the end of the range of every other that is kept; of
 /// the others the same ones are kept as without it.
-pub fn fitting_is_said_of_each_break()
-    ensures { FittedOneMore }
+pub fn one_more_break_is_kept()
+    ensures { KeepsOneMore }
 {}
 
 /// With an empty mark a standard dictionary gives each text back.
 ///
 /// It is a law of all texts, and says it of the dictionary that is lent.
-pub fn an_empty_mark_gives_the_text_back(dictionary: &Standard)
+pub fn empty_mark_leaves_the_text(dictionary: &Standard)
     ensures { (text : List ℕ) → IsUtf8 text
         → hyphenated_text (all_breaks_of (rules_of no_change plain_break dictionary.now)) [] text ≡ text }
 {

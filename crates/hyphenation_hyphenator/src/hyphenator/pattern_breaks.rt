@@ -8,7 +8,7 @@ ghost use Rattle.hyphenation_breaks.specs.Break.{plain_break};
 ghost use Rattle.hyphenation_trie.specs.Trie.{entries_of_key, EachBeginsKey};
 ghost use Rattle.hyphenation_score.specs.Scoring.{own_change};
 ghost use Rattle.hyphenation_hyphenator.specs.Opportunities.{is_odd, no_change, within, breaks_within, breaks_at_odd_values};
-ghost use Rattle.hyphenation_hyphenator.specs.Private.Opportunities.{lent_break, won_at, won_within};
+ghost use Rattle.hyphenation_hyphenator.specs.Private.Opportunities.{borrowed_break, break_at_winner, breaks_at_winners};
 
 use hyphenation_breaks::entry::Entry;
 use hyphenation_breaks::extended::Subregion;
@@ -25,12 +25,12 @@ pub(super) fn is_within(bounds: (usize, usize), place: usize) -> bool
 }
 
 /// The break at a place that is won, if its value is odd and the place within bounds.
-fn won_at<'h>(
+fn break_at_winner<'h>(
     place: usize,
     winner: Option<&'h Entry<Option<Subregion>>>,
     bounds: (usize, usize),
 ) -> Option<(usize, Option<&'h Subregion>)>
-    ensures { option_map lent_break result ≡ won_at own_change place (option_copied winner.entry) bounds }
+    ensures { option_map borrowed_break result ≡ break_at_winner own_change place (option_copied winner.entry) bounds }
 {
     let entry = winner?;
     if entry.value % 2 == 1 && is_within(bounds, place) {
@@ -41,18 +41,18 @@ fn won_at<'h>(
 }
 
 /// The breaks within bounds, where the entries are those that win the places from place 1 on.
-fn won_within<'h>(
+fn breaks_at_winners<'h>(
     alloc: Global,
     winners: &[Option<&'h Entry<Option<Subregion>>>],
     bounds: (usize, usize),
 ) -> Result<Vec<(usize, Option<&'h Subregion>)>, AllocError>
     ensures { IfOk result (λ v.
-        map lent_break v.items ≡ won_within own_change (map option_copied winners.now) bounds) }
+        map borrowed_break v.items ≡ breaks_at_winners own_change (map option_copied winners.now) bounds) }
 {
     // Room for a few breaks is taken at once.
     let mut breaks = Vec::with_capacity(alloc, winners.len().min(8))?;
     for (index, winner) in winners.iter().enumerate() {
-        if let Some(b) = won_at(index + 1, *winner, bounds) {
+        if let Some(b) = break_at_winner(index + 1, *winner, bounds) {
             breaks.push(b)?;
         }
     }
@@ -61,7 +61,7 @@ fn won_within<'h>(
 
 /// The breaks within bounds that patterns allow, found in a list of no entries.
 #[inline(always)]
-fn won_from<'h>(
+fn winning_breaks_with_buffer<'h>(
     alloc: Global,
     patterns: &'h Automaton<Entry<Option<Subregion>>>,
     word: &str,
@@ -72,13 +72,13 @@ fn won_from<'h>(
     requires places { length bests.old ≡ length word.now - 1 }
     requires none { (i : ℕ) → i < length bests.old → slice_index_or bests.old i None ≡ None }
     ensures { IfOk result (λ v.
-        map lent_break v.items
+        map borrowed_break v.items
         ≡ breaks_within (breaks_at_odd_values own_change (entries_of_key patterns.now) word.now) bounds) }
 {
     winner_has_value::<Option<Subregion>>();
     let mut count = LookUps::new();
     compete_all(patterns, word.as_bytes(), bests, &mut count);
-    won_within(alloc, bests, bounds)
+    breaks_at_winners(alloc, bests, bounds)
 }
 
 /// The breaks within bounds that the patterns of an extended dictionary allow, with the changes of the entries that win.
@@ -91,23 +91,23 @@ pub(super) fn winning_breaks<'h>(
 ) -> Result<Vec<(usize, Option<&'h Subregion>)>, AllocError>
     requires { EachBeginsKey patterns.now }
     ensures { IfOk result (λ v.
-        map lent_break v.items
+        map borrowed_break v.items
         ≡ breaks_within (breaks_at_odd_values own_change (entries_of_key patterns.now) word.now) bounds) }
 {
     let places = word.len().saturating_sub(1);
     if places <= 32 {
         // The winners of most words take no memory.
         let mut bests: [Option<&'h Entry<Option<Subregion>>>; 32] = [None; 32];
-        return won_from(alloc, patterns, word, &mut bests[..places], bounds);
+        return winning_breaks_with_buffer(alloc, patterns, word, &mut bests[..places], bounds);
     }
     let mut bests: Vec<Option<&'h Entry<Option<Subregion>>>> = vec![in alloc; None; places]?;
-    won_from(alloc, patterns, word, &mut bests, bounds)
+    winning_breaks_with_buffer(alloc, patterns, word, &mut bests, bounds)
 }
 
 /// The first place from one on, and no greater than an end, that has an odd value; the place after the end where none
 /// has.
 #[inline(always)]
-fn first_odd(values: &[u8], first: usize, end: usize) -> usize
+fn first_odd_place(values: &[u8], first: usize, end: usize) -> usize
     requires first { 1 ≤ first }
     requires end { end ≤ length values.now }
     ensures low { first ≤ result }
@@ -136,7 +136,7 @@ fn odd_places(
     // No place before the first bound or after the second is looked at.
     let first = bounds.0.max(1);
     let end = values.len().min(bounds.1);
-    let least = first_odd(values, first, end);
+    let least = first_odd_place(values, first, end);
     if end < least {
         return Ok(Vec::new(alloc));
     }
@@ -152,7 +152,7 @@ fn odd_places(
 
 /// The places within bounds that patterns allow, found in room for the values, all 0.
 #[inline(always)]
-fn odd_from(
+fn plain_breaks_with_buffer(
     alloc: Global,
     patterns: &Automaton<Entry<()>>,
     word: &str,
@@ -188,8 +188,8 @@ pub(super) fn plain_breaks(
     if places <= 64 {
         // The values of most words take no memory.
         let mut values = [0u8; 64];
-        return odd_from(alloc, patterns, word, &mut values[..places], bounds);
+        return plain_breaks_with_buffer(alloc, patterns, word, &mut values[..places], bounds);
     }
     let mut values = vec![in alloc; 0u8; places]?;
-    odd_from(alloc, patterns, word, &mut values, bounds)
+    plain_breaks_with_buffer(alloc, patterns, word, &mut values, bounds)
 }

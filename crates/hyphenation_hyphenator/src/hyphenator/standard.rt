@@ -6,7 +6,7 @@ ghost use Rattle.std.specs.String.{string_bytes};
 ghost use Rattle.std.specs.FinMap as finite;
 ghost use Rattle.hyphenation_breaks.specs.Break.{plain_break};
 ghost use Rattle.hyphenation_breaks.specs.Invariant.{are_listed};
-ghost use Rattle.hyphenation_hyphenator.specs.Opportunities.{no_change, rules_of, ListsAnew};
+ghost use Rattle.hyphenation_hyphenator.specs.Opportunities.{no_change, rules_of, SetsListOnly};
 
 use super::word_paths::{breaks, exception, exception_within, opportunities, opportunities_within};
 use super::{Hyphenator, boundaries_of};
@@ -80,7 +80,7 @@ impl<'h> Hyphenator<'h> for Standard {
         ops: Vec<usize>,
     ) -> Result<Option<Vec<usize>>, AllocError>
         requires { IsTrue (are_listed plain_break (string_bytes lowercase_word) ops.items) }
-        ensures lists { OnOk result (ListsAnew (rules_of no_change plain_break self.old)
+        ensures lists { OnOk result (SetsListOnly (rules_of no_change plain_break self.old)
             (rules_of no_change plain_break self.new)
             (string_bytes lowercase_word) (Some (map plain_break ops.items))) }
         ensures old { IfOk result (λ old.
@@ -94,7 +94,7 @@ impl<'h> Hyphenator<'h> for Standard {
     }
 
     fn remove_exception(&mut self, word: &str) -> Option<Vec<usize>>
-        ensures lists { ListsAnew (rules_of no_change plain_break self.old)
+        ensures lists { SetsListOnly (rules_of no_change plain_break self.old)
             (rules_of no_change plain_break self.new) word.now None }
         ensures old { option_map (λ v. map plain_break v.items) result
             ≡ (rules_of no_change plain_break self.old).listed word.now }

@@ -9,17 +9,17 @@ ghost use Rattle.std.specs.Str.{IsAscii};
 ghost use Rattle.hyphenation_segments.specs.Fits.{Fits};
 ghost use Rattle.hyphenation_hyphenator.specs.Folding.{shifts_of};
 ghost use Rattle.hyphenation_hyphenator.specs.Fitting.{kept_breaks, fitted_breaks_of, KeepRanges};
-ghost use Rattle.hyphenation_hyphenator.specs.Private.Fitting.{is_steady_by};
-ghost use Rattle.hyphenation_hyphenator.specs.Private.SmallLetters.{are_small_letters};
+ghost use Rattle.hyphenation_hyphenator.specs.Private.Fitting.{range_holds_no_shift};
+ghost use Rattle.hyphenation_hyphenator.specs.Private.CommonLowercase.{are_common_lowercase};
 ghost use Rattle.hyphenation_hyphenator.specs.Opportunities.{within, breaks_within, rules_of, by_patterns, by_exception, exception_within_boundaries, opportunities_in, opportunities, Ascending};
 ghost use Rattle.hyphenation_hyphenator.specs.Private.Opportunities.{realigned_break};
 
+use super::ascii_lowercase::are_ascii_lowercase;
 use super::boundaries::boundaries_of_ascii;
 use super::boundaries_of;
-use super::break_kind::Found;
-use super::letters::are_letters;
+use super::break_kind::BreakKind;
 use super::pattern_breaks::is_within;
-use crate::case_folding::{Shift, are_small_letters, realign_in_order, refold};
+use crate::case_folding::{Shift, are_common_lowercase, realign_sorted, refold};
 use crate::soft_hyphens::soft_hyphen_indices;
 use hyphenation_breaks::breaks::Break;
 use hyphenation_breaks::entry::{Entry, Payload};
@@ -31,7 +31,7 @@ use std::str;
 
 /// The listed breaks that are within bounds, in a function of its own, since few words are listed.
 #[inline(never)]
-fn listed_within<'h, F: Found<'h>>(
+fn listed_within<'h, F: BreakKind<'h>>(
     alloc: Global,
     listed: &'h [F::Listing],
     bounds: (usize, usize),
@@ -41,7 +41,7 @@ fn listed_within<'h, F: Found<'h>>(
     let mut breaks = Vec::new(alloc);
     for b in listed {
         if is_within(bounds, b.place()) {
-            breaks.push(F::listed(b))?;
+            breaks.push(F::from_listed(b))?;
         }
     }
     Ok(breaks)
@@ -49,7 +49,7 @@ fn listed_within<'h, F: Found<'h>>(
 
 /// The breaks that patterns allow from the first bound to the second.
 #[inline(always)]
-pub(crate) fn opportunities_within<'h, F: Found<'h>>(
+pub(crate) fn opportunities_within<'h, F: BreakKind<'h>>(
     alloc: Global,
     dictionary: &'h Dictionary<F::Payload, F::Listing>,
     lowercase_word: &str,
@@ -62,12 +62,12 @@ pub(crate) fn opportunities_within<'h, F: Found<'h>>(
 {
     dictionary.invariant();
     value_is_borne::<F::Payload>();
-    F::allowed(alloc, automaton_of(dictionary), lowercase_word, bounds)
+    F::pattern_breaks(alloc, automaton_of(dictionary), lowercase_word, bounds)
 }
 
 /// The breaks listed for a word from the first bound to the second.
 #[inline(always)]
-pub(crate) fn exception_within<'h, F: Found<'h>>(
+pub(crate) fn exception_within<'h, F: BreakKind<'h>>(
     alloc: Global,
     dictionary: &'h Dictionary<F::Payload, F::Listing>,
     lowercase_word: &str,
@@ -86,7 +86,7 @@ pub(crate) fn exception_within<'h, F: Found<'h>>(
 }
 
 /// The breaks listed for a word, within its boundaries.
-pub(crate) fn exception<'h, F: Found<'h>>(
+pub(crate) fn exception<'h, F: BreakKind<'h>>(
     alloc: Global,
     dictionary: &'h Dictionary<F::Payload, F::Listing>,
     lowercase_word: &str,
@@ -109,7 +109,7 @@ pub(crate) fn exception<'h, F: Found<'h>>(
 /// It looks for the exception itself: the answer of `exception_within`, a list or none or want of memory, would cost
 /// each word that is no exception.
 #[inline(always)]
-fn opportunities_in<'h, F: Found<'h>>(
+fn opportunities_in<'h, F: BreakKind<'h>>(
     alloc: Global,
     dictionary: &'h Dictionary<F::Payload, F::Listing>,
     lowercase_word: &str,
@@ -130,7 +130,7 @@ fn opportunities_in<'h, F: Found<'h>>(
 /// The breaks of a word in small letters, within its boundaries.
 #[inline(always)]
 #[tactic(auto, unfolding(crate::specs::Opportunities::opportunities))]
-pub(crate) fn opportunities<'h, F: Found<'h>>(
+pub(crate) fn opportunities<'h, F: BreakKind<'h>>(
     alloc: Global,
     dictionary: &'h Dictionary<F::Payload, F::Listing>,
     lowercase_word: &str,
@@ -148,19 +148,19 @@ pub(crate) fn opportunities<'h, F: Found<'h>>(
 
 /// Carries each break of a folded word back to the word as written, by the shifts of the folding,
 /// which stand in the order of their indices.
-pub(crate) fn realign_all<'h, F: Found<'h>>(breaks: &mut [F], shifts: &[Shift])
+pub(crate) fn realign_all<'h, F: BreakKind<'h>>(breaks: &mut [F], shifts: &[Shift])
     requires order { IsNonDecreasingBy (λ shift. shift.index) shifts.now }
     ensures { map F.meaning breaks.new ≡ map (realigned_break shifts.now) (map F.meaning breaks.old) }
 {
     for b in breaks {
-        *b = b.moved(realign_in_order(b.place(), shifts));
+        *b = b.at_place(realign_sorted(b.place(), shifts));
     }
 }
 
 /// The breaks of a word of ASCII in small letters that are kept where its folding moved nothing.
 #[inline(always)]
 #[tactic(auto, unfolding(crate::specs::Opportunities::opportunities, crate::specs::Fitting::kept_breaks))]
-fn unmoved_breaks<'h, F: Found<'h>>(
+fn breaks_of_folded_ascii<'h, F: BreakKind<'h>>(
     alloc: Global,
     dictionary: &'h Dictionary<F::Payload, F::Listing>,
     lowercase_word: &str,
@@ -168,26 +168,26 @@ fn unmoved_breaks<'h, F: Found<'h>>(
     requires ascii { IsAscii lowercase_word.now }
     ensures { IfOk result (λ v.
         map F.meaning v.items
-        ≡ kept_breaks (is_steady_by (length lowercase_word.now) [])
+        ≡ kept_breaks (range_holds_no_shift (length lowercase_word.now) [])
         (opportunities (rules_of F.Payload.change_of F.Listing.meaning dictionary.now) lowercase_word.now)) }
 {
     let Some(bounds) = boundaries_of_ascii(dictionary.minima(), lowercase_word) else {
         return Ok(Vec::new(alloc));
     };
     let found = opportunities_in(alloc, dictionary, lowercase_word, bounds)?;
-    F::kept(alloc, lowercase_word, &[], found)
+    F::keep_fitting(alloc, lowercase_word, &[], found)
 }
 
 /// A word of the letters a to z is ASCII. This does nothing: its contract is what it says.
 #[inline(always)]
-fn letters_are_ascii(word: &str)
+fn ascii_lowercase_is_ascii(word: &str)
     requires { list_all is_ascii_lowercase word.now ≡ true }
     ensures { IsAscii word.now }
 {}
 
 /// The breaks of a word of the letters a to z.
 #[inline(never)]
-fn breaks_of_letters<'h, F: Found<'h>>(
+fn breaks_of_ascii_lowercase<'h, F: BreakKind<'h>>(
     alloc: Global,
     dictionary: &'h Dictionary<F::Payload, F::Listing>,
     word: &str,
@@ -199,13 +199,13 @@ fn breaks_of_letters<'h, F: Found<'h>>(
 {
     dictionary.invariant();
     value_is_borne::<F::Payload>();
-    letters_are_ascii(word);
-    unmoved_breaks(alloc, dictionary, word)
+    ascii_lowercase_is_ascii(word);
+    breaks_of_folded_ascii(alloc, dictionary, word)
 }
 
 /// The breaks of a word of ASCII, which is folded on the stack.
 #[inline(never)]
-fn breaks_of_ascii<'h, F: Found<'h>>(
+fn breaks_of_ascii<'h, F: BreakKind<'h>>(
     alloc: Global,
     dictionary: &'h Dictionary<F::Payload, F::Listing>,
     word: &str,
@@ -223,29 +223,29 @@ fn breaks_of_ascii<'h, F: Found<'h>>(
     folded.copy_from_slice(word.as_bytes());
     folded.make_ascii_lowercase();
     let text = str::from_utf8(folded).unwrap();
-    unmoved_breaks(alloc, dictionary, text)
+    breaks_of_folded_ascii(alloc, dictionary, text)
 }
 
 /// The breaks of a word of small letters, which folds to itself.
 #[inline(never)]
-fn breaks_of_small_letters<'h, F: Found<'h>>(
+fn breaks_of_common_lowercase<'h, F: BreakKind<'h>>(
     alloc: Global,
     dictionary: &'h Dictionary<F::Payload, F::Listing>,
     word: &str,
 ) -> Result<Vec<F>, AllocError>
-    requires { are_small_letters word.now ≡ true }
+    requires { are_common_lowercase word.now ≡ true }
     ensures { IfOk result (λ v.
         map F.meaning v.items
         ≡ fitted_breaks_of (rules_of F.Payload.change_of F.Listing.meaning dictionary.now) word.now) }
 {
     let found = opportunities(alloc, dictionary, word)?;
-    F::kept(alloc, word, &[], found)
+    F::keep_fitting(alloc, word, &[], found)
 }
 
 /// The opportunities of a word that was folded, in a function of its own: the pass needs all registers, which the road
 /// of any word would save around it.
 #[inline(never)]
-fn folded_opportunities<'h, F: Found<'h>>(
+fn folded_opportunities<'h, F: BreakKind<'h>>(
     alloc: Global,
     dictionary: &'h Dictionary<F::Payload, F::Listing>,
     folded: &str,
@@ -261,7 +261,7 @@ fn folded_opportunities<'h, F: Found<'h>>(
 /// The breaks of a word that was folded, carried back by the shifts of the folding, which stand in the order of their
 /// indices.
 #[inline(always)]
-fn breaks_of_folded<'h, F: Found<'h>>(
+fn breaks_of_folded<'h, F: BreakKind<'h>>(
     alloc: Global,
     dictionary: &'h Dictionary<F::Payload, F::Listing>,
     folded: &str,
@@ -270,11 +270,11 @@ fn breaks_of_folded<'h, F: Found<'h>>(
     requires order { IsNonDecreasingBy (λ shift. shift.index) shifts.now }
     ensures { IfOk result (λ v.
         map F.meaning v.items
-        ≡ map (realigned_break shifts.now) (kept_breaks (is_steady_by (length folded.now) shifts.now)
+        ≡ map (realigned_break shifts.now) (kept_breaks (range_holds_no_shift (length folded.now) shifts.now)
         (opportunities (rules_of F.Payload.change_of F.Listing.meaning dictionary.now) folded.now))) }
 {
     let found = folded_opportunities(alloc, dictionary, folded)?;
-    let mut breaks = F::kept(alloc, folded, shifts, found)?;
+    let mut breaks = F::keep_fitting(alloc, folded, shifts, found)?;
     realign_all(&mut breaks, shifts);
     Ok(breaks)
 }
@@ -288,7 +288,7 @@ fn shifts_are_in_order(word: &str, shifts: &[Shift])
 
 /// The breaks of any word.
 #[inline(never)]
-fn breaks_of_any<'h, F: Found<'h>>(
+fn breaks_of_any<'h, F: BreakKind<'h>>(
     alloc: Global,
     dictionary: &'h Dictionary<F::Payload, F::Listing>,
     word: &str,
@@ -300,7 +300,7 @@ fn breaks_of_any<'h, F: Found<'h>>(
     dictionary.invariant();
     value_is_borne::<F::Payload>();
     if let Some(places) = soft_hyphen_indices(alloc, word)? {
-        return F::unchanged(alloc, places);
+        return F::from_places(alloc, places);
     }
     let (folded, shifts) = refold(alloc, word)?;
     let text = folded.as_str();
@@ -314,7 +314,7 @@ fn breaks_of_any<'h, F: Found<'h>>(
 /// Most words are of small letters, which fold to themselves, or of ASCII: those have no soft hyphens, and their
 /// folding moves no place.
 #[inline(always)]
-fn breaks_by_letters<'h, F: Found<'h>>(
+fn breaks_by_path<'h, F: BreakKind<'h>>(
     alloc: Global,
     dictionary: &'h Dictionary<F::Payload, F::Listing>,
     word: &str,
@@ -323,10 +323,10 @@ fn breaks_by_letters<'h, F: Found<'h>>(
         map F.meaning v.items
         ≡ fitted_breaks_of (rules_of F.Payload.change_of F.Listing.meaning dictionary.now) word.now) }
 {
-    if are_letters(word.as_bytes()) {
-        breaks_of_letters(alloc, dictionary, word)
-    } else if are_small_letters(word) {
-        breaks_of_small_letters(alloc, dictionary, word)
+    if are_ascii_lowercase(word.as_bytes()) {
+        breaks_of_ascii_lowercase(alloc, dictionary, word)
+    } else if are_common_lowercase(word) {
+        breaks_of_common_lowercase(alloc, dictionary, word)
     } else if word.len() <= 64 && word.is_ascii() {
         breaks_of_ascii(alloc, dictionary, word)
     } else {
@@ -336,7 +336,7 @@ fn breaks_by_letters<'h, F: Found<'h>>(
 
 /// The breaks of a word as written.
 #[inline(always)]
-pub(crate) fn breaks<'h, F: Found<'h>>(
+pub(crate) fn breaks<'h, F: BreakKind<'h>>(
     alloc: Global,
     dictionary: &'h Dictionary<F::Payload, F::Listing>,
     word: &str,
@@ -350,5 +350,5 @@ pub(crate) fn breaks<'h, F: Found<'h>>(
     dictionary.invariant();
     value_is_borne::<F::Payload>();
     winner_is_first::<F::Payload>();
-    breaks_by_letters(alloc, dictionary, word)
+    breaks_by_path(alloc, dictionary, word)
 }

@@ -27,12 +27,12 @@ FitsAfterLast text (Some start) last breaks =
     × FitsFrom text start ((last_break last).place) breaks
 
 -- The change of a break that may be missing.
-abbrev pub change_of_last : Option Break → Option Change
-change_of_last None = None
-change_of_last (Some b) = b.change
+abbrev pub change_if_any : Option Break → Option Change
+change_if_any None = None
+change_if_any (Some b) = b.change
 
 -- A segment between two changes or none: borrowed exactly where there is none, and then never refused.
-pub record IsSegmentMade {Z E : Type 0} (last : Option Change) (middle : List ℕ) (next : Option Change)
+pub record IsSegmentBetween {Z E : Type 0} (last : Option Change) (middle : List ℕ) (next : Option Change)
     (made : Result (CowStr Z) E) : Type 0 where
   pub value : IfOk made (λ segment. cow_str_bytes segment ≡ after_of last ++ middle ++ before_of next)
   pub borrowed : IfOk made (λ segment. IsBorrowedStr segment ↔ (is_some last || is_some next ≡ false))

@@ -11,6 +11,6 @@ segments_from text None breaks = []
 segments_from text (Some start) breaks = segments_after text (plain_break start) breaks
 
 -- The breaks to come fit the text after the start; after the last segment none are to come.
-abbrev pub FitsAfter : List ℕ → Option ℕ → List Break → Type 0
-FitsAfter text None breaks = breaks ≡ []
-FitsAfter text (Some start) breaks = IsCharBoundary text start × FitsFrom text start start breaks
+abbrev pub FitsAfterStart : List ℕ → Option ℕ → List Break → Type 0
+FitsAfterStart text None breaks = breaks ≡ []
+FitsAfterStart text (Some start) breaks = IsCharBoundary text start × FitsFrom text start start breaks

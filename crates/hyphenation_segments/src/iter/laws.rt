@@ -1,7 +1,7 @@
 //! What is true of all segments, and of breaks that may be listed for a word. Each function does nothing, and its
 //! contract is one law.
 
-ghost use Rattle.hyphenation_segments.specs.Laws.{IsGivenByNeighbours, IsOneMore, JoinsToText, JoinsToMarkedText, MadeAreSegments, ListedByRule};
+ghost use Rattle.hyphenation_segments.specs.Laws.{IsGivenByNeighbours, AreOneMoreThanBreaks, JoinsToText, JoinsToMarkedText, MadeAreSegments, ListedWhereEachFits};
 
 use hyphenation_breaks::breaks::Break;
 use hyphenation_breaks::laws::{boundary_is_of_chars, listed_in_order};
@@ -12,8 +12,8 @@ pub fn segments_are_given_by_neighbours()
 {}
 
 /// There is one more segment than there are breaks.
-pub fn segments_are_one_more()
-    ensures { IsOneMore }
+pub fn segments_are_one_more_than_breaks()
+    ensures { AreOneMoreThanBreaks }
 {}
 
 /// The segments at plain breaks join to the text.
@@ -35,8 +35,8 @@ pub fn made_segments_are_segments()
 /// of each lies in the word, on character boundaries; ranges may overlap.
 ///
 /// What a dictionary's `fits` tests besides is true of each word and each break that there is.
-pub fn listed_by_the_rule<B: Break>()
-    ensures { ListedByRule B B.meaning }
+pub fn listed_where_each_fits<B: Break>()
+    ensures { ListedWhereEachFits B B.meaning }
 {
     listed_in_order::<B>();
     boundary_is_of_chars();

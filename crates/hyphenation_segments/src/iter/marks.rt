@@ -6,7 +6,7 @@ ghost use Rattle.std.specs.Iterator.SizeHint.{IsWithinCount};
 ghost use Rattle.std.specs.String.{string_bytes};
 ghost use Rattle.hyphenation_breaks.specs.Break.{plain_break};
 ghost use Rattle.hyphenation_segments.specs.Segments.{marked_segments, mark_if_more, segments};
-ghost use Rattle.hyphenation_segments.specs.Remaining.{GivesMarked};
+ghost use Rattle.hyphenation_segments.specs.Remaining.{YieldsMarked};
 ghost use Rattle.hyphenation_segments.specs.ChangedSegments.{made_segments};
 
 use crate::iter::{SegmentText, Segments, SegmentsExt, Texts};
@@ -86,7 +86,7 @@ impl<'m, I: Texts> Iterator for Hyphenating<'m, I> {
     type Item = Result<String, AllocError>;
 
     ghost next_gives = { λ s item t.
-        GivesMarked (marked_segments s.1 (I.texts s.0)) item (marked_segments t.1 (I.texts t.0)) × (t.1 ≡ s.1) };
+        YieldsMarked (marked_segments s.1 (I.texts s.0)) item (marked_segments t.1 (I.texts t.0)) × (t.1 ≡ s.1) };
 
     ghost remaining = { item_count (λ s. I.texts s.0) };
 

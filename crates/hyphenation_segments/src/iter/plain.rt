@@ -25,13 +25,13 @@ pub struct Segments<'t, I: Breaks<Item = usize>> {
 
 impl<'t, I: Breaks<Item = usize>> Model for Segments<'t, I> {
     ghost use Rattle.std.specs.Prelude.{List, ℕ};
-    ghost use Rattle.hyphenation_segments.specs.Private.Remaining.{segments_from, FitsAfter};
+    ghost use Rattle.hyphenation_segments.specs.Private.Remaining.{segments_from, FitsAfterStart};
 
     ghost Value = { List (List ℕ) };
 
     ghost view = { λ s. segments_from s.text.now s.start (I.to_come s.breaks) };
 
-    ghost invariant = { λ s. FitsAfter s.text.now s.start (I.to_come s.breaks) };
+    ghost invariant = { λ s. FitsAfterStart s.text.now s.start (I.to_come s.breaks) };
 }
 
 impl<'t, I: Breaks<Item = usize>> Segments<'t, I> {

@@ -5,14 +5,14 @@ use Rattle.line_filling.specs.Ends.{ends}
 use Rattle.line_filling.specs.Lines.{line, fits, lines_to}
 
 -- The lines that are done, the start of the line that is being filled, and the last cut that was passed.
-pub record State : Type 0 where
+pub record FillState : Type 0 where
   pub start : ℕ
   pub end : ℕ
   pub done : List (List ℕ)
 
 -- The next cut is passed: the line goes on to it where that fits or no cut was passed yet, and else ends at the last one.
-abbrev pub after_cut : List ℕ → ℕ → State → ℕ → State
-after_cut text columns s place =
+abbrev pub state_after_cut : List ℕ → ℕ → FillState → ℕ → FillState
+state_after_cut text columns s place =
     if fits text columns s.start place || s.start == s.end
     then record { start = s.start; end = place; done = s.done }
     else record { start = s.end; end = place; done = s.done ++ line text s.start s.end ∷ [] }
@@ -22,6 +22,6 @@ abbrev pub remaining_ends : (ℕ → ℕ → Bool) → ℕ → ℕ → List ℕ 
 remaining_ends fits start end cs = if nat_lt start end then ends fits start (end ∷ cs) else ends fits start cs
 
 -- The lines that are done and those that are to come.
-abbrev pub all_lines : List ℕ → ℕ → List ℕ → State → List (List ℕ)
+abbrev pub all_lines : List ℕ → ℕ → List ℕ → FillState → List (List ℕ)
 all_lines text columns breaks s =
     s.done ++ lines_to text s.start (remaining_ends (fits text columns) s.start s.end (cuts_after text breaks s.end))
