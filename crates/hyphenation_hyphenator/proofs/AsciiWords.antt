@@ -1,4 +1,4 @@
--- Words of ASCII: their characters are their bytes, they have no soft hyphens, and no place moves where they are folded.
+-- Words of ASCII: characters are bytes, there are no soft hyphens, and folding moves no place.
 use Rattle.std.proofs.Common.{◌≡◌, ℕ, suc, ◌-◌, ◌<◌, ◌≤◌, ◌==◌, not, ◌⊎◌, max, true, false, cond, nat_le, leb-true, List, [], ◌∷◌, length, map, take, chars, slice_index, Some, None, refl, sym, ap, subst, ◌∙◌, arith}
 use Rattle.std.specs.Char.{encode_utf8, is_ascii_lowercase, is_ascii_uppercase, to_ascii_lowercase}
 use Rattle.std.specs.List.{list_all, list_any}

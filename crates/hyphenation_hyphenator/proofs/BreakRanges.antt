@@ -1,4 +1,4 @@
--- The ranges of the breaks that a dictionary finds stand on boundaries, where they lie in the word.
+-- Ranges of found breaks that lie in the word begin and end on its character boundaries.
 use Rattle.std.proofs.Common.{◌≡◌, ℕ, zero, suc, ◌+◌, ◌-◌, ◌<◌, ◌≤◌, ◌&&◌, nat_le, leb-true, Bool, true, false, cond, List, [], ◌∷◌, length, map, filter, get_or, Option, Some, None, refl, sym, subst, arith, add-zero}
 use Rattle.std.specs.List.{list_all, range_with_len, slice_range}
 use Rattle.std.specs.Option.{IfSome, option_map, option_and_then, option_map_or, unwrap_or}
@@ -20,7 +20,7 @@ use Rattle.hyphenation_hyphenator.proofs.RulesAscend.{odd_is_some}
 
 -- ---- exceptions
 
--- The parts of what keeps within a text.
+-- The parts of the fact that a change keeps within a text.
 pub record KeepsWithin (text : List ℕ) (place : ℕ) (change : Change) : Type 0 where
   pub left : change.left ≤ place
   pub begin : IsCharBoundary text (place - change.left)
@@ -64,7 +64,7 @@ entry_stays {C} change_of key (e ∷ es) i entry h lt is =
       | suc i ↦ λ lt there. entry_stays change_of key es i entry all.1 (omega arith) there
     ] lt is
 
--- In the word a change stands as it does in the key, the dots of the frame aside.
+-- A change has the same bounds in the word as in the key, but for the dots of the frame.
 in_word : (word : List ℕ) (p start end at : ℕ) (change : Change) → IsUtf8 word → start < end → end ≤ length (frame word) → IsUtf8 (slice_range (frame word) start end) → start + at ≡ p + 1
     → KeepsWithin (slice_range (frame word) start end) at change → Ranged word (break_at p (Some change))
 in_word word p start end at change u some within v place k = λ left last.
@@ -107,7 +107,7 @@ picked_ranged text test break_to first (suc n) at =
       | false ↦ λ _. rest
     ] refl
 
--- ---- what is found
+-- ---- found breaks
 
 within_ranged : (text : List ℕ) (breaks : List Break) (bounds : ℕ × ℕ) → AreRanged text breaks → AreRanged text (breaks_within breaks bounds)
 within_ranged text [] bounds r = tt

@@ -1,4 +1,4 @@
--- Small letters are no capitals and no soft hyphens, and a word of them folds to itself.
+-- Common lowercase letters are no capitals and no soft hyphens, and a word of them folds to itself.
 use Rattle.std.proofs.Common.{◌≡◌, ℕ, zero, suc, ◌+◌, ◌-◌, ◌*◌, ◌<◌, ◌≤◌, ◌==◌, ◌&&◌, ◌||◌, ◌⊎◌, Bool, true, false, cond, nat_le, leb-true, le-leb, eqb-true, List, [], ◌∷◌, length, take, drop, slice_index, refl, sym, ap, subst, ◌∙◌, arith, inl, inr}
 use Rattle.std.specs.Char.{is_ascii_lowercase}
 use Rattle.std.specs.List.{list_all, list_any}
@@ -31,7 +31,7 @@ lower_first b c bs below = ap (λ t. cond t (is_ascii_lowercase b && are_common_
 pair_first : (b c : ℕ) (bs : List ℕ) → 0x80 ≤ b → are_common_lowercase (b ∷ c ∷ bs) ≡ (is_common_pair b c && are_common_lowercase bs)
 pair_first b c bs above = ap (λ t. cond t (is_ascii_lowercase b && are_common_lowercase (c ∷ bs)) (is_common_pair b c && are_common_lowercase bs)) (le-ltb b 0x80 above)
 
--- The first two bytes of what is left.
+-- The first two bytes of the rest.
 two_left : (word : List ℕ) (at : ℕ) → at + 1 < length word → drop at word ≡ slice_index word at ∷ slice_index word (at + 1) ∷ drop (at + 2) word
 two_left word at lt =
     let next : suc at ≡ at + 1 = omega arith in
@@ -44,7 +44,7 @@ next_left word at lt =
     let after : suc (at + 1) ≡ at + 2 = omega arith in
     sym (drop-cons word (at + 1) 0 lt ∙ ap (λ (k : ℕ). slice_index word (at + 1) ∷ drop k word) after)
 
--- What is left after a step, and what ends the test.
+-- The rest after a step of the loop, and the end of the loop.
 pub after_lower : (word : List ℕ) (at : ℕ) → at + 1 < length word → slice_index word at < 0x80 → is_ascii_lowercase (slice_index word at) ≡ true → are_common_lowercase (drop at word) ≡ are_common_lowercase (drop (at + 1) word)
 after_lower word at lt below lower =
     ap are_common_lowercase (two_left word at lt) ∙ lower_first (slice_index word at) (slice_index word (at + 1)) (drop (at + 2) word) below
@@ -156,7 +156,7 @@ pair_small b c e =
           )
     ]
 
--- Bytes of small letters spell small letters.
+-- Bytes of common lowercase letters decode to such letters.
 all_small : (c : ℕ) (cs spelt : List ℕ) → spelt ≡ c ∷ cs → is_common_lowercase c ≡ true → list_all is_common_lowercase cs ≡ true → list_all is_common_lowercase spelt ≡ true
 all_small c cs spelt is first rest = ap (list_all is_common_lowercase) is ∙ ap (λ t. t && list_all is_common_lowercase cs) first ∙ rest
 

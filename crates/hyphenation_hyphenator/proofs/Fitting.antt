@@ -26,12 +26,12 @@ use Rattle.hyphenation_hyphenator.proofs.Standard.{realigned_boundary}
 
 -- ---- the same breaks, kept with the end of the last range alone
 
--- What is kept after an end.
+-- The breaks that are kept after an end.
 abbrev pub kept_from : (Break → Bool) → ℕ → List Break → List Break
 kept_from test last_end [] = []
 kept_from test last_end (b ∷ bs) = cond (test b && nat_le last_end (begin_of b)) (b ∷ kept_from test (end_of b) bs) (kept_from test last_end bs)
 
--- A place is after all ranges of the kept breaks where it is after this end.
+-- A break is after the ranges of all kept breaks exactly where it begins at this end or later.
 abbrev pub EndsAt : List Break → ℕ → Type 0
 EndsAt kept last_end = (b : Break) → is_after kept b ≡ nat_le last_end (begin_of b)
 
@@ -145,7 +145,7 @@ abbrev pub AreRanged : List ℕ → List Break → Type 0
 AreRanged text [] = Unit {0}
 AreRanged text (b ∷ bs) = Ranged text b × AreRanged text bs
 
--- The range of a break, carried back, is that of the break carried back, and both its ends are boundaries.
+-- The range of a break, carried back, is the range of the break carried back. Both its ends are boundaries.
 pub record CarriesRange (word : List ℕ) (b : Break) : Type 0 where
   pub left : left_of b.change ≤ b.place
   pub begin_at : IsCharBoundary (fold_case word) (begin_of b)
@@ -185,7 +185,7 @@ stands word last_end least b u at range apart least_ok =
       end = subst (IsCharBoundary word) range.end (carried_is_boundary word (end_of b) u);
     }
 
--- From a place of the folded word on, no place is carried back to before the least one.
+-- A later place of the folded word is not carried back before an earlier one.
 abbrev pub CarriesFrom : List ℕ → ℕ → ℕ → Type 0
 CarriesFrom word low least = (place : ℕ) → IsCharBoundary (fold_case word) place → low ≤ place → least ≤ carried_back word place
 
@@ -209,7 +209,7 @@ kept_from_fits word last_end low least (b ∷ bs) u at a ranged from =
       | false ↦ λ e. kept_from_fits word last_end low least bs u at (ascend_earlier (fold_case word) (b.place + 1) low bs (omega (arith, a.0)) a.2) ranged.1 from
     ] refl
 
--- Breaks that are kept fit the word as written when they are carried back.
+-- Breaks that are kept and carried back fit the word as written.
 pub fitted_fit : (word : List ℕ) (breaks : List Break) → IsUtf8 word → Ascending (fold_case word) breaks → AreRanged (fold_case word) breaks → Fits word (map (break_carried_back word) (fitted_breaks word breaks))
 unfolding fitted_breaks
 fitted_fit word breaks u a ranged =
@@ -218,7 +218,7 @@ fitted_fit word breaks u a ranged =
     (subst (λ x. FitsFrom word x 0 (map (break_carried_back word) (kept_from (range_keeps_lengths word) 0 breaks))) (carried_start word u)
     (kept_from_fits word 0 0 0 breaks u start (from_ascending (fold_case word) breaks a) ranged (λ q b h. omega arith)))
 
--- Their ranges take as many bytes there.
+-- The ranges of kept breaks have as many bytes in the word as written.
 kept_from_keep : (word : List ℕ) (last_end low : ℕ) (breaks : List Break) → IsUtf8 word → AscendFrom (fold_case word) low breaks → AreRanged (fold_case word) breaks → All (KeepsRange word) (kept_from (range_keeps_lengths word) last_end breaks)
 kept_from_keep word last_end low [] u a ranged = All-nil (KeepsRange word)
 kept_from_keep word last_end low (b ∷ bs) u a ranged =
@@ -236,7 +236,7 @@ pub fitted_keep : (word : List ℕ) (breaks : List Break) → IsUtf8 word → As
 unfolding fitted_breaks
 fitted_keep word breaks u a ranged = subst (All (KeepsRange word)) (sym (kept_is (range_keeps_lengths word) breaks)) (kept_from_keep word 0 0 breaks u (from_ascending (fold_case word) breaks a) ranged)
 
--- ---- the same by the shifts
+-- ---- keeping breaks by the shifts
 
 any_picked : {X Y : Type 0} (f : X → Y) (p : X → Bool) (q : Y → Bool) (xs : List X) → list_any q (map f (filter p xs)) ≡ list_any (λ x. p x && q (f x)) xs
 any_picked f p q [] = refl
@@ -246,7 +246,7 @@ any_picked {X} {Y} f p q (x ∷ xs) =
       | false ↦ any_picked f p q xs
     ]
 
--- A character whose number of bytes changes begins in a range where a shift does.
+-- A character whose number of bytes changes begins in a range exactly where a shift does.
 pub held_by_shifts : (word : List ℕ) (begin end : ℕ) → holds_shift (shifts_of word) begin end ≡ holds_length_change word begin end
 held_by_shifts word begin end = any_picked (shift_of word) (changes_length word) (λ shift. nat_le begin shift.index && nat_lt shift.index end) (range_with_len 0 (length (chars word)))
 
@@ -277,7 +277,7 @@ realigned_from word test last_end low (b ∷ bs) u l a =
       | false ↦ realigned_from word test last_end (b.place + 1) bs u l a.2
     ]
 
--- Kept breaks that are realigned are carried back.
+-- Kept breaks that are carried back by shifts are carried back.
 pub fitted_realigned : (word : List ℕ) (breaks : List Break) → IsUtf8 word → length word < 2 ^ 64 → Ascending (fold_case word) breaks → map (realigned_break (shifts_of word)) (fitted_breaks word breaks) ≡ map (break_carried_back word) (fitted_breaks word breaks)
 unfolding fitted_breaks
 fitted_realigned word breaks u l a =

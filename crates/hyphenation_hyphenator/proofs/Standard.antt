@@ -1,4 +1,4 @@
--- Breaks that are carried back, and the rules after an edit of the exceptions.
+-- Breaks carried back, and the rules after a change of the exceptions.
 use Rattle.std.proofs.Common.{◌≡◌, ◌≢◌, ℕ, ◌<◌, ◌^◌, ◌==◌, nat_eq, Result, Ok, Err, Bool, true, false, cond, List, [], ◌∷◌, length, map, take, chars, Option, Some, None, pos, ◌-ℤ◌, refl, sym, ap, ◌∙◌}
 use Rattle.std.specs.Int.{saturate_unsigned, w64}
 use Rattle.std.specs.Option.{IsSome, option_map}
@@ -18,9 +18,9 @@ use Rattle.hyphenation_hyphenator.proofs.Folds.{fold_is_utf8}
 use Rattle.hyphenation_hyphenator.proofs.Places.{place_of_boundary}
 use Rattle.hyphenation_hyphenator.proofs.Shifts.{realigned}
 
--- ---- carried back
+-- ---- breaks carried back
 
--- What a place becomes by shifts.
+-- A place carried back by shifts.
 abbrev pub realigned_by : List Shift → ℕ → ℕ
 realigned_by shifts place = saturate_unsigned w64 (pos place -ℤ delta_below shifts place)
 
@@ -38,11 +38,11 @@ chosen_map : {B : Type 0} (break_of : B → Break) (b : Bool) (x y : Option (Lis
 chosen_map break_of true x y = refl
 chosen_map break_of false x y = refl
 
--- The test by which a finite map of texts looks up is the equality of their bytes.
+-- A finite map of texts looks up by the equality of their bytes.
 same_test : (a b : List ℕ) → eq_by_cmp (slice_cmp nat_cmp) a b ≡ pointwise nat_eq b a
 same_test a b = sym (texts_ties a b) ∙ nat_list_eq_equiv.symm a b
 
--- Rules after an edit of the exceptions.
+-- The rules after a change of the exceptions.
 pub lists_inserted : {C B : Type 0} (change_of : C → Option Change) (break_of : B → Break) (contents : Contents C B) (word : List ℕ) (listed : List B)
     → SetsListOnly (rules_of change_of break_of contents) (rules_of change_of break_of (record contents { exceptions = finite.insert contents.exceptions word listed })) word (Some (map break_of listed))
 lists_inserted change_of break_of contents word listed = record {

@@ -26,7 +26,7 @@ kept_stay word test last_end least (b ∷ bs) stays ascend =
       | false ↦ kept_stay word test last_end (b.place + 1) bs stays ascend.2
     ]
 
--- What is kept of the folded word's breaks, with no shifts, are the breaks of the word as written.
+-- The kept breaks of the folded word, without shifts, are the breaks of the word as written.
 pub breaks_where_unmoved : (rules : Rules) (word folded : List ℕ) (kept : List Break) → shifts_of word ≡ [] → soft_hyphens word ≡ [] → MovesNothing word → folded ≡ fold_case word → Ascending (fold_case word) (opportunities rules (fold_case word))
     → kept ≡ kept_breaks (range_holds_no_shift (length folded) []) (opportunities rules folded) → kept ≡ fitted_breaks_of rules word
 unfolding fitted_breaks_of fitted_breaks breaks_as_written

@@ -1,4 +1,4 @@
--- Breaks that may be listed, by the rule alone.
+-- Breaks may be listed exactly where each fits the word by itself.
 use Rattle.std.proofs.Common.{◌≡◌, ℕ, ◌+◌, ◌-◌, ◌≤◌, ◌<◌, ◌^◌, ◌&&◌, Bool, true, false, nat_le, le-leb, List, [], ◌∷◌, length, map, Option, Some, None, refl, sym, subst, arith, add-zero, IsCharBoundary}
 use Rattle.std.proofs.Math.Nat.{sub-zero}
 use Rattle.std.proofs.lemmas.Bool.{and_parts, leb-true, lt-ltb}
@@ -12,7 +12,7 @@ both : (a b : Bool) → a ≡ true → b ≡ true → (a && b) ≡ true
 both true b p q = q
 both false b p q = p
 
--- A break whose tests pass stands in the word.
+-- A break whose tests pass fits the word.
 tested : BoundaryIsOfChars → (word : List ℕ) (least place : ℕ) (change : Option Change) → nat_le least place ≡ true → is_boundary word place ≡ true → lists_within word place change ≡ true → BreakFitsAfter word 0 least (break_at place change)
 tested chars word least place None ascends at within =
     let here : IsCharBoundary word place = (chars word place).0 at in
@@ -42,7 +42,7 @@ tested chars word least place (Some change) ascends at within =
       end = (chars word (place + change.right)).0 fronts.1;
     }
 
--- A break that stands in the word passes the tests, where its change is as its type keeps it.
+-- A break that fits the word passes the tests, where its change has the properties of its type.
 passes : BoundaryIsOfChars → (word : List ℕ) (least place : ℕ) (change : Option Change) → length word < 2 ^ 64 → has_boundary change ≡ true → can_be_written_if_any change ≡ true → BreakFitsAfter word 0 least (break_at place change) → lists_within word place change ≡ true
 passes chars word least place None size kept said s = both (fits_usize place) true (lt-ltb place (2 ^ 64) (omega (arith, s.place.0))) refl
 passes chars word least place (Some change) size kept said s =
@@ -57,10 +57,10 @@ pub by_rule : {B : Type 0} (break_of : B → Break) → BoundaryIsOfChars → (w
 by_rule break_of chars word least [] h = tt
 by_rule break_of chars word least (x ∷ xs) h =
     let b = break_of x in
-    let stands = nat_le least b.place && is_boundary word b.place in
+    let lies = nat_le least b.place && is_boundary word b.place in
     let within = lists_within word b.place b.change in
-    let all = and_parts (stands && within) (listed_from break_of word (b.place + 1) xs) h in
-    let one = and_parts stands within all.0 in
+    let all = and_parts (lies && within) (listed_from break_of word (b.place + 1) xs) h in
+    let one = and_parts lies within all.0 in
     let at = and_parts (nat_le least b.place) (is_boundary word b.place) one.0 in
     (tested chars word least b.place b.change at.0 at.1 one.1, by_rule break_of chars word (b.place + 1) xs all.1)
 

@@ -1,4 +1,4 @@
--- What is passed amounts to the lines of the text.
+-- Passing all cuts in order fills the lines of the text.
 use Rattle.std.proofs.Common.{◌≡◌, ℕ, ◌-◌, ◌<◌, ◌≤◌, ◌||◌, ◌==◌, Bool, true, false, cond, List, [], ◌∷◌, ◌++◌, length, refl, sym, ap, subst, ◌∙◌, arith, inl, inr, append_assoc, slice_index}
 use Rattle.std.specs.List.{list_any}
 use Rattle.std.specs.Str.{IsUtf8, IsCharBoundary}
@@ -18,12 +18,12 @@ or_from_false x y e f = ap (λ b. b || y) e ∙ f
 index_within : (s : List ℕ) (i : ℕ) → 0 < slice_index s i → i < length s
 index_within s i some = elim (cases_lt i (length s)) [ inl lt ↦ lt | inr past ↦ absurd (omega (arith, get_or_past s i 0 past)) ]
 
--- A text, and breaks that stand between its characters.
+-- A text, and breaks on its character boundaries.
 pub record IsSound (text breaks : List ℕ) : Type 0 where
   pub utf8 : IsUtf8 text
   pub boundary : (p : ℕ) → is_one_of p breaks ≡ true → IsCharBoundary text p
 
--- The start and the last cut stand between characters, in this order.
+-- The start and the last cut are character boundaries, in this order.
 pub record IsState (text : List ℕ) (s : FillState) : Type 0 where
   pub order : s.start ≤ s.end
   pub start : IsCharBoundary text s.start
@@ -92,7 +92,7 @@ module _ (text : List ℕ) (columns : ℕ) (breaks : List ℕ) where
         ]
       ]
 
-  -- A cut is passed whose line fits, whatever stands before it.
+  -- A cut at which the line fits is passed, whatever cuts are before it.
   pub skipping_owed : (s : FillState) (place : ℕ) → IsState text s → s.end < place → place ≤ length text → is_cut text breaks place ≡ true → fits text columns s.start place ≡ true
       → all_lines text columns breaks (record { start = s.start; end = place; done = s.done }) ≡ all_lines text columns breaks s
   skipping_owed s place is lt within cut f =

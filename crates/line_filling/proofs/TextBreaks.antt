@@ -1,4 +1,4 @@
--- A text with the breaks that a dictionary finds in its pieces, from its start to its end.
+-- The breaks that a dictionary finds in the pieces of a text, from its start to its end.
 use Rattle.std.proofs.Common.{◌≡◌, ℕ, zero, suc, ◌+◌, ◌-◌, ◌<◌, ◌≤◌, ◌==◌, nat_lt, Bool, true, false, cond, List, [], ◌∷◌, ◌++◌, length, map, drop, get_or, chars, slice_range, refl, sym, ap, subst, ◌∙◌, arith, inl, inr}
 use Rattle.std.specs.List.{flat_map, All, concat}
 use Rattle.std.specs.Str.{IsUtf8, IsCharBoundary}
@@ -26,11 +26,11 @@ use Rattle.line_filling.proofs.FillWalk.{IsSound, end_is_cut, cut_boundary}
 use Rattle.line_filling.proofs.Pieces.{IsPieceOf, ArePieces, all_pieces}
 use Rattle.line_filling.proofs.Widths.{shorter}
 
--- Of each word the breaks ascend strictly, on its character boundaries.
+-- The breaks of each word ascend strictly on its character boundaries.
 abbrev pub AreAscending : (List ℕ → List Break) → Type 0
 AreAscending breaks_of = (word : List ℕ) → IsUtf8 word → Ascending word (breaks_of word)
 
--- By the law of the hyphenator: each place is no less than the least one, and a boundary.
+-- Each place is no less than the least one and a character boundary, by a law of the hyphenator.
 abbrev Ascend : List ℕ → ℕ → List ℕ → Type 0
 Ascend text least [] = Unit {0}
 Ascend text least (p ∷ ps) = (least ≤ p) × IsCharBoundary text p × Ascend text (p + 1) ps
@@ -99,15 +99,15 @@ sound breaks_of text law u ascend = record { utf8 = u; boundary = λ p i. in_som
 
 -- All breaks of a text are to come at its start.
 pub at_start : (breaks_of : List ℕ → List Break) (text : List ℕ) (b : WordBreaks) → FitWhereAscending → IsUtf8 text → AreAscending breaks_of → FitsUsize (length text) → pending_breaks b ≡ [] → remaining_pieces b ≡ with_offsets 0 (word_bounds text) → b.reached ≡ 0 → HasBreaksAfter breaks_of text 0 b
-at_start breaks_of text b law u ascend small hand pieces reached =
+at_start breaks_of text b law u ascend end_fits_usize pending pieces reached =
     record {
       order = record {
         end = length text;
-        small = small;
-        hand = subst (RiseBetween 0 b.reached) (sym hand) (omega arith);
+        end_fits_usize = end_fits_usize;
+        pending = subst (RiseBetween 0 b.reached) (sym pending) (omega arith);
         pieces = subst (λ at. FollowBetween breaks_of at (length text) (remaining_pieces b)) (sym reached) (subst (FollowBetween breaks_of 0 (length text)) (sym pieces) (follow breaks_of text 0 (word_bounds text) law u ascend (omega arith) (all_pieces text u)));
       };
-      stay = λ p lt. ap (λ ps. is_one_of p (ps ++ flat_map (breaks_in breaks_of) (remaining_pieces b))) hand ∙ ap (λ xs. is_one_of p (flat_map (breaks_in breaks_of) xs)) pieces;
+      stay = λ p lt. ap (λ ps. is_one_of p (ps ++ flat_map (breaks_in breaks_of) (remaining_pieces b))) pending ∙ ap (λ xs. is_one_of p (flat_map (breaks_in breaks_of) xs)) pieces;
     }
 
 pub after_later : (breaks_of : List ℕ → List Break) (text : List ℕ) (from later : ℕ) (b : WordBreaks) → from ≤ later → HasBreaksAfter breaks_of text from b → HasBreaksAfter breaks_of text later b
@@ -116,7 +116,7 @@ after_later breaks_of text from later b le h = record { order = h.order; stay = 
 pub plain_boundary : (text : List ℕ) (place : ℕ) → IsUtf8 text → 0 < place → is_plain text place ≡ true → IsCharBoundary text place
 plain_boundary text place u some plain_break = cut_boundary text 0 [] place (record { utf8 = u; boundary = λ p i. absurd (false≢true i) }) some (or_left (is_plain text place) (is_one_of place []) plain_break)
 
--- Where no byte is a space, no place after it is plain, but the end of the text.
+-- A place after bytes that are no spaces is not plain, but for the text's end.
 pub not_plain : (text : List ℕ) (from n : ℕ) → ((k : ℕ) → k < n → get_or (drop from text) k 0 ≡ 32 → ⊥) → (p : ℕ) → from < p → p < from + n + 1 → p < length text → is_plain text p ≡ false
 not_plain text from n none p l u v =
     let k = p - 1 - from in
@@ -127,7 +127,7 @@ not_plain text from n none p l u v =
       | inr e ↦ omega (arith, eqb-true p (length text) e)
     ])
 
--- At the end of the text the last line is left.
+-- The last line is left at the end of the text.
 pub owed_at_end : (text : List ℕ) (columns : ℕ) (breaks : List ℕ) (s : FillState) → s.end ≡ length text → all_lines text columns breaks s ≡ s.done ++ cond (nat_lt s.start s.end) (line text s.start s.end ∷ []) []
 owed_at_end text columns breaks s e =
     ap (λ cs. s.done ++ lines_to text s.start (remaining_ends (fits text columns) s.start s.end cs)) (ap (cuts_after text breaks) e ∙ row_end (is_cut text breaks) (length text))
@@ -172,6 +172,6 @@ parts_join test line_fits text start (e ∷ es) h =
     let after : start ≤ e = elim h.0 [ inl g ↦ omega (arith, g.after) | inr l ↦ omega (arith, l.after) ] in
     ap (λ s. slice_range text start e ++ s) (parts_join test line_fits text e es h.1) ∙ sym (drop_split text start e after)
 
--- Without their marks the lines join to the text.
+-- The lines without their hyphens join to the text.
 pub join_to_text : (text : List ℕ) (columns : ℕ) (breaks : List ℕ) → IsSound text breaks → concat (parts_to text 0 (line_ends text columns breaks)) ≡ text
 join_to_text text columns breaks good = parts_join (is_cut text breaks) (fits text columns) text 0 (line_ends text columns breaks) (right_ends text columns breaks good)

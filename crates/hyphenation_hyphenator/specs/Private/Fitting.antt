@@ -1,10 +1,10 @@
--- Which breaks of a folded word are kept, so that they fit the word as written: what private functions and proofs need of it beside, and no public contract cites.
+-- The test of a break that is to be kept, by the shifts of the folding.
 use Rattle.std.specs.Prelude.{ℕ, ◌&&◌, not, nat_le, nat_lt, Bool, List}
 use Rattle.std.specs.List.{list_any}
 use Rattle.hyphenation_breaks.specs.Break.{Break, left_of, begin_of, end_of}
 use Rattle.hyphenation_hyphenator.specs.declared.case_folding.Shift.{Shift}
 
--- A shift begins from begin on and before end.
+-- A shift has its index at begin or later, and before end.
 abbrev pub holds_shift : List Shift → ℕ → ℕ → Bool
 holds_shift shifts begin end = list_any (λ shift. nat_le begin shift.index && nat_lt shift.index end) shifts
 

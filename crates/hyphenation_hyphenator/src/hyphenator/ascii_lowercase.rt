@@ -1,11 +1,10 @@
-//! Whether a word has the letters a to z alone, as most words have.
+//! Testing whether a word has the letters a to z alone, as most words do.
 
 ghost use Rattle.std.specs.Prelude.{◌≡◌};
 ghost use Rattle.std.specs.Char.{is_ascii_lowercase};
 ghost use Rattle.std.specs.List.{list_all};
 
-/// Whether all of so many bytes are letters. Each is tested, whatever the others are, so that they can be tested at
-/// once.
+// Whether all of so many bytes are letters. It has no early exit, so that the bytes can be tested at once.
 #[inline(always)]
 fn are_ascii_lowercase_at_once<const N: usize>(bytes: &[u8; N]) -> bool
     ensures { result ≡ list_all is_ascii_lowercase bytes.now }
@@ -17,7 +16,7 @@ fn are_ascii_lowercase_at_once<const N: usize>(bytes: &[u8; N]) -> bool
     all
 }
 
-/// Whether each byte is one of the letters a to z, one after the other.
+// Whether each byte is one of the letters a to z, tested one by one.
 #[inline(always)]
 fn are_ascii_lowercase_in_turn(word: &[u8]) -> bool
     ensures { result ≡ list_all is_ascii_lowercase word.now }
@@ -25,7 +24,7 @@ fn are_ascii_lowercase_in_turn(word: &[u8]) -> bool
     word.iter().all(|byte| byte.is_ascii_lowercase())
 }
 
-/// The same, the first four tested at once.
+// Whether each byte is one of the letters a to z. The first four are tested at once.
 #[inline(always)]
 fn are_ascii_lowercase_by_four(word: &[u8]) -> bool
     ensures { result ≡ list_all is_ascii_lowercase word.now }
@@ -37,7 +36,7 @@ fn are_ascii_lowercase_by_four(word: &[u8]) -> bool
     }
 }
 
-/// Whether each byte is one of the letters a to z. Eight are tested at once.
+// Whether each byte is one of the letters a to z. The first eight are tested at once.
 #[inline(always)]
 pub(super) fn are_ascii_lowercase(word: &[u8]) -> bool
     ensures { result ≡ list_all is_ascii_lowercase word.now }

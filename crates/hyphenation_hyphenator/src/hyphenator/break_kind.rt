@@ -1,4 +1,4 @@
-//! What the breaks of each kind of dictionary are made of.
+//! The breaks of standard and of extended dictionaries, for code that finds both.
 
 ghost use Rattle.std.specs.Prelude.{◌≡◌, ◌+◌, ◌-◌, ◌<◌, Option, None, IfOk, length, map};
 ghost use Rattle.std.specs.List.Sorted.{IsNonDecreasingBy};
@@ -18,15 +18,15 @@ use hyphenation_breaks::extended::Subregion;
 use hyphenation_trie::Automaton;
 use std::alloc::{AllocError, Global};
 
-/// A break that a dictionary finds, made of what the dictionary holds.
+// The type of the breaks that a kind of dictionary finds.
 pub(crate) trait BreakKind<'h>: Break + Copy {
-    /// What the values of the dictionary carry.
+    // What an entry of the dictionary carries.
     type Payload: Payload;
 
-    /// The breaks of its exceptions.
+    // A break as the dictionary's exceptions hold it.
     type Listing: Break;
 
-    /// The breaks within bounds that patterns allow.
+    // Finds the breaks within bounds that patterns allow.
     fn pattern_breaks(
         alloc: Global,
         patterns: &'h Automaton<Entry<Self::Payload>>,
@@ -38,28 +38,28 @@ pub(crate) trait BreakKind<'h>: Break + Copy {
             map Self.meaning v.items ≡ breaks_within (breaks_at_odd_values Self.Payload.change_of
             (entries_of_key patterns.now) word.now) bounds) };
 
-    /// A listed break.
+    // Returns a listed break as a break that is found.
     fn from_listed(listed: &'h Self::Listing) -> Self
         ensures { Self.meaning result ≡ Self.Listing.meaning listed.now };
 
-    /// The same break at another place.
+    // Returns this break with another place.
     fn at_place(self, place: usize) -> Self
         ensures { Self.meaning result ≡ break_at place (Self.meaning self).change };
 
-    /// Breaks that change nothing.
+    // Returns plain breaks at the places.
     fn from_places(alloc: Global, places: Vec<usize>) -> Result<Vec<Self>, AllocError>
         ensures { IfOk result (λ v. map Self.meaning v.items ≡ map plain_break places.items) };
 
-    /// Those of the breaks of a folded word that are kept, so that they fit the word as written.
-    ///
-    /// The shifts stand in the order of their indices, and the places of the breaks ascend.
+    // Keeps those breaks of a folded word that fit the word as written.
+    //
+    // The shifts are sorted by their indices, and the places of the breaks ascend.
     fn keep_fitting(
         alloc: Global,
         folded: &str,
         shifts: &[Shift],
         breaks: Vec<Self>,
     ) -> Result<Vec<Self>, AllocError>
-        requires order { IsNonDecreasingBy (λ shift. shift.index) shifts.now }
+        requires shifts_sorted { IsNonDecreasingBy (λ shift. shift.index) shifts.now }
         requires ascend { Ascending folded.now (map Self.meaning breaks.items) }
         ensures { IfOk result (λ v. map Self.meaning v.items
             ≡ kept_breaks (range_holds_no_shift (length folded.now) shifts.now) (map Self.meaning breaks.items)) };
@@ -92,14 +92,14 @@ impl<'h> BreakKind<'h> for usize {
         Ok(places)
     }
 
-    /// What changes nothing fits as it is.
+    // Plain breaks always fit.
     fn keep_fitting(
         _alloc: Global,
         _folded: &str,
         _shifts: &[Shift],
         breaks: Vec<usize>,
     ) -> Result<Vec<usize>, AllocError>
-        requires order { IsNonDecreasingBy (λ shift. shift.index) _shifts.now }
+        requires shifts_sorted { IsNonDecreasingBy (λ shift. shift.index) _shifts.now }
         requires ascend { Ascending _folded.now (map plain_break breaks.items) }
         ensures { IfOk result (λ v.
             map plain_break v.items ≡ kept_breaks (range_holds_no_shift (length _folded.now) _shifts.now)
@@ -150,13 +150,13 @@ impl<'h> BreakKind<'h> for (usize, Option<&'h Subregion>) {
         shifts: &[Shift],
         breaks: Vec<(usize, Option<&'h Subregion>)>,
     ) -> Result<Vec<(usize, Option<&'h Subregion>)>, AllocError>
-        requires order { IsNonDecreasingBy (λ shift. shift.index) shifts.now }
+        requires shifts_sorted { IsNonDecreasingBy (λ shift. shift.index) shifts.now }
         requires ascend { Ascending folded.now (map borrowed_break breaks.items) }
         ensures { IfOk result (λ v.
             map borrowed_break v.items
             ≡ kept_breaks (range_holds_no_shift (length folded.now) shifts.now) (map borrowed_break breaks.entry.items)) }
     {
-        // What changes nothing fits as it is.
+        // Plain breaks always fit.
         if are_plain(&breaks) {
             return Ok(breaks);
         }

@@ -1,4 +1,4 @@
-//! How an extended dictionary hyphenates.
+//! Hyphenation by an extended dictionary.
 
 ghost use Rattle.std.specs.Prelude.{◌≡◌, ◌≤◌, ℕ, List, IsTrue, Option, Some, None, IfSome, IfOk, OnOk, OnErr, map};
 ghost use Rattle.std.specs.Str.{IsCharBoundary, IsUtf8};
@@ -51,8 +51,8 @@ impl<'h> Hyphenator<'h> for Extended {
     fn boundaries(&self, word: &str) -> Option<(usize, usize)>
         ensures value { result ≡ boundaries_by (rules_of own_change own_break self.now) word.now }
         ensures ordered { IfSome result (λ bounds. bounds.0 ≤ bounds.1) }
-        ensures left { IfSome result (λ bounds. IsCharBoundary word.now bounds.0) }
-        ensures right { IfSome result (λ bounds. IsCharBoundary word.now bounds.1) }
+        ensures first_at_character { IfSome result (λ bounds. IsCharBoundary word.now bounds.0) }
+        ensures last_at_character { IfSome result (λ bounds. IsCharBoundary word.now bounds.1) }
     {
         boundaries_of(self.minima(), word)
     }
@@ -97,12 +97,12 @@ impl<'h> Hyphenator<'h> for Extended {
         ops: Vec<(usize, Option<Subregion>)>,
     ) -> Result<Option<Vec<(usize, Option<Subregion>)>>, AllocError>
         requires { IsTrue (are_listed own_break (string_bytes lowercase_word) ops.items) }
-        ensures lists { OnOk result (SetsListOnly (rules_of own_change own_break self.old)
+        ensures lists_word { OnOk result (SetsListOnly (rules_of own_change own_break self.old)
             (rules_of own_change own_break self.new) (string_bytes lowercase_word) (Some (map own_break ops.items))) }
-        ensures old { IfOk result (λ old.
+        ensures returns_old { IfOk result (λ old.
             option_map (λ v. map own_break v.items) old
             ≡ (rules_of own_change own_break self.old).listed (string_bytes lowercase_word)) }
-        ensures err { OnErr result (self.new ≡ self.old) }
+        ensures unchanged_on_error { OnErr result (self.new ≡ self.old) }
         ensures contents { OnOk result (self.new ≡ record self.old
             { exceptions = finite.insert self.old.exceptions (string_bytes lowercase_word) ops.items }) }
     {
@@ -110,10 +110,10 @@ impl<'h> Hyphenator<'h> for Extended {
     }
 
     fn remove_exception(&mut self, word: &str) -> Option<Vec<(usize, Option<Subregion>)>>
-        ensures lists { SetsListOnly (rules_of own_change own_break self.old)
+        ensures unlists_word { SetsListOnly (rules_of own_change own_break self.old)
             (rules_of own_change own_break self.new) word.now
             None }
-        ensures old { option_map (λ v. map own_break v.items) result
+        ensures returns_old { option_map (λ v. map own_break v.items) result
             ≡ (rules_of own_change own_break self.old).listed word.now }
         ensures contents { self.new ≡ record self.old { exceptions = finite.remove self.old.exceptions word.now } }
     {

@@ -1,6 +1,7 @@
-//! Which breaks of a folded word fit the word as written.
+//! Keeping those breaks of a folded word that fit the word as written.
 
-ghost use Rattle.std.specs.Prelude.{◌≡◌, ◌+◌, ◌-◌, ◌<◌, ◌&&◌, nat_le, if◌then◌else◌, Option, Some, None, is_none, IfOk, false, length, map};
+ghost use Rattle.std.specs.Prelude.{◌≡◌, ◌+◌, ◌-◌, ◌<◌, ◌&&◌, nat_le, false, if◌then◌else◌, length, map};
+ghost use Rattle.std.specs.Prelude.{Option, Some, None, is_none, IfOk};
 ghost use Rattle.std.specs.List.{list_all};
 ghost use Rattle.std.specs.List.Sorted.{IsNonDecreasingBy};
 ghost use Rattle.hyphenation_breaks.specs.Break.{begin_of, end_of};
@@ -12,15 +13,15 @@ use hyphenation_breaks::breaks::Break;
 use hyphenation_breaks::extended::Subregion;
 use std::alloc::{AllocError, Global};
 
-/// Whether none of the breaks changes anything.
+// Whether none of the breaks has a change.
 pub(super) fn are_plain(breaks: &[(usize, Option<&Subregion>)]) -> bool
     ensures { result ≡ list_all (λ b. is_none b.1) breaks.now }
 {
     breaks.iter().all(|b| b.1.is_none())
 }
 
-/// Whether a character whose number of bytes the folding changed begins from `begin` on and before `end`; the shifts
-/// stand in the order of their indices.
+// Whether a character whose number of bytes the folding changed begins at `begin` or later, and before `end`. The
+// shifts are sorted by their indices.
 fn holds_shift(shifts: &[Shift], begin: usize, end: usize) -> bool
     requires { IsNonDecreasingBy (λ shift. shift.index) shifts.now }
     ensures { result ≡ holds_shift shifts.now begin end }
@@ -32,8 +33,8 @@ fn holds_shift(shifts: &[Shift], begin: usize, end: usize) -> bool
     }
 }
 
-/// Where the range of a break ends, if it begins at the last end or after it, lies in a folded word of so many bytes
-/// and holds no character whose number of bytes the folding changed.
+// Returns where the range of a break ends, if the break is kept. Then its range begins at the last end or later, lies
+// in a folded word of so many bytes, and holds no character whose number of bytes the folding changed.
 #[tactic(auto, unfolding(crate::specs::Private::Fitting::range_holds_no_shift))]
 fn fitting_end<B: Break>(length: usize, shifts: &[Shift], last_end: usize, b: &B) -> Option<usize>
     requires { IsNonDecreasingBy (λ shift. shift.index) shifts.now }
@@ -50,7 +51,7 @@ fn fitting_end<B: Break>(length: usize, shifts: &[Shift], last_end: usize, b: &B
     }
 }
 
-/// The breaks of a folded word of so many bytes that are kept, so that they fit the word as written.
+// Keeps those breaks of a folded word of so many bytes that fit the word as written.
 pub(crate) fn keep_fitting<B: Break + Copy>(
     alloc: Global,
     length: usize,

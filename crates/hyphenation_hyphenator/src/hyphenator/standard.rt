@@ -1,4 +1,4 @@
-//! How a standard dictionary hyphenates.
+//! Hyphenation by a standard dictionary.
 
 ghost use Rattle.std.specs.Prelude.{◌≡◌, IsTrue, Some, None, IfOk, OnOk, OnErr, map};
 ghost use Rattle.std.specs.Option.{option_map};
@@ -80,13 +80,13 @@ impl<'h> Hyphenator<'h> for Standard {
         ops: Vec<usize>,
     ) -> Result<Option<Vec<usize>>, AllocError>
         requires { IsTrue (are_listed plain_break (string_bytes lowercase_word) ops.items) }
-        ensures lists { OnOk result (SetsListOnly (rules_of no_change plain_break self.old)
+        ensures lists_word { OnOk result (SetsListOnly (rules_of no_change plain_break self.old)
             (rules_of no_change plain_break self.new)
             (string_bytes lowercase_word) (Some (map plain_break ops.items))) }
-        ensures old { IfOk result (λ old.
+        ensures returns_old { IfOk result (λ old.
             option_map (λ v. map plain_break v.items) old
             ≡ (rules_of no_change plain_break self.old).listed (string_bytes lowercase_word)) }
-        ensures err { OnErr result (self.new ≡ self.old) }
+        ensures unchanged_on_error { OnErr result (self.new ≡ self.old) }
         ensures contents { OnOk result (self.new ≡ record self.old
             { exceptions = finite.insert self.old.exceptions (string_bytes lowercase_word) ops.items }) }
     {
@@ -94,9 +94,9 @@ impl<'h> Hyphenator<'h> for Standard {
     }
 
     fn remove_exception(&mut self, word: &str) -> Option<Vec<usize>>
-        ensures lists { SetsListOnly (rules_of no_change plain_break self.old)
+        ensures unlists_word { SetsListOnly (rules_of no_change plain_break self.old)
             (rules_of no_change plain_break self.new) word.now None }
-        ensures old { option_map (λ v. map plain_break v.items) result
+        ensures returns_old { option_map (λ v. map plain_break v.items) result
             ≡ (rules_of no_change plain_break self.old).listed word.now }
         ensures contents { self.new ≡ record self.old { exceptions = finite.remove self.old.exceptions word.now } }
     {

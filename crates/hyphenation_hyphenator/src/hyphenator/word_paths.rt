@@ -1,6 +1,10 @@
-//! How the breaks of a word are found, for both kinds of dictionaries.
+//! Finding the breaks of a word, for both kinds of dictionaries.
+//!
+//! The calls for lowercase words stand first. Then come the paths of a word as written, a fast one for each sort of
+//! words that is common.
 
-ghost use Rattle.std.specs.Prelude.{◌≡◌, ◌≤◌, [], true, ◌-◌, ◌<◌, ◌&&◌, Option, Some, None, IfOk, OnOk, IfSome, length, map};
+ghost use Rattle.std.specs.Prelude.{◌≡◌, ◌≤◌, [], true, ◌-◌, ◌<◌, ◌&&◌, length, map};
+ghost use Rattle.std.specs.Prelude.{Option, Some, None, IfOk, OnOk, IfSome};
 ghost use Rattle.std.specs.Char.{is_ascii_lowercase};
 ghost use Rattle.std.specs.List.{list_all};
 ghost use Rattle.std.specs.List.Sorted.{IsNonDecreasingBy};
@@ -11,7 +15,9 @@ ghost use Rattle.hyphenation_hyphenator.specs.Folding.{shifts_of};
 ghost use Rattle.hyphenation_hyphenator.specs.Fitting.{kept_breaks, fitted_breaks_of, KeepRanges};
 ghost use Rattle.hyphenation_hyphenator.specs.Private.Fitting.{range_holds_no_shift};
 ghost use Rattle.hyphenation_hyphenator.specs.Private.CommonLowercase.{are_common_lowercase};
-ghost use Rattle.hyphenation_hyphenator.specs.Opportunities.{within, breaks_within, rules_of, by_patterns, by_exception, exception_within_boundaries, opportunities_in, opportunities, Ascending};
+ghost use Rattle.hyphenation_hyphenator.specs.Opportunities.{rules_of, within, breaks_within, by_patterns, by_exception};
+ghost use Rattle.hyphenation_hyphenator.specs.Opportunities.{exception_within_boundaries, opportunities_in};
+ghost use Rattle.hyphenation_hyphenator.specs.Opportunities.{opportunities, Ascending};
 ghost use Rattle.hyphenation_hyphenator.specs.Private.Opportunities.{realigned_break};
 
 use super::ascii_lowercase::are_ascii_lowercase;
@@ -29,7 +35,7 @@ use hyphenation_score::laws::{value_is_borne, winner_is_first};
 use std::alloc::{AllocError, Global};
 use std::str;
 
-/// The listed breaks that are within bounds, in a function of its own, since few words are listed.
+// Returns the listed breaks that are within bounds. It is kept out of line, since few words are listed.
 #[inline(never)]
 fn listed_within<'h, F: BreakKind<'h>>(
     alloc: Global,
@@ -47,7 +53,7 @@ fn listed_within<'h, F: BreakKind<'h>>(
     Ok(breaks)
 }
 
-/// The breaks that patterns allow from the first bound to the second.
+// Finds the breaks that patterns allow from the first bound to the second.
 #[inline(always)]
 pub(crate) fn opportunities_within<'h, F: BreakKind<'h>>(
     alloc: Global,
@@ -65,7 +71,7 @@ pub(crate) fn opportunities_within<'h, F: BreakKind<'h>>(
     F::pattern_breaks(alloc, automaton_of(dictionary), lowercase_word, bounds)
 }
 
-/// The breaks listed for a word from the first bound to the second.
+// Returns the breaks listed for a word from the first bound to the second.
 #[inline(always)]
 pub(crate) fn exception_within<'h, F: BreakKind<'h>>(
     alloc: Global,
@@ -85,7 +91,7 @@ pub(crate) fn exception_within<'h, F: BreakKind<'h>>(
     }
 }
 
-/// The breaks listed for a word, within its boundaries.
+// Returns the breaks listed for a word, within its boundaries.
 pub(crate) fn exception<'h, F: BreakKind<'h>>(
     alloc: Global,
     dictionary: &'h Dictionary<F::Payload, F::Listing>,
@@ -103,11 +109,10 @@ pub(crate) fn exception<'h, F: BreakKind<'h>>(
     }
 }
 
-/// The breaks from the first bound to the second: those that are listed, where the word is an exception, and else those
-/// that the patterns allow.
-///
-/// It looks for the exception itself: the answer of `exception_within`, a list or none or want of memory, would cost
-/// each word that is no exception.
+// Finds the breaks from the first bound to the second: the listed ones of an exception, and else those that patterns
+// allow.
+//
+// It looks the exception up itself: passing on the result of `exception_within` would cost every other word time.
 #[inline(always)]
 fn opportunities_in<'h, F: BreakKind<'h>>(
     alloc: Global,
@@ -127,7 +132,7 @@ fn opportunities_in<'h, F: BreakKind<'h>>(
     }
 }
 
-/// The breaks of a word in small letters, within its boundaries.
+// Finds the breaks of a lowercase word, within its boundaries.
 #[inline(always)]
 #[tactic(auto, unfolding(crate::specs::Opportunities::opportunities))]
 pub(crate) fn opportunities<'h, F: BreakKind<'h>>(
@@ -146,10 +151,9 @@ pub(crate) fn opportunities<'h, F: BreakKind<'h>>(
     opportunities_in(alloc, dictionary, lowercase_word, bounds)
 }
 
-/// Carries each break of a folded word back to the word as written, by the shifts of the folding,
-/// which stand in the order of their indices.
+// Carries each break of a folded word back to the word as written. The shifts are sorted by their indices.
 pub(crate) fn realign_all<'h, F: BreakKind<'h>>(breaks: &mut [F], shifts: &[Shift])
-    requires order { IsNonDecreasingBy (λ shift. shift.index) shifts.now }
+    requires shifts_sorted { IsNonDecreasingBy (λ shift. shift.index) shifts.now }
     ensures { map F.meaning breaks.new ≡ map (realigned_break shifts.now) (map F.meaning breaks.old) }
 {
     for b in breaks {
@@ -157,7 +161,7 @@ pub(crate) fn realign_all<'h, F: BreakKind<'h>>(breaks: &mut [F], shifts: &[Shif
     }
 }
 
-/// The breaks of a word of ASCII in small letters that are kept where its folding moved nothing.
+// Finds the breaks of a folded word of ASCII, where the folding moved nothing.
 #[inline(always)]
 #[tactic(auto, unfolding(crate::specs::Opportunities::opportunities, crate::specs::Fitting::kept_breaks))]
 fn breaks_of_folded_ascii<'h, F: BreakKind<'h>>(
@@ -178,14 +182,14 @@ fn breaks_of_folded_ascii<'h, F: BreakKind<'h>>(
     F::keep_fitting(alloc, lowercase_word, &[], found)
 }
 
-/// A word of the letters a to z is ASCII. This does nothing: its contract is what it says.
+// Does nothing. Its contract is a law: a word of the letters a to z is ASCII.
 #[inline(always)]
 fn ascii_lowercase_is_ascii(word: &str)
     requires { list_all is_ascii_lowercase word.now ≡ true }
     ensures { IsAscii word.now }
 {}
 
-/// The breaks of a word of the letters a to z.
+// Finds the breaks of a word of the letters a to z.
 #[inline(never)]
 fn breaks_of_ascii_lowercase<'h, F: BreakKind<'h>>(
     alloc: Global,
@@ -203,7 +207,7 @@ fn breaks_of_ascii_lowercase<'h, F: BreakKind<'h>>(
     breaks_of_folded_ascii(alloc, dictionary, word)
 }
 
-/// The breaks of a word of ASCII, which is folded on the stack.
+// Finds the breaks of a word of ASCII, which is folded on the stack.
 #[inline(never)]
 fn breaks_of_ascii<'h, F: BreakKind<'h>>(
     alloc: Global,
@@ -218,15 +222,15 @@ fn breaks_of_ascii<'h, F: BreakKind<'h>>(
 {
     dictionary.invariant();
     value_is_borne::<F::Payload>();
-    let mut room = [0u8; 64];
-    let folded = &mut room[..word.len()];
+    let mut buffer = [0u8; 64];
+    let folded = &mut buffer[..word.len()];
     folded.copy_from_slice(word.as_bytes());
     folded.make_ascii_lowercase();
     let text = str::from_utf8(folded).unwrap();
     breaks_of_folded_ascii(alloc, dictionary, text)
 }
 
-/// The breaks of a word of small letters, which folds to itself.
+// Finds the breaks of a word of common lowercase letters, which folds to itself.
 #[inline(never)]
 fn breaks_of_common_lowercase<'h, F: BreakKind<'h>>(
     alloc: Global,
@@ -242,8 +246,7 @@ fn breaks_of_common_lowercase<'h, F: BreakKind<'h>>(
     F::keep_fitting(alloc, word, &[], found)
 }
 
-/// The opportunities of a word that was folded, in a function of its own: the pass needs all registers, which the road
-/// of any word would save around it.
+// Finds the opportunities of a folded word. It is kept out of line, so that the scoring loop has all registers.
 #[inline(never)]
 fn folded_opportunities<'h, F: BreakKind<'h>>(
     alloc: Global,
@@ -258,8 +261,7 @@ fn folded_opportunities<'h, F: BreakKind<'h>>(
     opportunities(alloc, dictionary, folded)
 }
 
-/// The breaks of a word that was folded, carried back by the shifts of the folding, which stand in the order of their
-/// indices.
+// Finds the breaks of a folded word, and carries them back. The shifts of the folding are sorted by their indices.
 #[inline(always)]
 fn breaks_of_folded<'h, F: BreakKind<'h>>(
     alloc: Global,
@@ -267,7 +269,7 @@ fn breaks_of_folded<'h, F: BreakKind<'h>>(
     folded: &str,
     shifts: &[Shift],
 ) -> Result<Vec<F>, AllocError>
-    requires order { IsNonDecreasingBy (λ shift. shift.index) shifts.now }
+    requires shifts_sorted { IsNonDecreasingBy (λ shift. shift.index) shifts.now }
     ensures { IfOk result (λ v.
         map F.meaning v.items
         ≡ map (realigned_break shifts.now) (kept_breaks (range_holds_no_shift (length folded.now) shifts.now)
@@ -279,14 +281,14 @@ fn breaks_of_folded<'h, F: BreakKind<'h>>(
     Ok(breaks)
 }
 
-/// The shifts of a word's folding stand in the order of their indices. This does nothing: its contract is what it says.
+// Does nothing. Its contract is a law: the shifts of a word's folding are sorted by their indices.
 #[inline(always)]
 fn shifts_are_in_order(word: &str, shifts: &[Shift])
     requires { shifts.now ≡ shifts_of word.now }
     ensures { IsNonDecreasingBy (λ shift. shift.index) shifts.now }
 {}
 
-/// The breaks of any word.
+// Finds the breaks of any word.
 #[inline(never)]
 fn breaks_of_any<'h, F: BreakKind<'h>>(
     alloc: Global,
@@ -309,10 +311,10 @@ fn breaks_of_any<'h, F: BreakKind<'h>>(
     breaks_of_folded(alloc, dictionary, text, shifts)
 }
 
-/// The breaks of a word as written, on the road that its letters allow.
-///
-/// Most words are of small letters, which fold to themselves, or of ASCII: those have no soft hyphens, and their
-/// folding moves no place.
+// Finds the breaks of a word as written, by the fastest path for its letters.
+//
+// Most words have lowercase letters alone, which fold to themselves, or are ASCII. Such words have no soft hyphens, and
+// their folding moves no place.
 #[inline(always)]
 fn breaks_by_path<'h, F: BreakKind<'h>>(
     alloc: Global,
@@ -334,7 +336,7 @@ fn breaks_by_path<'h, F: BreakKind<'h>>(
     }
 }
 
-/// The breaks of a word as written.
+// Finds the breaks of a word as written.
 #[inline(always)]
 pub(crate) fn breaks<'h, F: BreakKind<'h>>(
     alloc: Global,

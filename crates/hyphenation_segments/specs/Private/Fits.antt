@@ -1,11 +1,10 @@
--- The breaks that fit a text: what private functions and proofs need of it beside, and no public contract cites.
+-- Any two proofs that breaks fit a text are equal, so a `Word` can carry one.
 use Rattle.std.specs.Prelude.{ℕ, ◌+◌, List, [], ◌∷◌}
 use Rattle.std.specs.Coded.{×_prop, Unit-prop}
 use Rattle.std.proofs.Props.{props}
 use Rattle.hyphenation_breaks.specs.Break.{Break, end_of}
 use Rattle.hyphenation_segments.specs.Fits.{BreakFitsAfter, FitsFrom}
 
--- Any two proofs that a break stands in a text, or that breaks fit it, are equal.
 pub BreakFitsAfter-prop : (text : List ℕ) (last_end least : ℕ) (b : Break) → IsProp (BreakFitsAfter text last_end least b)
 BreakFitsAfter-prop text last_end least b = hlevel props
 

@@ -16,17 +16,18 @@ use std::alloc::{AllocError, Global};
 use std::borrow::CowStr;
 use std::marker::Model;
 
-/// The segments of a text at breaks that may change it. A segment beside a changed break is made
-/// anew, and any other borrowed from the text. To contracts it is the list of the segments to come,
-/// each with whether it is made anew.
+/// An iterator over the segments of a text at breaks that may change it.
+///
+/// A segment next to a break with a change is made anew; any other is borrowed from the text. Contracts see the
+/// iterator as the list of the segments to come, each with whether it is made anew.
 #[derive(Drop)]
 pub struct SegmentsExt<'t, I: Breaks> {
     alloc: Global,
     text: &'t str,
     breaks: I,
-    // Where the range of the last break ends, 0 before the first one, and nothing after the last segment.
+    // Where the range of the last break ends, 0 before the first break, and `None` after the last segment.
     start: Option<usize>,
-    // The break taken last, whose second half stands at the beginning of the next segment.
+    // The break taken last. The second half of its substitution begins the next segment.
     last: Option<I::Item>,
 }
 
@@ -44,7 +45,14 @@ impl<'t, I: Breaks> Model for SegmentsExt<'t, I> {
 }
 
 impl<'t, I: Breaks> SegmentsExt<'t, I> {
-    /// All segments of the text, at breaks that fit it as `Word::fits` says.
+    /// Makes the iterator over all segments of a text.
+    ///
+    /// The breaks must fit the text, as `Word::fits` tests.
+    ///
+    /// ```text
+    /// let word = dictionary.hyphenate(alloc, "asszonnyal")?;      // breaks: 2 and 6, with changes
+    /// let segments = SegmentsExt::new(alloc, word.text, word.breaks.into_iter());      // asz  szony  nyal
+    /// ```
     pub fn new(alloc: Global, text: &'t str, breaks: I) -> SegmentsExt<'t, I>
         requires { Fits text.now (I.to_come breaks) }
         ensures { result ≡ made_segments text.now (I.to_come breaks) }
@@ -59,7 +67,7 @@ impl<'t, I: Breaks> SegmentsExt<'t, I> {
     }
 }
 
-/// Three texts, one after another.
+// Joins three texts.
 fn concatenated(
     alloc: Global,
     before: &str,
@@ -74,7 +82,7 @@ fn concatenated(
     Ok(text)
 }
 
-/// The segment between two breaks, of which either may be missing, with the text between their ranges.
+// Makes the segment between two breaks, of which either may be missing. The middle is the text between their ranges.
 fn segment_between<'t, B: Break>(
     alloc: Global,
     last: &Option<B>,
@@ -107,9 +115,10 @@ impl<'t, I: Breaks> Iterator for SegmentsExt<'t, I> {
 
     ghost remaining = { item_count (λ s. s) };
 
-    /// The next segment, or an error in its place where the memory for it is refused; the later ones are what they
-    /// would have been. After the last one it gives `None`, as often as it is asked. The breaks are asked for one only
-    /// while some are left.
+    /// Returns the next segment, or `None` at each call after the last segment.
+    ///
+    /// An error in place of a segment says that memory for it was refused; later segments are not affected. It takes a
+    /// break only while some are to come.
     fn next(&mut self) -> Option<Result<CowStr<'t>, AllocError>> {
         let start = self.start?;
         let text = self.text;
@@ -127,7 +136,7 @@ impl<'t, I: Breaks> Iterator for SegmentsExt<'t, I> {
         Some(segment)
     }
 
-    /// The number of segments to come, as both bounds.
+    /// Returns the number of segments to come, as both bounds.
     fn size_hint(&self) -> (usize, Option<usize>)
         ensures lower { IsWithinCount result.0 (at_most (length self.now)) }
         ensures upper { IfSome result.1 (UpTo (at_most (length self.now))) }
@@ -139,12 +148,12 @@ impl<'t, I: Breaks> Iterator for SegmentsExt<'t, I> {
 }
 
 impl<'t, I: Breaks> ExactSizeIterator for SegmentsExt<'t, I> {
-    /// The number of segments to come.
+    /// Returns the number of segments to come.
     fn len(&self) -> usize {
         match self.start {
             None => 0,
             Some(_) => {
-                // Breaks that fit are no more than the text's places, so that the sum stays in range.
+                // A text has no more places than bytes, so the sum stays in range.
                 let _text_len = self.text.len();
                 self.breaks.remaining_len() + 1
             }
@@ -157,9 +166,9 @@ impl<'t, I: Breaks> Texts for SegmentsExt<'t, I> {
 
     ghost texts = { λ s. map (λ made. made.0) s };
 
-    /// What `next` gives.
+    /// Returns the next segment, as `next` does, in a type whose text can be borrowed.
     fn pull(&mut self) -> Option<MadeSegment<'t>>
-        ensures first { TakesFirstOrRefuses (λ item. text_if_made item.segment) (λ s. map (λ made. made.0) s) self.old
+        ensures takes_first { TakesFirstOrRefuses (λ item. text_if_made item.segment) (λ s. map (λ made. made.0) s) self.old
             result self.new }
         ensures as_next { YieldsMade self.old (option_map (λ item. item.segment) result) self.new }
     {
@@ -167,7 +176,7 @@ impl<'t, I: Breaks> Texts for SegmentsExt<'t, I> {
         Some(MadeSegment { segment })
     }
 
-    /// What `len` gives.
+    /// Returns the number of segments to come, as `len` does.
     fn remaining_len(&self) -> usize {
         self.len()
     }

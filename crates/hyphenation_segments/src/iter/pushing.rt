@@ -1,4 +1,6 @@
-//! The marked segments of a word, joined after a text, with no text of their own.
+//! Appending the marked segments of a word to a text, without a text for each segment.
+//!
+//! Whole texts are hyphenated by this; the iterators are for callers that need the segments one by one.
 
 ghost use Rattle.std.specs.Prelude.{◌≡◌, ◌++◌, map, slice_range, IfOk, OnErr, OnOk};
 ghost use Rattle.std.specs.Io.{StartsWith};
@@ -12,8 +14,8 @@ use crate::words::Word;
 use hyphenation_breaks::breaks::Break;
 use std::alloc::AllocError;
 
-/// Appends what stands between a place and the end of a break's range, with the mark at the break. Where the range
-/// ends.
+// Appends the text from a place to a break's range, and then the halves of its change with the mark between them.
+// Returns where the range ends.
 fn push_break<B: Break>(
     output: &mut String,
     text: &str,
@@ -22,12 +24,12 @@ fn push_break<B: Break>(
     mark: &str,
 ) -> Result<usize, AllocError>
     requires start { IsCharBoundary text.now start }
-    requires stands { BreakFitsAfter text.now start 0 (B.meaning b.now) }
+    requires fits_after { BreakFitsAfter text.now start 0 (B.meaning b.now) }
     ensures appended { OnOk result (string_bytes output.new ≡ string_bytes output.old ++ slice_range text.now start
         (begin_of (B.meaning b.now)) ++ before_of (B.meaning b.now).change ++ mark.now ++ after_of (B.meaning
         b.now).change) }
-    ensures end { IfOk result (λ end. end ≡ end_of (B.meaning b.now)) }
-    ensures front { StartsWith (string_bytes output.new) (string_bytes output.old) }
+    ensures range_end { IfOk result (λ end. end ≡ end_of (B.meaning b.now)) }
+    ensures begins_as_before { StartsWith (string_bytes output.new) (string_bytes output.old) }
 {
     let (begin, end) = b.range().unwrap();
     output.push_str(&text[start..begin])?;
@@ -37,7 +39,7 @@ fn push_break<B: Break>(
     Ok(end)
 }
 
-/// Appends the segments of a text at breaks that fit it, each but the last with the mark after it.
+// Appends the segments of a text at breaks that fit it, each but the last with the mark after it.
 fn push_segments<B: Break>(
     output: &mut String,
     text: &str,
@@ -47,7 +49,7 @@ fn push_segments<B: Break>(
     requires { Fits text.now (map B.meaning breaks.now) }
     ensures appended { OnOk result (string_bytes output.new ≡ string_bytes output.old ++ marked_word mark.now text.now
         (map B.meaning breaks.now)) }
-    ensures front { StartsWith (string_bytes output.new) (string_bytes output.old) }
+    ensures begins_as_before { StartsWith (string_bytes output.new) (string_bytes output.old) }
 {
     let mut start = 0;
     for b in breaks {
@@ -56,10 +58,14 @@ fn push_segments<B: Break>(
     output.push_str(&text[start..])
 }
 
-/// Appends the segments of a word, each but the last with the mark after it.
+/// Appends the segments of a word to a `String`, each but the last with the mark after it.
 ///
-/// What is in the `String` before stays in front. The only error is that memory was refused, and then the `String` is as
-/// it was.
+/// An error says that memory was refused; the `String` is then unchanged.
+///
+/// ```text
+/// let word = dictionary.hyphenate(alloc, "hyphenation")?;      // breaks: 2, 6, 7
+/// push_marked(&mut page, &word, "·")?;                         // hy·phen·a·tion
+/// ```
 pub fn push_marked<B: Break>(
     output: &mut String,
     word: &Word<'_, B>,
@@ -67,7 +73,7 @@ pub fn push_marked<B: Break>(
 ) -> Result<(), AllocError>
     ensures appended { OnOk result (string_bytes output.new ≡ string_bytes output.old ++ marked_word
         mark.now word.now.text.now (map B.meaning word.now.breaks.items)) }
-    ensures err { OnErr result (string_bytes output.new ≡ string_bytes output.old) }
+    ensures unchanged_on_error { OnErr result (string_bytes output.new ≡ string_bytes output.old) }
 {
     let before = output.len();
     match push_segments(output, word.text, &word.breaks, mark) {

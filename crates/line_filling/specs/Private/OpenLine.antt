@@ -6,13 +6,13 @@ use Rattle.std.specs.declared.string.String.{String}
 use Rattle.line_filling.specs.Private.Filling.{FillState}
 use Rattle.line_filling.specs.declared.filling.OpenLine.{OpenLine}
 
--- It stands in the text, and its characters are counted.
+-- The line lies in the text, and its width is the number of its characters.
 pub record IsOpenLine (text : List ℕ) (open_line : OpenLine) : Type 0 where
   pub order : open_line.start ≤ open_line.end
   pub start : IsCharBoundary text open_line.start
   pub end : IsCharBoundary text open_line.end
   pub width : open_line.width ≡ length (chars (slice_range text open_line.start open_line.end))
 
--- The line and the lines that are done.
+-- The state that the line and the lines that are done stand for.
 abbrev pub state_of : {Z : Type 0} → OpenLine → List (String Z) → FillState
 state_of open_line done = record { start = open_line.start; end = open_line.end; done = map string_bytes done }

@@ -1,4 +1,4 @@
--- The breaks of a text's words that are still to come.
+-- The breaks of a text's words that are to come.
 use Rattle.std.specs.Prelude.{◌≡◌, ℕ, ◌+◌, ◌<◌, ◌≤◌, ◌^◌, nat_lt, false, IsTrue, List, [], ◌∷◌, ◌++◌, length, map, drop, Option, Some, None, if◌then◌else◌}
 use Rattle.std.specs.Borrow.{Bor}
 use Rattle.std.specs.List.{flat_map}
@@ -11,12 +11,12 @@ use Rattle.line_filling.specs.declared.word_breaks.WordBreaks.{WordBreaks}
 abbrev pub remaining_pieces : WordBreaks → List (ℕ × List ℕ)
 remaining_pieces b = word_bound_indices_left b.pieces
 
--- The next piece, if there is one, and those after it.
+-- The next piece, if there is one, and the pieces after it.
 abbrev pub with_next_piece : Option (ℕ × Bor (List ℕ)) → List (ℕ × List ℕ) → List (ℕ × List ℕ)
 with_next_piece None others = others
 with_next_piece (Some x) others = (x.0, x.1.now) ∷ others
 
--- The breaks that were not passed of the piece that was broken last.
+-- The pending breaks: those of the piece that was broken last that were not passed.
 abbrev pub pending_breaks : WordBreaks → List ℕ
 pending_breaks b = map (λ p. b.offset + p) (drop b.passed b.breaks.items)
 
@@ -24,21 +24,22 @@ pending_breaks b = map (λ p. b.offset + p) (drop b.passed b.breaks.items)
 abbrev pub remaining_breaks : (List ℕ → List Break) → WordBreaks → List ℕ
 remaining_breaks breaks_of b = pending_breaks b ++ flat_map (breaks_in breaks_of) (remaining_pieces b)
 
--- Places from the first one on that is after another.
+-- The places from the first one on that is after `from`.
 abbrev pub places_after : ℕ → List ℕ → List ℕ
 places_after from [] = []
 places_after from (p ∷ ps) = if nat_lt from p then p ∷ ps else places_after from ps
 
+-- The first of some places, if there is one.
 abbrev pub first_place : List ℕ → Option ℕ
 first_place [] = None
 first_place (p ∷ ps) = Some p
 
--- Places that never fall, between two others.
+-- Places between two others that never descend.
 abbrev pub RiseBetween : ℕ → ℕ → List ℕ → Type 0
 RiseBetween from to [] = from ≤ to
 RiseBetween from to (p ∷ ps) = (from ≤ p) × RiseBetween p to ps
 
--- Pieces one after the other between two places, with the breaks of each in it.
+-- Pieces one after another between two places, each with its breaks in it.
 abbrev pub FollowBetween : (List ℕ → List Break) → ℕ → ℕ → List (ℕ × List ℕ) → Type 0
 FollowBetween breaks_of from to [] = from ≤ to
 FollowBetween breaks_of from to (x ∷ xs) =
@@ -48,24 +49,24 @@ FollowBetween breaks_of from to (x ∷ xs) =
 abbrev pub FitsUsize : ℕ → Type 0
 FitsUsize place = place < 2 ^ 64
 
--- The breaks to come never fall, and the pieces lie after those in hand.
+-- The breaks to come never descend, and the pieces lie after the pending breaks.
 pub record InOrder (breaks_of : List ℕ → List Break) (b : WordBreaks) : Type 0 where
   pub end : ℕ
-  pub small : FitsUsize end
-  pub hand : RiseBetween 0 b.reached (pending_breaks b)
+  pub end_fits_usize : FitsUsize end
+  pub pending : RiseBetween 0 b.reached (pending_breaks b)
   pub pieces : FollowBetween breaks_of b.reached end (remaining_pieces b)
 
--- None of some places is after one and before another.
+-- None of the places is after `from` and before `until`.
 abbrev pub NoneWithin : List ℕ → ℕ → ℕ → Type 0
 NoneWithin places from until = (p : ℕ) → from < p → p < until → is_one_of p places ≡ false
 
--- The first of some places that is after another.
+-- The place is the first of the places that is after `from`.
 pub record IsFirstAfter (places : List ℕ) (from place : ℕ) : Type 0 where
   pub after : from < place
   pub among : IsTrue (is_one_of place places)
   pub first : NoneWithin places from place
 
--- The breaks to come are in order, and after a place they are those of a text.
+-- The breaks to come are in order, and after a place they are the breaks of a text's words.
 pub record HasBreaksAfter (breaks_of : List ℕ → List Break) (text : List ℕ) (from : ℕ) (b : WordBreaks) : Type 0 where
   pub order : InOrder breaks_of b
   pub stay : (p : ℕ) → from < p → is_one_of p (remaining_breaks breaks_of b) ≡ is_one_of p (word_breaks breaks_of text)

@@ -6,7 +6,7 @@ pub loop-c-init : goal.loop-c-init
 loop-c-init c = record {
   can = tt;
   finite = tt;
-  holds = begins c.args.original.now _ _ c.args.start _ c.utf8.original c.requires.start c.requires.unchanged (search rules) (search rules) (search rules);
+  holds = begins c.args.original.now _ _ c.args.start _ c.utf8.original c.requires.at_character c.requires.no_capital_before (search rules) (search rules) (search rules);
 }
 
 pub loop-c-preserved-in-Continue-branch-3 : goal.loop-c-preserved-in-Continue-branch-3

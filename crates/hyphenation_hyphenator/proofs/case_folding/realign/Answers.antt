@@ -6,8 +6,8 @@ use Rattle.hyphenation_hyphenator.proofs.Places.{place_of_boundary}
 use Rattle.hyphenation_hyphenator.proofs.Shifts.{carried_back}
 use Rattle.hyphenation_hyphenator.proofs.case_folding.realign.Goals as goal
 
-pub returns-clause-carried : goal.returns-clause-carried
-returns-clause-carried c = λ original u l e b.
+pub returns-clause-carried_back : goal.returns-clause-carried_back
+returns-clause-carried_back c = λ original u l e b.
     let value : c.shifted_back.result ≡ saturate_unsigned w64 (pos c.args.i -ℤ delta_below c.args.shifts.now c.args.i) = search rules in
     carried_back original _ c.args.i c.shifted_back.result c.args.shifts.now u (omega arith) e (place_of_boundary (fold_case original) c.args.i (fold_is_utf8 original u) b) value
 

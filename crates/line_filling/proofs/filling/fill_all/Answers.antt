@@ -19,11 +19,11 @@ loop-current-init g c =
     record {
       all = ap (λ xs. map string_bytes xs ++ lines text c.args.columns (word_breaks breaks_of text)) c.new-lines.ensures.items;
       line = record { order = omega arith; start = IsCharBoundary-start text c.utf8.text; end = IsCharBoundary-start text c.utf8.text; width = sym (ap length chars-nil) };
-      breaks = at_start breaks_of text c.new-breaks.result c.plain_breaks_fit_where_ascending.ensures c.utf8.text c.requires.ascend (omega arith) c.new-breaks.ensures.hand c.new-breaks.ensures.pieces c.new-breaks.ensures.reached;
+      breaks = at_start breaks_of text c.new-breaks.result c.plain_breaks_fit_where_ascending.ensures c.utf8.text c.requires.ascend (omega arith) c.new-breaks.ensures.pending c.new-breaks.ensures.pieces c.new-breaks.ensures.reached;
     }
 
-pub count_characters_to-width-requires-clause-place : goal.count_characters_to-width-requires-clause-place
-count_characters_to-width-requires-clause-place g c = plain_boundary c.args.text.now c.next_plain_cut-next.result c.utf8.text (omega arith) c.next_plain_cut-next.ensures.plain
+pub count_characters_to-width-requires-clause-at_character : goal.count_characters_to-width-requires-clause-at_character
+count_characters_to-width-requires-clause-at_character g c = plain_boundary c.args.text.now c.next_plain_cut-next.result c.utf8.text (omega arith) c.next_plain_cut-next.ensures.plain
 
 pub loop-current-preserved-then-width-columns : goal.loop-current-preserved-then-width-columns
 loop-current-preserved-then-width-columns g c =
@@ -43,8 +43,8 @@ loop-current-preserved-then-width-columns g c =
       breaks = after_later breaks_of text c.loop-current.current.end next c.loop-current.breaks (omega (arith, c.next_plain_cut-next.ensures.after)) before.breaks;
     }
 
-pub pass_cut-requires-clause-place : goal.pass_cut-requires-clause-place
-pass_cut-requires-clause-place g c = plain_boundary c.args.text.now c.next_plain_cut-next.result c.utf8.text (omega arith) c.next_plain_cut-next.ensures.plain
+pub pass_cut-requires-clause-at_character : goal.pass_cut-requires-clause-at_character
+pass_cut-requires-clause-at_character g c = plain_boundary c.args.text.now c.next_plain_cut-next.result c.utf8.text (omega arith) c.next_plain_cut-next.ensures.plain
 
 pub loop-current-preserved : goal.loop-current-preserved
 loop-current-preserved g c =
@@ -64,6 +64,6 @@ loop-current-preserved g c =
     let goes = passing_owed text columns breaks t next (sound breaks_of text c.plain_breaks_fit_where_ascending.ensures c.utf8.text c.requires.ascend) is passed.ensures.before cut (λ p l u h. false≢true (sym (passed.ensures.passed p l u) ∙ h)) in
     record {
       all = ap (all_lines text columns breaks) then ∙ goes ∙ passed.ensures.same ∙ before.all;
-      line = c.in_ok-current.ensures.next;
+      line = c.in_ok-current.ensures.open_line;
       breaks = subst (λ p. HasBreaksAfter breaks_of text p c.pass_breaks.new.breaks) (sym reached) (after_later breaks_of text passed.passed.end next c.pass_breaks.new.breaks (omega (arith, passed.ensures.before)) passed.ensures.breaks);
     }

@@ -9,14 +9,14 @@ use Rattle.line_filling.proofs.FillWalk.{IsState, or_from_false, cut_boundary, p
 use Rattle.line_filling.proofs.TextBreaks.{sound}
 use Rattle.line_filling.proofs.filling.pass_breaks.Goals as goal
 
-pub pass_cut-requires-clause-place : goal.pass_cut-requires-clause-place
-pass_cut-requires-clause-place g c =
+pub pass_cut-requires-clause-at_character : goal.pass_cut-requires-clause-at_character
+pass_cut-requires-clause-at_character g c =
     let text = c.args.text.now in
     let breaks_of = g.H.Hyphenator.breaks_of c.args.dictionary.now in
     let breaks = word_breaks breaks_of text in
     let place = c.in-Some.place in
     let found = MatchOption-at_some _ _ place c.in-Some.is c.in_ok-place.ensures.first in
-    let among : is_one_of place breaks ≡ true = sym (c.loop-place.invariant.breaks.stay place found.after) ∙ sym (c.in_ok-place.ensures.stay place found.after) ∙ found.among in
+    let among : is_one_of place breaks ≡ true = sym (c.loop-place.invariant.breaks.stay place found.after) ∙ sym (c.in_ok-place.ensures.later_breaks_stay place found.after) ∙ found.among in
     cut_boundary text c.args.columns breaks place (sound breaks_of text c.plain_breaks_fit_where_ascending.ensures c.utf8.text c.requires.ascend) (omega (arith, found.after)) (or_right (is_plain text place) (is_one_of place breaks) among)
 
 pub loop-place-preserved : goal.loop-place-preserved
@@ -29,20 +29,20 @@ loop-place-preserved g c =
     let place = c.in-Some.place in
     let found = MatchOption-at_some _ _ place c.in-Some.is c.in_ok-place.ensures.first in
     let same : (p : ℕ) → c.loop-place.current.end < p → is_one_of p breaks ≡ is_one_of p (remaining_breaks breaks_of c.first_after.new.self) =
-    λ p lt. sym (before.breaks.stay p lt) ∙ sym (c.in_ok-place.ensures.stay p lt) in
+    λ p lt. sym (before.breaks.stay p lt) ∙ sym (c.in_ok-place.ensures.later_breaks_stay p lt) in
     let cut : is_cut text breaks place ≡ true = or_right (is_plain text place) (is_one_of place breaks) (same place found.after ∙ found.among) in
     let s = state_of c.loop-place.current c.loop-place.lines.items in
     let is : IsState text s = record { order = before.line.order; start = before.line.start; end = before.line.end } in
     let then : state_of c.in_ok-current.current c.pass_cut.new.lines.items ≡ state_after_cut text columns s place = c.in_ok-current.ensures.state in
     let reached : c.in_ok-current.current.end ≡ place = ap (λ (v : FillState). v.end) then ∙ passing_end text columns s place in
     let goes = passing_owed text columns breaks s place (sound breaks_of text c.plain_breaks_fit_where_ascending.ensures c.utf8.text c.requires.ascend) is found.after cut
-    (λ p l u h. false≢true (sym (or_from_false (is_plain text p) (is_one_of p breaks) (c.requires.none p (omega (arith, before.onward)) (omega (arith, c.if-until-place.false))) (same p l ∙ found.first p l u)) ∙ h)) in
+    (λ p l u h. false≢true (sym (or_from_false (is_plain text p) (is_one_of p breaks) (c.requires.no_plain_cut p (omega (arith, before.onward)) (omega (arith, c.if-until-place.false))) (same p l ∙ found.first p l u)) ∙ h)) in
     record {
       same = ap (all_lines text columns breaks) then ∙ goes ∙ before.same;
-      line = c.in_ok-current.ensures.next;
+      line = c.in_ok-current.ensures.open_line;
       breaks = record {
-        order = c.in_ok-place.ensures.order;
-        stay = λ p lt. c.in_ok-place.ensures.stay p (omega (arith, reached, found.after)) ∙ before.breaks.stay p (omega (arith, reached, found.after));
+        order = c.in_ok-place.ensures.in_order;
+        stay = λ p lt. c.in_ok-place.ensures.later_breaks_stay p (omega (arith, reached, found.after)) ∙ before.breaks.stay p (omega (arith, reached, found.after));
       };
       onward = omega (arith, reached, found.after, before.onward);
       before = omega (arith, reached, c.if-until-place.false);

@@ -5,7 +5,7 @@ use Rattle.line_filling.specs.Private.OpenLine.{IsOpenLine, state_of}
 use Rattle.line_filling.specs.Private.WordBreaks.{HasBreaksAfter}
 use Rattle.line_filling.proofs.filling.pass_breaks.Given as goal
 
--- What is owed stays the same while the line goes on.
+-- All lines stay the same while the line goes on.
 abbrev pub invariant-loop-place : goal.invariant-loop-place
 invariant-loop-place g l =
     let breaks_of = g.H.Hyphenator.breaks_of l.dictionary in

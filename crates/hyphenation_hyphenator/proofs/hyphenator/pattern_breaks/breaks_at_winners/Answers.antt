@@ -6,7 +6,7 @@ use Rattle.hyphenation_breaks.specs.Break.{Change}
 use Rattle.hyphenation_breaks.specs.declared.entry.Entry.{Entry}
 use Rattle.hyphenation_score.specs.Scoring.{own_change}
 use Rattle.hyphenation_hyphenator.specs.Private.Opportunities.{borrowed_break, break_at_index, has_break_at_index}
-use Rattle.hyphenation_hyphenator.proofs.BreaksFound.{is_won_at, is_not_won}
+use Rattle.hyphenation_hyphenator.proofs.BreaksFound.{break_at_next, no_break_at_next}
 use Rattle.hyphenation_hyphenator.proofs.hyphenator.pattern_breaks.breaks_at_winners.Goals.{in-Some+in_ok-push, in_default}
 use Rattle.hyphenation_hyphenator.proofs.hyphenator.pattern_breaks.breaks_at_winners.Goals as goal
 
@@ -25,8 +25,8 @@ loop-index-preserved c =
     elim c.match-break_at_winner.branch [
       | in-Some+in_ok-push w ↦
           rw (w.breaks-is, w.in_ok-push.ensures.items) (map-append m c.loop-index.breaks.items (w.in-Some.b ∷ [])
-          ∙ is_won_at change_of winners c.args.bounds i before (m w.in-Some.b) (option_copied winner) at c.loop-index.invariant (sym (ap (option_map m) w.in-Some.is) ∙ c.break_at_winner.ensures))
-      | in_default w ↦ rw w.breaks-is (is_not_won change_of winners c.args.bounds i before (option_copied winner) at c.loop-index.invariant (sym (ap (option_map m) w.in_default.is) ∙ c.break_at_winner.ensures))
+          ∙ break_at_next change_of winners c.args.bounds i before (m w.in-Some.b) (option_copied winner) at c.loop-index.invariant (sym (ap (option_map m) w.in-Some.is) ∙ c.break_at_winner.ensures))
+      | in_default w ↦ rw w.breaks-is (no_break_at_next change_of winners c.args.bounds i before (option_copied winner) at c.loop-index.invariant (sym (ap (option_map m) w.in_default.is) ∙ c.break_at_winner.ensures))
     ]
 
 pub returns : goal.returns

@@ -8,6 +8,6 @@ loop-b-init g c = ((refl, at_first _ _ c.utf8.text c.requires), starts_with_of_e
 
 pub loop-b-preserved : goal.loop-b-preserved
 loop-b-preserved g c = (
-  one_more g.B.Break.meaning _ _ _ _ _ _ _ _ _ _ c.loop-b-test.true c.b-item.is c.loop-b.invariant.0 c.in_ok-start.ensures.appended c.in_ok-start.ensures.end,
-  starts_with_trans _ _ _ c.in_ok-start.ensures.front c.loop-b.invariant.1,
+  one_more g.B.Break.meaning _ _ _ _ _ _ _ _ _ _ c.loop-b-test.true c.b-item.is c.loop-b.invariant.0 c.in_ok-start.ensures.appended c.in_ok-start.ensures.range_end,
+  starts_with_trans _ _ _ c.in_ok-start.ensures.begins_as_before c.loop-b.invariant.1,
 )

@@ -11,8 +11,8 @@ overflow_add-place c =
     let item = get_or b.breaks.items b.passed c.index.result.now in
     let rest = drop (b.passed + 1) b.breaks.items in
     let here : drop b.passed b.breaks.items ≡ item ∷ rest = drop_more b.breaks.items b.passed c.index.result.now (omega (arith, c.len.ensures, c.loop-self-test.true)) in
-    let small = All-head FitsUsize (b.offset + item) (map (λ p. b.offset + p) rest) (subst (λ xs. All FitsUsize (map (λ p. b.offset + p) xs)) here c.loop-self.invariant.small) in
-    omega (arith, small, c.index.ensures)
+    let fit_usize = All-head FitsUsize (b.offset + item) (map (λ p. b.offset + p) rest) (subst (λ xs. All FitsUsize (map (λ p. b.offset + p) xs)) here c.loop-self.invariant.fit_usize) in
+    omega (arith, fit_usize, c.index.ensures)
 
 pub loop-self-preserved : goal.loop-self-preserved
 loop-self-preserved c =
@@ -24,8 +24,8 @@ loop-self-preserved c =
     let step : places_after from (map (λ p. b.offset + p) (drop b.passed b.breaks.items)) ≡ places_after from (map (λ p. b.offset + p) rest) =
     ap (λ xs. places_after from (map (λ p. b.offset + p) xs)) here ∙ cond-false _ _ _ (le-ltb from (b.offset + item) (omega (arith, c.if-from-place.false, c.index.ensures))) in
     record {
-      hand = sym step ∙ c.loop-self.invariant.hand;
+      pending = sym step ∙ c.loop-self.invariant.pending;
       pieces = c.loop-self.invariant.pieces;
       reached = c.loop-self.invariant.reached;
-      small = All-tail FitsUsize (b.offset + item) (map (λ p. b.offset + p) rest) (subst (λ xs. All FitsUsize (map (λ p. b.offset + p) xs)) here c.loop-self.invariant.small);
+      fit_usize = All-tail FitsUsize (b.offset + item) (map (λ p. b.offset + p) rest) (subst (λ xs. All FitsUsize (map (λ p. b.offset + p) xs)) here c.loop-self.invariant.fit_usize);
     }

@@ -5,10 +5,10 @@ use Rattle.line_filling.proofs.word_breaks.WordBreaks.first_pending.Given as goa
 -- Only breaks that are not after the place were passed.
 abbrev pub invariant-loop-self : goal.invariant-loop-self
 invariant-loop-self l = record {
-  hand : places_after l.from (pending_breaks l.self) ≡ places_after l.from (pending_breaks l.initial.self);
+  pending : places_after l.from (pending_breaks l.self) ≡ places_after l.from (pending_breaks l.initial.self);
   pieces : remaining_pieces l.self ≡ remaining_pieces l.initial.self;
   reached : l.self.reached ≡ l.initial.self.reached;
-  small : All FitsUsize (pending_breaks l.self);
+  fit_usize : All FitsUsize (pending_breaks l.self);
 }
 
 abbrev pub decreases-loop-self : goal.decreases-loop-self
