@@ -13,7 +13,7 @@ use Rattle.hyphenation_breaks.specs.Dictionary.{Contents}
 use Rattle.hyphenation_hyphenator.specs.declared.case_folding.Shift.{Shift}
 use Rattle.hyphenation_hyphenator.specs.Places.{place_of_character}
 use Rattle.hyphenation_hyphenator.specs.Folding.{fold_case, carried_back, shifts_of, delta_below}
-use Rattle.hyphenation_hyphenator.specs.Opportunities.{rules_of, SetsListOnly}
+use Rattle.hyphenation_hyphenator.specs.Opportunities.{rules_of, ListsOnly}
 use Rattle.hyphenation_hyphenator.proofs.Folds.{fold_is_utf8}
 use Rattle.hyphenation_hyphenator.proofs.Places.{place_of_boundary}
 use Rattle.hyphenation_hyphenator.proofs.Shifts.{realigned}
@@ -44,7 +44,7 @@ same_test a b = sym (texts_ties a b) ∙ nat_list_eq_equiv.symm a b
 
 -- The rules after a change of the exceptions.
 pub lists_inserted : {C B : Type 0} (change_of : C → Option Change) (break_of : B → Break) (contents : Contents C B) (word : List ℕ) (listed : List B)
-    → SetsListOnly (rules_of change_of break_of contents) (rules_of change_of break_of (record contents { exceptions = finite.insert contents.exceptions word listed })) word (Some (map break_of listed))
+    → ListsOnly (rules_of change_of break_of contents) (rules_of change_of break_of (record contents { exceptions = finite.insert contents.exceptions word listed })) word (Some (map break_of listed))
 lists_inserted change_of break_of contents word listed = record {
   minima = refl;
   listed = λ other.
@@ -54,7 +54,7 @@ lists_inserted change_of break_of contents word listed = record {
 }
 
 pub lists_removed : {C B : Type 0} (change_of : C → Option Change) (break_of : B → Break) (contents : Contents C B) (word : List ℕ)
-    → SetsListOnly (rules_of change_of break_of contents) (rules_of change_of break_of (record contents { exceptions = finite.remove contents.exceptions word })) word None
+    → ListsOnly (rules_of change_of break_of contents) (rules_of change_of break_of (record contents { exceptions = finite.remove contents.exceptions word })) word None
 lists_removed change_of break_of contents word = record {
   minima = refl;
   listed = λ other.

@@ -1,6 +1,6 @@
 -- A whole text with its words hyphenated.
--- Sources: UAX #29, Unicode Text Segmentation, for word bounds, as the kit's crate `unicode_segmentation` states them;
--- the documentation of the Rust crate `hyphenation`, which hyphenates each piece between them.
+-- Source of word bounds: UAX #29, Unicode Text Segmentation, as the kit's crate `unicode_segmentation` states it.
+-- Source of hyphenating each piece between them: the documentation of the Rust crate `hyphenation`.
 use Rattle.std.specs.Prelude.{ℕ, List}
 use Rattle.std.specs.List.{flat_map}
 use Rattle.unicode_segmentation.specs.Word.{word_bounds}

@@ -1,19 +1,20 @@
 -- The places at which words may be broken.
--- Sources: F. M. Liang, Word Hy-phen-a-tion by Com-put-er (1983), for odd values, and for exceptions, which come before
--- patterns; the documentation of the Rust crate `hyphenation`, for bounds, soft hyphens and words with capitals.
-use Rattle.std.specs.Prelude.{◌≡◌, ℕ, ◌%◌, ◌==◌, ◌&&◌, nat_le, nat_eq, Bool, if◌then◌else◌, List, [], length, map, filter, Option, None, IsTrue}
+-- Source of odd values, and of exceptions, which come before patterns: F. M. Liang, Word Hy-phen-a-tion by Com-put-er
+-- (1983). Source of bounds, soft hyphens and words with capitals: the documentation of the Rust crate `hyphenation`.
+use Rattle.std.specs.Prelude.{◌≡◌, ℕ, ◌%◌, ◌==◌, ◌&&◌, nat_le, nat_eq, Bool, if◌then◌else◌, List, [], length, map, filter, Option, None, Result, IfOk, IsTrue}
 use Rattle.std.specs.Option.{option_map, option_and_then, option_map_or, unwrap_or}
 use Rattle.std.specs.Cmp.Lexicographic.{pointwise}
 use Rattle.std.specs.FinMap as finite
+use Rattle.std.specs.declared.vec.Vec.{Vec}
 use Rattle.hyphenation_breaks.specs.Break.{Break, Change, plain_break, break_at, ascend_on}
 use Rattle.hyphenation_breaks.specs.Dictionary.{Contents, Patterns, entries_of_keys}
 use Rattle.hyphenation_hyphenator.specs.Boundaries.{boundaries}
 use Rattle.hyphenation_hyphenator.specs.Folding.{fold_case, carried_back}
-use Rattle.hyphenation_score.specs.Scoring.{places, value_at, winner_at}
+use Rattle.hyphenation_score.specs.Scoring.{places, value_at, winner_at, own_change}
 use Rattle.hyphenation_hyphenator.specs.SoftHyphens.{soft_hyphens}
 
--- The parts of a dictionary that decide where words may be broken: the minima, the breaks listed for each exception, and
--- the breaks of a word that patterns allow.
+-- The parts of a dictionary that decide where words may be broken: minima, the listed breaks of exceptions, and the
+-- breaks that patterns allow.
 pub record Rules : Type 0 where
   pub minima : ℕ × ℕ
   pub listed : List ℕ → Option (List Break)
@@ -55,6 +56,14 @@ rules_of change_of break_of contents = record {
   allowed = breaks_at_odd_values change_of (entries_of_keys contents);
 }
 
+-- The rules of a standard dictionary.
+abbrev pub standard_rules : {C : Type 0} → Contents C ℕ → Rules
+standard_rules contents = rules_of no_change plain_break contents
+
+-- The rules of an extended dictionary.
+abbrev pub extended_rules : Contents (Option Change) (ℕ × Option Change) → Rules
+extended_rules contents = rules_of own_change own_break contents
+
 -- ---- breaks by rules
 
 -- The breaks whose places are within bounds, in their order.
@@ -89,7 +98,7 @@ opportunities rules word = option_map_or (opportunities_in rules word) (boundari
 abbrev pub break_carried_back : List ℕ → Break → Break
 break_carried_back word b = record { place = carried_back word b.place; change = b.change }
 
--- The breaks of a word as written: where its soft hyphens begin, if it has any, and else the breaks of the folded word,
+-- The breaks of a word as written: where its soft hyphens begin, if it has any; else the breaks of the folded word,
 -- carried back.
 unfoldable pub breaks_as_written : List ℕ → List Break → List Break
 breaks_as_written word folded =
@@ -103,12 +112,20 @@ all_breaks_of rules word = breaks_as_written word (opportunities rules (fold_cas
 
 -- ---- facts of breaks and rules
 
+-- A result has these breaks, unless it is an error.
+abbrev pub HasBreaks : {X Z E : Type 0} → (X → Break) → Result (Vec X Z) E → List Break → Type 0
+HasBreaks meaning result breaks = IfOk result (λ found. map meaning found.items ≡ breaks)
+
+-- A result has these breaks or none, unless it is an error.
+abbrev pub HasBreaksIfAny : {X Z E : Type 0} → (X → Break) → Result (Option (Vec X Z)) E → Option (List Break) → Type 0
+HasBreaksIfAny meaning result breaks = IfOk result (λ found. option_map (λ v. map meaning v.items) found ≡ breaks)
+
 -- The places of the breaks ascend strictly, each on a character boundary of the text. So no break splits a character.
 abbrev pub Ascending : List ℕ → List Break → Type 0
 Ascending text breaks = IsTrue (ascend_on text 0 (map (λ b. b.place) breaks))
 
 -- The word now has this list, or is no exception where there is no list. All else of the rules is as before.
-pub record SetsListOnly (old new : Rules) (word : List ℕ) (list : Option (List Break)) : Type 0 where
+pub record ListsOnly (old new : Rules) (word : List ℕ) (list : Option (List Break)) : Type 0 where
   pub minima : new.minima ≡ old.minima
   pub listed : (other : List ℕ) → new.listed other ≡ (if pointwise nat_eq word other then list else old.listed other)
   pub allowed : (other : List ℕ) → new.allowed other ≡ old.allowed other

@@ -11,8 +11,8 @@
 //!
 //! [`refold`] returns the folded word with a [`Shift`] for each such character, and [`realign`] carries a place of the
 //! folded word back by them. Place 3, before the `a`, comes after the shift of the `ẞ` and becomes 3 + 2 = 5.
-ghost use Rattle.std.specs.Prelude.{◌≡◌, ◌≤◌, ◌<◌, ◌^◌, ◌↔◌, ℕ, pos, ◌-ℤ◌, nat_lt, false, List, [], length, take, find, reverse};
-ghost use Rattle.std.specs.Prelude.{IfOk, IsOkAnd, IfSome, IsNone};
+ghost use Rattle.std.specs.Prelude.{◌≡◌, ◌≤◌, ◌<◌, ◌^◌, ◌↔◌, ℕ, pos, ◌-ℤ◌, nat_lt, false};
+ghost use Rattle.std.specs.Prelude.{List, [], length, take, find, reverse, IfOk, IsOkAnd, IfSome, IsNone};
 ghost use Rattle.std.specs.Cow.{cow_str_bytes, IsBorrowedStr};
 ghost use Rattle.std.specs.Int.{saturate_unsigned, w64};
 ghost use Rattle.std.specs.List.Sorted.{IsNonDecreasingBy};
@@ -22,8 +22,10 @@ ghost use Rattle.std.specs.Option.{option_copied, option_map_or};
 ghost use Rattle.std.specs.Str.Pattern.{HasPassingCharAt};
 ghost use Rattle.unicode.specs.Binary.{is_uppercase};
 ghost use Rattle.hyphenation_hyphenator.specs.Places.{place_of_character};
-ghost use Rattle.hyphenation_hyphenator.specs.Private.CommonLowercase.{is_common_lowercase, is_common_pair, are_common_lowercase};
-ghost use Rattle.hyphenation_hyphenator.specs.Folding.{fold_character, fold_case, has_uppercase, shifts_of, delta_below, carried_back};
+ghost use Rattle.hyphenation_hyphenator.specs.Private.CommonLowercase.{is_common_lowercase, is_common_pair};
+ghost use Rattle.hyphenation_hyphenator.specs.Private.CommonLowercase.{are_common_lowercase};
+ghost use Rattle.hyphenation_hyphenator.specs.Folding.{fold_character, fold_case, has_uppercase, shifts_of};
+ghost use Rattle.hyphenation_hyphenator.specs.Folding.{delta_below, carried_back, ForEachWordWith};
 
 use std::alloc::{AllocError, Global};
 use std::borrow::CowStr;
@@ -56,7 +58,8 @@ pub fn refold<'t>(alloc: Global, original: &'t str) -> Result<(CowStr<'t>, Vec<S
     ensures folded { IfOk result (λ r. cow_str_bytes r.0 ≡ fold_case original.now) }
     ensures shifts { IfOk result (λ r. r.1.items ≡ shifts_of original.now) }
     ensures borrowed { IfOk result (λ r. IsBorrowedStr r.0 ↔ (has_uppercase original.now ≡ false)) }
-    ensures borrowed_never_fails { has_uppercase original.now ≡ false → IsOkAnd result (λ r. IsBorrowedStr r.0 × (r.1.items ≡ [])) }
+    ensures borrowed_without { has_uppercase original.now ≡ false → IsOkAnd result
+        (λ r. IsBorrowedStr r.0 × (r.1.items ≡ [])) }
 {
     match first_uppercase(original) {
         Some(start) => {
@@ -207,11 +210,10 @@ fn difference(a: usize, b: usize) -> isize
 /// `usize::MAX`.
 pub fn realign(i: usize, shifts: &[Shift]) -> usize
     ensures value { result ≡ saturate_unsigned w64 (pos i -ℤ delta_below shifts.now i) }
-    ensures carried_back { (original : List ℕ) → IsUtf8 original → length original ≤ usize.MAX
-        → shifts.now ≡ shifts_of original → IsCharBoundary (fold_case original) i → result ≡ carried_back original i }
-    ensures same_character { (original : List ℕ) (j : ℕ) → IsUtf8 original → length original ≤ usize.MAX
-        → shifts.now ≡ shifts_of original → i ≡ place_of_character (fold_case original) j
-        → result ≡ place_of_character original j }
+    ensures carried_back { ForEachWordWith shifts.now
+        (λ word. IsCharBoundary (fold_case word) i → result ≡ carried_back word i) }
+    ensures same_character { ForEachWordWith shifts.now (λ word.
+        (j : ℕ) → i ≡ place_of_character (fold_case word) j → result ≡ place_of_character word j) }
 {
     shifted_back(i, last_shift_below(i, shifts))
 }

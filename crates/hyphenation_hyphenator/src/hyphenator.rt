@@ -13,7 +13,7 @@ ghost use Rattle.hyphenation_segments.specs.Fits.{Fits};
 ghost use Rattle.hyphenation_hyphenator.specs.Fitting.{KeepRanges};
 ghost use Rattle.hyphenation_hyphenator.specs.Opportunities.{Rules, boundaries_by, by_patterns, by_exception};
 ghost use Rattle.hyphenation_hyphenator.specs.Opportunities.{exception_within_boundaries, opportunities};
-ghost use Rattle.hyphenation_hyphenator.specs.Opportunities.{Ascending, SetsListOnly};
+ghost use Rattle.hyphenation_hyphenator.specs.Opportunities.{HasBreaks, HasBreaksIfAny, Ascending, ListsOnly};
 
 mod ascii_lowercase;
 mod boundaries;
@@ -81,8 +81,8 @@ pub trait Hyphenator<'h> {
         lowercase_word: &str,
         bounds: (usize, usize),
     ) -> Result<Vec<Self::Opportunity>, AllocError>
-        ensures breaks { IfOk result (λ v.
-            map Self.Opportunity.meaning v.items ≡ by_patterns (rules self.now) lowercase_word.now bounds) }
+        ensures breaks { HasBreaks Self.Opportunity.meaning result
+            (by_patterns (rules self.now) lowercase_word.now bounds) }
         ensures ascend { IfOk result (λ v. Ascending lowercase_word.now (map Self.Opportunity.meaning v.items)) };
 
     /// Returns the breaks listed for a word from the first bound to the second, both included.
@@ -94,9 +94,8 @@ pub trait Hyphenator<'h> {
         lowercase_word: &str,
         bounds: (usize, usize),
     ) -> Result<Option<Vec<Self::Opportunity>>, AllocError>
-        ensures breaks { IfOk result (λ found.
-            option_map (λ v. map Self.Opportunity.meaning v.items) found
-            ≡ by_exception (rules self.now) lowercase_word.now bounds) }
+        ensures breaks { HasBreaksIfAny Self.Opportunity.meaning result
+            (by_exception (rules self.now) lowercase_word.now bounds) }
         ensures ascend { IfOk result
             (λ found. IfSome found (λ v. Ascending lowercase_word.now (map Self.Opportunity.meaning v.items))) };
 
@@ -108,9 +107,8 @@ pub trait Hyphenator<'h> {
         alloc: Global,
         lowercase_word: &str,
     ) -> Result<Option<Vec<Self::Opportunity>>, AllocError>
-        ensures breaks { IfOk result (λ found.
-            option_map (λ v. map Self.Opportunity.meaning v.items) found
-            ≡ exception_within_boundaries (rules self.now) lowercase_word.now) }
+        ensures breaks { HasBreaksIfAny Self.Opportunity.meaning result
+            (exception_within_boundaries (rules self.now) lowercase_word.now) }
         ensures ascend { IfOk result
             (λ found. IfSome found (λ v. Ascending lowercase_word.now (map Self.Opportunity.meaning v.items))) };
 
@@ -127,14 +125,13 @@ pub trait Hyphenator<'h> {
         alloc: Global,
         lowercase_word: &str,
     ) -> Result<Vec<Self::Opportunity>, AllocError>
-        ensures breaks { IfOk result (λ v.
-            map Self.Opportunity.meaning v.items ≡ opportunities (rules self.now) lowercase_word.now) }
+        ensures breaks { HasBreaks Self.Opportunity.meaning result (opportunities (rules self.now) lowercase_word.now) }
         ensures ascend { IfOk result (λ v. Ascending lowercase_word.now (map Self.Opportunity.meaning v.items)) };
 
     /// Makes a word an exception with these breaks, and returns the breaks that were listed for it before.
     ///
-    /// The breaks must be ones that may be listed for the word, as `Dictionary::fits` tests. Nothing else changes. After
-    /// an error the dictionary is unchanged, and the word and the breaks are dropped.
+    /// The word must be one for which these breaks may be listed, as `Dictionary::fits` tests. Nothing else changes.
+    /// After an error the dictionary is unchanged, and the word and the breaks are dropped.
     ///
     /// ```text
     /// let mut places = Vec::new(alloc);
@@ -148,11 +145,10 @@ pub trait Hyphenator<'h> {
         ops: Vec<Self::Exact>,
     ) -> Result<Option<Vec<Self::Exact>>, AllocError>
         requires { IsTrue (are_listed Self.Exact.meaning (string_bytes lowercase_word) ops.items) }
-        ensures lists_word { OnOk result (SetsListOnly (rules self.old) (rules self.new) (string_bytes lowercase_word)
+        ensures lists { OnOk result (ListsOnly (rules self.old) (rules self.new) (string_bytes lowercase_word)
             (Some (map Self.Exact.meaning ops.items))) }
-        ensures returns_old { IfOk result (λ old.
-            option_map (λ v. map Self.Exact.meaning v.items) old
-            ≡ (rules self.old).listed (string_bytes lowercase_word)) }
+        ensures returns_old { HasBreaksIfAny Self.Exact.meaning result
+            ((rules self.old).listed (string_bytes lowercase_word)) }
         ensures unchanged_on_error { OnErr result (self.new ≡ self.old) };
 
     /// Makes a word no exception, and returns the breaks that were listed for it, or `None` where it was none.
@@ -163,23 +159,24 @@ pub trait Hyphenator<'h> {
     /// let before = dictionary.remove_exception("present");      // the breaks listed before, or None
     /// ```
     fn remove_exception(&mut self, word: &str) -> Option<Vec<Self::Exact>>
-        ensures unlists_word { SetsListOnly (rules self.old) (rules self.new) word.now None }
-        ensures returns_old { option_map (λ v. map Self.Exact.meaning v.items) result ≡ (rules self.old).listed word.now };
+        ensures unlists { ListsOnly (rules self.old) (rules self.new) word.now None }
+        ensures returns_old { option_map (λ v. map Self.Exact.meaning v.items) result ≡
+            (rules self.old).listed word.now };
 
     /// Returns the breaks of a word as written, which are those of [`hyphenate`](Hyphenator::hyphenate).
     fn breaks(&'h self, alloc: Global, word: &str) -> Result<Vec<Self::Opportunity>, AllocError>
-        ensures breaks { IfOk result (λ v. map Self.Opportunity.meaning v.items ≡ breaks_of self.now word.now) }
+        ensures breaks { HasBreaks Self.Opportunity.meaning result (breaks_of self.now word.now) }
         ensures fits { IfOk result (λ v. Fits word.now (map Self.Opportunity.meaning v.items)) }
         ensures ranges { OnOk result (KeepRanges (rules self.now) word.now) };
 
     /// Returns a word as written, with its breaks.
     ///
-    /// A word with soft hyphens is broken where they begin, and nowhere else. Any other word is folded to lowercase, and
-    /// each break of the folded word is carried back to the place with as many characters before it.
+    /// A word with soft hyphens is broken where they begin, and nowhere else. Any other word is folded to lowercase.
+    /// Each break of the folded word is carried back to the place with as many characters before it.
     ///
-    /// An extended dictionary leaves out a break in three cases: its range does not lie in the folded word, holds a
-    /// character whose number of bytes the folding changed, or begins before the end of a range that is kept. The other
-    /// changes apply to the same letters of the word as written.
+    /// An extended dictionary leaves out a break whose range lies outside of the folded word, or begins before the end
+    /// of a range that is kept. It leaves out one whose range holds a character whose number of bytes the folding
+    /// changed. The other changes apply to the same letters of the word as written.
     ///
     /// ```text
     /// let word = dictionary.hyphenate(alloc, "Hyphenation")?;      // word.breaks: 2, 6, 7

@@ -6,7 +6,7 @@ use Rattle.std.proofs.lemmas.Str.{IsCharBoundary-start, IsCharBoundary-from_take
 use Rattle.std.specs.Io.{StartsWith}
 use Rattle.hyphenation_breaks.specs.Break.{Break, plain_break, begin_of, end_of, before_of, after_of}
 use Rattle.hyphenation_segments.specs.Fits.{BreakFitsAfter, FitsFrom, Fits}
-use Rattle.hyphenation_segments.specs.Segments.{segments_after, marked_segments, mark_if_more}
+use Rattle.hyphenation_segments.specs.Segments.{segments_after, marked_segments, mark_if_more, through_break}
 use Rattle.hyphenation_segments.proofs.SegmentsJoin.{more_come, last_segment}
 use Rattle.hyphenation_segments.proofs.SegmentSteps.{fits_earlier}
 
@@ -55,24 +55,18 @@ from_here {X} xs i x lt is = rw (add-one i) (drop-cons xs i x lt ∙ ap (λ (y :
 -- The text that a break appends, before the text of the later breaks.
 pub one_more : {X : Type 0} (meaning : X → Break) (mark text whole before after : List ℕ) (start end i : ℕ) (xs : List X) (x : X) → i < length xs → x ≡ get_or xs i x
     → (before ++ to_append mark text start (map meaning (drop i xs)) ≡ whole) × FitFrom text start (map meaning (drop i xs))
-    → after ≡ before ++ slice_range text start (begin_of (meaning x)) ++ before_of (meaning x).change ++ mark ++ after_of (meaning x).change → end ≡ end_of (meaning x)
+    → after ≡ before ++ through_break mark text start (meaning x) → end ≡ end_of (meaning x)
     → (after ++ to_append mark text end (map meaning (drop (i + 1) xs)) ≡ whole) × FitFrom text end (map meaning (drop (i + 1) xs))
 one_more {X} meaning mark text whole before after start end i xs x lt is inv push at =
     let bs : List Break = map meaning (drop (i + 1) xs) in
     let here : map meaning (drop i xs) ≡ meaning x ∷ bs = ap (map meaning) (from_here xs i x lt is) in
     let now = subst (λ (l : List Break). (before ++ to_append mark text start l ≡ whole) × FitFrom text start l) here inv in
-    let front : List ℕ = slice_range text start (begin_of (meaning x)) in
-    let piece : List ℕ = front ++ before_of (meaning x).change ++ mark ++ after_of (meaning x).change in
-    let grouped : before ++ front ++ before_of (meaning x).change ++ mark ++ after_of (meaning x).change ≡ before ++ piece = group before front (before_of (meaning x).change) mark (after_of (meaning x).change) in
+    let piece : List ℕ = through_break mark text start (meaning x) in
     let done : (before ++ piece) ++ to_append mark text (end_of (meaning x)) bs ≡ whole =
     append_assoc before piece (to_append mark text (end_of (meaning x)) bs) ∙ ap (λ (l : List ℕ). before ++ l) (sym (one_break mark text start (meaning x) bs)) ∙ now.0 in (
-      ap (λ (n : ℕ). after ++ to_append mark text n bs) at ∙ ap (λ (l : List ℕ). l ++ to_append mark text (end_of (meaning x)) bs) (push ∙ grouped) ∙ done,
+      ap (λ (n : ℕ). after ++ to_append mark text n bs) at ∙ ap (λ (l : List ℕ). l ++ to_append mark text (end_of (meaning x)) bs) push ∙ done,
       subst (λ (n : ℕ). FitFrom text n bs) (sym at) (rest_fit text start (meaning x) bs now.1),
     )
-  where
-    group : (a b c d e : List ℕ) → a ++ b ++ c ++ d ++ e ≡ a ++ (b ++ c ++ d ++ e)
-    group a b c d e =
-        ap (λ (l : List ℕ). (l ++ d) ++ e) (append_assoc a b c) ∙ ap (λ (l : List ℕ). l ++ e) (append_assoc a (b ++ c) d) ∙ append_assoc a ((b ++ c) ++ d) e
 
 pub at_first : (text : List ℕ) (breaks : List Break) → IsUtf8 text → Fits text breaks → FitFrom text 0 breaks
 at_first text breaks u h = (IsCharBoundary-start text u, h)

@@ -1,6 +1,6 @@
 //! Words with breaks that fit them.
 
-ghost use Rattle.std.specs.Prelude.{◌≡◌, ◌↔◌, map, IsTrue, IfOk, MatchOption};
+ghost use Rattle.std.specs.Prelude.{◌≡◌, ◌↔◌, map, IsTrue, IfOk, IfNone, IfSome};
 ghost use Rattle.hyphenation_breaks.specs.Break.{end_of};
 ghost use Rattle.hyphenation_segments.specs.Fits.{Fits, BreakFitsAfter};
 ghost use Rattle.hyphenation_segments.specs.Private.Fits.{FitsFrom-prop};
@@ -84,8 +84,9 @@ impl<'t, B: Break + Copy> Word<'t, B> {
 
 // Returns where the range of a break ends, if the break fits after the last range and from the least place on.
 fn fitting_end<B: Break>(text: &str, last_end: usize, least: usize, b: &B) -> Option<usize>
-    ensures { MatchOption result (¬ (BreakFitsAfter text.now last_end least (B.meaning b.now)))
-        (λ end. (end ≡ end_of (B.meaning b.now)) × BreakFitsAfter text.now last_end least (B.meaning b.now)) }
+    ensures none_without { IfNone result (¬ (BreakFitsAfter text.now last_end least (B.meaning b.now))) }
+    ensures fits_after { IfSome result (λ _. BreakFitsAfter text.now last_end least (B.meaning b.now)) }
+    ensures range_end { IfSome result (λ end. end ≡ end_of (B.meaning b.now)) }
 {
     let place = b.place();
     let (begin, end) = b.range()?;

@@ -58,9 +58,9 @@ module _ (text : List ℕ) (columns : ℕ) (breaks : List ℕ) where
       ]
 
   -- A cut is passed, with no other one before it.
-  pub passing_owed : (s : FillState) (place : ℕ) → IsSound text breaks → IsState text s → s.end < place → is_cut text breaks place ≡ true → ((p : ℕ) → s.end < p → p < place → is_cut text breaks p ≡ true → ⊥)
+  pub passing_lines : (s : FillState) (place : ℕ) → IsSound text breaks → IsState text s → s.end < place → is_cut text breaks place ≡ true → ((p : ℕ) → s.end < p → p < place → is_cut text breaks p ≡ true → ⊥)
       → all_lines text columns breaks (state_after_cut text columns s place) ≡ all_lines text columns breaks s
-  passing_owed s place sound is lt cut none =
+  passing_lines s place sound is lt cut none =
       let test = is_cut text breaks in
       let n = length text in
       let at : IsCharBoundary text place = cut_boundary place sound (omega arith) cut in
@@ -93,9 +93,9 @@ module _ (text : List ℕ) (columns : ℕ) (breaks : List ℕ) where
       ]
 
   -- A cut at which the line fits is passed, whatever cuts are before it.
-  pub skipping_owed : (s : FillState) (place : ℕ) → IsState text s → s.end < place → place ≤ length text → is_cut text breaks place ≡ true → fits text columns s.start place ≡ true
+  pub skipping_lines : (s : FillState) (place : ℕ) → IsState text s → s.end < place → place ≤ length text → is_cut text breaks place ≡ true → fits text columns s.start place ≡ true
       → all_lines text columns breaks (record { start = s.start; end = place; done = s.done }) ≡ all_lines text columns breaks s
-  skipping_owed s place is lt within cut f =
+  skipping_lines s place is lt within cut f =
       let test = is_cut text breaks in
       let n = length text in
       sym (ap (λ xs. s.done ++ lines_to text s.start (remaining_ends (fits text columns) s.start s.end xs)) (row_to test n s.end place lt within cut)

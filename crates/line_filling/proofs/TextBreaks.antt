@@ -128,8 +128,8 @@ not_plain text from n none p l u v =
     ])
 
 -- The last line is left at the end of the text.
-pub owed_at_end : (text : List ℕ) (columns : ℕ) (breaks : List ℕ) (s : FillState) → s.end ≡ length text → all_lines text columns breaks s ≡ s.done ++ cond (nat_lt s.start s.end) (line text s.start s.end ∷ []) []
-owed_at_end text columns breaks s e =
+pub lines_at_end : (text : List ℕ) (columns : ℕ) (breaks : List ℕ) (s : FillState) → s.end ≡ length text → all_lines text columns breaks s ≡ s.done ++ cond (nat_lt s.start s.end) (line text s.start s.end ∷ []) []
+lines_at_end text columns breaks s e =
     ap (λ cs. s.done ++ lines_to text s.start (remaining_ends (fits text columns) s.start s.end cs)) (ap (cuts_after text breaks) e ∙ row_end (is_cut text breaks) (length text))
     ∙ ap (λ xs. s.done ++ xs) (elim (nat_lt s.start s.end) as (λ b. lines_to text s.start (cond b (s.end ∷ []) []) ≡ cond b (line text s.start s.end ∷ []) []) [ true ↦ refl | false ↦ refl ])
 

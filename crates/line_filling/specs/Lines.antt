@@ -1,5 +1,5 @@
 -- The lines of a text.
-use Rattle.std.specs.Prelude.{◌≡◌, ℕ, Bool, nat_le, List, [], ◌∷◌, ◌++◌, length, slice_range, chars, if◌then◌else◌}
+use Rattle.std.specs.Prelude.{◌≡◌, ℕ, ◌≤◌, Bool, nat_le, List, [], ◌∷◌, ◌++◌, All, length, slice_range, chars, if◌then◌else◌}
 use Rattle.std.specs.List.{concat}
 use Rattle.hyphenation_breaks.specs.Ascii.{hyphen}
 use Rattle.hyphenation_breaks.specs.Break.{Break}
@@ -54,6 +54,16 @@ lines_by breaks_of text columns = lines text columns (word_breaks breaks_of text
 -- A row of ends divides the text into lines that fit.
 abbrev pub IsFittingDivision : (List ℕ → List Break) → List ℕ → ℕ → List ℕ → Type 0
 IsFittingDivision breaks_of text columns row = DividesFitting text columns (word_breaks breaks_of text) row
+
+-- Each of some lines has at most so many columns, if the text can be divided into lines that fit.
+abbrev pub FitIfPossible : (List ℕ → List Break) → List ℕ → ℕ → List (List ℕ) → Type 0
+FitIfPossible breaks_of text columns made =
+    (row : List ℕ) → IsFittingDivision breaks_of text columns row → All (λ line. length (chars line) ≤ columns) made
+
+-- No division of the text into lines that fit has fewer lines than a number.
+abbrev pub IsFewest : (List ℕ → List Break) → List ℕ → ℕ → ℕ → Type 0
+IsFewest breaks_of text columns number =
+    (row : List ℕ) → IsFittingDivision breaks_of text columns row → number ≤ length row
 
 -- Each line ends at the greatest cut after its start at which it fits, or else at the least cut after its start.
 abbrev pub EndGreatestOrLeast : (List ℕ → List Break) → List ℕ → ℕ → Type 0

@@ -10,9 +10,10 @@ ghost use Rattle.std.specs.Str.{IsCharBoundary};
 ghost use Rattle.std.specs.String.{string_bytes};
 ghost use Rattle.hyphenation_hyphenator.specs.Opportunities.{Ascending};
 ghost use Rattle.line_filling.specs.Cuts.{word_breaks, is_plain, is_cut};
-ghost use Rattle.line_filling.specs.Lines.{line, fits, lines_by, IsFittingDivision, EndGreatestOrLeast, JoinToText};
-ghost use Rattle.line_filling.specs.Private.Filling.{state_after_cut, all_lines};
-ghost use Rattle.line_filling.specs.Private.OpenLine.{IsOpenLine, state_of};
+ghost use Rattle.line_filling.specs.Lines.{line, fits, lines_by};
+ghost use Rattle.line_filling.specs.Lines.{FitIfPossible, IsFewest, EndGreatestOrLeast, JoinToText};
+ghost use Rattle.line_filling.specs.Private.Filling.{state_after_cut, HasNoCutWithin};
+ghost use Rattle.line_filling.specs.Private.OpenLine.{IsOpenLine, KeepsLines, state_of};
 ghost use Rattle.line_filling.specs.Private.WordBreaks.{HasBreaksAfter};
 
 use crate::word_breaks::WordBreaks;
@@ -152,16 +153,13 @@ fn pass_breaks<'h, H: Hyphenator<'h, Opportunity = usize>>(
     requires breaks_to_come { HasBreaksAfter (H.breaks_of dictionary.now) text.now current.end breaks.old }
     requires until_after_last_cut { current.end < until }
     requires no_plain_cut { (p : ℕ) → current.end < p → p < until → is_plain text.now p ≡ false }
-    ensures same_lines { IfOk result (λ next.
-        all_lines text.now columns (word_breaks (H.breaks_of dictionary.now) text.now) (state_of next lines.new.items)
-        ≡ all_lines text.now columns (word_breaks (H.breaks_of dictionary.now) text.now)
-        (state_of current lines.old.items)) }
+    ensures same_lines { IfOk result (λ next. KeepsLines
+        (H.breaks_of dictionary.now) text.now columns current lines.old.items next lines.new.items) }
     ensures open_line { IfOk result (λ next. IsOpenLine text.now next) }
-    ensures breaks_to_come { IfOk result (λ next. HasBreaksAfter (H.breaks_of dictionary.now) text.now next.end breaks.new) }
+    ensures breaks_to_come { IfOk result
+        (λ next. HasBreaksAfter (H.breaks_of dictionary.now) text.now next.end breaks.new) }
     ensures ends_before { IfOk result (λ next. next.end < until) }
-    ensures no_cut_left { IfOk result (λ next.
-        (p : ℕ) → next.end < p → p < until
-        → is_cut text.now (word_breaks (H.breaks_of dictionary.now) text.now) p ≡ false) }
+    ensures no_cut_left { IfOk result (λ next. HasNoCutWithin (H.breaks_of dictionary.now) text.now next.end until) }
 {
     plain_breaks_fit_where_ascending();
     let mut current = current;
@@ -249,11 +247,9 @@ pub fn fill<'h, H: Hyphenator<'h, Opportunity = usize>>(
     ensures lines { IfOk result (λ filled.
         map string_bytes filled.items ≡ lines_by (H.breaks_of dictionary.now) text.now columns) }
     ensures fits { IfOk result (λ filled.
-        (row : List ℕ) → IsFittingDivision (H.breaks_of dictionary.now) text.now columns row
-        → All (λ line. length (chars line) ≤ columns) (map string_bytes filled.items)) }
+        FitIfPossible (H.breaks_of dictionary.now) text.now columns (map string_bytes filled.items)) }
     ensures fewest { IfOk result (λ filled.
-        (row : List ℕ) → IsFittingDivision (H.breaks_of dictionary.now) text.now columns row
-        → length filled.items ≤ length row) }
+        IsFewest (H.breaks_of dictionary.now) text.now columns (length filled.items)) }
     ensures ends { IfOk result (λ _. EndGreatestOrLeast (H.breaks_of dictionary.now) text.now columns) }
     ensures joins { IfOk result (λ _. JoinToText (H.breaks_of dictionary.now) text.now columns) }
 {

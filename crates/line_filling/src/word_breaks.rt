@@ -7,7 +7,7 @@ ghost use Rattle.unicode_segmentation.specs.Word.{word_bounds};
 ghost use Rattle.line_filling.specs.Cuts.{is_one_of};
 ghost use Rattle.line_filling.specs.Private.WordBreaks.{pending_breaks, remaining_pieces, with_next_piece};
 ghost use Rattle.line_filling.specs.Private.WordBreaks.{remaining_breaks, places_after, first_place};
-ghost use Rattle.line_filling.specs.Private.WordBreaks.{InOrder, NoneWithin, IsFirstAfter, FitsUsize};
+ghost use Rattle.line_filling.specs.Private.WordBreaks.{InOrder, FindsFirstAfter, KeepsBreaksAfter, FitsUsize};
 
 use hyphenation_hyphenator::hyphenator::Hyphenator;
 use std::alloc::{AllocError, Global};
@@ -89,12 +89,9 @@ impl<'t> WordBreaks<'t> {
         requires { InOrder (H.breaks_of dictionary.now) self.old }
         ensures in_order { IfOk result (λ _. InOrder (H.breaks_of dictionary.now) self.new) }
         ensures later_breaks_stay { IfOk result (λ _.
-            (p : ℕ) → from < p
-            → is_one_of p (remaining_breaks (H.breaks_of dictionary.now) self.new)
-            ≡ is_one_of p (remaining_breaks (H.breaks_of dictionary.now) self.old)) }
-        ensures first { IfOk result (λ first.
-            MatchOption first (NoneWithin (remaining_breaks (H.breaks_of dictionary.now) self.new) from until)
-            (IsFirstAfter (remaining_breaks (H.breaks_of dictionary.now) self.new) from)) }
+            KeepsBreaksAfter (H.breaks_of dictionary.now) from self.old self.new) }
+        ensures first { IfOk result
+            (FindsFirstAfter (remaining_breaks (H.breaks_of dictionary.now) self.new) from until) }
     {
         loop {
             if let Some(place) = self.first_pending(from) {

@@ -1,15 +1,25 @@
 -- Breaks by the winners of places, borrowed breaks, and breaks carried back by shifts.
-use Rattle.std.specs.Prelude.{ℕ, ◌+◌, ◌&&◌, pos, ◌-ℤ◌, Bool, if◌then◌else◌, List, length, map, filter, slice_index_or, Option, Some, None, option_copied}
+use Rattle.std.specs.Prelude.{ℕ, ◌+◌, ◌-◌, ◌&&◌, pos, ◌-ℤ◌, Bool, if◌then◌else◌, List, length, map, filter, slice_index, slice_index_or, Option, Some, None, option_copied}
 use Rattle.std.specs.Borrow.{Bor}
 use Rattle.std.specs.Int.{saturate_unsigned, w64}
 use Rattle.std.specs.List.{range_with_len}
 use Rattle.std.specs.Option.{option_and_then}
 use Rattle.hyphenation_breaks.specs.Break.{Break, Change, break_at}
+use Rattle.hyphenation_breaks.specs.Dictionary.{Patterns}
 use Rattle.hyphenation_breaks.specs.declared.entry.Entry.{Entry}
 use Rattle.hyphenation_hyphenator.specs.declared.case_folding.Shift.{Shift}
 use Rattle.hyphenation_hyphenator.specs.Folding.{delta_below}
 use Rattle.hyphenation_score.specs.Scoring.{value_of}
-use Rattle.hyphenation_hyphenator.specs.Opportunities.{is_odd, within}
+use Rattle.hyphenation_hyphenator.specs.Opportunities.{is_odd, within, breaks_within, breaks_at_odd_values}
+
+-- The breaks within bounds that the patterns of some keys allow.
+abbrev pub breaks_by_keys : {C : Type 0} → (C → Option Change) → Patterns C → List ℕ → ℕ × ℕ → List Break
+breaks_by_keys change_of keys word bounds = breaks_within (breaks_at_odd_values change_of keys word) bounds
+
+-- The places within bounds that have an odd value. The values begin with that of place 1.
+abbrev pub odd_places : List ℕ → ℕ × ℕ → List ℕ
+odd_places values bounds =
+    filter (λ place. is_odd (slice_index values (place - 1)) && within bounds place) (range_with_len 1 (length values))
 
 -- The break of a place with a borrowed change or none.
 abbrev pub borrowed_break : ℕ × Option (Bor Change) → Break

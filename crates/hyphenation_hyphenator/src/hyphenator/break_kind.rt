@@ -4,10 +4,10 @@ ghost use Rattle.std.specs.Prelude.{◌≡◌, ◌+◌, ◌-◌, ◌<◌, Option
 ghost use Rattle.std.specs.List.Sorted.{IsNonDecreasingBy};
 ghost use Rattle.hyphenation_breaks.specs.Break.{plain_break, break_at};
 ghost use Rattle.hyphenation_hyphenator.specs.Fitting.{kept_breaks};
-ghost use Rattle.hyphenation_hyphenator.specs.Private.Fitting.{range_holds_no_shift};
+ghost use Rattle.hyphenation_hyphenator.specs.Private.Fitting.{range_holds_no_shift, kept_by_shifts};
 ghost use Rattle.hyphenation_trie.specs.Trie.{entries_of_key, EachBeginsKey};
-ghost use Rattle.hyphenation_hyphenator.specs.Opportunities.{breaks_within, breaks_at_odd_values, Ascending};
-ghost use Rattle.hyphenation_hyphenator.specs.Private.Opportunities.{borrowed_break};
+ghost use Rattle.hyphenation_hyphenator.specs.Opportunities.{breaks_within, breaks_at_odd_values, HasBreaks, Ascending};
+ghost use Rattle.hyphenation_hyphenator.specs.Private.Opportunities.{borrowed_break, breaks_by_keys};
 
 use super::fitting::{are_plain, keep_fitting};
 use super::pattern_breaks::{plain_breaks, winning_breaks};
@@ -20,7 +20,7 @@ use std::alloc::{AllocError, Global};
 
 // The type of the breaks that a kind of dictionary finds.
 pub(crate) trait BreakKind<'h>: Break + Copy {
-    // What an entry of the dictionary carries.
+    // The payload of the dictionary's entries.
     type Payload: Payload;
 
     // A break as the dictionary's exceptions hold it.
@@ -34,9 +34,8 @@ pub(crate) trait BreakKind<'h>: Break + Copy {
         bounds: (usize, usize),
     ) -> Result<Vec<Self>, AllocError>
         requires { EachBeginsKey patterns.now }
-        ensures { IfOk result (λ v.
-            map Self.meaning v.items ≡ breaks_within (breaks_at_odd_values Self.Payload.change_of
-            (entries_of_key patterns.now) word.now) bounds) };
+        ensures { HasBreaks Self.meaning result
+            (breaks_by_keys Self.Payload.change_of (entries_of_key patterns.now) word.now bounds) };
 
     // Returns a listed break as a break that is found.
     fn from_listed(listed: &'h Self::Listing) -> Self
@@ -48,7 +47,7 @@ pub(crate) trait BreakKind<'h>: Break + Copy {
 
     // Returns plain breaks at the places.
     fn from_places(alloc: Global, places: Vec<usize>) -> Result<Vec<Self>, AllocError>
-        ensures { IfOk result (λ v. map Self.meaning v.items ≡ map plain_break places.items) };
+        ensures { HasBreaks Self.meaning result (map plain_break places.items) };
 
     // Keeps those breaks of a folded word that fit the word as written.
     //
@@ -61,8 +60,8 @@ pub(crate) trait BreakKind<'h>: Break + Copy {
     ) -> Result<Vec<Self>, AllocError>
         requires shifts_sorted { IsNonDecreasingBy (λ shift. shift.index) shifts.now }
         requires ascend { Ascending folded.now (map Self.meaning breaks.items) }
-        ensures { IfOk result (λ v. map Self.meaning v.items
-            ≡ kept_breaks (range_holds_no_shift (length folded.now) shifts.now) (map Self.meaning breaks.items)) };
+        ensures { HasBreaks Self.meaning result
+            (kept_by_shifts folded.now shifts.now (map Self.meaning breaks.items)) };
 }
 
 impl<'h> BreakKind<'h> for usize {
@@ -101,9 +100,7 @@ impl<'h> BreakKind<'h> for usize {
     ) -> Result<Vec<usize>, AllocError>
         requires shifts_sorted { IsNonDecreasingBy (λ shift. shift.index) _shifts.now }
         requires ascend { Ascending _folded.now (map plain_break breaks.items) }
-        ensures { IfOk result (λ v.
-            map plain_break v.items ≡ kept_breaks (range_holds_no_shift (length _folded.now) _shifts.now)
-            (map plain_break breaks.items)) }
+        ensures { HasBreaks plain_break result (kept_by_shifts _folded.now _shifts.now (map plain_break breaks.items)) }
     {
         Ok(breaks)
     }
@@ -152,9 +149,8 @@ impl<'h> BreakKind<'h> for (usize, Option<&'h Subregion>) {
     ) -> Result<Vec<(usize, Option<&'h Subregion>)>, AllocError>
         requires shifts_sorted { IsNonDecreasingBy (λ shift. shift.index) shifts.now }
         requires ascend { Ascending folded.now (map borrowed_break breaks.items) }
-        ensures { IfOk result (λ v.
-            map borrowed_break v.items
-            ≡ kept_breaks (range_holds_no_shift (length folded.now) shifts.now) (map borrowed_break breaks.entry.items)) }
+        ensures { HasBreaks borrowed_break result
+            (kept_by_shifts folded.now shifts.now (map borrowed_break breaks.entry.items)) }
     {
         // Plain breaks always fit.
         if are_plain(&breaks) {

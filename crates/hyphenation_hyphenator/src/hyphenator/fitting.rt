@@ -6,7 +6,8 @@ ghost use Rattle.std.specs.List.{list_all};
 ghost use Rattle.std.specs.List.Sorted.{IsNonDecreasingBy};
 ghost use Rattle.hyphenation_breaks.specs.Break.{begin_of, end_of};
 ghost use Rattle.hyphenation_hyphenator.specs.Fitting.{kept_breaks};
-ghost use Rattle.hyphenation_hyphenator.specs.Private.Fitting.{holds_shift, range_holds_no_shift};
+ghost use Rattle.hyphenation_hyphenator.specs.Opportunities.{HasBreaks};
+ghost use Rattle.hyphenation_hyphenator.specs.Private.Fitting.{holds_shift, range_holds_no_shift, fitting_end};
 
 use crate::case_folding::Shift;
 use hyphenation_breaks::breaks::Break;
@@ -33,15 +34,12 @@ fn holds_shift(shifts: &[Shift], begin: usize, end: usize) -> bool
     }
 }
 
-// Returns where the range of a break ends, if the break is kept. Then its range begins at the last end or later, lies
-// in a folded word of so many bytes, and holds no character whose number of bytes the folding changed.
+// Returns where the range of a break ends, if the break is kept after ranges up to the last end. The folded word has
+// `length` bytes.
 #[tactic(auto, unfolding(crate::specs::Private::Fitting::range_holds_no_shift))]
 fn fitting_end<B: Break>(length: usize, shifts: &[Shift], last_end: usize, b: &B) -> Option<usize>
     requires { IsNonDecreasingBy (λ shift. shift.index) shifts.now }
-    ensures { result
-        ≡ (if range_holds_no_shift length shifts.now (B.meaning b.now)
-        && nat_le last_end (begin_of (B.meaning b.now)) then Some (end_of (B.meaning b.now))
-        else None) }
+    ensures { result ≡ fitting_end length shifts.now last_end (B.meaning b.now) }
 {
     let (begin, end) = b.range()?;
     if end <= length && !holds_shift(shifts, begin, end) && last_end <= begin {
@@ -59,8 +57,8 @@ pub(crate) fn keep_fitting<B: Break + Copy>(
     breaks: &[B],
 ) -> Result<Vec<B>, AllocError>
     requires { IsNonDecreasingBy (λ shift. shift.index) shifts.now }
-    ensures { IfOk result (λ v.
-        map B.meaning v.items ≡ kept_breaks (range_holds_no_shift length shifts.now) (map B.meaning breaks.now)) }
+    ensures { HasBreaks B.meaning result
+        (kept_breaks (range_holds_no_shift length shifts.now) (map B.meaning breaks.now)) }
 {
     let mut kept = Vec::new(alloc);
     let mut last_end = 0;

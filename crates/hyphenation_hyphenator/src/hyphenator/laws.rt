@@ -6,7 +6,7 @@ ghost use Rattle.std.specs.Prelude.{◌≡◌, List, [], ℕ, IsUtf8};
 ghost use Rattle.hyphenation_breaks.specs.Break.{plain_break};
 ghost use Rattle.hyphenation_hyphenator.specs.Hyphenated.{hyphenated_text};
 ghost use Rattle.hyphenation_hyphenator.specs.Laws.{FitWhereAscending, RemovalUndoes, KeepsOneMore};
-ghost use Rattle.hyphenation_hyphenator.specs.Opportunities.{no_change, rules_of, all_breaks_of};
+ghost use Rattle.hyphenation_hyphenator.specs.Opportunities.{no_change, rules_of, standard_rules, all_breaks_of};
 
 use hyphenation_dictionary::dictionary::Standard;
 use hyphenation_score::laws::{value_is_borne, winner_is_first};
@@ -22,10 +22,10 @@ pub fn removal_undoes_an_addition<B>()
     ensures { RemovalUndoes B }
 {}
 
-/// One more break after others is kept exactly under three conditions: its range lies in the folded word, holds no
-/// character whose number of bytes the folding changes, and begins at or after the end of each range that is kept.
+/// One more break after others is kept exactly where its range meets three conditions.
 ///
-/// Which of the others are kept does not depend on it.
+/// It lies in the folded word, holds no character whose number of bytes the folding changes, and begins after all
+/// ranges that are kept. Which of the others are kept does not depend on it.
 pub fn one_more_break_is_kept()
     ensures { KeepsOneMore }
 {}
@@ -33,7 +33,7 @@ pub fn one_more_break_is_kept()
 /// With an empty mark, hyphenating any text by this standard dictionary leaves it as it is.
 pub fn empty_mark_leaves_the_text(dictionary: &Standard)
     ensures { (text : List ℕ) → IsUtf8 text
-        → hyphenated_text (all_breaks_of (rules_of no_change plain_break dictionary.now)) [] text ≡ text }
+        → hyphenated_text (all_breaks_of (standard_rules dictionary.now)) [] text ≡ text }
 {
     dictionary.invariant();
     value_is_borne::<()>();

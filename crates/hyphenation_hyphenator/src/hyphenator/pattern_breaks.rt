@@ -10,8 +10,10 @@ ghost use Rattle.std.specs.Option.{option_map};
 ghost use Rattle.hyphenation_breaks.specs.Break.{plain_break};
 ghost use Rattle.hyphenation_trie.specs.Trie.{entries_of_key, EachBeginsKey};
 ghost use Rattle.hyphenation_score.specs.Scoring.{own_change};
-ghost use Rattle.hyphenation_hyphenator.specs.Opportunities.{is_odd, no_change, within, breaks_within, breaks_at_odd_values};
-ghost use Rattle.hyphenation_hyphenator.specs.Private.Opportunities.{borrowed_break, break_at_winner, breaks_at_winners};
+ghost use Rattle.hyphenation_hyphenator.specs.Opportunities.{is_odd, no_change, within, breaks_within};
+ghost use Rattle.hyphenation_hyphenator.specs.Opportunities.{breaks_at_odd_values, HasBreaks};
+ghost use Rattle.hyphenation_hyphenator.specs.Private.Opportunities.{borrowed_break, break_at_winner};
+ghost use Rattle.hyphenation_hyphenator.specs.Private.Opportunities.{breaks_at_winners, breaks_by_keys, odd_places};
 
 use hyphenation_breaks::entry::Entry;
 use hyphenation_breaks::extended::Subregion;
@@ -49,8 +51,7 @@ fn breaks_at_winners<'h>(
     winners: &[Option<&'h Entry<Option<Subregion>>>],
     bounds: (usize, usize),
 ) -> Result<Vec<(usize, Option<&'h Subregion>)>, AllocError>
-    ensures { IfOk result (λ v.
-        map borrowed_break v.items ≡ breaks_at_winners own_change (map option_copied winners.now) bounds) }
+    ensures { HasBreaks borrowed_break result (breaks_at_winners own_change (map option_copied winners.now) bounds) }
 {
     // Most words have a few breaks, which take memory once.
     let mut breaks = Vec::with_capacity(alloc, winners.len().min(8))?;
@@ -74,9 +75,8 @@ fn winning_breaks_with_buffer<'h>(
     requires each_begins_key { EachBeginsKey patterns.now }
     requires one_for_each_place { length winners.old ≡ length word.now - 1 }
     requires none_at_first { (i : ℕ) → i < length winners.old → slice_index_or winners.old i None ≡ None }
-    ensures { IfOk result (λ v.
-        map borrowed_break v.items
-        ≡ breaks_within (breaks_at_odd_values own_change (entries_of_key patterns.now) word.now) bounds) }
+    ensures { HasBreaks borrowed_break result
+        (breaks_by_keys own_change (entries_of_key patterns.now) word.now bounds) }
 {
     winner_has_value::<Option<Subregion>>();
     let mut count = LookUps::new();
@@ -93,9 +93,8 @@ pub(super) fn winning_breaks<'h>(
     bounds: (usize, usize),
 ) -> Result<Vec<(usize, Option<&'h Subregion>)>, AllocError>
     requires { EachBeginsKey patterns.now }
-    ensures { IfOk result (λ v.
-        map borrowed_break v.items
-        ≡ breaks_within (breaks_at_odd_values own_change (entries_of_key patterns.now) word.now) bounds) }
+    ensures { HasBreaks borrowed_break result
+        (breaks_by_keys own_change (entries_of_key patterns.now) word.now bounds) }
 {
     let places = word.len().saturating_sub(1);
     if places <= 32 {
@@ -131,9 +130,7 @@ fn odd_places(
     values: &[u8],
     bounds: (usize, usize),
 ) -> Result<Vec<usize>, AllocError>
-    ensures { IfOk result (λ v.
-        v.items ≡ filter (λ place. is_odd (slice_index values.now (place - 1)) && within bounds place)
-        (range_with_len 1 (length values.now))) }
+    ensures { IfOk result (λ v. v.items ≡ odd_places values.now bounds) }
 {
     // Places outside of the bounds are not read.
     let first = bounds.0.max(1);
@@ -164,9 +161,7 @@ fn plain_breaks_with_buffer(
     requires each_begins_key { EachBeginsKey patterns.now }
     requires one_for_each_place { length values.old ≡ length word.now - 1 }
     requires zeros_at_first { (i : ℕ) → i < length values.old → slice_index values.old i ≡ 0 }
-    ensures { IfOk result (λ v.
-        map plain_break v.items
-        ≡ breaks_within (breaks_at_odd_values no_change (entries_of_key patterns.now) word.now) bounds) }
+    ensures { HasBreaks plain_break result (breaks_by_keys no_change (entries_of_key patterns.now) word.now bounds) }
 {
     let mut count = LookUps::new();
     raise_all(patterns, word.as_bytes(), values, &mut count);
@@ -182,9 +177,7 @@ pub(super) fn plain_breaks(
     bounds: (usize, usize),
 ) -> Result<Vec<usize>, AllocError>
     requires { EachBeginsKey patterns.now }
-    ensures { IfOk result (λ v.
-        map plain_break v.items
-        ≡ breaks_within (breaks_at_odd_values no_change (entries_of_key patterns.now) word.now) bounds) }
+    ensures { HasBreaks plain_break result (breaks_by_keys no_change (entries_of_key patterns.now) word.now bounds) }
 {
     let places = word.len().saturating_sub(1);
     if places <= 64 {

@@ -13,11 +13,12 @@ ghost use Rattle.std.specs.Str.{IsAscii};
 ghost use Rattle.hyphenation_segments.specs.Fits.{Fits};
 ghost use Rattle.hyphenation_hyphenator.specs.Folding.{shifts_of};
 ghost use Rattle.hyphenation_hyphenator.specs.Fitting.{kept_breaks, fitted_breaks_of, KeepRanges};
-ghost use Rattle.hyphenation_hyphenator.specs.Private.Fitting.{range_holds_no_shift};
+ghost use Rattle.hyphenation_hyphenator.specs.Private.Fitting.{range_holds_no_shift, kept_by_shifts};
+ghost use Rattle.hyphenation_hyphenator.specs.Private.Fitting.{kept_opportunities, realigned_opportunities};
 ghost use Rattle.hyphenation_hyphenator.specs.Private.CommonLowercase.{are_common_lowercase};
-ghost use Rattle.hyphenation_hyphenator.specs.Opportunities.{rules_of, within, breaks_within, by_patterns, by_exception};
-ghost use Rattle.hyphenation_hyphenator.specs.Opportunities.{exception_within_boundaries, opportunities_in};
-ghost use Rattle.hyphenation_hyphenator.specs.Opportunities.{opportunities, Ascending};
+ghost use Rattle.hyphenation_hyphenator.specs.Opportunities.{rules_of, within, breaks_within, by_patterns};
+ghost use Rattle.hyphenation_hyphenator.specs.Opportunities.{by_exception, exception_within_boundaries, opportunities_in};
+ghost use Rattle.hyphenation_hyphenator.specs.Opportunities.{opportunities, HasBreaks, HasBreaksIfAny, Ascending};
 ghost use Rattle.hyphenation_hyphenator.specs.Private.Opportunities.{realigned_break};
 
 use super::ascii_lowercase::are_ascii_lowercase;
@@ -42,7 +43,7 @@ fn listed_within<'h, F: BreakKind<'h>>(
     listed: &'h [F::Listing],
     bounds: (usize, usize),
 ) -> Result<Vec<F>, AllocError>
-    ensures { IfOk result (λ v. map F.meaning v.items ≡ breaks_within (map F.Listing.meaning listed.now) bounds) }
+    ensures { HasBreaks F.meaning result (breaks_within (map F.Listing.meaning listed.now) bounds) }
 {
     let mut breaks = Vec::new(alloc);
     for b in listed {
@@ -58,17 +59,16 @@ fn listed_within<'h, F: BreakKind<'h>>(
 pub(crate) fn opportunities_within<'h, F: BreakKind<'h>>(
     alloc: Global,
     dictionary: &'h Dictionary<F::Payload, F::Listing>,
-    lowercase_word: &str,
+    word: &str,
     bounds: (usize, usize),
 ) -> Result<Vec<F>, AllocError>
-    ensures breaks { IfOk result (λ v.
-        map F.meaning v.items
-        ≡ by_patterns (rules_of F.Payload.change_of F.Listing.meaning dictionary.now) lowercase_word.now bounds) }
-    ensures ascend { IfOk result (λ v. Ascending lowercase_word.now (map F.meaning v.items)) }
+    ensures breaks { HasBreaks F.meaning result
+        (by_patterns (rules_of F.Payload.change_of F.Listing.meaning dictionary.now) word.now bounds) }
+    ensures ascend { IfOk result (λ v. Ascending word.now (map F.meaning v.items)) }
 {
     dictionary.invariant();
     value_is_borne::<F::Payload>();
-    F::pattern_breaks(alloc, automaton_of(dictionary), lowercase_word, bounds)
+    F::pattern_breaks(alloc, automaton_of(dictionary), word, bounds)
 }
 
 // Returns the breaks listed for a word from the first bound to the second.
@@ -76,16 +76,15 @@ pub(crate) fn opportunities_within<'h, F: BreakKind<'h>>(
 pub(crate) fn exception_within<'h, F: BreakKind<'h>>(
     alloc: Global,
     dictionary: &'h Dictionary<F::Payload, F::Listing>,
-    lowercase_word: &str,
+    word: &str,
     bounds: (usize, usize),
 ) -> Result<Option<Vec<F>>, AllocError>
-    ensures breaks { IfOk result (λ found.
-        option_map (λ v. map F.meaning v.items) found
-        ≡ by_exception (rules_of F.Payload.change_of F.Listing.meaning dictionary.now) lowercase_word.now bounds) }
-    ensures ascend { IfOk result (λ found. IfSome found (λ v. Ascending lowercase_word.now (map F.meaning v.items))) }
+    ensures breaks { HasBreaksIfAny F.meaning result
+        (by_exception (rules_of F.Payload.change_of F.Listing.meaning dictionary.now) word.now bounds) }
+    ensures ascend { IfOk result (λ found. IfSome found (λ v. Ascending word.now (map F.meaning v.items))) }
 {
     dictionary.invariant();
-    match dictionary.listed(lowercase_word) {
+    match dictionary.listed(word) {
         Some(listed) => Ok(Some(listed_within(alloc, listed, bounds)?)),
         None => Ok(None),
     }
@@ -95,16 +94,14 @@ pub(crate) fn exception_within<'h, F: BreakKind<'h>>(
 pub(crate) fn exception<'h, F: BreakKind<'h>>(
     alloc: Global,
     dictionary: &'h Dictionary<F::Payload, F::Listing>,
-    lowercase_word: &str,
+    word: &str,
 ) -> Result<Option<Vec<F>>, AllocError>
-    ensures breaks { IfOk result (λ found.
-        option_map (λ v. map F.meaning v.items) found
-        ≡ exception_within_boundaries
-        (rules_of F.Payload.change_of F.Listing.meaning dictionary.now) lowercase_word.now) }
-    ensures ascend { IfOk result (λ found. IfSome found (λ v. Ascending lowercase_word.now (map F.meaning v.items))) }
+    ensures breaks { HasBreaksIfAny F.meaning result
+        (exception_within_boundaries (rules_of F.Payload.change_of F.Listing.meaning dictionary.now) word.now) }
+    ensures ascend { IfOk result (λ found. IfSome found (λ v. Ascending word.now (map F.meaning v.items))) }
 {
-    match boundaries_of(dictionary.minima(), lowercase_word) {
-        Some(bounds) => exception_within(alloc, dictionary, lowercase_word, bounds),
+    match boundaries_of(dictionary.minima(), word) {
+        Some(bounds) => exception_within(alloc, dictionary, word, bounds),
         None => Ok(None),
     }
 }
@@ -117,18 +114,17 @@ pub(crate) fn exception<'h, F: BreakKind<'h>>(
 fn opportunities_in<'h, F: BreakKind<'h>>(
     alloc: Global,
     dictionary: &'h Dictionary<F::Payload, F::Listing>,
-    lowercase_word: &str,
+    word: &str,
     bounds: (usize, usize),
 ) -> Result<Vec<F>, AllocError>
-    ensures breaks { IfOk result (λ v.
-        map F.meaning v.items
-        ≡ opportunities_in (rules_of F.Payload.change_of F.Listing.meaning dictionary.now) lowercase_word.now bounds) }
-    ensures ascend { IfOk result (λ v. Ascending lowercase_word.now (map F.meaning v.items)) }
+    ensures breaks { HasBreaks F.meaning result
+        (opportunities_in (rules_of F.Payload.change_of F.Listing.meaning dictionary.now) word.now bounds) }
+    ensures ascend { IfOk result (λ v. Ascending word.now (map F.meaning v.items)) }
 {
     dictionary.invariant();
-    match dictionary.listed(lowercase_word) {
+    match dictionary.listed(word) {
         Some(listed) => listed_within(alloc, listed, bounds),
-        None => opportunities_within(alloc, dictionary, lowercase_word, bounds),
+        None => opportunities_within(alloc, dictionary, word, bounds),
     }
 }
 
@@ -138,17 +134,16 @@ fn opportunities_in<'h, F: BreakKind<'h>>(
 pub(crate) fn opportunities<'h, F: BreakKind<'h>>(
     alloc: Global,
     dictionary: &'h Dictionary<F::Payload, F::Listing>,
-    lowercase_word: &str,
+    word: &str,
 ) -> Result<Vec<F>, AllocError>
-    ensures breaks { IfOk result (λ v.
-        map F.meaning v.items
-        ≡ opportunities (rules_of F.Payload.change_of F.Listing.meaning dictionary.now) lowercase_word.now) }
-    ensures ascend { IfOk result (λ v. Ascending lowercase_word.now (map F.meaning v.items)) }
+    ensures breaks { HasBreaks F.meaning result
+        (opportunities (rules_of F.Payload.change_of F.Listing.meaning dictionary.now) word.now) }
+    ensures ascend { IfOk result (λ v. Ascending word.now (map F.meaning v.items)) }
 {
-    let Some(bounds) = boundaries_of(dictionary.minima(), lowercase_word) else {
+    let Some(bounds) = boundaries_of(dictionary.minima(), word) else {
         return Ok(Vec::new(alloc));
     };
-    opportunities_in(alloc, dictionary, lowercase_word, bounds)
+    opportunities_in(alloc, dictionary, word, bounds)
 }
 
 // Carries each break of a folded word back to the word as written. The shifts are sorted by their indices.
@@ -167,19 +162,17 @@ pub(crate) fn realign_all<'h, F: BreakKind<'h>>(breaks: &mut [F], shifts: &[Shif
 fn breaks_of_folded_ascii<'h, F: BreakKind<'h>>(
     alloc: Global,
     dictionary: &'h Dictionary<F::Payload, F::Listing>,
-    lowercase_word: &str,
+    folded: &str,
 ) -> Result<Vec<F>, AllocError>
-    requires ascii { IsAscii lowercase_word.now }
-    ensures { IfOk result (λ v.
-        map F.meaning v.items
-        ≡ kept_breaks (range_holds_no_shift (length lowercase_word.now) [])
-        (opportunities (rules_of F.Payload.change_of F.Listing.meaning dictionary.now) lowercase_word.now)) }
+    requires ascii { IsAscii folded.now }
+    ensures { HasBreaks F.meaning result
+        (kept_opportunities (rules_of F.Payload.change_of F.Listing.meaning dictionary.now) folded.now []) }
 {
-    let Some(bounds) = boundaries_of_ascii(dictionary.minima(), lowercase_word) else {
+    let Some(bounds) = boundaries_of_ascii(dictionary.minima(), folded) else {
         return Ok(Vec::new(alloc));
     };
-    let found = opportunities_in(alloc, dictionary, lowercase_word, bounds)?;
-    F::keep_fitting(alloc, lowercase_word, &[], found)
+    let found = opportunities_in(alloc, dictionary, folded, bounds)?;
+    F::keep_fitting(alloc, folded, &[], found)
 }
 
 // Does nothing. Its contract is a law: a word of the letters a to z is ASCII.
@@ -197,9 +190,8 @@ fn breaks_of_ascii_lowercase<'h, F: BreakKind<'h>>(
     word: &str,
 ) -> Result<Vec<F>, AllocError>
     requires { list_all is_ascii_lowercase word.now ≡ true }
-    ensures { IfOk result (λ v.
-        map F.meaning v.items
-        ≡ fitted_breaks_of (rules_of F.Payload.change_of F.Listing.meaning dictionary.now) word.now) }
+    ensures { HasBreaks F.meaning result
+        (fitted_breaks_of (rules_of F.Payload.change_of F.Listing.meaning dictionary.now) word.now) }
 {
     dictionary.invariant();
     value_is_borne::<F::Payload>();
@@ -216,9 +208,8 @@ fn breaks_of_ascii<'h, F: BreakKind<'h>>(
 ) -> Result<Vec<F>, AllocError>
     requires ascii { IsAscii word.now }
     requires short { length word.now ≤ 64 }
-    ensures { IfOk result (λ v.
-        map F.meaning v.items
-        ≡ fitted_breaks_of (rules_of F.Payload.change_of F.Listing.meaning dictionary.now) word.now) }
+    ensures { HasBreaks F.meaning result
+        (fitted_breaks_of (rules_of F.Payload.change_of F.Listing.meaning dictionary.now) word.now) }
 {
     dictionary.invariant();
     value_is_borne::<F::Payload>();
@@ -238,9 +229,8 @@ fn breaks_of_common_lowercase<'h, F: BreakKind<'h>>(
     word: &str,
 ) -> Result<Vec<F>, AllocError>
     requires { are_common_lowercase word.now ≡ true }
-    ensures { IfOk result (λ v.
-        map F.meaning v.items
-        ≡ fitted_breaks_of (rules_of F.Payload.change_of F.Listing.meaning dictionary.now) word.now) }
+    ensures { HasBreaks F.meaning result
+        (fitted_breaks_of (rules_of F.Payload.change_of F.Listing.meaning dictionary.now) word.now) }
 {
     let found = opportunities(alloc, dictionary, word)?;
     F::keep_fitting(alloc, word, &[], found)
@@ -253,9 +243,8 @@ fn folded_opportunities<'h, F: BreakKind<'h>>(
     dictionary: &'h Dictionary<F::Payload, F::Listing>,
     folded: &str,
 ) -> Result<Vec<F>, AllocError>
-    ensures breaks { IfOk result (λ v.
-        map F.meaning v.items
-        ≡ opportunities (rules_of F.Payload.change_of F.Listing.meaning dictionary.now) folded.now) }
+    ensures breaks { HasBreaks F.meaning result
+        (opportunities (rules_of F.Payload.change_of F.Listing.meaning dictionary.now) folded.now) }
     ensures ascend { IfOk result (λ v. Ascending folded.now (map F.meaning v.items)) }
 {
     opportunities(alloc, dictionary, folded)
@@ -270,10 +259,8 @@ fn breaks_of_folded<'h, F: BreakKind<'h>>(
     shifts: &[Shift],
 ) -> Result<Vec<F>, AllocError>
     requires shifts_sorted { IsNonDecreasingBy (λ shift. shift.index) shifts.now }
-    ensures { IfOk result (λ v.
-        map F.meaning v.items
-        ≡ map (realigned_break shifts.now) (kept_breaks (range_holds_no_shift (length folded.now) shifts.now)
-        (opportunities (rules_of F.Payload.change_of F.Listing.meaning dictionary.now) folded.now))) }
+    ensures { HasBreaks F.meaning result (realigned_opportunities
+        (rules_of F.Payload.change_of F.Listing.meaning dictionary.now) folded.now shifts.now) }
 {
     let found = folded_opportunities(alloc, dictionary, folded)?;
     let mut breaks = F::keep_fitting(alloc, folded, shifts, found)?;
@@ -295,9 +282,8 @@ fn breaks_of_any<'h, F: BreakKind<'h>>(
     dictionary: &'h Dictionary<F::Payload, F::Listing>,
     word: &str,
 ) -> Result<Vec<F>, AllocError>
-    ensures { IfOk result (λ v.
-        map F.meaning v.items
-        ≡ fitted_breaks_of (rules_of F.Payload.change_of F.Listing.meaning dictionary.now) word.now) }
+    ensures { HasBreaks F.meaning result
+        (fitted_breaks_of (rules_of F.Payload.change_of F.Listing.meaning dictionary.now) word.now) }
 {
     dictionary.invariant();
     value_is_borne::<F::Payload>();
@@ -321,9 +307,8 @@ fn breaks_by_path<'h, F: BreakKind<'h>>(
     dictionary: &'h Dictionary<F::Payload, F::Listing>,
     word: &str,
 ) -> Result<Vec<F>, AllocError>
-    ensures { IfOk result (λ v.
-        map F.meaning v.items
-        ≡ fitted_breaks_of (rules_of F.Payload.change_of F.Listing.meaning dictionary.now) word.now) }
+    ensures { HasBreaks F.meaning result
+        (fitted_breaks_of (rules_of F.Payload.change_of F.Listing.meaning dictionary.now) word.now) }
 {
     if are_ascii_lowercase(word.as_bytes()) {
         breaks_of_ascii_lowercase(alloc, dictionary, word)
@@ -343,9 +328,8 @@ pub(crate) fn breaks<'h, F: BreakKind<'h>>(
     dictionary: &'h Dictionary<F::Payload, F::Listing>,
     word: &str,
 ) -> Result<Vec<F>, AllocError>
-    ensures breaks { IfOk result (λ v.
-        map F.meaning v.items
-        ≡ fitted_breaks_of (rules_of F.Payload.change_of F.Listing.meaning dictionary.now) word.now) }
+    ensures breaks { HasBreaks F.meaning result
+        (fitted_breaks_of (rules_of F.Payload.change_of F.Listing.meaning dictionary.now) word.now) }
     ensures fits { IfOk result (λ v. Fits word.now (map F.meaning v.items)) }
     ensures ranges { OnOk result (KeepRanges (rules_of F.Payload.change_of F.Listing.meaning dictionary.now) word.now) }
 {

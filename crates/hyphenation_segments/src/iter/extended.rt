@@ -168,7 +168,8 @@ impl<'t, I: Breaks> Texts for SegmentsExt<'t, I> {
 
     /// Returns the next segment, as `next` does, in a type whose text can be borrowed.
     fn pull(&mut self) -> Option<MadeSegment<'t>>
-        ensures takes_first { TakesFirstOrRefuses (λ item. text_if_made item.segment) (λ s. map (λ made. made.0) s) self.old
+        ensures takes_first { TakesFirstOrRefuses (λ item. text_if_made item.segment)
+            (λ s. map (λ made. made.0) s) self.old
             result self.new }
         ensures as_next { YieldsMade self.old (option_map (λ item. item.segment) result) self.new }
     {

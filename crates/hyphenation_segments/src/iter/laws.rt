@@ -2,7 +2,8 @@
 //!
 //! Each function does nothing, and its contract is one law.
 
-ghost use Rattle.hyphenation_segments.specs.Laws.{IsGivenByNeighbours, AreOneMoreThanBreaks, JoinsToText, JoinsToMarkedText, MadeAreSegments, ListedWhereEachFits};
+ghost use Rattle.hyphenation_segments.specs.Laws.{IsGivenByNeighbours, AreOneMoreThanBreaks, JoinsToText};
+ghost use Rattle.hyphenation_segments.specs.Laws.{JoinsToMarkedText, MadeAreSegments, ListedWhereEachFits};
 
 use hyphenation_breaks::breaks::Break;
 use hyphenation_breaks::laws::{boundary_is_of_chars, listed_in_order};
@@ -32,8 +33,8 @@ pub fn made_segments_are_segments()
     ensures { MadeAreSegments }
 {}
 
-/// Breaks may be listed for a word exactly where their places ascend strictly on its character boundaries, and each
-/// range lies in the word on character boundaries.
+/// Breaks may be listed for a word exactly where their places ascend strictly, and each place and range lies in it on
+/// character boundaries.
 ///
 /// Ranges may overlap. All else that `Dictionary::fits` tests is true of every word and every break.
 pub fn listed_where_each_fits<B: Break>()

@@ -8,7 +8,7 @@ ghost use Rattle.std.specs.Str.{IsCharBoundary};
 ghost use Rattle.std.specs.String.{string_bytes};
 ghost use Rattle.hyphenation_breaks.specs.Break.{begin_of, end_of, before_of, after_of};
 ghost use Rattle.hyphenation_segments.specs.Fits.{Fits, BreakFitsAfter};
-ghost use Rattle.hyphenation_segments.specs.Segments.{marked_word};
+ghost use Rattle.hyphenation_segments.specs.Segments.{through_break, marked_word};
 
 use crate::words::Word;
 use hyphenation_breaks::breaks::Break;
@@ -25,9 +25,8 @@ fn push_break<B: Break>(
 ) -> Result<usize, AllocError>
     requires start { IsCharBoundary text.now start }
     requires fits_after { BreakFitsAfter text.now start 0 (B.meaning b.now) }
-    ensures appended { OnOk result (string_bytes output.new ≡ string_bytes output.old ++ slice_range text.now start
-        (begin_of (B.meaning b.now)) ++ before_of (B.meaning b.now).change ++ mark.now ++ after_of (B.meaning
-        b.now).change) }
+    ensures appended { OnOk result (string_bytes output.new
+        ≡ string_bytes output.old ++ through_break mark.now text.now start (B.meaning b.now)) }
     ensures range_end { IfOk result (λ end. end ≡ end_of (B.meaning b.now)) }
     ensures begins_as_before { StartsWith (string_bytes output.new) (string_bytes output.old) }
 {
@@ -47,8 +46,8 @@ fn push_segments<B: Break>(
     mark: &str,
 ) -> Result<(), AllocError>
     requires { Fits text.now (map B.meaning breaks.now) }
-    ensures appended { OnOk result (string_bytes output.new ≡ string_bytes output.old ++ marked_word mark.now text.now
-        (map B.meaning breaks.now)) }
+    ensures appended { OnOk result (string_bytes output.new
+        ≡ string_bytes output.old ++ marked_word mark.now text.now (map B.meaning breaks.now)) }
     ensures begins_as_before { StartsWith (string_bytes output.new) (string_bytes output.old) }
 {
     let mut start = 0;
@@ -71,8 +70,8 @@ pub fn push_marked<B: Break>(
     word: &Word<'_, B>,
     mark: &str,
 ) -> Result<(), AllocError>
-    ensures appended { OnOk result (string_bytes output.new ≡ string_bytes output.old ++ marked_word
-        mark.now word.now.text.now (map B.meaning word.now.breaks.items)) }
+    ensures adds { OnOk result (string_bytes output.new
+        ≡ string_bytes output.old ++ marked_word mark.now word.now.text.now (map B.meaning word.now.breaks.items)) }
     ensures unchanged_on_error { OnErr result (string_bytes output.new ≡ string_bytes output.old) }
 {
     let before = output.len();

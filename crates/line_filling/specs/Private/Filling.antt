@@ -1,6 +1,7 @@
 -- The state of filling lines: how far it has come.
-use Rattle.std.specs.Prelude.{ℕ, ◌==◌, ◌||◌, nat_lt, Bool, List, [], ◌∷◌, ◌++◌, if◌then◌else◌}
-use Rattle.line_filling.specs.Cuts.{cuts_after}
+use Rattle.std.specs.Prelude.{◌≡◌, ℕ, ◌<◌, ◌==◌, ◌||◌, nat_lt, Bool, false, List, [], ◌∷◌, ◌++◌, if◌then◌else◌}
+use Rattle.hyphenation_breaks.specs.Break.{Break}
+use Rattle.line_filling.specs.Cuts.{word_breaks, is_cut, cuts_after}
 use Rattle.line_filling.specs.Ends.{ends}
 use Rattle.line_filling.specs.Lines.{line, fits, lines_to}
 
@@ -26,3 +27,8 @@ remaining_ends fits start end cs = if nat_lt start end then ends fits start (end
 abbrev pub all_lines : List ℕ → ℕ → List ℕ → FillState → List (List ℕ)
 all_lines text columns breaks s =
     s.done ++ lines_to text s.start (remaining_ends (fits text columns) s.start s.end (cuts_after text breaks s.end))
+
+-- The text has no cut after a place and before another, by the breaks of words.
+abbrev pub HasNoCutWithin : (List ℕ → List Break) → List ℕ → ℕ → ℕ → Type 0
+HasNoCutWithin breaks_of text from until =
+    (p : ℕ) → from < p → p < until → is_cut text (word_breaks breaks_of text) p ≡ false

@@ -3,7 +3,9 @@ use Rattle.std.specs.Prelude.{◌≡◌, ℕ, ◌≤◌, List, length, map, char
 use Rattle.std.specs.Str.{IsCharBoundary}
 use Rattle.std.specs.String.{string_bytes}
 use Rattle.std.specs.declared.string.String.{String}
-use Rattle.line_filling.specs.Private.Filling.{FillState}
+use Rattle.hyphenation_breaks.specs.Break.{Break}
+use Rattle.line_filling.specs.Cuts.{word_breaks}
+use Rattle.line_filling.specs.Private.Filling.{FillState, all_lines}
 use Rattle.line_filling.specs.declared.filling.OpenLine.{OpenLine}
 
 -- The line lies in the text, and its width is the number of its characters.
@@ -16,3 +18,10 @@ pub record IsOpenLine (text : List ℕ) (open_line : OpenLine) : Type 0 where
 -- The state that the line and the lines that are done stand for.
 abbrev pub state_of : {Z : Type 0} → OpenLine → List (String Z) → FillState
 state_of open_line done = record { start = open_line.start; end = open_line.end; done = map string_bytes done }
+
+-- All lines, done and to come, stay the same, by the breaks of words.
+abbrev pub KeepsLines : {Z : Type 0} → (List ℕ → List Break) → List ℕ → ℕ → OpenLine → List (String Z) → OpenLine
+    → List (String Z) → Type 0
+KeepsLines breaks_of text columns old_line old_done new_line new_done =
+    all_lines text columns (word_breaks breaks_of text) (state_of new_line new_done)
+    ≡ all_lines text columns (word_breaks breaks_of text) (state_of old_line old_done)

@@ -1,5 +1,5 @@
 -- The breaks of a text's words that are to come.
-use Rattle.std.specs.Prelude.{◌≡◌, ℕ, ◌+◌, ◌<◌, ◌≤◌, ◌^◌, nat_lt, false, IsTrue, List, [], ◌∷◌, ◌++◌, length, map, drop, Option, Some, None, if◌then◌else◌}
+use Rattle.std.specs.Prelude.{◌≡◌, ℕ, ◌+◌, ◌<◌, ◌≤◌, ◌^◌, nat_lt, false, IsTrue, List, [], ◌∷◌, ◌++◌, length, map, drop, Option, Some, None, MatchOption, if◌then◌else◌}
 use Rattle.std.specs.Borrow.{Bor}
 use Rattle.std.specs.List.{flat_map}
 use Rattle.hyphenation_breaks.specs.Break.{Break}
@@ -65,6 +65,15 @@ pub record IsFirstAfter (places : List ℕ) (from place : ℕ) : Type 0 where
   pub after : from < place
   pub among : IsTrue (is_one_of place places)
   pub first : NoneWithin places from place
+
+-- The result of a search for the first of the places that is after `from`: one of them, or none before `until`.
+abbrev pub FindsFirstAfter : List ℕ → ℕ → ℕ → Option ℕ → Type 0
+FindsFirstAfter places from until first = MatchOption first (NoneWithin places from until) (IsFirstAfter places from)
+
+-- The breaks to come after a place stay the same.
+abbrev pub KeepsBreaksAfter : (List ℕ → List Break) → ℕ → WordBreaks → WordBreaks → Type 0
+KeepsBreaksAfter breaks_of from old new =
+    (p : ℕ) → from < p → is_one_of p (remaining_breaks breaks_of new) ≡ is_one_of p (remaining_breaks breaks_of old)
 
 -- The breaks to come are in order, and after a place they are the breaks of a text's words.
 pub record HasBreaksAfter (breaks_of : List ℕ → List Break) (text : List ℕ) (from : ℕ) (b : WordBreaks) : Type 0 where

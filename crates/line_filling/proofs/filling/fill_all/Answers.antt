@@ -7,7 +7,7 @@ use Rattle.line_filling.specs.Lines.{lines}
 use Rattle.line_filling.specs.Private.Filling.{FillState, state_after_cut, all_lines}
 use Rattle.line_filling.specs.Private.OpenLine.{state_of}
 use Rattle.line_filling.specs.Private.WordBreaks.{HasBreaksAfter}
-use Rattle.line_filling.proofs.FillWalk.{IsState, passing_end, passing_owed, skipping_owed}
+use Rattle.line_filling.proofs.FillWalk.{IsState, passing_end, passing_lines, skipping_lines}
 use Rattle.line_filling.proofs.TextBreaks.{at_start, after_later, sound, plain_boundary}
 use Rattle.line_filling.proofs.Widths.{fits_plain}
 use Rattle.line_filling.proofs.filling.fill_all.Goals as goal
@@ -38,7 +38,7 @@ loop-current-preserved-then-width-columns g c =
     let fit = fits_plain text c.args.columns c.loop-current.current.start next c.count_characters_to-width.result c.utf8.text (omega (arith, before.line.order, c.next_plain_cut-next.ensures.after)) before.line.start at c.count_characters_to-width.ensures c.next_plain_cut-next.ensures.plain c.if-width-columns.true in
     let cut : is_cut text breaks next ≡ true = or_left (is_plain text next) (is_one_of next breaks) c.next_plain_cut-next.ensures.plain in
     record {
-      all = skipping_owed text c.args.columns breaks s next is c.next_plain_cut-next.ensures.after c.next_plain_cut-next.ensures.within cut fit ∙ before.all;
+      all = skipping_lines text c.args.columns breaks s next is c.next_plain_cut-next.ensures.after c.next_plain_cut-next.ensures.within cut fit ∙ before.all;
       line = record { order = omega (arith, before.line.order, c.next_plain_cut-next.ensures.after); start = before.line.start; end = at; width = c.count_characters_to-width.ensures };
       breaks = after_later breaks_of text c.loop-current.current.end next c.loop-current.breaks (omega (arith, c.next_plain_cut-next.ensures.after)) before.breaks;
     }
@@ -61,7 +61,7 @@ loop-current-preserved g c =
     let cut : is_cut text breaks next ≡ true = or_left (is_plain text next) (is_one_of next breaks) c.next_plain_cut-next.ensures.plain in
     let then : state_of c.in_ok-current.current c.pass_cut.new.lines.items ≡ state_after_cut text columns t next = c.in_ok-current.ensures.state in
     let reached : c.in_ok-current.current.end ≡ next = ap (λ (v : FillState). v.end) then ∙ passing_end text columns t next in
-    let goes = passing_owed text columns breaks t next (sound breaks_of text c.plain_breaks_fit_where_ascending.ensures c.utf8.text c.requires.ascend) is passed.ensures.before cut (λ p l u h. false≢true (sym (passed.ensures.passed p l u) ∙ h)) in
+    let goes = passing_lines text columns breaks t next (sound breaks_of text c.plain_breaks_fit_where_ascending.ensures c.utf8.text c.requires.ascend) is passed.ensures.before cut (λ p l u h. false≢true (sym (passed.ensures.passed p l u) ∙ h)) in
     record {
       all = ap (all_lines text columns breaks) then ∙ goes ∙ passed.ensures.same ∙ before.all;
       line = c.in_ok-current.ensures.open_line;

@@ -5,7 +5,7 @@ use Rattle.line_filling.specs.Cuts.{word_breaks, is_one_of, is_plain, is_cut}
 use Rattle.line_filling.specs.Private.Filling.{FillState, state_after_cut, all_lines}
 use Rattle.line_filling.specs.Private.OpenLine.{state_of}
 use Rattle.line_filling.specs.Private.WordBreaks.{remaining_breaks}
-use Rattle.line_filling.proofs.FillWalk.{IsState, or_from_false, cut_boundary, passing_end, passing_owed}
+use Rattle.line_filling.proofs.FillWalk.{IsState, or_from_false, cut_boundary, passing_end, passing_lines}
 use Rattle.line_filling.proofs.TextBreaks.{sound}
 use Rattle.line_filling.proofs.filling.pass_breaks.Goals as goal
 
@@ -35,7 +35,7 @@ loop-place-preserved g c =
     let is : IsState text s = record { order = before.line.order; start = before.line.start; end = before.line.end } in
     let then : state_of c.in_ok-current.current c.pass_cut.new.lines.items ≡ state_after_cut text columns s place = c.in_ok-current.ensures.state in
     let reached : c.in_ok-current.current.end ≡ place = ap (λ (v : FillState). v.end) then ∙ passing_end text columns s place in
-    let goes = passing_owed text columns breaks s place (sound breaks_of text c.plain_breaks_fit_where_ascending.ensures c.utf8.text c.requires.ascend) is found.after cut
+    let goes = passing_lines text columns breaks s place (sound breaks_of text c.plain_breaks_fit_where_ascending.ensures c.utf8.text c.requires.ascend) is found.after cut
     (λ p l u h. false≢true (sym (or_from_false (is_plain text p) (is_one_of p breaks) (c.requires.no_plain_cut p (omega (arith, before.onward)) (omega (arith, c.if-until-place.false))) (same p l ∙ found.first p l u)) ∙ h)) in
     record {
       same = ap (all_lines text columns breaks) then ∙ goes ∙ before.same;
