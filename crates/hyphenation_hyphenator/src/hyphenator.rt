@@ -137,7 +137,9 @@ pub trait Hyphenator<'h> {
     /// let mut places = Vec::new(alloc);
     /// places.push(3)?;
     /// let word = String::from_str(alloc, "present")?;
-    /// let before = dictionary.add_exception(word, places)?;      // None, or the breaks listed before
+    /// if Standard::fits("present", &places) {
+    ///     let before = dictionary.add_exception(word, places)?;      // None, or the breaks listed before
+    /// }
     /// ```
     fn add_exception(
         &mut self,
@@ -174,9 +176,9 @@ pub trait Hyphenator<'h> {
     /// A word with soft hyphens is broken where they begin, and nowhere else. Any other word is folded to lowercase.
     /// Each break of the folded word is carried back to the place with as many characters before it.
     ///
-    /// An extended dictionary leaves out a break whose range lies outside of the folded word, or begins before the end
-    /// of a range that is kept. It leaves out one whose range holds a character whose number of bytes the folding
-    /// changed. The other changes apply to the same letters of the word as written.
+    /// An extended dictionary leaves out a break whose range lies outside of the folded word, or begins before a kept
+    /// range ends. It leaves out one whose range holds a character whose number of bytes the folding changed. The other
+    /// changes apply to the same letters of the word as written.
     ///
     /// ```text
     /// let word = dictionary.hyphenate(alloc, "Hyphenation")?;      // word.breaks: 2, 6, 7

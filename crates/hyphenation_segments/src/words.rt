@@ -25,9 +25,10 @@ impl<'t, B: Break> Word<'t, B> {
     /// The breaks must fit; [`Word::fits`] tests that.
     ///
     /// ```text
-    /// let word = Word::new("hyphenation", breaks);      // breaks: 2, 6, 7
-    /// for segment in word {                             // hy-  phen-  a-  tion
-    ///     line.push_str(segment?.as_str())?;
+    /// if Word::fits("hyphenation", &breaks) {                    // breaks: 2, 6, 7
+    ///     for segment in Word::new("hyphenation", breaks) {      // hy-  phen-  a-  tion
+    ///         line.push_str(segment?.as_str())?;
+    ///     }
     /// }
     /// ```
     pub fn new(text: &'t str, breaks: Vec<B>) -> Word<'t, B>

@@ -42,7 +42,9 @@ impl<'t, I: Breaks<Item = usize>> Segments<'t, I> {
     ///
     /// ```text
     /// let places = [2usize, 6, 7];
-    /// let segments = Segments::new("hyphenation", places.iter().copied());      // hy  phen  a  tion
+    /// if Word::fits("hyphenation", &places) {
+    ///     let segments = Segments::new("hyphenation", places.iter().copied());      // hy  phen  a  tion
+    /// }
     /// ```
     pub fn new(text: &'t str, breaks: I) -> Segments<'t, I>
         requires { Fits text.now (I.to_come breaks) }
