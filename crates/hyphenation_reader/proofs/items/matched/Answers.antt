@@ -5,7 +5,7 @@ use Rattle.hyphenation_reader.proofs.items.matched.Goals as goal
 
 pub loop-value-preserved : goal.loop-value-preserved
 loop-value-preserved g c =
-    let pushed = subst (λ (place : ℕ). c.push.new.self.items ≡ c.loop-value.entries.items ++ record { place = place; value = (get_or c.args.values.now c.loop-value.value-index (0, 0)).1; change = c.from_change.result } ∷ []) c.in_ok-place.ensures.held c.in_ok-push.ensures.items in
+    let pushed = subst (λ (place : ℕ). c.push.new.self.items ≡ c.loop-value.entries.items ++ record { place = place; value = (get_or c.args.values.now c.loop-value.value-index (0, 0)).1; change = c.from_change.result } ∷ []) c.in_ok-place.ensures.same_number c.in_ok-push.ensures.items in
     let on = goes_on g.C.Payload.payload_of c.loop-value.entries.items c.push.new.self.items c.args.values.now c.loop-value.value-index (pending c.loop-value.next c.loop-value.rest.rest.items)
     (pending c.take_change_at-change.new.next c.take_change_at-change.new.rest.rest.items) c.take_change_at-change.result c.from_change.result c.loop-value-test.true pushed c.from_change.ensures c.take_change_at-change.ensures.taken c.take_change_at-change.ensures.left in
     record { made = on.0 ∙ c.loop-value.invariant.made; left = on.1 ∙ c.loop-value.invariant.left }
