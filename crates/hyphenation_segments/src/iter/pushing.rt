@@ -23,7 +23,7 @@ fn push_break<B: Break>(
     b: &B,
     mark: &str,
 ) -> Result<usize, AllocError>
-    requires start { IsCharBoundary text.now start }
+    requires start_at_character { IsCharBoundary text.now start }
     requires fits_after { BreakFitsAfter text.now start 0 (B.meaning b.now) }
     ensures appended { OnOk result (string_bytes output.new
         ≡ string_bytes output.old ++ through_break mark.now text.now start (B.meaning b.now)) }
