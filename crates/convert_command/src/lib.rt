@@ -19,11 +19,11 @@ use hyphenation_breaks::extended::Subregion;
 use hyphenation_grammar::form::Kind;
 use hyphenation_load::{Error, Load};
 use pattern_files::convert::{Converted, convert_with_notes};
-use pattern_files::fault::Refusal;
+use pattern_files::errors::ConvertError;
 use pattern_files::group::{File, Form};
+use pattern_files::head_minima::minima_for;
 use pattern_files::libreoffice::convert_dic;
 use pattern_files::notes::Note;
-use pattern_files::told::minima_for;
 use request::{Misfit, Request, Sort, form_of};
 use std::alloc::{AllocError, Global};
 use std::fs::Files;
@@ -43,7 +43,7 @@ enum Failure {
     /// A file, counted from 0, can't be opened or read.
     Reading(usize, io::Error),
     /// A file can't be understood.
-    Refused(Refusal),
+    Refused(ConvertError),
     /// No minima were given, and no file says them.
     Minima,
     /// The result can't be written.
@@ -62,13 +62,13 @@ impl From<AllocError> for Failure {
     }
 }
 
-impl From<Refusal> for Failure {
+impl From<ConvertError> for Failure {
     ghost use Rattle.std.specs.Prelude.{◌≡◌};
     ghost use Rattle.convert_command.specs.declared.Failure.TheVariants.{Refused};
 
     ghost from_gives = { λ refusal result. result ≡ Refused refusal };
 
-    fn from(refusal: Refusal) -> Failure {
+    fn from(refusal: ConvertError) -> Failure {
         Failure::Refused(refusal)
     }
 }
@@ -223,11 +223,11 @@ fn report_notes<E: Write>(alloc: Global, paths: &[&str], notes: &[Note], faults:
     for note in notes {
         let path = paths.get(note.first.file).copied().unwrap_or("");
         let line = note.first.line;
-        let what = note.what;
+        let kind = note.kind;
         let times = note.times;
         tell(
             alloc,
-            &format_args!("hyphenate-convert: {path}:{line}: note: {what} ({times})\n"),
+            &format_args!("hyphenate-convert: {path}:{line}: note: {kind} ({times})\n"),
             faults,
         );
     }
@@ -257,7 +257,7 @@ fn report<E: Write>(alloc: Global, paths: &[&str], failure: &Failure, faults: &m
             );
             3
         }
-        Failure::Refused(Refusal::Fault { file, line, cause }) => {
+        Failure::Refused(ConvertError::Fault { file, line, cause }) => {
             let path = paths.get(*file).copied().unwrap_or("");
             tell(
                 alloc,
@@ -276,7 +276,7 @@ fn report<E: Write>(alloc: Global, paths: &[&str], failure: &Failure, faults: &m
             let _ = faults.write_all(b"hyphenate-convert: the result can't be written\n");
             5
         }
-        Failure::Refused(Refusal::Memory) => report_memory(faults),
+        Failure::Refused(ConvertError::Memory) => report_memory(faults),
         Failure::Memory => report_memory(faults),
     }
 }

@@ -1,0 +1,245 @@
+//! What the lines of LibreOffice's files say.
+
+ghost use Rattle.std.specs.Prelude.{◌≡◌, ◌^◌, ◌<◌, ◌==◌, ◌++◌, map, option_map, IfOk, None};
+ghost use Rattle.std.specs.List.{slice_split};
+ghost use Rattle.std.specs.Str.{trim_end};
+ghost use Rattle.libreoffice_files.specs.LibreOfficeLines.{split_at_byte, number_below, kind_of_word, is_ignored, word_and_rest, text_by_kind, read_line, lines_from, lines_in, set_by, with_line, settings_of, nothing_set, minimum_value, minimum_set, minimum_of, cause_of_kind, line_fault};
+ghost use Rattle.libreoffice_files.specs.Private.Views.{line_view, settings_view};
+
+use pattern_results::errors::FileCause;
+use std::alloc::{AllocError, Global};
+
+/// What a line is.
+#[derive(Clone, Copy)]
+pub(crate) enum Kind {
+    /// An empty line, or a comment.
+    Nothing,
+    /// LEFTHYPHENMIN.
+    Left,
+    /// RIGHTHYPHENMIN.
+    Right,
+    /// NEXTLEVEL: the second level begins.
+    Level,
+    NoHyphen,
+    /// A setting that a dictionary text can't say.
+    Other,
+    Pattern,
+}
+
+/// A line, by its number: what it is, and what it says. A setting says what stands after its name, a pattern the whole
+/// line.
+#[derive(Clone, Copy)]
+pub(crate) struct Line<'a> {
+    pub number: usize,
+    pub kind: Kind,
+    pub text: &'a str,
+}
+
+/// What stands before the first such character of a text, and after it, where the text has one.
+pub(crate) fn split_at_byte(text: &str, mark: char) -> Option<(&str, &str)>
+    requires { mark < 128 }
+    ensures { option_map (λ parts. (parts.0.now, parts.1.now)) result ≡ split_at_byte mark text.now }
+{
+    text.split_once(mark)
+}
+
+/// The number that a text writes, if it is below 2^8.
+pub(crate) fn small_number(text: &str) -> Option<u8>
+    ensures { result ≡ number_below 256 text.now }
+{
+    text.parse::<u8>().ok()
+}
+
+/// The number that a text writes, if it is below 2^64.
+pub(crate) fn number(text: &str) -> Option<usize>
+    ensures { result ≡ number_below (2 ^ 64) text.now }
+{
+    text.parse::<usize>().ok()
+}
+
+/// What the first word of a line makes of it.
+fn kind_of_word(word: &str) -> Kind
+    ensures { result ≡ kind_of_word word.now }
+{
+    match word {
+        "LEFTHYPHENMIN" => Kind::Left,
+        "RIGHTHYPHENMIN" => Kind::Right,
+        "NOHYPHEN" => Kind::NoHyphen,
+        "NEXTLEVEL" => Kind::Level,
+        "COMPOUNDLEFTHYPHENMIN" | "COMPOUNDRIGHTHYPHENMIN" => Kind::Other,
+        _ => Kind::Pattern,
+    }
+}
+
+/// Whether a line is empty or a comment.
+fn is_ignored(line: &str) -> bool
+    ensures { result ≡ is_ignored line.now }
+{
+    match line.as_bytes() {
+        [] => true,
+        [first, ..] => *first == b'%' || *first == b'#',
+    }
+}
+
+/// The first word of a line, up to a space, and what stands after it.
+fn word_and_rest(line: &str) -> (&str, &str)
+    ensures { (result.0.now, result.1.now) ≡ word_and_rest line.now }
+{
+    match split_at_byte(line, ' ') {
+        Some(parts) => parts,
+        None => (line, ""),
+    }
+}
+
+/// What a line of such a kind says: a pattern the whole line, a setting what stands after its name.
+fn text_by_kind<'a>(kind: Kind, line: &'a str, rest: &'a str) -> &'a str
+    ensures { result.now ≡ text_by_kind kind line.now rest.now }
+{
+    match kind {
+        Kind::Pattern => line,
+        _ => rest,
+    }
+}
+
+/// What a line says that has no white space at its end.
+pub(crate) fn line_of(number: usize, line: &str) -> Line<'_>
+    ensures { line_view result ≡ read_line number line.now }
+{
+    if is_ignored(line) {
+        return Line {
+            number,
+            kind: Kind::Nothing,
+            text: "",
+        };
+    }
+    let (word, rest) = word_and_rest(line);
+    let kind = kind_of_word(word);
+    let text = text_by_kind(kind, line, rest);
+    Line { number, kind, text }
+}
+
+/// What stands between line feeds.
+fn between_feeds(alloc: Global, text: &str) -> Result<Vec<&str>, AllocError>
+    ensures { IfOk result (λ lines. map (λ line. line.now) lines.items ≡ slice_split (λ b. b == 10) text.now) }
+{
+    text.split('\n').collect(alloc)
+}
+
+/// What lines say, of which the first has that number.
+fn read_lines<'a>(
+    alloc: Global,
+    first: usize,
+    lines: &[&'a str],
+) -> Result<Vec<Line<'a>>, AllocError>
+    requires { first < 3 }
+    ensures { IfOk result (λ said. map line_view said.items ≡ lines_from first (map (λ line. line.now) lines.now)) }
+{
+    let mut said = Vec::new(alloc);
+    let mut number = first;
+    for line in lines {
+        said.push(line_of(number, line.trim_end()))?;
+        number += 1;
+    }
+    Ok(said)
+}
+
+/// What the lines of a text say, of which the first has that number.
+pub(crate) fn lines_of(alloc: Global, first: usize, text: &str) -> Result<Vec<Line<'_>>, AllocError>
+    requires { first < 3 }
+    ensures { IfOk result (λ said. map line_view said.items ≡ lines_in first text.now) }
+{
+    let lines = between_feeds(alloc, text)?;
+    read_lines(alloc, first, &lines)
+}
+
+/// What lines say of all levels.
+#[derive(Clone, Copy)]
+pub(crate) struct Settings<'a> {
+    pub left: Option<&'a str>,
+    pub right: Option<&'a str>,
+    /// The texts, with a comma between them, beside which no break is to stand.
+    pub no_hyphen: Option<&'a str>,
+}
+
+/// What is said with a line more: of two of one name the last one counts.
+fn with_line<'a>(settings: Settings<'a>, line: Line<'a>) -> Settings<'a>
+    ensures { settings_view result ≡ with_line (settings_view settings.entry) (line_view line.entry) }
+{
+    let text = Some(line.text);
+    match line.kind {
+        Kind::Left => Settings {
+            left: text,
+            ..settings
+        },
+        Kind::Right => Settings {
+            right: text,
+            ..settings
+        },
+        Kind::NoHyphen => Settings {
+            no_hyphen: text,
+            ..settings
+        },
+        _ => settings,
+    }
+}
+
+/// What lines say of all levels.
+pub(crate) fn settings_of<'a>(lines: &[Line<'a>]) -> Settings<'a>
+    ensures { settings_view result ≡ settings_of (map line_view lines.now) }
+{
+    let mut settings = Settings {
+        left: None,
+        right: None,
+        no_hyphen: None,
+    };
+    for line in lines {
+        settings = with_line(settings, *line);
+    }
+    settings
+}
+
+/// The number that LEFTHYPHENMIN or RIGHTHYPHENMIN says.
+fn minimum_value(text: &str) -> Option<u8>
+    ensures { result ≡ minimum_value text.now }
+{
+    small_number(text.trim())
+}
+
+/// The minimum that is told; 0 tells none, as LibreOffice has it.
+pub(crate) fn minimum_set(text: Option<&str>) -> Option<u8>
+    ensures { result ≡ minimum_set (option_map (λ text. text.now) text.entry) }
+{
+    match minimum_value(text?)? {
+        0 => None,
+        minimum => Some(minimum),
+    }
+}
+
+/// The minimum that is given, or that is told, or 2.
+pub(crate) fn minimum_of(given: Option<u8>, told: Option<u8>) -> u8
+    ensures { result ≡ minimum_of given told }
+{
+    given.or(told).unwrap_or(2)
+}
+
+/// What is wrong with a line of such a kind.
+fn cause_of(kind: Kind, text: &str) -> Option<FileCause>
+    ensures { result ≡ cause_of_kind kind text.now }
+{
+    match kind {
+        Kind::Left | Kind::Right if minimum_value(text).is_none() => Some(FileCause::Minimum),
+        _ => None,
+    }
+}
+
+/// The first faulty line, and the cause.
+pub(crate) fn line_fault(lines: &[Line<'_>]) -> Option<(usize, FileCause)>
+    ensures { result ≡ line_fault (map line_view lines.now) }
+{
+    for line in lines {
+        if let Some(cause) = cause_of(line.kind, line.text) {
+            return Some((line.number, cause));
+        }
+    }
+    None
+}

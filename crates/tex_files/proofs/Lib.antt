@@ -1,0 +1,5 @@
+pub mod Gathering
+pub mod Words
+pub mod Lexing
+pub mod Grouping
+pub mod Between
