@@ -17,7 +17,7 @@ use Rattle.std.specs.declared.vec.Vec.{Vec}
 use Rattle.libreoffice_files.specs.declared.dic_patterns.Pattern as held
 use Rattle.libreoffice_files.specs.declared.change.PlacedChange.{PlacedChange}
 use Rattle.libreoffice_files.specs.declared.lines.Kind.{Kind}
-use Rattle.libreoffice_files.specs.declared.lines.Kind.TheVariants.{Nothing, Left, Right, Level, NoHyphen, Other, Pattern}
+use Rattle.libreoffice_files.specs.declared.lines.Kind.TheVariants.{Ignored, Left, Right, Level, NoHyphen, Other, Pattern}
 use Rattle.pattern_results.specs.declared.notes.NoteKind.{NoteKind}
 use Rattle.libreoffice_files.specs.declared.value.Value.{Value}
 
@@ -66,7 +66,7 @@ small_pattern key values change h =
 
 small_by : (kind : Kind) (text : List ℕ) → IfSome (pattern_by kind text) small_spelt
 small_by Pattern text = small_pattern (letters (split_at_slash text).0) (last_values 0 (split_at_slash text).0) (split_at_slash text).1 (small_values 0 (split_at_slash text).0)
-small_by Nothing text = tt
+small_by Ignored text = tt
 small_by Left text = tt
 small_by Right text = tt
 small_by Level text = tt

@@ -1,4 +1,4 @@
--- What a dictionary without changes keeps of a value that has one: the break there is forbidden.
+-- Values with changes in a dictionary without changes: the break there is forbidden.
 -- Source: L. Németh, Automatic non-standard hyphenation in OpenOffice.org, TUGboat 27:1 (2006).
 use Rattle.std.specs.Prelude.{◌≡◌, ℕ, ◌+◌, ◌%◌, ◌&&◌, not, List, map, Option, None, option_map, is_some, if◌then◌else◌}
 use Rattle.std.specs.Option.{option_and_then}
@@ -7,12 +7,12 @@ use Rattle.hyphenation_breaks.specs.Dictionary.{Patterns}
 use Rattle.hyphenation_breaks.specs.declared.entry.Entry.{Entry}
 use Rattle.hyphenation_score.specs.Scoring.{value_at, winner_at}
 
--- An odd number's next even number; an even number itself.
+-- The next even number of an odd one; an even number itself.
 abbrev pub to_even : ℕ → ℕ
 to_even value = value + value % 2
 
--- An entry of a change or none, where changes can't be carried: a value with a change is made even, so that it forbids
--- the break that it allows only with its change.
+-- An entry in a dictionary without changes. A value with a change is made even, so that it forbids the break that it
+-- allows only with its change.
 abbrev pub entry_without_change : Entry (Option Change) → Entry (Unit {0})
 entry_without_change entry = record {
   place = entry.place;
@@ -24,8 +24,8 @@ entry_without_change entry = record {
 abbrev pub patterns_without_changes : Patterns (Option Change) → Patterns (Unit {0})
 patterns_without_changes keys text = option_map (λ entries. map entry_without_change entries) (keys text)
 
--- An entry of a change or none, as a kind of dictionary keeps it, where it is told which changes the kind can carry: a
--- change that it can't carry forbids the break.
+-- An entry as a kind of dictionary keeps it, by payload_of and change_of. If the kind can't carry the change, the value
+-- forbids the break.
 abbrev pub carried_entry : {C : Type 0} → (C → Option Change) → (Option Change → C) → Entry (Option Change) → Entry C
 carried_entry change_of payload_of entry = record {
   place = entry.place;
@@ -43,7 +43,7 @@ KindsKeep =
     → (carried_entry (λ (c : Unit {0}). None) (λ c. tt) entry ≡ entry_without_change entry)
     × (carried_entry (λ (c : Option Change). c) (λ c. c) entry ≡ entry)
 
--- Where patterns without their changes allow a break, the patterns with them allow one there by the same value, and it
+-- If patterns without their changes allow a break, the patterns with them allow one there by an equal value, and it
 -- changes nothing.
 abbrev pub NoBreakLosesItsChange : Type 0
 NoBreakLosesItsChange =

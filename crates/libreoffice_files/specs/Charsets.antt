@@ -1,7 +1,8 @@
--- The charsets of LibreOffice's files: what their names are, and which characters their bytes mean.
+-- The charsets of a `.dic`: their names, and the characters that their bytes mean.
 -- The characters of the bytes from 128 on stand in the tables of src/charset/tables.rt.
-use Rattle.std.specs.Prelude.{ℕ, ◌+◌, ◌-◌, ◌==◌, nat_lt, if◌then◌else◌, not, List, take, codes, Option, Some, None, option_map, is_some, position, slice_index}
+use Rattle.std.specs.Prelude.{ℕ, ◌+◌, ◌-◌, ◌==◌, if◌then◌else◌, not, List, take, codes, Option, Some, None, option_map, is_some, position, slice_index}
 use Rattle.std.specs.List.{filter_map}
+use Rattle.std.specs.Char.{is_ascii}
 use Rattle.std.specs.Str.{is_utf8, encode_utf8_all}
 use Rattle.std.specs.Str.Lossy.{utf8_valid_len}
 use Rattle.hyphenation_grammar.specs.Lines.{is_same, strip_prefix}
@@ -33,7 +34,7 @@ other_charset name =
     else (if is_same name (codes "KOI8-U") then Some Koi8U
     else (if is_same name (codes "microsoft-cp1251") then Some Cp1251 else None)))
 
--- The charset of that name, where it is known here.
+-- The charset of that name. None if it is not known here.
 abbrev pub charset_with : List ℕ → Option (List ℕ) → Option Charset
 charset_with name None = other_charset name
 charset_with name (Some part) = part_of_iso_8859 part
@@ -41,7 +42,7 @@ charset_with name (Some part) = part_of_iso_8859 part
 abbrev pub charset_named : List ℕ → Option Charset
 charset_named name = charset_with name (strip_prefix (codes "ISO8859-") name)
 
--- The characters of the bytes from 128 on, 0 where there is none; no table where each byte is its own character.
+-- The characters of the bytes from 128 on, 0 for a byte that means none. No table if each byte is its own character.
 abbrev pub upper_half : Charset → Option (List ℕ)
 upper_half Utf8 = None
 upper_half Latin1 = None
@@ -61,17 +62,17 @@ upper_half Cp1251 = Some CP1251
 abbrev pub char_unless_nul : ℕ → Option ℕ
 char_unless_nul char = if char == 0 then None else Some char
 
--- The character that a byte means, where it means one.
+-- The character that a byte means. None if it means none.
 abbrev pub char_in : Option (List ℕ) → ℕ → Option ℕ
 char_in None byte = Some byte
-char_in (Some upper) byte = if nat_lt byte 128 then Some byte else char_unless_nul (slice_index upper (byte - 128))
+char_in (Some upper) byte = if is_ascii byte then Some byte else char_unless_nul (slice_index upper (byte - 128))
 
--- Where the first byte stands that means no character.
+-- The place of the first byte that means no character.
 abbrev pub first_bad : Option (List ℕ) → List ℕ → Option ℕ
 first_bad upper bytes = position (λ byte. not (is_some (char_in upper byte))) bytes
 
--- The line of the first byte that means no character, where the first line has that number, and the cause: in a charset
--- of a byte for each character, and in UTF-8.
+-- The line of the first byte that means no character, and the cause; the first line has that number. One definition is
+-- for a charset with a byte for each character, the next for UTF-8.
 abbrev pub table_fault : Option (List ℕ) → ℕ → List ℕ → Option (ℕ × FileCause)
 table_fault upper first bytes =
     option_map (λ at. (first + line_feeds (take at bytes), NotInCharset)) (first_bad upper bytes)

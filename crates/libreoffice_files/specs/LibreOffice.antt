@@ -1,10 +1,11 @@
--- What a `.dic` of LibreOffice gives: a dictionary, or its first fault.
+-- A `.dic` of LibreOffice: the dictionary that it makes, or its first fault.
 -- Source: libhyphen 2.8.8, hyphen.c and README.hyphen.
-use Rattle.std.specs.Prelude.{ℕ, ◌-◌, ◌==◌, ◌&&◌, ◌||◌, nat_le, Bool, true, false, if◌then◌else◌, List, [], ◌∷◌, length, drop, take, map, codes, Option, Some, None, unwrap_or}
+use Rattle.std.specs.Prelude.{ℕ, ◌-◌, ◌==◌, ◌&&◌, ◌||◌, Bool, true, false, if◌then◌else◌, List, [], ◌∷◌, length, drop, take, map, codes, Option, Some, None, unwrap_or}
 use Rattle.std.specs.Option.{option_or}
 use Rattle.std.specs.List.{filter_map, prefix_len, suffix_len}
-use Rattle.std.specs.Char.{is_ascii_whitespace}
+use Rattle.std.specs.Char.{is_ascii_uppercase, is_ascii_whitespace}
 use Rattle.std.specs.Str.{is_utf8, trim_end}
+use Rattle.hyphenation_breaks.specs.Ascii.{line_feed}
 use Rattle.hyphenation_breaks.specs.Break.{Change}
 use Rattle.hyphenation_breaks.specs.Dictionary.{Contents}
 use Rattle.hyphenation_breaks.specs.declared.entry.Entry.{Entry}
@@ -25,11 +26,11 @@ use Rattle.libreoffice_files.specs.declared.lines.Kind.TheVariants.{Pattern}
 
 -- ---- Line 1.
 
--- Line 1, and what stands after it.
+-- Line 1, and the bytes after it.
 abbrev pub first_and_rest : List ℕ → List ℕ × List ℕ
-first_and_rest bytes = unwrap_or (split_at_byte 10 bytes) (bytes, [])
+first_and_rest bytes = unwrap_or (split_at_byte line_feed bytes) (bytes, [])
 
--- Without white space of ASCII at the start, and at the end.
+-- A line without ASCII white space at its start, and without any at its end.
 abbrev pub trimmed_start : List ℕ → List ℕ
 trimmed_start line = drop (prefix_len is_ascii_whitespace line) line
 
@@ -42,15 +43,15 @@ trimmed line = trimmed_end (trimmed_start line)
 -- A text begins with a capital letter of ASCII.
 abbrev pub starts_with_capital : List ℕ → Bool
 starts_with_capital [] = false
-starts_with_capital (b ∷ bs) = nat_le 65 b && nat_le b 90
+starts_with_capital (b ∷ bs) = is_ascii_uppercase b
 
 -- A line is a pattern.
 abbrev pub is_pattern : Kind → Bool
 is_pattern Pattern = true
 is_pattern kind = false
 
--- A line 1 that names a charset, known or not: it begins with a capital letter, or as a charset of Windows does, and is
--- no setting.
+-- Line 1 names a charset, known or not: it begins with a capital letter, or as a charset of Windows does, and is no
+-- setting.
 abbrev pub is_name : List ℕ → Bool
 is_name line =
     is_pattern (read_line 1 (trim_end line)).kind && (starts_with_capital line || starts_with (codes "microsoft-") line)
@@ -58,14 +59,14 @@ is_name line =
 abbrev pub names_charset : List ℕ → Bool
 names_charset line = is_utf8 line && is_name line
 
--- A charset, and the bytes that are read by it, of which the first line has that number.
+-- Bytes and the charset to read them by. Their first line has that number.
 pub record Encoded : Type 0 where
   pub charset : Charset
   pub first : ℕ
   pub bytes : List ℕ
 
--- Where line 1 names a charset that is known, what stands after it is read by that. Where it names none, the file is
--- read by ISO8859-1, and line 1 as any other.
+-- If line 1 names a known charset, the bytes after it are read by that. If it names none, the file is read by
+-- ISO8859-1, and line 1 as any other.
 abbrev pub encoded_by : List ℕ → List ℕ × List ℕ → Option Charset → Option Encoded
 encoded_by bytes parts (Some charset) = Some (record { charset = charset; first = 2; bytes = parts.1 })
 encoded_by bytes parts None =
@@ -74,17 +75,17 @@ encoded_by bytes parts None =
 abbrev pub encoded_if : List ℕ → List ℕ × List ℕ → Option Encoded
 encoded_if bytes parts = encoded_by bytes parts (charset_named (trimmed parts.0))
 
--- What of a file is read by which charset; nothing where line 1 names one that is not known.
+-- The bytes of a file that have lines to read, with their charset. None if line 1 names one that is not known.
 abbrev pub encoded_in : List ℕ → Option Encoded
 encoded_in bytes = encoded_if bytes (first_and_rest bytes)
 
 -- ---- All lines.
 
--- What the lines say of which a charset gives the text.
+-- The lines of the text that a charset gives.
 abbrev pub encoded_lines : Encoded → List DicLine
 encoded_lines coded = lines_in coded.first (text_in coded.charset coded.bytes)
 
--- What the lines of a file say.
+-- The lines of a file.
 abbrev pub lines_if_encoded : Option Encoded → List DicLine
 lines_if_encoded None = []
 lines_if_encoded (Some coded) = encoded_lines coded
@@ -92,13 +93,13 @@ lines_if_encoded (Some coded) = encoded_lines coded
 abbrev pub lines_of_dic : List ℕ → List DicLine
 lines_of_dic bytes = lines_if_encoded (encoded_in bytes)
 
--- The keys that lines spell, in their order, and then those of NOHYPHEN.
+-- The patterns of lines, in their order, and then those of NOHYPHEN.
 abbrev pub all_patterns : List DicLine → List (List ℕ × Spelt)
 all_patterns lines = with_all_forbidden (patterns_of lines) (unwrap_or (settings_of lines).no_hyphen [])
 
 -- ---- Faults.
 
--- The first fault of lines, or that none is a pattern.
+-- The first fault of lines, or else that none is a pattern.
 abbrev pub fault_of_lines : List DicLine → Option (ℕ × FileCause)
 fault_of_lines lines =
     option_or (line_fault lines) (if length (all_patterns lines) == 0 then Some (1, causes.Nothing) else None)
@@ -117,7 +118,7 @@ dic_fault bytes = fault_if_encoded (encoded_in bytes)
 
 -- ---- The dictionary.
 
--- The change of the value at a place, where that has it.
+-- The change of the value at a place, if it has one.
 abbrev pub change_there : Option PlacedChange → ℕ → Option Change
 change_there None place = None
 change_there (Some placed) place = if placed.place == place then Some placed.change else None
@@ -135,7 +136,7 @@ entries_kept change_of payload_of spelt =
 abbrev pub fits_dictionary : {C : Type 0} → (C → Option Change) → List ℕ → List (Entry C) → Bool
 fits_dictionary change_of key entries = is_utf8 key && fits_key change_of key entries
 
--- A key with its entries; nothing of a key that fits no dictionary.
+-- A key with its entries. None if they fit no dictionary.
 abbrev pub kept_if_fit : {C : Type 0} → (C → Option Change) → List ℕ → List (Entry C)
     → Option (List ℕ × List (Entry C))
 kept_if_fit change_of key entries = if fits_dictionary change_of key entries then Some (key, entries) else None
@@ -144,8 +145,8 @@ abbrev pub kept_in : {C : Type 0} → (C → Option Change) → (Option Change �
     → Option (List ℕ × List (Entry C))
 kept_in change_of payload_of p = kept_if_fit change_of p.0 (entries_kept change_of payload_of p.1)
 
--- The dictionary of lines. Minima that are not given are those that the lines tell, or 2; of a key that stands several
--- times the last one counts.
+-- The dictionary of lines. A minimum that is not given is the one that the lines set, or else 2. If a key stands
+-- several times, the last one counts.
 abbrev pub contents_of_lines : {C B : Type 0} → (C → Option Change) → (Option Change → C) → List ℕ → Option ℕ
     → Option ℕ → List DicLine → Contents C B
 contents_of_lines change_of payload_of language left right lines =

@@ -1,35 +1,36 @@
--- What the lines of a `.dic` of LibreOffice say: settings, texts without breaks, and patterns.
+-- The lines of a `.dic` of LibreOffice: settings, texts without breaks, and patterns.
 -- Source: libhyphen 2.8.8, hyphen.c and README.hyphen.
 use Rattle.std.specs.Prelude.{ℕ, ◌+◌, ◌==◌, ◌&&◌, ◌||◌, nat_lt, Bool, true, if◌then◌else◌, List, [], ◌∷◌, length, take, drop, codes, fold, Option, Some, None, option_map, option_and_then, unwrap_or, is_some, position}
 use Rattle.std.specs.List.{slice_split}
 use Rattle.std.specs.Option.{option_or}
 use Rattle.std.specs.Str.{trim, trim_end, all_ascii_digits}
 use Rattle.std.specs.Str.Parse.{without_leading_plus, digits_value}
+use Rattle.hyphenation_breaks.specs.Ascii.{line_feed, space, hash, percent}
 use Rattle.hyphenation_grammar.specs.Lines.{is_same}
 use Rattle.pattern_results.specs.declared.errors.FileCause.{FileCause}
 use Rattle.pattern_results.specs.declared.errors.FileCause.TheVariants.{Minimum}
 use Rattle.libreoffice_files.specs.declared.lines.Kind.{Kind}
-use Rattle.libreoffice_files.specs.declared.lines.Kind.TheVariants.{Nothing, Left, Right, Level, NoHyphen, Other, Pattern}
+use Rattle.libreoffice_files.specs.declared.lines.Kind.TheVariants.{Ignored, Left, Right, Level, NoHyphen, Other, Pattern}
 
--- What stands before the first such byte of a text, and after it, where the text has one.
+-- A text, split at the first such byte, which is left out. None if the text has no such byte.
 abbrev pub split_at_byte : ℕ → List ℕ → Option (List ℕ × List ℕ)
 split_at_byte mark text = option_map (λ at. (take at text, drop (at + 1) text)) (position (λ b. b == mark) text)
 
--- The number that a text writes in digits, maybe after a plus sign, where it is below a bound.
+-- The number that a text writes in digits, maybe after a plus sign, if it is below a bound.
 abbrev pub number_below : ℕ → List ℕ → Option ℕ
 number_below bound text =
     if all_ascii_digits (without_leading_plus text) && nat_lt 0 (length (without_leading_plus text))
     && nat_lt (digits_value 10 (without_leading_plus text)) bound
     then Some (digits_value 10 (without_leading_plus text)) else None
 
--- A line: its number, what it is, and what it says. A setting says what stands after its name, a pattern the whole
--- line.
+-- A line: its number, its kind and its text. The text of a setting stands after its name; the text of a pattern is the
+-- whole line.
 pub record DicLine : Type 0 where
   pub number : ℕ
   pub kind : Kind
   pub text : List ℕ
 
--- What the first word of a line makes of it.
+-- The kind of a line by its first word.
 abbrev pub kind_of_word : List ℕ → Kind
 kind_of_word word =
     if is_same word (codes "LEFTHYPHENMIN") then Left
@@ -42,18 +43,18 @@ kind_of_word word =
 -- A line is empty, or a comment, which begins with a percent or a number sign.
 abbrev pub is_ignored : List ℕ → Bool
 is_ignored [] = true
-is_ignored (b ∷ bs) = b == 37 || b == 35
+is_ignored (b ∷ bs) = b == percent || b == hash
 
--- The first word of a line, up to a space, and what stands after it.
+-- The first word of a line, up to a space, and the text after that.
 abbrev pub word_and_rest : List ℕ → List ℕ × List ℕ
-word_and_rest line = unwrap_or (split_at_byte 32 line) (line, [])
+word_and_rest line = unwrap_or (split_at_byte space line) (line, [])
 
--- A setting says what stands after its name, a pattern the whole line.
+-- The text of a setting stands after its name; that of a pattern is the whole line.
 abbrev pub text_by_kind : Kind → List ℕ → List ℕ → List ℕ
 text_by_kind Pattern line rest = line
 text_by_kind kind line rest = rest
 
--- What a line that is neither empty nor a comment says, without white space at its end.
+-- A line that is neither empty nor a comment, without white space at its end.
 abbrev pub line_by_words : ℕ → List ℕ → List ℕ × List ℕ → DicLine
 line_by_words number line words = record {
   number = number;
@@ -61,35 +62,35 @@ line_by_words number line words = record {
   text = text_by_kind (kind_of_word words.0) line words.1;
 }
 
--- What a line says.
+-- A line, read.
 abbrev pub read_line : ℕ → List ℕ → DicLine
 read_line number line =
-    if is_ignored line then record { number = number; kind = Nothing; text = [] }
+    if is_ignored line then record { number = number; kind = Ignored; text = [] }
     else line_by_words number line (word_and_rest line)
 
--- What lines say, of which the first has that number. White space at their ends says nothing.
+-- Lines, the first of which has that number, read without white space at their ends.
 abbrev pub lines_from : ℕ → List (List ℕ) → List DicLine
 lines_from number [] = []
 lines_from number (line ∷ lines) = read_line number (trim_end line) ∷ lines_from (number + 1) lines
 
--- What the lines of a text say, which stand between line feeds.
+-- The lines of a text, which stand between line feeds.
 abbrev pub lines_in : ℕ → List ℕ → List DicLine
-lines_in first text = lines_from first (slice_split (λ b. b == 10) text)
+lines_in first text = lines_from first (slice_split (λ b. b == line_feed) text)
 
 -- ---- Settings.
 
--- What was said of all levels: the least numbers of letters before a break and after one, and the texts beside which no
--- break is to stand.
+-- The settings for all levels: the least numbers of letters before and after a break, and the texts that no break
+-- stands beside.
 pub record Settings : Type 0 where
   pub left : Option (List ℕ)
   pub right : Option (List ℕ)
   pub no_hyphen : Option (List ℕ)
 
--- Nothing is said yet.
+-- No setting.
 abbrev pub nothing_set : Settings
 nothing_set = record { left = None; right = None; no_hyphen = None }
 
--- A line more: of two of one name the last one counts.
+-- The setting of one more line. If a setting stands several times, the last one counts.
 abbrev pub set_by : Kind → List ℕ → Settings → Settings
 set_by Left text settings = record settings { left = Some text }
 set_by Right text settings = record settings { right = Some text }
@@ -99,24 +100,24 @@ set_by kind text settings = settings
 abbrev pub with_line : Settings → DicLine → Settings
 with_line settings line = set_by line.kind line.text settings
 
--- What lines say of all levels.
+-- The settings of lines.
 abbrev pub settings_of : List DicLine → Settings
 settings_of lines = fold with_line nothing_set lines
 
--- The number that LEFTHYPHENMIN or RIGHTHYPHENMIN says, from 0 to 255.
+-- The number from 0 to 255 that LEFTHYPHENMIN or RIGHTHYPHENMIN has.
 abbrev pub minimum_value : List ℕ → Option ℕ
 minimum_value text = number_below 256 (trim text)
 
--- A minimum that is told; 0 tells none.
+-- A minimum that is set; 0 sets none.
 abbrev pub unless_zero : ℕ → Option ℕ
 unless_zero minimum = if minimum == 0 then None else Some minimum
 
 abbrev pub minimum_set : Option (List ℕ) → Option ℕ
 minimum_set text = option_and_then unless_zero (option_and_then minimum_value text)
 
--- A minimum that is given, or that is told, or 2.
+-- The minimum that is given, or else the one that is set, or else 2.
 abbrev pub minimum_of : Option ℕ → Option ℕ → ℕ
-minimum_of given told = unwrap_or (option_or given told) 2
+minimum_of given set = unwrap_or (option_or given set) 2
 
 -- A setting of a minimum without a number from 0 to 255 is faulty.
 abbrev pub cause_of_kind : Kind → List ℕ → Option FileCause
@@ -124,7 +125,7 @@ cause_of_kind Left text = if is_some (minimum_value text) then None else Some Mi
 cause_of_kind Right text = if is_some (minimum_value text) then None else Some Minimum
 cause_of_kind kind text = None
 
--- The first faulty line, and the cause.
+-- The first faulty line, with the cause.
 abbrev pub line_fault : List DicLine → Option (ℕ × FileCause)
 line_fault [] = None
 line_fault (line ∷ lines) =

@@ -19,17 +19,17 @@ entries_of patterns text = finite.get patterns text
 abbrev pub begins_pattern : {C : Type 0} → TextMap (List (Entry C)) → List ℕ → Bool
 begins_pattern patterns text = list_any (λ key. starts_with nat_eq key text) (finite.keys patterns)
 
--- Of the texts that end there in a frame and begin a pattern, the one that starts there is the longest.
+-- Among the texts of a frame that end there and begin a pattern, the one that starts there is the longest.
 pub record IsLongestBeginning {C : Type 0} (patterns : TextMap (List (Entry C))) (framed : List ℕ) (start end : ℕ)
     : Type 0 where
-  pub some : start < end
+  pub nonempty : start < end
   pub within : end ≤ length framed
   pub begins : IsTrue (begins_pattern patterns (slice_range framed start end))
   pub longest : (other : ℕ) → other < end → IsTrue (begins_pattern patterns (slice_range framed other end))
       → start ≤ other
 
--- The value is the greatest of 0 and of those that longest beginnings, where they are patterns, give to the word's
--- place p.
+-- The value is the greatest of 0 and of those that longest beginnings, if they are patterns, give to the word's place
+-- p.
 pub record IsValueByLongest {C : Type 0} (patterns : TextMap (List (Entry C))) (word : List ℕ) (p value : ℕ)
     : Type 0 where
   pub most : (start end : ℕ) (entry : Entry C) → IsLongestBeginning patterns (frame word) start end
@@ -40,11 +40,11 @@ pub record IsValueByLongest {C : Type 0} (patterns : TextMap (List (Entry C))) (
 
 -- ---- Where that makes no difference.
 
--- The greatest value that a text, as a pattern, gives to a place of its own; 0 where it gives none, or is no pattern.
+-- The greatest value that a text, as a pattern, gives to a place of its own; 0 if it gives none, or is no pattern.
 abbrev pub own_value : {C : Type 0} → Patterns C → List ℕ → ℕ → ℕ
 own_value keys text place = greatest_value (filter (λ entry. entry.place == place) (unwrap_or (keys text) []))
 
--- What a text ends with, from start on, is a pattern, and gives some place more than the text itself does.
+-- The end of a text, from start on, is a pattern, and gives some place more than the text itself does.
 abbrev pub is_exceeded_from : {C : Type 0} → Patterns C → List ℕ → ℕ → Bool
 is_exceeded_from keys text start =
     list_any (λ entry. nat_lt (own_value keys text (start + entry.place)) entry.value)
@@ -54,7 +54,7 @@ is_exceeded_from keys text start =
 abbrev pub is_exceeded : {C : Type 0} → Patterns C → List ℕ → Bool
 is_exceeded keys text = list_any (λ start. is_exceeded_from keys text start) (range_with_len 1 (length text - 1))
 
--- So it is with some beginning of a pattern, maybe the whole of it: LibreOffice then loses that value.
+-- Some beginning of a pattern, maybe the whole of it, is exceeded: LibreOffice then loses that value.
 abbrev pub hides_value : {C : Type 0} → Patterns C → List ℕ → Bool
 hides_value keys key = list_any (λ len. is_exceeded keys (take len key)) (range_with_len 1 (length key))
 

@@ -1,7 +1,7 @@
-//! What a dictionary keeps of a value that has a change.
+//! Values with changes, as each kind of dictionary keeps them.
 //!
-//! An extended dictionary keeps the change. A standard one can't, and there the value forbids the break: a word that
-//! loses or gains letters at a break would be broken wrongly without them.
+//! An extended dictionary keeps the change. A standard one has no room for it, and its value forbids the break: a word
+//! that loses or gains letters at a break would be broken wrongly without them.
 
 ghost use Rattle.std.specs.Prelude.{◌≡◌, ◌<◌};
 ghost use Rattle.libreoffice_files.specs.Changes.{to_even, carried_entry, KindsKeep, NoBreakLosesItsChange};
@@ -10,15 +10,15 @@ use hyphenation_breaks::entry::{Entry, Payload};
 use hyphenation_breaks::extended::Subregion;
 use hyphenation_score::laws::{value_is_borne, value_is_greatest, winner_is_first};
 
-/// An odd value's next even number; an even value itself.
+// The next even number of an odd value; an even value itself.
 fn to_even(value: u8) -> u8
     ensures { value < 255 → result ≡ to_even value }
 {
     value.saturating_add(value % 2)
 }
 
-/// An entry with a change or none, as a kind of dictionary keeps it: where the kind can't carry the change, the value
-/// forbids the break.
+/// The entry that a kind of dictionary keeps of an entry with a change or none. If the kind has no room for the change,
+/// the value is made even, so that it forbids the break.
 pub fn carried_entry<C: Payload>(entry: Entry<Option<Subregion>>) -> Entry<C>
     ensures { entry.value < 255 → result ≡ carried_entry C.change_of C.payload_of entry }
 {
@@ -41,13 +41,13 @@ pub fn carried_entry<C: Payload>(entry: Entry<Option<Subregion>>) -> Entry<C>
     }
 }
 
-/// A law. A standard dictionary carries no change, an extended one each change as it is.
+/// A standard dictionary carries no change, an extended one each change as it is.
 pub fn kinds_keep()
     ensures { KindsKeep }
 {}
 
-/// A law. Where patterns without their changes allow a break, the patterns with them allow one there by the same value,
-/// and it changes nothing.
+/// If patterns without their changes allow a break, the patterns with them allow it by an equal value, and that break
+/// changes nothing.
 pub fn no_break_loses_its_change()
     ensures { NoBreakLosesItsChange }
 {

@@ -1,4 +1,4 @@
-//! Changes of letters at a break, as LibreOffice's files spell them: `pattern/replacement,start,cut`.
+//! Changes of letters at a break, as a `.dic` writes them: `pattern/replacement,start,count`.
 
 ghost use Rattle.std.specs.Prelude.{◌≡◌, ◌≤◌, ◌==◌, ◌++◌, IfOk, IfSome, Bool, option_map, length, slice_index, ◌-◌, Some, Ok};
 ghost use Rattle.std.specs.List.{list_any, find};
@@ -12,14 +12,14 @@ use hyphenation_breaks::extended::Subregion;
 use pattern_results::notes::NoteKind;
 use std::alloc::{AllocError, Global};
 
-/// A change that belongs to the value at a place of its key.
+// A change that belongs to the value at a place of its key, counted in bytes.
 #[derive(Drop)]
 pub(crate) struct PlacedChange {
     pub place: usize,
     pub change: Subregion,
 }
 
-/// A range of a key, in bytes; and the place after its first character.
+// A range of a key, in bytes, and the place after its first character.
 #[derive(Clone, Copy)]
 struct Range {
     begin: usize,
@@ -27,14 +27,14 @@ struct Range {
     end: usize,
 }
 
-/// Whether a byte begins a character of UTF-8.
+// Whether a byte begins a character of UTF-8.
 fn begins_char(byte: u8) -> bool
     ensures { result ≡ begins_char byte }
 {
     byte < 128 || 192 <= byte
 }
 
-/// The place so many characters after a place of a key, if the key has as many.
+// The place that many characters after a place of a key. None if the key has fewer. Places count bytes.
 fn place_after(key: &[u8], begin: usize, count: usize) -> Option<usize>
     requires { begin ≤ length key.now }
     ensures place { result ≡ place_after key.now begin count }
@@ -54,7 +54,7 @@ fn place_after(key: &[u8], begin: usize, count: usize) -> Option<usize>
     if left == 0 { Some(at) } else { None }
 }
 
-/// 1 where a key begins with a dot, and else 0.
+// 1 if a key begins with a dot, and else 0.
 fn first_dot(key: &[u8]) -> usize
     ensures { result ≡ dots (slice_index key.now 0) }
 {
@@ -64,7 +64,7 @@ fn first_dot(key: &[u8]) -> usize
     }
 }
 
-/// 1 where a key ends with a dot, and else 0.
+// 1 if a key ends with a dot, and else 0.
 fn last_dot(key: &[u8]) -> usize
     ensures { result ≡ dots (slice_index key.now (length key.now - 1)) }
 {
@@ -74,7 +74,7 @@ fn last_dot(key: &[u8]) -> usize
     }
 }
 
-/// The number of a key's letters: of its characters but a dot at each end.
+// The number of a key's letters: of its characters without a dot at each end.
 fn letter_count(key: &[u8]) -> usize
     ensures { result ≡ letter_count key.now }
 {
@@ -84,7 +84,7 @@ fn letter_count(key: &[u8]) -> usize
         .saturating_sub(last_dot(key))
 }
 
-/// The range of so many characters from a place on, if the key has as many.
+// The range of that many characters from a place on. None if the key has fewer.
 fn range_from(key: &[u8], begin: usize, count: usize) -> Option<Range>
     requires { begin ≤ length key.now }
     ensures { result ≡ range_from key.now begin count }
@@ -97,7 +97,7 @@ fn range_from(key: &[u8], begin: usize, count: usize) -> Option<Range>
     })
 }
 
-/// The range of so many letters from letter number `start` on, counted from 1 after a first dot.
+// The range of that many letters from letter `start` on, counted from 1 after a first dot. None if the key has fewer.
 fn range_of(key: &[u8], start: usize, count: usize) -> Option<Range>
     ensures { result ≡ range_of key.now start count }
 {
@@ -108,14 +108,14 @@ fn range_of(key: &[u8], start: usize, count: usize) -> Option<Range>
     range_from(key, begin, count)
 }
 
-/// Whether a value is odd and in a range, both ends included.
+// Whether a value is odd and in a range, both ends included.
 fn is_odd_in(range: Range, value: Value) -> bool
     ensures { result ≡ is_odd_in range value }
 {
     value.value % 2 == 1 && range.begin <= value.place && value.place <= range.end
 }
 
-/// Whether that is the place, where there is one.
+// Whether there is a place, and it is this one.
 fn is_place(at: Option<usize>, place: usize) -> bool
     ensures { result ≡ is_place at place }
 {
@@ -125,14 +125,14 @@ fn is_place(at: Option<usize>, place: usize) -> bool
     }
 }
 
-/// Whether an odd value stands after the range's first letter, where that is in the range.
+// Whether a value is odd, and stands after the range's first letter and within the range.
 fn is_after_first(range: Range, value: Value) -> bool
     ensures { result ≡ is_after_first range value }
 {
     is_odd_in(range, value) && is_place(range.after_first, value.place)
 }
 
-/// The odd value after the range's first letter, where that is in the range.
+// The odd value after the range's first letter, if it is in the range.
 fn value_after_first(values: &[Value], range: Range) -> Option<Value>
     ensures { result ≡ find (is_after_first range) values.now }
 {
@@ -144,7 +144,7 @@ fn value_after_first(values: &[Value], range: Range) -> Option<Value>
     None
 }
 
-/// The first odd value in a range.
+// The first odd value in a range.
 fn first_odd(values: &[Value], range: Range) -> Option<Value>
     ensures { result ≡ find (is_odd_in range) values.now }
 {
@@ -156,14 +156,14 @@ fn first_odd(values: &[Value], range: Range) -> Option<Value>
     None
 }
 
-/// The value that takes a change: the odd one after the range's first letter, or else the first odd one in the range.
+// The value that takes a change: the odd one after the range's first letter, or else the first odd one in the range.
 fn value_in(values: &[Value], range: Range) -> Option<Value>
     ensures { result ≡ value_in values.now range }
 {
     value_after_first(values, range).or(first_odd(values, range))
 }
 
-/// Whether several values could take a change.
+// Whether several values could take a change.
 fn are_several(values: &[Value], range: Range) -> bool
     ensures { result ≡ are_several values.now range }
 {
@@ -174,7 +174,7 @@ fn are_several(values: &[Value], range: Range) -> bool
         > 1
 }
 
-/// The replacement, which stands before the first comma, and the numbers after it.
+// Splits a change at its first comma into the replacement and the numbers.
 fn replacement_and_numbers(text: &str) -> (&str, Option<&str>)
     ensures { (result.0.now, option_map (λ numbers. numbers.now) result.1)
         ≡ replacement_and_numbers text.now (split_at_byte 44 text.now) }
@@ -185,7 +185,7 @@ fn replacement_and_numbers(text: &str) -> (&str, Option<&str>)
     }
 }
 
-/// Two numbers, where both are numbers.
+// Two numbers, if both could be read.
 fn both_numbers(start: Option<usize>, count: Option<usize>) -> Result<(usize, usize), NoteKind>
     ensures { result ≡ both_numbers start count }
 {
@@ -195,7 +195,8 @@ fn both_numbers(start: Option<usize>, count: Option<usize>) -> Result<(usize, us
     }
 }
 
-/// The two numbers between which there is exactly one comma.
+// The two numbers with exactly one comma between them. Errors are a wrong number of commas, and a text that is no
+// number.
 fn two_numbers(numbers: &str) -> Result<(usize, usize), NoteKind>
     ensures { result ≡ two_numbers (split_at_byte 44 numbers.now) }
 {
@@ -208,7 +209,7 @@ fn two_numbers(numbers: &str) -> Result<(usize, usize), NoteKind>
     both_numbers(number(start), number(count))
 }
 
-/// The first letter of the range, and how many it has: all letters of the key where nothing is said.
+// The first letter of the range, and the number of its letters. Without numbers the range has all letters of the key.
 fn start_and_count(key: &[u8], numbers: Option<&str>) -> Result<(usize, usize), NoteKind>
     ensures { result ≡ start_and_count key.now (option_map (λ numbers. numbers.now) numbers.entry) }
 {
@@ -218,14 +219,14 @@ fn start_and_count(key: &[u8], numbers: Option<&str>) -> Result<(usize, usize), 
     }
 }
 
-/// Whether a byte stands in a text.
+// Whether a text has a byte.
 pub(crate) fn has_byte(text: &str, wanted: u8) -> bool
     ensures { result ≡ list_any (λ b. b == wanted) text.now }
 {
     text.as_bytes().iter().any(|byte| *byte == wanted)
 }
 
-/// The two halves of a replacement that has exactly one `=`.
+// The two halves of a replacement with exactly one `=`. None if it has none or several.
 fn halves_of(replacement: &str) -> Option<(&str, &str)>
     ensures { option_map (λ halves. (halves.0.now, halves.1.now)) result ≡ halves_of replacement.now }
 {
@@ -237,7 +238,7 @@ fn halves_of(replacement: &str) -> Option<(&str, &str)>
     }
 }
 
-/// One text after the other.
+// The two texts, one after the other.
 fn joined(alloc: Global, before: &str, after: &str) -> Result<String, AllocError>
     ensures { IfOk result (λ text. string_bytes text ≡ before.now ++ after.now) }
 {
@@ -246,7 +247,7 @@ fn joined(alloc: Global, before: &str, after: &str) -> Result<String, AllocError
     Ok(text)
 }
 
-/// The change of a value: the two halves stand in place of the range, and the word is broken between them.
+// The change of a value: the two halves replace the range, and the word breaks between them.
 fn change_at_value(
     alloc: Global,
     range: Range,
@@ -263,7 +264,7 @@ fn change_at_value(
     Ok(PlacedChange { place, change })
 }
 
-/// The change with a range, and whether several values could take it.
+// The change of a range, and whether several values could take it. The inner error is that no value is odd there.
 #[tactic(auto, using(crate::proofs::Changing::change_joined))]
 fn change_in(
     alloc: Global,
@@ -281,7 +282,8 @@ fn change_in(
     Ok(Ok((placed, are_several(values, range))))
 }
 
-/// The change with numbers.
+// The change of a range that numbers give, and whether several values could take it. The inner error is the note on a
+// change that can't be read.
 fn change_by_numbers(
     alloc: Global,
     key: &[u8],
@@ -300,7 +302,8 @@ fn change_by_numbers(
     }
 }
 
-/// The change that the text after a slash spells, and whether several values could take it; or why it spells none.
+// The change that the text after a slash gives, and whether several values could take it. The inner error is the note
+// on a change that can't be read; the outer one is out of memory.
 pub(crate) fn change_of(
     alloc: Global,
     text: &str,
@@ -311,7 +314,7 @@ pub(crate) fn change_of(
 {
     let (replacement, numbers) = replacement_and_numbers(text);
     match start_and_count(key, numbers) {
-        Err(what) => Ok(Err(what)),
+        Err(note) => Ok(Err(note)),
         Ok(numbers) => change_by_numbers(alloc, key, values, replacement, numbers),
     }
 }

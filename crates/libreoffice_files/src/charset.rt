@@ -1,4 +1,4 @@
-//! The charsets of LibreOffice's files.
+//! The charsets of `.dic` files.
 
 ghost use Rattle.std.specs.Prelude.{◌≡◌, ◌<◌, option_map, IfOk, IfErr, OnOk, None};
 ghost use Rattle.std.specs.String.{string_bytes};
@@ -17,7 +17,7 @@ use tables::{
     ISO8859_15, KOI8_R, KOI8_U,
 };
 
-/// A charset: UTF-8, or one of a byte for each character.
+// A charset: UTF-8, or one with a byte for each character.
 #[derive(Clone, Copy)]
 pub(crate) enum Charset {
     Utf8,
@@ -36,7 +36,7 @@ pub(crate) enum Charset {
 }
 
 impl Charset {
-    /// The charset of that name, as line 1 of a `.dic` has it.
+    // The charset of that name, as line 1 of a `.dic` has it.
     pub(crate) fn from_name(name: &[u8]) -> Option<Charset>
         ensures { result ≡ charset_named name.now }
     {
@@ -55,7 +55,7 @@ impl Charset {
         }
     }
 
-    /// The charset of ISO 8859 whose part has that number.
+    // The charset of ISO 8859 whose part has that number.
     fn of_iso_8859(part: &[u8]) -> Option<Charset>
         ensures { result ≡ part_of_iso_8859 part.now }
     {
@@ -73,7 +73,7 @@ impl Charset {
         }
     }
 
-    /// The characters of the bytes from 128 on, by a table; none where a byte is its own character.
+    // The characters of the bytes from 128 on. None if each byte is its own character, and in UTF-8.
     fn upper_half(self) -> Option<&'static [char; 128]>
         ensures { option_map (λ table. table.now) result ≡ upper_half self }
     {
@@ -94,7 +94,7 @@ impl Charset {
     }
 }
 
-/// The character of a byte, where a byte is one.
+// The character that a byte means. None if the table has NUL there.
 fn char_of(upper: Option<&[char; 128]>, byte: u8) -> Option<char>
     ensures { result ≡ char_in (option_map (λ table. table.now) upper.entry) byte }
 {
@@ -109,7 +109,7 @@ fn char_of(upper: Option<&[char; 128]>, byte: u8) -> Option<char>
     }
 }
 
-/// The characters that bytes mean; a byte that means none is left out.
+// The characters that bytes mean. A byte that means none is left out.
 fn chars_of(alloc: Global, upper: Option<&[char; 128]>, bytes: &[u8]) -> Result<String, AllocError>
     ensures { IfOk result (λ text. string_bytes text
         ≡ text_by (option_map (λ table. table.now) upper.entry) bytes.now) }
@@ -123,20 +123,21 @@ fn chars_of(alloc: Global, upper: Option<&[char; 128]>, bytes: &[u8]) -> Result<
     Ok(text)
 }
 
-/// The number of line feeds.
+// The number of line feeds.
 fn line_feeds(bytes: &[u8]) -> usize
     ensures { result ≡ line_feeds bytes.now }
 {
     bytes.iter().filter(|b| **b == b'\n').count()
 }
 
-/// The text that bytes mean in UTF-8, whose first line has that number.
+// The text of bytes in UTF-8, the first line of which has that number. An error is the first line that is not UTF-8, or
+// out of memory.
 #[tactic(auto, using(crate::proofs::Texts::bad_utf8, crate::proofs::Texts::good_utf8))]
 fn utf8_text(alloc: Global, bytes: &[u8], first: usize) -> Result<String, FileError>
     requires { first < 3 }
-    ensures good { OnOk result (coding_fault Utf8 first bytes.now ≡ None) }
+    ensures no_fault { OnOk result (coding_fault Utf8 first bytes.now ≡ None) }
     ensures text { IfOk result (λ text. string_bytes text ≡ bytes.now) }
-    ensures refused { IfErr result (λ fault. IsFileError fault (coding_fault Utf8 first bytes.now)) }
+    ensures first_fault { IfErr result (λ error. IsFileError error (coding_fault Utf8 first bytes.now)) }
 {
     match std::str::from_utf8(bytes) {
         Ok(text) => Ok(String::from_str(alloc, text)?),
@@ -164,10 +165,10 @@ fn text_by(
     first: usize,
 ) -> Result<String, FileError>
     requires { first < 3 }
-    ensures good { OnOk result (table_fault (option_map (λ table. table.now) upper.entry) first bytes.now ≡ None) }
+    ensures no_fault { OnOk result (table_fault (option_map (λ table. table.now) upper.entry) first bytes.now ≡ None) }
     ensures text { IfOk result (λ text. string_bytes text
         ≡ text_by (option_map (λ table. table.now) upper.entry) bytes.now) }
-    ensures refused { IfErr result (λ fault. IsFileError fault
+    ensures first_fault { IfErr result (λ error. IsFileError error
         (table_fault (option_map (λ table. table.now) upper.entry) first bytes.now)) }
 {
     match first_bad(upper, bytes) {
@@ -187,9 +188,9 @@ pub(crate) fn text_of(
     first: usize,
 ) -> Result<String, FileError>
     requires { first < 3 }
-    ensures good { OnOk result (coding_fault charset first bytes.now ≡ None) }
+    ensures no_fault { OnOk result (coding_fault charset first bytes.now ≡ None) }
     ensures text { IfOk result (λ text. string_bytes text ≡ text_in charset bytes.now) }
-    ensures refused { IfErr result (λ fault. IsFileError fault (coding_fault charset first bytes.now)) }
+    ensures first_fault { IfErr result (λ error. IsFileError error (coding_fault charset first bytes.now)) }
 {
     match charset {
         Charset::Utf8 => utf8_text(alloc, bytes, first),

@@ -1,9 +1,8 @@
 //! LibreOffice's `hyph_*.dic`: a charset, settings, and patterns in one or two levels.
 //!
-//! What is said of a key twice is said by the last line, and of two digits in one place the last counts, as in
-//! LibreOffice. The two levels are joined, and all patterns that stand in a word count, as in TeX. LibreOffice itself
-//! lets only the longest beginning of a pattern count that ends at a letter; [`crate::longest`] tells where that
-//! differs.
+//! Of two lines with one key the last counts, and of two digits in one place the last, as in LibreOffice. The two levels
+//! are joined, and all patterns that stand in a word count, as in TeX. In LibreOffice itself only the longest beginning
+//! of a pattern that ends at a letter counts; [`crate::longest`] says where that differs.
 
 ghost use Rattle.std.specs.Prelude.{◌≡◌, ◌<◌, ◌==◌, [], All, map, position, option_map, IfOk, IfErr, IfSome, OnOk, None};
 ghost use Rattle.pattern_results.specs.Errors.{IsConvertError};
@@ -32,14 +31,14 @@ use pattern_results::errors::{ConvertError, FileCause, FileError};
 use pattern_results::notes::NoteKind;
 use std::alloc::{AllocError, Global};
 
-/// Where the first line feed stands.
+// The place of the first line feed, in bytes.
 fn find_line_feed(bytes: &[u8]) -> Option<usize>
     ensures { result ≡ position (λ b. b == 10) bytes.now }
 {
     bytes.iter().position(|byte| *byte == b'\n')
 }
 
-/// Line 1, and what stands after it.
+// Splits a file into line 1 and the bytes after it.
 fn first_and_rest(bytes: &[u8]) -> (&[u8], &[u8])
     ensures { (result.0.now, result.1.now) ≡ first_and_rest bytes.now }
 {
@@ -49,15 +48,15 @@ fn first_and_rest(bytes: &[u8]) -> (&[u8], &[u8])
     }
 }
 
-/// A line without white space of ASCII at its ends.
+// A line without ASCII white space at its ends.
 fn trimmed(line: &[u8]) -> &[u8]
     ensures { result.now ≡ trimmed line.now }
 {
     line.trim_ascii()
 }
 
-/// Whether line 1 is such a text as names a charset, known or not: it begins with a capital letter, or as a charset of
-/// Windows does, and is no setting.
+// Whether line 1 names a charset, known or not: it begins with a capital letter, or as a charset of Windows does, and
+// is no setting.
 fn is_name(text: &str) -> bool
     ensures { result ≡ is_name text.now }
 {
@@ -67,7 +66,7 @@ fn is_name(text: &str) -> bool
     starts_with_capital(text.as_bytes()) || starts_with(b"microsoft-", text.as_bytes())
 }
 
-/// Whether line 1 names a charset, known or not.
+// Whether line 1 is UTF-8 and names a charset, known or not.
 fn names_charset(line: &[u8]) -> bool
     ensures { result ≡ names_charset line.now }
 {
@@ -77,7 +76,7 @@ fn names_charset(line: &[u8]) -> bool
     }
 }
 
-/// Whether a text begins with a capital letter of ASCII.
+// Whether a text begins with a capital letter of ASCII.
 fn starts_with_capital(text: &[u8]) -> bool
     ensures { result ≡ starts_with_capital text.now }
 {
@@ -87,14 +86,14 @@ fn starts_with_capital(text: &[u8]) -> bool
     }
 }
 
-/// Whether a line is a pattern.
+// Whether a line is a pattern.
 fn is_pattern(kind: Kind) -> bool
     ensures { result ≡ is_pattern kind }
 {
     matches!(kind, Kind::Pattern)
 }
 
-/// A charset, and the bytes that are read by it, of which the first line has that number.
+// Bytes and the charset to read them by. The first line of them has that number in the file.
 #[derive(Clone, Copy)]
 struct Encoded<'a> {
     charset: Charset,
@@ -102,10 +101,11 @@ struct Encoded<'a> {
     bytes: &'a [u8],
 }
 
-/// What of a file is read by which charset. None where line 1 names a charset that is not known here.
+// The bytes of a file that have lines to read, with their charset. None if line 1 names a charset that is not known
+// here.
 fn encoded_in(bytes: &[u8]) -> Option<Encoded<'_>>
-    ensures coded { option_map encoded_view result ≡ encoded_in bytes.now }
-    ensures first { IfSome result (λ coded. coded.first < 3) }
+    ensures charset_and_bytes { option_map encoded_view result ≡ encoded_in bytes.now }
+    ensures first_line { IfSome result (λ encoded. encoded.first < 3) }
 {
     let (line, rest) = first_and_rest(bytes);
     match Charset::from_name(trimmed(line)) {
@@ -123,7 +123,7 @@ fn encoded_in(bytes: &[u8]) -> Option<Encoded<'_>>
     }
 }
 
-/// What a file says: its patterns, and the minima that it tells.
+// A file, read: its patterns, and the minima that it sets.
 #[derive(Drop)]
 struct DicFile {
     patterns: Vec<(Vec<u8>, Pattern)>,
@@ -131,7 +131,7 @@ struct DicFile {
     right: Option<u8>,
 }
 
-/// The patterns that lines spell, with those of NOHYPHEN.
+// The patterns of lines, and after them those of NOHYPHEN.
 fn all_patterns(
     alloc: Global,
     noted: &mut PatternNotes,
@@ -153,19 +153,19 @@ fn all_patterns(
     Ok(patterns)
 }
 
-/// What lines say, or the first fault.
+// Reads lines. An error is their first fault, or out of memory.
 #[tactic(auto, using(crate::proofs::Keeping::as_many))]
 fn dic_of_lines(
     alloc: Global,
     noted: &mut PatternNotes,
     lines: &[Line<'_>],
 ) -> Result<DicFile, FileError>
-    ensures good { OnOk result (fault_of_lines (map line_view lines.now) ≡ None) }
-    ensures patterns { IfOk result (λ told. map keyed_view told.patterns.items
+    ensures no_fault { OnOk result (fault_of_lines (map line_view lines.now) ≡ None) }
+    ensures patterns { IfOk result (λ dic. map keyed_view dic.patterns.items
         ≡ all_patterns (map line_view lines.now)) }
-    ensures left { IfOk result (λ told. told.left ≡ minimum_set (settings_of (map line_view lines.now)).left) }
-    ensures right { IfOk result (λ told. told.right ≡ minimum_set (settings_of (map line_view lines.now)).right) }
-    ensures refused { IfErr result (λ fault. IsFileError fault (fault_of_lines (map line_view lines.now))) }
+    ensures left { IfOk result (λ dic. dic.left ≡ minimum_set (settings_of (map line_view lines.now)).left) }
+    ensures right { IfOk result (λ dic. dic.right ≡ minimum_set (settings_of (map line_view lines.now)).right) }
+    ensures first_fault { IfErr result (λ error. IsFileError error (fault_of_lines (map line_view lines.now))) }
 {
     if let Some((line, cause)) = line_fault(lines) {
         return Err(FileError::OnLine(line, cause));
@@ -182,46 +182,46 @@ fn dic_of_lines(
     })
 }
 
-/// What a part of a file says that is read by a charset, or the first fault.
+// Reads bytes by their charset. An error is their first fault, or out of memory.
 fn dic_of_encoded(
     alloc: Global,
     noted: &mut PatternNotes,
-    coded: Encoded<'_>,
+    encoded: Encoded<'_>,
 ) -> Result<DicFile, FileError>
-    requires { coded.first < 3 }
-    ensures good { OnOk result (encoded_fault (encoded_view coded.entry) ≡ None) }
-    ensures patterns { IfOk result (λ told. map keyed_view told.patterns.items
-        ≡ all_patterns (encoded_lines (encoded_view coded.entry))) }
-    ensures left { IfOk result (λ told. told.left
-        ≡ minimum_set (settings_of (encoded_lines (encoded_view coded.entry))).left) }
-    ensures right { IfOk result (λ told. told.right
-        ≡ minimum_set (settings_of (encoded_lines (encoded_view coded.entry))).right) }
-    ensures refused { IfErr result (λ fault. IsFileError fault (encoded_fault (encoded_view coded.entry))) }
+    requires { encoded.first < 3 }
+    ensures no_fault { OnOk result (encoded_fault (encoded_view encoded.entry) ≡ None) }
+    ensures patterns { IfOk result (λ dic. map keyed_view dic.patterns.items
+        ≡ all_patterns (encoded_lines (encoded_view encoded.entry))) }
+    ensures left { IfOk result (λ dic. dic.left
+        ≡ minimum_set (settings_of (encoded_lines (encoded_view encoded.entry))).left) }
+    ensures right { IfOk result (λ dic. dic.right
+        ≡ minimum_set (settings_of (encoded_lines (encoded_view encoded.entry))).right) }
+    ensures first_fault { IfErr result (λ error. IsFileError error (encoded_fault (encoded_view encoded.entry))) }
 {
-    let text = text_of(alloc, coded.charset, coded.bytes, coded.first)?;
-    let lines = lines_of(alloc, coded.first, &text)?;
+    let text = text_of(alloc, encoded.charset, encoded.bytes, encoded.first)?;
+    let lines = lines_of(alloc, encoded.first, &text)?;
     dic_of_lines(alloc, noted, &lines)
 }
 
-/// What a file says, or the first fault.
+// Reads a file. An error is its first fault, or out of memory.
 fn dic_of_bytes(alloc: Global, noted: &mut PatternNotes, bytes: &[u8]) -> Result<DicFile, FileError>
-    ensures good { OnOk result (dic_fault bytes.now ≡ None) }
-    ensures patterns { IfOk result (λ told. map keyed_view told.patterns.items
+    ensures no_fault { OnOk result (dic_fault bytes.now ≡ None) }
+    ensures patterns { IfOk result (λ dic. map keyed_view dic.patterns.items
         ≡ all_patterns (lines_of_dic bytes.now)) }
-    ensures left { IfOk result (λ told. told.left ≡ minimum_set (settings_of (lines_of_dic bytes.now)).left) }
-    ensures right { IfOk result (λ told. told.right ≡ minimum_set (settings_of (lines_of_dic bytes.now)).right) }
-    ensures refused { IfErr result (λ fault. IsFileError fault (dic_fault bytes.now)) }
+    ensures left { IfOk result (λ dic. dic.left ≡ minimum_set (settings_of (lines_of_dic bytes.now)).left) }
+    ensures right { IfOk result (λ dic. dic.right ≡ minimum_set (settings_of (lines_of_dic bytes.now)).right) }
+    ensures first_fault { IfErr result (λ error. IsFileError error (dic_fault bytes.now)) }
 {
-    let Some(coded) = encoded_in(bytes) else {
+    let Some(encoded) = encoded_in(bytes) else {
         return Err(FileError::OnLine(1, FileCause::Charset));
     };
-    if coded.first == 1 {
+    if encoded.first == 1 {
         noted.note(NoteKind::NoCharset, 1)?;
     }
-    dic_of_encoded(alloc, noted, coded)
+    dic_of_encoded(alloc, noted, encoded)
 }
 
-/// Notes that a minimum is neither given nor told.
+// Notes that a minimum is neither given nor set.
 fn note_minima(
     noted: &mut PatternNotes,
     left: Option<u8>,
@@ -233,26 +233,26 @@ fn note_minima(
     Ok(())
 }
 
-/// The dictionary of what a file says, with these minima.
+// The dictionary of a file that was read, with these minima.
 fn dictionary_of<C: Payload, B: Listing>(
     alloc: Global,
     language: Language,
     left: u8,
     right: u8,
-    told: &DicFile,
+    dic: &DicFile,
 ) -> Result<Dictionary<C, B>, AllocError>
-    requires { All (λ p. has_small_values (spelt_view p.1)) told.now.patterns.items }
+    requires { All (λ p. has_small_values (spelt_view p.1)) dic.now.patterns.items }
     ensures { IfOk result (λ d. d ≡ contents_made language left right (record {
-      patterns = filter_map (kept_in C.change_of C.payload_of) (map keyed_view told.now.patterns.items);
+      patterns = filter_map (kept_in C.change_of C.payload_of) (map keyed_view dic.now.patterns.items);
       exceptions = [];
     })) }
 {
     let mut parts = DictionaryParts::new(alloc);
-    push_fitting(alloc, &mut parts, &told.patterns)?;
+    push_fitting(alloc, &mut parts, &dic.patterns)?;
     Ok(parts.make(alloc, language, left, right)?)
 }
 
-/// The dictionary of a `.dic`, or the line of it that is faulty.
+// The dictionary of a file's bytes. An error is the file's first fault, or out of memory.
 fn dictionary_in<C: Payload, B: Listing>(
     alloc: Global,
     noted: &mut PatternNotes,
@@ -261,29 +261,31 @@ fn dictionary_in<C: Payload, B: Listing>(
     right: Option<u8>,
     bytes: &[u8],
 ) -> Result<Dictionary<C, B>, FileError>
-    ensures good { OnOk result (dic_fault bytes.now ≡ None) }
+    ensures no_fault { OnOk result (dic_fault bytes.now ≡ None) }
     ensures contents { IfOk result (λ d. d ≡ contents_of_dic C.change_of C.payload_of language left right bytes.now) }
-    ensures refused { IfErr result (λ fault. IsFileError fault (dic_fault bytes.now)) }
+    ensures first_fault { IfErr result (λ error. IsFileError error (dic_fault bytes.now)) }
 {
-    let told = dic_of_bytes(alloc, noted, bytes)?;
-    note_minima(noted, left.or(told.left), right.or(told.right))?;
-    note_losses::<C>(alloc, noted, &told.patterns)?;
+    let dic = dic_of_bytes(alloc, noted, bytes)?;
+    note_minima(noted, left.or(dic.left), right.or(dic.right))?;
+    note_losses::<C>(alloc, noted, &dic.patterns)?;
     Ok(dictionary_of(
         alloc,
         language,
-        minimum_of(left, told.left),
-        minimum_of(right, told.right),
-        &told,
+        minimum_of(left, dic.left),
+        minimum_of(right, dic.right),
+        &dic,
     )?)
 }
 
-/// Makes a dictionary of a `.dic`. Minima that are not given are those of the file, or 2, as LibreOffice has it.
+/// Makes a dictionary of a `.dic`. A least number of letters before or after a break that is not given is the file's,
+/// or else 2, as in LibreOffice.
 ///
-/// It has the key and the values that each pattern of both levels spells; of a key that stands several times the last
-/// one counts, and of several digits in one place the last one. A text that NOHYPHEN names has the value 8 at both
-/// ends. An extended dictionary has the changes of the file's patterns. A standard one can't have them: there such a
-/// pattern forbids the break that it would change, which is noted. Else the refusal names the first fault: the line and
-/// the cause. A refusal for want of memory says nothing of the file.
+/// Each pattern of both levels gives a key with its values. If a key stands several times, the last one counts, and of
+/// several digits in one place the last one. A text that NOHYPHEN names has the value 8 at both ends. An extended
+/// dictionary has the changes of the file's patterns. A standard one has no room for them: its pattern forbids the
+/// break that it would change, which is noted.
+///
+/// An error is the first fault: its line and the cause. Out of memory says nothing of the file.
 pub fn convert_dic<C: Payload, B: Listing>(
     alloc: Global,
     language: Language,
@@ -291,11 +293,11 @@ pub fn convert_dic<C: Payload, B: Listing>(
     right: Option<u8>,
     bytes: &[u8],
 ) -> Result<Converted<C, B>, ConvertError>
-    ensures good { OnOk result (dic_fault bytes.now ≡ None) }
+    ensures no_fault { OnOk result (dic_fault bytes.now ≡ None) }
     ensures contents { IfOk result (λ found. found.dictionary
         ≡ contents_of_dic C.change_of C.payload_of language left right bytes.now) }
-    ensures refused { IfErr result (λ refusal.
-        IsConvertError refusal (option_map (λ fault. (0, fault)) (dic_fault bytes.now))) }
+    ensures first_fault { IfErr result (λ error.
+        IsConvertError error (option_map (λ fault. (0, fault)) (dic_fault bytes.now))) }
 {
     let mut noted = PatternNotes::new(alloc);
     match dictionary_in(alloc, &mut noted, language, left, right, bytes) {

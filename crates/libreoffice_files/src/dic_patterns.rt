@@ -1,4 +1,4 @@
-//! The patterns of a `.dic`, all of its levels together.
+//! The patterns of a `.dic`, from both of its levels.
 
 ghost use Rattle.std.specs.Prelude.{◌≡◌, ◌<◌, ◌==◌, ◌++◌, All, map, option_map, IfOk, OnOk, IsTrue};
 ghost use Rattle.std.specs.List.{filter_map, slice_split};
@@ -8,8 +8,7 @@ ghost use Rattle.pattern_results.specs.Texts.{letters};
 ghost use Rattle.libreoffice_files.specs.LibreOfficePatterns.{last_values, value_of_digit, begins_with_digit, split_at_slash, pattern_of, pattern_of_line, change_of, spelt_with, is_within, forbidding, forbidden, last_of, with_forbidden, with_all_forbidden, patterns_of};
 ghost use Rattle.libreoffice_files.specs.LibreOffice.{change_there, entries_kept, kept_in};
 ghost use Rattle.hyphenation_dictionary.specs.Maker.{fits_key};
-ghost use Rattle.libreoffice_files.specs.Private.Views.{with_keys};
-ghost use Rattle.libreoffice_files.specs.Private.Views.{line_view, spelt_view, keyed_view, change_kept, has_small_values};
+ghost use Rattle.libreoffice_files.specs.Private.Views.{with_keys, line_view, spelt_view, keyed_view, change_kept, has_small_values};
 
 use crate::carried_changes::carried_entry;
 use crate::change::{PlacedChange, change_of, has_byte};
@@ -26,16 +25,15 @@ use pattern_results::texts::{has_letter, text_from_utf8};
 use std::alloc::{AllocError, Global};
 use std::collections::BTreeMap;
 
-/// What is spelt of a key.
+// A pattern without its key: its values, its change, and the line that it stands on.
 #[derive(Drop)]
 pub(crate) struct Pattern {
     values: Vec<Value>,
     change: Option<PlacedChange>,
-    /// The line that spells it.
     line: usize,
 }
 
-/// What was noted, and where the last pattern of each key stands.
+// Remarks, and the index of the last pattern of each key.
 #[derive(Drop)]
 pub(crate) struct PatternNotes {
     pub notes: Vec<Note>,
@@ -43,7 +41,7 @@ pub(crate) struct PatternNotes {
 }
 
 impl PatternNotes {
-    /// Nothing yet.
+    // No remark, and no pattern.
     pub(crate) fn new(alloc: Global) -> PatternNotes {
         PatternNotes {
             notes: Vec::new(alloc),
@@ -51,12 +49,12 @@ impl PatternNotes {
         }
     }
 
-    /// Notes something of a line.
-    pub(crate) fn note(&mut self, what: NoteKind, line: usize) -> Result<(), AllocError> {
-        add_note(&mut self.notes, what, LineRef { file: 0, line })
+    // Notes a remark on a line.
+    pub(crate) fn note(&mut self, kind: NoteKind, line: usize) -> Result<(), AllocError> {
+        add_note(&mut self.notes, kind, LineRef { file: 0, line })
     }
 
-    /// Notes what there is to note of a pattern that is kept, with its index.
+    // Notes missing values and repetition of a pattern that is kept at that index.
     fn note_kept(
         &mut self,
         alloc: Global,
@@ -78,7 +76,7 @@ impl PatternNotes {
     }
 }
 
-/// Appends the value that a digit is, unless that is 0.
+// Appends the value that a digit writes, unless the value is 0.
 fn push_value(values: &mut Vec<Value>, place: usize, digit: u8) -> Result<(), AllocError>
     requires { IsTrue (is_digit digit) }
     ensures { OnOk result (values.new.items ≡ values.old.items ++ value_of_digit place digit) }
@@ -112,7 +110,7 @@ fn has_two_values_in_one_place(body: &[u8]) -> bool {
     false
 }
 
-/// Whether a text begins with a digit.
+// Whether a text begins with a digit.
 fn begins_with_digit(text: &[u8]) -> bool
     ensures { result ≡ begins_with_digit text.now }
 {
@@ -122,8 +120,8 @@ fn begins_with_digit(text: &[u8]) -> bool
     }
 }
 
-/// The letters of a pattern, and its values other than 0. Of several digits in one place the last one counts, as
-/// LibreOffice has it.
+// The letters of a pattern, and its values other than 0. If several digits stand in one place, the last one counts, as
+// in LibreOffice.
 fn spelling_of(alloc: Global, body: &[u8]) -> Result<(Vec<u8>, Vec<Value>), AllocError>
     ensures letters { IfOk result (λ found. found.0.items ≡ letters body.now) }
     ensures values { IfOk result (λ found. found.1.items ≡ last_values 0 body.now) }
@@ -142,7 +140,7 @@ fn spelling_of(alloc: Global, body: &[u8]) -> Result<(Vec<u8>, Vec<Value>), Allo
     Ok((key, values))
 }
 
-/// A pattern and its change, if a slash parts them: one that has a `=` after it.
+// Splits a pattern from its change, at a slash with a `=` after it.
 fn split_at_slash(line: &str) -> (&str, Option<&str>)
     ensures { (result.0.now, option_map (λ change. change.now) result.1) ≡ split_at_slash line.now }
 {
@@ -152,7 +150,7 @@ fn split_at_slash(line: &str) -> (&str, Option<&str>)
     }
 }
 
-/// The change of a pattern, where it can be carried; else what there is to note.
+// The change of a pattern. None if it can't be carried, which is noted.
 fn change_or_note(
     alloc: Global,
     noted: &mut PatternNotes,
@@ -164,8 +162,8 @@ fn change_or_note(
     ensures { IfOk result (λ found. found ≡ change_kept (change_of key.now values.now text.now)) }
 {
     match change_of(alloc, text, key, values)? {
-        Err(what) => {
-            noted.note(what, line)?;
+        Err(kind) => {
+            noted.note(kind, line)?;
             Ok(None)
         }
         Ok((placed, several)) => {
@@ -177,7 +175,7 @@ fn change_or_note(
     }
 }
 
-/// A key with its values, and with a change or none; nothing where the change can't be carried.
+// A key with its pattern. None if the pattern has a change that can't be carried.
 #[tactic(auto, using(crate::proofs::Keeping::kept_none, crate::proofs::Keeping::kept_some))]
 fn with_change(
     alloc: Global,
@@ -218,7 +216,8 @@ fn with_change(
     }
 }
 
-/// What a pattern spells.
+// The key and the pattern that a text writes. None if it has no letter, or a change that can't be carried; both are
+// noted.
 fn pattern_of(
     alloc: Global,
     noted: &mut PatternNotes,
@@ -239,7 +238,7 @@ fn pattern_of(
     with_change(alloc, noted, key, values, change, line)
 }
 
-/// What a line spells, if it is a pattern.
+// The key and the pattern of a line. None if the line is no pattern, or one that can't be kept.
 fn pattern_of_line(
     alloc: Global,
     noted: &mut PatternNotes,
@@ -261,7 +260,7 @@ fn pattern_of_line(
     }
 }
 
-/// Keeps a pattern, if there is one, after those that were kept before.
+// Appends a pattern, if there is one, and makes its remarks.
 fn push_found(
     alloc: Global,
     noted: &mut PatternNotes,
@@ -278,7 +277,7 @@ fn push_found(
     Ok(())
 }
 
-/// What lines spell, of both levels.
+// The keys and the patterns of lines, of both levels.
 #[tactic(auto, using(crate::proofs::Keeping::kept_on))]
 pub(crate) fn patterns_of(
     alloc: Global,
@@ -295,14 +294,14 @@ pub(crate) fn patterns_of(
     Ok(patterns)
 }
 
-/// A value strictly within a key of that length.
+// Whether a value stands strictly within a key of that length.
 fn is_within(len: usize, value: Value) -> bool
     ensures { result ≡ is_within len value }
 {
     0 < value.place && value.place < len
 }
 
-/// The value 8 at both ends of a key of that length, and within what there was.
+// The value 8 at both ends of a key of that length, with the old values strictly within it.
 fn forbidding(alloc: Global, len: usize, old: &[Value]) -> Result<Vec<Value>, AllocError>
     ensures { IfOk result (λ values. values.items ≡ forbidding len old.now) }
 {
@@ -320,14 +319,14 @@ fn forbidding(alloc: Global, len: usize, old: &[Value]) -> Result<Vec<Value>, Al
     Ok(values)
 }
 
-/// Whether a pattern is of that key.
+// Whether a pattern has that key.
 fn is_of(pattern: &(Vec<u8>, Pattern), key: &[u8]) -> bool
     ensures { result ≡ is_same (keyed_view pattern.now).0 key.now }
 {
     pattern.0.as_slice() == key
 }
 
-/// What is said of a key last.
+// The last pattern with that key.
 fn last_of<'p>(key: &[u8], patterns: &'p [(Vec<u8>, Pattern)]) -> Option<&'p Pattern>
     ensures { option_map (λ pattern. spelt_view pattern.now) result ≡ last_of key.now (map keyed_view patterns.now) }
 {
@@ -340,7 +339,7 @@ fn last_of<'p>(key: &[u8], patterns: &'p [(Vec<u8>, Pattern)]) -> Option<&'p Pat
     last
 }
 
-/// The same change.
+// A copy of a change, if there is one.
 fn copy_change(change: &Option<PlacedChange>) -> Result<Option<PlacedChange>, AllocError>
     ensures { IfOk result (λ found. found ≡ change.now) }
 {
@@ -354,7 +353,7 @@ fn copy_change(change: &Option<PlacedChange>) -> Result<Option<PlacedChange>, Al
     }
 }
 
-/// The same change of letters.
+// A copy of a change.
 fn copy_subregion(change: &Subregion) -> Result<Subregion, AllocError>
     ensures { IfOk result (λ found. found ≡ change.now) }
 {
@@ -363,8 +362,8 @@ fn copy_subregion(change: &Subregion) -> Result<Subregion, AllocError>
     Ok(Subregion::new(change.left, change.right, substitution, change.breakpoint))
 }
 
-/// What forbids breaks beside a text of which that was said. Where no line spells it, nothing is noted of it: it fits
-/// any dictionary.
+// The pattern that forbids breaks at both ends of a text, with the old pattern's values within it. A pattern of no line
+// has line 1: it fits any dictionary, so nothing is noted of it.
 fn forbidden(alloc: Global, text: &str, old: Option<&Pattern>) -> Result<Pattern, AllocError>
     ensures { IfOk result (λ pattern. spelt_view pattern
         ≡ forbidden text.now (option_map (λ old. spelt_view old.now) old.entry)) }
@@ -383,7 +382,7 @@ fn forbidden(alloc: Global, text: &str, old: Option<&Pattern>) -> Result<Pattern
     }
 }
 
-/// Lets no break stand directly before or after a text: its values there are at least 8, and even.
+// Forbids breaks directly before and after a text: its values there are 8. A text without letters forbids nothing.
 fn forbid(
     alloc: Global,
     noted: &mut PatternNotes,
@@ -405,14 +404,14 @@ fn forbid(
     Ok(())
 }
 
-/// What stands between commas.
+// Splits texts at their commas.
 fn between_commas(alloc: Global, texts: &str) -> Result<Vec<&str>, AllocError>
     ensures { IfOk result (λ found. map (λ text. text.now) found.items ≡ slice_split (λ b. b == 44) texts.now) }
 {
     texts.split(',').collect(alloc)
 }
 
-/// Lets no break stand beside texts that have a comma between them.
+// Forbids breaks directly before and after texts that have commas between them.
 pub(crate) fn forbid_all(
     alloc: Global,
     noted: &mut PatternNotes,
@@ -429,7 +428,7 @@ pub(crate) fn forbid_all(
     Ok(())
 }
 
-/// Values without changes, as entries of a key.
+// Values without changes, as entries of a key.
 fn plain_entries(alloc: Global, values: &[Value]) -> Result<Vec<Entry<()>>, AllocError> {
     let mut entries = Vec::new(alloc);
     for value in values {
@@ -442,7 +441,7 @@ fn plain_entries(alloc: Global, values: &[Value]) -> Result<Vec<Entry<()>>, Allo
     Ok(entries)
 }
 
-/// The patterns with their values, as a text is searched for them.
+// The automaton of patterns with their values.
 fn automaton_of(
     alloc: Global,
     patterns: &[(Vec<u8>, Pattern)],
@@ -455,7 +454,7 @@ fn automaton_of(
     trie.freeze(alloc)
 }
 
-/// Notes each pattern that hides a value of a shorter one from LibreOffice.
+// Notes each pattern that hides a value of a shorter one from LibreOffice.
 pub(crate) fn note_hiding(
     alloc: Global,
     noted: &mut PatternNotes,
@@ -477,7 +476,7 @@ pub(crate) fn note_hiding(
     Ok(())
 }
 
-/// The change of a value, where it is at that place.
+// The change of the value at a place, if it has one.
 fn change_at(change: &Option<PlacedChange>, place: usize) -> Result<Option<Subregion>, AllocError>
     ensures { IfOk result (λ found. found ≡ change_there change.now place) }
 {
@@ -487,7 +486,7 @@ fn change_at(change: &Option<PlacedChange>, place: usize) -> Result<Option<Subre
     }
 }
 
-/// The entries of a key, as a kind of dictionary keeps them. Values are digits, and so below 255.
+// The entries of a pattern, as a kind of dictionary keeps them. Values are digits, and so below 255.
 fn entries_of<C: Payload>(alloc: Global, pattern: &Pattern) -> Result<Vec<Entry<C>>, AllocError>
     ensures { has_small_values (spelt_view pattern.now) → IfOk result (λ entries.
         entries.items ≡ entries_kept C.change_of C.payload_of (spelt_view pattern.now)) }
@@ -503,14 +502,14 @@ fn entries_of<C: Payload>(alloc: Global, pattern: &Pattern) -> Result<Vec<Entry<
     Ok(entries)
 }
 
-/// Whether a key may have these entries.
+// Whether a key may have these entries.
 fn may_have<C: Payload>(key: &str, entries: &[Entry<C>]) -> bool
     ensures { result ≡ fits_key C.change_of key.now entries.now }
 {
     fits_key(key, entries)
 }
 
-/// Takes in a key with its entries, if they fit a dictionary.
+// Appends a key with its entries, if they fit a dictionary.
 fn push_if_fits<C: Payload, B: Listing>(
     alloc: Global,
     parts: &mut DictionaryParts<C, B>,
@@ -531,7 +530,7 @@ fn push_if_fits<C: Payload, B: Listing>(
     Ok(())
 }
 
-/// Takes in the keys with their entries that fit a dictionary.
+// Appends the keys with their entries that fit a dictionary.
 #[tactic(auto, using(crate::proofs::Keeping::kept_more))]
 pub(crate) fn push_fitting<C: Payload, B: Listing>(
     alloc: Global,
@@ -548,14 +547,14 @@ pub(crate) fn push_fitting<C: Payload, B: Listing>(
     Ok(())
 }
 
-/// Whether one of the entries carries a change.
+// Whether some entry carries a change.
 fn has_change<C: Payload>(entries: &[Entry<C>]) -> bool {
     entries
         .iter()
         .any(|entry| entry.change.as_change().is_some())
 }
 
-/// Whether a dictionary may have the key with these entries.
+// Whether a dictionary may have the key with these entries.
 fn fits<C: Payload>(key: &[u8], entries: &[Entry<C>]) -> bool {
     match std::str::from_utf8(key) {
         Ok(key) => fits_key(key, entries),
@@ -563,7 +562,7 @@ fn fits<C: Payload>(key: &[u8], entries: &[Entry<C>]) -> bool {
     }
 }
 
-/// Notes of a pattern that its change forbids the break, and that it does not fit.
+// Notes of a pattern that its change forbids a break, and that it does not fit.
 fn note_losses_of<C: Payload>(
     alloc: Global,
     notes: &mut Vec<Note>,
@@ -581,7 +580,7 @@ fn note_losses_of<C: Payload>(
     Ok(())
 }
 
-/// Notes what of patterns a dictionary can't have.
+// Notes the patterns that a dictionary has no room for.
 pub(crate) fn note_losses<C: Payload>(
     alloc: Global,
     noted: &mut PatternNotes,
@@ -595,7 +594,7 @@ pub(crate) fn note_losses<C: Payload>(
     Ok(())
 }
 
-/// Notes what the levels mean for LibreOffice. Where only one of them has patterns, they mean the same here.
+// Notes what the levels mean for LibreOffice. If only one of them has patterns, nothing is noted.
 pub(crate) fn note_levels(noted: &mut PatternNotes, lines: &[Line<'_>]) -> Result<(), AllocError> {
     let mut level = None;
     let mut has_patterns = (false, false);

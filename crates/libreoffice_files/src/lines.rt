@@ -1,4 +1,4 @@
-//! What the lines of LibreOffice's files say.
+//! The lines of a `.dic`, read: settings and patterns.
 
 ghost use Rattle.std.specs.Prelude.{◌≡◌, ◌^◌, ◌<◌, ◌==◌, ◌++◌, map, option_map, IfOk, None};
 ghost use Rattle.std.specs.List.{slice_split};
@@ -9,25 +9,25 @@ ghost use Rattle.libreoffice_files.specs.Private.Views.{line_view, settings_view
 use pattern_results::errors::FileCause;
 use std::alloc::{AllocError, Global};
 
-/// What a line is.
+// The kind of a line.
 #[derive(Clone, Copy)]
 pub(crate) enum Kind {
-    /// An empty line, or a comment.
-    Nothing,
-    /// LEFTHYPHENMIN.
+    // An empty line, or a comment.
+    Ignored,
+    // LEFTHYPHENMIN.
     Left,
-    /// RIGHTHYPHENMIN.
+    // RIGHTHYPHENMIN.
     Right,
-    /// NEXTLEVEL: the second level begins.
+    // NEXTLEVEL: the second level begins.
     Level,
     NoHyphen,
-    /// A setting that a dictionary text can't say.
+    // A setting that a dictionary text has no form for.
     Other,
     Pattern,
 }
 
-/// A line, by its number: what it is, and what it says. A setting says what stands after its name, a pattern the whole
-/// line.
+// A line: its number, its kind and its text. The text of a setting stands after its name; the text of a pattern is the
+// whole line.
 #[derive(Clone, Copy)]
 pub(crate) struct Line<'a> {
     pub number: usize,
@@ -35,7 +35,7 @@ pub(crate) struct Line<'a> {
     pub text: &'a str,
 }
 
-/// What stands before the first such character of a text, and after it, where the text has one.
+// Splits a text at the first such character, which is left out. None if the text has no such character.
 pub(crate) fn split_at_byte(text: &str, mark: char) -> Option<(&str, &str)>
     requires { mark < 128 }
     ensures { option_map (λ parts. (parts.0.now, parts.1.now)) result ≡ split_at_byte mark text.now }
@@ -43,21 +43,21 @@ pub(crate) fn split_at_byte(text: &str, mark: char) -> Option<(&str, &str)>
     text.split_once(mark)
 }
 
-/// The number that a text writes, if it is below 2^8.
+// The number below 2^8 that a text writes in digits.
 pub(crate) fn small_number(text: &str) -> Option<u8>
     ensures { result ≡ number_below 256 text.now }
 {
     text.parse::<u8>().ok()
 }
 
-/// The number that a text writes, if it is below 2^64.
+// The number below 2^64 that a text writes in digits.
 pub(crate) fn number(text: &str) -> Option<usize>
     ensures { result ≡ number_below (2 ^ 64) text.now }
 {
     text.parse::<usize>().ok()
 }
 
-/// What the first word of a line makes of it.
+// The kind of a line by its first word.
 fn kind_of_word(word: &str) -> Kind
     ensures { result ≡ kind_of_word word.now }
 {
@@ -71,7 +71,7 @@ fn kind_of_word(word: &str) -> Kind
     }
 }
 
-/// Whether a line is empty or a comment.
+// Whether a line is empty or a comment.
 fn is_ignored(line: &str) -> bool
     ensures { result ≡ is_ignored line.now }
 {
@@ -81,7 +81,7 @@ fn is_ignored(line: &str) -> bool
     }
 }
 
-/// The first word of a line, up to a space, and what stands after it.
+// Splits a line at its first space, which is left out. A line without a space is one word.
 fn word_and_rest(line: &str) -> (&str, &str)
     ensures { (result.0.now, result.1.now) ≡ word_and_rest line.now }
 {
@@ -91,7 +91,7 @@ fn word_and_rest(line: &str) -> (&str, &str)
     }
 }
 
-/// What a line of such a kind says: a pattern the whole line, a setting what stands after its name.
+// The text of a line of such a kind: of a pattern the whole line, of a setting the rest after its name.
 fn text_by_kind<'a>(kind: Kind, line: &'a str, rest: &'a str) -> &'a str
     ensures { result.now ≡ text_by_kind kind line.now rest.now }
 {
@@ -101,14 +101,14 @@ fn text_by_kind<'a>(kind: Kind, line: &'a str, rest: &'a str) -> &'a str
     }
 }
 
-/// What a line says that has no white space at its end.
+// Reads a line that has no white space at its end.
 pub(crate) fn line_of(number: usize, line: &str) -> Line<'_>
     ensures { line_view result ≡ read_line number line.now }
 {
     if is_ignored(line) {
         return Line {
             number,
-            kind: Kind::Nothing,
+            kind: Kind::Ignored,
             text: "",
         };
     }
@@ -118,50 +118,50 @@ pub(crate) fn line_of(number: usize, line: &str) -> Line<'_>
     Line { number, kind, text }
 }
 
-/// What stands between line feeds.
+// Splits a text at its line feeds.
 fn between_feeds(alloc: Global, text: &str) -> Result<Vec<&str>, AllocError>
     ensures { IfOk result (λ lines. map (λ line. line.now) lines.items ≡ slice_split (λ b. b == 10) text.now) }
 {
     text.split('\n').collect(alloc)
 }
 
-/// What lines say, of which the first has that number.
+// Reads lines, the first of which has that number.
 fn read_lines<'a>(
     alloc: Global,
     first: usize,
     lines: &[&'a str],
 ) -> Result<Vec<Line<'a>>, AllocError>
     requires { first < 3 }
-    ensures { IfOk result (λ said. map line_view said.items ≡ lines_from first (map (λ line. line.now) lines.now)) }
+    ensures { IfOk result (λ read. map line_view read.items ≡ lines_from first (map (λ line. line.now) lines.now)) }
 {
-    let mut said = Vec::new(alloc);
+    let mut read = Vec::new(alloc);
     let mut number = first;
     for line in lines {
-        said.push(line_of(number, line.trim_end()))?;
+        read.push(line_of(number, line.trim_end()))?;
         number += 1;
     }
-    Ok(said)
+    Ok(read)
 }
 
-/// What the lines of a text say, of which the first has that number.
+// Reads the lines of a text, the first of which has that number.
 pub(crate) fn lines_of(alloc: Global, first: usize, text: &str) -> Result<Vec<Line<'_>>, AllocError>
     requires { first < 3 }
-    ensures { IfOk result (λ said. map line_view said.items ≡ lines_in first text.now) }
+    ensures { IfOk result (λ read. map line_view read.items ≡ lines_in first text.now) }
 {
     let lines = between_feeds(alloc, text)?;
     read_lines(alloc, first, &lines)
 }
 
-/// What lines say of all levels.
+// The settings for all levels, as texts.
 #[derive(Clone, Copy)]
 pub(crate) struct Settings<'a> {
     pub left: Option<&'a str>,
     pub right: Option<&'a str>,
-    /// The texts, with a comma between them, beside which no break is to stand.
+    // Texts with commas between them; no break stands directly before or after them.
     pub no_hyphen: Option<&'a str>,
 }
 
-/// What is said with a line more: of two of one name the last one counts.
+// Adds the setting of one more line. If a setting stands several times, the last one counts.
 fn with_line<'a>(settings: Settings<'a>, line: Line<'a>) -> Settings<'a>
     ensures { settings_view result ≡ with_line (settings_view settings.entry) (line_view line.entry) }
 {
@@ -183,7 +183,7 @@ fn with_line<'a>(settings: Settings<'a>, line: Line<'a>) -> Settings<'a>
     }
 }
 
-/// What lines say of all levels.
+// The settings that lines have.
 pub(crate) fn settings_of<'a>(lines: &[Line<'a>]) -> Settings<'a>
     ensures { settings_view result ≡ settings_of (map line_view lines.now) }
 {
@@ -198,14 +198,14 @@ pub(crate) fn settings_of<'a>(lines: &[Line<'a>]) -> Settings<'a>
     settings
 }
 
-/// The number that LEFTHYPHENMIN or RIGHTHYPHENMIN says.
+// The number from 0 to 255 that LEFTHYPHENMIN or RIGHTHYPHENMIN has.
 fn minimum_value(text: &str) -> Option<u8>
     ensures { result ≡ minimum_value text.now }
 {
     small_number(text.trim())
 }
 
-/// The minimum that is told; 0 tells none, as LibreOffice has it.
+// The minimum that a setting sets; 0 sets none, as in LibreOffice.
 pub(crate) fn minimum_set(text: Option<&str>) -> Option<u8>
     ensures { result ≡ minimum_set (option_map (λ text. text.now) text.entry) }
 {
@@ -215,14 +215,14 @@ pub(crate) fn minimum_set(text: Option<&str>) -> Option<u8>
     }
 }
 
-/// The minimum that is given, or that is told, or 2.
-pub(crate) fn minimum_of(given: Option<u8>, told: Option<u8>) -> u8
-    ensures { result ≡ minimum_of given told }
+// The minimum that is given, or else that the file sets, or else 2.
+pub(crate) fn minimum_of(given: Option<u8>, set: Option<u8>) -> u8
+    ensures { result ≡ minimum_of given set }
 {
-    given.or(told).unwrap_or(2)
+    given.or(set).unwrap_or(2)
 }
 
-/// What is wrong with a line of such a kind.
+// The fault of a line of such a kind, if it has one.
 fn cause_of(kind: Kind, text: &str) -> Option<FileCause>
     ensures { result ≡ cause_of_kind kind text.now }
 {
@@ -232,7 +232,7 @@ fn cause_of(kind: Kind, text: &str) -> Option<FileCause>
     }
 }
 
-/// The first faulty line, and the cause.
+// The first faulty line, with the cause.
 pub(crate) fn line_fault(lines: &[Line<'_>]) -> Option<(usize, FileCause)>
     ensures { result ≡ line_fault (map line_view lines.now) }
 {

@@ -1,7 +1,7 @@
-//! Whether patterns mean the same for LibreOffice.
+//! Patterns as LibreOffice reads them, and whether TeX reads them alike.
 //!
-//! TeX lets all patterns count that stand in a word. LibreOffice takes, at each letter, the longest text that ends there
-//! and begins some pattern, and lets that text alone count, if it is a pattern itself:
+//! In TeX all patterns count that stand in a word. LibreOffice takes, at each letter, the longest text that ends there
+//! and begins some pattern. That text alone counts, if it is a pattern itself:
 //!
 //! ```text
 //!   patterns a1b and xab2c, word xaby
@@ -21,7 +21,7 @@ use hyphenation_breaks::entry::Entry;
 use hyphenation_score::laws::{value_is_borne, value_is_greatest};
 use hyphenation_trie::{Automaton, LookUps};
 
-/// The greatest value that entries give to the place `start + place`; 0 where none does.
+// The greatest value that entries give to the place `start + place`, in bytes; 0 if none gives any.
 fn value_at<C>(entries: &[Entry<C>], start: usize, place: u32) -> u8
     ensures { result ≡ greatest_value (filter (λ entry. entry.place == start + place) entries.now) }
 {
@@ -35,7 +35,7 @@ fn value_at<C>(entries: &[Entry<C>], start: usize, place: u32) -> u8
     value
 }
 
-/// Whether the entries of a pattern that ends a text, from `start` on, give some place more than the text's own do.
+// Whether the entries of a pattern that ends a text, from `start` on, give some place more than the text's own entries.
 fn exceed<C>(ending: &[Entry<C>], start: usize, own: &[Entry<C>]) -> bool
     ensures { result ≡ list_any (λ entry. nat_lt
         (greatest_value (filter (λ e. e.place == start + entry.place) own.now)) entry.value) ending.now }
@@ -45,7 +45,7 @@ fn exceed<C>(ending: &[Entry<C>], start: usize, own: &[Entry<C>]) -> bool
         .any(|entry| value_at(own, start, entry.place) < entry.value)
 }
 
-/// The entries of a node's text; none where it is no key.
+// The entries of a node's text; none if it is no key.
 fn own_entries<C: Drop>(automaton: &Automaton<Entry<C>>, node: usize) -> &[Entry<C>]
     requires { (0 < node) × (node < length automaton.now.texts) }
     ensures { result.now ≡ unwrap_or (entries_of_key automaton.now (node_text automaton.now node)) [] }
@@ -58,7 +58,7 @@ fn own_entries<C: Drop>(automaton: &Automaton<Entry<C>>, node: usize) -> &[Entry
     }
 }
 
-/// Whether a shorter pattern that ends a node's text gives some place more than the text itself does.
+// Whether a shorter pattern that ends a node's text gives some place more than the text itself.
 fn is_exceeded<C: Drop>(automaton: &Automaton<Entry<C>>, node: usize) -> bool
     requires { node < length automaton.now.texts }
     ensures { result ≡ is_exceeded (entries_of_key automaton.now) (node_text automaton.now node) }
@@ -79,7 +79,7 @@ fn is_exceeded<C: Drop>(automaton: &Automaton<Entry<C>>, node: usize) -> bool
     false
 }
 
-/// Whether a pattern hides a value of a shorter one from LibreOffice. Of a text that is no pattern nothing is promised.
+/// Whether a pattern hides a value of a shorter one from LibreOffice. A text that is no pattern gets no promise.
 pub fn hides_value<C: Drop>(automaton: &Automaton<Entry<C>>, key: &[u8]) -> bool
     ensures { IsSome (entries_of_key automaton.now key.now) → result ≡ hides_value (entries_of_key automaton.now) key.now }
 {
@@ -94,8 +94,8 @@ pub fn hides_value<C: Drop>(automaton: &Automaton<Entry<C>>, key: &[u8]) -> bool
     false
 }
 
-/// A law. In closed patterns, of which none hides a value, the greatest value over all patterns is the one that the
-/// longest beginnings alone give.
+/// In closed patterns, of which none hides a value, the greatest value over all patterns is the one that the longest
+/// beginnings alone give.
 pub fn closed_patterns_read_alike<C>()
     ensures { ClosedReadAlike C }
 {

@@ -1,4 +1,4 @@
--- What files give together: a dictionary, or the first fault.
+-- Files together: the dictionary that they make, or their first fault.
 use Rattle.std.specs.Prelude.{ℕ, ◌+◌, List, [], ◌∷◌, ◌++◌, Option, Some, None, option_map}
 use Rattle.std.specs.Option.{option_or}
 use Rattle.std.specs.List.{filter_map}
@@ -14,24 +14,24 @@ use Rattle.tex_files.specs.declared.group.Form.TheVariants.{Tex, Plain}
 use Rattle.tex_files.specs.declared.group.File.{File}
 use Rattle.tex_files.specs.declared.group.Group.TheVariants.{Exceptions}
 
--- The words of a file's groups, up to what is wrong with the groups themselves, if anything is.
+-- The words of a file's groups, up to the first fault of a group.
 abbrev pub words_of : Form → List ℕ → List GroupWord
 words_of Tex bytes = (groups (pieces_of bytes)).words
 words_of (Plain group) bytes = plain_words group (pieces_of bytes)
 
--- What is wrong with a file's groups, if anything is: the line and the cause.
+-- The first fault of a file's groups: the line and the cause.
 abbrev pub group_fault : Form → List ℕ → Option (ℕ × FileCause)
 group_fault Tex bytes = (groups (pieces_of bytes)).fault
 group_fault (Plain group) bytes = None
 
--- What words spell.
+-- The keys and the words that words of groups spell.
 abbrev pub words_spelt : {C B : Type 0} → (Option Change → C) → (Break → B) → List GroupWord → SpeltWords C B
 words_spelt payload_of listing_of words = record {
   patterns = filter_map (λ w. pattern_in payload_of w.group w.text) words;
   exceptions = filter_map (λ w. exception_in listing_of w.group w.text) words;
 }
 
--- One after the other.
+-- The keys and words of one file, and then those of another.
 abbrev pub one_after_other : {C B : Type 0} → SpeltWords C B → SpeltWords C B → SpeltWords C B
 one_after_other first more = record {
   patterns = first.patterns ++ more.patterns;
@@ -44,7 +44,7 @@ first_fault [] = None
 first_fault (word ∷ words) =
     option_or (option_map (λ cause. (word.line, cause)) (word_cause word.group word.text)) (first_fault words)
 
--- A file without a pattern and without an exception is faulty, but for a plain file of exceptions: a language may have
+-- A file without a pattern and without an exception is faulty, except a plain file of exceptions: a language may have
 -- none.
 abbrev pub empty_fault : Form → List GroupWord → Option (ℕ × FileCause)
 empty_fault (Plain Exceptions) words = None
@@ -64,7 +64,7 @@ fault_from number (file ∷ files) =
     option_or (option_map (λ fault. (number, fault)) (file_fault file.form file.bytes.now))
     (fault_from (number + 1) files)
 
--- What files spell, one file after the other.
+-- The keys and words of files, one file after the other.
 abbrev pub spelt_in : {C B : Type 0} → (Option Change → C) → (Break → B) → List File → SpeltWords C B
 spelt_in payload_of listing_of [] = nothing_spelt
 spelt_in payload_of listing_of (file ∷ files) =

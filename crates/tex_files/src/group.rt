@@ -1,6 +1,6 @@
-//! Files, their groups of patterns and exceptions, and the words of groups.
+//! Files, their groups of patterns and of exceptions, and the words of groups.
 
-/// What the words of a group are.
+/// The kind of a group: its words are patterns, or exceptions with hyphens at their breaks.
 #[derive(Clone, Copy, Debug)]
 pub enum Group {
     Patterns,
@@ -12,7 +12,7 @@ pub enum Group {
 pub enum Form {
     /// A TeX file, with its groups in braces.
     Tex,
-    /// A plain file, which is the inside of one group.
+    /// A plain file: the inside of one group.
     Plain(Group),
 }
 
@@ -23,14 +23,14 @@ pub struct File<'a> {
     pub bytes: &'a [u8],
 }
 
-/// Where a piece of a TeX file stands.
+/// The place of a piece in a TeX file.
 #[derive(Clone, Copy)]
 pub enum Place {
     /// Outside of groups.
     Outside,
-    /// After the command that opens a group.
+    /// After the command that opens a group, before its brace.
     Before(Group),
-    /// Within a group, and the line on which that was opened.
+    /// Within a group that was opened on that line, counted from 1.
     Within(Group, usize),
 }
 

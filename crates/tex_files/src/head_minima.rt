@@ -1,38 +1,38 @@
-//! What TeX's files and plain ones say of themselves, and what there is to note of them.
+//! The least numbers of characters around a break, as the heads of TeX files have them.
 
 ghost use Rattle.std.specs.Prelude.{◌≡◌, IfSome, IsSome};
 
 use crate::group::File;
 
-/// Where the lines of a file's head stand.
+// The part of a file's head that its comments are in.
 #[derive(Clone, Copy)]
 enum Head {
     Other,
-    /// After `hyphenmins:`.
+    // After `hyphenmins:`.
     Minima,
-    /// There after `typesetting:`.
+    // After `typesetting:`, which follows `hyphenmins:`.
     Typesetting,
 }
 
-/// The least numbers of characters, as far as they are told.
+// The least numbers of characters before and after a break, as far as the head has them.
 #[derive(Drop)]
 pub(crate) struct Minima {
     pub(crate) left: Option<u8>,
     pub(crate) right: Option<u8>,
 }
 
-/// The number after a name, in a comment. A remark may stand after it.
+// The number after a name, in a comment. A remark may stand after it.
 fn setting_of(comment: &str, name: &str) -> Option<u8> {
-    let told = comment.strip_prefix(name)?.trim();
-    let (number, _remark) = told.split_once(' ').unwrap_or((told, ""));
+    let text = comment.strip_prefix(name)?.trim();
+    let (number, _remark) = text.split_once(' ').unwrap_or((text, ""));
     match number.parse::<u8>() {
         Ok(number) => Some(number),
         Err(_) => None,
     }
 }
 
-/// Takes in a comment: hyph-utf8's files say their minima there. Those of typesetting count, which stand before or
-/// after those of generation.
+// Takes in a comment of the head, where hyph-utf8's files have their minima. Those of typesetting count, which stand
+// before or after those of generation.
 fn take_comment(minima: &mut Minima, head: Head, comment: &str) -> Head {
     match (head, comment) {
         (_, "hyphenmins:") => return Head::Minima,
@@ -52,7 +52,7 @@ fn take_comment(minima: &mut Minima, head: Head, comment: &str) -> Head {
     head
 }
 
-/// The minima that a TeX file of hyph-utf8 tells in its head.
+// The minima that the head of a TeX file of hyph-utf8 has.
 fn minima_of(bytes: &[u8]) -> Minima {
     let mut head = Head::Other;
     let mut minima = Minima {
@@ -69,18 +69,18 @@ fn minima_of(bytes: &[u8]) -> Minima {
     minima
 }
 
-/// Each minimum that is given, or else that of the first file that tells it; none where one of the two is neither given
-/// nor told.
+/// The least numbers of characters before and after a break. Each is the given one, or else that of the first file
+/// whose head has it. None if one of the two is neither given nor in a head.
 pub fn minima_for(left: Option<u8>, right: Option<u8>, files: &[File<'_>]) -> Option<(u8, u8)>
-    ensures given { IsSome left → IsSome right → IsSome result }
-    ensures first { IfSome result (λ minima. IfSome left (λ given. minima.0 ≡ given)) }
-    ensures second { IfSome result (λ minima. IfSome right (λ given. minima.1 ≡ given)) }
+    ensures some_if_both_given { IsSome left → IsSome right → IsSome result }
+    ensures left_if_given { IfSome result (λ minima. IfSome left (λ given. minima.0 ≡ given)) }
+    ensures right_if_given { IfSome result (λ minima. IfSome right (λ given. minima.1 ≡ given)) }
 {
     let mut minima = Minima { left, right };
     for file in files {
-        let told = minima_of(file.bytes);
-        minima.left = minima.left.or(told.left);
-        minima.right = minima.right.or(told.right);
+        let own = minima_of(file.bytes);
+        minima.left = minima.left.or(own.left);
+        minima.right = minima.right.or(own.right);
     }
     Some((minima.left?, minima.right?))
 }

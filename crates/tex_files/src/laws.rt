@@ -1,8 +1,7 @@
-//! Laws on the groups of TeX's files and on plain files, in the format's own words.
+//! Laws on the groups of TeX files and on plain files, in the format's own words.
 //!
-//! For a reader who doubts the definition in specs/Groups.antt: leave the comments out by the first law; the second
-//! tells the words of what is left group by group, and the others say how it ends. The few forms that no law speaks of
-//! are named in docs/DEFINITIONS.md.
+//! They let a reader check the definition in specs/Groups.antt. The first law leaves the comments out; the second reads
+//! the words of the rest group by group, and the others say how a file ends.
 
 ghost use Rattle.std.specs.Prelude.{◌≡◌, List, ℕ, [], None};
 ghost use Rattle.tex_files.specs.Converting.{words_of, group_fault};
@@ -10,7 +9,7 @@ ghost use Rattle.tex_files.specs.declared.group.Form.{Form};
 ghost use Rattle.tex_files.specs.declared.group.Form.TheVariants.{Tex};
 ghost use Rattle.tex_files.specs.TexFiles.{IsOutside, IgnoresComments, IgnoresLastComment, HasWordsOfFirstGroupAndRest, HasFaultOfRest, HasWordsOfOpenGroup, HasFaultOfOpenGroup, HasNothingAfterItsEnd, HasFaultOfInput, HasWordsBetween};
 
-/// Comments say nothing: a file has the same words, on the same lines, and the same fault with them and without them.
+/// Comments say nothing: with them and without them, a file has equal words on equal lines, and an equal fault.
 pub fn comments_say_nothing()
     ensures words { (form : Form) → IgnoresComments (words_of form) }
     ensures fault { (form : Form) → IgnoresComments (group_fault form) }
@@ -18,8 +17,8 @@ pub fn comments_say_nothing()
     ensures last_fault { (form : Form) → IgnoresLastComment (group_fault form) }
 {}
 
-/// A TeX file without comments has the words of its first group, which are those between white space where it holds
-/// neither a command nor a brace, and then those of what is after that group, with their lines.
+/// A TeX file without comments has the words of its first group, and then those of the text after that group, with their
+/// lines. The words of a group without a command and a brace stand between white space.
 pub fn groups_are_read_in_order()
     ensures words { HasWordsOfFirstGroupAndRest }
     ensures fault { HasFaultOfRest }
@@ -39,8 +38,8 @@ pub fn open_groups_are_faulty()
 
 /// A TeX file ends at `\endinput` outside of groups; `\input` there is a fault.
 pub fn the_end_is_the_end()
-    ensures end { HasNothingAfterItsEnd }
-    ensures input { HasFaultOfInput }
+    ensures after_endinput { HasNothingAfterItsEnd }
+    ensures at_input { HasFaultOfInput }
 {}
 
 /// A plain file without a comment, a command and a brace has the words between its white space.

@@ -1,4 +1,4 @@
-//! What one word of a group spells: a key with its values, or a word with its breaks.
+//! One word of a group, read: a pattern is a key with its values, an exception a word with its breaks.
 
 ghost use Rattle.std.specs.Prelude.{◌≡◌, ◌++◌, false, true, map, IfOk, IfSome, IfNone, OnOk, IfErr, IsTrue, None, Some};
 ghost use Rattle.std.specs.List.{list_any};
@@ -25,21 +25,21 @@ use pattern_results::errors::FileCause;
 use pattern_results::texts::{has_letter, text_from_utf8};
 use std::alloc::{AllocError, Global};
 
-/// Whether a backslash or a brace stands in a text.
+// Whether a text has a backslash or a brace.
 fn has_command(text: &[u8]) -> bool
     ensures { result ≡ list_any is_command text.now }
 {
     text.iter().any(|b| matches!(*b, b'\\' | b'{' | b'}'))
 }
 
-/// Whether a circumflex stands in a text.
+// Whether a text has a circumflex.
 fn has_caret(text: &[u8]) -> bool
     ensures { result ≡ list_any is_caret text.now }
 {
     text.iter().any(|b| *b == b'^')
 }
 
-/// Whether a byte is a sign of ASCII that stands in no word of such a group.
+// Whether a byte is an ASCII symbol that is allowed in no word of such a group.
 fn is_bad_symbol(group: Group, b: u8) -> bool
     ensures { result ≡ is_bad_symbol group b }
 {
@@ -50,14 +50,14 @@ fn is_bad_symbol(group: Group, b: u8) -> bool
     }
 }
 
-/// Whether such a sign stands in a text.
+// Whether a text has a symbol that is allowed in no word of such a group.
 fn has_bad_symbol(group: Group, text: &[u8]) -> bool
     ensures { result ≡ list_any (is_bad_symbol group) text.now }
 {
     text.iter().any(|b| is_bad_symbol(group, *b))
 }
 
-/// Whether a byte is a value, in a pattern, or a break, in an exception.
+// Whether a byte says a place: the digit of a value in a pattern, or the hyphen of a break in an exception.
 pub(crate) fn says_place(group: Group, b: u8) -> bool
     ensures { result ≡ says_place group b }
 {
@@ -67,7 +67,7 @@ pub(crate) fn says_place(group: Group, b: u8) -> bool
     }
 }
 
-/// Whether two of them stand in succession.
+// Whether two digits of a pattern, or two hyphens of an exception, stand in succession.
 pub(crate) fn has_two_in_one_place(group: Group, text: &[u8]) -> bool
     ensures { result ≡ two_in_one_place group false text.now }
 {
@@ -82,7 +82,7 @@ pub(crate) fn has_two_in_one_place(group: Group, text: &[u8]) -> bool
     false
 }
 
-/// The first test of its signs that a word fails.
+// The first test of its symbols that a word fails.
 fn symbol_cause(group: Group, text: &[u8]) -> Option<FileCause>
     ensures { result ≡ symbol_cause group text.now }
 {
@@ -99,7 +99,7 @@ fn symbol_cause(group: Group, text: &[u8]) -> Option<FileCause>
     }
 }
 
-/// Appends the value that a digit is, unless that is 0.
+// Appends the value that a digit writes, unless the value is 0. The place counts bytes.
 fn push_value<C: Payload>(
     entries: &mut Vec<Entry<C>>,
     place: usize,
@@ -120,7 +120,7 @@ fn push_value<C: Payload>(
     Ok(())
 }
 
-/// The letters of a pattern, and its values other than 0, each with the number of bytes of letters before it.
+// Splits a pattern into its letters and its values other than 0, each at the number of bytes of letters before it.
 fn letters_and_entries<C: Payload>(
     alloc: Global,
     text: &[u8],
@@ -140,7 +140,7 @@ fn letters_and_entries<C: Payload>(
     Ok((key, entries))
 }
 
-/// The letters of a word, and its breaks.
+// Splits a word with hyphens into its letters and its breaks, each at the number of bytes of letters before it.
 fn letters_and_breaks<B: Listing>(
     alloc: Global,
     text: &[u8],
@@ -160,15 +160,16 @@ fn letters_and_breaks<B: Listing>(
     Ok((word, listed))
 }
 
-/// The key that a pattern of good signs spells, with its entries.
+// Reads a pattern in small letters, which must have passed the tests of its symbols: its key, with its entries. An
+// error is the first test of the letters that it fails, or out of memory.
 fn read_letters<C: Payload>(
     alloc: Global,
     text: &[u8],
 ) -> Result<(String, Vec<Entry<C>>), WordError>
-    ensures good { OnOk result (letter_cause Patterns text.now ≡ None) }
+    ensures passes_tests { OnOk result (letter_cause Patterns text.now ≡ None) }
     ensures spelled { IfOk result (λ p. pair_of p ≡ (letters text.now, entries_of_digits C.payload_of text.now)) }
     ensures fits { IfOk result (λ p. IsTrue (fits_key C.change_of (string_bytes p.0) p.1.items)) }
-    ensures refused { IfErr result (λ fault. IsWordError fault (letter_cause Patterns text.now)) }
+    ensures first_failed_test { IfErr result (λ error. IsWordError error (letter_cause Patterns text.now)) }
 {
     let (key, entries) = letters_and_entries(alloc, text)?;
     if !has_letter(&key) {
@@ -185,7 +186,7 @@ fn read_letters<C: Payload>(
     }
 }
 
-/// A text with its capitals made small.
+// A text with its capitals made small.
 fn fold_text(alloc: Global, text: &str) -> Result<Vec<u8>, AllocError>
     ensures { IfOk result (λ found. found.items ≡ fold_case text.now) }
 {
@@ -193,7 +194,7 @@ fn fold_text(alloc: Global, text: &str) -> Result<Vec<u8>, AllocError>
     Ok(folded.into_owned(alloc)?.into_bytes())
 }
 
-/// A word with its capitals made small. What is not UTF-8 stays.
+/// A word with its capitals made small. A word that is not UTF-8 stays as it is.
 pub fn folded(alloc: Global, text: &[u8]) -> Result<Vec<u8>, AllocError>
     ensures { IfOk result (λ found. found.items ≡ folded_text text.now) }
 {
@@ -203,15 +204,16 @@ pub fn folded(alloc: Global, text: &[u8]) -> Result<Vec<u8>, AllocError>
     }
 }
 
-/// The key that a pattern spells, with its entries.
+/// Reads a pattern: its key in small letters, with its entries. An error is the first test that it fails, or out of
+/// memory.
 pub fn read_pattern<C: Payload>(
     alloc: Global,
     text: &[u8],
 ) -> Result<(String, Vec<Entry<C>>), WordError>
-    ensures good { OnOk result (word_cause Patterns text.now ≡ None) }
+    ensures passes_tests { OnOk result (word_cause Patterns text.now ≡ None) }
     ensures spelled { IfOk result (λ p. Some (pair_of p) ≡ pattern_in C.payload_of Patterns text.now) }
     ensures fits { IfOk result (λ p. IsTrue (fits_key C.change_of (string_bytes p.0) p.1.items)) }
-    ensures refused { IfErr result (λ fault. IsWordError fault (word_cause Patterns text.now)) }
+    ensures first_failed_test { IfErr result (λ error. IsWordError error (word_cause Patterns text.now)) }
 {
     match symbol_cause(Group::Patterns, text) {
         Some(cause) => Err(WordError::Fails(cause)),
@@ -219,15 +221,16 @@ pub fn read_pattern<C: Payload>(
     }
 }
 
-/// The word that an exception of good signs spells, with its breaks.
+// Reads a word with hyphens in small letters, which must have passed the tests of its symbols: the word, with its
+// breaks. An error is that it is not UTF-8, or out of memory.
 fn read_breaks<C: Payload, B: Listing>(
     alloc: Global,
     text: &[u8],
 ) -> Result<(String, Vec<B>), WordError>
-    ensures good { OnOk result (letter_cause Exceptions text.now ≡ None) }
+    ensures passes_tests { OnOk result (letter_cause Exceptions text.now ≡ None) }
     ensures spelled { IfOk result (λ e. pair_of e ≡ (unhyphenated text.now, breaks_of_hyphens B.listing_of text.now)) }
     ensures fits { IfOk result (λ e. IsTrue (are_listed B.meaning (string_bytes e.0) e.1.items)) }
-    ensures refused { IfErr result (λ fault. IsWordError fault (letter_cause Exceptions text.now)) }
+    ensures first_failed_test { IfErr result (λ error. IsWordError error (letter_cause Exceptions text.now)) }
 {
     let (word, listed) = letters_and_breaks(alloc, text)?;
     match text_from_utf8(word) {
@@ -241,15 +244,16 @@ fn read_breaks<C: Payload, B: Listing>(
     }
 }
 
-/// The word that an exception spells, with its breaks.
+/// Reads a word with hyphens: the word in small letters, with its breaks. An error is the first test that it fails, or
+/// out of memory.
 pub fn read_exception<C: Payload, B: Listing>(
     alloc: Global,
     text: &[u8],
 ) -> Result<(String, Vec<B>), WordError>
-    ensures good { OnOk result (word_cause Exceptions text.now ≡ None) }
+    ensures passes_tests { OnOk result (word_cause Exceptions text.now ≡ None) }
     ensures spelled { IfOk result (λ e. Some (pair_of e) ≡ exception_in B.listing_of Exceptions text.now) }
     ensures fits { IfOk result (λ e. IsTrue (are_listed B.meaning (string_bytes e.0) e.1.items)) }
-    ensures refused { IfErr result (λ fault. IsWordError fault (word_cause Exceptions text.now)) }
+    ensures first_failed_test { IfErr result (λ error. IsWordError error (word_cause Exceptions text.now)) }
 {
     match symbol_cause(Group::Exceptions, text) {
         Some(cause) => Err(WordError::Fails(cause)),

@@ -1,4 +1,4 @@
-//! TeX's files and plain ones: which of their words are patterns and exceptions.
+//! TeX files and plain ones, split into pieces, and scanned for the words of their groups.
 
 ghost use Rattle.std.specs.Prelude.{◌≡◌, ◌+◌, ◌<◌, ◌^◌, IfOk, OnOk, map, fold};
 ghost use Rattle.hyphenation_grammar.specs.Lines.{is_same};
@@ -12,28 +12,29 @@ use pattern_results::errors::FileCause;
 use std::alloc::{AllocError, Global};
 use std::mem;
 
-/// Whether a byte is white space within a line.
+// Whether a byte is white space within a line.
 fn is_space(b: u8) -> bool
     ensures { result ≡ is_space b }
 {
     matches!(b, b' ' | b'\t' | 12 | b'\r')
 }
 
-/// Whether a byte is a brace.
+// Whether a byte is a brace.
 fn is_brace(b: u8) -> bool
     ensures { result ≡ is_brace b }
 {
     matches!(b, b'{' | b'}')
 }
 
-/// A piece, and the number of its line.
+// A piece of a file, and the number of its line, counted from 1.
 #[derive(Drop)]
 struct Piece {
     line: usize,
     text: Vec<u8>,
 }
 
-/// Reads bytes into pieces.
+// A reader of bytes into pieces: the line, whether its comment has begun, the pieces that ended, and the one that goes
+// on.
 #[derive(Drop)]
 struct Lexer {
     line: usize,
@@ -43,7 +44,7 @@ struct Lexer {
 }
 
 impl Lexer {
-    /// Nothing is read yet.
+    // A reader at the start of a file.
     fn new(alloc: Global) -> Lexer
         ensures { lexer_view result ≡ nothing_lexed }
     {
@@ -55,7 +56,7 @@ impl Lexer {
         }
     }
 
-    /// Ends the piece that goes on. The next one begins so.
+    // Ends the piece that goes on. The next piece begins with these bytes.
     fn end(&mut self, next: Vec<u8>) -> Result<(), AllocError>
         ensures { OnOk result (lexer_view self.new ≡ with_piece_ended (lexer_view self.old) next.items) }
     {
@@ -67,7 +68,7 @@ impl Lexer {
         Ok(())
     }
 
-    /// Reads a byte outside of comments, which begins none and ends no line.
+    // Reads a byte that neither stands in a comment, nor begins one, nor ends a line.
     fn take_byte(&mut self, alloc: Global, b: u8) -> Result<(), AllocError>
         ensures { OnOk result (lexer_view self.new ≡ with_read_byte (lexer_view self.old) b) }
     {
@@ -85,7 +86,7 @@ impl Lexer {
         Ok(())
     }
 
-    /// Reads a byte.
+    // Reads a byte.
     fn take(&mut self, alloc: Global, b: u8) -> Result<(), AllocError>
         requires { self.old.line + 1 < 2 ^ 64 }
         ensures { OnOk result (lexer_view self.new ≡ with_byte (lexer_view self.old) b) }
@@ -104,7 +105,7 @@ impl Lexer {
     }
 }
 
-/// The pieces of a file.
+// Splits a file into its pieces.
 fn pieces_of(alloc: Global, bytes: &[u8]) -> Result<Vec<Piece>, AllocError>
     ensures { IfOk result (λ found. map piece_view found.items ≡ pieces_of bytes.now) }
 {
@@ -116,29 +117,30 @@ fn pieces_of(alloc: Global, bytes: &[u8]) -> Result<Vec<Piece>, AllocError>
     Ok(lexer.pieces)
 }
 
-/// The words of groups, and what is wrong with the groups after them.
+/// A scan of pieces: the words of groups that it found, the place of the next piece, whether the file has ended, and
+/// the first fault of a group with its line.
 #[derive(Drop)]
-pub struct Scan {
-    pub words: Vec<Word>,
+pub(crate) struct Scan {
+    words: Vec<Word>,
     place: Place,
     at_end: bool,
-    pub fault: Option<(usize, FileCause)>,
+    fault: Option<(usize, FileCause)>,
 }
 
-/// Whether a piece is that text.
-fn is(piece: &[u8], text: &str) -> bool
+// Whether a piece is that text.
+fn is_text(piece: &[u8], text: &str) -> bool
     ensures { result ≡ is_same piece.now text.now }
 {
     piece == text.as_bytes()
 }
 
-/// Where the piece after one outside of groups stands.
+// The place of the next piece, after a piece outside of groups.
 fn place_after(piece: &[u8]) -> Place
     ensures { result ≡ place_after piece.now }
 {
-    if is(piece, "\\patterns") {
+    if is_text(piece, "\\patterns") {
         Place::Before(Group::Patterns)
-    } else if is(piece, "\\hyphenation") {
+    } else if is_text(piece, "\\hyphenation") {
         Place::Before(Group::Exceptions)
     } else {
         Place::Outside
@@ -146,7 +148,7 @@ fn place_after(piece: &[u8]) -> Place
 }
 
 impl Scan {
-    /// Nothing is found yet.
+    // A scan at the start of a file.
     fn new(alloc: Global) -> Scan
         ensures { scan_view result ≡ nothing_scanned }
     {
@@ -158,24 +160,24 @@ impl Scan {
         }
     }
 
-    /// Takes in a piece outside of groups.
+    // Takes in a piece that stands outside of groups.
     fn take_outside(&mut self, line: usize, text: &[u8])
         ensures { scan_view self.new
             ≡ with_piece_outside (scan_view self.old) (record { line = line; text = text.now }) }
     {
-        if is(text, "\\input") {
+        if is_text(text, "\\input") {
             self.at_end = true;
             self.fault = Some((line, FileCause::Input));
             return;
         }
-        if is(text, "\\endinput") {
+        if is_text(text, "\\endinput") {
             self.at_end = true;
             return;
         }
         self.place = place_after(text);
     }
 
-    /// Takes in a piece.
+    // Takes in a piece.
     fn take(&mut self, alloc: Global, piece: &Piece) -> Result<(), AllocError>
         ensures { OnOk result (scan_view self.new ≡ with_piece (scan_view self.old) (piece_view piece.now)) }
     {
@@ -188,7 +190,7 @@ impl Scan {
                 Ok(())
             }
             Place::Before(group) => {
-                if is(&piece.text, "{") {
+                if is_text(&piece.text, "{") {
                     self.place = Place::Within(group, piece.line);
                 } else {
                     self.take_outside(piece.line, &piece.text);
@@ -196,7 +198,7 @@ impl Scan {
                 Ok(())
             }
             Place::Within(group, _) => {
-                if is(&piece.text, "}") {
+                if is_text(&piece.text, "}") {
                     self.place = Place::Outside;
                     return Ok(());
                 }
@@ -210,7 +212,7 @@ impl Scan {
         }
     }
 
-    /// Ends the file.
+    // Ends the scan with the file. A group that is still open is a fault on its first line.
     fn close(&mut self)
         ensures { scan_view self.new ≡ closed_at (scan_view self.old).place (scan_view self.old) }
     {
@@ -220,7 +222,7 @@ impl Scan {
     }
 }
 
-/// The words of the groups that pieces have.
+// Scans all pieces of a file for groups.
 fn groups(alloc: Global, pieces: &[Piece]) -> Result<Scan, AllocError>
     ensures { IfOk result (λ scan. scan_view scan ≡ groups (map piece_view pieces.now)) }
 {
@@ -232,7 +234,7 @@ fn groups(alloc: Global, pieces: &[Piece]) -> Result<Scan, AllocError>
     Ok(scan)
 }
 
-/// The words that are the pieces of a plain file.
+// The words of a plain file: its pieces.
 fn plain_words(alloc: Global, group: Group, pieces: &[Piece]) -> Result<Vec<Word>, AllocError>
     ensures { IfOk result (λ words. map word_view words.items ≡ plain_words group (map piece_view pieces.now)) }
 {
@@ -249,8 +251,8 @@ fn plain_words(alloc: Global, group: Group, pieces: &[Piece]) -> Result<Vec<Word
     Ok(words)
 }
 
-/// The words of a file's groups, and what is wrong with the groups after them.
-pub fn words_of(
+/// The words of a file's groups, and the first fault of the groups with its line. A fault comes after all words.
+pub(crate) fn words_of(
     alloc: Global,
     form: Form,
     bytes: &[u8],

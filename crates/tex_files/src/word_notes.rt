@@ -7,22 +7,22 @@ use pattern_results::notes::{LineRef, Note, NoteKind, add_note};
 use std::alloc::{AllocError, Global};
 use std::collections::HashMap;
 
-/// A word without what says its places.
+// A word without its digits, or without its hyphens.
 fn letters_of(alloc: Global, group: Group, word: &[u8]) -> Result<Vec<u8>, AllocError> {
     let mut letters = Vec::new(alloc);
     for byte in word {
-        let says = match group {
+        let says_place = match group {
             Group::Patterns => byte.is_ascii_digit(),
             Group::Exceptions => *byte == b'-',
         };
-        if !says {
+        if !says_place {
             letters.push(*byte)?;
         }
     }
     Ok(letters)
 }
 
-/// What was met before.
+// The keys and words that came before, and the remarks.
 #[derive(Drop)]
 struct SeenWords {
     keys: HashMap<Vec<u8>, ()>,
@@ -31,7 +31,7 @@ struct SeenWords {
 }
 
 impl SeenWords {
-    /// Notes a pattern without values, and one whose key was met before.
+    // Notes a pattern without values, and one whose key came before.
     fn note_pattern(
         &mut self,
         letters: Vec<u8>,
@@ -47,7 +47,7 @@ impl SeenWords {
         Ok(())
     }
 
-    /// Notes an exception that was met before.
+    // Notes an exception that came before.
     fn note_exception(&mut self, letters: Vec<u8>, at: LineRef) -> Result<(), AllocError> {
         if self.words.insert(letters, ())?.is_some() {
             add_note(&mut self.notes, NoteKind::ExceptionRepeated, at)?;
@@ -55,7 +55,7 @@ impl SeenWords {
         Ok(())
     }
 
-    /// Notes what there is to note of a word of a group.
+    // Notes capitals, missing values and repetition of a word of a group.
     fn note_word(&mut self, alloc: Global, word: &Word, at: LineRef) -> Result<(), AllocError> {
         let folded = folded(alloc, &word.text)?;
         if folded.as_slice() != word.text.as_slice() {
@@ -68,7 +68,7 @@ impl SeenWords {
         }
     }
 
-    /// Notes what there is to note of the words of a file, by its number from 0.
+    // Notes the words of a file, by its number, counted from 0.
     fn note_file(
         &mut self,
         alloc: Global,
@@ -85,16 +85,16 @@ impl SeenWords {
     }
 }
 
-/// What there is to note of files: what was decided, each sort with its first line.
+// The remarks on the words of files, each kind with its first line.
 pub(crate) fn notes_of(alloc: Global, files: &[File<'_>]) -> Result<Vec<Note>, AllocError> {
-    let mut met = SeenWords {
+    let mut seen = SeenWords {
         keys: HashMap::new(alloc),
         words: HashMap::new(alloc),
         notes: Vec::new(alloc),
     };
     for (number, file) in files.iter().enumerate() {
-        met.note_file(alloc, file.form, file.bytes, number)?;
+        seen.note_file(alloc, file.form, file.bytes, number)?;
     }
-    let SeenWords { notes, .. } = met;
+    let SeenWords { notes, .. } = seen;
     Ok(notes)
 }

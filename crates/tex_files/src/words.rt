@@ -23,7 +23,7 @@ fn take_word<C: Payload, B: Listing>(
     ensures passes_tests { OnOk result (word_cause word.now.group word.now.text.items ≡ None) }
     ensures appended { OnOk result (parts.new ≡ one_after_other parts.old
         (words_spelt C.payload_of B.listing_of (word_view word.now ∷ []))) }
-    ensures error { IfErr result (λ error. IsWordError error (word_cause word.now.group word.now.text.items)) }
+    ensures first_failed_test { IfErr result (λ error. IsWordError error (word_cause word.now.group word.now.text.items)) }
 {
     match word.group {
         Group::Patterns => {
@@ -48,7 +48,7 @@ pub(crate) fn take_words<C: Payload, B: Listing>(
     ensures pass_tests { OnOk result (first_fault (map word_view words.now) ≡ None) }
     ensures appended { OnOk result (parts.new ≡ one_after_other parts.old
         (words_spelt C.payload_of B.listing_of (map word_view words.now))) }
-    ensures error { IfErr result (λ error. IsFileError error (first_fault (map word_view words.now))) }
+    ensures first_fault { IfErr result (λ error. IsFileError error (first_fault (map word_view words.now))) }
 {
     for word in words {
         match take_word(alloc, parts, word) {

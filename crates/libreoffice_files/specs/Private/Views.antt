@@ -1,5 +1,4 @@
--- What private structs of LibreOffice's form hold, as definitions speak of it.
--- Private functions cite this, and no public contract does.
+-- The values of private structs in the words of the definitions.
 use Rattle.std.specs.Prelude.{ℕ, ◌<◌, ◌++◌, All, List, Option, Some, None, option_map, Bool, Result, Ok, Err}
 use Rattle.std.specs.declared.vec.Vec.{Vec}
 use Rattle.hyphenation_breaks.specs.declared.entry.Entry.{Entry}
@@ -15,9 +14,11 @@ use Rattle.libreoffice_files.specs.declared.lines.Line.{Line}
 use Rattle.libreoffice_files.specs.declared.lines.Settings.{Settings}
 use Rattle.pattern_results.specs.declared.notes.NoteKind.{NoteKind}
 
+-- A line in the words of the definitions.
 abbrev pub line_view : Line → DicLine
 line_view line = record { number = line.number; kind = line.kind; text = line.text.now }
 
+-- Settings in the words of the definitions.
 abbrev pub settings_view : Settings → lines.Settings
 settings_view settings = record {
   left = option_map (λ text. text.now) settings.left;
@@ -25,17 +26,19 @@ settings_view settings = record {
   no_hyphen = option_map (λ text. text.now) settings.no_hyphen;
 }
 
+-- Bytes with their charset, in the words of the definitions.
 abbrev pub encoded_view : Encoded → libreoffice.Encoded
 encoded_view coded = record { charset = coded.charset; first = coded.first; bytes = coded.bytes.now }
 
+-- A pattern in the words of the definitions.
 abbrev pub spelt_view : Pattern → Spelt
 spelt_view pattern = record { values = pattern.values.items; change = pattern.change }
 
--- A key with what is spelt of it.
+-- A key with its pattern.
 abbrev pub keyed_view : {Z : Type 0} → Vec ℕ Z × Pattern → List ℕ × Spelt
 keyed_view keyed = (keyed.0.items, spelt_view keyed.1)
 
--- The change of a pattern, where it can be carried.
+-- The change of a pattern, if it can be carried.
 abbrev pub change_kept : Result (PlacedChange × Bool) NoteKind → Option PlacedChange
 change_kept (Ok found) = Some found.0
 change_kept (Err what) = None

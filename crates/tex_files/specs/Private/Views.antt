@@ -11,13 +11,15 @@ use Rattle.tex_files.specs.declared.word_error.WordError.TheVariants.{Fails, Mem
 use Rattle.tex_files.specs.declared.word_error.WordError.{WordError}
 use Rattle.pattern_results.specs.declared.errors.FileError.TheVariants.{Memory}
 
--- A word as definitions see it.
+-- A word in the words of the definitions.
 abbrev pub word_view : Word → GroupWord
 word_view word = record { line = word.line; group = word.group; text = word.text.items }
 
+-- A piece in the words of the definitions.
 abbrev pub piece_view : Piece → groups.Piece
 piece_view piece = record { line = piece.line; text = piece.text.items }
 
+-- A reader in the words of the definitions.
 abbrev pub lexer_view : Lexer → Lexed
 lexer_view lexer = record {
   line = lexer.line;
@@ -26,6 +28,7 @@ lexer_view lexer = record {
   last = lexer.last.items;
 }
 
+-- A scan in the words of the definitions.
 abbrev pub scan_view : Scan → GroupScan
 scan_view scan = record {
   words = map word_view scan.words.items;

@@ -40,6 +40,6 @@ asked before after h =
 
 pub returns : goal.returns
 returns c = record {
-  end = λ before after h. (ap (λ (f : GroupScan). (closed f).words) (ended before after h), ap (λ (f : GroupScan). (closed f).fault) (ended before after h));
-  input = λ before after h. (ap (λ (f : GroupScan). (closed f).words) (asked before after h), ap (λ (f : GroupScan). (closed f).fault) (asked before after h));
+  after_endinput = λ before after h. (ap (λ (f : GroupScan). (closed f).words) (ended before after h), ap (λ (f : GroupScan). (closed f).fault) (ended before after h));
+  at_input = λ before after h. (ap (λ (f : GroupScan). (closed f).words) (asked before after h), ap (λ (f : GroupScan). (closed f).fault) (asked before after h));
 }
