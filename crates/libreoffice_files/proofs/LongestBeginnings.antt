@@ -234,7 +234,7 @@ longest_there patterns framed start end some within is =
       first.0,
       first.1,
       record {
-        some = omega (arith, first.1);
+        nonempty = omega (arith, first.1);
         within = within;
         begins = first.2.passes;
         longest = λ other less begins. elim (cases_lt other first.0) [
@@ -268,7 +268,7 @@ borne_by_longest {C} patterns word p start end entry closed bears some =
             found.0,
             long.2,
             record {
-              some = long.2.some;
+              some = long.2.nonempty;
               within = bears.within;
               entries = found.1.entries;
               key = found.1.key;

@@ -10,8 +10,10 @@ use Rattle.pattern_results.specs.Texts.{line_feeds}
 use Rattle.pattern_results.specs.declared.errors.FileCause.{FileCause}
 use Rattle.pattern_results.specs.declared.errors.FileCause.TheVariants.{NotUtf8, NotInCharset}
 use Rattle.libreoffice_files.specs.declared.charset.Charset.{Charset}
-use Rattle.libreoffice_files.specs.declared.charset.Charset.TheVariants.{Utf8, Latin1, Latin2, Cyrillic, Greek, Latin5, Latin6, Latin7, Latin8, Latin9, Koi8R, Koi8U, Cp1251}
-use Rattle.libreoffice_files.specs.declared.charset.tables.TheConstants.{ISO8859_2, ISO8859_5, ISO8859_7, ISO8859_9, ISO8859_10, ISO8859_13, ISO8859_14, ISO8859_15, KOI8_R, KOI8_U, CP1251}
+use Rattle.libreoffice_files.specs.declared.charset.Charset.TheVariants.{Utf8, Latin1, Latin2, Cyrillic, Greek, Latin5, Latin6, Latin7}
+use Rattle.libreoffice_files.specs.declared.charset.Charset.TheVariants.{Latin8, Latin9, Koi8R, Koi8U, Cp1251}
+use Rattle.libreoffice_files.specs.declared.charset.tables.TheConstants.{ISO8859_2, ISO8859_5, ISO8859_7, ISO8859_9, ISO8859_10, ISO8859_13}
+use Rattle.libreoffice_files.specs.declared.charset.tables.TheConstants.{ISO8859_14, ISO8859_15, KOI8_R, KOI8_U, CP1251}
 
 -- The charset of ISO 8859 whose part has that number.
 abbrev pub part_of_iso_8859 : List ℕ → Option Charset

@@ -1,6 +1,7 @@
 -- A `.dic` of LibreOffice: the dictionary that it makes, or its first fault.
 -- Source: libhyphen 2.8.8, hyphen.c and README.hyphen.
-use Rattle.std.specs.Prelude.{ℕ, ◌-◌, ◌==◌, ◌&&◌, ◌||◌, Bool, true, false, if◌then◌else◌, List, [], ◌∷◌, length, drop, take, map, codes, Option, Some, None, unwrap_or}
+use Rattle.std.specs.Prelude.{ℕ, ◌-◌, ◌==◌, ◌&&◌, ◌||◌, Bool, true, false, if◌then◌else◌, List, [], ◌∷◌, length, drop, take, map, codes}
+use Rattle.std.specs.Prelude.{Option, Some, None, unwrap_or}
 use Rattle.std.specs.Option.{option_or}
 use Rattle.std.specs.List.{filter_map, prefix_len, suffix_len}
 use Rattle.std.specs.Char.{is_ascii_uppercase, is_ascii_whitespace}
@@ -145,16 +146,21 @@ abbrev pub kept_in : {C : Type 0} → (C → Option Change) → (Option Change �
     → Option (List ℕ × List (Entry C))
 kept_in change_of payload_of p = kept_if_fit change_of p.0 (entries_kept change_of payload_of p.1)
 
--- The dictionary of lines. A minimum that is not given is the one that the lines set, or else 2. If a key stands
--- several times, the last one counts.
+-- The dictionary of patterns, with these minima. If a key stands several times, the last one counts.
+abbrev pub contents_of_patterns : {C B : Type 0} → (C → Option Change) → (Option Change → C) → List ℕ → ℕ → ℕ
+    → List (List ℕ × Spelt) → Contents C B
+contents_of_patterns change_of payload_of language left right patterns =
+    contents_made language left right (record {
+      patterns = filter_map (kept_in change_of payload_of) patterns;
+      exceptions = [];
+    })
+
+-- The dictionary of lines. A minimum that is not given is the one that the lines set, or else 2.
 abbrev pub contents_of_lines : {C B : Type 0} → (C → Option Change) → (Option Change → C) → List ℕ → Option ℕ
     → Option ℕ → List DicLine → Contents C B
 contents_of_lines change_of payload_of language left right lines =
-    contents_made language (minimum_of left (minimum_set (settings_of lines).left))
-    (minimum_of right (minimum_set (settings_of lines).right)) (record {
-      patterns = filter_map (kept_in change_of payload_of) (all_patterns lines);
-      exceptions = [];
-    })
+    contents_of_patterns change_of payload_of language (minimum_of left (minimum_set (settings_of lines).left))
+    (minimum_of right (minimum_set (settings_of lines).right)) (all_patterns lines)
 
 -- The dictionary of a file.
 abbrev pub contents_of_dic : {C B : Type 0} → (C → Option Change) → (Option Change → C) → List ℕ → Option ℕ

@@ -1,6 +1,7 @@
 -- The lines of a `.dic` of LibreOffice: settings, texts without breaks, and patterns.
 -- Source: libhyphen 2.8.8, hyphen.c and README.hyphen.
-use Rattle.std.specs.Prelude.{ℕ, ◌+◌, ◌==◌, ◌&&◌, ◌||◌, nat_lt, Bool, true, if◌then◌else◌, List, [], ◌∷◌, length, take, drop, codes, fold, Option, Some, None, option_map, option_and_then, unwrap_or, is_some, position}
+use Rattle.std.specs.Prelude.{ℕ, ◌+◌, ◌==◌, ◌&&◌, ◌||◌, nat_lt, Bool, true, if◌then◌else◌, List, [], ◌∷◌, length, take, drop, codes, fold}
+use Rattle.std.specs.Prelude.{Option, Some, None, option_map, option_and_then, unwrap_or, is_some, position}
 use Rattle.std.specs.List.{slice_split}
 use Rattle.std.specs.Option.{option_or}
 use Rattle.std.specs.Str.{trim, trim_end, all_ascii_digits}

@@ -1,7 +1,9 @@
 -- The patterns of a `.dic` of LibreOffice: a key, its values, and maybe a change of letters at one of them.
 -- Sources: libhyphen 2.8.8, hyphen.c and README.nonstandard; L. Németh, Automatic non-standard hyphenation in
 -- OpenOffice.org, TUGboat 27:1 (2006).
-use Rattle.std.specs.Prelude.{ℕ, ◌+◌, ◌-◌, ◌^◌, ◌%◌, ◌==◌, ◌&&◌, ◌||◌, nat_le, nat_lt, Bool, false, if◌then◌else◌, List, [], ◌∷◌, ◌++◌, length, drop, filter, fold, map, count_by, Option, Some, None, option_map, option_and_then, Result, Ok, Err, slice_get, slice_index}
+use Rattle.std.specs.Prelude.{ℕ, ◌+◌, ◌-◌, ◌^◌, ◌%◌, ◌==◌, ◌&&◌, ◌||◌, nat_le, nat_lt, Bool, false, if◌then◌else◌, List, [], ◌∷◌, ◌++◌}
+use Rattle.std.specs.Prelude.{length, drop, filter, fold, map, count_by, Option, Some, None, option_map, option_and_then, Result, Ok, Err}
+use Rattle.std.specs.Prelude.{slice_get, slice_index}
 use Rattle.std.specs.Option.{option_or}
 use Rattle.std.specs.List.{list_any, find, filter_map, slice_split}
 use Rattle.std.specs.Str.{trim}
@@ -188,12 +190,14 @@ spelt_with values None = Some (record { values = values; change = None })
 spelt_with values (Some (Ok found)) = Some (record { values = values; change = Some found.0 })
 spelt_with values (Some (Err what)) = None
 
--- A key, and its values with a change or none. A key has a character other than a dot.
+-- A key, and its values with a change or none. None if the change can't be carried.
+abbrev pub key_with_values : List ℕ → List Value → Option (List ℕ) → Option (List ℕ × Spelt)
+key_with_values key values change =
+    option_map (λ spelt. (key, spelt)) (spelt_with values (option_map (change_of key values) change))
+
+-- A key has a character other than a dot. A text without one is no key.
 abbrev pub pattern_with : List ℕ → List Value → Option (List ℕ) → Option (List ℕ × Spelt)
-pattern_with key values change =
-    if has_letter key
-    then option_map (λ spelt. (key, spelt)) (spelt_with values (option_map (change_of key values) change))
-    else None
+pattern_with key values change = if has_letter key then key_with_values key values change else None
 
 abbrev pub pattern_of_parts : List ℕ × Option (List ℕ) → Option (List ℕ × Spelt)
 pattern_of_parts parts = pattern_with (letters parts.0) (last_values 0 parts.0) parts.1

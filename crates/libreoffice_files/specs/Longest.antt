@@ -1,7 +1,8 @@
 -- Patterns read as LibreOffice reads them: at each letter the longest beginning of a pattern alone counts.
 -- Sources: F. M. Liang, Word Hy-phen-a-tion by Com-put-er (1983), for patterns that all count; libhyphen 2.8.8,
 -- hyphen.c, for the longest beginning.
-use Rattle.std.specs.Prelude.{◌≡◌, ℕ, ◌+◌, ◌-◌, ◌<◌, ◌≤◌, ◌⊎◌, ◌==◌, nat_eq, nat_lt, Bool, false, List, [], length, take, drop, filter, slice_range, unwrap_or, IsSome, IsTrue}
+use Rattle.std.specs.Prelude.{◌≡◌, ℕ, ◌+◌, ◌-◌, ◌<◌, ◌≤◌, ◌⊎◌, ◌==◌, nat_eq, nat_lt, Bool, false, List, [], length, take, drop, filter}
+use Rattle.std.specs.Prelude.{slice_range, unwrap_or, IsSome, IsTrue}
 use Rattle.std.specs.List.{list_any, range_with_len, starts_with}
 use Rattle.std.specs.FinMap as finite
 use Rattle.hyphenation_breaks.specs.Dictionary.{Patterns, TextMap}

@@ -3,7 +3,11 @@
 ghost use Rattle.std.specs.Prelude.{◌≡◌, ◌≤◌, ◌==◌, ◌++◌, IfOk, IfSome, Bool, option_map, length, slice_index, ◌-◌, Some, Ok};
 ghost use Rattle.std.specs.List.{list_any, find};
 ghost use Rattle.std.specs.String.{string_bytes};
-ghost use Rattle.libreoffice_files.specs.LibreOfficePatterns.{begins_char, place_after, dots, letter_count, range_from, range_of, is_odd_in, is_place, is_after_first, value_in, are_several, replacement_and_numbers, start_and_count, two_numbers, both_numbers, halves_of, change_at_value, change_in, change_by_numbers, change_by_halves, change_of};
+ghost use Rattle.libreoffice_files.specs.LibreOfficePatterns.{begins_char, place_after, dots, letter_count, range_from, range_of};
+ghost use Rattle.libreoffice_files.specs.LibreOfficePatterns.{is_odd_in, is_place, is_after_first, value_in, are_several};
+ghost use Rattle.libreoffice_files.specs.LibreOfficePatterns.{replacement_and_numbers, start_and_count, two_numbers, both_numbers};
+ghost use Rattle.libreoffice_files.specs.LibreOfficePatterns.{halves_of, change_at_value, change_in, change_by_numbers, change_by_halves};
+ghost use Rattle.libreoffice_files.specs.LibreOfficePatterns.{change_of};
 ghost use Rattle.libreoffice_files.specs.LibreOfficeLines.{split_at_byte};
 
 use crate::lines::{number, split_at_byte};

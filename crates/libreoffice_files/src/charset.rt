@@ -3,7 +3,8 @@
 ghost use Rattle.std.specs.Prelude.{◌≡◌, ◌<◌, option_map, IfOk, IfErr, OnOk, None};
 ghost use Rattle.std.specs.String.{string_bytes};
 ghost use Rattle.pattern_results.specs.Texts.{line_feeds};
-ghost use Rattle.libreoffice_files.specs.Charsets.{charset_named, part_of_iso_8859, upper_half, char_in, first_bad, text_by, text_in, table_fault, coding_fault};
+ghost use Rattle.libreoffice_files.specs.Charsets.{charset_named, part_of_iso_8859, upper_half, char_in, first_bad, text_by, text_in};
+ghost use Rattle.libreoffice_files.specs.Charsets.{table_fault, coding_fault};
 ghost use Rattle.libreoffice_files.specs.declared.charset.Charset.TheVariants.{Utf8};
 ghost use Rattle.pattern_results.specs.Errors.{IsFileError};
 

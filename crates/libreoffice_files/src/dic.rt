@@ -8,7 +8,9 @@ ghost use Rattle.std.specs.Prelude.{◌≡◌, ◌<◌, ◌==◌, [], All, map, 
 ghost use Rattle.pattern_results.specs.Errors.{IsConvertError};
 ghost use Rattle.pattern_results.specs.Parts.{contents_made};
 ghost use Rattle.libreoffice_files.specs.LibreOfficeLines.{settings_of, minimum_set, minimum_of};
-ghost use Rattle.libreoffice_files.specs.LibreOffice.{first_and_rest, trimmed, starts_with_capital, is_pattern, is_name, names_charset, encoded_in, encoded_lines, encoded_fault, lines_of_dic, all_patterns, dic_fault, fault_of_lines, kept_in, contents_of_dic};
+ghost use Rattle.libreoffice_files.specs.LibreOffice.{first_and_rest, trimmed, starts_with_capital, is_pattern, is_name, names_charset};
+ghost use Rattle.libreoffice_files.specs.LibreOffice.{encoded_in, encoded_lines, encoded_fault, lines_of_dic, all_patterns, dic_fault};
+ghost use Rattle.libreoffice_files.specs.LibreOffice.{fault_of_lines, kept_in, contents_of_patterns, contents_of_dic};
 ghost use Rattle.pattern_results.specs.Errors.{IsFileError};
 ghost use Rattle.libreoffice_files.specs.Private.Views.{line_view, settings_view, spelt_view, keyed_view, encoded_view, has_small_values};
 ghost use Rattle.std.specs.List.{filter_map};
@@ -242,10 +244,8 @@ fn dictionary_of<C: Payload, B: Listing>(
     dic: &DicFile,
 ) -> Result<Dictionary<C, B>, AllocError>
     requires { All (λ p. has_small_values (spelt_view p.1)) dic.now.patterns.items }
-    ensures { IfOk result (λ d. d ≡ contents_made language left right (record {
-      patterns = filter_map (kept_in C.change_of C.payload_of) (map keyed_view dic.now.patterns.items);
-      exceptions = [];
-    })) }
+    ensures { IfOk result (λ d. d ≡ contents_of_patterns C.change_of C.payload_of language left right
+        (map keyed_view dic.now.patterns.items)) }
 {
     let mut parts = DictionaryParts::new(alloc);
     push_fitting(alloc, &mut parts, &dic.patterns)?;

@@ -5,7 +5,9 @@ ghost use Rattle.std.specs.List.{filter_map, slice_split};
 ghost use Rattle.std.specs.Option.{option_to_list};
 ghost use Rattle.hyphenation_grammar.specs.Lines.{is_digit, is_same};
 ghost use Rattle.pattern_results.specs.Texts.{letters};
-ghost use Rattle.libreoffice_files.specs.LibreOfficePatterns.{last_values, value_of_digit, begins_with_digit, split_at_slash, pattern_of, pattern_of_line, change_of, spelt_with, is_within, forbidding, forbidden, last_of, with_forbidden, with_all_forbidden, patterns_of};
+ghost use Rattle.libreoffice_files.specs.LibreOfficePatterns.{last_values, value_of_digit, begins_with_digit, split_at_slash, pattern_of};
+ghost use Rattle.libreoffice_files.specs.LibreOfficePatterns.{pattern_of_line, change_of, spelt_with, key_with_values, is_within, forbidding, forbidden};
+ghost use Rattle.libreoffice_files.specs.LibreOfficePatterns.{last_of, with_forbidden, with_all_forbidden, patterns_of};
 ghost use Rattle.libreoffice_files.specs.LibreOffice.{change_there, entries_kept, kept_in};
 ghost use Rattle.hyphenation_dictionary.specs.Maker.{fits_key};
 ghost use Rattle.libreoffice_files.specs.Private.Views.{with_keys, line_view, spelt_view, keyed_view, change_kept, has_small_values};
@@ -186,8 +188,7 @@ fn with_change(
     line: usize,
 ) -> Result<Option<(Vec<u8>, Pattern)>, AllocError>
     ensures { IfOk result (λ found. option_map keyed_view found
-        ≡ option_map (λ spelt. (key.items, spelt)) (spelt_with values.items
-        (option_map (change_of key.items values.items) (option_map (λ text. text.now) change.entry)))) }
+        ≡ key_with_values key.items values.items (option_map (λ text. text.now) change.entry)) }
 {
     let Some(text) = change else {
         let change = None;

@@ -3,7 +3,9 @@
 ghost use Rattle.std.specs.Prelude.{◌≡◌, ◌^◌, ◌<◌, ◌==◌, ◌++◌, map, option_map, IfOk, None};
 ghost use Rattle.std.specs.List.{slice_split};
 ghost use Rattle.std.specs.Str.{trim_end};
-ghost use Rattle.libreoffice_files.specs.LibreOfficeLines.{split_at_byte, number_below, kind_of_word, is_ignored, word_and_rest, text_by_kind, read_line, lines_from, lines_in, set_by, with_line, settings_of, nothing_set, minimum_value, minimum_set, minimum_of, cause_of_kind, line_fault};
+ghost use Rattle.libreoffice_files.specs.LibreOfficeLines.{split_at_byte, number_below, kind_of_word, is_ignored, word_and_rest};
+ghost use Rattle.libreoffice_files.specs.LibreOfficeLines.{text_by_kind, read_line, lines_from, lines_in, set_by, with_line, settings_of};
+ghost use Rattle.libreoffice_files.specs.LibreOfficeLines.{nothing_set, minimum_value, minimum_set, minimum_of, cause_of_kind, line_fault};
 ghost use Rattle.libreoffice_files.specs.Private.Views.{line_view, settings_view};
 
 use pattern_results::errors::FileCause;

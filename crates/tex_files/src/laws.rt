@@ -7,7 +7,9 @@ ghost use Rattle.std.specs.Prelude.{◌≡◌, List, ℕ, [], None};
 ghost use Rattle.tex_files.specs.Converting.{words_of, group_fault};
 ghost use Rattle.tex_files.specs.declared.group.Form.{Form};
 ghost use Rattle.tex_files.specs.declared.group.Form.TheVariants.{Tex};
-ghost use Rattle.tex_files.specs.TexFiles.{IsOutside, IgnoresComments, IgnoresLastComment, HasWordsOfFirstGroupAndRest, HasFaultOfRest, HasWordsOfOpenGroup, HasFaultOfOpenGroup, HasNothingAfterItsEnd, HasFaultOfInput, HasWordsBetween};
+ghost use Rattle.tex_files.specs.TexFiles.{IsOutside, IgnoresComments, IgnoresLastComment, HasWordsOfFirstGroupAndRest, HasFaultOfRest};
+ghost use Rattle.tex_files.specs.TexFiles.{HasWordsOfOpenGroup, HasFaultOfOpenGroup, HasNothingAfterItsEnd, HasFaultOfInput};
+ghost use Rattle.tex_files.specs.TexFiles.{HasWordsBetween};
 
 /// Comments say nothing: with them and without them, a file has equal words on equal lines, and an equal fault.
 pub fn comments_say_nothing()

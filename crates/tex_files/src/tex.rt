@@ -3,7 +3,8 @@
 ghost use Rattle.std.specs.Prelude.{◌≡◌, ◌+◌, ◌<◌, ◌^◌, IfOk, OnOk, map, fold};
 ghost use Rattle.hyphenation_grammar.specs.Lines.{is_same};
 ghost use Rattle.tex_files.specs.Converting.{words_of, group_fault};
-ghost use Rattle.tex_files.specs.Groups.{is_space, with_piece_outside, closed_at, with_read_byte, with_piece_ended, with_byte, pieces_of, place_after, with_piece, with_plain, nothing_scanned, nothing_lexed, groups, plain_words};
+ghost use Rattle.tex_files.specs.Groups.{is_space, with_piece_outside, closed_at, with_read_byte, with_piece_ended, with_byte, pieces_of};
+ghost use Rattle.tex_files.specs.Groups.{place_after, with_piece, with_plain, nothing_scanned, nothing_lexed, groups, plain_words};
 ghost use Rattle.hyphenation_grammar.specs.Tokens.{is_brace};
 ghost use Rattle.tex_files.specs.Private.Views.{piece_view, lexer_view, scan_view, word_view};
 
