@@ -1,4 +1,4 @@
--- Which nodes the beginnings of a key have, and which endings of a text can exceed it.
+-- The nodes of a key's beginnings, and the endings of a text that can exceed it.
 use Rattle.std.proofs.Common.{◌≡◌, ℕ, zero, suc, ◌+◌, ◌-◌, ◌<◌, ◌≤◌, ◌==◌, ◌||◌, Bool, true, false, List, [], ◌∷◌, ◌++◌, length, take, drop, filter, get_or, Option, Some, None, refl, sym, ap, ◌∙◌, arith}
 use Rattle.std.specs.Prelude.{nat_eq, nat_lt, if◌then◌else◌, IsSome, unwrap_or, slice_index_or}
 use Rattle.std.specs.Cmp.Lexicographic.{pointwise, same_text}
@@ -13,7 +13,7 @@ use Rattle.libreoffice_files.specs.Longest.{is_exceeded_from, own_value}
 
 -- ---- The nodes of a key's beginnings.
 
--- what stands at an index, one later with an element before
+-- the element at an index, one later with an element before
 later : (t : List ℕ) (ts : List (List ℕ)) (q : List ℕ) → ((k : ℕ) × (k < length ts) × (slice_index_or ts k [] ≡ q)) → (k : ℕ) × (k < suc (length ts)) × (slice_index_or (t ∷ ts) k [] ≡ q)
 later t ts q found = (suc found.0, omega (arith, found.1), found.2)
 
@@ -113,7 +113,7 @@ next_ending {C} t text u report ends some is =
     ∙ any_skip f a n m (λ j lt. unexceeded t text u j (omega (arith, ends.0)) ends.1 (is.none j (omega (arith, length-drop 1 u))))
     ∙ ap (λ (k : ℕ). list_any f (range_with_len k m)) from
 
--- what the entries of an ending say of a text
+-- the entries of an ending, as entries of a text
 pub exceeded_from : {C : Type 0} (keys : Patterns C) (text u : List ℕ) (es own : List (Entry C)) (start : ℕ) → drop start text ≡ u → Some es ≡ keys u → own ≡ unwrap_or (keys text) []
     → list_any (λ entry. nat_lt (greatest_value (filter (λ e. e.place == start + entry.place) own)) entry.value) es ≡ is_exceeded_from keys text start
 exceeded_from {C} keys text u es own start at key own_is =
@@ -124,7 +124,7 @@ exceeded_from {C} keys text u es own start at key own_is =
 pub ends_self : (t : List ℕ) → EndsWith t t
 ends_self t = let n : length t - length t ≡ 0 = omega arith in (omega arith, ap (λ (k : ℕ). drop k t) n)
 
--- what ends the rest of an ending ends the whole
+-- an end of the rest of an ending is an end of the whole
 pub ends_rest : (text u s : List ℕ) → EndsWith text u → 0 < length u → EndsWith (drop 1 u) s → EndsWith text s
 ends_rest text u s outer some inner =
     let size = length-drop 1 u in

@@ -25,7 +25,7 @@ none_at test xs x none among =
     false_from_ne_true (test x) (λ passes.
     both_ways (list_any test xs) none (list_any_at test xs among.0 x among.1.0 (ap test (sym among.1.1) ∙ passes)))
 
--- the same of numbers in a row
+-- where no number in a row passes, one among them does not
 none_between : (test : ℕ → Bool) (a n k : ℕ) → list_any test (range_with_len a n) ≡ false → a ≤ k → k < a + n → test k ≡ false
 none_between test a zero k none low high = absurd (omega arith)
 none_between test a (suc n) k none low high =
@@ -72,7 +72,7 @@ length_slice : (framed : List ℕ) (start end : ℕ) → end ≤ length framed �
 length_slice framed start end within =
     omega (arith, length-take (end - start) (drop start framed), length-drop start framed)
 
--- what a part ends with
+-- the end of a part
 slice_end : (framed : List ℕ) (start later end : ℕ) → start ≤ later → later ≤ end
     → drop (later - start) (slice_range framed start end) ≡ slice_range framed later end
 slice_end framed start later end low high =
@@ -200,7 +200,7 @@ begun patterns text begins =
 
 -- ---- closed patterns
 
--- what a beginning of a pattern ends with does not exceed it
+-- the end of a beginning of a pattern does not exceed that
 not_exceeded : {C : Type 0} (patterns : TextMap (List (Entry C))) (text : List ℕ) (start : ℕ) → IsClosed (entries_of patterns)
     → begins_pattern patterns text ≡ true → 0 < start → start < length text → is_exceeded_from (entries_of patterns) text start ≡ false
 not_exceeded {C} patterns text start closed begins some within =
@@ -244,7 +244,7 @@ longest_there patterns framed start end some within is =
       },
     )
 
--- what bears on a place is, by closed patterns, no more than an entry of the longest beginning gives it
+-- an entry that bears on a place gives it no more, in closed patterns, than an entry of the longest beginning
 borne_by_longest : {C : Type 0} (patterns : TextMap (List (Entry C))) (word : List ℕ) (p start end : ℕ) (entry : Entry C)
     → IsClosed (entries_of patterns) → Bears (entries_of patterns) word p start end entry → 0 < entry.value
     → (first : ℕ) × (other : Entry C) × (IsLongestBeginning patterns (frame word) first end)

@@ -1,4 +1,4 @@
--- The dictionary of what lines say, put together of its parts.
+-- The dictionary of lines, put together of its parts.
 use Rattle.std.proofs.Common.{◌≡◌, ◌∙◌, ℕ, List, [], map, Option, ap}
 use Rattle.std.specs.List.{filter_map}
 use Rattle.std.specs.declared.vec.Vec.{Vec}

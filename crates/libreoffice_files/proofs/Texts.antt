@@ -1,4 +1,4 @@
--- What std's calls on texts give, in the words of the definitions.
+-- The results of std's calls on texts, in the words of the definitions.
 use Rattle.std.proofs.Common.{◌≡◌, ℕ, ◌+◌, ◌-◌, ◌^◌, ◌<◌, ◌==◌, Bool, true, false, cond, ◌&&◌, if◌then◌else◌, List, [], length, take, drop, Option, Some, None, Result, Ok, Err, IsTrue, ◌↔◌, refl, sym, arith, ap, ◌∙◌}
 use Rattle.std.specs.Prelude.{option_map, unwrap_or, position, nat_lt, MatchOption, IsUtf8}
 use Rattle.std.specs.List.{position_or_len, before_first, after_first}

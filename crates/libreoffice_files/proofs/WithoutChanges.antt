@@ -1,4 +1,4 @@
--- What patterns have at a place with their changes and without them.
+-- The values of patterns at a place with their changes, and without them.
 use Rattle.std.proofs.Common.{◌≡◌, ℕ, zero, suc, ◌+◌, ◌%◌, ◌<◌, ◌≤◌, List, [], ◌∷◌, length, get_or, map, Option, Some, None, refl, sym, ap, ◌∙◌, arith}
 use Rattle.std.proofs.Common.{inl, inr}
 use Rattle.std.specs.Prelude.{is_some, option_map, slice_range, if◌then◌else◌}
@@ -36,7 +36,7 @@ unmapped f xs y among = unmapped_at f xs y among.0 among.1.0 among.1.1
 
 -- ---- an entry without its change
 
--- What is kept of a value, by whether there is a change.
+-- A value as it is kept, by whether there is a change.
 abbrev kept : ℕ → Option Change → ℕ
 kept value change = if is_some change then to_even value else value
 
@@ -58,7 +58,7 @@ kept_plain entry odd = elim (entry.change) as (λ o. kept entry.value o ≤ entr
   | Some change ↦ λ most. absurd (omega arith)
 ]
 
--- What each kind keeps of an entry, by its change.
+-- An entry as each kind keeps it, by its change.
 keeps : (place value : ℕ) (change : Option Change)
     → (carried_entry (λ (c : Unit {0}). None) (λ c. tt) (record { place = place; value = value; change = change }) ≡ entry_without_change (record { place = place; value = value; change = change }))
     × (carried_entry (λ (c : Option Change). c) (λ c. c) (record { place = place; value = value; change = change }) ≡ record { place = place; value = value; change = change })
@@ -92,7 +92,7 @@ key_with keys text entries =
       | Some with ↦ λ is. (with, refl, cc)
     ]
 
--- What bears without a change is carried from an entry that bears with it.
+-- An entry that bears without a change is carried from one that bears with it.
 bears_with : (keys : Patterns (Option Change)) (word : List ℕ) (p start end : ℕ) (carried : Entry (Unit {0}))
     → Bears (patterns_without_changes keys) word p start end carried
     → (entry : Entry (Option Change)) × (Bears keys word p start end entry) × (entry_without_change entry ≡ carried)

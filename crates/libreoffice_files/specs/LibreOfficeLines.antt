@@ -80,8 +80,8 @@ lines_in first text = lines_from first (slice_split (λ b. b == line_feed) text)
 
 -- ---- Settings.
 
--- The settings for all levels: the least numbers of letters before and after a break, and the texts that no break
--- stands beside.
+-- The settings for all levels: the least numbers of letters before and after a break, and texts: no break stands
+-- directly before or after them.
 pub record Settings : Type 0 where
   pub left : Option (List ℕ)
   pub right : Option (List ℕ)

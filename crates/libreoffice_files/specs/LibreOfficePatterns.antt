@@ -218,7 +218,7 @@ pattern_of_line line = pattern_by line.kind line.text
 abbrev pub patterns_of : List DicLine → List (List ℕ × Spelt)
 patterns_of lines = filter_map pattern_of_line lines
 
--- ---- Texts that no break stands beside.
+-- ---- Texts without breaks at their ends.
 
 -- The last values that a key has.
 abbrev pub last_of : List ℕ → List (List ℕ × Spelt) → Option Spelt
@@ -239,7 +239,7 @@ abbrev pub forbidden : List ℕ → Option Spelt → Spelt
 forbidden text None = record { values = forbidding (length text) []; change = None }
 forbidden text (Some spelt) = record { values = forbidding (length text) spelt.values; change = spelt.change }
 
--- One text more that no break stands beside. It has a character other than a dot.
+-- One text more without breaks at its ends. It has a character other than a dot.
 abbrev pub with_forbidden : List (List ℕ × Spelt) → List ℕ → List (List ℕ × Spelt)
 with_forbidden patterns text =
     if has_letter text then patterns ++ (text, forbidden text (last_of text patterns)) ∷ [] else patterns

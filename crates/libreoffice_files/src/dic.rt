@@ -1,7 +1,7 @@
 //! LibreOffice's `hyph_*.dic`: a charset, settings, and patterns in one or two levels.
 //!
-//! Of two lines with one key the last counts, and of two digits in one place the last, as in LibreOffice. The two levels
-//! are joined, and all patterns that stand in a word count, as in TeX. In LibreOffice itself only the longest beginning
+//! The last of several lines with one key counts, and the last of several digits in one place, as in LibreOffice. The
+//! two levels are joined, and all patterns that stand in a word count, as in TeX. In LibreOffice itself only the longest beginning
 //! of a pattern that ends at a letter counts; [`crate::longest`] says where that differs.
 
 ghost use Rattle.std.specs.Prelude.{◌≡◌, ◌<◌, ◌==◌, [], All, map, position, option_map, IfOk, IfErr, IfSome, OnOk, None};

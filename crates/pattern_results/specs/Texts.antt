@@ -1,4 +1,4 @@
--- What both readers of patterns take from texts.
+-- Letters and line feeds, as both readers of patterns count them.
 use Rattle.std.specs.Prelude.{ℕ, ◌==◌, if◌then◌else◌, List, [], ◌∷◌}
 use Rattle.std.specs.List.{count_by}
 use Rattle.hyphenation_breaks.specs.Ascii.{line_feed}

@@ -1,4 +1,4 @@
--- What files spell, one more at a time.
+-- The keys and words of files, one file more at a time.
 use Rattle.std.proofs.Common.{◌≡◌, ap, ◌∙◌}
 use Rattle.std.proofs.lemmas.List.{append_assoc}
 use Rattle.pattern_results.specs.Parts.{SpeltWords}

@@ -1,4 +1,4 @@
--- What pieces say in each place: outside of groups nothing, within them a word each.
+-- The meaning of pieces: outside of groups they say nothing, within them each is a word.
 use Rattle.std.proofs.Common.{◌≡◌, ◌∙◌, ℕ, ◌+◌, ◌==◌, ◌||◌, Bool, true, false, if◌then◌else◌, List, [], ◌∷◌, ◌++◌, map, fold, length, refl, sym, ap, append_assoc, Some, None}
 use Rattle.std.proofs.lemmas.List.{append-nil, map-append}
 use Rattle.std.specs.Prelude.{codes}
@@ -132,7 +132,7 @@ closed_later n front (Within group opened) f = refl
 abbrev pub closed : GroupScan → GroupScan
 closed f = closed_at f.place f
 
--- what stands after a group
+-- the text after a group
 pub groups-later : (n : ℕ) (front : List GroupWord) (ps : List Piece) → closed (fold with_piece (found_at front Outside) (map (piece_later n) ps)) ≡ found_later n front (groups ps)
 groups-later n front ps =
     ap (λ (ws : List GroupWord). closed (fold with_piece (found_at ws Outside) (map (piece_later n) ps))) (sym (append-nil front))

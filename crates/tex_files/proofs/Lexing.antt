@@ -1,4 +1,4 @@
--- The pieces of a text, told from its first byte on, and what bytes within it mean for those after.
+-- The pieces of a text from its first byte on, and the meaning of bytes within it for those after.
 use Rattle.std.proofs.Common.{◌≡◌, ◌∙◌, ℕ, ◌+◌, ◌==◌, ◌||◌, Bool, true, false, if◌then◌else◌, List, [], ◌∷◌, ◌++◌, map, fold, refl, sym, ap, subst, append_assoc, arith}
 use Rattle.std.proofs.lemmas.List.Sums.{fold-append}
 use Rattle.std.specs.Prelude.{codes}
@@ -166,6 +166,9 @@ flat4 a b c d = flat3 (a ++ b) c d ∙ flat3 a b (c ++ d)
 pub flat5 : (a b c d e : List ℕ) → a ++ b ++ c ++ d ++ e ≡ a ++ (b ++ (c ++ (d ++ e)))
 flat5 a b c d e = flat4 (a ++ b) c d e ∙ flat3 a b (c ++ (d ++ e))
 
+pub flat7 : (a b c d e f g : List ℕ) → a ++ b ++ c ++ d ++ e ++ f ++ g ≡ a ++ (b ++ (c ++ (d ++ (e ++ (f ++ g)))))
+flat7 a b c d e f g = flat5 (a ++ b ++ c) d e f g ∙ flat3 (a ++ b) c (d ++ (e ++ (f ++ g))) ∙ flat3 a b (c ++ (d ++ (e ++ (f ++ g))))
+
 pub pieces-comment : (before comment after : List ℕ) → HasNo (codes "\n") comment → pieces_of (before ++ codes "%" ++ comment ++ codes "\n" ++ after) ≡ pieces_of (before ++ codes "\n" ++ after)
 pieces-comment before comment after free =
     ap pieces_of (flat5 before (codes "%") comment (codes "\n") after)
@@ -185,7 +188,7 @@ pieces-last_comment before comment free =
     ∙ ap (λ (r : Lexed). fold with_byte r comment) (begun (fold with_byte nothing_lexed before))
     ∙ fold-comment (fold with_byte nothing_lexed before) comment free)
 
--- what is read of a file is read of its pieces
+-- a file is read by its pieces alone
 pub of_words : (form : Form) (text other : List ℕ) → pieces_of text ≡ pieces_of other → words_of form text ≡ words_of form other
 of_words Tex text other e = ap (λ (ps : List Piece). (groups ps).words) e
 of_words (Plain group) text other e = ap (λ (ps : List Piece). plain_words group ps) e

@@ -1,4 +1,4 @@
--- When a word's letters can be a key, or a word.
+-- The letters of a word as a key, or as a word of a dictionary.
 use Rattle.std.proofs.Common.{◌≡◌, ◌⊎◌, ◌∙◌, ℕ, ◌&&◌, Bool, true, false, List, [], ◌∷◌, map, Option, Some, None, refl, sym, ap, subst, inl, inr}
 use Rattle.std.specs.Prelude.{IsTrue, ◌↔◌}
 use Rattle.std.specs.List.{list_all}

@@ -1,15 +1,16 @@
 //! Laws on the groups of TeX files and on plain files, in the format's own words.
 //!
-//! They let a reader check the definition in specs/Groups.antt. The first law leaves the comments out; the second reads
-//! the words of the rest group by group, and the others say how a file ends.
+//! They say the words of every file, so that nobody needs to read the definition in specs/Groups.antt. The first law
+//! leaves the comments out. A text without comments is outside of groups up to its first command that means something,
+//! and each of the other laws says what follows such a command.
 
 ghost use Rattle.std.specs.Prelude.{◌≡◌, List, ℕ, [], None};
 ghost use Rattle.tex_files.specs.Converting.{words_of, group_fault};
 ghost use Rattle.tex_files.specs.declared.group.Form.{Form};
 ghost use Rattle.tex_files.specs.declared.group.Form.TheVariants.{Tex};
 ghost use Rattle.tex_files.specs.TexFiles.{IsOutside, IgnoresComments, IgnoresLastComment, HasWordsOfFirstGroupAndRest, HasFaultOfRest};
-ghost use Rattle.tex_files.specs.TexFiles.{HasWordsOfOpenGroup, HasFaultOfOpenGroup, HasNothingAfterItsEnd, HasFaultOfInput};
-ghost use Rattle.tex_files.specs.TexFiles.{HasWordsBetween};
+ghost use Rattle.tex_files.specs.TexFiles.{HasWordsOfOpenGroup, HasFaultOfOpenGroup, SkipsCommandWithoutBrace, HasNothingAfterItsEnd};
+ghost use Rattle.tex_files.specs.TexFiles.{HasFaultOfInput, HasWordsBetween};
 
 /// Comments say nothing: with them and without them, a file has equal words on equal lines, and an equal fault.
 pub fn comments_say_nothing()
@@ -20,7 +21,7 @@ pub fn comments_say_nothing()
 {}
 
 /// A TeX file without comments has the words of its first group, and then those of the text after that group, with their
-/// lines. The words of a group without a command and a brace stand between white space.
+/// lines. White space may stand before the group's brace. A brace and a command within the group are words.
 pub fn groups_are_read_in_order()
     ensures words { HasWordsOfFirstGroupAndRest }
     ensures fault { HasFaultOfRest }
@@ -32,10 +33,15 @@ pub fn nothing_is_read_outside_of_groups()
     ensures fault { (text : List ℕ) → IsOutside text → group_fault Tex text ≡ None }
 {}
 
-/// A TeX file that ends within a group is faulty, on the line on which that group begins.
+/// A TeX file that ends within a group is faulty, on the line of the brace that opens the group.
 pub fn open_groups_are_faulty()
     ensures words { HasWordsOfOpenGroup }
     ensures fault { HasFaultOfOpenGroup }
+{}
+
+/// A TeX file is read from the text after `\patterns` or `\hyphenation`, if no brace follows that command.
+pub fn a_command_without_a_brace_is_skipped()
+    ensures rest { SkipsCommandWithoutBrace }
 {}
 
 /// A TeX file ends at `\endinput` outside of groups; `\input` there is a fault.
@@ -44,7 +50,7 @@ pub fn the_end_is_the_end()
     ensures at_input { HasFaultOfInput }
 {}
 
-/// A plain file without a comment, a command and a brace has the words between its white space.
+/// A plain file without comments has the words of its text, where a brace is a word, and a backslash begins one.
 pub fn plain_files_are_words()
     ensures words { HasWordsBetween }
 {}

@@ -5,6 +5,6 @@ use Rattle.tex_files.proofs.laws.groups_are_read_in_order.Goals as goal
 
 pub returns : goal.returns
 returns c = record {
-  words = λ group before inside after h i. ap (λ (f : GroupScan). f.words) (found-group group before inside after h i);
-  fault = λ group before inside after h i. ap (λ (f : GroupScan). f.fault) (found-group group before inside after h i);
+  words = λ group before gap inside after h g i. ap (λ (f : GroupScan). f.words) (found-group group before gap inside after h g i);
+  fault = λ group before gap inside after h g i. ap (λ (f : GroupScan). f.fault) (found-group group before gap inside after h g i);
 }

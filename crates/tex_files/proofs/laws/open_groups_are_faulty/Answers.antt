@@ -6,6 +6,6 @@ use Rattle.tex_files.proofs.laws.open_groups_are_faulty.Goals as goal
 
 pub returns : goal.returns
 returns c = record {
-  words = λ group before inside h i. ap (λ (f : GroupScan). (closed f).words) (found-open group before inside h i);
-  fault = λ group before inside h i. ap (λ (f : GroupScan). (closed f).fault) (found-open group before inside h i);
+  words = λ group before gap inside h g i. ap (λ (f : GroupScan). (closed f).words) (found-open group before gap inside h g i);
+  fault = λ group before gap inside h g i. ap (λ (f : GroupScan). (closed f).fault) (found-open group before gap inside h g i);
 }
