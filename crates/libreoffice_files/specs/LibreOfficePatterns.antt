@@ -36,8 +36,8 @@ begins_with_digit (b ∷ bs) = is_digit b
 abbrev pub value_of_digit : ℕ → ℕ → List Value
 value_of_digit at digit = if digit == digit_zero then [] else (record { place = at; value = digit - digit_zero }) ∷ []
 
--- The digits of a pattern other than 0, each with the number of letters before it plus `at`, counted in bytes. Of
--- several digits in one place the last one counts.
+-- The digits of a pattern other than 0, each with the number of letters before it plus `at`, counted in bytes. If
+-- several digits stand in one place, the last one counts.
 abbrev pub last_values : ℕ → List ℕ → List Value
 last_values at [] = []
 last_values at (b ∷ bs) =
@@ -169,8 +169,8 @@ change_by_numbers key values replacement (Ok numbers) =
 abbrev pub change_by_parts : List ℕ → List Value → List ℕ × Option (List ℕ) → Result (PlacedChange × Bool) NoteKind
 change_by_parts key values parts = change_by_numbers key values parts.0 (start_and_count key parts.1)
 
--- The change that the text after a slash gives, and whether several values could take it; or the note on a change that
--- can't be read.
+-- The change that the text after a slash gives, and whether several values could take it. A change that can't be read
+-- gives a note.
 abbrev pub change_of : List ℕ → List Value → List ℕ → Result (PlacedChange × Bool) NoteKind
 change_of key values text = change_by_parts key values (replacement_and_numbers text (split_at_byte comma text))
 

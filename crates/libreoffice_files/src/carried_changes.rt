@@ -1,6 +1,6 @@
 //! Values with changes, as each kind of dictionary keeps them.
 //!
-//! An extended dictionary keeps the change. A standard one has no room for it, and its value forbids the break: a word
+//! An extended dictionary keeps the change. A standard one has no room for it, and its value forbids the break. A word
 //! that loses or gains letters at a break would be broken wrongly without them.
 
 ghost use Rattle.std.specs.Prelude.{◌≡◌, ◌<◌};

@@ -57,8 +57,8 @@ fn trimmed(line: &[u8]) -> &[u8]
     line.trim_ascii()
 }
 
-// Whether line 1 names a charset, known or not: it begins with a capital letter, or as a charset of Windows does, and
-// is no setting.
+// Whether line 1 names a charset, known or not. It does if it begins with a capital letter, or as a charset of Windows
+// does, and is no setting.
 fn is_name(text: &str) -> bool
     ensures { result ≡ is_name text.now }
 {

@@ -1,7 +1,7 @@
 //! Patterns as LibreOffice reads them, and whether TeX reads them alike.
 //!
 //! In TeX all patterns count that stand in a word. LibreOffice takes, at each letter, the longest text that ends there
-//! and begins some pattern. That text alone counts, if it is a pattern itself:
+//! and begins some pattern. This text alone counts, if it is a pattern itself:
 //!
 //! ```text
 //!   patterns a1b and xab2c, word xaby

@@ -64,8 +64,8 @@ pub record GroupWord : Type 0 where
   pub group : Group
   pub text : List ℕ
 
--- The state of a scan: the words of groups, the place of the next piece, whether the file has ended, and the first
--- fault of a group.
+-- The state of a scan: the words of groups, and the place of the next piece. It keeps whether the file has ended, and
+-- the first fault of a group.
 pub record GroupScan : Type 0 where
   pub words : List GroupWord
   pub place : Place

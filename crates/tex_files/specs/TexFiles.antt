@@ -1,5 +1,5 @@
--- Laws on TeX files and plain ones, in the format's own words: they say the words of every text without comments, and
--- that comments say nothing.
+-- Laws on TeX files and plain ones, in the format's own words. They say the words of every text without comments, and
+-- they say that comments mean nothing.
 use Rattle.std.specs.Prelude.{◌≡◌, ◌≢◌, ℕ, ◌+◌, ◌==◌, ◌||◌, Bool, true, false, not, if◌then◌else◌, All, List, [], ◌∷◌, ◌++◌, map, length, filter, codes, Option, Some, None, option_map}
 use Rattle.std.specs.List.{slice_split}
 use Rattle.hyphenation_breaks.specs.Ascii.{line_feed, space, backslash, open_brace}

@@ -1,8 +1,8 @@
 //! Laws on the groups of TeX files and on plain files, in the format's own words.
 //!
 //! They say the words of every file, so that nobody needs to read the definition in specs/Groups.antt. The first law
-//! leaves the comments out. A text without comments is outside of groups up to its first command that means something,
-//! and each of the other laws says what follows such a command.
+//! leaves the comments out. A text without comments is outside of groups up to its first command that means something.
+//! Each of the other laws says what follows such a command.
 
 ghost use Rattle.std.specs.Prelude.{◌≡◌, List, ℕ, [], None};
 ghost use Rattle.tex_files.specs.Converting.{words_of, group_fault};

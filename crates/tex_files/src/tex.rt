@@ -118,8 +118,8 @@ fn pieces_of(alloc: Global, bytes: &[u8]) -> Result<Vec<Piece>, AllocError>
     Ok(lexer.pieces)
 }
 
-/// A scan of pieces: the words of groups that it found, the place of the next piece, whether the file has ended, and
-/// the first fault of a group with its line.
+// A scan of pieces: the words of groups that it found, and the place of the next piece. It keeps whether the file has
+// ended, and the first fault of a group with its line.
 #[derive(Drop)]
 pub(crate) struct Scan {
     words: Vec<Word>,
