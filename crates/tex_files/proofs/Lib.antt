@@ -1,5 +1,5 @@
 pub mod Gathering
-pub mod Words
+pub mod Letters
 pub mod Lexing
 pub mod Grouping
 pub mod Between

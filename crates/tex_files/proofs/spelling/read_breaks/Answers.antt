@@ -2,7 +2,7 @@ use Rattle.std.proofs.lemmas.Grind.{common_steps}
 use Rattle.std.proofs.Common.{arith, ◌∙◌, sym, ap}
 use Rattle.std.specs.Str.{is_utf8}
 use Rattle.hyphenation_breaks.specs.Break.{plain_break}
-use Rattle.tex_files.proofs.Words.{either, bad_breaks, good_breaks}
+use Rattle.tex_files.proofs.Letters.{either, bad_breaks, good_breaks}
 use Rattle.tex_files.proofs.spelling.read_breaks.Goals as goal
 
 pub returns-then-not-fits-clause-first_failed_test : goal.returns-then-not-fits-clause-first_failed_test

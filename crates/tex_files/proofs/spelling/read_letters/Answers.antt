@@ -2,7 +2,7 @@ use Rattle.std.proofs.lemmas.Grind.{common_steps}
 use Rattle.std.proofs.Common.{arith, ◌∙◌, sym, ap, None}
 use Rattle.std.specs.Str.{is_utf8}
 use Rattle.hyphenation_breaks.specs.Invariant.{has_letter}
-use Rattle.tex_files.proofs.Words.{either, bad_entries, good_entries}
+use Rattle.tex_files.proofs.Letters.{either, bad_entries, good_entries}
 use Rattle.tex_files.proofs.spelling.read_letters.Goals as goal
 
 pub returns-then-not-fits_key-clause-first_failed_test : goal.returns-then-not-fits_key-clause-first_failed_test
