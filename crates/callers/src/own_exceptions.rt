@@ -6,7 +6,7 @@ ghost use Rattle.std.specs.Io.KnownBytes.{Appends};
 ghost use Rattle.hyphenation_breaks.specs.Break.{plain_break};
 ghost use Rattle.hyphenation_writer.specs.Canonical.{standard_text};
 ghost use Rattle.hyphenation_breaks.specs.Invariant.{are_listed};
-ghost use Rattle.hyphenation_load.specs.Load.{IfMemory, IsOfWriting};
+ghost use Rattle.hyphenation_load.specs.Load.{IfMemory, IsWriteError};
 
 use hyphenation::load::{Error, Result};
 use hyphenation::{Load, Standard};
@@ -38,7 +38,7 @@ pub fn list_and_write<W: Write>(
     ensures err { OnErr result ((dictionary.new ≡ dictionary.old) ⊎ (dictionary.new
         ≡ record dictionary.old { exceptions = finite.insert dictionary.old.exceptions word.now places.items })) }
     ensures untouched { IfMemory result (writer.new ≡ writer.old) }
-    ensures kind { IfErr result IsOfWriting }
+    ensures kind { IfErr result IsWriteError }
 {
     if !Standard::fits(word, &places) {
         return Ok(false);

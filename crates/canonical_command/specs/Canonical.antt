@@ -8,9 +8,9 @@ use Rattle.hyphenation_grammar.specs.Reading.{standard_contents, extended_conten
 use Rattle.hyphenation_writer.specs.Canonical.{standard_text, extended_text}
 
 -- The kind that the words name: there has to be one word, a kind's name.
-abbrev pub kind_of_words : List (Bor (List ℕ)) → Option Kind
-kind_of_words (name ∷ []) = kind_of_name name.now
-kind_of_words _ = None
+abbrev pub kind_of_args : List (Bor (List ℕ)) → Option Kind
+kind_of_args (name ∷ []) = kind_of_name name.now
+kind_of_args _ = None
 
 -- The canonical text of the dictionary that an accepted text of a kind gives.
 abbrev pub reordered : Kind → List ℕ → List ℕ
@@ -19,5 +19,5 @@ reordered Extended bytes = extended_text (extended_contents bytes)
 
 -- The statuses where the arguments name a kind: 0 for done, 3 where the text is refused, 5 where it can't be read or
 -- the result can't be written, 6 where memory is wanting.
-abbrev pub IsAnswered : ℕ → Type 0
-IsAnswered status = (status ≡ 0) ⊎ (status ≡ 3) ⊎ (status ≡ 5) ⊎ (status ≡ 6)
+abbrev pub IsExitStatus : ℕ → Type 0
+IsExitStatus status = (status ≡ 0) ⊎ (status ≡ 3) ⊎ (status ≡ 5) ⊎ (status ≡ 6)

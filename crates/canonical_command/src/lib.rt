@@ -7,12 +7,12 @@ ghost use Rattle.std.specs.Io.KnownBytes.{Appends};
 ghost use Rattle.std.specs.IoError.{error_kind};
 ghost use Rattle.hyphenation_grammar.specs.Judging.{refusal_of};
 ghost use Rattle.hyphenation_load.specs.Load.{Tells};
-ghost use Rattle.command_line.specs.About.{own_text};
-ghost use Rattle.canonical_command.specs.Canonical.{kind_of_words, reordered, IsAnswered};
+ghost use Rattle.command_line.specs.About.{help_or_version};
+ghost use Rattle.canonical_command.specs.Canonical.{kind_of_args, reordered, IsExitStatus};
 ghost use Rattle.command_line.specs.Statuses.{BeforeOutput};
-ghost use Rattle.canonical_command.specs.Private.Statuses.{status_of_error, UnlessFault};
+ghost use Rattle.canonical_command.specs.Private.Statuses.{status_of_error, UnlessIo};
 
-use command_line::{VERSION, answer_of_itself, tell};
+use command_line::{VERSION, write_help_or_version, write_message};
 use hyphenation_dictionary::dictionary::{Extended, Standard};
 use hyphenation_grammar::form::Kind;
 use hyphenation_load::{Error, Load, Result};
@@ -29,7 +29,7 @@ pub const USAGE: &str =
 
 /// The kind that the words name.
 fn kind_of(words: &[&str]) -> Option<Kind>
-    ensures { result ≡ kind_of_words words.now }
+    ensures { result ≡ kind_of_args words.now }
 {
     match words {
         [name] => Kind::from_name(name),
@@ -49,7 +49,7 @@ fn put_in_order<D: Load + Drop, R: Read, W: Write>(
         × Appends (W.contents output.old) (W.contents output.new) (D.canonical dictionary))) }
     ensures refused { IfErr result (λ e. IfSome (R.remaining input.old) (λ bytes.
         Tells (D.refusal bytes) (Unit {0}) (λ _ _. ⊥) e)) }
-    ensures untouched { UnlessFault result (output.new ≡ output.old) }
+    ensures untouched { UnlessIo result (output.new ≡ output.old) }
 {
     let dictionary = D::any_from_reader(alloc, input)?;
     dictionary.to_writer(alloc, output)
@@ -67,7 +67,7 @@ fn put_kind_in_order<R: Read, W: Write>(
         Appends (W.contents output.old) (W.contents output.new) (reordered kind bytes))) }
     ensures refused { IfErr result (λ e. IfSome (R.remaining input.old) (λ bytes.
         Tells (refusal_of kind bytes) (Unit {0}) (λ _ _. ⊥) e)) }
-    ensures untouched { UnlessFault result (output.new ≡ output.old) }
+    ensures untouched { UnlessIo result (output.new ≡ output.old) }
 {
     match kind {
         Kind::Standard => put_in_order::<Standard, R, W>(alloc, input, output),
@@ -80,7 +80,7 @@ fn put_kind_in_order<R: Read, W: Write>(
 fn report<E: Write>(alloc: Global, error: &Error, faults: &mut E) -> u8
     ensures { result ≡ status_of_error error.now }
 {
-    tell(
+    write_message(
         alloc,
         &format_args!("hyphenate-canonical: {error}\n"),
         faults,
@@ -103,22 +103,22 @@ pub fn answer<R: Read, W: Write, E: Write>(
     output: &mut W,
     faults: &mut E,
 ) -> u8
-    ensures usage { kind_of_words words.now ≡ None → own_text NAME.now VERSION.now USAGE.now words.now ≡ None →
+    ensures usage { kind_of_args words.now ≡ None → help_or_version NAME.now VERSION.now USAGE.now words.now ≡ None →
         (result ≡ 2) × (input.new ≡ input.old) }
-    ensures said { kind_of_words words.now ≡ None → IfSome (own_text NAME.now VERSION.now USAGE.now words.now) (λ text.
+    ensures said { kind_of_args words.now ≡ None → IfSome (help_or_version NAME.now VERSION.now USAGE.now words.now) (λ text.
         (input.new ≡ input.old) × ((result ≡ 5)
         ⊎ ((result ≡ 0) × Appends (W.contents output.old) (W.contents output.new) text))) }
-    ensures answered { IsSome (kind_of_words words.now) → IsAnswered result }
-    ensures accepted { result ≡ 0 → IfSome (kind_of_words words.now) (λ kind. IfSome (R.remaining input.old) (λ bytes.
+    ensures answered { IsSome (kind_of_args words.now) → IsExitStatus result }
+    ensures accepted { result ≡ 0 → IfSome (kind_of_args words.now) (λ kind. IfSome (R.remaining input.old) (λ bytes.
         refusal_of kind bytes ≡ None)) }
-    ensures written { result ≡ 0 → IfSome (kind_of_words words.now) (λ kind. IfSome (R.remaining input.old) (λ bytes.
+    ensures written { result ≡ 0 → IfSome (kind_of_args words.now) (λ kind. IfSome (R.remaining input.old) (λ bytes.
         Appends (W.contents output.old) (W.contents output.new) (reordered kind bytes))) }
-    ensures refused { result ≡ 3 → IfSome (kind_of_words words.now) (λ kind. IfSome (R.remaining input.old) (λ bytes.
+    ensures refused { result ≡ 3 → IfSome (kind_of_args words.now) (λ kind. IfSome (R.remaining input.old) (λ bytes.
         IsSome (refusal_of kind bytes))) }
     ensures untouched { BeforeOutput result (output.new ≡ output.old) }
 {
     let Some(kind) = kind_of(words) else {
-        return match answer_of_itself(NAME, USAGE, words, output) {
+        return match write_help_or_version(NAME, USAGE, words, output) {
             Some(status) => status,
             None => {
                 let _ = faults.write_all(USAGE.as_bytes());
@@ -133,7 +133,7 @@ pub fn answer<R: Read, W: Write, E: Write>(
 }
 
 /// Says why the program's words could not be had, and gives the status: memory is wanting, or they are not UTF-8.
-pub fn report_words<E: Write>(fault: &io::Error, faults: &mut E) -> u8
+pub fn report_bad_args<E: Write>(fault: &io::Error, faults: &mut E) -> u8
     ensures memory { error_kind fault.now ≡ ErrorKind.OutOfMemory → result ≡ 6 }
     ensures other { error_kind fault.now ≢ ErrorKind.OutOfMemory → result ≡ 2 }
 {

@@ -9,8 +9,8 @@ version_line name version = name ++ (codes " " ++ (version ++ codes "\n"))
 
 -- The text that the arguments ask for: `--version` alone asks for the line of the name and the version, `--help` alone
 -- for the usage, and nothing else asks for a text.
-abbrev pub own_text : List ℕ → List ℕ → List ℕ → List (Bor (List ℕ)) → Option (List ℕ)
-own_text name version usage (argument ∷ []) =
+abbrev pub help_or_version : List ℕ → List ℕ → List ℕ → List (Bor (List ℕ)) → Option (List ℕ)
+help_or_version name version usage (argument ∷ []) =
     if is_same argument.now (codes "--version") then Some (version_line name version)
     else (if is_same argument.now (codes "--help") then Some usage else None)
-own_text name version usage _ = None
+help_or_version name version usage _ = None

@@ -2,7 +2,7 @@
 
 ghost use Rattle.std.specs.Prelude.{◌≡◌, ◌⊎◌, None, Some, OnOk, IfSome};
 ghost use Rattle.std.specs.Io.KnownBytes.{Appends};
-ghost use Rattle.command_line.specs.About.{own_text, version_line};
+ghost use Rattle.command_line.specs.About.{help_or_version, version_line};
 
 use crate::VERSION;
 use std::io;
@@ -21,15 +21,15 @@ fn write_version<W: Write>(name: &str, output: &mut W) -> io::Result<()>
 
 /// Writes what the arguments ask a program to say of itself, and gives the status: 0, or 5 where the text can't be
 /// written. None where they ask for something else; then nothing is written.
-pub fn answer_of_itself<W: Write>(
+pub fn write_help_or_version<W: Write>(
     name: &str,
     usage: &str,
     arguments: &[&str],
     output: &mut W,
 ) -> Option<u8>
-    ensures other { own_text name.now VERSION.now usage.now arguments.now ≡ None →
+    ensures other { help_or_version name.now VERSION.now usage.now arguments.now ≡ None →
         (result ≡ None) × (output.new ≡ output.old) }
-    ensures said { IfSome (own_text name.now VERSION.now usage.now arguments.now) (λ text.
+    ensures said { IfSome (help_or_version name.now VERSION.now usage.now arguments.now) (λ text.
         (result ≡ Some 5) ⊎ ((result ≡ Some 0) × Appends (W.contents output.old) (W.contents output.new) text)) }
 {
     let [argument] = arguments else {

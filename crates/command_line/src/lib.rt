@@ -3,7 +3,7 @@
 
 mod about;
 
-pub use about::answer_of_itself;
+pub use about::write_help_or_version;
 use std::alloc::Global;
 use std::env::Env;
 use std::fmt::Display;
@@ -15,7 +15,7 @@ pub const VERSION: &str = "0.1.0";
 
 /// What a call makes of the words after the program's name; or that they can't be had, since one is not UTF-8, or
 /// memory is wanting.
-pub fn with_words<R: Env + Alloc, T, F: FnOnce(&[&str]) -> T>(rt: &R, call: F) -> io::Result<T>
+pub fn with_args<R: Env + Alloc, T, F: FnOnce(&[&str]) -> T>(rt: &R, call: F) -> io::Result<T>
     requires { F.IsAlwaysCallable call }
 {
     let words: Vec<String<R::A>, R::A> = env::args(rt)?.skip(1).collect(rt.alloc())?;
@@ -25,7 +25,7 @@ pub fn with_words<R: Env + Alloc, T, F: FnOnce(&[&str]) -> T>(rt: &R, call: F) -
 
 /// Writes a message in one piece; where memory for that is wanting, in several. That it can't be written changes
 /// nothing.
-pub fn tell<D: Display, W: Write>(alloc: Global, message: &D, output: &mut W) {
+pub fn write_message<D: Display, W: Write>(alloc: Global, message: &D, output: &mut W) {
     let _ = match format!(in alloc; "{message}") {
         Ok(text) => output.write_all(text.as_bytes()),
         Err(_) => write!(output, "{message}"),

@@ -21,5 +21,5 @@ Writes Extended code left right old new = (dictionary : Contents (Option Change)
 
 -- The statuses: 0 done; 2 the arguments are of no form, or the minima are missing; 3 a file can't be opened, read or
 -- understood; 5 the result can't be written; 6 memory is wanting.
-abbrev pub IsAnswered : ℕ → Type 0
-IsAnswered status = (status ≡ 0) ⊎ (status ≡ 2) ⊎ (status ≡ 3) ⊎ (status ≡ 5) ⊎ (status ≡ 6)
+abbrev pub IsExitStatus : ℕ → Type 0
+IsExitStatus status = (status ≡ 0) ⊎ (status ≡ 2) ⊎ (status ≡ 3) ⊎ (status ≡ 5) ⊎ (status ≡ 6)

@@ -5,15 +5,15 @@
 ghost use Rattle.std.specs.Prelude.{◌≡◌, ◌≢◌, ◌⊎◌, None, OnOk, IfOk, IfErr, IfSome};
 ghost use Rattle.std.specs.Io.KnownBytes.{Appends};
 ghost use Rattle.std.specs.IoError.{error_kind};
-ghost use Rattle.command_line.specs.About.{own_text};
+ghost use Rattle.command_line.specs.About.{help_or_version};
 ghost use Rattle.command_line.specs.Statuses.{BeforeOutput};
-ghost use Rattle.convert_command.specs.Words.{Asked, Says};
-ghost use Rattle.convert_command.specs.Written.{IsFor, Writes, IsAnswered};
+ghost use Rattle.convert_command.specs.Arguments.{Asked, Says};
+ghost use Rattle.convert_command.specs.Written.{IsFor, Writes, IsExitStatus};
 ghost use Rattle.convert_command.specs.Private.Statuses.{IsStatusOf, MissesMinima};
 
 mod request;
 
-use command_line::{VERSION, answer_of_itself, tell};
+use command_line::{VERSION, write_help_or_version, write_message};
 use hyphenation_breaks::entry::{Listing, Payload};
 use hyphenation_breaks::extended::Subregion;
 use hyphenation_grammar::form::Kind;
@@ -24,7 +24,7 @@ use pattern_files::group::{File, Form};
 use pattern_files::libreoffice::convert_dic;
 use pattern_files::notes::Note;
 use pattern_files::told::minima_for;
-use request::{Misfit, Request, Sort, form_of};
+use request::{BadArgs, Request, Input, form_of};
 use std::alloc::{AllocError, Global};
 use std::fs::Files;
 use std::io::{ErrorKind, Read, Write};
@@ -100,20 +100,20 @@ fn read_files<F: Files>(rt: &F, alloc: Global, paths: &[&str]) -> Result<Vec<Vec
 }
 
 /// The files with their forms.
-fn formed<'a>(
+fn with_forms<'a>(
     alloc: Global,
     paths: &[&str],
     files: &'a [Vec<u8>],
 ) -> Result<Vec<File<'a>>, AllocError> {
-    let mut formed = Vec::new(alloc);
+    let mut with_forms = Vec::new(alloc);
     for (index, bytes) in files.iter().enumerate() {
         let form = match paths.get(index) {
             Some(path) => form_of(path).unwrap_or(Form::Tex),
             None => Form::Tex,
         };
-        formed.push(File { form, bytes })?;
+        with_forms.push(File { form, bytes })?;
     }
-    Ok(formed)
+    Ok(with_forms)
 }
 
 /// The dictionary of TeX's files.
@@ -126,7 +126,7 @@ fn convert_tex<C: Payload, B: Listing>(
         IsFor request.now.language request.now.left request.now.right found.dictionary) }
     ensures missed { IfErr result (MissesMinima request.now.left request.now.right) }
 {
-    let files = formed(alloc, request.paths, bytes)?;
+    let files = with_forms(alloc, request.paths, bytes)?;
     let minima = minima_for(request.left, request.right, &files);
     // a file that can't be understood is told of before the minima are missed
     let (left, right) = minima.unwrap_or((0, 0));
@@ -148,9 +148,9 @@ fn convert_files<C: Payload, B: Listing>(
         IsFor request.now.language request.now.left request.now.right found.dictionary) }
     ensures missed { IfErr result (MissesMinima request.now.left request.now.right) }
 {
-    match request.sort {
-        Sort::Tex => convert_tex(alloc, request, bytes),
-        Sort::Dic => {
+    match request.input {
+        Input::Tex => convert_tex(alloc, request, bytes),
+        Input::Dic => {
             let first = match bytes.first() {
                 Some(first) => first.as_slice(),
                 None => &[],
@@ -185,7 +185,7 @@ fn write_text<D: Load, O: Write>(
     }
 }
 
-/// Reads the files, makes a dictionary of them and writes that; what there is to tell of it.
+/// Reads the files, makes a dictionary of them and writes that; what there is to write_message of it.
 #[tactic(auto, using(crate::proofs::Writing::standard_written, crate::proofs::Writing::extended_written))]
 fn run<F: Files, O: Write>(
     rt: &F,
@@ -225,7 +225,7 @@ fn report_notes<E: Write>(alloc: Global, paths: &[&str], notes: &[Note], faults:
         let line = note.first.line;
         let what = note.what;
         let times = note.times;
-        tell(
+        write_message(
             alloc,
             &format_args!("hyphenate-convert: {path}:{line}: note: {what} ({times})\n"),
             faults,
@@ -250,7 +250,7 @@ fn report<E: Write>(alloc: Global, paths: &[&str], failure: &Failure, faults: &m
             if let ErrorKind::OutOfMemory = e.kind() {
                 return report_memory(faults);
             }
-            tell(
+            write_message(
                 alloc,
                 &format_args!("hyphenate-convert: {path}: {e}\n"),
                 faults,
@@ -259,7 +259,7 @@ fn report<E: Write>(alloc: Global, paths: &[&str], failure: &Failure, faults: &m
         }
         Failure::Refused(Refusal::Fault { file, line, cause }) => {
             let path = paths.get(*file).copied().unwrap_or("");
-            tell(
+            write_message(
                 alloc,
                 &format_args!("hyphenate-convert: {path}:{line}: {cause}\n"),
                 faults,
@@ -282,7 +282,7 @@ fn report<E: Write>(alloc: Global, paths: &[&str], failure: &Failure, faults: &m
 }
 
 /// Writes why the program's words could not be had, and gives the status.
-pub fn report_words<E: Write>(fault: &io::Error, faults: &mut E) -> u8
+pub fn report_bad_args<E: Write>(fault: &io::Error, faults: &mut E) -> u8
     ensures memory { error_kind fault.now ≡ ErrorKind.OutOfMemory → result ≡ 6 }
     ensures other { error_kind fault.now ≢ ErrorKind.OutOfMemory → result ≡ 2 }
 {
@@ -296,27 +296,27 @@ pub fn report_words<E: Write>(fault: &io::Error, faults: &mut E) -> u8
 }
 
 /// Writes why the words ask for nothing, and gives the status.
-fn report_misfit<E: Write>(alloc: Global, words: &[&str], misfit: Misfit, faults: &mut E) -> u8
+fn report_rejected_args<E: Write>(alloc: Global, words: &[&str], bad_args: BadArgs, faults: &mut E) -> u8
     ensures { result ≡ 2 }
 {
-    let (index, why) = match misfit {
-        Misfit::Form => {
+    let (index, why) = match bad_args {
+        BadArgs::Form => {
             let _ = faults.write_all(USAGE.as_bytes());
             return 2;
         }
-        Misfit::Ending(index) => (
+        BadArgs::Ending(index) => (
             index,
             "a file is .dic, .tex, .pat.txt or .hyp.txt, and this is none of them",
         ),
-        Misfit::Beside(index) => (index, "a .dic is converted alone"),
-        Misfit::Language(index) => (
+        BadArgs::Beside(index) => (index, "a .dic is converted alone"),
+        BadArgs::Language(index) => (
             index,
             "another language than the file before it, by its name",
         ),
     };
     // the files stand after four words
     let path = words.get(index.saturating_add(4)).copied().unwrap_or("");
-    tell(
+    write_message(
         alloc,
         &format_args!("hyphenate-convert: {path}: {why}\n"),
         faults,
@@ -335,20 +335,20 @@ pub fn answer<F: Files, O: Write, E: Write>(
     output: &mut O,
     faults: &mut E,
 ) -> u8
-    ensures said { IfSome (own_text NAME.now VERSION.now USAGE.now words.now) (λ text.
+    ensures said { IfSome (help_or_version NAME.now VERSION.now USAGE.now words.now) (λ text.
         (result ≡ 5) ⊎ ((result ≡ 0) × Appends (O.contents output.old) (O.contents output.new) text)) }
-    ensures written { own_text NAME.now VERSION.now USAGE.now words.now ≡ None → result ≡ 0 →
+    ensures written { help_or_version NAME.now VERSION.now USAGE.now words.now ≡ None → result ≡ 0 →
         (asked : Asked) × Says words.now asked
         × Writes asked.kind asked.code asked.left asked.right (O.contents output.old) (O.contents output.new) }
-    ensures answered { own_text NAME.now VERSION.now USAGE.now words.now ≡ None → IsAnswered result }
+    ensures answered { help_or_version NAME.now VERSION.now USAGE.now words.now ≡ None → IsExitStatus result }
     ensures untouched { BeforeOutput result (output.new ≡ output.old) }
 {
-    if let Some(status) = answer_of_itself(NAME, USAGE, words, output) {
+    if let Some(status) = write_help_or_version(NAME, USAGE, words, output) {
         return status;
     }
-    let request = match Request::from_words(words) {
+    let request = match Request::from_args(words) {
         Ok(request) => request,
-        Err(misfit) => return report_misfit(alloc, words, misfit, faults),
+        Err(bad_args) => return report_rejected_args(alloc, words, bad_args, faults),
     };
     match run(rt, alloc, &request, output) {
         Ok(notes) => {

@@ -1,8 +1,8 @@
 //! What the program's words ask for.
 
 ghost use Rattle.std.specs.Prelude.{◌≡◌, ◌<◌, ◌+◌, ◌==◌, IfOk, IfSome, None, MatchOption, drop, length, map, option_copied, option_map, position};
-ghost use Rattle.convert_command.specs.Private.Tags.{name_in, tag_in, is_other, stranger_from};
-ghost use Rattle.convert_command.specs.Words.{Says, SaysMinimum};
+ghost use Rattle.convert_command.specs.Private.Tags.{name_in, tag_in, is_other, other_language_from};
+ghost use Rattle.convert_command.specs.Arguments.{Says, SaysMinimum};
 ghost use Rattle.convert_command.specs.Private.Requests.{meaning};
 
 use hyphenation_breaks::language::Language;
@@ -12,7 +12,7 @@ use pattern_files::group::{Form, Group};
 
 /// What the files are.
 #[derive(Drop)]
-pub enum Sort {
+pub enum Input {
     /// One file of LibreOffice's.
     Dic,
     /// TeX's files, and plain ones.
@@ -26,7 +26,7 @@ pub struct Request<'w> {
     pub language: Language,
     pub left: Option<u8>,
     pub right: Option<u8>,
-    pub sort: Sort,
+    pub input: Input,
     pub paths: &'w [&'w str],
 }
 
@@ -45,7 +45,7 @@ pub fn form_of(path: &str) -> Option<Form> {
 
 /// Why words ask for nothing.
 #[derive(Drop)]
-pub enum Misfit {
+pub enum BadArgs {
     /// They are of no form.
     Form,
     /// The file of that number, counted from 0, is of no known form, by its ending.
@@ -104,8 +104,8 @@ fn is_other(first: &[u8], tag: Option<&[u8]>) -> bool
 }
 
 /// The first file of another language than those before it, as far as the names say.
-fn stranger(paths: &[&str]) -> Option<usize>
-    ensures { result ≡ stranger_from None 0 (map (λ path. path.now) paths.now) }
+fn first_of_other_language(paths: &[&str]) -> Option<usize>
+    ensures { result ≡ other_language_from None 0 (map (λ path. path.now) paths.now) }
 {
     let mut known: Option<&[u8]> = None;
     for (index, path) in paths.iter().enumerate() {
@@ -122,31 +122,31 @@ fn stranger(paths: &[&str]) -> Option<usize>
 }
 
 /// The first file of an ending that is not TeX's or a plain file's.
-fn unformed(paths: &[&str]) -> Option<Misfit> {
+fn first_bad_ending(paths: &[&str]) -> Option<BadArgs> {
     for (index, path) in paths.iter().enumerate() {
         if path.ends_with(".dic") {
-            return Some(Misfit::Beside(index));
+            return Some(BadArgs::Beside(index));
         }
         if form_of(path).is_none() {
-            return Some(Misfit::Ending(index));
+            return Some(BadArgs::Ending(index));
         }
     }
     None
 }
 
 /// What the files are, by their paths.
-fn sort_of(paths: &[&str]) -> Result<Sort, Misfit> {
+fn input_of(paths: &[&str]) -> Result<Input, BadArgs> {
     match paths {
-        [] => return Err(Misfit::Form),
-        [path] if path.ends_with(".dic") => return Ok(Sort::Dic),
+        [] => return Err(BadArgs::Form),
+        [path] if path.ends_with(".dic") => return Ok(Input::Dic),
         _ => {}
     }
-    if let Some(misfit) = unformed(paths) {
-        return Err(misfit);
+    if let Some(bad_args) = first_bad_ending(paths) {
+        return Err(bad_args);
     }
-    match stranger(paths) {
-        Some(index) => Err(Misfit::Language(index)),
-        None => Ok(Sort::Tex),
+    match first_of_other_language(paths) {
+        Some(index) => Err(BadArgs::Language(index)),
+        None => Ok(Input::Tex),
     }
 }
 
@@ -165,18 +165,18 @@ fn minimum_of(text: &str) -> Option<Option<u8>>
 
 impl<'w> Request<'w> {
     /// The request, or why the words ask for nothing.
-    pub fn from_words(words: &'w [&'w str]) -> Result<Request<'w>, Misfit>
+    pub fn from_args(words: &'w [&'w str]) -> Result<Request<'w>, BadArgs>
         ensures { IfOk result (λ request. Says words.now (meaning request)) }
     {
         let [kind, code, left, right, paths @ ..] = words else {
-            return Err(Misfit::Form);
+            return Err(BadArgs::Form);
         };
         Ok(Request {
-            kind: Kind::from_name(kind).ok_or(Misfit::Form)?,
-            language: Language::from_code(code).ok_or(Misfit::Form)?,
-            left: minimum_of(left).ok_or(Misfit::Form)?,
-            right: minimum_of(right).ok_or(Misfit::Form)?,
-            sort: sort_of(paths)?,
+            kind: Kind::from_name(kind).ok_or(BadArgs::Form)?,
+            language: Language::from_code(code).ok_or(BadArgs::Form)?,
+            left: minimum_of(left).ok_or(BadArgs::Form)?,
+            right: minimum_of(right).ok_or(BadArgs::Form)?,
+            input: input_of(paths)?,
             paths,
         })
     }

@@ -13,7 +13,7 @@ mod quiet;
 mod texts;
 mod whole;
 
-use command_line::with_words;
+use command_line::with_args;
 use std::alloc::Global;
 use std::io;
 use std::io::{Read, Write};
@@ -60,7 +60,7 @@ fn answer(rt: &HostRuntime, words: &[&str]) -> io::Result<u8> {
 }
 
 fn main(rt: HostRuntime) -> ExitCode {
-    let answered = with_words(&rt, |words| answer(&rt, words));
+    let answered = with_args(&rt, |words| answer(&rt, words));
     match answered {
         Ok(Ok(status)) => ExitCode::from(status),
         _ => ExitCode::from(1),

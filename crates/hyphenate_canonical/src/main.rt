@@ -5,12 +5,12 @@
 //! `canonical_command::answer`, which does all and which tests call.
 #![tactic(auto)]
 
-use canonical_command::{answer, report_words};
-use command_line::with_words;
+use canonical_command::{answer, report_bad_args};
+use command_line::with_args;
 use std::process::ExitCode;
 
 fn main(rt: HostRuntime) -> ExitCode {
-    let answered = with_words(&rt, |words| {
+    let answered = with_args(&rt, |words| {
         answer(
             rt.alloc(),
             words,
@@ -21,7 +21,7 @@ fn main(rt: HostRuntime) -> ExitCode {
     });
     let status = match answered {
         Ok(status) => status,
-        Err(e) => report_words(&e, &mut rt.stderr()),
+        Err(e) => report_bad_args(&e, &mut rt.stderr()),
     };
     ExitCode::from(status)
 }

@@ -8,11 +8,11 @@ ghost use Rattle.std.specs.IoError.{error_kind};
 ghost use Rattle.hyphenation.specs.Engine.{BeforeWriting, IsUnwritten};
 ghost use Rattle.hyphenation.specs.declared.engine.RunError.{RunError};
 ghost use Rattle.command_line.specs.Statuses.{BeforeOutput};
-ghost use Rattle.hyphenate_command.specs.Words.{asked, score_asked, text_asked, lines_asked};
+ghost use Rattle.hyphenate_command.specs.Arguments.{asked, score_asked, text_asked, lines_asked};
 ghost use Rattle.hyphenate_command.specs.Statuses.{status_of, EndsFor, BeforeText};
 ghost use Rattle.hyphenate_command.specs.Private.Requests.{wanted_by, meaning};
 
-use command_line::tell;
+use command_line::write_message;
 use hyphenation::Language;
 use hyphenation::engine::{Kind, RunError, number_of, run, run_score};
 use hyphenation::load::Error;
@@ -56,7 +56,7 @@ struct Request<'w> {
 impl<'w> Request<'w> {
     /// The request, where the words are of a form; the first word `score` always chooses the score, and `fill` the
     /// lines.
-    fn from_words(words: &'w [&'w str]) -> Option<Request<'w>>
+    fn from_args(words: &'w [&'w str]) -> Option<Request<'w>>
         ensures { MatchOption result (asked words.now ≡ None)
             (λ request. asked words.now ≡ Some (meaning request)) }
     {
@@ -184,11 +184,11 @@ fn report<E: Write>(alloc: Global, path: &str, fault: &RunError, faults: &mut E)
 {
     match fault {
         RunError::Dictionary(error) => {
-            tell(alloc, &format_args!("hyphenate: {path}: {error}\n"), faults);
+            write_message(alloc, &format_args!("hyphenate: {path}: {error}\n"), faults);
             3
         }
         RunError::Edit(number) => {
-            tell(
+            write_message(
                 alloc,
                 &format_args!("hyphenate: edit {number} is refused\n"),
                 faults,
@@ -215,7 +215,7 @@ fn report<E: Write>(alloc: Global, path: &str, fault: &RunError, faults: &mut E)
 }
 
 /// Writes why the program's words could not be had, and gives the status: they are not UTF-8, or memory is wanting.
-pub fn report_words<E: Write>(fault: &io::Error, faults: &mut E) -> u8
+pub fn report_bad_args<E: Write>(fault: &io::Error, faults: &mut E) -> u8
     ensures memory { error_kind fault.now ≡ ErrorKind.OutOfMemory → result ≡ 6 }
     ensures other { error_kind fault.now ≢ ErrorKind.OutOfMemory → result ≡ 2 }
 {
@@ -250,7 +250,7 @@ pub fn answer<F: Files, I: Read, O: Write, E: Write>(
     ensures untouched { BeforeOutput result (output.new ≡ output.old) }
     ensures written { result ≡ 0 → (text : List ℕ) × Appends (O.contents output.old) (O.contents output.new) text }
 {
-    let Some(request) = Request::from_words(words) else {
+    let Some(request) = Request::from_args(words) else {
         let _ = faults.write_all(USAGE.as_bytes());
         return 2;
     };

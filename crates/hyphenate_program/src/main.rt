@@ -4,12 +4,12 @@
 //! `main` hands its words to `hyphenate_command::answer`, which does all and which tests call.
 #![tactic(auto)]
 
-use command_line::with_words;
-use hyphenate_command::{answer, report_words};
+use command_line::with_args;
+use hyphenate_command::{answer, report_bad_args};
 use std::process::ExitCode;
 
 fn main(rt: HostRuntime) -> ExitCode {
-    let answered = with_words(&rt, |words| {
+    let answered = with_args(&rt, |words| {
         answer(
             &rt,
             rt.alloc(),
@@ -21,7 +21,7 @@ fn main(rt: HostRuntime) -> ExitCode {
     });
     let status = match answered {
         Ok(status) => status,
-        Err(e) => report_words(&e, &mut rt.stderr()),
+        Err(e) => report_bad_args(&e, &mut rt.stderr()),
     };
     ExitCode::from(status)
 }

@@ -38,11 +38,11 @@ abbrev pub IsAccepted : (List ℕ → Option (ℕ × Cause)) → (List ℕ → L
 IsAccepted refusal language asked bytes = (refusal bytes ≡ None) × (language bytes ≡ asked)
 
 -- Why a score is not written: its dictionary can't be had, the writing failed, or memory was refused.
-abbrev pub IsOfScore : RunError → Type 0
-IsOfScore (Dictionary e) = Unit {0}
-IsOfScore (Output e) = Unit {0}
-IsOfScore Memory = Unit {0}
-IsOfScore _ = ⊥
+abbrev pub IsScoreError : RunError → Type 0
+IsScoreError (Dictionary e) = Unit {0}
+IsScoreError (Output e) = Unit {0}
+IsScoreError Memory = Unit {0}
+IsScoreError _ = ⊥
 
 -- This holds where a run ended before the reading of its text: over its dictionary, or over an edit.
 abbrev pub BeforeReading : {X : Type 0} → Result X RunError → Type 0 → Type 0
@@ -77,11 +77,11 @@ run_error (LanguageMismatch expected found) = Dictionary (LanguageMismatch expec
 run_error (NoMemory e) = Memory
 
 -- An error that tells of the dictionary or of the input tells of no want of memory, whoever told it.
-abbrev pub HoldsNoWant : RunError → Type 0
-HoldsNoWant (Dictionary (IO e)) = error_kind e ≢ OutOfMemory
-HoldsNoWant (Dictionary (NoMemory e)) = ⊥
-HoldsNoWant (Input e) = error_kind e ≢ OutOfMemory
-HoldsNoWant _ = Unit {0}
+abbrev pub HidesNoOutOfMemory : RunError → Type 0
+HidesNoOutOfMemory (Dictionary (IO e)) = error_kind e ≢ OutOfMemory
+HidesNoOutOfMemory (Dictionary (NoMemory e)) = ⊥
+HidesNoOutOfMemory (Input e) = error_kind e ≢ OutOfMemory
+HidesNoOutOfMemory _ = Unit {0}
 
 -- ---- a run over a whole text
 
@@ -115,12 +115,12 @@ JudgesText text (Err (Output e)) = IsUtf8 text
 JudgesText text (Err _) = Unit {0}
 
 -- Why the input can't be had: a fault of it that is no want of memory, or that want.
-abbrev pub IsOfInput : RunError → Type 0
-IsOfInput (Input e) = error_kind e ≢ OutOfMemory
-IsOfInput Memory = Unit {0}
-IsOfInput _ = ⊥
+abbrev pub IsInputError : RunError → Type 0
+IsInputError (Input e) = error_kind e ≢ OutOfMemory
+IsInputError Memory = Unit {0}
+IsInputError _ = ⊥
 
 -- Why the text can't be had: as the input, or it is not UTF-8.
-abbrev pub IsOfText : RunError → Type 0
-IsOfText TextNotUtf8 = Unit {0}
-IsOfText e = IsOfInput e
+abbrev pub IsTextError : RunError → Type 0
+IsTextError TextNotUtf8 = Unit {0}
+IsTextError e = IsInputError e

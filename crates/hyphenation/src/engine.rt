@@ -6,11 +6,11 @@ ghost use Rattle.std.specs.Io.KnownBytes.{Appends};
 ghost use Rattle.hyphenation_breaks.specs.Dictionary.{entries_of_keys};
 ghost use Rattle.hyphenation_grammar.specs.Judging.{refusal_of};
 ghost use Rattle.hyphenation_score.specs.Scoring.{values};
-ghost use Rattle.hyphenation.specs.Engine.{score_line, values_by, breaks_by, IsOfScore, JudgesDictionary, JudgesEdits, JudgesText, BeforeReading, BeforeWriting, HoldsNoWant, IsUnwritten};
+ghost use Rattle.hyphenation.specs.Engine.{score_line, values_by, breaks_by, IsScoreError, JudgesDictionary, JudgesEdits, JudgesText, BeforeReading, BeforeWriting, HidesNoOutOfMemory, IsUnwritten};
 ghost use Rattle.hyphenation.specs.Private.Engine.{space_before};
 ghost use Rattle.hyphenation_hyphenator.specs.Hyphenated.{hyphenated_text};
 
-mod whole;
+mod text_run;
 
 use hyphenation_breaks::extended::Subregion;
 use hyphenation_breaks::language::Language;
@@ -23,8 +23,8 @@ use hyphenation_score::laws::scores_have_values;
 use std::alloc::{AllocError, Global};
 use std::io;
 use std::io::{Read, Write};
-pub use whole::read_input;
-use whole::whole_text;
+pub use text_run::read_input;
+use text_run::run_text;
 
 /// Why a run wrote nothing, or not all.
 #[derive(Debug, Drop)]
@@ -120,8 +120,8 @@ fn standard_values<D: Read>(
     ensures values { IfOk result (λ found.
         IfSome (D.remaining reader.old) (λ bytes. found.items ≡ values_by Kind.Standard bytes word.now)) }
     ensures unwritten { IfErr result IsUnwritten }
-    ensures cause { IfErr result IsOfScore }
-    ensures kind { IfErr result HoldsNoWant }
+    ensures cause { IfErr result IsScoreError }
+    ensures kind { IfErr result HidesNoOutOfMemory }
 {
     let dictionary = Standard::from_reader(alloc, lang, reader)?;
     Ok(dictionary.score(alloc, word)?)
@@ -139,8 +139,8 @@ fn extended_values<D: Read>(
     ensures values { IfOk result (λ found.
         IfSome (D.remaining reader.old) (λ bytes. found.items ≡ values_by Kind.Extended bytes word.now)) }
     ensures unwritten { IfErr result IsUnwritten }
-    ensures cause { IfErr result IsOfScore }
-    ensures kind { IfErr result HoldsNoWant }
+    ensures cause { IfErr result IsScoreError }
+    ensures kind { IfErr result HidesNoOutOfMemory }
 {
     let dictionary = Extended::from_reader(alloc, lang, reader)?;
     Ok(values_of(alloc, &dictionary, word)?)
@@ -159,8 +159,8 @@ fn score_line<D: Read>(
     ensures line { IfOk result (λ line.
         IfSome (D.remaining reader.old) (λ bytes. string_bytes line ≡ score_line (values_by kind bytes word.now))) }
     ensures unwritten { IfErr result IsUnwritten }
-    ensures cause { IfErr result IsOfScore }
-    ensures kind { IfErr result HoldsNoWant }
+    ensures cause { IfErr result IsScoreError }
+    ensures kind { IfErr result HidesNoOutOfMemory }
 {
     let values = match kind {
         Kind::Standard => standard_values(alloc, lang, word, reader)?,
@@ -186,8 +186,8 @@ pub fn run_score<D: Read, O: Write>(
         (score_line (values_by kind bytes word.now)))) }
     ensures whole { OnOk result ((text : List ℕ) × Appends (O.contents output.old) (O.contents output.new) text) }
     ensures untouched { BeforeWriting result (output.new ≡ output.old) }
-    ensures cause { IfErr result IsOfScore }
-    ensures kind { IfErr result HoldsNoWant }
+    ensures cause { IfErr result IsScoreError }
+    ensures kind { IfErr result HidesNoOutOfMemory }
 {
     let line = score_line(alloc, kind, lang, word, dictionary)?;
     output.write_all(line.as_bytes()).map_err(RunError::Output)
@@ -214,11 +214,11 @@ fn text_by<D: Read, I: Read>(
         ≡ hyphenated_text (breaks_by kind bytes (map (λ edit. edit.now) edits.now)) mark.now text))) }
     ensures unwritten { IfErr result IsUnwritten }
     ensures unread { BeforeReading result (input.new ≡ input.old) }
-    ensures kind { IfErr result HoldsNoWant }
+    ensures kind { IfErr result HidesNoOutOfMemory }
 {
     match kind {
-        Kind::Standard => whole_text::<Standard, D, I>(alloc, lang, edits, mark, reader, input),
-        Kind::Extended => whole_text::<Extended, D, I>(alloc, lang, edits, mark, reader, input),
+        Kind::Standard => run_text::<Standard, D, I>(alloc, lang, edits, mark, reader, input),
+        Kind::Extended => run_text::<Extended, D, I>(alloc, lang, edits, mark, reader, input),
     }
 }
 
@@ -247,7 +247,7 @@ pub fn run<D: Read, I: Read, O: Write>(
     ensures whole { OnOk result ((text : List ℕ) × Appends (O.contents output.old) (O.contents output.new) text) }
     ensures untouched { BeforeWriting result (output.new ≡ output.old) }
     ensures unread { BeforeReading result (input.new ≡ input.old) }
-    ensures kind { IfErr result HoldsNoWant }
+    ensures kind { IfErr result HidesNoOutOfMemory }
 {
     let text = text_by(alloc, kind, lang, edits, mark, dictionary, input)?;
     output.write_all(text.as_bytes()).map_err(RunError::Output)

@@ -58,9 +58,9 @@ AsksNone (Err (LanguageMismatch expected found)) = ⊥
 AsksNone _ = Unit {0}
 
 -- A fault of the reading is none that counts as want of memory.
-abbrev pub IsNoWant : Error → Type 0
-IsNoWant (IO e) = error_kind e ≢ OutOfMemory
-IsNoWant _ = Unit {0}
+abbrev pub IsNotOutOfMemory : Error → Type 0
+IsNotOutOfMemory (IO e) = error_kind e ≢ OutOfMemory
+IsNotOutOfMemory _ = Unit {0}
 
 -- Where memory was refused, this holds.
 abbrev pub IfMemory : {X : Type 0} → Result X Error → Type 0 → Type 0
@@ -68,7 +68,7 @@ IfMemory (Err (Memory e)) P = P
 IfMemory _ P = Unit {0}
 
 -- Writing fails for want of memory, or by a fault of the writer.
-abbrev pub IsOfWriting : Error → Type 0
-IsOfWriting (IO e) = Unit {0}
-IsOfWriting (Memory e) = Unit {0}
-IsOfWriting _ = ⊥
+abbrev pub IsWriteError : Error → Type 0
+IsWriteError (IO e) = Unit {0}
+IsWriteError (Memory e) = Unit {0}
+IsWriteError _ = ⊥

@@ -7,8 +7,8 @@
 ghost use Rattle.std.specs.Prelude.{◌≡◌, ◌≢◌, Ok, Err, None, List, ℕ, Option, IfOk, IfErr, IfSome, OnOk, alloc_error};
 ghost use Rattle.std.specs.Io.KnownBytes.{Appends, IsAtEnd};
 ghost use Rattle.std.specs.IoError.{error_kind};
-ghost use Rattle.hyphenation_load.specs.Load.{Reads, ReadsIn, FromFile, InLanguage, AsksNone, IsNoWant, IfMemory, IsOfWriting};
-ghost use Rattle.hyphenation_load.specs.Private.Load.{error_of, IsOfLanguage, IsOfReading};
+ghost use Rattle.hyphenation_load.specs.Load.{Reads, ReadsIn, FromFile, InLanguage, AsksNone, IsNotOutOfMemory, IfMemory, IsWriteError};
+ghost use Rattle.hyphenation_load.specs.Private.Load.{error_of, IsOfLanguage, IsReadError};
 ghost use Rattle.hyphenation_grammar.specs.declared.Cause.{Cause};
 
 use hyphenation_breaks::breaks::Break;
@@ -59,7 +59,7 @@ pub trait Load: Sized {
         ensures bytes { IfSome (R.remaining reader.old) (λ bytes. Reads (Unit {0}) refusal is_given bytes result) }
         ensures end { OnOk result (IsAtEnd (R.remaining reader.new)) }
         ensures any { AsksNone result }
-        ensures kind { IfErr result IsNoWant };
+        ensures kind { IfErr result IsNotOutOfMemory };
 
     /// The same of a language that is asked for: an accepted text of another one is `Error::LanguageMismatch`.
     fn from_reader<R: Read>(alloc: Global, lang: Language, reader: &mut R) -> Result<Self>
@@ -67,7 +67,7 @@ pub trait Load: Sized {
             ReadsIn refusal is_given language_of lang bytes result) }
         ensures end { OnOk result (IsAtEnd (R.remaining reader.new)) }
         ensures asked { InLanguage language lang result }
-        ensures kind { IfErr result IsNoWant };
+        ensures kind { IfErr result IsNotOutOfMemory };
 
     /// The same of a file, by its path: it is opened, and `from_reader` reads it.
     ///
@@ -76,7 +76,7 @@ pub trait Load: Sized {
     fn from_path<F: Files>(rt: &F, alloc: Global, lang: Language, path: &str) -> Result<Self>
         ensures file { FromFile F.File.remaining refusal is_given language_of lang result }
         ensures asked { InLanguage language lang result }
-        ensures kind { IfErr result IsNoWant };
+        ensures kind { IfErr result IsNotOutOfMemory };
 
     /// The dictionary as its canonical text, which is accepted and gives this very dictionary again. The only error is
     /// memory.
@@ -98,7 +98,7 @@ pub trait Load: Sized {
         ensures accepted { OnOk result (refusal (canonical self.now) ≡ None) }
         ensures given { OnOk result (is_given (canonical self.now) self.now) }
         ensures untouched { IfMemory result (writer.new ≡ writer.old) }
-        ensures kind { IfErr result IsOfWriting };
+        ensures kind { IfErr result IsWriteError };
 }
 
 /// All that a reader has left.
@@ -142,7 +142,7 @@ fn error_of(refusal: Refusal) -> Error
 fn error_of_reading(e: io::Error) -> Error
     ensures memory { error_kind e ≡ ErrorKind.OutOfMemory → result ≡ Error.Memory alloc_error }
     ensures other { error_kind e ≢ ErrorKind.OutOfMemory → result ≡ Error.IO e }
-    ensures kind { IsOfReading result }
+    ensures kind { IsReadError result }
 {
     match e.kind() {
         ErrorKind::OutOfMemory => Error::Memory(AllocError),

@@ -5,7 +5,7 @@ ghost use Rattle.std.specs.String.{string_bytes};
 ghost use Rattle.std.specs.Io.KnownBytes.{Appends};
 ghost use Rattle.hyphenation_breaks.specs.Break.{plain_break};
 ghost use Rattle.hyphenation_grammar.specs.Judging.{refusal_of};
-ghost use Rattle.hyphenation.specs.Engine.{JudgesDictionary, JudgesEdits, JudgesText, BeforeReading, BeforeWriting, HoldsNoWant, IsUnwritten};
+ghost use Rattle.hyphenation.specs.Engine.{JudgesDictionary, JudgesEdits, JudgesText, BeforeReading, BeforeWriting, HidesNoOutOfMemory, IsUnwritten};
 ghost use Rattle.hyphenation_hyphenator.specs.Opportunities.{no_change, rules_of, all_breaks_of};
 ghost use Rattle.line_filling.specs.Lines.{lines_by};
 ghost use Rattle.linefill.specs.Run.{lines_by_bytes};
@@ -62,7 +62,7 @@ fn filled_input<D: Read, I: Read>(
     ensures unwritten { IfErr result IsUnwritten }
     ensures unread { BeforeReading result (input.new ≡ input.old) }
     ensures edits { JudgesEdits Kind.Standard [] result }
-    ensures kind { IfErr result HoldsNoWant }
+    ensures kind { IfErr result HidesNoOutOfMemory }
 {
     let dictionary = Standard::from_reader(alloc, lang, reader)?;
     let text = read_input(alloc, input)?;
@@ -93,7 +93,7 @@ pub fn run_fill<D: Read, I: Read, O: Write>(
     ensures untouched { BeforeWriting result (output.new ≡ output.old) }
     ensures unread { BeforeReading result (input.new ≡ input.old) }
     ensures edits { JudgesEdits Kind.Standard [] result }
-    ensures kind { IfErr result HoldsNoWant }
+    ensures kind { IfErr result HidesNoOutOfMemory }
 {
     let text = filled_input(alloc, lang, columns, dictionary, input)?;
     output.write_all(text.as_bytes()).map_err(RunError::Output)

@@ -11,9 +11,9 @@ status_of_error (LanguageMismatch expected found) = 3
 status_of_error (NoMemory e) = 6
 
 -- This holds where a text was not put in order for something else than a fault of reading or writing.
-abbrev pub UnlessFault : Result (Unit {0}) Error → Type 0 → Type 0
-UnlessFault (Ok done) P = Unit {0}
-UnlessFault (Err (Deserialization line cause)) P = P
-UnlessFault (Err (IO e)) P = Unit {0}
-UnlessFault (Err (LanguageMismatch expected found)) P = P
-UnlessFault (Err (NoMemory e)) P = P
+abbrev pub UnlessIo : Result (Unit {0}) Error → Type 0 → Type 0
+UnlessIo (Ok done) P = Unit {0}
+UnlessIo (Err (Deserialization line cause)) P = P
+UnlessIo (Err (IO e)) P = Unit {0}
+UnlessIo (Err (LanguageMismatch expected found)) P = P
+UnlessIo (Err (NoMemory e)) P = P

@@ -1,6 +1,6 @@
 -- What a request of `hyphenate-convert` asks for: no public contract cites it.
 use Rattle.std.specs.Prelude.{map}
-use Rattle.convert_command.specs.Words.{Asked}
+use Rattle.convert_command.specs.Arguments.{Asked}
 use Rattle.convert_command.specs.declared.request.Request.{Request}
 
 -- What a request asks for.

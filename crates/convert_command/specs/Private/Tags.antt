@@ -32,8 +32,8 @@ is_other first (Some tag) = not (is_same first tag)
 
 -- The number of the first file of another language than those before it, where the files before have that tag, or none,
 -- and the next file has that number.
-abbrev pub stranger_from : Option (List ℕ) → ℕ → List (List ℕ) → Option ℕ
-stranger_from known index [] = None
-stranger_from None index (path ∷ paths) = stranger_from (tag_in path) (index + 1) paths
-stranger_from (Some first) index (path ∷ paths) =
-    if is_other first (tag_in path) then Some index else stranger_from (Some first) (index + 1) paths
+abbrev pub other_language_from : Option (List ℕ) → ℕ → List (List ℕ) → Option ℕ
+other_language_from known index [] = None
+other_language_from None index (path ∷ paths) = other_language_from (tag_in path) (index + 1) paths
+other_language_from (Some first) index (path ∷ paths) =
+    if is_other first (tag_in path) then Some index else other_language_from (Some first) (index + 1) paths

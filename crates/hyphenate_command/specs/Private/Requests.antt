@@ -1,6 +1,6 @@
 -- What a request of `hyphenate` asks for: no public contract cites it.
 use Rattle.std.specs.Prelude.{map}
-use Rattle.hyphenate_command.specs.Words.{Wanted, Asked, score, text, lines}
+use Rattle.hyphenate_command.specs.Arguments.{Wanted, Asked, score, text, lines}
 use Rattle.hyphenate_command.specs.declared.Request.{Request}
 use Rattle.hyphenate_command.specs.declared.Task.{Task}
 use Rattle.hyphenate_command.specs.declared.Task.TheVariants.{Score, Text, Lines}

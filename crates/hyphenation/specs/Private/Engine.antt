@@ -8,7 +8,7 @@ abbrev pub space_before : ℕ → List ℕ
 space_before index = if index == 0 then [] else 32 ∷ []
 
 -- Why edits are not all done.
-abbrev pub IsOfEdits : RunError → Type 0
-IsOfEdits (Edit number) = Unit {0}
-IsOfEdits Memory = Unit {0}
-IsOfEdits _ = ⊥
+abbrev pub IsEditError : RunError → Type 0
+IsEditError (Edit number) = Unit {0}
+IsEditError Memory = Unit {0}
+IsEditError _ = ⊥

@@ -21,7 +21,7 @@ error_of Wanting = Memory alloc_error
 error_of (Fault line cause) = Deserialization line cause
 
 -- A fault of reading as an error of loading: want of memory, or the fault.
-abbrev pub IsOfReading : Error → Type 0
-IsOfReading (IO e) = error_kind e ≢ OutOfMemory
-IsOfReading (Memory e) = Unit {0}
-IsOfReading _ = ⊥
+abbrev pub IsReadError : Error → Type 0
+IsReadError (IO e) = error_kind e ≢ OutOfMemory
+IsReadError (Memory e) = Unit {0}
+IsReadError _ = ⊥

@@ -7,10 +7,10 @@ ghost use Rattle.std.specs.String.{string_bytes};
 ghost use Rattle.hyphenation_breaks.specs.Break.{Break};
 ghost use Rattle.hyphenation_reader.specs.Edits.{is_good_edit};
 ghost use Rattle.hyphenation_grammar.specs.Judging.{refusal_of};
-ghost use Rattle.hyphenation.specs.Engine.{BeforeReading, IsOfInput, IsOfText, JudgesDictionary, JudgesEdits, JudgesText, HoldsNoWant, IsUnwritten, language_in};
-ghost use Rattle.hyphenation.specs.Private.Engine.{IsOfEdits};
+ghost use Rattle.hyphenation.specs.Engine.{BeforeReading, IsInputError, IsTextError, JudgesDictionary, JudgesEdits, JudgesText, HidesNoOutOfMemory, IsUnwritten, language_in};
+ghost use Rattle.hyphenation.specs.Private.Engine.{IsEditError};
 ghost use Rattle.hyphenation_hyphenator.specs.Hyphenated.{hyphenated_text};
-ghost use Rattle.hyphenation_load.specs.Load.{ReadsIn, IsNoWant};
+ghost use Rattle.hyphenation_load.specs.Load.{ReadsIn, IsNotOutOfMemory};
 
 use super::RunError;
 use hyphenation_breaks::language::Language;
@@ -28,7 +28,7 @@ use std::io::{ErrorKind, Read};
 ///
 /// Of a dictionary that a function has loaded itself it can't be said that it is a `Hyphenator<'h>` for the time that
 /// the function lends it, so each kind says here what it does.
-pub(super) trait WholeTexts: Drop {
+pub(super) trait RunDictionary: Drop {
     ghost use Rattle.hyphenation_breaks.specs.Break.{Break};
     ghost use Rattle.hyphenation_grammar.specs.declared.form.Kind.{Kind};
 
@@ -52,7 +52,7 @@ pub(super) trait WholeTexts: Drop {
     ) -> hyphenation_load::Result<Self>
         ensures bytes { IfSome (D.remaining reader.old) (λ bytes.
             ReadsIn (refusal_of kind) (λ bytes given. given ≡ contents bytes) language_in lang bytes result) }
-        ensures kind { IfErr result IsNoWant };
+        ensures kind { IfErr result IsNotOutOfMemory };
 
     /// Does what an edit says. Whether the edit is good.
     fn edit(&mut self, alloc: Global, edit: &str) -> Result<bool, AllocError>
@@ -65,7 +65,7 @@ pub(super) trait WholeTexts: Drop {
             ≡ hyphenated_text (breaks_of self.now) mark.now text.now) };
 }
 
-impl WholeTexts for Standard {
+impl RunDictionary for Standard {
     ghost use Rattle.hyphenation_grammar.specs.declared.form.Kind.TheVariants.{Standard as OfStandard};
     ghost use Rattle.hyphenation_breaks.specs.Break.{plain_break};
     ghost use Rattle.hyphenation_reader.specs.Edits.{after_edit};
@@ -97,7 +97,7 @@ impl WholeTexts for Standard {
     }
 }
 
-impl WholeTexts for Extended {
+impl RunDictionary for Extended {
     ghost use Rattle.hyphenation_grammar.specs.declared.form.Kind.TheVariants.{Extended as OfExtended};
     ghost use Rattle.hyphenation_reader.specs.Edits.{after_edit};
     ghost use Rattle.hyphenation_grammar.specs.Reading.{break_as_listing, extended_contents};
@@ -131,13 +131,13 @@ impl WholeTexts for Extended {
 }
 
 /// Does what edits say, from first to last, up to the first one that is refused.
-fn edit_all<K: WholeTexts>(
+fn edit_all<K: RunDictionary>(
     dictionary: &mut K,
     alloc: Global,
     edits: &[&str],
 ) -> Result<(), RunError>
     ensures judged { JudgesEdits K.kind (map (λ edit. edit.now) edits.now) result }
-    ensures refused { IfErr result IsOfEdits }
+    ensures refused { IfErr result IsEditError }
     ensures done { OnOk result (dictionary.new ≡ fold K.edited dictionary.old (map (λ edit. edit.now) edits.now)) }
 {
     for (index, edit) in edits.iter().enumerate() {
@@ -152,7 +152,7 @@ fn edit_all<K: WholeTexts>(
 fn input_fault(e: io::Error) -> RunError
     ensures memory { error_kind e ≡ ErrorKind.OutOfMemory → result ≡ RunError.Memory }
     ensures fault { error_kind e ≢ ErrorKind.OutOfMemory → result ≡ RunError.Input e }
-    ensures input { IsOfInput result }
+    ensures input { IsInputError result }
 {
     match e.kind() {
         ErrorKind::OutOfMemory => RunError::Memory,
@@ -164,7 +164,7 @@ fn input_fault(e: io::Error) -> RunError
 fn read_bytes<I: Read>(alloc: Global, input: &mut I) -> Result<Vec<u8>, RunError>
     ensures read { IfOk result (λ read. IfSome (I.remaining input.old) (λ bytes. read.items ≡ bytes)) }
     ensures end { OnOk result (IsAtEnd (I.remaining input.new)) }
-    ensures fault { IfErr result IsOfInput }
+    ensures fault { IfErr result IsInputError }
 {
     read_all(alloc, input).map_err(input_fault)
 }
@@ -177,7 +177,7 @@ pub fn read_input<I: Read>(alloc: Global, input: &mut I) -> Result<String, RunEr
     ensures text { IfSome (I.remaining input.old) (λ bytes. JudgesText bytes result) }
     ensures read { IfOk result (λ text. IfSome (I.remaining input.old) (λ bytes. string_bytes text ≡ bytes)) }
     ensures end { OnOk result (IsAtEnd (I.remaining input.new)) }
-    ensures fault { IfErr result IsOfText }
+    ensures fault { IfErr result IsTextError }
 {
     let bytes = read_bytes(alloc, input)?;
     match String::from_utf8(bytes) {
@@ -187,7 +187,7 @@ pub fn read_input<I: Read>(alloc: Global, input: &mut I) -> Result<String, RunEr
 }
 
 /// The whole of a text, hyphenated by a kind of dictionary after edits.
-pub(super) fn whole_text<K: WholeTexts, D: Read, I: Read>(
+pub(super) fn run_text<K: RunDictionary, D: Read, I: Read>(
     alloc: Global,
     lang: Language,
     edits: &[&str],
@@ -206,7 +206,7 @@ pub(super) fn whole_text<K: WholeTexts, D: Read, I: Read>(
         (K.breaks_of (fold K.edited (K.contents bytes) (map (λ edit. edit.now) edits.now))) mark.now text))) }
     ensures unwritten { IfErr result IsUnwritten }
     ensures unread { BeforeReading result (input.new ≡ input.old) }
-    ensures kind { IfErr result HoldsNoWant }
+    ensures kind { IfErr result HidesNoOutOfMemory }
 {
     let mut dictionary = K::load(alloc, lang, reader)?;
     edit_all(&mut dictionary, alloc, edits)?;
