@@ -1,28 +1,15 @@
 //! A caller of `linefill`: a text with paragraphs, each of which is filled by itself.
 
-ghost use Rattle.std.specs.Prelude.{◌≡◌, ◌++◌, OnOk, IfOk, map};
+ghost use Rattle.std.specs.Prelude.{◌≡◌, ◌++◌, OnOk, IfOk};
 ghost use Rattle.std.specs.List.{flat_map};
 ghost use Rattle.std.specs.Str.Lines.{lines};
 ghost use Rattle.std.specs.String.{string_bytes};
 ghost use Rattle.line_filling.specs.Lines.{lines_by};
-ghost use Rattle.hyphenation_writer.specs.Canonical.{with_line_feeds};
 ghost use Rattle.callers.specs.Paragraphs.{paragraph_text};
 
 use hyphenation::Hyphenator;
-use linefill::fill;
+use linefill::{fill, push_lines};
 use std::alloc::{AllocError, Global};
-
-/// Appends lines, each with a line feed after it.
-fn push_lines(page: &mut String, lines: &[String]) -> Result<(), AllocError>
-    ensures { OnOk result (string_bytes page.new ≡ string_bytes page.old ++ with_line_feeds
-        (map string_bytes lines.now)) }
-{
-    for line in lines {
-        page.push_str(line)?;
-        page.push('\n')?;
-    }
-    Ok(())
-}
 
 /// Appends the lines of a paragraph, each with a line feed after it; of an empty one a line feed alone.
 fn push_paragraph<'h, H: Hyphenator<'h, Opportunity = usize>>(

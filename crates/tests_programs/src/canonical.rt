@@ -1,6 +1,8 @@
 //! What `hyphenate-canonical` writes and says.
 
-use canonical_command::{USAGE, answer, report_bad_args};
+use canonical_command;
+use canonical_command::{USAGE, answer};
+use command_line::report_bad_args;
 use std::alloc::{AllocError, Global};
 use std::io;
 use std::io::ErrorKind;
@@ -122,7 +124,12 @@ fn the_version_and_the_usage_are_told(rt: HostRuntime) -> Result<(), Fail> {
 /// Whether words that can't be had for that fault have this status and this message.
 fn tells(alloc: Global, kind: ErrorKind, status: u8, message: &str) -> bool {
     let mut faults: Vec<u8> = Vec::new(alloc);
-    let found = report_bad_args(&io::Error::from(kind), &mut faults);
+    let found = report_bad_args(
+        USAGE,
+        canonical_command::NO_MEMORY,
+        &io::Error::from(kind),
+        &mut faults,
+    );
     found == status && faults.as_slice() == message.as_bytes()
 }
 

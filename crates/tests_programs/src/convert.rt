@@ -2,7 +2,9 @@
 
 use crate::hyphenate::Full;
 use crate::shelf::{Shelf, whole};
-use convert_command::{USAGE, answer, report_bad_args};
+use command_line::report_bad_args;
+use convert_command;
+use convert_command::{USAGE, answer};
 use std::alloc::Global;
 use std::io;
 use std::io::ErrorKind;
@@ -200,7 +202,12 @@ fn an_output_that_fails_has_a_beginning_of_the_result(rt: HostRuntime) -> Result
 /// Fails where arguments that can't be had for that fault are not told so.
 fn tells(alloc: Global, kind: ErrorKind, status: u8, said: &str) -> Result<(), Fail> {
     let mut faults: Vec<u8> = Vec::new(alloc);
-    let found = report_bad_args(&io::Error::from(kind), &mut faults);
+    let found = report_bad_args(
+        USAGE,
+        convert_command::NO_MEMORY,
+        &io::Error::from(kind),
+        &mut faults,
+    );
     holds(found == status, said)?;
     same_bytes("the message", &faults, said.as_bytes())
 }

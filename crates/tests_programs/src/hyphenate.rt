@@ -1,6 +1,7 @@
 //! What `hyphenate` writes and says.
 
-use hyphenate_command::{answer, report_bad_args};
+use command_line::report_bad_args;
+use hyphenate_command::{NO_MEMORY, USAGE, answer};
 use std::alloc::{AllocError, Global};
 use std::io::{ErrorKind, Read, Write};
 use std::test::Fail;
@@ -609,7 +610,7 @@ fn a_text_is_not_filled_by_another_language(rt: HostRuntime) -> Result<(), Fail>
 /// The status of words that can't be had for that fault.
 fn status_of_words(alloc: Global, kind: ErrorKind) -> u8 {
     let mut faults: Vec<u8> = Vec::new(alloc);
-    report_bad_args(&io::Error::from(kind), &mut faults)
+    report_bad_args(USAGE, NO_MEMORY, &io::Error::from(kind), &mut faults)
 }
 
 #[test]

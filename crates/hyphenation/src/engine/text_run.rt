@@ -1,144 +1,31 @@
-//! What a run over a whole text needs of a kind of dictionary, and the steps of it.
+//! The steps of a run over a whole text: the edits, the input, and the text that is made of them.
 
-ghost use Rattle.std.specs.Prelude.{◌≡◌, ◌≢◌, List, ℕ, IsTrue, IfErr, IfOk, IfSome, OnOk, map, fold};
+ghost use Rattle.std.specs.Prelude.{◌≡◌, ◌≢◌, IfErr, IfOk, IfSome, OnOk, fold};
 ghost use Rattle.std.specs.Io.KnownBytes.{IsAtEnd};
 ghost use Rattle.std.specs.IoError.{error_kind};
 ghost use Rattle.std.specs.String.{string_bytes};
-ghost use Rattle.hyphenation_breaks.specs.Break.{Break};
-ghost use Rattle.hyphenation_reader.specs.Edits.{is_good_edit};
-ghost use Rattle.hyphenation_grammar.specs.Judging.{refusal_of};
-ghost use Rattle.hyphenation.specs.Engine.{BeforeReading, IsInputError, IsTextError, JudgesDictionary, JudgesEdits, JudgesText, HidesNoOutOfMemory, IsUnwritten, language_in};
+ghost use Rattle.hyphenation.specs.Engine.{texts_now, IfBothKnown, BeforeReading, JudgesBytes, JudgesEdits, JudgesText};
+ghost use Rattle.hyphenation.specs.Engine.{IsInputError, IsTextError, IsUnwritten, HidesNoOutOfMemory};
 ghost use Rattle.hyphenation.specs.Private.Engine.{IsEditError};
 ghost use Rattle.hyphenation_hyphenator.specs.Hyphenated.{hyphenated_text};
-ghost use Rattle.hyphenation_load.specs.Load.{ReadsIn, IsNotOutOfMemory};
 
 use super::RunError;
+use super::run_dictionary::RunDictionary;
 use hyphenation_breaks::language::Language;
-use hyphenation_dictionary::dictionary::{Extended, Standard};
-use hyphenation_grammar::form::Kind;
-use hyphenation_hyphenator::text::hyphenated_text;
-use hyphenation_load;
-use hyphenation_load::{Load, read_all};
-use hyphenation_reader::edits::apply_edit;
-use std::alloc::{AllocError, Global};
+use hyphenation_load::{is_out_of_memory, read_all};
+use std::alloc::Global;
 use std::io;
 use std::io::{ErrorKind, Read};
 
-/// A kind of dictionary, as a run over a whole text uses it: loaded, edited, and asked for the whole text.
-///
-/// Of a dictionary that a function has loaded itself it can't be said that it is a `Hyphenator<'h>` for the time that
-/// the function lends it, so each kind says here what it does.
-pub(super) trait RunDictionary: Drop {
-    ghost use Rattle.hyphenation_breaks.specs.Break.{Break};
-    ghost use Rattle.hyphenation_grammar.specs.declared.form.Kind.{Kind};
-
-    /// The kind.
-    ghost kind: { Kind };
-
-    /// The dictionary that an accepted text gives.
-    ghost contents: { List ℕ → Self };
-
-    /// The dictionary after an edit.
-    ghost edited: { Self → List ℕ → Self };
-
-    /// The breaks of a word as written.
-    ghost breaks_of: { Self → List ℕ → List Break };
-
-    /// The dictionary of a language that a reader's bytes give.
-    fn load<D: Read>(
-        alloc: Global,
-        lang: Language,
-        reader: &mut D,
-    ) -> hyphenation_load::Result<Self>
-        ensures bytes { IfSome (D.remaining reader.old) (λ bytes.
-            ReadsIn (refusal_of kind) (λ bytes given. given ≡ contents bytes) language_in lang bytes result) }
-        ensures kind { IfErr result IsNotOutOfMemory };
-
-    /// Does what an edit says. Whether the edit is good.
-    fn edit(&mut self, alloc: Global, edit: &str) -> Result<bool, AllocError>
-        ensures good { IfOk result (λ good. good ≡ is_good_edit kind edit.now) }
-        ensures done { IfOk result (λ good. IsTrue good → self.new ≡ edited self.old edit.now) };
-
-    /// The text with its words hyphenated.
-    fn hyphenated(&self, alloc: Global, mark: &str, text: &str) -> Result<String, AllocError>
-        ensures { IfOk result (λ output. string_bytes output
-            ≡ hyphenated_text (breaks_of self.now) mark.now text.now) };
-}
-
-impl RunDictionary for Standard {
-    ghost use Rattle.hyphenation_grammar.specs.declared.form.Kind.TheVariants.{Standard as OfStandard};
-    ghost use Rattle.hyphenation_breaks.specs.Break.{plain_break};
-    ghost use Rattle.hyphenation_reader.specs.Edits.{after_edit};
-    ghost use Rattle.hyphenation_grammar.specs.Reading.{place_as_listing, standard_contents};
-    ghost use Rattle.hyphenation_hyphenator.specs.Opportunities.{no_change, rules_of, all_breaks_of};
-
-    ghost kind = { OfStandard };
-
-    ghost contents = { standard_contents };
-
-    ghost edited = { after_edit place_as_listing };
-
-    ghost breaks_of = { λ dictionary word. all_breaks_of (rules_of no_change plain_break dictionary) word };
-
-    fn load<D: Read>(
-        alloc: Global,
-        lang: Language,
-        reader: &mut D,
-    ) -> hyphenation_load::Result<Standard> {
-        Standard::from_reader(alloc, lang, reader)
-    }
-
-    fn edit(&mut self, alloc: Global, edit: &str) -> Result<bool, AllocError> {
-        apply_edit(alloc, Kind::Standard, self, edit)
-    }
-
-    fn hyphenated(&self, alloc: Global, mark: &str, text: &str) -> Result<String, AllocError> {
-        hyphenated_text(alloc, self, text, mark)
-    }
-}
-
-impl RunDictionary for Extended {
-    ghost use Rattle.hyphenation_grammar.specs.declared.form.Kind.TheVariants.{Extended as OfExtended};
-    ghost use Rattle.hyphenation_reader.specs.Edits.{after_edit};
-    ghost use Rattle.hyphenation_grammar.specs.Reading.{break_as_listing, extended_contents};
-    ghost use Rattle.hyphenation_hyphenator.specs.Fitting.{fitted_breaks_of};
-    ghost use Rattle.hyphenation_hyphenator.specs.Opportunities.{own_break, rules_of};
-    ghost use Rattle.hyphenation_score.specs.Scoring.{own_change};
-
-    ghost kind = { OfExtended };
-
-    ghost contents = { extended_contents };
-
-    ghost edited = { after_edit break_as_listing };
-
-    ghost breaks_of = { λ dictionary word. fitted_breaks_of (rules_of own_change own_break dictionary) word };
-
-    fn load<D: Read>(
-        alloc: Global,
-        lang: Language,
-        reader: &mut D,
-    ) -> hyphenation_load::Result<Extended> {
-        Extended::from_reader(alloc, lang, reader)
-    }
-
-    fn edit(&mut self, alloc: Global, edit: &str) -> Result<bool, AllocError> {
-        apply_edit(alloc, Kind::Extended, self, edit)
-    }
-
-    fn hyphenated(&self, alloc: Global, mark: &str, text: &str) -> Result<String, AllocError> {
-        hyphenated_text(alloc, self, text, mark)
-    }
-}
-
-/// Does what edits say, from first to last, up to the first one that is refused.
+// Does edits, from first to last, up to the first one that is refused.
 fn edit_all<K: RunDictionary>(
     dictionary: &mut K,
     alloc: Global,
     edits: &[&str],
 ) -> Result<(), RunError>
-    ensures judged { JudgesEdits K.kind (map (λ edit. edit.now) edits.now) result }
-    ensures refused { IfErr result IsEditError }
-    ensures done { OnOk result (dictionary.new ≡ fold K.edited dictionary.old (map (λ edit. edit.now) edits.now)) }
+    ensures judged { JudgesEdits K.kind (texts_now edits.now) result }
+    ensures edit_error { IfErr result IsEditError }
+    ensures done { OnOk result (dictionary.new ≡ fold K.edited dictionary.old (texts_now edits.now)) }
 {
     for (index, edit) in edits.iter().enumerate() {
         if !dictionary.edit(alloc, edit)? {
@@ -148,36 +35,40 @@ fn edit_all<K: RunDictionary>(
     Ok(())
 }
 
-/// Why the input could not be read: want of memory, or the fault.
-fn input_fault(e: io::Error) -> RunError
-    ensures memory { error_kind e ≡ ErrorKind.OutOfMemory → result ≡ RunError.Memory }
-    ensures fault { error_kind e ≢ ErrorKind.OutOfMemory → result ≡ RunError.Input e }
-    ensures input { IsInputError result }
+// An error of reading the input as an error of a run.
+fn input_error(e: io::Error) -> RunError
+    ensures out_of_memory { error_kind e ≡ ErrorKind.OutOfMemory → result ≡ RunError.Memory }
+    ensures other { error_kind e ≢ ErrorKind.OutOfMemory → result ≡ RunError.Input e }
+    ensures input_error { IsInputError result }
 {
-    match e.kind() {
-        ErrorKind::OutOfMemory => RunError::Memory,
-        _ => RunError::Input(e),
+    if is_out_of_memory(&e) {
+        return RunError::Memory;
     }
+    RunError::Input(e)
 }
 
-/// All bytes that an input has left.
+// All bytes that an input has left.
 fn read_bytes<I: Read>(alloc: Global, input: &mut I) -> Result<Vec<u8>, RunError>
     ensures read { IfOk result (λ read. IfSome (I.remaining input.old) (λ bytes. read.items ≡ bytes)) }
-    ensures end { OnOk result (IsAtEnd (I.remaining input.new)) }
-    ensures fault { IfErr result IsInputError }
+    ensures read_to_end { OnOk result (IsAtEnd (I.remaining input.new)) }
+    ensures input_error { IfErr result IsInputError }
 {
-    read_all(alloc, input).map_err(input_fault)
+    read_all(alloc, input).map_err(input_error)
 }
 
-/// All that an input has left, as a text.
+/// Returns all that an input has left, as a text.
 ///
-/// The only errors are [`RunError::Input`], where the input can't be read other than for want of memory;
-/// [`RunError::TextNotUtf8`]; and [`RunError::Memory`]. How far the input was read then is not said.
+/// The errors are [`RunError::Input`] if it can't be read, [`RunError::TextNotUtf8`], and [`RunError::Memory`]. How
+/// far the input was read after an error is not said.
+///
+/// ```text
+/// let text = read_input(alloc, &mut rt.stdin())?;
+/// ```
 pub fn read_input<I: Read>(alloc: Global, input: &mut I) -> Result<String, RunError>
-    ensures text { IfSome (I.remaining input.old) (λ bytes. JudgesText bytes result) }
+    ensures text { JudgesText (I.remaining input.old) result }
     ensures read { IfOk result (λ text. IfSome (I.remaining input.old) (λ bytes. string_bytes text ≡ bytes)) }
-    ensures end { OnOk result (IsAtEnd (I.remaining input.new)) }
-    ensures fault { IfErr result IsTextError }
+    ensures read_to_end { OnOk result (IsAtEnd (I.remaining input.new)) }
+    ensures text_error { IfErr result IsTextError }
 {
     let bytes = read_bytes(alloc, input)?;
     match String::from_utf8(bytes) {
@@ -186,7 +77,7 @@ pub fn read_input<I: Read>(alloc: Global, input: &mut I) -> Result<String, RunEr
     }
 }
 
-/// The whole of a text, hyphenated by a kind of dictionary after edits.
+/// Returns the text of an input, hyphenated by the dictionary that a reader's bytes give, after edits.
 pub(super) fn run_text<K: RunDictionary, D: Read, I: Read>(
     alloc: Global,
     lang: Language,
@@ -195,20 +86,17 @@ pub(super) fn run_text<K: RunDictionary, D: Read, I: Read>(
     reader: &mut D,
     input: &mut I,
 ) -> Result<String, RunError>
-    ensures dictionary { IfSome (D.remaining reader.old) (λ bytes.
-        JudgesDictionary (refusal_of K.kind) lang bytes result) }
-    ensures edits { JudgesEdits K.kind (map (λ edit. edit.now) edits.now) result }
-    ensures text { IfSome (I.remaining input.old) (λ text. JudgesText text result) }
-    ensures output { IfOk result (λ output. IfSome (D.remaining reader.old)
-        (λ bytes. IfSome (I.remaining input.old) (λ text.
+    ensures dictionary { IfSome (D.remaining reader.old) (λ bytes. JudgesBytes (K.judged bytes) lang result) }
+    ensures edits { JudgesEdits K.kind (texts_now edits.now) result }
+    ensures text { JudgesText (I.remaining input.old) result }
+    ensures output { IfOk result (λ output. IfBothKnown (D.remaining reader.old) (I.remaining input.old) (λ bytes text.
         string_bytes output
-        ≡ hyphenated_text
-        (K.breaks_of (fold K.edited (K.contents bytes) (map (λ edit. edit.now) edits.now))) mark.now text))) }
+        ≡ hyphenated_text (K.breaks_of (fold K.edited (K.contents bytes) (texts_now edits.now))) mark.now text)) }
     ensures unwritten { IfErr result IsUnwritten }
     ensures unread { BeforeReading result (input.new ≡ input.old) }
-    ensures kind { IfErr result HidesNoOutOfMemory }
+    ensures not_out_of_memory { IfErr result HidesNoOutOfMemory }
 {
-    let mut dictionary = K::load(alloc, lang, reader)?;
+    let mut dictionary = K::from_reader(alloc, lang, reader)?;
     edit_all(&mut dictionary, alloc, edits)?;
     let text = read_input(alloc, input)?;
     Ok(dictionary.hyphenated(alloc, mark, &text)?)

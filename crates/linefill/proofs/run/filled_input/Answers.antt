@@ -10,6 +10,6 @@ pub returns-clause-lines : goal.returns-clause-lines
 returns-clause-lines g c =
     let columns = c.args.columns in
     let given = c.in_ok-dictionary.dictionary in
-    IfSome_then (g.D.Read.remaining c.args.reader.now) c.in_ok-dictionary.ensures.bytes (λ bytes loaded. IfSome_then (g.I.Read.remaining c.args.input.now) c.in_ok-text.ensures.read (λ text read.
+    IfSome_then (g.D.Read.remaining c.args.reader.now) c.in_ok-dictionary.ensures.loaded (λ bytes loaded. IfSome_then (g.I.Read.remaining c.args.input.now) c.in_ok-text.ensures.read (λ text read.
     c.in_ok-filled.ensures ∙ ap (λ t. with_line_feeds (lines_by (all_breaks_of (rules_of no_change plain_break given)) t columns)) (c.deref.ensures ∙ read)
     ∙ ap (λ d. with_line_feeds (lines_by (all_breaks_of (rules_of no_change plain_break d)) text columns)) loaded.1))
