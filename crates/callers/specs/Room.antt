@@ -1,9 +1,9 @@
--- Where a word may be broken so that its beginning keeps within a line.
+-- The breaks of a word that leave room on a line.
 use Rattle.std.specs.Prelude.{ℕ, Bool, List, length, map, filter, take, drop, chars, nat_lt, Option, None}
 use Rattle.std.specs.List.{last_or}
 use Rattle.hyphenation_breaks.specs.Break.{Break}
 
--- Up to a place the word has fewer characters than the columns, so that a hyphen has room too.
+-- Up to a place the word has fewer characters than there are columns, so that a hyphen has room too.
 abbrev pub leaves_room : List ℕ → ℕ → ℕ → Bool
 leaves_room word columns place = nat_lt (length (chars (take place word))) columns
 

@@ -1,4 +1,4 @@
-//! What a typesetter sets at the breaks of a word, whose letters may change there.
+//! Discretionary breaks, as a typesetter sets them: the letters of a word may change at a break.
 
 ghost use Rattle.std.specs.Prelude.{◌≡◌, ◌++◌, IfOk, map};
 ghost use Rattle.std.specs.String.{string_bytes};
@@ -8,8 +8,9 @@ ghost use Rattle.callers.specs.Discretionaries.{Parts, parts_at};
 use hyphenation::hyphenator::{Break, Word};
 use std::alloc::{AllocError, Global};
 
-/// What is set at one break: `before` ends a line and `after` begins the next one, or `unbroken` stands in their place
-/// where the line is not broken there.
+/// One break of a word, as it is set.
+///
+/// If the line is broken there, `before` ends it and `after` begins the next line. Else `unbroken` is set.
 #[derive(Drop)]
 pub struct Discretionary<'t> {
     pub before: String,
@@ -17,7 +18,7 @@ pub struct Discretionary<'t> {
     pub unbroken: &'t str,
 }
 
-/// What is set at a break that stands in a text.
+// The discretionary of a break that lies in a text.
 fn set_at<'t, B: Break>(
     alloc: Global,
     text: &'t str,
@@ -40,7 +41,12 @@ fn set_at<'t, B: Break>(
     })
 }
 
-/// What is set at each break of a word, in their order. The only error is that memory was refused.
+/// Returns the discretionaries of a word's breaks, in their order. The only error is that memory was refused.
+///
+/// ```text
+/// let word = dictionary.hyphenate(alloc, "asszonnyal")?;      // Hungarian: asz-szony-nyal
+/// let all = discretionaries(alloc, &word, "-")?;              // all[0]: before "sz-", after "sz", unbroken "ssz"
+/// ```
 pub fn discretionaries<'t, B: Break>(
     alloc: Global,
     word: &Word<'t, B>,

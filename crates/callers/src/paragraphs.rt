@@ -1,4 +1,4 @@
-//! A caller of `linefill`: a text with paragraphs, each of which is filled by itself.
+//! A caller of `linefill` that fills each paragraph of a text by itself.
 
 ghost use Rattle.std.specs.Prelude.{◌≡◌, ◌++◌, OnOk, IfOk};
 ghost use Rattle.std.specs.List.{flat_map};
@@ -11,7 +11,7 @@ use hyphenation::Hyphenator;
 use linefill::{fill, push_lines};
 use std::alloc::{AllocError, Global};
 
-/// Appends the lines of a paragraph, each with a line feed after it; of an empty one a line feed alone.
+// Appends the lines of a paragraph, each with a line feed after it; for an empty paragraph a line feed alone.
 fn push_paragraph<'h, H: Hyphenator<'h, Opportunity = usize>>(
     page: &mut String,
     dictionary: &'h H,
@@ -29,10 +29,14 @@ fn push_paragraph<'h, H: Hyphenator<'h, Opportunity = usize>>(
     Ok(())
 }
 
-/// A text whose paragraphs, parted by line ends, are filled to so many columns, each by itself.
+/// Fills the paragraphs of a text, which its line ends separate, to so many columns each by itself.
 ///
-/// The lines are those of [`fill`], in their order, each with a line feed after it; an empty paragraph stays as an
-/// empty line. The only error is that memory was refused.
+/// Returns the lines of [`fill`], in their order, each with a line feed after it. An empty paragraph stays as an empty
+/// line. The only error is that memory was refused.
+///
+/// ```text
+/// fill_paragraphs(alloc, &dictionary, "I know\n\nnoble accents", 10)?    // "I know\n\nnoble ac-\ncents\n"
+/// ```
 pub fn fill_paragraphs<'h, H: Hyphenator<'h, Opportunity = usize>>(
     alloc: Global,
     dictionary: &'h H,
