@@ -1,9 +1,8 @@
 //! Discretionary breaks, as a typesetter sets them: the letters of a word may change at a break.
 
-ghost use Rattle.std.specs.Prelude.{◌≡◌, ◌++◌, IfOk, map};
-ghost use Rattle.std.specs.String.{string_bytes};
+ghost use Rattle.std.specs.Prelude.{◌≡◌, IfOk, map};
 ghost use Rattle.hyphenation_segments.specs.Fits.{Stands};
-ghost use Rattle.callers.specs.Discretionaries.{Parts, parts_at};
+ghost use Rattle.callers.specs.Discretionaries.{parts_at, parts_of};
 
 use hyphenation::hyphenator::{Break, Word};
 use std::alloc::{AllocError, Global};
@@ -26,9 +25,7 @@ fn set_at<'t, B: Break>(
     hyphen: &str,
 ) -> Result<Discretionary<'t>, AllocError>
     requires { Stands text.now 0 0 (B.meaning b.now) }
-    ensures { IfOk result (λ set.
-        record { before = string_bytes set.before; after = string_bytes set.after; unbroken = set.unbroken.now }
-        ≡ parts_at hyphen.now text.now (B.meaning b.now)) }
+    ensures { IfOk result (λ set. parts_of set ≡ parts_at hyphen.now text.now (B.meaning b.now)) }
 {
     let (begin, end) = b.range().unwrap();
     let mut before = String::from_str(alloc, b.before())?;
@@ -52,14 +49,8 @@ pub fn discretionaries<'t, B: Break>(
     word: &Word<'t, B>,
     hyphen: &str,
 ) -> Result<Vec<Discretionary<'t>>, AllocError>
-    ensures { IfOk result (λ v.
-        map (λ set. record {
-          before = string_bytes set.before;
-          after = string_bytes set.after;
-          unbroken =
-              set.unbroken.now;
-        }) v.items
-        ≡ map (parts_at hyphen.now word.now.text.now) (map B.meaning word.now.breaks.items)) }
+    ensures { IfOk result (λ all.
+        map parts_of all.items ≡ map (parts_at hyphen.now word.now.text.now) (map B.meaning word.now.breaks.items)) }
 {
     let mut all = Vec::new(alloc);
     for b in &word.breaks {

@@ -3,7 +3,7 @@
 ghost use Rattle.std.specs.Prelude.{◌≡◌, ◌<◌, ℕ, IfOk, IfSome, length, slice_index};
 ghost use Rattle.std.specs.Option.{option_map};
 ghost use Rattle.std.specs.Str.{IsCharBoundary};
-ghost use Rattle.callers.specs.Room.{leaves_room, last_room, places_of, word_parts};
+ghost use Rattle.callers.specs.Room.{leaves_room, last_room, fitting_parts};
 
 use hyphenation::Hyphenator;
 use std::alloc::{AllocError, Global};
@@ -45,10 +45,8 @@ pub fn break_to_fit<'h, 't, H: Hyphenator<'h, Opportunity = usize>>(
     word: &'t str,
     columns: usize,
 ) -> Result<Option<(&'t str, &'t str)>, AllocError>
-    ensures { IfOk result (λ found.
-        option_map (λ parts. (parts.0.now, parts.1.now)) found
-        ≡ option_map (word_parts word.now)
-        (last_room word.now columns (places_of (H.breaks_of dictionary.now word.now)))) }
+    ensures { IfOk result (λ found. option_map (λ parts. (parts.0.now, parts.1.now)) found
+        ≡ fitting_parts word.now columns (H.breaks_of dictionary.now word.now)) }
 {
     let word = dictionary.hyphenate(alloc, word)?;
     match last_room(word.text, columns, &word.breaks) {

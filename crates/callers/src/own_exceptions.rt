@@ -1,12 +1,11 @@
 //! A word that a user adds to a dictionary, which is then written as a text.
 
 ghost use Rattle.std.specs.Prelude.{◌≡◌, ◌⊎◌, IfErr, IfOk, IsOk, IsTrue, OnErr, not};
-ghost use Rattle.std.specs.FinMap as finite;
-ghost use Rattle.std.specs.Io.KnownBytes.{Appends};
+ghost use Rattle.callers.specs.OwnExceptions.{with_exception};
 ghost use Rattle.hyphenation_breaks.specs.Break.{plain_break};
 ghost use Rattle.hyphenation_writer.specs.Canonical.{standard_text};
 ghost use Rattle.hyphenation_breaks.specs.Invariant.{are_listed};
-ghost use Rattle.hyphenation_load.specs.Load.{IfMemory, IsWriteError};
+ghost use Rattle.hyphenation_load.specs.Load.{AppendsTo, IfMemory, IsWriteError};
 
 use hyphenation::load::{Error, Result};
 use hyphenation::{Load, Standard};
@@ -34,16 +33,14 @@ pub fn list_and_write<W: Write>(
 ) -> Result<bool>
     ensures may_be_listed { IfOk result (λ good. good ≡ are_listed plain_break word.now places.items) }
     ensures listed { IfOk result (λ good.
-        IsTrue good
-        → dictionary.new
-        ≡ record dictionary.old { exceptions = finite.insert dictionary.old.exceptions word.now places.items }) }
+        IsTrue good → dictionary.new ≡ with_exception dictionary.old word.now places.items) }
     ensures written { IfOk result (λ good.
-        IsTrue good → Appends (W.contents writer.old) (W.contents writer.new) (standard_text dictionary.new)) }
+        IsTrue good → AppendsTo W.contents writer.old writer.new (standard_text dictionary.new)) }
     ensures unchanged { IfOk result (λ good. IsTrue (not good) → dictionary.new ≡ dictionary.old) }
     ensures unwritten { IfOk result (λ good. IsTrue (not good) → writer.new ≡ writer.old) }
     ensures refused_without_error { IsTrue (not (are_listed plain_break word.now places.items)) → IsOk result }
-    ensures listed_or_unchanged { OnErr result ((dictionary.new ≡ dictionary.old) ⊎ (dictionary.new
-        ≡ record dictionary.old { exceptions = finite.insert dictionary.old.exceptions word.now places.items })) }
+    ensures listed_or_unchanged { OnErr result ((dictionary.new ≡ dictionary.old)
+        ⊎ (dictionary.new ≡ with_exception dictionary.old word.now places.items)) }
     ensures unwritten_without_memory { IfMemory result (writer.new ≡ writer.old) }
     ensures write_error { IfErr result IsWriteError }
 {

@@ -4,8 +4,7 @@ ghost use Rattle.std.specs.Prelude.{◌≡◌, ◌++◌, OnOk, IfOk};
 ghost use Rattle.std.specs.List.{flat_map};
 ghost use Rattle.std.specs.Str.Lines.{lines};
 ghost use Rattle.std.specs.String.{string_bytes};
-ghost use Rattle.line_filling.specs.Lines.{lines_by};
-ghost use Rattle.callers.specs.Paragraphs.{paragraph_text};
+ghost use Rattle.callers.specs.Paragraphs.{filled_paragraph};
 
 use hyphenation::Hyphenator;
 use linefill::{fill, push_lines};
@@ -18,8 +17,8 @@ fn push_paragraph<'h, H: Hyphenator<'h, Opportunity = usize>>(
     paragraph: &str,
     columns: usize,
 ) -> Result<(), AllocError>
-    ensures { OnOk result (string_bytes page.new ≡ string_bytes page.old ++ paragraph_text paragraph.now
-        (lines_by (H.breaks_of dictionary.now) paragraph.now columns)) }
+    ensures { OnOk result (string_bytes page.new
+        ≡ string_bytes page.old ++ filled_paragraph (H.breaks_of dictionary.now) columns paragraph.now) }
 {
     let lines = fill(*page.allocator(), dictionary, paragraph, columns)?;
     push_lines(page, &lines)?;
@@ -44,9 +43,7 @@ pub fn fill_paragraphs<'h, H: Hyphenator<'h, Opportunity = usize>>(
     columns: usize,
 ) -> Result<String, AllocError>
     ensures { IfOk result (λ page.
-        string_bytes page
-        ≡ flat_map (λ paragraph. paragraph_text paragraph (lines_by (H.breaks_of dictionary.now) paragraph columns))
-        (lines text.now)) }
+        string_bytes page ≡ flat_map (filled_paragraph (H.breaks_of dictionary.now) columns) (lines text.now)) }
 {
     let mut page = String::new(alloc);
     for paragraph in text.lines() {

@@ -3,10 +3,9 @@
 //! It puts a dictionary text in order, of the kind that its argument names.
 #![tactic(auto)]
 
-ghost use Rattle.std.specs.Prelude.{◌≡◌, None, OnOk, IfErr, IfSome, IsSome};
-ghost use Rattle.std.specs.Io.KnownBytes.{Appends};
+ghost use Rattle.std.specs.Prelude.{◌≡◌, None, Some, OnOk, IfErr, IfSome, IsSome};
 ghost use Rattle.hyphenation_grammar.specs.Judging.{refusal_of};
-ghost use Rattle.hyphenation_load.specs.Load.{judgement_of, IsLoadError};
+ghost use Rattle.hyphenation_load.specs.Load.{judgement_of, AppendsTo, IsLoadError};
 ghost use Rattle.command_line.specs.About.{help_or_version, WritesHelp};
 ghost use Rattle.canonical_command.specs.Canonical.{kind_of_args, reordered, IfAsked, IsExitStatus};
 ghost use Rattle.command_line.specs.Statuses.{BeforeOutput};
@@ -47,7 +46,7 @@ fn put_in_order<D: Load + Drop, R: Read, W: Write>(
 ) -> Result<()>
     ensures accepted { OnOk result (IfSome (R.remaining input.old) (λ bytes. (D.judged bytes).refusal ≡ None)) }
     ensures written { OnOk result (IfSome (R.remaining input.old) (λ bytes.
-        Appends (W.contents output.old) (W.contents output.new) (D.canonical (D.contents bytes)))) }
+        AppendsTo W.contents output.old output.new (D.canonical (D.contents bytes)))) }
     ensures refused { IfErr result (λ e. IfSome (R.remaining input.old) (λ bytes. IsLoadError (D.judged bytes) None e)) }
     ensures untouched { UnlessIo result (output.new ≡ output.old) }
 {
@@ -64,7 +63,7 @@ fn put_kind_in_order<R: Read, W: Write>(
 ) -> Result<()>
     ensures accepted { OnOk result (IfSome (R.remaining input.old) (λ bytes. refusal_of kind bytes ≡ None)) }
     ensures written { OnOk result (IfSome (R.remaining input.old) (λ bytes.
-        Appends (W.contents output.old) (W.contents output.new) (reordered kind bytes))) }
+        AppendsTo W.contents output.old output.new (reordered kind bytes))) }
     ensures refused { IfErr result (λ e. IfSome (R.remaining input.old) (λ bytes.
         IsLoadError (judgement_of kind bytes) None e)) }
     ensures untouched { UnlessIo result (output.new ≡ output.old) }
@@ -117,12 +116,12 @@ pub fn answer<R: Read, W: Write, E: Write>(
     ensures usage { kind_of_args args.now ≡ None → help_or_version NAME.now VERSION.now USAGE.now args.now ≡ None →
         result ≡ 2 }
     ensures unread { kind_of_args args.now ≡ None → input.new ≡ input.old }
-    ensures help { kind_of_args args.now ≡ None → WritesHelp (help_or_version NAME.now VERSION.now USAGE.now args.now)
-        result (W.contents output.old) (W.contents output.new) }
+    ensures help { kind_of_args args.now ≡ None →
+        WritesHelp NAME.now VERSION.now USAGE.now args.now (Some result) W.contents output.old output.new }
     ensures exit_status { IsSome (kind_of_args args.now) → IsExitStatus result }
     ensures accepted { result ≡ 0 → IfAsked args.now (R.remaining input.old) (λ kind bytes. refusal_of kind bytes ≡ None) }
     ensures written { result ≡ 0 → IfAsked args.now (R.remaining input.old) (λ kind bytes.
-        Appends (W.contents output.old) (W.contents output.new) (reordered kind bytes)) }
+        AppendsTo W.contents output.old output.new (reordered kind bytes)) }
     ensures refused { result ≡ 3 → IfAsked args.now (R.remaining input.old) (λ kind bytes. IsSome (refusal_of kind bytes)) }
     ensures untouched { BeforeOutput result (output.new ≡ output.old) }
 {

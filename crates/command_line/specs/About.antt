@@ -1,8 +1,8 @@
 -- The text of `--help` and `--version`.
 use Rattle.std.specs.Prelude.{◌≡◌, ◌⊎◌, ℕ, List, [], ◌∷◌, ◌++◌, codes, if◌then◌else◌, Option, Some, None, IfSome}
 use Rattle.std.specs.Borrow.{Bor}
-use Rattle.std.specs.Io.KnownBytes.{Appends}
 use Rattle.hyphenation_grammar.specs.Lines.{is_same}
+use Rattle.hyphenation_load.specs.Load.{AppendsTo}
 
 -- The line of a program's name and version.
 abbrev pub version_line : List ℕ → List ℕ → List ℕ
@@ -16,6 +16,8 @@ help_or_version name version usage (arg ∷ []) =
     else (if is_same arg.now (codes "--help") then Some usage else None)
 help_or_version name version usage _ = None
 
--- If a program is asked for such a text, it ends with status 5, or with 0 and the text appended to its output.
-abbrev pub WritesHelp : Option (List ℕ) → ℕ → Option (List ℕ) → Option (List ℕ) → Type 0
-WritesHelp asked status old new = IfSome asked (λ text. (status ≡ 5) ⊎ ((status ≡ 0) × Appends old new text))
+-- If the arguments ask for such a text, the status is 5, or it is 0 and the text was appended to the output.
+abbrev pub WritesHelp : {W : Type 0} → List ℕ → List ℕ → List ℕ → List (Bor (List ℕ)) → Option ℕ
+    → (W → Option (List ℕ)) → W → W → Type 0
+WritesHelp name version usage args status contents old new = IfSome (help_or_version name version usage args)
+    (λ text. (status ≡ Some 5) ⊎ ((status ≡ Some 0) × AppendsTo contents old new text))

@@ -1,8 +1,8 @@
 //! What a program says of itself: its version and its usage.
 
-ghost use Rattle.std.specs.Prelude.{◌≡◌, ◌⊎◌, None, Some, OnOk, IfSome};
-ghost use Rattle.std.specs.Io.KnownBytes.{Appends};
-ghost use Rattle.command_line.specs.About.{help_or_version, version_line};
+ghost use Rattle.std.specs.Prelude.{◌≡◌, None, OnOk};
+ghost use Rattle.command_line.specs.About.{help_or_version, version_line, WritesHelp};
+ghost use Rattle.hyphenation_load.specs.Load.{AppendsTo};
 
 use crate::VERSION;
 use std::io;
@@ -10,8 +10,7 @@ use std::io::Write;
 
 // Writes the line of a program's name and version.
 fn write_version<W: Write>(name: &str, output: &mut W) -> io::Result<()>
-    ensures { OnOk result (Appends (W.contents output.old) (W.contents output.new)
-        (version_line name.now VERSION.now)) }
+    ensures { OnOk result (AppendsTo W.contents output.old output.new (version_line name.now VERSION.now)) }
 {
     output.write_all(name.as_bytes())?;
     output.write_all(b" ")?;
@@ -35,8 +34,7 @@ pub fn write_help_or_version<W: Write>(
 ) -> Option<u8>
     ensures other { help_or_version name.now VERSION.now usage.now args.now ≡ None →
         (result ≡ None) × (output.new ≡ output.old) }
-    ensures asked { IfSome (help_or_version name.now VERSION.now usage.now args.now) (λ text.
-        (result ≡ Some 5) ⊎ ((result ≡ Some 0) × Appends (W.contents output.old) (W.contents output.new) text)) }
+    ensures asked { WritesHelp name.now VERSION.now usage.now args.now result W.contents output.old output.new }
 {
     let [arg] = args else {
         return None;

@@ -21,10 +21,15 @@ Writes Standard code left right old new = (dictionary : Contents (Unit {0}) ℕ)
 Writes Extended code left right old new = (dictionary : Contents (Option Change) (ℕ × Option Change))
     × IsFor code left right dictionary × Appends old new (extended_text dictionary)
 
+-- The canonical text of a dictionary that parsed arguments ask for was appended.
+abbrev pub WritesParsed : {W : Type 0} → ParsedArgs → (W → Option (List ℕ)) → W → W → Type 0
+WritesParsed parsed contents old new =
+    Writes parsed.kind parsed.code parsed.left parsed.right (contents old) (contents new)
+
 -- The canonical text of a dictionary that the arguments ask for was appended.
-abbrev pub WritesFor : List (Bor (List ℕ)) → Option (List ℕ) → Option (List ℕ) → Type 0
-WritesFor args old new = (parsed : ParsedArgs) × ParsesAs args parsed
-    × Writes parsed.kind parsed.code parsed.left parsed.right old new
+abbrev pub WritesFor : {W : Type 0} → List (Bor (List ℕ)) → (W → Option (List ℕ)) → W → W → Type 0
+WritesFor args contents old new =
+    (parsed : ParsedArgs) × ParsesAs args parsed × WritesParsed parsed contents old new
 
 -- The statuses: 0 done; 2 the arguments have no form, or the minima are missing; 3 a file can't be opened, read or
 -- understood; 5 the result can't be written; 6 memory was refused.

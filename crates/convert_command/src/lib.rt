@@ -3,11 +3,12 @@
 //! It makes a dictionary text from files of hyphenation patterns.
 #![tactic(auto)]
 
-ghost use Rattle.std.specs.Prelude.{◌≡◌, ◌≢◌, ◌⊎◌, None, OnOk, IfOk, IfErr};
-ghost use Rattle.std.specs.Io.KnownBytes.{Appends};
+ghost use Rattle.std.specs.Prelude.{◌≡◌, ◌≢◌, ◌⊎◌, None, Some, OnOk, IfOk, IfErr};
 ghost use Rattle.command_line.specs.About.{help_or_version, WritesHelp};
 ghost use Rattle.command_line.specs.Statuses.{BeforeOutput};
-ghost use Rattle.convert_command.specs.Written.{IsFor, Writes, WritesFor, IsExitStatus};
+ghost use Rattle.hyphenation_load.specs.Load.{AppendsTo};
+ghost use Rattle.convert_command.specs.Written.{IsFor, WritesParsed, WritesFor, IsExitStatus};
+ghost use Rattle.convert_command.specs.Private.Requests.{parsed_request};
 ghost use Rattle.convert_command.specs.Private.Statuses.{IsStatusOf, MissesMinima};
 
 mod request;
@@ -176,8 +177,7 @@ fn write_text<D: Load, O: Write>(
     dictionary: &D,
     output: &mut O,
 ) -> Result<(), Failure>
-    ensures written { OnOk result (Appends (O.contents output.old) (O.contents output.new)
-        (D.canonical dictionary.now)) }
+    ensures written { OnOk result (AppendsTo O.contents output.old output.new (D.canonical dictionary.now)) }
     ensures untouched { IfErr result (λ failure. (failure ≡ Failure.Writing) ⊎ (output.new ≡ output.old)) }
     ensures not_minima { IfErr result (λ failure. failure ≢ Failure.Minima) }
 {
@@ -196,8 +196,7 @@ fn run<F: Files, O: Write>(
     request: &Request<'_>,
     output: &mut O,
 ) -> Result<Vec<Note>, Failure>
-    ensures written { OnOk result (Writes request.now.kind request.now.language request.now.left request.now.right
-        (O.contents output.old) (O.contents output.new)) }
+    ensures written { OnOk result (WritesParsed (parsed_request request.now) O.contents output.old output.new) }
     ensures untouched { IfErr result (λ failure. (failure ≡ Failure.Writing) ⊎ (output.new ≡ output.old)) }
     ensures misses_minima { IfErr result (MissesMinima request.now.left request.now.right) }
 {
@@ -344,10 +343,9 @@ pub fn answer<F: Files, O: Write, E: Write>(
     output: &mut O,
     errors: &mut E,
 ) -> u8
-    ensures help { WritesHelp (help_or_version NAME.now VERSION.now USAGE.now args.now)
-        result (O.contents output.old) (O.contents output.new) }
+    ensures help { WritesHelp NAME.now VERSION.now USAGE.now args.now (Some result) O.contents output.old output.new }
     ensures written { help_or_version NAME.now VERSION.now USAGE.now args.now ≡ None → result ≡ 0 →
-        WritesFor args.now (O.contents output.old) (O.contents output.new) }
+        WritesFor args.now O.contents output.old output.new }
     ensures exit_status { help_or_version NAME.now VERSION.now USAGE.now args.now ≡ None → IsExitStatus result }
     ensures untouched { BeforeOutput result (output.new ≡ output.old) }
 {

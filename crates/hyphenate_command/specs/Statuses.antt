@@ -31,6 +31,8 @@ BeforeText (score kind word) ended P = P
 BeforeText (text kind mark edits) ended P = BeforeReading ended P
 BeforeText (lines columns) ended P = BeforeReading ended P
 
--- The run ended so: with that status, as one for that task may, and without reading the input if it ended before that.
-abbrev pub Ends : ParsedTask → Option (List ℕ) → Type 0 → ℕ → Result (Unit {0}) RunError → Type 0
-Ends task input unread status ended = (status ≡ status_of ended) × EndsFor task input ended × BeforeText task ended unread
+-- The status is that of an end which a run for that task may have; if that is before the reading of the text, the input
+-- is unread.
+abbrev pub EndsWith : ParsedTask → Option (List ℕ) → Type 0 → ℕ → Type 0
+EndsWith task input unread status = (ended : Result (Unit {0}) RunError) × (status ≡ status_of ended)
+    × EndsFor task input ended × BeforeText task ended unread

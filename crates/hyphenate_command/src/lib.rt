@@ -4,14 +4,13 @@
 //! of a word.
 #![tactic(auto)]
 
-ghost use Rattle.std.specs.Prelude.{◌≡◌, ◌≢◌, List, ℕ, Result, Err, None, Some, Option, OnOk, IfSome, MatchOption};
-ghost use Rattle.std.specs.Io.KnownBytes.{Appends};
+ghost use Rattle.std.specs.Prelude.{◌≡◌, ◌≢◌, List, ℕ, Err, None, Some, Option, OnOk, IfSome, MatchOption};
+ghost use Rattle.hyphenation_load.specs.Load.{AppendsTo};
 ghost use Rattle.std.specs.IoError.{error_kind};
 ghost use Rattle.hyphenation.specs.Engine.{BeforeWriting, IsUnwritten};
-ghost use Rattle.hyphenation.specs.declared.engine.RunError.{RunError};
 ghost use Rattle.command_line.specs.Statuses.{BeforeOutput};
 ghost use Rattle.hyphenate_command.specs.Arguments.{parsed_args, score_args, text_args, lines_args};
-ghost use Rattle.hyphenate_command.specs.Statuses.{status_of, EndsFor, BeforeText, Ends};
+ghost use Rattle.hyphenate_command.specs.Statuses.{status_of, EndsFor, BeforeText, EndsWith};
 ghost use Rattle.hyphenate_command.specs.Private.Requests.{parsed_task, parsed_request};
 
 use command_line::write_message;
@@ -140,7 +139,7 @@ fn run_request<F: Files, I: Read, O: Write>(
     ensures ended { EndsFor (parsed_task request.now.task) (I.remaining input.old) result }
     ensures unread { BeforeText (parsed_task request.now.task) result (input.new ≡ input.old) }
     ensures untouched { BeforeWriting result (output.new ≡ output.old) }
-    ensures whole { OnOk result ((text : List ℕ) × Appends (O.contents output.old) (O.contents output.new) text) }
+    ensures whole { OnOk result ((text : List ℕ) × AppendsTo O.contents output.old output.new text) }
 {
     let mut dictionary = fs::open(rt, request.path).map_err(opening_error)?;
     match request.task {
@@ -247,10 +246,10 @@ pub fn answer<F: Files, I: Read, O: Write, E: Write>(
     errors: &mut E,
 ) -> u8
     ensures usage { parsed_args args.now ≡ None → (result ≡ 2) × (input.new ≡ input.old) }
-    ensures ended { IfSome (parsed_args args.now) (λ parsed. (ended : Result (Unit {0}) RunError)
-        × Ends parsed.task (I.remaining input.old) (input.new ≡ input.old) result ended) }
+    ensures ended { IfSome (parsed_args args.now) (λ parsed.
+        EndsWith parsed.task (I.remaining input.old) (input.new ≡ input.old) result) }
     ensures untouched { BeforeOutput result (output.new ≡ output.old) }
-    ensures written { result ≡ 0 → (text : List ℕ) × Appends (O.contents output.old) (O.contents output.new) text }
+    ensures written { result ≡ 0 → (text : List ℕ) × AppendsTo O.contents output.old output.new text }
 {
     let Some(request) = Request::from_args(args) else {
         let _ = errors.write_all(USAGE.as_bytes());

@@ -1,8 +1,7 @@
 -- What whole runs write, and the order in which they fail.
-use Rattle.std.specs.Prelude.{◌≡◌, ◌≢◌, ℕ, List, [], ◌∷◌, ◌++◌, map, decimal, IsUtf8, None, Result, Ok, Err, IfSome, Option, Some, ⊤}
+use Rattle.std.specs.Prelude.{◌≡◌, ◌≢◌, ℕ, List, [], ◌∷◌, ◌++◌, map, decimal, IsUtf8, None, Result, Ok, Err, OnOk, IfOk, IfSome, Option, Some, ⊤}
 use Rattle.std.specs.Borrow.{Bor}
 use Rattle.std.specs.List.{join_with_byte}
-use Rattle.std.specs.Io.KnownBytes.{Appends}
 use Rattle.hyphenation_breaks.specs.Break.{Break, plain_break}
 use Rattle.hyphenation_breaks.specs.Dictionary.{entries_of_keys}
 use Rattle.hyphenation_reader.specs.Edits.{after_edits, first_refused}
@@ -18,7 +17,7 @@ use Rattle.std.specs.declared.io.ErrorKind.TheVariants.{OutOfMemory}
 use Rattle.hyphenation_hyphenator.specs.Fitting.{fitted_breaks_of}
 use Rattle.hyphenation_hyphenator.specs.Hyphenated.{hyphenated_text}
 use Rattle.hyphenation_hyphenator.specs.Opportunities.{no_change, own_break, rules_of, all_breaks_of}
-use Rattle.hyphenation_load.specs.Load.{Judgement, judgement_of, IsAccepted, IsLoadError}
+use Rattle.hyphenation_load.specs.Load.{Judgement, judgement_of, IsAccepted, IsLoadError, AppendsTo}
 use Rattle.hyphenation_score.specs.Scoring.{own_change, values}
 
 -- ---- what is written
@@ -36,6 +35,10 @@ abbrev pub values_by : Kind → List ℕ → List ℕ → List ℕ
 values_by Standard word bytes = values (entries_of_keys (standard_contents bytes)) word
 values_by Extended word bytes = values (entries_of_keys (extended_contents bytes)) word
 
+-- The line of a word's values by the dictionary of that kind that a text gives.
+abbrev pub score_by : Kind → List ℕ → List ℕ → List ℕ
+score_by kind word bytes = score_line (values_by kind word bytes)
+
 -- The breaks of a word as written by the dictionary of that kind that a text gives, after edits.
 abbrev pub breaks_by : Kind → List ℕ → List (List ℕ) → List ℕ → List Break
 breaks_by Standard bytes edits word =
@@ -43,19 +46,25 @@ breaks_by Standard bytes edits word =
 breaks_by Extended bytes edits word =
     fitted_breaks_of (rules_of own_change own_break (after_edits break_as_listing (extended_contents bytes) edits)) word
 
--- A text with its words hyphenated by the dictionary of that kind that bytes give, after edits.
-abbrev pub hyphenated_by : Kind → List (List ℕ) → List ℕ → List ℕ → List ℕ → List ℕ
-hyphenated_by kind edits mark bytes text = hyphenated_text (breaks_by kind bytes edits) mark text
+-- The output of a run: the text with its words hyphenated by the dictionary of that kind that bytes give, after edits.
+abbrev pub run_output : Kind → List (Bor (List ℕ)) → List ℕ → List ℕ → List ℕ → List ℕ
+run_output kind edits mark bytes text = hyphenated_text (breaks_by kind bytes (texts_now edits)) mark text
 
 -- If the bytes of the dictionary and of the input are known, this holds of them.
 abbrev pub IfBothKnown : Option (List ℕ) → Option (List ℕ) → (List ℕ → List ℕ → Type 0) → Type 0
 IfBothKnown dictionary input P = IfSome dictionary (λ bytes. IfSome input (λ text. P bytes text))
 
--- What a run makes of the bytes of its dictionary and its input, if they are known, was appended to its output.
-abbrev pub AppendsResult : (List ℕ → List ℕ → List ℕ) → Option (List ℕ) → Option (List ℕ) → Option (List ℕ) → Option (List ℕ)
-    → Type 0
-AppendsResult output dictionary input old new =
-    IfBothKnown dictionary input (λ bytes text. Appends old new (output bytes text))
+-- The text that is returned is the output for the bytes of the dictionary and of the input, if they are known.
+abbrev pub RunReturns : {S : Type 0} → (S → List ℕ) → Result S RunError → (List ℕ → List ℕ → List ℕ)
+    → Option (List ℕ) → Option (List ℕ) → Type 0
+RunReturns bytes_of result output dictionary input =
+    IfOk result (λ returned. IfBothKnown dictionary input (λ bytes text. bytes_of returned ≡ output bytes text))
+
+-- On Ok, the output for the bytes of the dictionary and of the input, if they are known, was appended to a writer.
+abbrev pub RunWrites : {W : Type 0} → Result (Unit {0}) RunError → (W → Option (List ℕ)) → W → W
+    → (List ℕ → List ℕ → List ℕ) → Option (List ℕ) → Option (List ℕ) → Type 0
+RunWrites result contents old new output dictionary input =
+    OnOk result (IfBothKnown dictionary input (λ bytes text. AppendsTo contents old new (output bytes text)))
 
 -- ---- in which order a run fails
 

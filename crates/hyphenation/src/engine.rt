@@ -2,8 +2,8 @@
 
 ghost use Rattle.std.specs.Prelude.{◌≡◌, ◌++◌, List, ℕ, OnOk, IfOk, IfErr, IfSome, decimal};
 ghost use Rattle.std.specs.String.{string_bytes};
-ghost use Rattle.std.specs.Io.KnownBytes.{Appends};
-ghost use Rattle.hyphenation.specs.Engine.{texts_now, score_line, values_by, hyphenated_by, IfBothKnown, AppendsResult};
+ghost use Rattle.hyphenation_load.specs.Load.{AppendsTo};
+ghost use Rattle.hyphenation.specs.Engine.{texts_now, score_line, score_by, run_output, RunReturns, RunWrites};
 ghost use Rattle.hyphenation.specs.Engine.{JudgesBytes, JudgesDictionary, JudgesEdits, JudgesText};
 ghost use Rattle.hyphenation.specs.Engine.{BeforeReading, BeforeWriting, IsScoreError, IsUnwritten, HidesNoOutOfMemory};
 ghost use Rattle.hyphenation.specs.Private.Engine.{space_before, IsDictionaryError};
@@ -114,7 +114,7 @@ fn score_line<D: Read>(
 ) -> Result<String, RunError>
     ensures dictionary { JudgesDictionary kind lang (D.remaining reader.old) result }
     ensures line { IfOk result (λ line.
-        IfSome (D.remaining reader.old) (λ bytes. string_bytes line ≡ score_line (values_by kind word.now bytes))) }
+        IfSome (D.remaining reader.old) (λ bytes. string_bytes line ≡ score_by kind word.now bytes)) }
     ensures dictionary_error { IfErr result IsDictionaryError }
 {
     let values = match kind {
@@ -145,8 +145,8 @@ pub fn run_score<D: Read, O: Write>(
 ) -> Result<(), RunError>
     ensures dictionary { JudgesDictionary kind lang (D.remaining dictionary.old) result }
     ensures written { OnOk result (IfSome (D.remaining dictionary.old) (λ bytes.
-        Appends (O.contents output.old) (O.contents output.new) (score_line (values_by kind word.now bytes)))) }
-    ensures whole { OnOk result ((text : List ℕ) × Appends (O.contents output.old) (O.contents output.new) text) }
+        AppendsTo O.contents output.old output.new (score_by kind word.now bytes))) }
+    ensures whole { OnOk result ((text : List ℕ) × AppendsTo O.contents output.old output.new text) }
     ensures untouched { BeforeWriting result (output.new ≡ output.old) }
     ensures score_error { IfErr result IsScoreError }
     ensures not_out_of_memory { IfErr result HidesNoOutOfMemory }
@@ -169,8 +169,8 @@ fn text_by<D: Read, I: Read>(
     ensures dictionary { JudgesDictionary kind lang (D.remaining reader.old) result }
     ensures edits { JudgesEdits kind (texts_now edits.now) result }
     ensures text { JudgesText (I.remaining input.old) result }
-    ensures output { IfOk result (λ output. IfBothKnown (D.remaining reader.old) (I.remaining input.old) (λ bytes text.
-        string_bytes output ≡ hyphenated_by kind (texts_now edits.now) mark.now bytes text)) }
+    ensures output { RunReturns string_bytes result (run_output kind edits.now mark.now)
+        (D.remaining reader.old) (I.remaining input.old) }
     ensures unwritten { IfErr result IsUnwritten }
     ensures unread { BeforeReading result (input.new ≡ input.old) }
     ensures not_out_of_memory { IfErr result HidesNoOutOfMemory }
@@ -208,9 +208,9 @@ pub fn run<D: Read, I: Read, O: Write>(
     ensures dictionary { JudgesDictionary kind lang (D.remaining dictionary.old) result }
     ensures edits { JudgesEdits kind (texts_now edits.now) result }
     ensures text { JudgesText (I.remaining input.old) result }
-    ensures written { OnOk result (AppendsResult (hyphenated_by kind (texts_now edits.now) mark.now)
-        (D.remaining dictionary.old) (I.remaining input.old) (O.contents output.old) (O.contents output.new)) }
-    ensures whole { OnOk result ((text : List ℕ) × Appends (O.contents output.old) (O.contents output.new) text) }
+    ensures written { RunWrites result O.contents output.old output.new (run_output kind edits.now mark.now)
+        (D.remaining dictionary.old) (I.remaining input.old) }
+    ensures whole { OnOk result ((text : List ℕ) × AppendsTo O.contents output.old output.new text) }
     ensures untouched { BeforeWriting result (output.new ≡ output.old) }
     ensures unread { BeforeReading result (input.new ≡ input.old) }
     ensures not_out_of_memory { IfErr result HidesNoOutOfMemory }

@@ -1,5 +1,6 @@
 -- What loading a dictionary returns, and how writing one fails.
 use Rattle.std.specs.Prelude.{◌≡◌, ◌≢◌, ℕ, List, [], Option, None, Some, Result, Ok, Err, IfSome, MatchResult, slice_index_or, unwrap_or, ⊤}
+use Rattle.std.specs.Io.KnownBytes.{Appends}
 use Rattle.std.specs.IoError.{error_kind}
 use Rattle.std.specs.declared.io.ErrorKind.TheVariants.{OutOfMemory}
 use Rattle.hyphenation_grammar.specs.Judging.{refusal_of}
@@ -64,7 +65,11 @@ abbrev pub IsNotOutOfMemory : Error → Type 0
 IsNotOutOfMemory (IO e) = error_kind e ≢ OutOfMemory
 IsNotOutOfMemory _ = ⊤
 
--- Where memory was refused, this holds.
+-- A text was appended to the contents of a writer, if these are known.
+abbrev pub AppendsTo : {W : Type 0} → (W → Option (List ℕ)) → W → W → List ℕ → Type 0
+AppendsTo contents old new text = Appends (contents old) (contents new) text
+
+-- If memory was refused, this holds.
 abbrev pub IfMemory : {X : Type 0} → Result X Error → Type 0 → Type 0
 IfMemory (Err (Memory e)) P = P
 IfMemory _ P = ⊤

@@ -5,10 +5,10 @@
 #![tactic(auto)]
 
 ghost use Rattle.std.specs.Prelude.{◌≡◌, ◌≢◌, ◌↔◌, Ok, Err, None, Some, List, ℕ, IfOk, IfErr, IfSome, IsTrue, OnOk, alloc_error};
-ghost use Rattle.std.specs.Io.KnownBytes.{Appends, IsAtEnd};
+ghost use Rattle.std.specs.Io.KnownBytes.{IsAtEnd};
 ghost use Rattle.std.specs.IoError.{error_kind};
 ghost use Rattle.hyphenation_load.specs.Load.{Judgement, Loads, LoadsSomeFile, RespectsLanguage};
-ghost use Rattle.hyphenation_load.specs.Load.{IsNotIo, IsNotOutOfMemory, IfMemory, IsWriteError};
+ghost use Rattle.hyphenation_load.specs.Load.{IsNotIo, IsNotOutOfMemory, AppendsTo, IfMemory, IsWriteError};
 ghost use Rattle.hyphenation_load.specs.Private.Load.{error_of, ChecksLanguage, IsReadError};
 
 use hyphenation_breaks::breaks::Break;
@@ -49,7 +49,7 @@ pub trait Load: Sized {
     fn from_read(alloc: Global, read: io::Result<Vec<u8>>) -> Result<Self>
         ensures loaded { IfOk read (λ bytes. Loads (judged bytes.items) None (contents bytes.items) result) }
         ensures no_io_error { IfOk read (λ _. IsNotIo result) }
-        ensures out_of_memory { IfErr read (λ e. error_kind e ≡ ErrorKind.OutOfMemory → result ≡ Err (Error.Memory alloc_error)) }
+        ensures memory { IfErr read (λ e. error_kind e ≡ ErrorKind.OutOfMemory → result ≡ Err (Error.Memory alloc_error)) }
         ensures io_error { IfErr read (λ e. error_kind e ≢ ErrorKind.OutOfMemory → result ≡ Err (Error.IO e)) };
 
     /// Loads a dictionary of any language from all bytes that a reader has left.
@@ -127,7 +127,7 @@ pub trait Load: Sized {
     /// dictionary.to_writer(alloc, &mut rt.stdout())?;
     /// ```
     fn to_writer<W: Write>(&self, alloc: Global, writer: &mut W) -> Result<()>
-        ensures written { OnOk result (Appends (W.contents writer.old) (W.contents writer.new) (canonical self.now)) }
+        ensures written { OnOk result (AppendsTo W.contents writer.old writer.new (canonical self.now)) }
         ensures accepted { OnOk result ((judged (canonical self.now)).refusal ≡ None) }
         ensures read_again { OnOk result (self.now ≡ contents (canonical self.now)) }
         ensures unwritten_without_memory { IfMemory result (writer.new ≡ writer.old) }

@@ -2,13 +2,10 @@
 
 ghost use Rattle.std.specs.Prelude.{◌≡◌, ◌++◌, [], List, ℕ, OnOk, IfOk, IfErr, map};
 ghost use Rattle.std.specs.String.{string_bytes};
-ghost use Rattle.std.specs.Io.KnownBytes.{Appends};
-ghost use Rattle.hyphenation_breaks.specs.Break.{plain_break};
-ghost use Rattle.hyphenation.specs.Engine.{IfBothKnown, AppendsResult, JudgesDictionary, JudgesEdits, JudgesText};
+ghost use Rattle.hyphenation_load.specs.Load.{AppendsTo};
+ghost use Rattle.hyphenation.specs.Engine.{RunReturns, RunWrites, JudgesDictionary, JudgesEdits, JudgesText};
 ghost use Rattle.hyphenation.specs.Engine.{BeforeReading, BeforeWriting, HidesNoOutOfMemory, IsUnwritten};
-ghost use Rattle.hyphenation_hyphenator.specs.Opportunities.{no_change, rules_of, all_breaks_of};
-ghost use Rattle.line_filling.specs.Lines.{lines_by};
-ghost use Rattle.linefill.specs.Run.{filled_by};
+ghost use Rattle.linefill.specs.Run.{filled_text, fill_output};
 ghost use Rattle.hyphenation_writer.specs.Canonical.{with_line_feeds};
 
 use hyphenation::engine::{Kind, RunError, read_input};
@@ -42,9 +39,7 @@ fn filled(
     columns: usize,
     text: &str,
 ) -> Result<String, AllocError>
-    ensures { IfOk result (λ filled.
-        string_bytes filled
-        ≡ with_line_feeds (lines_by (all_breaks_of (rules_of no_change plain_break dictionary.now)) text.now columns)) }
+    ensures { IfOk result (λ filled. string_bytes filled ≡ filled_text columns dictionary.now text.now) }
 {
     let lines = fill(alloc, dictionary, text, columns)?;
     let mut page = String::new(alloc);
@@ -62,8 +57,8 @@ fn filled_input<D: Read, I: Read>(
 ) -> Result<String, RunError>
     ensures dictionary { JudgesDictionary Kind.Standard lang (D.remaining reader.old) result }
     ensures text { JudgesText (I.remaining input.old) result }
-    ensures lines { IfOk result (λ filled. IfBothKnown (D.remaining reader.old) (I.remaining input.old) (λ bytes text.
-        string_bytes filled ≡ filled_by columns bytes text)) }
+    ensures lines { RunReturns string_bytes result (fill_output columns)
+        (D.remaining reader.old) (I.remaining input.old) }
     ensures unwritten { IfErr result IsUnwritten }
     ensures unread { BeforeReading result (input.new ≡ input.old) }
     ensures no_edits { JudgesEdits Kind.Standard [] result }
@@ -98,9 +93,9 @@ pub fn run_fill<D: Read, I: Read, O: Write>(
 ) -> Result<(), RunError>
     ensures dictionary { JudgesDictionary Kind.Standard lang (D.remaining dictionary.old) result }
     ensures text { JudgesText (I.remaining input.old) result }
-    ensures written { OnOk result (AppendsResult (filled_by columns)
-        (D.remaining dictionary.old) (I.remaining input.old) (O.contents output.old) (O.contents output.new)) }
-    ensures whole { OnOk result ((text : List ℕ) × Appends (O.contents output.old) (O.contents output.new) text) }
+    ensures written { RunWrites result O.contents output.old output.new (fill_output columns)
+        (D.remaining dictionary.old) (I.remaining input.old) }
+    ensures whole { OnOk result ((text : List ℕ) × AppendsTo O.contents output.old output.new text) }
     ensures untouched { BeforeWriting result (output.new ≡ output.old) }
     ensures unread { BeforeReading result (input.new ≡ input.old) }
     ensures no_edits { JudgesEdits Kind.Standard [] result }

@@ -4,10 +4,9 @@ ghost use Rattle.std.specs.Prelude.{◌≡◌, ◌≢◌, IfErr, IfOk, IfSome, O
 ghost use Rattle.std.specs.Io.KnownBytes.{IsAtEnd};
 ghost use Rattle.std.specs.IoError.{error_kind};
 ghost use Rattle.std.specs.String.{string_bytes};
-ghost use Rattle.hyphenation.specs.Engine.{texts_now, IfBothKnown, BeforeReading, JudgesBytes, JudgesEdits, JudgesText};
+ghost use Rattle.hyphenation.specs.Engine.{texts_now, RunReturns, BeforeReading, JudgesBytes, JudgesEdits, JudgesText};
 ghost use Rattle.hyphenation.specs.Engine.{IsInputError, IsTextError, IsUnwritten, HidesNoOutOfMemory};
-ghost use Rattle.hyphenation.specs.Private.Engine.{IsEditError};
-ghost use Rattle.hyphenation_hyphenator.specs.Hyphenated.{hyphenated_text};
+ghost use Rattle.hyphenation.specs.Private.Engine.{made_by, IsEditError};
 
 use super::RunError;
 use super::run_dictionary::RunDictionary;
@@ -89,9 +88,8 @@ pub(super) fn run_text<K: RunDictionary, D: Read, I: Read>(
     ensures dictionary { IfSome (D.remaining reader.old) (λ bytes. JudgesBytes (K.judged bytes) lang result) }
     ensures edits { JudgesEdits K.kind (texts_now edits.now) result }
     ensures text { JudgesText (I.remaining input.old) result }
-    ensures output { IfOk result (λ output. IfBothKnown (D.remaining reader.old) (I.remaining input.old) (λ bytes text.
-        string_bytes output
-        ≡ hyphenated_text (K.breaks_of (fold K.edited (K.contents bytes) (texts_now edits.now))) mark.now text)) }
+    ensures output { RunReturns string_bytes result (made_by K.contents K.edited K.breaks_of edits.now mark.now)
+        (D.remaining reader.old) (I.remaining input.old) }
     ensures unwritten { IfErr result IsUnwritten }
     ensures unread { BeforeReading result (input.new ≡ input.old) }
     ensures not_out_of_memory { IfErr result HidesNoOutOfMemory }
