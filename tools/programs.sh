@@ -1,4 +1,4 @@
-# What the launcher, ./install and the scripts share: which programs are proved and built, and how that is done.
+# Shared by the launcher, ./install and the scripts: which programs are proved and built, and how that is done.
 # A script that reads this has set `root`, the folder of the repository, and `called`, its own name.
 # shellcheck shell=bash disable=SC2154
 
@@ -56,7 +56,7 @@ has_toolchain() {
 }
 
 # prove PROGRAM..: proves and builds the programs that are not current, with a line on standard error for each crate.
-# It returns 1 where one is not proved and built, and says why. Where `at_once` is set, so many crates are proved side by
+# It returns 1 if one is not proved and built, and says why. If `at_once` is set, so many crates are proved side by
 # side, each with one job; else one after another, each with all processors.
 prove() {
   local -a order=() missing=()
@@ -106,8 +106,8 @@ prove_crate() (
   [ -x "out/$1" ]
 )
 
-# prove_side_by_side LOG: proves and builds the crates of the list `order`, `at_once` of them at a time, and writes to LOG
-# what is said. `rt all` works on all crates below a folder, and goes through no links: so these crates are copied to a
+# prove_side_by_side LOG: proves and builds the crates of the list `order`, `at_once` of them at a time, and writes all
+# messages to LOG. `rt all` works on all crates below a folder, and goes through no links: so these crates are copied to a
 # folder of their own. Their out/ is moved there and, however this ends, back again.
 prove_side_by_side() (
   top=$(mktemp -d)

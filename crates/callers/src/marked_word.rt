@@ -8,7 +8,7 @@ use hyphenation::Hyphenator;
 use hyphenation::iter::push_marked;
 use std::alloc::{AllocError, Global};
 
-/// Returns a word with the mark at each break that the dictionary finds, and with the letters as the breaks change them.
+/// Returns a word with the mark at each break that the dictionary finds, and with the letters that a break changes.
 ///
 /// The only error is that memory was refused.
 ///

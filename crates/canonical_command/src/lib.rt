@@ -119,10 +119,12 @@ pub fn answer<R: Read, W: Write, E: Write>(
     ensures help { kind_of_args args.now ≡ None →
         WritesHelp NAME.now VERSION.now USAGE.now args.now (Some result) W.contents output.old output.new }
     ensures exit_status { IsSome (kind_of_args args.now) → IsExitStatus result }
-    ensures accepted { result ≡ 0 → IfAsked args.now (R.remaining input.old) (λ kind bytes. refusal_of kind bytes ≡ None) }
+    ensures accepted { result ≡ 0 → IfAsked args.now (R.remaining input.old) (λ kind bytes.
+        refusal_of kind bytes ≡ None) }
     ensures written { result ≡ 0 → IfAsked args.now (R.remaining input.old) (λ kind bytes.
         AppendsTo W.contents output.old output.new (reordered kind bytes)) }
-    ensures refused { result ≡ 3 → IfAsked args.now (R.remaining input.old) (λ kind bytes. IsSome (refusal_of kind bytes)) }
+    ensures refused { result ≡ 3 → IfAsked args.now (R.remaining input.old) (λ kind bytes.
+        IsSome (refusal_of kind bytes)) }
     ensures untouched { BeforeOutput result (output.new ≡ output.old) }
 {
     let Some(kind) = kind_of(args) else {

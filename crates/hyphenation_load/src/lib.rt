@@ -49,7 +49,8 @@ pub trait Load: Sized {
     fn from_read(alloc: Global, read: io::Result<Vec<u8>>) -> Result<Self>
         ensures loaded { IfOk read (λ bytes. Loads (judged bytes.items) None (contents bytes.items) result) }
         ensures no_io_error { IfOk read (λ _. IsNotIo result) }
-        ensures memory { IfErr read (λ e. error_kind e ≡ ErrorKind.OutOfMemory → result ≡ Err (Error.Memory alloc_error)) }
+        ensures memory { IfErr read (λ e.
+            error_kind e ≡ ErrorKind.OutOfMemory → result ≡ Err (Error.Memory alloc_error)) }
         ensures io_error { IfErr read (λ e. error_kind e ≢ ErrorKind.OutOfMemory → result ≡ Err (Error.IO e)) };
 
     /// Loads a dictionary of any language from all bytes that a reader has left.
@@ -77,7 +78,8 @@ pub trait Load: Sized {
     ///
     /// ```text
     /// let mut text = &b"hyphenation 1 standard\nlanguage en-us\nminima 2 3\n"[..];
-    /// Standard::from_reader(alloc, Language::hungarian(), &mut text)    // Err: LanguageMismatch { expected: hu, found: en-us }
+    /// // Err(LanguageMismatch { expected: hu, found: en-us })
+    /// Standard::from_reader(alloc, Language::hungarian(), &mut text)
     /// ```
     fn from_reader<R: Read>(alloc: Global, lang: Language, reader: &mut R) -> Result<Self>
         ensures loaded { IfSome (R.remaining reader.old) (λ bytes.

@@ -23,7 +23,8 @@ use std::io::{Read, Write};
 /// push_lines(&mut page, &lines)?;                                   // "I know no-\nble ac-\ncents\n"
 /// ```
 pub fn push_lines(page: &mut String, lines: &[String]) -> Result<(), AllocError>
-    ensures { OnOk result (string_bytes page.new ≡ string_bytes page.old ++ with_line_feeds (map string_bytes lines.now)) }
+    ensures { OnOk result (string_bytes page.new
+        ≡ string_bytes page.old ++ with_line_feeds (map string_bytes lines.now)) }
 {
     for line in lines {
         page.push_str(line)?;
