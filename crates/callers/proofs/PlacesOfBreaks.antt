@@ -1,4 +1,4 @@
--- Each of the breaks that fit a text stands in it.
+-- Places of breaks that fit a text.
 use Rattle.std.proofs.Common.{ℕ, ◌≡◌, ◌+◌, ◌<◌, List, [], ◌∷◌, map, length, refl, sym, ap, subst, arith, slice_index, get_or, IsCharBoundary, zero, suc}
 use Rattle.hyphenation_breaks.specs.Break.{Break, plain_break, end_of}
 use Rattle.hyphenation_segments.specs.Fits.{FitsFrom, Stands}
@@ -14,7 +14,7 @@ pub places_back : (places : List ℕ) → places_of (map plain_break places) ≡
 places_back [] = refl
 places_back (p ∷ ps) = ap (λ l. p ∷ l) (places_back ps)
 
--- The same of breaks that may change the text.
+-- Each of the breaks that fit a text lies in it by itself.
 pub each_stands : {X : Type 0} (meaning : X → Break) (text : List ℕ) (xs : List X) (last_end least : ℕ) → FitsFrom text last_end least (map meaning xs)
     → (i : ℕ) (x : X) → i < length xs → x ≡ get_or xs i x → Stands text 0 0 (meaning x)
 each_stands meaning text [] last_end least fit i x lt is = absurd (omega (arith, lt))

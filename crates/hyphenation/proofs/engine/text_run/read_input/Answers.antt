@@ -1,7 +1,7 @@
 use Rattle.std.proofs.Common.{IsUtf8, ap, subst, ◌∙◌}
 use Rattle.std.proofs.lemmas.Option.{IfSome_then}
 use Rattle.std.proofs.lemmas.Str.{IsUtf8-string_bytes}
-use Rattle.hyphenation.proofs.engine.whole.read_input.Goals as goal
+use Rattle.hyphenation.proofs.engine.text_run.read_input.Goals as goal
 
 pub returns-in-Ok-clause-text : goal.returns-in-Ok-clause-text
 returns-in-Ok-clause-text g c =
