@@ -10,7 +10,7 @@ tools=(basename bash cat chmod cp dirname env find iconv ln mkdir mktemp mv read
 # The command writes each call to the file `calls`: the folder that it was called in, and its arguments. `rt try` passes
 # its arguments to the program `trial` of the copy, and says that this was a trial that ended. Without that program it
 # fails. `rt run` makes the program `proved` of the copy the crate's, and fails without it. `rt lib` fails for a crate
-# that the file `unproved` names, and `rt all` if there is such a file.
+# that the file `unproved` names.
 make_copy() {
   local it
   copy=$scratch/copy plain=$scratch/plain stub=$scratch/stub
@@ -27,7 +27,6 @@ make_copy() {
 #!/usr/bin/env bash
 top=$STUB_COPY
 name=$(basename "$PWD")
-[ "$1" != all ] || name=together
 echo "$name: $*" >>"$top/calls"
 case $1 in
   try)
@@ -38,7 +37,6 @@ case $1 in
     exit $status
     ;;
   lib) ! grep -qsx "$name" "$top/unproved" || { echo "$name: not proved"; exit 1; } ;;
-  all) [ ! -e "$top/unproved" ] || { echo "$(cat "$top/unproved"): not proved"; exit 1; } ;;
   run) mkdir -p out && cp "$top/proved" "out/$name" && chmod 755 "out/$name" ;;
 esac
 STUB
