@@ -24,10 +24,10 @@ fn write_marked<'h, H: Hyphenator<'h>, O: Write>(
 
 // Says whether an exception was added, and how many breaks were listed before.
 fn write_added<B: Drop, O: Write>(
-    result: Result<Option<Vec<B>>, AllocError>,
+    added: Result<Option<Vec<B>>, AllocError>,
     output: &mut O,
 ) -> io::Result<()> {
-    match result {
+    match added {
         Ok(None) => output.write_all(b"set, and then "),
         Ok(Some(old)) => write!(output, "set in place of {}, and then ", old.len()),
         Err(_) => output.write_all(b"no memory, and then "),

@@ -19,11 +19,11 @@ fn are_counts_bounded(count: &LookUps, bytes: u128, occurrences: u128) -> bool {
 
 // Writes the values, and whether the counts keep their bounds.
 fn write_scored<O: Write>(
-    result: &Result<Vec<u8>, AllocError>,
+    values: &Result<Vec<u8>, AllocError>,
     kept: bool,
     output: &mut O,
 ) -> io::Result<()> {
-    match result {
+    match values {
         Ok(values) => {
             for value in values {
                 write!(output, "{value} ")?;
@@ -50,10 +50,10 @@ fn score_standard<G: Read, O: Write>(
 // The values without their changes, or the error of the score.
 fn values_without_changes(
     alloc: Global,
-    result: Result<Vec<(u8, Option<&Subregion>)>, AllocError>,
+    scores: Result<Vec<(u8, Option<&Subregion>)>, AllocError>,
 ) -> Result<Vec<u8>, AllocError> {
     let mut values = Vec::new(alloc);
-    for (value, _) in result? {
+    for (value, _) in scores? {
         values.push(value)?;
     }
     Ok(values)

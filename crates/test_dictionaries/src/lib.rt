@@ -14,9 +14,9 @@ use test_support::readers::one_byte_reads;
 /// error.
 pub fn loading_outcome<D: Drop>(
     alloc: Global,
-    result: Result<D, Error>,
+    loaded: Result<D, Error>,
 ) -> Result<String, AllocError> {
-    match &result {
+    match &loaded {
         Ok(_) => String::from_str(alloc, "loaded"),
         Err(error) => error_outcome(alloc, error),
     }
@@ -33,10 +33,10 @@ fn error_outcome(alloc: Global, error: &Error) -> Result<String, AllocError> {
 /// Fails unless loading has this outcome.
 pub fn expect_outcome<D: Drop>(
     alloc: Global,
-    result: Result<D, Error>,
+    loaded: Result<D, Error>,
     wanted: &str,
 ) -> Result<(), Fail> {
-    expect_text(loading_outcome(alloc, result), wanted)
+    expect_text(loading_outcome(alloc, loaded), wanted)
 }
 
 /// The outcome of loading a text, read whole and one byte a read. If they differ, both.

@@ -92,7 +92,7 @@ fn push_items<I: Texts>(
 }
 
 // Words, which are separated by spaces, each as its items with the mark `=` and a space after it.
-fn marked<D: AnswersQuestions>(
+fn marked<D: DescribesWords>(
     alloc: Global,
     dictionary: &D,
     words: &str,
@@ -106,7 +106,7 @@ fn marked<D: AnswersQuestions>(
 }
 
 // The values of the places of words, with a comma after those of each word.
-fn values<D: AnswersQuestions>(
+fn values<D: DescribesWords>(
     alloc: Global,
     dictionary: &D,
     words: &str,
@@ -210,19 +210,22 @@ pub enum Question<'q> {
     Opportunities(&'q str),
 }
 
-/// A dictionary that answers questions.
-pub trait AnswersQuestions: Drop {
+/// A dictionary that writes words with their breaks, and their values.
+pub trait DescribesWords: Drop {
     /// Writes a word's items, with the mark `=`.
     fn push_marked(&self, output: &mut String, alloc: Global, word: &str) -> Result<(), AllocError>;
 
     /// Writes the values of a word's places, each with its change and a space after it.
     fn push_values(&self, output: &mut String, alloc: Global, word: &str) -> Result<(), AllocError>;
+}
 
+/// A dictionary that answers questions.
+pub trait AnswersQuestions: DescribesWords {
     /// The answer to a question, as one text.
     fn answer(&self, alloc: Global, question: Question<'_>) -> Result<String, AllocError>;
 }
 
-impl AnswersQuestions for Standard {
+impl DescribesWords for Standard {
     fn push_marked(
         &self,
         output: &mut String,
@@ -243,7 +246,9 @@ impl AnswersQuestions for Standard {
         }
         Ok(())
     }
+}
 
+impl AnswersQuestions for Standard {
     fn answer(&self, alloc: Global, question: Question<'_>) -> Result<String, AllocError> {
         match question {
             Question::Values(words) => values(alloc, self, words),
@@ -257,7 +262,7 @@ impl AnswersQuestions for Standard {
     }
 }
 
-impl AnswersQuestions for Extended {
+impl DescribesWords for Extended {
     fn push_marked(
         &self,
         output: &mut String,
@@ -278,7 +283,9 @@ impl AnswersQuestions for Extended {
         }
         Ok(())
     }
+}
 
+impl AnswersQuestions for Extended {
     fn answer(&self, alloc: Global, question: Question<'_>) -> Result<String, AllocError> {
         match question {
             Question::Values(words) => values(alloc, self, words),

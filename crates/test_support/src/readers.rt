@@ -1,12 +1,16 @@
 //! Readers that give few bytes a read, and readers that fail.
 
+ghost use Rattle.std.specs.Prelude.{◌≤◌, length};
+
 use crate::io_errors::{CONNECTION_RESET, io_error};
 use std::io;
 use std::io::Read;
 
-/// Moves the first of the remaining bytes into a buffer, and returns the number of bytes moved: 0 if there is none, or no
-/// room.
-pub fn take_byte(left: &mut &[u8], buf: &mut [u8]) -> usize {
+/// Moves the first of the remaining bytes into a buffer, and returns the number of bytes moved: 0 if there is none, or
+/// no room.
+pub fn take_byte(left: &mut &[u8], buf: &mut [u8]) -> usize
+    ensures { result ≤ length buf.new }
+{
     match (left.split_first(), buf.first_mut()) {
         (Some((first, rest)), Some(slot)) => {
             *slot = *first;

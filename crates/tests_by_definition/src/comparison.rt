@@ -365,7 +365,7 @@ fn make_edit<K: Kind>(
     })
 }
 
-// Adds a word to the exceptions or removes it. Fails unless the word then has the breaks of the reference.
+// Makes an edit of this word. Fails unless the word then has the breaks of the reference.
 fn edit_and_compare<K: Kind>(
     alloc: Global,
     random: &mut Random,
@@ -389,7 +389,33 @@ fn load<K: Kind>(
     Ok(K::any_from_reader(alloc, &mut reader)?)
 }
 
-// Fails unless five words by a random dictionary have the scores and breaks of its reference, the fifth after an edit.
+// Adds a word to the exceptions or removes it. Fails unless the word then has the breaks of the reference.
+fn compare_after_edit<K: Kind>(
+    alloc: Global,
+    random: &mut Random,
+    dictionary: &mut K,
+    reference: &mut ReferenceDictionary,
+) -> Result<Edit, Fail> {
+    let word = random.word_near(alloc, reference)?;
+    edit_and_compare(alloc, random, dictionary, reference, &word)
+}
+
+// Fails unless five words have the scores and breaks of the reference, the fifth after an edit.
+fn compare_words<K: Kind>(
+    alloc: Global,
+    random: &mut Random,
+    dictionary: &mut K,
+    reference: &mut ReferenceDictionary,
+    compared: &mut Compared,
+) -> Result<(), Fail> {
+    expect_words_agree(alloc, random, dictionary, reference)?;
+    let edit = compare_after_edit(alloc, random, dictionary, reference)?;
+    compared.note_words(5);
+    compared.note_edit(&edit);
+    Ok(())
+}
+
+// Compares words by a random dictionary. Its owned values live here alone, where there are few ways out.
 fn compare_dictionary<K: Kind>(
     alloc: Global,
     random: &mut Random,
@@ -397,12 +423,7 @@ fn compare_dictionary<K: Kind>(
 ) -> Result<(), Fail> {
     let mut reference = random.dictionary(alloc, K::has_changes())?;
     let mut dictionary = load::<K>(alloc, &reference, compared)?;
-    expect_words_agree(alloc, random, &dictionary, &reference)?;
-    let word = random.word_near(alloc, &reference)?;
-    let edit = edit_and_compare(alloc, random, &mut dictionary, &mut reference, &word)?;
-    compared.note_words(5);
-    compared.note_edit(&edit);
-    Ok(())
+    compare_words(alloc, random, &mut dictionary, &mut reference, compared)
 }
 
 // Compares this many random dictionaries.
@@ -457,29 +478,40 @@ fn edit_long_word<K: Kind>(
     Ok(())
 }
 
-// Compares words of 62 to 67 bytes by a random dictionary, those of 64 and 65 bytes also after an edit. Words of more
-// than 64 bytes take another path than shorter ones.
+// Compares words of 62 to 67 bytes, those of 64 and 65 bytes also after an edit. Words of more than 64 bytes take another
+// path than shorter ones.
 fn compare_long_words<K: Kind>(
+    alloc: Global,
+    random: &mut Random,
+    dictionary: &mut K,
+    reference: &mut ReferenceDictionary,
+    compared: &mut Compared,
+) -> Result<(), Fail> {
+    for bytes in 62..=67 {
+        let is_broken = compare_long_word(alloc, random, dictionary, reference, bytes)?;
+        compared.note_long_word(is_broken);
+    }
+    edit_long_word(alloc, random, dictionary, reference, 64)?;
+    edit_long_word(alloc, random, dictionary, reference, 65)
+}
+
+// Compares long words by a random dictionary.
+fn compare_long_dictionary<K: Kind>(
     alloc: Global,
     random: &mut Random,
     compared: &mut Compared,
 ) -> Result<(), Fail> {
     let mut reference = random.dictionary(alloc, K::has_changes())?;
     let mut dictionary = load::<K>(alloc, &reference, compared)?;
-    for bytes in 62..=67 {
-        let is_broken = compare_long_word(alloc, random, &dictionary, &reference, bytes)?;
-        compared.note_long_word(is_broken);
-    }
-    edit_long_word(alloc, random, &mut dictionary, &mut reference, 64)?;
-    edit_long_word(alloc, random, &mut dictionary, &mut reference, 65)
+    compare_long_words(alloc, random, &mut dictionary, &mut reference, compared)
 }
 
 // Compares long words by this many random dictionaries. Fails if few of the words are broken.
-fn compare_long_words_often<K: Kind>(alloc: Global, seed: u64, count: u32) -> Result<(), Fail> {
+fn compare_long_dictionaries<K: Kind>(alloc: Global, seed: u64, count: u32) -> Result<(), Fail> {
     let mut random = Random(seed);
     let mut compared = NOTHING_COMPARED;
     for _ in 0..count {
-        compare_long_words::<K>(alloc, &mut random, &mut compared)?;
+        compare_long_dictionary::<K>(alloc, &mut random, &mut compared)?;
     }
     let is_enough = compared.long_words == count.saturating_mul(6) && compared.long_broken > count;
     expect(is_enough, "enough words are broken")
@@ -487,6 +519,6 @@ fn compare_long_words_often<K: Kind>(alloc: Global, seed: u64, count: u32) -> Re
 
 #[test]
 fn long_words_are_broken_as_by_the_reference(rt: HostRuntime) -> Result<(), Fail> {
-    compare_long_words_often::<Standard>(rt.alloc(), 3, 8)?;
-    compare_long_words_often::<Extended>(rt.alloc(), 4, 8)
+    compare_long_dictionaries::<Standard>(rt.alloc(), 3, 8)?;
+    compare_long_dictionaries::<Extended>(rt.alloc(), 4, 8)
 }

@@ -334,20 +334,29 @@ fn each_segment_leaves_one_less(rt: HostRuntime) -> Result<(), Fail> {
 // The size hints of a word's segments, before the first one and after each.
 fn size_hints_of_word(alloc: Global, text: &str, breaks: &[usize]) -> Result<String, Fail> {
     let word = word_of(alloc, text, breaks)?;
-    Ok(size_hints(alloc, word.iter().segments(), breaks.len())?)
+    let calls = breaks.len().saturating_add(2);
+    Ok(size_hints(alloc, &mut word.iter().segments(), calls)?)
 }
 
-// The size hints of segments, before the first one and after each of `breaks + 1`.
+fn push_size_hint(
+    output: &mut String,
+    alloc: Global,
+    hint: (usize, Option<usize>),
+) -> Result<(), AllocError> {
+    let hint = format!(in alloc; "{hint:?} ")?;
+    output.push_str(&hint)
+}
+
+// The size hints of segments, before each of this many calls.
 fn size_hints<B: Breaks<Item = usize>>(
     alloc: Global,
-    mut segments: Segments<'_, B>,
-    breaks: usize,
+    segments: &mut Segments<'_, B>,
+    calls: usize,
 ) -> Result<String, AllocError> {
-    let mut output = format!(in alloc; "{:?} ", segments.size_hint())?;
-    for _ in 0..=breaks {
+    let mut output = String::new(alloc);
+    for _ in 0..calls {
+        push_size_hint(&mut output, alloc, segments.size_hint())?;
         let _segment = segments.next();
-        let hint = format!(in alloc; "{:?} ", segments.size_hint())?;
-        output.push_str(&hint)?;
     }
     Ok(output)
 }

@@ -8,8 +8,8 @@ use std::alloc::Global;
 use std::test::Fail;
 use test_support::{expect_equal_bytes, expect_equal_in};
 
-// The name of each charset in a file, and the characters of its bytes from 128 on by `iconv` of glibc 2.36; NUL where a
-// byte has none.
+// The name of each charset in a file, and the characters of its bytes from 128 on, by `iconv` of glibc 2.36. A byte
+// without a character has NUL.
 const UPPER_HALVES: [(&str, &str); 12] = [
     (
         "ISO8859-1",

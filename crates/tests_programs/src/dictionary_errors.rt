@@ -14,13 +14,13 @@ use test_support::files::new_file;
 type Ending = (u8, &'static str, &'static str);
 
 // Whether the program has this ending over the dictionary of this path.
-fn has_ending(result: &ProgramResult, path: &str, wanted: Ending) -> bool {
+fn has_ending(run: &ProgramResult, path: &str, wanted: Ending) -> bool {
     let (status, output, message) = wanted;
-    let has_message = match result.message_after(path) {
+    let has_message = match run.message_after(path) {
         Some(found) => found == message.as_bytes(),
-        None => message.is_empty() && result.messages.is_empty(),
+        None => message.is_empty() && run.messages.is_empty(),
     };
-    result.status == status && result.output.as_slice() == output.as_bytes() && has_message
+    run.status == status && run.output.as_slice() == output.as_bytes() && has_message
 }
 
 // Writes these bytes into the file of this path. Fails unless the score of `ab` by them has this ending.

@@ -4,7 +4,7 @@ use hyphenation_score::LookUps;
 use std::alloc::Global;
 use std::test::Fail;
 use test_dictionaries::extended;
-use test_questions::look_ups::look_ups;
+use test_questions::look_ups::count_look_ups;
 use test_questions::{Question, ask};
 use test_support::{expect, expect_equal, expect_text};
 
@@ -56,7 +56,7 @@ fn a_key_that_ends_last_wins_where_it_starts_first(rt: HostRuntime) -> Result<()
 
 // The counts of scoring a word by an extended dictionary with these lines.
 fn look_ups_of(alloc: Global, lines: &str, word: &str) -> Result<LookUps, Fail> {
-    Ok(look_ups(alloc, &extended(alloc, "1 1", lines)?, word)?)
+    Ok(count_look_ups(alloc, &extended(alloc, "1 1", lines)?, word)?)
 }
 
 #[test]

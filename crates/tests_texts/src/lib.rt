@@ -1,5 +1,5 @@
-//! Tests of the texts of dictionaries: texts that are refused, with line and cause, texts that are accepted, the
-//! message of each refusal, and loading from readers that fail. No clause says what they show.
+//! Tests of the texts of dictionaries: refusals with their line, cause and message, accepted texts, and loading from
+//! readers that fail. No clause says what they show.
 #![tactic(auto)]
 
 #[cfg(test)]

@@ -2,7 +2,8 @@
 
 use hyphenation_dictionary::dictionary::Standard;
 use hyphenation_hyphenator::hyphenator::Hyphenator;
-use hyphenation_segments::iter::Iter;
+use hyphenation_segments::Word;
+use hyphenation_segments::iter::{Breaks, Hyphenating, Iter, Segments, Texts};
 use std::alloc::{AllocError, Global};
 use std::test::Fail;
 use test_dictionaries::{FIRKIN, dictionary};
@@ -88,12 +89,17 @@ fn marks_stand_at_the_breaks(rt: HostRuntime) -> Result<(), Fail> {
     expect_text(marked_words(rt.alloc(), words), broken)
 }
 
+fn push_items<I: Texts>(output: &mut String, items: Hyphenating<'_, I>) -> Result<(), AllocError> {
+    for item in items {
+        output.push_str(item?.as_str())?;
+    }
+    Ok(())
+}
+
 // The joined items of a word, whose first mark is `-`.
 fn joined_items(alloc: Global, dictionary: &Standard, word: &str) -> Result<String, AllocError> {
     let mut joined = String::new(alloc);
-    for item in dictionary.hyphenate(alloc, word)? {
-        joined.push_str(item?.as_str())?;
-    }
+    push_items(&mut joined, dictionary.hyphenate(alloc, word)?.into_iter())?;
     Ok(joined)
 }
 
@@ -106,15 +112,27 @@ fn the_first_mark_is_a_hyphen(rt: HostRuntime) -> Result<(), Fail> {
     )
 }
 
+fn push_segments<B: Breaks<Item = usize>>(
+    output: &mut String,
+    segments: Segments<'_, B>,
+) -> Result<(), AllocError> {
+    for segment in segments {
+        output.push_str(segment)?;
+    }
+    Ok(())
+}
+
+fn joined_segments(alloc: Global, word: &Word<'_, usize>) -> Result<String, AllocError> {
+    let mut joined = String::new(alloc);
+    push_segments(&mut joined, word.iter().segments())?;
+    Ok(joined)
+}
+
 // Whether the segments of a word join to it, and are one more than its breaks.
 fn segments_join(alloc: Global, dictionary: &Standard, word: &str) -> Result<bool, AllocError> {
     let found = dictionary.hyphenate(alloc, word)?;
-    let mut joined = String::new(alloc);
-    for segment in found.iter().segments() {
-        joined.push_str(segment)?;
-    }
     let number = found.breaks.len().saturating_add(1);
-    Ok(joined.as_str() == word && found.iter().len() == number)
+    Ok(joined_segments(alloc, &found)?.as_str() == word && found.iter().len() == number)
 }
 
 #[test]
@@ -126,16 +144,27 @@ fn the_segments_of_a_word_join_to_it(rt: HostRuntime) -> Result<(), Fail> {
     Ok(())
 }
 
+// Writes the size hints of segments, before each of this many calls.
+fn push_size_hints<B: Breaks<Item = usize>>(
+    hints: &mut String,
+    alloc: Global,
+    segments: &mut Segments<'_, B>,
+    calls: usize,
+) -> Result<(), AllocError> {
+    for _ in 0..calls {
+        push_size_hint(hints, alloc, segments.size_hint())?;
+        let _segment = segments.next();
+    }
+    Ok(())
+}
+
 // The size hints of a word's segments, before the first one and after each.
 fn size_hints(alloc: Global, dictionary: &Standard, word: &str) -> Result<String, AllocError> {
     let found = dictionary.hyphenate(alloc, word)?;
     let mut segments = found.iter().segments();
     let mut hints = String::new(alloc);
-    for _ in 0..=found.breaks.len() {
-        push_size_hint(&mut hints, alloc, segments.size_hint())?;
-        let _segment = segments.next();
-    }
-    push_size_hint(&mut hints, alloc, segments.size_hint())?;
+    let calls = found.breaks.len().saturating_add(2);
+    push_size_hints(&mut hints, alloc, &mut segments, calls)?;
     Ok(hints)
 }
 
