@@ -1,12 +1,12 @@
 use Rattle.std.proofs.Common.{arith}
 use Rattle.std.proofs.lemmas.Grind.{common_steps}
-use Rattle.hyphenation_trie.proofs.rows.place_of.Goals as goal
+use Rattle.hyphenation_trie.proofs.rows.find_place.Goals as goal
 
-pub span-least-requires-clause-children : goal.span-least-requires-clause-children
-span-least-requires-clause-children c = grind (arith, common_steps)
+pub byte_span-least-requires-clause-children : goal.byte_span-least-requires-clause-children
+byte_span-least-requires-clause-children c = grind (arith, common_steps)
 
-pub span-least-requires-clause-node : goal.span-least-requires-clause-node
-span-least-requires-clause-node c = grind (arith, common_steps)
+pub byte_span-least-requires-clause-node : goal.byte_span-least-requires-clause-node
+byte_span-least-requires-clause-node c = grind (arith, common_steps)
 
 pub first_fit-requires-clause-children : goal.first_fit-requires-clause-children
 first_fit-requires-clause-children c = grind (arith, common_steps)

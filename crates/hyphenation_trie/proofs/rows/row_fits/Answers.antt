@@ -1,7 +1,7 @@
 use Rattle.hyphenation_trie.proofs.ChainsGrow.{last_read}
 use Rattle.std.proofs.Common.{arith}
 use Rattle.std.proofs.lemmas.Grind.{common_steps}
-use Rattle.hyphenation_trie.proofs.rows.fits.Goals as goal
+use Rattle.hyphenation_trie.proofs.rows.row_fits.Goals as goal
 
 pub index-child-requires : goal.index-child-requires
 index-child-requires c = grind (arith, common_steps)

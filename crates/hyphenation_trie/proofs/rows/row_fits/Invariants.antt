@@ -1,6 +1,6 @@
 use Rattle.std.proofs.Common.{◌≡◌, ◌≢◌, ℕ, ◌+◌, ◌<◌, length, slice_index, None}
 use Rattle.hyphenation_trie.specs.Private.Rows.{child_in}
-use Rattle.hyphenation_trie.proofs.rows.fits.Given as goal
+use Rattle.hyphenation_trie.proofs.rows.row_fits.Given as goal
 
 abbrev pub invariant-loop-child : goal.invariant-loop-child
 invariant-loop-child l = record {
