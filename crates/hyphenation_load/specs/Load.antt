@@ -1,74 +1,81 @@
--- What loading a dictionary from bytes answers.
-use Rattle.std.specs.Prelude.{◌≡◌, ◌≢◌, ℕ, List, Option, None, Some, Result, Ok, Err, IfSome, MatchResult}
+-- What loading a dictionary returns, and how writing one fails.
+use Rattle.std.specs.Prelude.{◌≡◌, ◌≢◌, ℕ, List, [], Option, None, Some, Result, Ok, Err, IfSome, MatchResult, slice_index_or, unwrap_or, ⊤}
+use Rattle.std.specs.Io.KnownBytes.{Appends}
 use Rattle.std.specs.IoError.{error_kind}
 use Rattle.std.specs.declared.io.ErrorKind.TheVariants.{OutOfMemory}
+use Rattle.hyphenation_grammar.specs.Judging.{refusal_of}
+use Rattle.hyphenation_grammar.specs.Lines.{lines_of, language_of}
 use Rattle.hyphenation_grammar.specs.declared.Cause.{Cause}
 use Rattle.hyphenation_grammar.specs.declared.Error.{Error}
 use Rattle.hyphenation_grammar.specs.declared.Error.TheVariants.{Deserialization, IO, LanguageMismatch, Memory}
+use Rattle.hyphenation_grammar.specs.declared.form.Kind.{Kind}
 
--- What an error says of the bytes of a dictionary: of a fault of the text, that it is refused so; of a fault of the
--- reading and of another language what is handed in; of want of memory nothing.
-abbrev pub Tells : Option (ℕ × Cause) → Type 0 → (List ℕ → List ℕ → Type 0) → Error → Type 0
-Tells refused reading other (Deserialization line cause) = refused ≡ Some (line, cause)
-Tells refused reading other (IO e) = reading
-Tells refused reading other (LanguageMismatch expected found) = other expected found
-Tells refused reading other (Memory e) = Unit {0}
+-- The judgement on the text of a dictionary: its first faulty line with the cause, if one is faulty, and its language.
+pub record Judgement : Type 0 where
+  pub refusal : Option (ℕ × Cause)
+  pub language : List ℕ
 
--- Of bytes: the dictionary that the text gives, exactly where it is accepted; its refusal, exactly where it is
--- refused; or want of memory. A fault of the reading means what is said first; and no language was asked for.
-abbrev pub Reads : {D : Type 0} → Type 0 → (List ℕ → Option (ℕ × Cause)) → (List ℕ → D → Type 0) → List ℕ
+-- The judgement on a text of that kind. Its line 2 names the language; an empty one stands for none.
+abbrev pub judgement_of : Kind → List ℕ → Judgement
+judgement_of kind bytes = record {
+  refusal = refusal_of kind bytes;
+  language = unwrap_or (language_of (slice_index_or (lines_of bytes) 1 [])) [];
+}
+
+-- The text is accepted, and of the asked language if one is asked for.
+abbrev pub IsAccepted : Judgement → Option (List ℕ) → Type 0
+IsAccepted judged asked = (judged.refusal ≡ None) × IfSome asked (λ code. judged.language ≡ code)
+
+-- The error is the one that the text gives: its first faulty line with the cause; or, if it is accepted and of another
+-- language than the asked one, both codes. Errors of memory and I/O say nothing of the text.
+abbrev pub IsLoadError : Judgement → Option (List ℕ) → Error → Type 0
+IsLoadError judged asked (Deserialization line cause) = judged.refusal ≡ Some (line, cause)
+IsLoadError judged asked (LanguageMismatch expected found) =
+    (judged.refusal ≡ None) × (asked ≡ Some expected) × (judged.language ≡ found) × (found ≢ expected)
+IsLoadError judged asked (IO e) = ⊤
+IsLoadError judged asked (Memory e) = ⊤
+
+-- Loading a text returns its dictionary exactly where it is accepted and of the asked language, else such an error.
+abbrev pub Loads : {D : Type 0} → Judgement → Option (List ℕ) → D → Result D Error → Type 0
+Loads judged asked contents result =
+    MatchResult result (λ dictionary. IsAccepted judged asked × (dictionary ≡ contents)) (IsLoadError judged asked)
+
+-- Loading a path fails by I/O or for memory, or returns what the bytes of some file give, if they are known.
+abbrev pub LoadsSomeFile : {F D : Type 0} → (F → Option (List ℕ)) → (List ℕ → Judgement) → List ℕ → (List ℕ → D)
     → Result D Error → Type 0
-Reads reading refusal is_given bytes result =
-    MatchResult result (λ dictionary. (refusal bytes ≡ None) × is_given bytes dictionary)
-    (Tells (refusal bytes) reading (λ _ _. ⊥))
+LoadsSomeFile remaining judged asked contents (Err (IO e)) = ⊤
+LoadsSomeFile remaining judged asked contents (Err (Memory e)) = ⊤
+LoadsSomeFile {F} remaining judged asked contents result =
+    (file : F) × IfSome (remaining file) (λ bytes. Loads (judged bytes) (Some asked) (contents bytes) result)
 
--- What an error says where a language was asked for: another one, that the text is accepted and of that language, and
--- both codes, which differ; a fault of the reading and want of memory say nothing of the bytes.
-abbrev pub TellsIn : (List ℕ → Option (ℕ × Cause)) → (List ℕ → List ℕ) → List ℕ → List ℕ → Error → Type 0
-TellsIn refusal language asked bytes =
-    Tells (refusal bytes) (Unit {0})
-    (λ expected found. (refusal bytes ≡ None) × (language bytes ≡ found) × (expected ≡ asked) × (found ≢ asked))
+-- Whatever was read, a dictionary is of the asked language, and a mismatch names that language and another one. If no
+-- language is asked for, there is no mismatch.
+abbrev pub RespectsLanguage : {D : Type 0} → (D → List ℕ) → Option (List ℕ) → Result D Error → Type 0
+RespectsLanguage language asked (Ok dictionary) = IfSome asked (λ code. language dictionary ≡ code)
+RespectsLanguage language asked (Err (LanguageMismatch expected found)) = (asked ≡ Some expected) × (found ≢ expected)
+RespectsLanguage language asked (Err _) = ⊤
 
--- Of bytes: the dictionary that the text gives, exactly where it is accepted and of the asked language; else an error.
-abbrev pub ReadsIn : {D : Type 0} → (List ℕ → Option (ℕ × Cause)) → (List ℕ → D → Type 0) → (List ℕ → List ℕ) → List ℕ
-    → List ℕ → Result D Error → Type 0
-ReadsIn refusal is_given language asked bytes result =
-    MatchResult result
-    (λ dictionary. (refusal bytes ≡ None) × is_given bytes dictionary × (language bytes ≡ asked))
-    (TellsIn refusal language asked bytes)
+-- The result is no I/O error.
+abbrev pub IsNotIo : {D : Type 0} → Result D Error → Type 0
+IsNotIo (Err (IO e)) = ⊥
+IsNotIo _ = ⊤
 
--- Of a path: a fault of opening or reading, or want of memory; else what is said of the bytes of some file, where it is
--- known what bytes that has.
-abbrev pub FromFile : {F D : Type 0} → (F → Option (List ℕ)) → (List ℕ → Option (ℕ × Cause)) → (List ℕ → D → Type 0)
-    → (List ℕ → List ℕ) → List ℕ → Result D Error → Type 0
-FromFile remaining refusal is_given language asked (Err (IO e)) = Unit {0}
-FromFile remaining refusal is_given language asked (Err (Memory e)) = Unit {0}
-FromFile {F} remaining refusal is_given language asked result =
-    (file : F) × IfSome (remaining file) (λ bytes. ReadsIn refusal is_given language asked bytes result)
+-- An I/O error is never of the kind OutOfMemory.
+abbrev pub IsNotOutOfMemory : Error → Type 0
+IsNotOutOfMemory (IO e) = error_kind e ≢ OutOfMemory
+IsNotOutOfMemory _ = ⊤
 
--- Whatever was read: a dictionary is of the asked language; where another one was found, both codes are told.
-abbrev pub InLanguage : {D : Type 0} → (D → List ℕ) → List ℕ → Result D Error → Type 0
-InLanguage language asked (Ok dictionary) = language dictionary ≡ asked
-InLanguage language asked (Err (LanguageMismatch expected found)) = (expected ≡ asked) × (found ≢ asked)
-InLanguage language asked (Err _) = Unit {0}
+-- A text was appended to the contents of a writer, if these are known.
+abbrev pub AppendsTo : {W : Type 0} → (W → Option (List ℕ)) → W → W → List ℕ → Type 0
+AppendsTo contents old new text = Appends (contents old) (contents new) text
 
--- No language was asked for, so none is missed.
-abbrev pub AsksNone : {D : Type 0} → Result D Error → Type 0
-AsksNone (Err (LanguageMismatch expected found)) = ⊥
-AsksNone _ = Unit {0}
-
--- A fault of the reading is none that counts as want of memory.
-abbrev pub IsNoWant : Error → Type 0
-IsNoWant (IO e) = error_kind e ≢ OutOfMemory
-IsNoWant _ = Unit {0}
-
--- Where memory was refused, this holds.
+-- If memory was refused, this holds.
 abbrev pub IfMemory : {X : Type 0} → Result X Error → Type 0 → Type 0
 IfMemory (Err (Memory e)) P = P
-IfMemory _ P = Unit {0}
+IfMemory _ P = ⊤
 
--- Writing fails for want of memory, or by a fault of the writer.
-abbrev pub IsOfWriting : Error → Type 0
-IsOfWriting (IO e) = Unit {0}
-IsOfWriting (Memory e) = Unit {0}
-IsOfWriting _ = ⊥
+-- Writing fails by I/O, or because memory was refused.
+abbrev pub IsWriteError : Error → Type 0
+IsWriteError (IO e) = ⊤
+IsWriteError (Memory e) = ⊤
+IsWriteError _ = ⊥

@@ -1,12 +1,12 @@
-//! The messages of all faults and notes.
+//! The messages of all errors and notes.
 
 use pattern_files::errors::FileCause;
 use pattern_files::notes::NoteKind;
 use std::fmt::Display;
 use std::test::Fail;
-use test_support::same_in;
+use test_support::expect_equal_in;
 
-const FAULTS: [(FileCause, &str); 12] = [
+const ERRORS: [(FileCause, &str); 12] = [
     (
         FileCause::Command,
         "a TeX command or group within patterns or exceptions",
@@ -126,16 +126,16 @@ const NOTES: [(NoteKind, &str); 21] = [
     ),
 ];
 
-/// Fails where something is told by another text.
-fn tells<T: Display>(rt: &HostRuntime, told: &T, wanted: &str) -> Result<(), Fail> {
-    let text = format!(in rt.alloc(); "{told}")?;
-    same_in(wanted, &text.as_str(), &wanted)
+// Fails unless a value is displayed as this text.
+fn expect_message<T: Display>(rt: &HostRuntime, value: &T, wanted: &str) -> Result<(), Fail> {
+    let text = format!(in rt.alloc(); "{value}")?;
+    expect_equal_in(wanted, &text.as_str(), &wanted)
 }
 
 #[test]
-fn each_fault_has_its_message(rt: HostRuntime) -> Result<(), Fail> {
-    for (cause, wanted) in FAULTS {
-        tells(&rt, &cause, wanted)?;
+fn each_error_has_its_message(rt: HostRuntime) -> Result<(), Fail> {
+    for (cause, wanted) in ERRORS {
+        expect_message(&rt, &cause, wanted)?;
     }
     Ok(())
 }
@@ -143,7 +143,7 @@ fn each_fault_has_its_message(rt: HostRuntime) -> Result<(), Fail> {
 #[test]
 fn each_note_has_its_message(rt: HostRuntime) -> Result<(), Fail> {
     for (what, wanted) in NOTES {
-        tells(&rt, &what, wanted)?;
+        expect_message(&rt, &what, wanted)?;
     }
     Ok(())
 }

@@ -7,13 +7,13 @@ use Rattle.tex_files.proofs.spelling.read_breaks.Goals as goal
 
 pub returns-then-not-fits-clause-first_failed_test : goal.returns-then-not-fits-clause-first_failed_test
 returns-then-not-fits-clause-first_failed_test g c =
-    bad_breaks g.B.Break.meaning g.B.Listing.listing_of c.args.text.now c.deref.result.now c.deref-in-Some.result.now c.fits.result (λ place. either (g.met.B.Listing.kept (plain_break place)))
+    bad_breaks g.B.Break.meaning g.B.Listing.listing_of c.args.text.now c.deref.result.now c.deref-in-Some.result.now c.fits.result (λ place. either (g.met.B.Listing.listed_or_plain (plain_break place)))
     (c.deref.ensures ∙ c.in-Some.ensures.same_bytes ∙ c.in_ok-word.ensures.letters) (c.deref-in-Some.ensures.value ∙ c.in_ok-word.ensures.breaks)
     (sym (ap is_utf8 c.in_ok-word.ensures.letters) ∙ c.in-Some.ensures.utf8) c.fits.ensures c.if-not-fits.true
 
 pub returns-else-not-fits-clause-passes_tests : goal.returns-else-not-fits-clause-passes_tests
 returns-else-not-fits-clause-passes_tests g c =
-    good_breaks g.B.Break.meaning g.B.Listing.listing_of c.args.text.now c.deref.result.now c.deref-in-Some.result.now c.fits.result (λ place. either (g.met.B.Listing.kept (plain_break place)))
+    good_breaks g.B.Break.meaning g.B.Listing.listing_of c.args.text.now c.deref.result.now c.deref-in-Some.result.now c.fits.result (λ place. either (g.met.B.Listing.listed_or_plain (plain_break place)))
     (c.deref.ensures ∙ c.in-Some.ensures.same_bytes ∙ c.in_ok-word.ensures.letters) (c.deref-in-Some.ensures.value ∙ c.in_ok-word.ensures.breaks)
     (sym (ap is_utf8 c.in_ok-word.ensures.letters) ∙ c.in-Some.ensures.utf8) c.fits.ensures c.if-not-fits.false
 

@@ -7,14 +7,14 @@ use Rattle.tex_files.proofs.spelling.read_letters.Goals as goal
 
 pub returns-then-not-fits_key-clause-first_failed_test : goal.returns-then-not-fits_key-clause-first_failed_test
 returns-then-not-fits_key-clause-first_failed_test g c =
-    bad_entries g.C.Payload.change_of g.C.Payload.payload_of c.args.text.now c.deref-in-Some.result.now c.deref-in-Some-2.result.now c.fits_key.result (either (g.met.C.Payload.kept None))
+    bad_entries g.C.Payload.change_of g.C.Payload.payload_of c.args.text.now c.deref-in-Some.result.now c.deref-in-Some-2.result.now c.fits_key.result (either (g.met.C.Payload.carried_or_none None))
     (c.deref-in-Some.ensures ∙ c.in-Some.ensures.same_bytes ∙ c.in_ok-key.ensures.letters) (c.deref-in-Some-2.ensures.value ∙ c.in_ok-key.ensures.entries)
     (sym (ap has_letter (c.deref.ensures.value ∙ c.in_ok-key.ensures.letters)) ∙ sym c.has_letter.ensures ∙ c.if-not-has_letter.false) (sym (ap is_utf8 c.in_ok-key.ensures.letters) ∙ c.in-Some.ensures.utf8)
     c.fits_key.ensures c.if-not-fits_key.true
 
 pub returns-else-not-fits_key-clause-passes_tests : goal.returns-else-not-fits_key-clause-passes_tests
 returns-else-not-fits_key-clause-passes_tests g c =
-    good_entries g.C.Payload.change_of g.C.Payload.payload_of c.args.text.now c.deref-in-Some.result.now c.deref-in-Some-2.result.now c.fits_key.result (either (g.met.C.Payload.kept None))
+    good_entries g.C.Payload.change_of g.C.Payload.payload_of c.args.text.now c.deref-in-Some.result.now c.deref-in-Some-2.result.now c.fits_key.result (either (g.met.C.Payload.carried_or_none None))
     (c.deref-in-Some.ensures ∙ c.in-Some.ensures.same_bytes ∙ c.in_ok-key.ensures.letters) (c.deref-in-Some-2.ensures.value ∙ c.in_ok-key.ensures.entries)
     (sym (ap has_letter (c.deref.ensures.value ∙ c.in_ok-key.ensures.letters)) ∙ sym c.has_letter.ensures ∙ c.if-not-has_letter.false) (sym (ap is_utf8 c.in_ok-key.ensures.letters) ∙ c.in-Some.ensures.utf8)
     c.fits_key.ensures c.if-not-fits_key.false
