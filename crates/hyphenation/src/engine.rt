@@ -95,7 +95,8 @@ fn values_of<K: RunDictionary, D: Read>(
     word: &str,
     reader: &mut D,
 ) -> Result<Vec<u8>, RunError>
-    ensures dictionary { IfSome (D.remaining reader.old) (λ bytes. JudgesBytes (K.judged bytes) lang result) }
+    ensures dictionary { IfSome (D.remaining reader.old) (λ bytes.
+        JudgesBytes (K.refusal bytes) lang (K.language (K.contents bytes)) result) }
     ensures values { IfOk result (λ found.
         IfSome (D.remaining reader.old) (λ bytes. found.items ≡ K.values_of (K.contents bytes) word.now)) }
     ensures dictionary_error { IfErr result IsDictionaryError }
@@ -181,12 +182,11 @@ fn text_by<D: Read, I: Read>(
     }
 }
 
-/// Loads a dictionary of that kind and language, edits its exceptions, and writes the text of the input with the mark
-/// at each break of its words.
+/// Writes the text of an input with the mark at each break of its words, by a dictionary of that kind and language.
 ///
-/// The steps come in this order. The dictionary is loaded. The edits are judged and done, from first to last. The
-/// input is read to its end, and must be UTF-8. The result is written, once all of it is made. The first step that
-/// fails gives the error; [`RunError`] has one for each. Words are what stands between word bounds.
+/// The steps come in this order. The dictionary is loaded. The edits of its exceptions are judged and done, from first
+/// to last. The input is read to its end, and must be UTF-8. The result is written, once all of it is made. The first
+/// step that fails gives the error; [`RunError`] has one for each. A word is a piece of the text between word bounds.
 ///
 /// ```text
 /// let mut dictionary = &b"hyphenation 1 standard\nlanguage en-us\nminima 2 3\ne hyphenation 2 6 7\n"[..];
