@@ -1,7 +1,7 @@
 //! Discretionary breaks, as a typesetter sets them: the letters of a word may change at a break.
 
 ghost use Rattle.std.specs.Prelude.{◌≡◌, IfOk, map};
-ghost use Rattle.hyphenation_segments.specs.Fits.{Stands};
+ghost use Rattle.hyphenation_segments.specs.Fits.{BreakFitsAfter};
 ghost use Rattle.callers.specs.Discretionaries.{parts_at, parts_of};
 
 use hyphenation::hyphenator::{Break, Word};
@@ -24,7 +24,7 @@ fn set_at<'t, B: Break>(
     b: &B,
     hyphen: &str,
 ) -> Result<Discretionary<'t>, AllocError>
-    requires { Stands text.now 0 0 (B.meaning b.now) }
+    requires { BreakFitsAfter text.now 0 0 (B.meaning b.now) }
     ensures { IfOk result (λ set. parts_of set ≡ parts_at hyphen.now text.now (B.meaning b.now)) }
 {
     let (begin, end) = b.range().unwrap();

@@ -3,8 +3,8 @@ use Rattle.std.proofs.Common.{◌≡◌, refl, sym, subst, ℕ, List}
 use Rattle.std.specs.Prelude.{Option, Some, None, IfSome}
 use Rattle.hyphenation_breaks.specs.Break.{Change}
 use Rattle.hyphenation_breaks.specs.Dictionary.{Contents}
-use Rattle.pattern_files.specs.LibreOfficeLines.{minimum_of}
-use Rattle.pattern_files.specs.LibreOffice.{contents_of_dic}
+use Rattle.libreoffice_files.specs.LibreOfficeLines.{minimum_of}
+use Rattle.libreoffice_files.specs.LibreOffice.{contents_of_dic}
 use Rattle.convert_command.specs.Written.{IsFor}
 
 -- A minimum that is given counts, whatever the file says.

@@ -19,11 +19,11 @@ use hyphenation_breaks::extended::Subregion;
 use hyphenation_grammar::form::Kind;
 use hyphenation_load::{Error, Load, is_out_of_memory};
 use pattern_files::convert::{Converted, convert_with_notes};
-use pattern_files::fault::Refusal;
+use pattern_files::errors::ConvertError;
 use pattern_files::group::{File, Form};
+use pattern_files::head_minima::minima_for;
 use pattern_files::libreoffice::convert_dic;
 use pattern_files::notes::Note;
-use pattern_files::told::minima_for;
 use request::{BadArgs, Input, Request, form_of};
 use std::alloc::{AllocError, Global};
 use std::fs::Files;
@@ -46,7 +46,7 @@ enum Failure {
     // The file of this number, counted from 0, can't be opened or read.
     Reading(usize, io::Error),
     // A file is refused: a fault in it, or memory.
-    Refused(Refusal),
+    Refused(ConvertError),
     // A minimum is not given, and no file says it.
     Minima,
     // The result can't be written.
@@ -66,13 +66,13 @@ impl From<AllocError> for Failure {
     }
 }
 
-impl From<Refusal> for Failure {
+impl From<ConvertError> for Failure {
     ghost use Rattle.std.specs.Prelude.{◌≡◌};
     ghost use Rattle.convert_command.specs.declared.Failure.TheVariants.{Refused};
 
     ghost from_gives = { λ refusal result. result ≡ Refused refusal };
 
-    fn from(refusal: Refusal) -> Failure {
+    fn from(refusal: ConvertError) -> Failure {
         Failure::Refused(refusal)
     }
 }
@@ -225,11 +225,12 @@ fn report_notes<E: Write>(alloc: Global, paths: &[&str], notes: &[Note], errors:
     for note in notes {
         let path = paths.get(note.first.file).copied().unwrap_or("");
         let line = note.first.line;
-        let what = note.what;
+        let kind = note.kind;
         let times = note.times;
         write_message(
             alloc,
-            &format_args!("hyphenate-convert: {path}:{line}: note: {what} ({times})\n"),
+            &format_args!("hyphenate-convert: {path}:{line}: note: {kind} ({times})
+"),
             errors,
         );
     }
@@ -260,7 +261,7 @@ fn report<E: Write>(alloc: Global, paths: &[&str], failure: &Failure, errors: &m
             );
             3
         }
-        Failure::Refused(Refusal::Fault { file, line, cause }) => {
+        Failure::Refused(ConvertError::Fault { file, line, cause }) => {
             let path = paths.get(*file).copied().unwrap_or("");
             write_message(
                 alloc,
@@ -279,7 +280,7 @@ fn report<E: Write>(alloc: Global, paths: &[&str], failure: &Failure, errors: &m
             let _ = errors.write_all(b"hyphenate-convert: the result can't be written\n");
             5
         }
-        Failure::Refused(Refusal::Memory) => report_memory(errors),
+        Failure::Refused(ConvertError::Memory) => report_memory(errors),
         Failure::Memory => report_memory(errors),
     }
 }

@@ -14,7 +14,7 @@ ghost use Rattle.hyphenation_breaks.specs.Invariant.{IsDictionary, are_listed};
 ghost use Rattle.hyphenation_dictionary.specs.Parts.{pair_views};
 
 use crate::exceptions::Exceptions;
-use hyphenation_breaks::breaks::{Break, stands_in};
+use hyphenation_breaks::breaks::{Break, lies_in};
 use hyphenation_breaks::entry::{Entry, Payload};
 use hyphenation_breaks::extended::Subregion;
 use hyphenation_breaks::language::Language;
@@ -134,7 +134,7 @@ impl<C: Payload, B: Break> Dictionary<C, B> {
             if b.place() < least {
                 return false;
             }
-            if !stands_in(word, b) {
+            if !lies_in(word, b) {
                 return false;
             }
             least = b.place() + 1;

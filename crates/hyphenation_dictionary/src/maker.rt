@@ -15,7 +15,7 @@ ghost use Rattle.hyphenation_trie.specs.Trie.{EachBeginsKey};
 use crate::dictionary::Dictionary;
 use crate::exceptions::Exceptions;
 use crate::parts::dictionary_of;
-use hyphenation_breaks::breaks::stands_in;
+use hyphenation_breaks::breaks::lies_in;
 use hyphenation_breaks::entry::{Entry, Listing, Payload};
 use hyphenation_breaks::language::Language;
 use hyphenation_breaks::laws::entries_in_order;
@@ -41,7 +41,7 @@ fn is_entry<C: Payload>(key: &str, entry: &Entry<C>) -> bool
     if entry.value == 0 {
         return false;
     }
-    stands_in(key, &(entry.place as usize, entry.change.as_change()))
+    lies_in(key, &(entry.place as usize, entry.change.as_change()))
 }
 
 /// Whether entries ascend on the boundaries of a key, with values above 0 and changes that keep within it.

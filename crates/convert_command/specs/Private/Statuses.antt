@@ -2,7 +2,7 @@
 use Rattle.std.specs.Prelude.{◌≡◌, ◌≢◌, ◌⊎◌, ℕ, Option, None, ⊤}
 use Rattle.std.specs.IoError.{error_kind}
 use Rattle.std.specs.declared.io.ErrorKind.TheVariants.{OutOfMemory}
-use Rattle.pattern_files.specs.declared.fault.Refusal.TheVariants.{Memory as NoMemory, Fault}
+use Rattle.pattern_results.specs.declared.errors.ConvertError.TheVariants.{Memory as NoMemory, Fault}
 use Rattle.convert_command.specs.declared.Failure.{Failure}
 use Rattle.convert_command.specs.declared.Failure.TheVariants.{Reading, Refused, Minima, Writing, Memory}
 
