@@ -3,7 +3,7 @@
 ghost use Rattle.std.specs.Prelude.{◌≡◌, ◌++◌, List, ℕ, OnOk, IfOk, IfErr, IfSome, decimal};
 ghost use Rattle.std.specs.String.{string_bytes};
 ghost use Rattle.hyphenation_load.specs.Load.{AppendsTo};
-ghost use Rattle.hyphenation.specs.Engine.{texts_now, score_line, score_by, run_output, RunReturns, RunWrites};
+ghost use Rattle.hyphenation.specs.Engine.{texts_now, score_line, values_by, score_by, run_output, RunReturns, RunWrites};
 ghost use Rattle.hyphenation.specs.Engine.{JudgesBytes, JudgesDictionary, JudgesEdits, JudgesText};
 ghost use Rattle.hyphenation.specs.Engine.{BeforeReading, BeforeWriting, IsScoreError, IsUnwritten, HidesNoOutOfMemory};
 ghost use Rattle.hyphenation.specs.Private.Engine.{space_before, IsDictionaryError};
@@ -105,6 +105,25 @@ fn values_of<K: RunDictionary, D: Read>(
     Ok(dictionary.values(alloc, word)?)
 }
 
+// The values of a word by the dictionary of that kind and language that a reader's bytes give.
+fn values_by<D: Read>(
+    alloc: Global,
+    kind: Kind,
+    lang: Language,
+    word: &str,
+    reader: &mut D,
+) -> Result<Vec<u8>, RunError>
+    ensures dictionary { JudgesDictionary kind lang (D.remaining reader.old) result }
+    ensures values { IfOk result (λ found.
+        IfSome (D.remaining reader.old) (λ bytes. found.items ≡ values_by kind word.now bytes)) }
+    ensures dictionary_error { IfErr result IsDictionaryError }
+{
+    match kind {
+        Kind::Standard => values_of::<Standard, D>(alloc, lang, word, reader),
+        Kind::Extended => values_of::<Extended, D>(alloc, lang, word, reader),
+    }
+}
+
 // The line of a word's values by the dictionary of that kind and language that a reader's bytes give.
 fn score_line<D: Read>(
     alloc: Global,
@@ -118,10 +137,7 @@ fn score_line<D: Read>(
         IfSome (D.remaining reader.old) (λ bytes. string_bytes line ≡ score_by kind word.now bytes)) }
     ensures dictionary_error { IfErr result IsDictionaryError }
 {
-    let values = match kind {
-        Kind::Standard => values_of::<Standard, D>(alloc, lang, word, reader)?,
-        Kind::Extended => values_of::<Extended, D>(alloc, lang, word, reader)?,
-    };
+    let values = values_by(alloc, kind, lang, word, reader)?;
     Ok(line_of(alloc, &values)?)
 }
 
