@@ -47,7 +47,7 @@ fn put_in_order<D: Load + Drop, R: Read, W: Write>(
     ensures accepted { OnOk result (IfSome (R.remaining input.old) (λ bytes. D.refusal bytes ≡ None)) }
     ensures written { OnOk result (IfSome (R.remaining input.old) (λ bytes.
         AppendsTo W.contents output.old output.new (D.canonical (D.contents bytes)))) }
-    ensures refused { IfErr result (λ e. IfSome (R.remaining input.old) (λ bytes. IsLoadError (D.refusal bytes) None e)) }
+    ensures refused { IfErr result (λ e. IfSome (R.remaining input.old) (λ bytes. IsLoadError (D.refusal bytes) e)) }
     ensures untouched { UnlessIo result (output.new ≡ output.old) }
 {
     let dictionary = D::any_from_reader(alloc, input)?;
@@ -65,7 +65,7 @@ fn put_kind_in_order<R: Read, W: Write>(
     ensures written { OnOk result (IfSome (R.remaining input.old) (λ bytes.
         AppendsTo W.contents output.old output.new (reordered kind bytes))) }
     ensures refused { IfErr result (λ e. IfSome (R.remaining input.old) (λ bytes.
-        IsLoadError (refusal_of kind bytes) None e)) }
+        IsLoadError (refusal_of kind bytes) e)) }
     ensures untouched { UnlessIo result (output.new ≡ output.old) }
 {
     match kind {

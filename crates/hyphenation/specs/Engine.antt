@@ -19,7 +19,7 @@ use Rattle.hyphenation_hyphenator.specs.Hyphenated.{hyphenated_text}
 use Rattle.hyphenation_hyphenator.specs.Opportunities.{no_change, own_break, rules_of, all_breaks_of}
 use Rattle.hyphenation_grammar.specs.Judging.{refusal_of}
 use Rattle.hyphenation_grammar.specs.declared.Cause.{Cause}
-use Rattle.hyphenation_load.specs.Load.{language_of_text, IsAccepted, IsLoadError, AppendsTo}
+use Rattle.hyphenation_load.specs.Load.{language_of_text, IsAcceptedIn, IsLoadErrorIn, AppendsTo}
 use Rattle.hyphenation_score.specs.Scoring.{own_change, values}
 
 -- ---- the output
@@ -89,9 +89,9 @@ BeforeWriting (Err Memory) P = P
 -- The dictionary is judged first. Its errors are those that its text gives. Any other result, but that of refused
 -- memory, is of an accepted text of the asked language.
 abbrev pub JudgesBytes : {X : Type 0} → Option (ℕ × Cause) → List ℕ → List ℕ → Result X RunError → Type 0
-JudgesBytes refusal asked language (Err (Dictionary e)) = IsLoadError refusal (Some (asked, language)) e
+JudgesBytes refusal asked language (Err (Dictionary e)) = IsLoadErrorIn refusal asked language e
 JudgesBytes refusal asked language (Err Memory) = ⊤
-JudgesBytes refusal asked language _ = IsAccepted refusal (Some (asked, language))
+JudgesBytes refusal asked language _ = IsAcceptedIn refusal asked language
 
 -- The bytes of the dictionary, if they are known, are judged as a text of that kind and language.
 abbrev pub JudgesDictionary : {X : Type 0} → Kind → List ℕ → Option (List ℕ) → Result X RunError → Type 0

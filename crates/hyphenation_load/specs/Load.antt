@@ -12,29 +12,40 @@ use Rattle.hyphenation_grammar.specs.declared.Error.TheVariants.{Deserialization
 abbrev pub language_of_text : List ℕ → List ℕ
 language_of_text bytes = unwrap_or (language_of (slice_index_or (lines_of bytes) 1 [])) []
 
--- The text is accepted, and of the asked language if one is asked for. `codes` is then its code, and that of the text.
-abbrev pub IsAccepted : Option (ℕ × Cause) → Option (List ℕ × List ℕ) → Type 0
-IsAccepted refusal codes = (refusal ≡ None) × IfSome codes (λ codes. codes.1 ≡ codes.0)
+-- The error is the one that a text gives: its first faulty line with the cause. No language is asked for, so there is no
+-- mismatch. Errors of memory and I/O say nothing of the text.
+abbrev pub IsLoadError : Option (ℕ × Cause) → Error → Type 0
+IsLoadError refusal (Deserialization line cause) = refusal ≡ Some (line, cause)
+IsLoadError refusal (LanguageMismatch expected found) = ⊥
+IsLoadError refusal (IO e) = ⊤
+IsLoadError refusal (Memory e) = ⊤
 
--- The error is the one that the text gives. A refused text gives its first faulty line with the cause; an accepted text
--- of another language than the asked one gives both codes. Errors of memory and I/O say nothing of the text.
-abbrev pub IsLoadError : Option (ℕ × Cause) → Option (List ℕ × List ℕ) → Error → Type 0
-IsLoadError refusal codes (Deserialization line cause) = refusal ≡ Some (line, cause)
-IsLoadError refusal codes (LanguageMismatch expected found) =
-    (refusal ≡ None) × (codes ≡ Some (expected, found)) × (found ≢ expected)
-IsLoadError refusal codes (IO e) = ⊤
-IsLoadError refusal codes (Memory e) = ⊤
+-- Loading a text returns its dictionary exactly where it is accepted, else such an error.
+abbrev pub Loads : {D : Type 0} → Option (ℕ × Cause) → D → Result D Error → Type 0
+Loads refusal contents result =
+    MatchResult result (λ dictionary. (refusal ≡ None) × (dictionary ≡ contents)) (IsLoadError refusal)
 
--- Loading a text returns its dictionary exactly where it is accepted and of the asked language, else such an error.
-abbrev pub Loads : {D : Type 0} → Option (ℕ × Cause) → Option (List ℕ × List ℕ) → D → Result D Error → Type 0
-Loads refusal codes contents result =
-    MatchResult result (λ dictionary. IsAccepted refusal codes × (dictionary ≡ contents)) (IsLoadError refusal codes)
+-- The text is accepted, and of the asked language.
+abbrev pub IsAcceptedIn : Option (ℕ × Cause) → List ℕ → List ℕ → Type 0
+IsAcceptedIn refusal asked language = (refusal ≡ None) × (language ≡ asked)
 
--- Loading in a language: the code of the text is that of its dictionary.
+-- The error is the one that a text of this language gives if another one is asked for: its first faulty line with the
+-- cause; or, if it is accepted, both codes, which differ.
+abbrev pub IsLoadErrorIn : Option (ℕ × Cause) → List ℕ → List ℕ → Error → Type 0
+IsLoadErrorIn refusal asked language (Deserialization line cause) = refusal ≡ Some (line, cause)
+IsLoadErrorIn refusal asked language (LanguageMismatch expected found) =
+    (refusal ≡ None) × (language ≡ found) × (expected ≡ asked) × (found ≢ asked)
+IsLoadErrorIn refusal asked language (IO e) = ⊤
+IsLoadErrorIn refusal asked language (Memory e) = ⊤
+
+-- Loading in a language returns the dictionary exactly where the text is accepted and of that language, else such an
+-- error. The language of a text is that of its dictionary.
 abbrev pub LoadsIn : {D : Type 0} → (List ℕ → Option (ℕ × Cause)) → (List ℕ → D) → (D → List ℕ) → List ℕ → List ℕ
     → Result D Error → Type 0
 LoadsIn refusal contents language asked bytes result =
-    Loads (refusal bytes) (Some (asked, language (contents bytes))) (contents bytes) result
+    MatchResult result
+    (λ dictionary. (refusal bytes ≡ None) × (dictionary ≡ contents bytes) × (language (contents bytes) ≡ asked))
+    (IsLoadErrorIn (refusal bytes) asked (language (contents bytes)))
 
 -- Loading a path fails by I/O or for memory, or returns what the bytes of some file give, if they are known.
 abbrev pub LoadsSomeFile : {F D : Type 0} → (F → Option (List ℕ)) → (List ℕ → Option (ℕ × Cause)) → (List ℕ → D)
@@ -44,12 +55,16 @@ LoadsSomeFile remaining refusal contents language asked (Err (Memory e)) = ⊤
 LoadsSomeFile {F} remaining refusal contents language asked result =
     (file : F) × IfSome (remaining file) (λ bytes. LoadsIn refusal contents language asked bytes result)
 
--- Whatever was read, a dictionary is of the asked language, and a mismatch names that language and another one. If no
--- language is asked for, there is no mismatch.
-abbrev pub RespectsLanguage : {D : Type 0} → (D → List ℕ) → Option (List ℕ) → Result D Error → Type 0
-RespectsLanguage language asked (Ok dictionary) = IfSome asked (λ code. language dictionary ≡ code)
-RespectsLanguage language asked (Err (LanguageMismatch expected found)) = (asked ≡ Some expected) × (found ≢ expected)
+-- Whatever was read, a dictionary is of the asked language, and a mismatch names that language and another one.
+abbrev pub RespectsLanguage : {D : Type 0} → (D → List ℕ) → List ℕ → Result D Error → Type 0
+RespectsLanguage language asked (Ok dictionary) = language dictionary ≡ asked
+RespectsLanguage language asked (Err (LanguageMismatch expected found)) = (expected ≡ asked) × (found ≢ asked)
 RespectsLanguage language asked (Err _) = ⊤
+
+-- No language is asked for, so there is no mismatch.
+abbrev pub HasNoMismatch : {D : Type 0} → Result D Error → Type 0
+HasNoMismatch (Err (LanguageMismatch expected found)) = ⊥
+HasNoMismatch _ = ⊤
 
 -- The result is no I/O error.
 abbrev pub IsNotIo : {D : Type 0} → Result D Error → Type 0

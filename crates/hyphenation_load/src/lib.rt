@@ -4,11 +4,11 @@
 //! judged, and a text is whole before any of it is written.
 #![tactic(auto)]
 
-ghost use Rattle.std.specs.Prelude.{◌≡◌, ◌≢◌, ◌↔◌, Ok, Err, None, Some, List, ℕ, IfOk, IfErr, IfSome, IsTrue, Option, OnOk, alloc_error};
+ghost use Rattle.std.specs.Prelude.{◌≡◌, ◌≢◌, ◌↔◌, Ok, Err, None, List, ℕ, IfOk, IfErr, IfSome, IsTrue, Option, OnOk, alloc_error};
 ghost use Rattle.std.specs.Io.KnownBytes.{IsAtEnd};
 ghost use Rattle.std.specs.IoError.{error_kind};
 ghost use Rattle.hyphenation_grammar.specs.declared.Cause.{Cause};
-ghost use Rattle.hyphenation_load.specs.Load.{Loads, LoadsIn, LoadsSomeFile, RespectsLanguage};
+ghost use Rattle.hyphenation_load.specs.Load.{Loads, LoadsIn, LoadsSomeFile, RespectsLanguage, HasNoMismatch};
 ghost use Rattle.hyphenation_load.specs.Load.{IsNotIo, IsNotOutOfMemory, AppendsTo, IfMemory, IsWriteError};
 ghost use Rattle.hyphenation_load.specs.Private.Load.{error_of, ChecksLanguage, IsReadError};
 
@@ -48,7 +48,7 @@ pub trait Load: Sized {
     /// let dictionary = Standard::from_read(alloc, read_all(alloc, &mut file))?;
     /// ```
     fn from_read(alloc: Global, read: io::Result<Vec<u8>>) -> Result<Self>
-        ensures loaded { IfOk read (λ bytes. Loads (refusal bytes.items) None (contents bytes.items) result) }
+        ensures loaded { IfOk read (λ bytes. Loads (refusal bytes.items) (contents bytes.items) result) }
         ensures no_io_error { IfOk read (λ _. IsNotIo result) }
         ensures memory { IfErr read (λ e.
             error_kind e ≡ ErrorKind.OutOfMemory → result ≡ Err (Error.Memory alloc_error)) }
@@ -64,9 +64,9 @@ pub trait Load: Sized {
     /// let dictionary = Standard::any_from_reader(alloc, &mut text)?;
     /// ```
     fn any_from_reader<R: Read>(alloc: Global, reader: &mut R) -> Result<Self>
-        ensures loaded { IfSome (R.remaining reader.old) (λ bytes. Loads (refusal bytes) None (contents bytes) result) }
+        ensures loaded { IfSome (R.remaining reader.old) (λ bytes. Loads (refusal bytes) (contents bytes) result) }
         ensures read_to_end { OnOk result (IsAtEnd (R.remaining reader.new)) }
-        ensures no_mismatch { RespectsLanguage language None result }
+        ensures no_mismatch { HasNoMismatch result }
         ensures not_out_of_memory { IfErr result IsNotOutOfMemory }
     {
         Self::from_read(alloc, read_all(alloc, reader))
@@ -86,7 +86,7 @@ pub trait Load: Sized {
         ensures loaded { IfSome (R.remaining reader.old) (λ bytes.
             LoadsIn refusal contents language lang bytes result) }
         ensures read_to_end { OnOk result (IsAtEnd (R.remaining reader.new)) }
-        ensures in_language { RespectsLanguage language (Some lang) result }
+        ensures in_language { RespectsLanguage language lang result }
         ensures not_out_of_memory { IfErr result IsNotOutOfMemory };
 
     /// Loads a dictionary of the language `lang` from the file at a path: opens it, and reads it by `from_reader`.
@@ -99,7 +99,7 @@ pub trait Load: Sized {
     /// ```
     fn from_path<F: Files>(rt: &F, alloc: Global, lang: Language, path: &str) -> Result<Self>
         ensures of_some_file { LoadsSomeFile F.File.remaining refusal contents language lang result }
-        ensures in_language { RespectsLanguage language (Some lang) result }
+        ensures in_language { RespectsLanguage language lang result }
         ensures not_out_of_memory { IfErr result IsNotOutOfMemory }
     {
         let mut file = fs::open(rt, path).map_err(error_of_reading)?;
