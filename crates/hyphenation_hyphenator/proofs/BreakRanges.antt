@@ -94,7 +94,7 @@ won_ranged {C} change_of break_of contents word p first kept u at =
           let stays = entry_stays change_of key bears.entries bears.among.0 entry sound bears.among.1.0 bears.among.1.1 in
           elim (change_of entry.change) as (λ change. stays_within key entry.place change ≡ true → Ranged word (break_at p change)) [
             | None ↦ λ _. unchanged_ranged word p at
-            | Some change ↦ λ h. in_word word p wins.0 wins.1 entry.place change u bears.some bears.within pattern.utf8 bears.place (kept_within key entry.place change (and_parts (fits_usize entry.place && can_be_written change) _ h).1)
+            | Some change ↦ λ h. in_word word p wins.0 wins.1 entry.place change u bears.not_empty bears.within pattern.utf8 bears.place (kept_within key entry.place change (and_parts (fits_usize entry.place && can_be_written change) _ h).1)
           ] stays
     ] refl
 

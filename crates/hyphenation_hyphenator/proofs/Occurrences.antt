@@ -64,7 +64,7 @@ bears_boundary change_of break_of contents word p start end entry kept u within 
     let pattern = kept.patterns key bears.entries bears.key in
     let places = (and_parts (ascend_on key 0 (map (λ e. e.place) bears.entries)) _ pattern.ascend).0 in
     let at_key = entry_boundary key 0 bears.entries bears.among.0 entry places bears.among.1.0 bears.among.1.1 in
-    let at_frame = occurrence_boundary (frame word) start end entry.place (frame_is_utf8 word u) bears.some bears.within pattern.utf8 at_key in
+    let at_frame = occurrence_boundary (frame word) start end entry.place (frame_is_utf8 word u) bears.not_empty bears.within pattern.utf8 at_key in
     unframed_boundary word p within (subst (IsCharBoundary (frame word)) bears.place at_frame)
 
 -- A place inside of a character has the value 0.
