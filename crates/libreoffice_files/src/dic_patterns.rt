@@ -17,13 +17,13 @@ use crate::change::{PlacedChange, change_of, has_byte};
 use crate::lines::{Kind, Line, split_at_byte};
 use crate::longest::hides_value;
 use crate::value::Value;
-use hyphenation_breaks::entry::{Entry, Listing, Payload};
+use hyphenation_breaks::entry::{Entry, Listing, Payload, has_letter};
 use hyphenation_breaks::extended::Subregion;
 use hyphenation_dictionary::maker::fits_key;
 use hyphenation_trie::{Automaton, Trie, to_u32};
 use pattern_results::dictionary_parts::DictionaryParts;
 use pattern_results::notes::{LineRef, Note, NoteKind, add_note};
-use pattern_results::texts::{has_letter, text_from_utf8};
+use pattern_results::texts::text_from_utf8;
 use std::alloc::{AllocError, Global};
 use std::collections::BTreeMap;
 
