@@ -14,7 +14,7 @@ ghost use Rattle.hyphenation_reader.specs.Private.Matched.{suits_form_in_pattern
 ghost use Rattle.hyphenation_grammar.specs.Parsed.{pattern_view};
 ghost use Rattle.hyphenation_reader.specs.Private.Parsed.{exception_parts, no_later, pattern_parts, read_later};
 ghost use Rattle.hyphenation_reader.specs.Private.Parsed.{later_view};
-ghost use Rattle.hyphenation_reader.specs.Private.LineAnswers.{ReturnsItem, ReturnsException, IsItemOf};
+ghost use Rattle.hyphenation_reader.specs.Private.LineAnswers.{IsFault, ReturnsItem, ReturnsException, IsItemOf};
 ghost use Rattle.hyphenation_reader.specs.Private.LineAnswers.{breaks_listed, entries_of, exception_cause};
 ghost use Rattle.hyphenation_reader.specs.Private.LineAnswers.{suits_word, suits_form, places_cause};
 
@@ -76,6 +76,26 @@ impl<C: Drop> LineBuffers<C> {
     }
 }
 
+// Why a line gives no item.
+#[derive(Drop)]
+pub(crate) enum Fault {
+    // Out of memory.
+    Memory,
+    // The line fails this test, and none before it.
+    Fails(Cause),
+}
+
+impl From<AllocError> for Fault {
+    ghost use Rattle.std.specs.Prelude.{◌≡◌};
+    ghost use Rattle.hyphenation_reader.specs.declared.items.Fault.TheVariants.{Memory};
+
+    ghost from_gives = { λ _ e. e ≡ Memory };
+
+    fn from(_error: AllocError) -> Fault {
+        Fault::Memory
+    }
+}
+
 // Returns the item that a line after the third spells, or the first test that it fails by itself, in a text of a form.
 // Such lines are judged alike whatever their numbers. `known` says that the caller knows the line to be UTF-8. The only
 // error is memory.
@@ -85,21 +105,20 @@ pub(crate) fn item_of<C: Payload, B: Listing>(
     line: &[u8],
     known: bool,
     buffers: &mut LineBuffers<C>,
-) -> Result<Result<Item<C, B>, Cause>, AllocError>
+) -> Result<Item<C, B>, Fault>
     requires utf8 { known ≡ true → IsUtf8 line.now }
-    ensures passes { IfOk result (λ found. OnOk found (own_cause form 4 line.now ≡ None)) }
-    ensures says { IfOk result (λ found.
-        IfOk found (λ item. IsItemOf form.version C.payload_of B.listing_of item line.now)) }
-    ensures refused { IfOk result (λ found. IfErr found (λ cause. own_cause form 4 line.now ≡ Some cause)) }
+    ensures passes { OnOk result (own_cause form 4 line.now ≡ None) }
+    ensures says { IfOk result (λ item. IsItemOf form.version C.payload_of B.listing_of item line.now) }
+    ensures refused { IfErr result (λ fault. IsFault fault (own_cause form 4 line.now)) }
 {
     if let Some(cause) = early_cause(line, known) {
-        return Ok(Err(cause));
+        return Err(Fault::Fails(cause));
     }
     match strip_prefix(b"p ", line) {
         Some(text) => pattern_item(alloc, form, text, buffers),
         None => match strip_prefix(b"e ", line) {
             Some(text) => exception_item(alloc, form, text),
-            None => Ok(Ok(Item::Nothing)),
+            None => Ok(Item::Nothing),
         },
     }
 }
@@ -143,24 +162,24 @@ fn pattern_item<C: Payload, B: Listing>(
     form: Form,
     text: &[u8],
     buffers: &mut LineBuffers<C>,
-) -> Result<Result<Item<C, B>, Cause>, AllocError>
+) -> Result<Item<C, B>, Fault>
     requires { IsUtf8 text.now }
-    ensures { IfOk result (λ found. (line : List ℕ) → Some text.now ≡ strip_prefix (codes "p ") line
-        → ReturnsItem form C.payload_of B.listing_of line found) }
+    ensures { (line : List ℕ) → Some text.now ≡ strip_prefix (codes "p ") line
+        → ReturnsItem form C.payload_of B.listing_of line result }
 {
     let Some(later) = pattern_parts(alloc, form.version, text, &mut buffers.pattern)? else {
-        return Ok(Err(Cause::Token));
+        return Err(Fault::Fails(Cause::Token));
     };
     if let Some(cause) = pattern_cause(form, &buffers.pattern, &later) {
-        return Ok(Err(cause));
+        return Err(Fault::Fails(cause));
     }
     if !entries_with_changes(&buffers.pattern.values, later.listed, &mut buffers.entries)? {
-        return Ok(Err(Cause::Change));
+        return Err(Fault::Fails(Cause::Change));
     }
-    Ok(Ok(Item::Pattern {
+    Ok(Item::Pattern {
         key: mem::replace(&mut buffers.pattern.key, Vec::new(alloc)),
         entries: mem::replace(&mut buffers.entries, Vec::new(alloc)),
-    }))
+    })
 }
 
 // Reads the tokens of a `p` line: the first into `pattern`, and returns the later ones. `None` if one of them can't be
@@ -320,15 +339,13 @@ fn exception_item<C: Payload, B: Listing>(
     alloc: Global,
     form: Form,
     text: &[u8],
-) -> Result<Result<Item<C, B>, Cause>, AllocError>
+) -> Result<Item<C, B>, Fault>
     requires { IsUtf8 text.now }
-    ensures { IfOk result (λ found. (line : List ℕ) → Some text.now ≡ strip_prefix (codes "e ") line
-        → ReturnsItem form C.payload_of B.listing_of line found) }
+    ensures { (line : List ℕ) → Some text.now ≡ strip_prefix (codes "e ") line
+        → ReturnsItem form C.payload_of B.listing_of line result }
 {
-    match exception_of(alloc, form, text)? {
-        Ok((word, listed)) => Ok(Ok(Item::Exception { word, listed })),
-        Err(cause) => Ok(Err(cause)),
-    }
+    let (word, listed) = exception_of(alloc, form, text)?;
+    Ok(Item::Exception { word, listed })
 }
 
 // Returns the word of an `e` line and its listed breaks, given the text after `e `, or the first test that it fails.
@@ -336,19 +353,19 @@ pub(crate) fn exception_of<B: Listing>(
     alloc: Global,
     form: Form,
     text: &[u8],
-) -> Result<Result<(String, Vec<B>), Cause>, AllocError>
+) -> Result<(String, Vec<B>), Fault>
     requires { IsUtf8 text.now }
-    ensures { IfOk result (λ found. (line : List ℕ) → Some text.now ≡ strip_prefix (codes "e ") line
-        → ReturnsException form B.listing_of line found) }
+    ensures { (line : List ℕ) → Some text.now ≡ strip_prefix (codes "e ") line
+        → ReturnsException form B.listing_of line result }
 {
     let Some((word, later)) = exception_parts(alloc, text)? else {
-        return Ok(Err(Cause::Token));
+        return Err(Fault::Fails(Cause::Token));
     };
     if let Some(cause) = exception_cause(form, word.as_bytes(), &later) {
-        return Ok(Err(cause));
+        return Err(Fault::Fails(cause));
     }
     let listed = listed_of(alloc, later.listed)?;
-    Ok(Ok((word, listed)))
+    Ok((word, listed))
 }
 
 // Returns the word of an `e` line and its later tokens. `None` if one of them can't be read.
