@@ -44,16 +44,15 @@ abbrev pub item_cause : Form → List ℕ → Option Cause
 item_cause form line =
     find (fails form 4 line) (Token ∷ BadValue ∷ TwoValues ∷ NoLetters ∷ Number ∷ Place ∷ Change ∷ [])
 
--- The result of reading a `p` or `e` line: the item that it spells, or the first of these tests that it
--- fails, or out of memory.
+-- The result of reading a `p` or `e` line: its item, the first of these tests that it fails, or out of memory.
 abbrev pub ReturnsItem : {C B : Type 0} → Form → (Option Changed → C) → (Break → B) → List ℕ → Result (Item C B) Fault
     → Type 0
 ReturnsItem form payload_of listing_of line found =
     MatchResult found (λ item. (item_cause form line ≡ None) × IsItemOf form.version payload_of listing_of item line)
     (λ fault. IsFault fault (item_cause form line))
 
--- The result of reading an `e` line: its word and its listed breaks, or the first of these tests that it
--- fails, or out of memory.
+-- The result of reading an `e` line: its word and its listed breaks, the first of these tests that it fails, or out of
+-- memory.
 abbrev pub ReturnsException : {B Y Z : Type 0} → Form → (Break → B) → List ℕ → Result (String Y × Vec B Z) Fault
     → Type 0
 ReturnsException form listing_of line found =
