@@ -26,8 +26,6 @@ use Rattle.hyphenation_grammar.specs.declared.form.Kind.{Kind}
 use Rattle.hyphenation_grammar.specs.declared.form.Version.TheVariants.{First}
 use Rattle.hyphenation_grammar.specs.declared.Cause.{Cause}
 use Rattle.hyphenation_grammar.specs.declared.Cause.TheVariants.{NotUtf8, UnknownLine}
-use Rattle.hyphenation_reader.specs.declared.items.Fault.{Fault}
-use Rattle.hyphenation_reader.specs.declared.items.Fault.TheVariants.{Fails}
 use Rattle.hyphenation_reader.proofs.JudgingLine.{halves, past_byte}
 use Rattle.hyphenation_reader.proofs.ItemsOfLines.{same_test}
 use Rattle.hyphenation_reader.proofs.ReadingInvariant.{exception_held}
@@ -62,18 +60,18 @@ none_there : {X : Type 0} (o : Option X) → is_none o ≡ true → o ≡ None
 none_there None e = refl
 none_there (Some x) e = absurd cc
 
-pub read : {B Y Z : Type 0} (kind : Kind) (listing_of : Break → B) (text : List ℕ) (r : Result (String Y × Vec B Z) Fault) → IsUtf8 text
+pub read : {B Y Z : Type 0} (kind : Kind) (listing_of : Break → B) (text : List ℕ) (r : Result (String Y × Vec B Z) Cause) → IsUtf8 text
     → ((line : List ℕ) → Some text ≡ strip_prefix (codes "e ") line → ReturnsException (form_in kind First) listing_of line r) → (x : String Y × Vec B Z) → r ≡ Ok x → ReadsException kind listing_of (Some x) (as_line text)
 read {B} {Y} {Z} kind listing_of text r u answers x e =
     let form = form_in kind First in
-    let h : ReturnsException form listing_of (as_line text) (Ok x) = subst (λ (s : Result (String Y × Vec B Z) Fault). ReturnsException form listing_of (as_line text) s) e (answers (as_line text) refl) in
+    let h : ReturnsException form listing_of (as_line text) (Ok x) = subst (λ (s : Result (String Y × Vec B Z) Cause). ReturnsException form listing_of (as_line text) s) e (answers (as_line text) refl) in
     (no_cause (own_cause form 4 (as_line text)) (only_item form text u ∙ h.0), h.1.1)
 
-pub unread : {B Y Z : Type 0} (kind : Kind) (listing_of : Break → B) (text : List ℕ) (r : Result (String Y × Vec B Z) Fault) → IsUtf8 text
-    → ((line : List ℕ) → Some text ≡ strip_prefix (codes "e ") line → ReturnsException (form_in kind First) listing_of line r) → (fault : Fault) (cause : Cause) → r ≡ Err fault → fault ≡ Fails cause → is_sound_line kind (as_line text) ≡ false
-unread {B} {Y} {Z} kind listing_of text r u answers fault cause e fails =
+pub unread : {B Y Z : Type 0} (kind : Kind) (listing_of : Break → B) (text : List ℕ) (r : Result (String Y × Vec B Z) Cause) → IsUtf8 text
+    → ((line : List ℕ) → Some text ≡ strip_prefix (codes "e ") line → ReturnsException (form_in kind First) listing_of line r) → (cause : Cause) → r ≡ Err cause → is_sound_line kind (as_line text) ≡ false
+unread {B} {Y} {Z} kind listing_of text r u answers cause e =
     let form = form_in kind First in
-    let h : item_cause form (as_line text) ≡ Some cause = subst (λ (s : Result (String Y × Vec B Z) Fault). ReturnsException form listing_of (as_line text) s) (e ∙ ap Err fails) (answers (as_line text) refl) in
+    let h : item_cause form (as_line text) ≡ Some cause = subst (λ (s : Result (String Y × Vec B Z) Cause). ReturnsException form listing_of (as_line text) s) e (answers (as_line text) refl) in
     some_cause (own_cause form 4 (as_line text)) cause (only_item form text u ∙ h)
 
 pub may_be_listed : {B Y Z : Type 0} → SpeltIsSound → (kind : Kind) (listing_of : Break → B) (break_of : B → Break) → ((b : Break) → (break_of (listing_of b) ≡ b) ⊎ (break_of (listing_of b) ≡ plain_break b.place))

@@ -11,8 +11,7 @@ use Rattle.hyphenation_grammar.specs.declared.form.Form.{Form}
 use Rattle.hyphenation_grammar.specs.Judging.{own_cause, fails}
 use Rattle.hyphenation_reader.specs.Private.Judging.{cause_before_token, early_cause}
 use Rattle.hyphenation_grammar.specs.Lines.{strip_prefix, starts_with}
-use Rattle.hyphenation_reader.specs.Private.LineAnswers.{IsFault, item_cause}
-use Rattle.hyphenation_reader.specs.declared.items.Fault.{Fault}
+use Rattle.hyphenation_reader.specs.Private.LineAnswers.{item_cause}
 use Rattle.hyphenation_grammar.specs.declared.Cause.{Cause}
 use Rattle.hyphenation_grammar.specs.declared.Cause.TheVariants.{NotUtf8, Header, Language, Minima, UnknownLine}
 use Rattle.hyphenation_reader.proofs.LineCauses.{begun}
@@ -82,10 +81,10 @@ pattern-utf8 form number line text found never is start =
 
 -- a line that passes the first five tests fails the first of the others
 pub refused_late : {X : Type 0} (form : Form) (number : ℕ) (line : List ℕ) (found : Option Cause) → ((x : Cause) → found ≡ Some x → ⊥) → found ≡ cause_before_token form number line
-    → (P : X → Type 0) (r : Result X Fault) → MatchResult r P (λ fault. IsFault fault (item_cause form line)) → IfErr r (λ fault. IsFault fault (own_cause form number line))
+    → (P : X → Type 0) (r : Result X Cause) → MatchResult r P (λ cause. item_cause form line ≡ Some cause) → IfErr r (λ cause. own_cause form number line ≡ Some cause)
 refused_late form number line found never is P (Ok x) h = tt
-refused_late form number line found never is P (Err fault) h =
-    subst (IsFault fault) (sym (halves form number line ∙ ap (λ (o : Option Cause). option_or o (item_cause form line)) (sym is ∙ none_of found never))) h
+refused_late form number line found never is P (Err cause) h =
+    halves form number line ∙ ap (λ (o : Option Cause). option_or o (item_cause form line)) (sym is ∙ none_of found never) ∙ h
 
 -- the lines after the third are judged alike
 after_third : (form : Form) (number : ℕ) (line : List ℕ) → 3 < number → cause_before_token form number line ≡ early_cause line

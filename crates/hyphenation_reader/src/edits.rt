@@ -16,7 +16,7 @@ ghost use Rattle.hyphenation_reader.specs.Private.Edits.{ReadsException};
 ghost use Rattle.hyphenation_reader.specs.Edits.{as_line, after_edit, has_line_feed, is_good_edit, is_sound_line};
 ghost use Rattle.hyphenation_reader.specs.Edits.{is_word_alone, with_exception, without_exception};
 
-use crate::items::{Fault, exception_of};
+use crate::items::exception_of;
 use crate::laws::spelt_is_sound;
 use hyphenation_breaks::entry::{Listing, Payload};
 use hyphenation_dictionary::dictionary::Dictionary;
@@ -121,10 +121,9 @@ fn read_exception<B: Listing>(
         kind,
         version: Version::First,
     };
-    match exception_of(alloc, form, exception) {
-        Ok((word, listed)) => Ok(Some((word, listed))),
-        Err(Fault::Fails(_)) => Ok(None),
-        Err(Fault::Memory) => Err(AllocError),
+    match exception_of(alloc, form, exception)? {
+        Ok(found) => Ok(Some(found)),
+        Err(_) => Ok(None),
     }
 }
 

@@ -14,7 +14,7 @@ ghost use Rattle.hyphenation_reader.specs.Private.Matched.{suits_form_in_pattern
 ghost use Rattle.hyphenation_grammar.specs.Parsed.{pattern_view};
 ghost use Rattle.hyphenation_reader.specs.Private.Parsed.{exception_parts, no_later, pattern_parts, read_later};
 ghost use Rattle.hyphenation_reader.specs.Private.Parsed.{later_view};
-ghost use Rattle.hyphenation_reader.specs.Private.LineAnswers.{IsFault, ReturnsItem, ReturnsException, IsItemOf};
+ghost use Rattle.hyphenation_reader.specs.Private.LineAnswers.{ReturnsItem, ReturnsException, IsItemOf};
 ghost use Rattle.hyphenation_reader.specs.Private.LineAnswers.{breaks_listed, entries_of, exception_cause};
 ghost use Rattle.hyphenation_reader.specs.Private.LineAnswers.{suits_word, suits_form, places_cause};
 
@@ -76,26 +76,6 @@ impl<C: Drop> LineBuffers<C> {
     }
 }
 
-// Why a line gives no item.
-#[derive(Drop)]
-pub(crate) enum Fault {
-    // Out of memory.
-    Memory,
-    // The line fails this test, and none before it.
-    Fails(Cause),
-}
-
-impl From<AllocError> for Fault {
-    ghost use Rattle.std.specs.Prelude.{◌≡◌};
-    ghost use Rattle.hyphenation_reader.specs.declared.items.Fault.TheVariants.{Memory};
-
-    ghost from_gives = { λ _ e. e ≡ Memory };
-
-    fn from(_error: AllocError) -> Fault {
-        Fault::Memory
-    }
-}
-
 // Returns the item that a line after the third spells, or the first test that it fails by itself, in a text of a form.
 // Such lines are judged alike whatever their numbers. `known` says that the caller knows the line to be UTF-8. The only
 // error is memory.
@@ -105,20 +85,21 @@ pub(crate) fn item_of<C: Payload, B: Listing>(
     line: &[u8],
     known: bool,
     buffers: &mut LineBuffers<C>,
-) -> Result<Item<C, B>, Fault>
+) -> Result<Result<Item<C, B>, Cause>, AllocError>
     requires utf8 { known ≡ true → IsUtf8 line.now }
-    ensures passes { OnOk result (own_cause form 4 line.now ≡ None) }
-    ensures says { IfOk result (λ item. IsItemOf form.version C.payload_of B.listing_of item line.now) }
-    ensures refused { IfErr result (λ fault. IsFault fault (own_cause form 4 line.now)) }
+    ensures passes { IfOk result (λ found. OnOk found (own_cause form 4 line.now ≡ None)) }
+    ensures says { IfOk result (λ found.
+        IfOk found (λ item. IsItemOf form.version C.payload_of B.listing_of item line.now)) }
+    ensures refused { IfOk result (λ found. IfErr found (λ cause. own_cause form 4 line.now ≡ Some cause)) }
 {
     if let Some(cause) = early_cause(line, known) {
-        return Err(Fault::Fails(cause));
+        return Ok(Err(cause));
     }
     match strip_prefix(b"p ", line) {
         Some(text) => pattern_item(alloc, form, text, buffers),
         None => match strip_prefix(b"e ", line) {
             Some(text) => exception_item(alloc, form, text),
-            None => Ok(Item::Nothing),
+            None => Ok(Ok(Item::Nothing)),
         },
     }
 }
@@ -162,24 +143,24 @@ fn pattern_item<C: Payload, B: Listing>(
     form: Form,
     text: &[u8],
     buffers: &mut LineBuffers<C>,
-) -> Result<Item<C, B>, Fault>
+) -> Result<Result<Item<C, B>, Cause>, AllocError>
     requires { IsUtf8 text.now }
-    ensures { (line : List ℕ) → Some text.now ≡ strip_prefix (codes "p ") line
-        → ReturnsItem form C.payload_of B.listing_of line result }
+    ensures { IfOk result (λ found. (line : List ℕ) → Some text.now ≡ strip_prefix (codes "p ") line
+        → ReturnsItem form C.payload_of B.listing_of line found) }
 {
     let Some(later) = pattern_parts(alloc, form.version, text, &mut buffers.pattern)? else {
-        return Err(Fault::Fails(Cause::Token));
+        return Ok(Err(Cause::Token));
     };
     if let Some(cause) = pattern_cause(form, &buffers.pattern, &later) {
-        return Err(Fault::Fails(cause));
+        return Ok(Err(cause));
     }
     if !entries_with_changes(&buffers.pattern.values, later.listed, &mut buffers.entries)? {
-        return Err(Fault::Fails(Cause::Change));
+        return Ok(Err(Cause::Change));
     }
-    Ok(Item::Pattern {
+    Ok(Ok(Item::Pattern {
         key: mem::replace(&mut buffers.pattern.key, Vec::new(alloc)),
         entries: mem::replace(&mut buffers.entries, Vec::new(alloc)),
-    })
+    }))
 }
 
 // Reads the tokens of a `p` line: the first into `pattern`, and returns the later ones. `None` if one of them can't be
@@ -339,13 +320,15 @@ fn exception_item<C: Payload, B: Listing>(
     alloc: Global,
     form: Form,
     text: &[u8],
-) -> Result<Item<C, B>, Fault>
+) -> Result<Result<Item<C, B>, Cause>, AllocError>
     requires { IsUtf8 text.now }
-    ensures { (line : List ℕ) → Some text.now ≡ strip_prefix (codes "e ") line
-        → ReturnsItem form C.payload_of B.listing_of line result }
+    ensures { IfOk result (λ found. (line : List ℕ) → Some text.now ≡ strip_prefix (codes "e ") line
+        → ReturnsItem form C.payload_of B.listing_of line found) }
 {
-    let (word, listed) = exception_of(alloc, form, text)?;
-    Ok(Item::Exception { word, listed })
+    match exception_of(alloc, form, text)? {
+        Ok((word, listed)) => Ok(Ok(Item::Exception { word, listed })),
+        Err(cause) => Ok(Err(cause)),
+    }
 }
 
 // Returns the word of an `e` line and its listed breaks, given the text after `e `, or the first test that it fails.
@@ -353,19 +336,19 @@ pub(crate) fn exception_of<B: Listing>(
     alloc: Global,
     form: Form,
     text: &[u8],
-) -> Result<(String, Vec<B>), Fault>
+) -> Result<Result<(String, Vec<B>), Cause>, AllocError>
     requires { IsUtf8 text.now }
-    ensures { (line : List ℕ) → Some text.now ≡ strip_prefix (codes "e ") line
-        → ReturnsException form B.listing_of line result }
+    ensures { IfOk result (λ found. (line : List ℕ) → Some text.now ≡ strip_prefix (codes "e ") line
+        → ReturnsException form B.listing_of line found) }
 {
     let Some((word, later)) = exception_parts(alloc, text)? else {
-        return Err(Fault::Fails(Cause::Token));
+        return Ok(Err(Cause::Token));
     };
     if let Some(cause) = exception_cause(form, word.as_bytes(), &later) {
-        return Err(Fault::Fails(cause));
+        return Ok(Err(cause));
     }
     let listed = listed_of(alloc, later.listed)?;
-    Ok((word, listed))
+    Ok(Ok((word, listed)))
 }
 
 // Returns the word of an `e` line and its later tokens. `None` if one of them can't be read.

@@ -17,7 +17,7 @@ ghost use Rattle.hyphenation_reader.specs.Private.Refusals.{at_number};
 ghost use Rattle.hyphenation_reader.specs.Private.LineAnswers.{IsItemOf};
 ghost use Rattle.hyphenation_trie.specs.Trie.{EachBeginsKey};
 
-use crate::items::{Fault, Item, LineBuffers, item_of};
+use crate::items::{Item, LineBuffers, item_of};
 use crate::laws::spelt_is_sound;
 use hyphenation_breaks::entry::{Entry, Listing, Payload};
 use hyphenation_breaks::language::Language;
@@ -167,10 +167,9 @@ fn item_at<C: Payload, B: Listing>(
     ensures says { IfOk result (λ item. IsItemOf form.version C.payload_of B.listing_of item line.now) }
     ensures refused { IfErr result (λ refusal. IsRefusal refusal (at_number number (own_cause form number line.now))) }
 {
-    match item_of(alloc, form, line, known, buffers) {
+    match item_of(alloc, form, line, known, buffers)? {
         Ok(item) => Ok(item),
-        Err(Fault::Memory) => Err(Refusal::Memory),
-        Err(Fault::Fails(cause)) => Err(Refusal::Fault {
+        Err(cause) => Err(Refusal::Fault {
             line: number,
             cause,
         }),

@@ -166,7 +166,7 @@ digits-small change_of (x ∷ es) e = and_from (nat_le x.value 9) (are_small Fir
 -- ---- The dictionary.
 
 module _ (in_order : EntriesInOrder (Option Change)) (are_text : CodesAreText) {C B : Type 0} (kind : Kind) (payload_of : Option Change → C) (listing_of : Break → B) (change_of : C → Option Change) (break_of : B → Break)
-    (exact : HoldsExactly kind payload_of listing_of change_of break_of) (contents : Contents C B) (kept : IsDictionary change_of break_of contents) where
+    (exact : HoldsExactly {C = C} {B = B} kind (record { payload_of = payload_of; listing_of = listing_of; change_of = change_of; break_of = break_of })) (contents : Contents C B) (kept : IsDictionary change_of break_of contents) where
   abbrev version : Version
   version = version_for contents
 

@@ -18,8 +18,6 @@ use Rattle.hyphenation_grammar.specs.declared.Cause.{Cause}
 use Rattle.hyphenation_grammar.specs.declared.Cause.TheVariants.{Token, Value as BadValue, Pattern as TwoValues, NoLetters, Number, Place, Change}
 use Rattle.hyphenation_grammar.specs.declared.form.Form.{Form}
 use Rattle.hyphenation_grammar.specs.declared.form.Version.{Version}
-use Rattle.hyphenation_reader.specs.declared.items.Fault.{Fault}
-use Rattle.hyphenation_reader.specs.declared.items.Fault.TheVariants.{Memory, Fails}
 use Rattle.hyphenation_reader.specs.declared.items.Item.{Item}
 use Rattle.hyphenation_reader.specs.declared.items.Item.TheVariants.{Nothing, Pattern, Exception}
 
@@ -34,32 +32,26 @@ IsItemOf version payload_of listing_of (Exception word listed) line =
     (pattern_of_line version line ≡ None)
     × (spelling_as listing_of exception_of_line line ≡ Some (string_bytes word, listed.items))
 
--- Out of memory, or exactly this test.
-abbrev pub IsFault : Fault → Option Cause → Type 0
-IsFault Memory cause = Unit {0}
-IsFault (Fails c) cause = cause ≡ Some c
-
 -- The first test from Token on that a `p` or `e` line fails.
 abbrev pub item_cause : Form → List ℕ → Option Cause
 item_cause form line =
     find (fails form 4 line) (Token ∷ BadValue ∷ TwoValues ∷ NoLetters ∷ Number ∷ Place ∷ Change ∷ [])
 
--- The result of reading a `p` or `e` line: its item, the first of these tests that it fails, or out of memory.
-abbrev pub ReturnsItem : {C B : Type 0} → Form → (Option Changed → C) → (Break → B) → List ℕ → Result (Item C B) Fault
+-- The result of reading a `p` or `e` line: the item that it spells, or the first of these tests that it fails.
+abbrev pub ReturnsItem : {C B : Type 0} → Form → (Option Changed → C) → (Break → B) → List ℕ → Result (Item C B) Cause
     → Type 0
 ReturnsItem form payload_of listing_of line found =
     MatchResult found (λ item. (item_cause form line ≡ None) × IsItemOf form.version payload_of listing_of item line)
-    (λ fault. IsFault fault (item_cause form line))
+    (λ cause. item_cause form line ≡ Some cause)
 
--- The result of reading an `e` line: its word and its listed breaks, the first of these tests that it fails, or out of
--- memory.
-abbrev pub ReturnsException : {B Y Z : Type 0} → Form → (Break → B) → List ℕ → Result (String Y × Vec B Z) Fault
+-- The result of reading an `e` line: its word and its listed breaks, or the first of these tests that it fails.
+abbrev pub ReturnsException : {B Y Z : Type 0} → Form → (Break → B) → List ℕ → Result (String Y × Vec B Z) Cause
     → Type 0
 ReturnsException form listing_of line found =
     MatchResult found (λ x. (item_cause form line ≡ None) ×
     ((pattern_of_line form.version line ≡ None)
     × (spelling_as listing_of exception_of_line line ≡ Some (string_bytes x.0, x.1.items))))
-    (λ fault. IsFault fault (item_cause form line))
+    (λ cause. item_cause form line ≡ Some cause)
 
 -- The first of the tests Number and Place that later tokens fail. Their places are bytes of the text.
 abbrev pub places_cause : List ℕ → ReadLater → Option Cause
