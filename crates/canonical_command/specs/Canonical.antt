@@ -1,4 +1,4 @@
--- What the program `hyphenate-canonical` is asked, what it writes, and how it ends.
+-- The arguments, the output and the statuses of the program `hyphenate-canonical`.
 use Rattle.std.specs.Prelude.{◌≡◌, ◌⊎◌, ℕ, List, [], ◌∷◌, Option, None, IfSome}
 use Rattle.std.specs.Borrow.{Bor}
 use Rattle.hyphenation_grammar.specs.declared.form.Kind.{Kind}
@@ -21,7 +21,7 @@ abbrev pub reordered : Kind → List ℕ → List ℕ
 reordered Standard bytes = standard_text (standard_contents bytes)
 reordered Extended bytes = extended_text (extended_contents bytes)
 
--- The statuses if the arguments name a kind: 0 done; 3 the text is refused; 5 it can't be read, or the result can't be
--- written; 6 memory was refused.
+-- The statuses if the arguments name a kind.
+-- 0: done. 3: the text is refused. 5: it can't be read, or the result can't be written. 6: memory was refused.
 abbrev pub IsExitStatus : ℕ → Type 0
 IsExitStatus status = (status ≡ 0) ⊎ (status ≡ 3) ⊎ (status ≡ 5) ⊎ (status ≡ 6)

@@ -5,7 +5,7 @@
 
 ghost use Rattle.std.specs.Prelude.{◌≡◌, None, Some, OnOk, IfErr, IfSome, IsSome};
 ghost use Rattle.hyphenation_grammar.specs.Judging.{refusal_of};
-ghost use Rattle.hyphenation_load.specs.Load.{judgement_of, AppendsTo, IsLoadError};
+ghost use Rattle.hyphenation_load.specs.Load.{AppendsTo, IsLoadError};
 ghost use Rattle.command_line.specs.About.{help_or_version, WritesHelp};
 ghost use Rattle.canonical_command.specs.Canonical.{kind_of_args, reordered, IfAsked, IsExitStatus};
 ghost use Rattle.command_line.specs.Statuses.{BeforeOutput};
@@ -44,10 +44,10 @@ fn put_in_order<D: Load + Drop, R: Read, W: Write>(
     input: &mut R,
     output: &mut W,
 ) -> Result<()>
-    ensures accepted { OnOk result (IfSome (R.remaining input.old) (λ bytes. (D.judged bytes).refusal ≡ None)) }
+    ensures accepted { OnOk result (IfSome (R.remaining input.old) (λ bytes. D.refusal bytes ≡ None)) }
     ensures written { OnOk result (IfSome (R.remaining input.old) (λ bytes.
         AppendsTo W.contents output.old output.new (D.canonical (D.contents bytes)))) }
-    ensures refused { IfErr result (λ e. IfSome (R.remaining input.old) (λ bytes. IsLoadError (D.judged bytes) None e)) }
+    ensures refused { IfErr result (λ e. IfSome (R.remaining input.old) (λ bytes. IsLoadError (D.refusal bytes) e)) }
     ensures untouched { UnlessIo result (output.new ≡ output.old) }
 {
     let dictionary = D::any_from_reader(alloc, input)?;
@@ -65,7 +65,7 @@ fn put_kind_in_order<R: Read, W: Write>(
     ensures written { OnOk result (IfSome (R.remaining input.old) (λ bytes.
         AppendsTo W.contents output.old output.new (reordered kind bytes))) }
     ensures refused { IfErr result (λ e. IfSome (R.remaining input.old) (λ bytes.
-        IsLoadError (judgement_of kind bytes) None e)) }
+        IsLoadError (refusal_of kind bytes) e)) }
     ensures untouched { UnlessIo result (output.new ≡ output.old) }
 {
     match kind {

@@ -1,4 +1,4 @@
-//! What a program says of itself: its version and its usage.
+//! The texts of `--help` and `--version`.
 
 ghost use Rattle.std.specs.Prelude.{◌≡◌, None, OnOk};
 ghost use Rattle.command_line.specs.About.{help_or_version, version_line, WritesHelp};

@@ -1,4 +1,4 @@
-//! What the three programs share: the version, the arguments, the messages, and what a program says of itself.
+//! Shared by the three programs: the version, the arguments, the messages, and the texts of `--help` and `--version`.
 #![tactic(auto)]
 
 ghost use Rattle.std.specs.Prelude.{◌≡◌, ◌≢◌};

@@ -1,4 +1,4 @@
--- What the program `hyphenate-convert` writes, and the statuses that it ends with.
+-- The output and the statuses of the program `hyphenate-convert`.
 use Rattle.std.specs.Prelude.{◌≡◌, ◌⊎◌, ℕ, List, Option, IfSome}
 use Rattle.std.specs.Borrow.{Bor}
 use Rattle.std.specs.Io.KnownBytes.{Appends}
@@ -31,7 +31,8 @@ abbrev pub WritesFor : {W : Type 0} → List (Bor (List ℕ)) → (W → Option 
 WritesFor args contents old new =
     (parsed : ParsedArgs) × ParsesAs args parsed × WritesParsed parsed contents old new
 
--- The statuses: 0 done; 2 the arguments have no form, or the minima are missing; 3 a file can't be opened, read or
--- understood; 5 the result can't be written; 6 memory was refused.
+-- The statuses.
+-- 0: done. 2: the arguments have no form, or the minima are missing. 3: a file can't be opened, read or understood.
+-- 5: the result can't be written. 6: memory was refused.
 abbrev pub IsExitStatus : ℕ → Type 0
 IsExitStatus status = (status ≡ 0) ⊎ (status ≡ 2) ⊎ (status ≡ 3) ⊎ (status ≡ 5) ⊎ (status ≡ 6)

@@ -70,10 +70,10 @@ impl From<ConvertError> for Failure {
     ghost use Rattle.std.specs.Prelude.{◌≡◌};
     ghost use Rattle.convert_command.specs.declared.Failure.TheVariants.{Refused};
 
-    ghost from_gives = { λ refusal result. result ≡ Refused refusal };
+    ghost from_gives = { λ error result. result ≡ Refused error };
 
-    fn from(refusal: ConvertError) -> Failure {
-        Failure::Refused(refusal)
+    fn from(error: ConvertError) -> Failure {
+        Failure::Refused(error)
     }
 }
 
@@ -229,8 +229,7 @@ fn report_notes<E: Write>(alloc: Global, paths: &[&str], notes: &[Note], errors:
         let times = note.times;
         write_message(
             alloc,
-            &format_args!("hyphenate-convert: {path}:{line}: note: {kind} ({times})
-"),
+            &format_args!("hyphenate-convert: {path}:{line}: note: {kind} ({times})\n"),
             errors,
         );
     }

@@ -82,7 +82,7 @@ fn first_dot(text: &[u8]) -> Option<usize>
     text.iter().position(|b| *b == b'.')
 }
 
-// The tag of a language in a file's name, as hyph-utf8 names its files: `hyph-TAG.tex`, `hyph-quote-TAG.tex`,
+// The tag of a language in a file's name. hyph-utf8 names its files so: `hyph-TAG.tex`, `hyph-quote-TAG.tex`,
 // `hyph-TAG.pat.txt`.
 fn tag_of(path: &str) -> Option<&[u8]>
     ensures { option_map (λ tag. tag.now) result ≡ tag_in path.now }

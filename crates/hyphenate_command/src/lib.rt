@@ -1,7 +1,6 @@
 //! The program `hyphenate` without its `main`: its arguments, messages and statuses.
 //!
-//! By a dictionary it writes a text with marks at the breaks of its words, its lines of a column width, or the score
-//! of a word.
+//! By a dictionary it writes a text with marks at the breaks of its words, its lines, or the score of a word.
 #![tactic(auto)]
 
 ghost use Rattle.std.specs.Prelude.{◌≡◌, ◌≢◌, List, ℕ, Err, None, Some, Option, OnOk, IfSome, MatchOption};
@@ -31,7 +30,7 @@ pub const USAGE: &str =
 /// The message if memory was refused.
 pub const NO_MEMORY: &str = "hyphenate: no memory\n";
 
-// What a dictionary is for.
+// The task that a dictionary is for.
 #[derive(Drop)]
 enum Task<'w> {
     // The score of a word.

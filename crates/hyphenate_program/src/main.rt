@@ -1,5 +1,5 @@
-//! The program `hyphenate`: a text with marks at the breaks of its words, its lines of a column width, or the score of
-//! a word, by a dictionary.
+//! The program `hyphenate`: by a dictionary, a text with marks at the breaks of its words, its lines, or the score of a
+//! word.
 //!
 //! `main` hands its arguments to `hyphenate_command::answer`, which does the rest. Tests call that.
 #![tactic(auto)]

@@ -1,4 +1,4 @@
--- What whole runs write, and the order in which they fail.
+-- The output of whole runs, and the order in which they fail.
 use Rattle.std.specs.Prelude.{◌≡◌, ◌≢◌, ℕ, List, [], ◌∷◌, ◌++◌, map, decimal, IsUtf8, None, Result, Ok, Err, OnOk, IfOk, IfSome, Option, Some, ⊤}
 use Rattle.std.specs.Borrow.{Bor}
 use Rattle.std.specs.List.{join_with_byte}
@@ -17,10 +17,12 @@ use Rattle.std.specs.declared.io.ErrorKind.TheVariants.{OutOfMemory}
 use Rattle.hyphenation_hyphenator.specs.Fitting.{fitted_breaks_of}
 use Rattle.hyphenation_hyphenator.specs.Hyphenated.{hyphenated_text}
 use Rattle.hyphenation_hyphenator.specs.Opportunities.{no_change, own_break, rules_of, all_breaks_of}
-use Rattle.hyphenation_load.specs.Load.{Judgement, judgement_of, IsAccepted, IsLoadError, AppendsTo}
+use Rattle.hyphenation_grammar.specs.Judging.{refusal_of}
+use Rattle.hyphenation_grammar.specs.declared.Cause.{Cause}
+use Rattle.hyphenation_load.specs.Load.{language_of_text, IsAcceptedIn, IsLoadErrorIn, AppendsTo}
 use Rattle.hyphenation_score.specs.Scoring.{own_change, values}
 
--- ---- what is written
+-- ---- the output
 
 -- The texts of a list of borrowed texts.
 abbrev pub texts_now : List (Bor (List ℕ)) → List (List ℕ)
@@ -66,7 +68,7 @@ abbrev pub RunWrites : {W : Type 0} → Result (Unit {0}) RunError → (W → Op
 RunWrites result contents old new output dictionary input =
     OnOk result (IfBothKnown dictionary input (λ bytes text. AppendsTo contents old new (output bytes text)))
 
--- ---- in which order a run fails
+-- ---- the order in which a run fails
 
 -- This holds where a run ended before the reading of its text: over its dictionary, or over an edit.
 abbrev pub BeforeReading : {X : Type 0} → Result X RunError → Type 0 → Type 0
@@ -84,16 +86,17 @@ BeforeWriting (Err (Input e)) P = P
 BeforeWriting (Err (Output e)) P = ⊤
 BeforeWriting (Err Memory) P = P
 
--- The dictionary is judged first. Its errors are those that its text gives; and unless memory was refused, nothing else
--- is returned of a text that is not accepted or of another language.
-abbrev pub JudgesBytes : {X : Type 0} → Judgement → List ℕ → Result X RunError → Type 0
-JudgesBytes judged asked (Err (Dictionary e)) = IsLoadError judged (Some asked) e
-JudgesBytes judged asked (Err Memory) = ⊤
-JudgesBytes judged asked _ = IsAccepted judged (Some asked)
+-- The dictionary is judged first. Its errors are those that its text gives. Any other result, but that of refused
+-- memory, is of an accepted text of the asked language.
+abbrev pub JudgesBytes : {X : Type 0} → Option (ℕ × Cause) → List ℕ → List ℕ → Result X RunError → Type 0
+JudgesBytes refusal asked language (Err (Dictionary e)) = IsLoadErrorIn refusal asked language e
+JudgesBytes refusal asked language (Err Memory) = ⊤
+JudgesBytes refusal asked language _ = IsAcceptedIn refusal asked language
 
 -- The bytes of the dictionary, if they are known, are judged as a text of that kind and language.
 abbrev pub JudgesDictionary : {X : Type 0} → Kind → List ℕ → Option (List ℕ) → Result X RunError → Type 0
-JudgesDictionary kind asked known result = IfSome known (λ bytes. JudgesBytes (judgement_of kind bytes) asked result)
+JudgesDictionary kind asked known result =
+    IfSome known (λ bytes. JudgesBytes (refusal_of kind bytes) asked (language_of_text bytes) result)
 
 -- Then the edits: the first that is refused, by its number; any later error or result only if each is good.
 abbrev pub JudgesEdits : {X : Type 0} → Kind → List (List ℕ) → Result X RunError → Type 0
@@ -113,7 +116,7 @@ JudgesUtf8 text (Err _) = ⊤
 abbrev pub JudgesText : {X : Type 0} → Option (List ℕ) → Result X RunError → Type 0
 JudgesText known result = IfSome known (λ text. JudgesUtf8 text result)
 
--- ---- which errors a run has
+-- ---- the errors of a run
 
 -- Any error but one of writing.
 abbrev pub IsUnwritten : RunError → Type 0

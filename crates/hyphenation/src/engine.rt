@@ -3,7 +3,7 @@
 ghost use Rattle.std.specs.Prelude.{◌≡◌, ◌++◌, List, ℕ, OnOk, IfOk, IfErr, IfSome, decimal};
 ghost use Rattle.std.specs.String.{string_bytes};
 ghost use Rattle.hyphenation_load.specs.Load.{AppendsTo};
-ghost use Rattle.hyphenation.specs.Engine.{texts_now, score_line, score_by, run_output, RunReturns, RunWrites};
+ghost use Rattle.hyphenation.specs.Engine.{texts_now, score_line, values_by, score_by, run_output, RunReturns, RunWrites};
 ghost use Rattle.hyphenation.specs.Engine.{JudgesBytes, JudgesDictionary, JudgesEdits, JudgesText};
 ghost use Rattle.hyphenation.specs.Engine.{BeforeReading, BeforeWriting, IsScoreError, IsUnwritten, HidesNoOutOfMemory};
 ghost use Rattle.hyphenation.specs.Private.Engine.{space_before, IsDictionaryError};
@@ -95,13 +95,33 @@ fn values_of<K: RunDictionary, D: Read>(
     word: &str,
     reader: &mut D,
 ) -> Result<Vec<u8>, RunError>
-    ensures dictionary { IfSome (D.remaining reader.old) (λ bytes. JudgesBytes (K.judged bytes) lang result) }
+    ensures dictionary { IfSome (D.remaining reader.old) (λ bytes.
+        JudgesBytes (K.refusal bytes) lang (K.language (K.contents bytes)) result) }
     ensures values { IfOk result (λ found.
         IfSome (D.remaining reader.old) (λ bytes. found.items ≡ K.values_of (K.contents bytes) word.now)) }
     ensures dictionary_error { IfErr result IsDictionaryError }
 {
     let dictionary = K::from_reader(alloc, lang, reader)?;
     Ok(dictionary.values(alloc, word)?)
+}
+
+// The values of a word by the dictionary of that kind and language that a reader's bytes give.
+fn values_by<D: Read>(
+    alloc: Global,
+    kind: Kind,
+    lang: Language,
+    word: &str,
+    reader: &mut D,
+) -> Result<Vec<u8>, RunError>
+    ensures dictionary { JudgesDictionary kind lang (D.remaining reader.old) result }
+    ensures values { IfOk result (λ found.
+        IfSome (D.remaining reader.old) (λ bytes. found.items ≡ values_by kind word.now bytes)) }
+    ensures dictionary_error { IfErr result IsDictionaryError }
+{
+    match kind {
+        Kind::Standard => values_of::<Standard, D>(alloc, lang, word, reader),
+        Kind::Extended => values_of::<Extended, D>(alloc, lang, word, reader),
+    }
 }
 
 // The line of a word's values by the dictionary of that kind and language that a reader's bytes give.
@@ -117,10 +137,7 @@ fn score_line<D: Read>(
         IfSome (D.remaining reader.old) (λ bytes. string_bytes line ≡ score_by kind word.now bytes)) }
     ensures dictionary_error { IfErr result IsDictionaryError }
 {
-    let values = match kind {
-        Kind::Standard => values_of::<Standard, D>(alloc, lang, word, reader)?,
-        Kind::Extended => values_of::<Extended, D>(alloc, lang, word, reader)?,
-    };
+    let values = values_by(alloc, kind, lang, word, reader)?;
     Ok(line_of(alloc, &values)?)
 }
 
@@ -181,12 +198,11 @@ fn text_by<D: Read, I: Read>(
     }
 }
 
-/// Loads a dictionary of that kind and language, edits its exceptions, and writes the text of the input with the mark
-/// at each break of its words.
+/// Writes the text of an input with the mark at each break of its words, by a dictionary of that kind and language.
 ///
-/// The steps come in this order. The dictionary is loaded. The edits are judged and done, from first to last. The
-/// input is read to its end, and must be UTF-8. The result is written, once all of it is made. The first step that
-/// fails gives the error; [`RunError`] has one for each. Words are what stands between word bounds.
+/// The steps come in this order. The dictionary is loaded. The edits of its exceptions are judged and done, from first
+/// to last. The input is read to its end, and must be UTF-8. The result is written, once all of it is made. The first
+/// step that fails gives the error; [`RunError`] has one for each. A word is a piece of the text between word bounds.
 ///
 /// ```text
 /// let mut dictionary = &b"hyphenation 1 standard\nlanguage en-us\nminima 2 3\ne hyphenation 2 6 7\n"[..];

@@ -1,59 +1,70 @@
--- What loading a dictionary returns, and how writing one fails.
+-- The results of loading a dictionary, and the errors of writing one.
 use Rattle.std.specs.Prelude.{◌≡◌, ◌≢◌, ℕ, List, [], Option, None, Some, Result, Ok, Err, IfSome, MatchResult, slice_index_or, unwrap_or, ⊤}
 use Rattle.std.specs.Io.KnownBytes.{Appends}
 use Rattle.std.specs.IoError.{error_kind}
 use Rattle.std.specs.declared.io.ErrorKind.TheVariants.{OutOfMemory}
-use Rattle.hyphenation_grammar.specs.Judging.{refusal_of}
 use Rattle.hyphenation_grammar.specs.Lines.{lines_of, language_of}
 use Rattle.hyphenation_grammar.specs.declared.Cause.{Cause}
 use Rattle.hyphenation_grammar.specs.declared.Error.{Error}
 use Rattle.hyphenation_grammar.specs.declared.Error.TheVariants.{Deserialization, IO, LanguageMismatch, Memory}
-use Rattle.hyphenation_grammar.specs.declared.form.Kind.{Kind}
 
--- The judgement on the text of a dictionary: its first faulty line with the cause, if one is faulty, and its language.
-pub record Judgement : Type 0 where
-  pub refusal : Option (ℕ × Cause)
-  pub language : List ℕ
+-- The code that line 2 of a text names, whatever its kind; empty if it names none.
+abbrev pub language_of_text : List ℕ → List ℕ
+language_of_text bytes = unwrap_or (language_of (slice_index_or (lines_of bytes) 1 [])) []
 
--- The judgement on a text of that kind. Its line 2 names the language; an empty one stands for none.
-abbrev pub judgement_of : Kind → List ℕ → Judgement
-judgement_of kind bytes = record {
-  refusal = refusal_of kind bytes;
-  language = unwrap_or (language_of (slice_index_or (lines_of bytes) 1 [])) [];
-}
+-- The error is the one that a text gives: its first faulty line with the cause. No language is asked for, so there is no
+-- mismatch. Errors of memory and I/O say nothing of the text.
+abbrev pub IsLoadError : Option (ℕ × Cause) → Error → Type 0
+IsLoadError refusal (Deserialization line cause) = refusal ≡ Some (line, cause)
+IsLoadError refusal (LanguageMismatch expected found) = ⊥
+IsLoadError refusal (IO e) = ⊤
+IsLoadError refusal (Memory e) = ⊤
 
--- The text is accepted, and of the asked language if one is asked for.
-abbrev pub IsAccepted : Judgement → Option (List ℕ) → Type 0
-IsAccepted judged asked = (judged.refusal ≡ None) × IfSome asked (λ code. judged.language ≡ code)
+-- Loading a text returns its dictionary exactly where it is accepted, else such an error.
+abbrev pub Loads : {D : Type 0} → Option (ℕ × Cause) → D → Result D Error → Type 0
+Loads refusal contents result =
+    MatchResult result (λ dictionary. (refusal ≡ None) × (dictionary ≡ contents)) (IsLoadError refusal)
 
--- The error is the one that the text gives: its first faulty line with the cause; or, if it is accepted and of another
--- language than the asked one, both codes. Errors of memory and I/O say nothing of the text.
-abbrev pub IsLoadError : Judgement → Option (List ℕ) → Error → Type 0
-IsLoadError judged asked (Deserialization line cause) = judged.refusal ≡ Some (line, cause)
-IsLoadError judged asked (LanguageMismatch expected found) =
-    (judged.refusal ≡ None) × (asked ≡ Some expected) × (judged.language ≡ found) × (found ≢ expected)
-IsLoadError judged asked (IO e) = ⊤
-IsLoadError judged asked (Memory e) = ⊤
+-- The text is accepted, and of the asked language.
+abbrev pub IsAcceptedIn : Option (ℕ × Cause) → List ℕ → List ℕ → Type 0
+IsAcceptedIn refusal asked language = (refusal ≡ None) × (language ≡ asked)
 
--- Loading a text returns its dictionary exactly where it is accepted and of the asked language, else such an error.
-abbrev pub Loads : {D : Type 0} → Judgement → Option (List ℕ) → D → Result D Error → Type 0
-Loads judged asked contents result =
-    MatchResult result (λ dictionary. IsAccepted judged asked × (dictionary ≡ contents)) (IsLoadError judged asked)
+-- The error is the one that a text of this language gives if another one is asked for: its first faulty line with the
+-- cause; or, if it is accepted, both codes, which differ.
+abbrev pub IsLoadErrorIn : Option (ℕ × Cause) → List ℕ → List ℕ → Error → Type 0
+IsLoadErrorIn refusal asked language (Deserialization line cause) = refusal ≡ Some (line, cause)
+IsLoadErrorIn refusal asked language (LanguageMismatch expected found) =
+    (refusal ≡ None) × (language ≡ found) × (expected ≡ asked) × (found ≢ asked)
+IsLoadErrorIn refusal asked language (IO e) = ⊤
+IsLoadErrorIn refusal asked language (Memory e) = ⊤
+
+-- Loading in a language returns the dictionary exactly where the text is accepted and of that language, else such an
+-- error. The language of a text is that of its dictionary.
+abbrev pub LoadsIn : {D : Type 0} → (List ℕ → Option (ℕ × Cause)) → (List ℕ → D) → (D → List ℕ) → List ℕ → List ℕ
+    → Result D Error → Type 0
+LoadsIn refusal contents language asked bytes result =
+    MatchResult result
+    (λ dictionary. (refusal bytes ≡ None) × (dictionary ≡ contents bytes) × (language (contents bytes) ≡ asked))
+    (IsLoadErrorIn (refusal bytes) asked (language (contents bytes)))
 
 -- Loading a path fails by I/O or for memory, or returns what the bytes of some file give, if they are known.
-abbrev pub LoadsSomeFile : {F D : Type 0} → (F → Option (List ℕ)) → (List ℕ → Judgement) → List ℕ → (List ℕ → D)
-    → Result D Error → Type 0
-LoadsSomeFile remaining judged asked contents (Err (IO e)) = ⊤
-LoadsSomeFile remaining judged asked contents (Err (Memory e)) = ⊤
-LoadsSomeFile {F} remaining judged asked contents result =
-    (file : F) × IfSome (remaining file) (λ bytes. Loads (judged bytes) (Some asked) (contents bytes) result)
+abbrev pub LoadsSomeFile : {F D : Type 0} → (F → Option (List ℕ)) → (List ℕ → Option (ℕ × Cause)) → (List ℕ → D)
+    → (D → List ℕ) → List ℕ → Result D Error → Type 0
+LoadsSomeFile remaining refusal contents language asked (Err (IO e)) = ⊤
+LoadsSomeFile remaining refusal contents language asked (Err (Memory e)) = ⊤
+LoadsSomeFile {F} remaining refusal contents language asked result =
+    (file : F) × IfSome (remaining file) (λ bytes. LoadsIn refusal contents language asked bytes result)
 
--- Whatever was read, a dictionary is of the asked language, and a mismatch names that language and another one. If no
--- language is asked for, there is no mismatch.
-abbrev pub RespectsLanguage : {D : Type 0} → (D → List ℕ) → Option (List ℕ) → Result D Error → Type 0
-RespectsLanguage language asked (Ok dictionary) = IfSome asked (λ code. language dictionary ≡ code)
-RespectsLanguage language asked (Err (LanguageMismatch expected found)) = (asked ≡ Some expected) × (found ≢ expected)
+-- Whatever was read, a dictionary is of the asked language, and a mismatch names that language and another one.
+abbrev pub RespectsLanguage : {D : Type 0} → (D → List ℕ) → List ℕ → Result D Error → Type 0
+RespectsLanguage language asked (Ok dictionary) = language dictionary ≡ asked
+RespectsLanguage language asked (Err (LanguageMismatch expected found)) = (expected ≡ asked) × (found ≢ asked)
 RespectsLanguage language asked (Err _) = ⊤
+
+-- No language is asked for, so there is no mismatch.
+abbrev pub HasNoMismatch : {D : Type 0} → Result D Error → Type 0
+HasNoMismatch (Err (LanguageMismatch expected found)) = ⊥
+HasNoMismatch _ = ⊤
 
 -- The result is no I/O error.
 abbrev pub IsNotIo : {D : Type 0} → Result D Error → Type 0

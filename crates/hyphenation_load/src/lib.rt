@@ -4,10 +4,11 @@
 //! judged, and a text is whole before any of it is written.
 #![tactic(auto)]
 
-ghost use Rattle.std.specs.Prelude.{◌≡◌, ◌≢◌, ◌↔◌, Ok, Err, None, Some, List, ℕ, IfOk, IfErr, IfSome, IsTrue, OnOk, alloc_error};
+ghost use Rattle.std.specs.Prelude.{◌≡◌, ◌≢◌, ◌↔◌, Ok, Err, None, List, ℕ, IfOk, IfErr, IfSome, IsTrue, Option, OnOk, alloc_error};
 ghost use Rattle.std.specs.Io.KnownBytes.{IsAtEnd};
 ghost use Rattle.std.specs.IoError.{error_kind};
-ghost use Rattle.hyphenation_load.specs.Load.{Judgement, Loads, LoadsSomeFile, RespectsLanguage};
+ghost use Rattle.hyphenation_grammar.specs.declared.Cause.{Cause};
+ghost use Rattle.hyphenation_load.specs.Load.{Loads, LoadsIn, LoadsSomeFile, RespectsLanguage, HasNoMismatch};
 ghost use Rattle.hyphenation_load.specs.Load.{IsNotIo, IsNotOutOfMemory, AppendsTo, IfMemory, IsWriteError};
 ghost use Rattle.hyphenation_load.specs.Private.Load.{error_of, ChecksLanguage, IsReadError};
 
@@ -25,8 +26,8 @@ use std::{fs, io};
 
 /// A kind of dictionary that is loaded from its text and written as one.
 pub trait Load: Sized {
-    /// The judgement on a text: its first faulty line with the cause, if one is faulty, and its language.
-    ghost judged: { List ℕ → Judgement };
+    /// The line and cause for which a text is refused; none if it is accepted.
+    ghost refusal: { List ℕ → Option (ℕ × Cause) };
 
     /// The dictionary that an accepted text gives.
     ghost contents: { List ℕ → Self };
@@ -47,7 +48,7 @@ pub trait Load: Sized {
     /// let dictionary = Standard::from_read(alloc, read_all(alloc, &mut file))?;
     /// ```
     fn from_read(alloc: Global, read: io::Result<Vec<u8>>) -> Result<Self>
-        ensures loaded { IfOk read (λ bytes. Loads (judged bytes.items) None (contents bytes.items) result) }
+        ensures loaded { IfOk read (λ bytes. Loads (refusal bytes.items) (contents bytes.items) result) }
         ensures no_io_error { IfOk read (λ _. IsNotIo result) }
         ensures memory { IfErr read (λ e.
             error_kind e ≡ ErrorKind.OutOfMemory → result ≡ Err (Error.Memory alloc_error)) }
@@ -63,9 +64,9 @@ pub trait Load: Sized {
     /// let dictionary = Standard::any_from_reader(alloc, &mut text)?;
     /// ```
     fn any_from_reader<R: Read>(alloc: Global, reader: &mut R) -> Result<Self>
-        ensures loaded { IfSome (R.remaining reader.old) (λ bytes. Loads (judged bytes) None (contents bytes) result) }
+        ensures loaded { IfSome (R.remaining reader.old) (λ bytes. Loads (refusal bytes) (contents bytes) result) }
         ensures read_to_end { OnOk result (IsAtEnd (R.remaining reader.new)) }
-        ensures no_mismatch { RespectsLanguage language None result }
+        ensures no_mismatch { HasNoMismatch result }
         ensures not_out_of_memory { IfErr result IsNotOutOfMemory }
     {
         Self::from_read(alloc, read_all(alloc, reader))
@@ -83,9 +84,9 @@ pub trait Load: Sized {
     /// ```
     fn from_reader<R: Read>(alloc: Global, lang: Language, reader: &mut R) -> Result<Self>
         ensures loaded { IfSome (R.remaining reader.old) (λ bytes.
-            Loads (judged bytes) (Some lang) (contents bytes) result) }
+            LoadsIn refusal contents language lang bytes result) }
         ensures read_to_end { OnOk result (IsAtEnd (R.remaining reader.new)) }
-        ensures in_language { RespectsLanguage language (Some lang) result }
+        ensures in_language { RespectsLanguage language lang result }
         ensures not_out_of_memory { IfErr result IsNotOutOfMemory };
 
     /// Loads a dictionary of the language `lang` from the file at a path: opens it, and reads it by `from_reader`.
@@ -97,8 +98,8 @@ pub trait Load: Sized {
     /// let dictionary = Standard::from_path(&rt, rt.alloc(), lang, "examples/firkin.txt")?;
     /// ```
     fn from_path<F: Files>(rt: &F, alloc: Global, lang: Language, path: &str) -> Result<Self>
-        ensures of_some_file { LoadsSomeFile F.File.remaining judged lang contents result }
-        ensures in_language { RespectsLanguage language (Some lang) result }
+        ensures of_some_file { LoadsSomeFile F.File.remaining refusal contents language lang result }
+        ensures in_language { RespectsLanguage language lang result }
         ensures not_out_of_memory { IfErr result IsNotOutOfMemory }
     {
         let mut file = fs::open(rt, path).map_err(error_of_reading)?;
@@ -107,9 +108,9 @@ pub trait Load: Sized {
 
     /// Returns the canonical text of the dictionary, from which this very dictionary is loaded again.
     ///
-    /// It has the three head lines, a line for each key in the order of their bytes, and a line for each exception in
-    /// the order of theirs. Only bytes that must be escaped are. It is of version 1 if each value is at most 9, else
-    /// of version 2. The only error is that memory was refused.
+    /// It has the three head lines, then a line for each key, then one for each exception, both in the order of their
+    /// bytes. Only bytes that must be escaped are. It is of version 1 if each value is at most 9, else of version 2.
+    /// The only error is that memory was refused.
     ///
     /// ```text
     /// let text = dictionary.to_text(alloc)?;
@@ -117,7 +118,7 @@ pub trait Load: Sized {
     /// ```
     fn to_text(&self, alloc: Global) -> std::result::Result<Vec<u8>, AllocError>
         ensures canonical { IfOk result (λ text. text.items ≡ canonical self.now) }
-        ensures accepted { IfOk result (λ text. (judged text.items).refusal ≡ None) }
+        ensures accepted { IfOk result (λ text. refusal text.items ≡ None) }
         ensures read_again { IfOk result (λ text. self.now ≡ contents text.items) };
 
     /// Writes the canonical text of the dictionary, once all of it is made.
@@ -130,7 +131,7 @@ pub trait Load: Sized {
     /// ```
     fn to_writer<W: Write>(&self, alloc: Global, writer: &mut W) -> Result<()>
         ensures written { OnOk result (AppendsTo W.contents writer.old writer.new (canonical self.now)) }
-        ensures accepted { OnOk result ((judged (canonical self.now)).refusal ≡ None) }
+        ensures accepted { OnOk result (refusal (canonical self.now) ≡ None) }
         ensures read_again { OnOk result (self.now ≡ contents (canonical self.now)) }
         ensures unwritten_without_memory { IfMemory result (writer.new ≡ writer.old) }
         ensures write_error { IfErr result IsWriteError }
@@ -199,10 +200,10 @@ fn error_of_reading(e: io::Error) -> Error
 impl Load for Standard {
     ghost use Rattle.hyphenation_grammar.specs.declared.form.Kind.TheVariants.{Standard as OfStandard};
     ghost use Rattle.hyphenation_grammar.specs.Reading.{standard_contents};
-    ghost use Rattle.hyphenation_load.specs.Load.{judgement_of};
+    ghost use Rattle.hyphenation_grammar.specs.Judging.{refusal_of};
     ghost use Rattle.hyphenation_writer.specs.Canonical.{standard_text};
 
-    ghost judged = { judgement_of OfStandard };
+    ghost refusal = { refusal_of OfStandard };
 
     ghost contents = { standard_contents };
 
@@ -227,10 +228,10 @@ impl Load for Standard {
 impl Load for Extended {
     ghost use Rattle.hyphenation_grammar.specs.declared.form.Kind.TheVariants.{Extended as OfExtended};
     ghost use Rattle.hyphenation_grammar.specs.Reading.{extended_contents};
-    ghost use Rattle.hyphenation_load.specs.Load.{judgement_of};
+    ghost use Rattle.hyphenation_grammar.specs.Judging.{refusal_of};
     ghost use Rattle.hyphenation_writer.specs.Canonical.{extended_text};
 
-    ghost judged = { judgement_of OfExtended };
+    ghost refusal = { refusal_of OfExtended };
 
     ghost contents = { extended_contents };
 

@@ -1,4 +1,4 @@
--- What a run that fills lines writes.
+-- The output of a run that fills lines.
 use Rattle.std.specs.Prelude.{ℕ, List}
 use Rattle.hyphenation_breaks.specs.Break.{plain_break}
 use Rattle.hyphenation_breaks.specs.Dictionary.{Contents}

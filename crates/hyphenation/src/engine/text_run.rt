@@ -85,7 +85,8 @@ pub(super) fn run_text<K: RunDictionary, D: Read, I: Read>(
     reader: &mut D,
     input: &mut I,
 ) -> Result<String, RunError>
-    ensures dictionary { IfSome (D.remaining reader.old) (λ bytes. JudgesBytes (K.judged bytes) lang result) }
+    ensures dictionary { IfSome (D.remaining reader.old) (λ bytes.
+        JudgesBytes (K.refusal bytes) lang (K.language (K.contents bytes)) result) }
     ensures edits { JudgesEdits K.kind (texts_now edits.now) result }
     ensures text { JudgesText (I.remaining input.old) result }
     ensures output { RunReturns string_bytes result (made_by K.contents K.edited K.breaks_of edits.now mark.now)
