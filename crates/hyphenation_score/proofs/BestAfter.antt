@@ -7,8 +7,8 @@ use Rattle.hyphenation_breaks.specs.Dictionary.{Patterns}
 use Rattle.hyphenation_breaks.specs.declared.entry.Entry.{Entry}
 use Rattle.hyphenation_score.specs.Scoring.{greatest_value, first_greatest, bearers_between, bearers_from, bearers, value_of}
 use Rattle.hyphenation_score.specs.Private.Scoring.{greater}
-use Rattle.hyphenation_score.specs.Winners.{IsPair, IsBest, Best, Holds, Before}
-use Rattle.hyphenation_score.specs.Private.Winners.{beats, beats_best, meets, start_at, Sane}
+use Rattle.hyphenation_score.specs.Winners.{IsPair, IsBest, BestSoFar, IsBestOf, Before}
+use Rattle.hyphenation_score.specs.Private.Winners.{beats, beats_best, best_after, start_at, StartsAtZeroIfNone}
 use Rattle.hyphenation_score.proofs.FirstGreatest.{first_none, value_of-first, first-append, greater_first, greater_second, greater_none, greater_one}
 use Rattle.hyphenation_score.proofs.GreatestValues.{greatest_value-within, filter-append}
 
@@ -21,7 +21,7 @@ first_value {C} es e is =
       | inr some ↦ (v, omega arith)
     ]
 
--- of joined lists, the first is of the list that first gives the greatest value
+-- the first greatest of joined lists is in the list that first has the greatest value
 first_of : {C : Type 0} (f : ℕ → List (Entry C)) (a n k : ℕ) (e : Entry C) → a ≤ k → k < a + n → first_greatest (f k) ≡ Some e
     → ((j : ℕ) → a ≤ j → j < a + n → greatest_value (f j) ≤ e.value) → ((j : ℕ) → a ≤ j → j < k → greatest_value (f j) < e.value)
     → first_greatest (flat_map f (range_with_len a n)) ≡ Some e
@@ -66,7 +66,7 @@ winner_is keys framed p s e entry best =
     ]) in
     omega (arith, v.1))
 
--- where no pair gives a value, there is no winner
+-- there is no winner if no pair gives a value
 pub winner_none : {C : Type 0} (keys : Patterns C) (framed : List ℕ) (p : ℕ) → ((s e : ℕ) → IsPair framed s e → greatest_value (bearers_between keys framed p s e) ≡ 0) → first_greatest (bearers keys framed p) ≡ None
 winner_none keys framed p none =
     let all = greatest_value-within (λ start. bearers_from keys framed p start) 0 (length framed) 0 (λ s low high. greatest_value-within (λ end. bearers_between keys framed p s end) (s + 1) (length framed - s) 0 (λ e elow ehigh. let h = none s e (omega arith, omega arith) in omega arith)) in
@@ -77,10 +77,10 @@ winner_none keys framed p none =
 eqb_false : (a b : ℕ) → (a ≡ b → ⊥) → eqb a b ≡ false
 eqb_false a b apart = elim (eqb a b) as (λ t. eqb a b ≡ t → t ≡ false) [ true ↦ λ e. absurd (apart (eqb-true a b e)) | false ↦ λ e. refl ] refl
 
-pub beats_greater : {C : Type 0} (now : Best C) (start : ℕ) (e : Entry C) → value_of now.0 < e.value → meets now start (Some e) ≡ (Some e, start)
+pub beats_greater : {C : Type 0} (now : BestSoFar C) (start : ℕ) (e : Entry C) → value_of now.0 < e.value → best_after now start (Some e) ≡ (Some e, start)
 beats_greater now start e lt = ap (λ t. cond (t || (eqb (value_of now.0) e.value && ltb start now.1)) (Some e, start) now) (lt-ltb (value_of now.0) e.value lt)
 
-pub beats_earlier : {C : Type 0} (now : Best C) (start : ℕ) (e : Entry C) → value_of now.0 ≡ e.value → start < now.1 → meets now start (Some e) ≡ (Some e, start)
+pub beats_earlier : {C : Type 0} (now : BestSoFar C) (start : ℕ) (e : Entry C) → value_of now.0 ≡ e.value → start < now.1 → best_after now start (Some e) ≡ (Some e, start)
 beats_earlier now start e same lt =
     let no_less = le-ltb (value_of now.0) e.value (omega arith) in
     let equal = eq-eqb (value_of now.0) e.value same in
@@ -88,13 +88,13 @@ beats_earlier now start e same lt =
     ap (λ t. cond (t || (eqb (value_of now.0) e.value && ltb start now.1)) (Some e, start) now) no_less
     ∙ ap (λ t. cond (t && ltb start now.1) (Some e, start) now) equal ∙ ap (λ t. cond t (Some e, start) now) earlier
 
-pub beaten_less : {C : Type 0} (now : Best C) (start : ℕ) (e : Entry C) → e.value < value_of now.0 → meets now start (Some e) ≡ now
+pub beaten_less : {C : Type 0} (now : BestSoFar C) (start : ℕ) (e : Entry C) → e.value < value_of now.0 → best_after now start (Some e) ≡ now
 beaten_less now start e lt =
     let no_less = le-ltb (value_of now.0) e.value (omega arith) in
     let other = eqb_false (value_of now.0) e.value (λ same. absurd (omega arith)) in
     ap (λ t. cond (t || (eqb (value_of now.0) e.value && ltb start now.1)) (Some e, start) now) no_less ∙ ap (λ t. cond (t && ltb start now.1) (Some e, start) now) other
 
-pub beaten_later : {C : Type 0} (now : Best C) (start : ℕ) (e : Entry C) → value_of now.0 ≡ e.value → now.1 ≤ start → meets now start (Some e) ≡ now
+pub beaten_later : {C : Type 0} (now : BestSoFar C) (start : ℕ) (e : Entry C) → value_of now.0 ≡ e.value → now.1 ≤ start → best_after now start (Some e) ≡ now
 beaten_later now start e same le =
     let no_less = le-ltb (value_of now.0) e.value (omega arith) in
     let equal = eq-eqb (value_of now.0) e.value same in
@@ -156,9 +156,9 @@ best_old keys framed p asked next s e s1 e1 entry best split here worse = record
   ];
 }
 
--- where the pair gives no value, nothing changes
-pub holds_skip : {C : Type 0} (keys : Patterns C) (framed : List ℕ) (p : ℕ) (asked next : ℕ → ℕ → Type 0) (now : Best C) → Holds keys framed p asked now
-    → ((a b : ℕ) → asked a b → next a b) → ((a b : ℕ) → next a b → asked a b ⊎ (greatest_value (bearers_between keys framed p a b) ≡ 0)) → Holds keys framed p next now
+-- a pair without a value changes nothing
+pub holds_skip : {C : Type 0} (keys : Patterns C) (framed : List ℕ) (p : ℕ) (asked next : ℕ → ℕ → Type 0) (now : BestSoFar C) → IsBestOf keys framed p asked now
+    → ((a b : ℕ) → asked a b → next a b) → ((a b : ℕ) → next a b → asked a b ⊎ (greatest_value (bearers_between keys framed p a b) ≡ 0)) → IsBestOf keys framed p next now
 holds_skip keys framed p asked next now holds more split = elim holds [
   | inl none ↦ inl (none.0, none.1, λ a b h. elim (split a b h) [ inl old ↦ none.2 a b old | inr nil ↦ nil ])
   | inr some ↦
@@ -181,12 +181,12 @@ before_ends : (s e s1 e1 : ℕ) → s ≤ s1 → e ≤ e1 → Before s e s1 e1
 before_ends s e s1 e1 le ends = elim (cases_lt s s1) [ inl less ↦ inl less | inr not ↦ inr (omega arith, ends) ]
 
 -- the pair gives this entry
-pub holds_more : {C : Type 0} (keys : Patterns C) (framed : List ℕ) (p : ℕ) (asked next : ℕ → ℕ → Type 0) (now : Best C) (s1 e1 : ℕ) (entry1 : Entry C) → Holds keys framed p asked now
+pub holds_more : {C : Type 0} (keys : Patterns C) (framed : List ℕ) (p : ℕ) (asked next : ℕ → ℕ → Type 0) (now : BestSoFar C) (s1 e1 : ℕ) (entry1 : Entry C) → IsBestOf keys framed p asked now
     → ((a b : ℕ) → asked a b → next a b) → ((a b : ℕ) → next a b → asked a b ⊎ ((a ≡ s1) × (b ≡ e1))) → next s1 e1 → ((a b : ℕ) → asked a b → b ≤ e1)
-    → first_greatest (bearers_between keys framed p s1 e1) ≡ Some entry1 → Holds keys framed p next (meets now s1 (Some entry1))
+    → first_greatest (bearers_between keys framed p s1 e1) ≡ Some entry1 → IsBestOf keys framed p next (best_after now s1 (Some entry1))
 holds_more {C} keys framed p asked next now s1 e1 entry1 holds more split here ends is =
     let v1 = first_value (bearers_between keys framed p s1 e1) entry1 is in
-    let go : (to : Best C) → meets now s1 (Some entry1) ≡ to → Holds keys framed p next to → Holds keys framed p next (meets now s1 (Some entry1)) = λ to e h. subst (λ (x : Best C). Holds keys framed p next x) (sym e) h in
+    let go : (to : BestSoFar C) → best_after now s1 (Some entry1) ≡ to → IsBestOf keys framed p next to → IsBestOf keys framed p next (best_after now s1 (Some entry1)) = λ to e h. subst (λ (x : BestSoFar C). IsBestOf keys framed p next x) (sym e) h in
     elim holds [
       | inl none ↦
           let zero_is : value_of now.0 ≡ 0 = ap value_of none.0 in
@@ -222,7 +222,7 @@ holds_more {C} keys framed p asked next now s1 e1 entry1 holds more split here e
           ]
     ]
 
-pub holds_sane : {C : Type 0} (keys : Patterns C) (framed : List ℕ) (p : ℕ) (asked : ℕ → ℕ → Type 0) (now : Best C) → Holds keys framed p asked now → Sane now
+pub holds_sane : {C : Type 0} (keys : Patterns C) (framed : List ℕ) (p : ℕ) (asked : ℕ → ℕ → Type 0) (now : BestSoFar C) → IsBestOf keys framed p asked now → StartsAtZeroIfNone now
 holds_sane keys framed p asked now holds = elim holds [
   | inl none ↦ λ nil. none.1
   | inr some ↦ λ nil.
@@ -232,11 +232,11 @@ holds_sane keys framed p asked now holds = elim holds [
 ]
 
 -- a pair is visited
-pub holds_visit : {C : Type 0} (keys : Patterns C) (framed : List ℕ) (p : ℕ) (asked next : ℕ → ℕ → Type 0) (now : Best C) (s1 e1 : ℕ) → Holds keys framed p asked now
+pub holds_visit : {C : Type 0} (keys : Patterns C) (framed : List ℕ) (p : ℕ) (asked next : ℕ → ℕ → Type 0) (now : BestSoFar C) (s1 e1 : ℕ) → IsBestOf keys framed p asked now
     → ((a b : ℕ) → asked a b → next a b) → ((a b : ℕ) → next a b → asked a b ⊎ ((a ≡ s1) × (b ≡ e1))) → next s1 e1 → ((a b : ℕ) → asked a b → b ≤ e1)
-    → Holds keys framed p next (meets now s1 (first_greatest (bearers_between keys framed p s1 e1)))
+    → IsBestOf keys framed p next (best_after now s1 (first_greatest (bearers_between keys framed p s1 e1)))
 holds_visit {C} keys framed p asked next now s1 e1 holds more split here ends =
-    elim (first_greatest (bearers_between keys framed p s1 e1)) as (λ o. first_greatest (bearers_between keys framed p s1 e1) ≡ o → Holds keys framed p next (meets now s1 o)) [
+    elim (first_greatest (bearers_between keys framed p s1 e1)) as (λ o. first_greatest (bearers_between keys framed p s1 e1) ≡ o → IsBestOf keys framed p next (best_after now s1 o)) [
       | None ↦ λ is.
           let nil : greatest_value (bearers_between keys framed p s1 e1) ≡ 0 = sym (value_of-first (bearers_between keys framed p s1 e1)) ∙ ap value_of is in
           holds_skip keys framed p asked next now holds more (λ a b h. elim (split a b h) [
@@ -248,36 +248,36 @@ holds_visit {C} keys framed p asked next now s1 e1 holds more split here ends =
 
 -- ---- the entries of one key
 
--- one of them after another is the first of the greatest of them
-meets_greater : {C : Type 0} (first : Best C) (s : ℕ) (a : Option (Entry C)) (e : Entry C) → Sane first → meets (meets first s a) s (Some e) ≡ meets first s (greater a (Some e))
+-- entries met one after another leave the first of the greatest
+meets_greater : {C : Type 0} (first : BestSoFar C) (s : ℕ) (a : Option (Entry C)) (e : Entry C) → StartsAtZeroIfNone first → best_after (best_after first s a) s (Some e) ≡ best_after first s (greater a (Some e))
 meets_greater {C} first s None e sane = elim (cases_eq e.value 0) [
   | inl nil ↦
-      let stays : meets first s (Some e) ≡ first = elim (cases_eq (value_of first.0) 0) [
+      let stays : best_after first s (Some e) ≡ first = elim (cases_eq (value_of first.0) 0) [
         | inl zero_is ↦ beaten_later first s e (omega arith) (omega (arith, sane zero_is))
         | inr pos ↦ beaten_less first s e (omega arith)
       ] in
-      stays ∙ sym (ap (meets first s) (greater_first None (Some e) (omega arith)))
-  | inr pos ↦ sym (ap (meets first s) (greater_second None (Some e) (omega arith)))
+      stays ∙ sym (ap (best_after first s) (greater_first None (Some e) (omega arith)))
+  | inr pos ↦ sym (ap (best_after first s) (greater_second None (Some e) (omega arith)))
 ]
 meets_greater {C} first s (Some x) e sane =
-    let wins : meets first s (Some x) ≡ (Some x, s) → ((value_of first.0 < x.value) ⊎ (value_of first.0 ≡ x.value)) → meets (meets first s (Some x)) s (Some e) ≡ meets first s (greater (Some x) (Some e)) = λ is low.
+    let wins : best_after first s (Some x) ≡ (Some x, s) → ((value_of first.0 < x.value) ⊎ (value_of first.0 ≡ x.value)) → best_after (best_after first s (Some x)) s (Some e) ≡ best_after first s (greater (Some x) (Some e)) = λ is low.
     elim (cases_lt x.value e.value) [
       | inl lt ↦
           let under : value_of first.0 < e.value = elim low [ inl less ↦ omega arith | inr same ↦ omega arith ] in
-          ap (λ n. meets n s (Some e)) is ∙ beats_greater (Some x, s) s e lt ∙ sym (beats_greater first s e under) ∙ sym (ap (meets first s) (greater_second (Some x) (Some e) lt))
+          ap (λ n. best_after n s (Some e)) is ∙ beats_greater (Some x, s) s e lt ∙ sym (beats_greater first s e under) ∙ sym (ap (best_after first s) (greater_second (Some x) (Some e) lt))
       | inr ge ↦
-          let stays : meets (Some x, s) s (Some e) ≡ (Some x, s) = elim (cases_eq x.value e.value) [ inl same ↦ beaten_later (Some x, s) s e same (omega arith) | inr other ↦ beaten_less (Some x, s) s e (omega arith) ] in
-          ap (λ n. meets n s (Some e)) is ∙ stays ∙ sym is ∙ sym (ap (meets first s) (greater_first (Some x) (Some e) ge))
+          let stays : best_after (Some x, s) s (Some e) ≡ (Some x, s) = elim (cases_eq x.value e.value) [ inl same ↦ beaten_later (Some x, s) s e same (omega arith) | inr other ↦ beaten_less (Some x, s) s e (omega arith) ] in
+          ap (λ n. best_after n s (Some e)) is ∙ stays ∙ sym is ∙ sym (ap (best_after first s) (greater_first (Some x) (Some e) ge))
     ] in
-    let loses : meets first s (Some x) ≡ first → x.value ≤ value_of first.0 → (x.value ≡ value_of first.0 → first.1 ≤ s) → meets (meets first s (Some x)) s (Some e) ≡ meets first s (greater (Some x) (Some e)) = λ is le later.
+    let loses : best_after first s (Some x) ≡ first → x.value ≤ value_of first.0 → (x.value ≡ value_of first.0 → first.1 ≤ s) → best_after (best_after first s (Some x)) s (Some e) ≡ best_after first s (greater (Some x) (Some e)) = λ is le later.
     elim (cases_lt x.value e.value) [
-      | inl lt ↦ ap (λ n. meets n s (Some e)) is ∙ sym (ap (meets first s) (greater_second (Some x) (Some e) lt))
+      | inl lt ↦ ap (λ n. best_after n s (Some e)) is ∙ sym (ap (best_after first s) (greater_second (Some x) (Some e) lt))
       | inr ge ↦
-          let stays : meets first s (Some e) ≡ first = elim (cases_eq (value_of first.0) e.value) [
+          let stays : best_after first s (Some e) ≡ first = elim (cases_eq (value_of first.0) e.value) [
             | inl same ↦ beaten_later first s e same (later (omega arith))
             | inr other ↦ beaten_less first s e (omega arith)
           ] in
-          ap (λ n. meets n s (Some e)) is ∙ stays ∙ sym is ∙ sym (ap (meets first s) (greater_first (Some x) (Some e) ge))
+          ap (λ n. best_after n s (Some e)) is ∙ stays ∙ sym is ∙ sym (ap (best_after first s) (greater_first (Some x) (Some e) ge))
     ] in
     elim (cases_lt (value_of first.0) x.value) [
       | inl less ↦ wins (beats_greater first s x less) (inl less)
@@ -290,19 +290,19 @@ meets_greater {C} first s (Some x) e sane =
       ]
     ]
 
-pub met_more : {C : Type 0} (p : Entry C → Bool) (es : List (Entry C)) (k : ℕ) (e : Entry C) (s : ℕ) (first now next : Best C) → Sane first → k < length es → e ≡ get_or es k e
-    → now ≡ meets first s (first_greatest (filter p (take k es)))
-    → next ≡ cond (p e) (meets now s (Some e)) now
-    → next ≡ meets first s (first_greatest (filter p (take (k + 1) es)))
+pub met_more : {C : Type 0} (p : Entry C → Bool) (es : List (Entry C)) (k : ℕ) (e : Entry C) (s : ℕ) (first now next : BestSoFar C) → StartsAtZeroIfNone first → k < length es → e ≡ get_or es k e
+    → now ≡ best_after first s (first_greatest (filter p (take k es)))
+    → next ≡ cond (p e) (best_after now s (Some e)) now
+    → next ≡ best_after first s (first_greatest (filter p (take (k + 1) es)))
 met_more {C} p es k e s first now next sane lt read is step =
     let so_far = filter p (take k es) in
     let more : filter p (take (k + 1) es) ≡ so_far ++ filter p (e ∷ []) = ap (filter p) (take_more es k e lt ∙ ap (λ x. take k es ++ x ∷ []) (sym read)) ∙ filter-append p (take k es) (e ∷ []) in
-    let one : (b : Bool) → cond b (meets now s (Some e)) now ≡ meets first s (greater (first_greatest so_far) (first_greatest (cond b (e ∷ []) []))) = λ b.
-    elim b as (λ t. cond t (meets now s (Some e)) now ≡ meets first s (greater (first_greatest so_far) (first_greatest (cond t (e ∷ []) [])))) [
-      | true ↦ ap (λ n. meets n s (Some e)) is ∙ meets_greater first s (first_greatest so_far) e sane ∙ sym (ap (meets first s) (greater_one (first_greatest so_far) e))
-      | false ↦ is ∙ sym (ap (meets first s) (greater_none (first_greatest so_far)))
+    let one : (b : Bool) → cond b (best_after now s (Some e)) now ≡ best_after first s (greater (first_greatest so_far) (first_greatest (cond b (e ∷ []) []))) = λ b.
+    elim b as (λ t. cond t (best_after now s (Some e)) now ≡ best_after first s (greater (first_greatest so_far) (first_greatest (cond t (e ∷ []) [])))) [
+      | true ↦ ap (λ n. best_after n s (Some e)) is ∙ meets_greater first s (first_greatest so_far) e sane ∙ sym (ap (best_after first s) (greater_one (first_greatest so_far) e))
+      | false ↦ is ∙ sym (ap (best_after first s) (greater_none (first_greatest so_far)))
     ] in
-    step ∙ one (p e) ∙ ap (meets first s) (sym (first-append so_far (filter p (e ∷ []))) ∙ ap first_greatest (sym more))
+    step ∙ one (p e) ∙ ap (best_after first s) (sym (first-append so_far (filter p (e ∷ []))) ∙ ap first_greatest (sym more))
 
 -- ---- by places in keys
 
@@ -311,7 +311,7 @@ or_and_false true b = refl
 or_and_false false true = refl
 or_and_false false false = refl
 
--- Of two entries that bear on one place the one with more of its key before the place starts first.
+-- If two entries bear on one place, the one with more of its key before the place starts first.
 pub beats_best_is : {C : Type 0} (best : Option (Entry C)) (i start : ℕ) (entry : Entry C) → start + entry.place ≡ (i + 1) + 1 → beats_best best entry ≡ beats (best, start_at best i) start entry
 beats_best_is None i start entry here =
     sym (or_and_false (ltb 0 entry.value) (eqb 0 entry.value)) ∙ ap (λ t. ltb 0 entry.value || (eqb 0 entry.value && t)) (sym (le-ltb start 0 (omega arith)))
@@ -322,15 +322,15 @@ beats_best_is (Some best) i start entry here =
       | inr ge ↦ le-ltb best.place entry.place ge ∙ sym (le-ltb start (((i + 1) + 1) - best.place) (omega arith))
     ])
 
--- An entry that beats what is best at its place is best there.
+-- An entry that beats the best one at its place is then the best.
 pub met_here : {C : Type 0} (best : Option (Entry C)) (i start : ℕ) (entry : Entry C) → start + entry.place ≡ (i + 1) + 1 → beats_best best entry ≡ true
-    → (Some entry, start_at (Some entry) i) ≡ meets (best, start_at best i) start (Some entry)
+    → (Some entry, start_at (Some entry) i) ≡ best_after (best, start_at best i) start (Some entry)
 met_here {C} best i start entry here is =
     let start_is : start_at (Some entry) i ≡ start = omega arith in
-    ap (λ (s : ℕ). (Some entry, s)) start_is ∙ ap (λ t. cond {A = Best C} t (Some entry, start) (best, start_at best i)) (sym is ∙ beats_best_is best i start entry here)
+    ap (λ (s : ℕ). (Some entry, s)) start_is ∙ ap (λ t. cond {A = BestSoFar C} t (Some entry, start) (best, start_at best i)) (sym is ∙ beats_best_is best i start entry here)
 
--- One that does not changes nothing.
+-- An entry that does not beat it changes nothing.
 pub met_not : {C : Type 0} (best : Option (Entry C)) (i start : ℕ) (entry : Entry C) → start + entry.place ≡ (i + 1) + 1 → beats_best best entry ≡ false
-    → (best, start_at best i) ≡ meets (best, start_at best i) start (Some entry)
+    → (best, start_at best i) ≡ best_after (best, start_at best i) start (Some entry)
 met_not {C} best i start entry here is =
-    ap (λ t. cond {A = Best C} t (Some entry, start) (best, start_at best i)) (sym is ∙ beats_best_is best i start entry here)
+    ap (λ t. cond {A = BestSoFar C} t (Some entry, start) (best, start_at best i)) (sym is ∙ beats_best_is best i start entry here)

@@ -251,16 +251,16 @@ borne_by_longest : {C : Type 0} (patterns : TextMap (List (Entry C))) (word : Li
     × (Bears (entries_of patterns) word p first end other) × (entry.value ≤ other.value)
 borne_by_longest {C} patterns word p start end entry closed bears some =
     let key : IsSome (entries_of patterns (slice_range (frame word) start end)) = ap is_some bears.key in
-    let long = longest_there patterns (frame word) start end bears.some bears.within key in
+    let long = longest_there patterns (frame word) start end bears.not_empty bears.within key in
     elim (cases_eq long.0 start) [
       | inl is ↦ (start, entry, subst (λ (s : ℕ). IsLongestBeginning patterns (frame word) s end) is long.2, bears, omega arith)
       | inr apart ↦
           let text : List ℕ = slice_range (frame word) long.0 end in
           let size : length text ≡ end - long.0 = length_slice (frame word) long.0 end bears.within in
           let before : long.0 < start = omega (arith, long.1) in
-          let kept = not_exceeded patterns text (start - long.0) closed long.2.begins (omega arith) (omega (arith, bears.some)) in
+          let kept = not_exceeded patterns text (start - long.0) closed long.2.begins (omega arith) (omega (arith, bears.not_empty)) in
           let tail : drop (start - long.0) text ≡ slice_range (frame word) start end =
-          slice_end (frame word) long.0 start end (omega arith) (omega (arith, bears.some)) in
+          slice_end (frame word) long.0 start end (omega arith) (omega (arith, bears.not_empty)) in
           let own = owns_most (entries_of patterns) text (start - long.0) bears.entries entry kept
           (ap (entries_of patterns) tail ∙ bears.key) bears.among in
           let found = owner (entries_of patterns) text ((start - long.0) + entry.place) (omega (arith, own)) in (

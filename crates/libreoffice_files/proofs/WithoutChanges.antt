@@ -74,7 +74,7 @@ kinds_keep entry = keeps entry.place entry.value entry.change
 bears_without : (keys : Patterns (Option Change)) (word : List ℕ) (p start end : ℕ) (entry : Entry (Option Change))
     → Bears keys word p start end entry → Bears (patterns_without_changes keys) word p start end (entry_without_change entry)
 bears_without keys word p start end entry bears = record {
-  some = bears.some;
+  not_empty = bears.not_empty;
   within = bears.within;
   entries = map entry_without_change bears.entries;
   key = ap (option_map (λ entries. map entry_without_change entries)) bears.key;
@@ -101,7 +101,7 @@ bears_with keys word p start end carried bears =
     let among : IsAmong (map entry_without_change k.0) carried = rw k.2 bears.among in
     let u = unmapped entry_without_change k.0 carried among in
     let place : start + u.0.place ≡ p + 1 = ap (λ e. start + e.place) u.2 ∙ bears.place in
-    (u.0, record { some = bears.some; within = bears.within; entries = k.0; key = k.1; among = u.1; place = place }, u.2)
+    (u.0, record { not_empty = bears.not_empty; within = bears.within; entries = k.0; key = k.1; among = u.1; place = place }, u.2)
 
 -- ---- places without their changes
 

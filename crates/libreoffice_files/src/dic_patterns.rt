@@ -17,13 +17,13 @@ use crate::change::{PlacedChange, change_of, has_byte};
 use crate::lines::{Kind, Line, split_at_byte};
 use crate::longest::hides_value;
 use crate::value::Value;
-use hyphenation_breaks::entry::{Entry, Listing, Payload};
+use hyphenation_breaks::entry::{Entry, Listing, Payload, has_letter};
 use hyphenation_breaks::extended::Subregion;
 use hyphenation_dictionary::maker::fits_key;
-use hyphenation_trie::{Automaton, Trie, in_32_bits};
+use hyphenation_trie::{Automaton, Trie, to_u32};
 use pattern_results::dictionary_parts::DictionaryParts;
 use pattern_results::notes::{LineRef, Note, NoteKind, add_note};
-use pattern_results::texts::{has_letter, text_from_utf8};
+use pattern_results::texts::text_from_utf8;
 use std::alloc::{AllocError, Global};
 use std::collections::BTreeMap;
 
@@ -434,7 +434,7 @@ fn plain_entries(alloc: Global, values: &[Value]) -> Result<Vec<Entry<()>>, Allo
     let mut entries = Vec::new(alloc);
     for value in values {
         entries.push(Entry {
-            place: in_32_bits(value.place)?,
+            place: to_u32(value.place)?,
             value: value.value,
             change: (),
         })?;
@@ -495,7 +495,7 @@ fn entries_of<C: Payload>(alloc: Global, pattern: &Pattern) -> Result<Vec<Entry<
     let mut entries = Vec::new(alloc);
     for value in &pattern.values {
         entries.push(carried_entry(Entry {
-            place: in_32_bits(value.place)?,
+            place: to_u32(value.place)?,
             value: value.value,
             change: change_at(&pattern.change, value.place)?,
         }))?;

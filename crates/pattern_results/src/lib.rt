@@ -2,7 +2,7 @@
 //!
 //! The crates `tex_files` and `libreoffice_files` read files, and both stand on this one. [`errors`] has the errors,
 //! [`notes`] the remarks on files that give a dictionary, and [`converted`] a dictionary with its remarks.
-//! [`dictionary_parts`] gathers the keys and words of a dictionary, and [`texts`] has what both crates ask of texts.
+//! [`dictionary_parts`] gathers the keys and words of a dictionary, and [`texts`] makes texts of bytes.
 #![tactic(auto)]
 
 pub mod converted;

@@ -1,23 +1,10 @@
-//! Questions that readers of patterns ask of texts.
+//! Texts of bytes.
 
 ghost use Rattle.std.specs.Prelude.{◌≡◌, false, true, IfSome, IfNone};
 ghost use Rattle.std.specs.Str.{is_utf8};
 ghost use Rattle.std.specs.String.{string_bytes};
-ghost use Rattle.hyphenation_breaks.specs.Invariant.{has_letter};
 
 use hyphenation_grammar::lines::is_utf8;
-
-/// Whether a key has a byte other than a dot.
-pub fn has_letter(key: &[u8]) -> bool
-    ensures { result ≡ has_letter key.now }
-{
-    for b in key {
-        if *b != b'.' {
-            return true;
-        }
-    }
-    false
-}
 
 /// The text of bytes that are UTF-8, and none of other bytes.
 pub fn text_from_utf8(bytes: Vec<u8>) -> Option<String>

@@ -17,14 +17,14 @@ ghost use Rattle.tex_files.specs.declared.group.Group.TheVariants.{Patterns, Exc
 
 use crate::group::Group;
 use crate::word_error::WordError;
-use hyphenation_breaks::entry::{Entry, Listing, Payload};
+use hyphenation_breaks::entry::{Entry, Listing, Payload, has_letter};
 use hyphenation_dictionary::dictionary::Dictionary;
 use hyphenation_dictionary::maker::fits_key;
 use hyphenation_grammar::lines::is_utf8;
 use hyphenation_hyphenator::case_folding::refold;
-use hyphenation_trie::in_32_bits;
+use hyphenation_trie::to_u32;
 use pattern_results::errors::FileCause;
-use pattern_results::texts::{has_letter, text_from_utf8};
+use pattern_results::texts::text_from_utf8;
 use std::alloc::{AllocError, Global};
 
 // Whether a text has a backslash or a brace.
@@ -115,7 +115,7 @@ fn push_value<C: Payload>(
         return Ok(());
     }
     entries.push(Entry {
-        place: in_32_bits(place)?,
+        place: to_u32(place)?,
         value: digit - b'0',
         change: C::from_change(None),
     })?;

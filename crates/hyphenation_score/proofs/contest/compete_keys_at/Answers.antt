@@ -3,12 +3,12 @@ use Rattle.std.proofs.lemmas.List.{length-drop}
 use Rattle.hyphenation_trie.specs.Trie.{node_text, entries_of_key}
 use Rattle.hyphenation_trie.specs.Links.{keys_in}
 use Rattle.hyphenation_score.specs.Scoring.{frame}
-use Rattle.hyphenation_score.specs.Winners.{Holds}
-use Rattle.hyphenation_score.specs.Private.Winners.{best_of, Asked}
+use Rattle.hyphenation_score.specs.Winners.{IsBestOf}
+use Rattle.hyphenation_score.specs.Private.Winners.{best_of, IsPairBefore}
 use Rattle.hyphenation_score.proofs.OnePass.{Ends-drop, Ends-trans, depth_pos, none_next, counted_first, counted_more}
-use Rattle.hyphenation_score.proofs.WinnersMet.{holds_sane}
+use Rattle.hyphenation_score.proofs.BestAfter.{holds_sane}
 use Rattle.hyphenation_score.proofs.WinnerVisits.{met_first, met_next, met_all}
-use Rattle.hyphenation_score.proofs.contest.compete_reported.Goals as goal
+use Rattle.hyphenation_score.proofs.contest.compete_keys_at.Goals as goal
 
 pub loop-node-init : goal.loop-node-init
 loop-node-init g c =
@@ -19,7 +19,7 @@ loop-node-init g c =
       within = report.within;
       ends = report.ends;
       key = report.key;
-      holds = λ i lt. met_first c.longest_has_report.ensures tree (frame c.args.word.now) c.args.end (i + 1) c.args.from c.report-node.result (best_of c.args.bests.now i) c.requires.end c.requires.longest report (c.requires.holds i lt);
+      best_so_far = λ i lt. met_first c.longest_has_report.ensures tree (frame c.args.word.now) c.args.end (i + 1) c.args.from c.report-node.result (best_of c.args.bests.now i) c.requires.end c.requires.longest report (c.requires.best_so_far i lt);
       reported = omega (arith, counted_first tree t _ report);
       few = omega (arith, report.ends.0);
       made = refl;
@@ -33,8 +33,8 @@ loop-node-smaller g c =
     let report = c.next_report-node.ensures in
     omega (arith, report.ends.0, length-drop 1 (node_text tree at))
 
-pub compete-requires-clause-sane : goal.compete-requires-clause-sane
-compete-requires-clause-sane g c = λ i lt. holds_sane _ _ _ _ _ (c.loop-node.invariant.holds i lt)
+pub compete_entries-requires-clause-zero_start : goal.compete_entries-requires-clause-zero_start
+compete_entries-requires-clause-zero_start g c = λ i lt. holds_sane _ _ _ _ _ (c.loop-node.invariant.best_so_far i lt)
 
 pub loop-node-preserved : goal.loop-node-preserved
 loop-node-preserved g c =
@@ -57,21 +57,21 @@ loop-node-preserved g c =
       within = report.within;
       ends = Ends-trans t (node_text tree at) (node_text tree to) inv.ends (Ends-trans (node_text tree at) (drop 1 (node_text tree at)) (node_text tree to) (Ends-drop (node_text tree at) 1 pos) report.ends);
       key = report.key;
-      holds = λ i lt.
-          let old = subst (λ (x : ℕ). Holds (entries_of_key tree) framed (i + 1) (Asked framed c.args.end x) (best_of c.loop-node.bests i)) (sym start_is) (inv.holds i (omega (arith, c.compete.auto.bests))) in
-          subst (λ n. Holds (entries_of_key tree) framed (i + 1) (Asked framed c.args.end (c.args.end - length (node_text tree to))) n) (sym (c.compete.ensures i (omega (arith, c.compete.auto.bests))))
+      best_so_far = λ i lt.
+          let old = subst (λ (x : ℕ). IsBestOf (entries_of_key tree) framed (i + 1) (IsPairBefore framed c.args.end x) (best_of c.loop-node.bests i)) (sym start_is) (inv.best_so_far i (omega (arith, c.compete_entries.auto.bests))) in
+          subst (λ n. IsBestOf (entries_of_key tree) framed (i + 1) (IsPairBefore framed c.args.end (c.args.end - length (node_text tree to))) n) (sym (c.compete_entries.ensures i (omega (arith, c.compete_entries.auto.bests))))
           (met_next tree framed c.args.end (i + 1) at to start c.entries-entries.result.now (best_of c.loop-node.bests i) c.requires.end ends pos report c.entries-entries.ensures.entries start_is old);
       reported = omega (arith, counted, more, inv.reported);
       few = omega (arith, counted, inv.few);
       made = ap (λ x. x.made) c.entries-entries.ensures.counted ∙ inv.made;
     }
 
-pub returns-clause-holds : goal.returns-clause-holds
-returns-clause-holds g c = λ i lt.
+pub returns-clause-best_so_far : goal.returns-clause-best_so_far
+returns-clause-best_so_far g c = λ i lt.
     let tree = c.args.automaton.now in
     let zero_is : c.loop-node.node ≡ 0 = omega arith in
     let nil : length (node_text tree c.loop-node.node) ≡ 0 = ap (λ (k : ℕ). length (node_text tree k)) zero_is ∙ ap length c.invariant.ensures.root in
-    met_all tree (frame c.args.word.now) c.args.end (i + 1) _ _ (omega arith) (c.loop-node.invariant.holds i (omega (arith, c.loop-node.auto.bests)))
+    met_all tree (frame c.args.word.now) c.args.end (i + 1) _ _ (omega arith) (c.loop-node.invariant.best_so_far i (omega (arith, c.loop-node.auto.bests)))
 
 pub returns-clause-reported : goal.returns-clause-reported
 returns-clause-reported g c =

@@ -7,7 +7,7 @@ use Rattle.hyphenation_trie.specs.Links.{keys_in}
 use Rattle.hyphenation_score.specs.Scoring.{greatest_value}
 use Rattle.hyphenation_score.specs.Private.OnePass.{entries_of_end}
 use Rattle.hyphenation_score.proofs.OnePass.{Ends-drop, Ends-trans, depth_pos, piece_is, none_next, visit_more, visit_first, counted_first, counted_more}
-use Rattle.hyphenation_score.proofs.greatest.raise_reported.Goals as goal
+use Rattle.hyphenation_score.proofs.greatest.raise_keys_at.Goals as goal
 
 pub loop-node-init : goal.loop-node-init
 loop-node-init g c =
@@ -49,9 +49,9 @@ loop-node-preserved g c =
       within = report.within;
       ends = Ends-trans t (node_text tree at) (node_text tree to) inv.ends (Ends-trans (node_text tree at) (drop 1 (node_text tree at)) (node_text tree to) (Ends-drop (node_text tree at) 1 pos) report.ends);
       key = report.key;
-      values = λ i lt. visit_more tree t c.args.end (i + 1) at to (slice_index c.args.values.now i) (slice_index c.loop-node.values i) (slice_index c.raise.new.values i)
+      values = λ i lt. visit_more tree t c.args.end (i + 1) at to (slice_index c.args.values.now i) (slice_index c.loop-node.values i) (slice_index c.raise_entries.new.values i)
           inv.ends less none (inv.values i (omega arith))
-          (c.raise.ensures i (omega arith)
+          (c.raise_entries.ensures i (omega arith)
           ∙ ap (λ es. max (slice_index c.loop-node.values i) (greatest_value es))
           (sym (piece_is tree t c.args.end (i + 1) at c.depth.result (Some c.entries-entries.result.now) inv.ends c.requires.end c.depth.ensures c.entries-entries.ensures.entries)));
       reported = omega (arith, counted, more, inv.reported);

@@ -5,7 +5,7 @@ use Rattle.hyphenation_trie.specs.Trie.{node_text, entries_of_key}
 use Rattle.hyphenation_trie.specs.Links.{EndsWith, keys_in}
 use Rattle.hyphenation_score.specs.Scoring.{greatest_value}
 use Rattle.hyphenation_score.specs.Private.OnePass.{entries_of_end}
-use Rattle.hyphenation_score.proofs.greatest.raise_reported.Given as goal
+use Rattle.hyphenation_score.proofs.greatest.raise_keys_at.Given as goal
 
 abbrev pub invariant-loop-node : goal.invariant-loop-node
 invariant-loop-node g l = record {

@@ -1,6 +1,6 @@
 use Rattle.std.proofs.Common.{◌≡◌, ◌+◌, ◌<◌, ◌==◌, max, ℕ, length, filter, take, slice_index}
 use Rattle.hyphenation_score.specs.Scoring.{greatest_value}
-use Rattle.hyphenation_score.proofs.greatest.raise_by_many.Given as goal
+use Rattle.hyphenation_score.proofs.greatest.raise_many_entries.Given as goal
 
 abbrev pub invariant-loop-entry : goal.invariant-loop-entry
 invariant-loop-entry g l =

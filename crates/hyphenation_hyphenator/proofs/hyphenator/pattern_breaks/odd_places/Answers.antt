@@ -1,4 +1,4 @@
-use Rattle.std.proofs.Common.{◌-◌, length, refl, ◌∙◌, arith}
+use Rattle.std.proofs.Common.{length, ◌∙◌, arith}
 use Rattle.hyphenation_hyphenator.proofs.OddPlaces.{within_alone, outside, next_odd, next_even, even_none, test_of}
 use Rattle.hyphenation_hyphenator.proofs.hyphenator.pattern_breaks.odd_places.Goals as goal
 use Rattle.hyphenation_hyphenator.proofs.hyphenator.pattern_breaks.odd_places.Goals.{then-values-place-eq1+in_ok-push, else-values-place-eq1}

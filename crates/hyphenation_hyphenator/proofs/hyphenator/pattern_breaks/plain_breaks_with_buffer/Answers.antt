@@ -1,4 +1,4 @@
-use Rattle.std.proofs.Common.{◌≡◌, filter, length, map, ap, ◌∙◌}
+use Rattle.std.proofs.Common.{filter, length, map, ap, ◌∙◌}
 use Rattle.std.specs.List.{range_with_len}
 use Rattle.std.proofs.lemmas.Result.{IfOk-weaker}
 use Rattle.hyphenation_breaks.specs.Break.{plain_break}
