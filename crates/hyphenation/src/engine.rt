@@ -1,22 +1,25 @@
 //! Whole runs, from the bytes of a dictionary to what is written: the score of a word, and a hyphenated text.
 
-ghost use Rattle.std.specs.Prelude.{◌≡◌, ◌++◌, List, ℕ, OnOk, IfOk, IfErr, IfSome, decimal};
+ghost use Rattle.std.specs.Prelude.{◌≡◌, ◌++◌, List, ℕ, OnOk, IfOk, IfErr, IfSome, decimal, map};
 ghost use Rattle.std.specs.String.{string_bytes};
 ghost use Rattle.hyphenation_load.specs.Load.{AppendsTo};
 ghost use Rattle.hyphenation.specs.Engine.{texts_now, score_line, values_by, score_by, run_output, RunReturns, RunWrites};
-ghost use Rattle.hyphenation.specs.Engine.{JudgesBytes, JudgesDictionary, JudgesEdits, JudgesText};
+ghost use Rattle.hyphenation.specs.Engine.{JudgesDictionary, JudgesEdits, JudgesText};
 ghost use Rattle.hyphenation.specs.Engine.{BeforeReading, BeforeWriting, IsScoreError, IsUnwritten, HidesNoOutOfMemory};
-ghost use Rattle.hyphenation.specs.Private.Engine.{space_before, IsDictionaryError};
+ghost use Rattle.hyphenation.specs.Private.Engine.{space_before};
+ghost use Rattle.hyphenation_breaks.specs.Dictionary.{entries_of_keys};
+ghost use Rattle.hyphenation_score.specs.Scoring.{values};
 
-mod run_dictionary;
 mod text_run;
 
+use hyphenation_breaks::extended::Subregion;
 use hyphenation_breaks::language::Language;
 use hyphenation_dictionary::dictionary::{Extended, Standard};
 pub use hyphenation_grammar::form::Kind;
 pub use hyphenation_grammar::number_of;
-use hyphenation_load::Error;
-use run_dictionary::RunDictionary;
+use hyphenation_load::{Error, Load};
+use hyphenation_score::Score;
+use hyphenation_score::laws::scores_have_values;
 use std::alloc::{AllocError, Global};
 use std::io;
 use std::io::{Read, Write};
@@ -88,40 +91,57 @@ fn line_of(alloc: Global, values: &[u8]) -> Result<String, AllocError>
     Ok(line)
 }
 
-// The values of a word by the dictionary of a kind and language that a reader's bytes give.
-fn values_of<K: RunDictionary, D: Read>(
-    alloc: Global,
-    lang: Language,
-    word: &str,
-    reader: &mut D,
-) -> Result<Vec<u8>, RunError>
-    ensures dictionary { IfSome (D.remaining reader.old) (λ bytes.
-        JudgesBytes (K.refusal bytes) lang (K.language (K.contents bytes)) result) }
-    ensures values { IfOk result (λ found.
-        IfSome (D.remaining reader.old) (λ bytes. found.items ≡ K.values_of (K.contents bytes) word.now)) }
-    ensures dictionary_error { IfErr result IsDictionaryError }
+// Values without the changes of their winners.
+fn values_alone(alloc: Global, scores: &[(u8, Option<&Subregion>)]) -> Result<Vec<u8>, AllocError>
+    ensures { IfOk result (λ values. values.items ≡ map (λ score. score.0) scores.now) }
 {
-    let dictionary = K::from_reader(alloc, lang, reader)?;
-    Ok(dictionary.values(alloc, word)?)
+    scores.iter().map(|score| score.0).collect(alloc)
 }
 
-// The values of a word by the dictionary of that kind and language that a reader's bytes give.
-fn values_by<D: Read>(
+// The values of a word by an extended dictionary, without the changes.
+fn values_of(alloc: Global, dictionary: &Extended, word: &str) -> Result<Vec<u8>, AllocError>
+    ensures { IfOk result (λ found. found.items ≡ values (entries_of_keys dictionary.now) word.now) }
+{
+    scores_have_values::<Option<Subregion>>();
+    let scores = dictionary.score(alloc, word)?;
+    let found = values_alone(alloc, &scores)?;
+    Ok(found)
+}
+
+// The values of a word by the standard dictionary of that language that a reader's bytes give.
+fn standard_values<D: Read>(
     alloc: Global,
-    kind: Kind,
     lang: Language,
     word: &str,
     reader: &mut D,
 ) -> Result<Vec<u8>, RunError>
-    ensures dictionary { JudgesDictionary kind lang (D.remaining reader.old) result }
+    ensures dictionary { JudgesDictionary Kind.Standard lang (D.remaining reader.old) result }
     ensures values { IfOk result (λ found.
-        IfSome (D.remaining reader.old) (λ bytes. found.items ≡ values_by kind word.now bytes)) }
-    ensures dictionary_error { IfErr result IsDictionaryError }
+        IfSome (D.remaining reader.old) (λ bytes. found.items ≡ values_by Kind.Standard word.now bytes)) }
+    ensures unwritten { IfErr result IsUnwritten }
+    ensures score_error { IfErr result IsScoreError }
+    ensures not_out_of_memory { IfErr result HidesNoOutOfMemory }
 {
-    match kind {
-        Kind::Standard => values_of::<Standard, D>(alloc, lang, word, reader),
-        Kind::Extended => values_of::<Extended, D>(alloc, lang, word, reader),
-    }
+    let dictionary = Standard::from_reader(alloc, lang, reader)?;
+    Ok(dictionary.score(alloc, word)?)
+}
+
+// The values of a word by the extended dictionary of that language that a reader's bytes give.
+fn extended_values<D: Read>(
+    alloc: Global,
+    lang: Language,
+    word: &str,
+    reader: &mut D,
+) -> Result<Vec<u8>, RunError>
+    ensures dictionary { JudgesDictionary Kind.Extended lang (D.remaining reader.old) result }
+    ensures values { IfOk result (λ found.
+        IfSome (D.remaining reader.old) (λ bytes. found.items ≡ values_by Kind.Extended word.now bytes)) }
+    ensures unwritten { IfErr result IsUnwritten }
+    ensures score_error { IfErr result IsScoreError }
+    ensures not_out_of_memory { IfErr result HidesNoOutOfMemory }
+{
+    let dictionary = Extended::from_reader(alloc, lang, reader)?;
+    Ok(values_of(alloc, &dictionary, word)?)
 }
 
 // The line of a word's values by the dictionary of that kind and language that a reader's bytes give.
@@ -135,9 +155,14 @@ fn score_line<D: Read>(
     ensures dictionary { JudgesDictionary kind lang (D.remaining reader.old) result }
     ensures line { IfOk result (λ line.
         IfSome (D.remaining reader.old) (λ bytes. string_bytes line ≡ score_by kind word.now bytes)) }
-    ensures dictionary_error { IfErr result IsDictionaryError }
+    ensures unwritten { IfErr result IsUnwritten }
+    ensures score_error { IfErr result IsScoreError }
+    ensures not_out_of_memory { IfErr result HidesNoOutOfMemory }
 {
-    let values = values_by(alloc, kind, lang, word, reader)?;
+    let values = match kind {
+        Kind::Standard => standard_values(alloc, lang, word, reader)?,
+        Kind::Extended => extended_values(alloc, lang, word, reader)?,
+    };
     Ok(line_of(alloc, &values)?)
 }
 

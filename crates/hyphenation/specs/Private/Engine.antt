@@ -1,11 +1,14 @@
--- How a line of values begins, and which errors single steps of a run have.
-use Rattle.std.specs.Prelude.{◌==◌, if◌then◌else◌, ℕ, List, [], ◌∷◌, fold, ⊤}
+-- The steps of a run: a line of values, loading, the text that is made, and errors.
+use Rattle.std.specs.Prelude.{◌≡◌, ◌==◌, if◌then◌else◌, ℕ, List, [], ◌∷◌, fold, Option, None, Result, MatchResult, ⊤}
 use Rattle.std.specs.Borrow.{Bor}
 use Rattle.hyphenation_breaks.specs.Break.{Break}
 use Rattle.hyphenation_hyphenator.specs.Hyphenated.{hyphenated_text}
-use Rattle.hyphenation.specs.Engine.{HidesNoOutOfMemory, texts_now}
+use Rattle.hyphenation_grammar.specs.declared.Cause.{Cause}
+use Rattle.hyphenation_grammar.specs.declared.Error.{Error}
+use Rattle.hyphenation_load.specs.Load.{IsLoadErrorIn}
+use Rattle.hyphenation.specs.Engine.{texts_now}
 use Rattle.hyphenation.specs.declared.engine.RunError.{RunError}
-use Rattle.hyphenation.specs.declared.engine.RunError.TheVariants.{Dictionary, Edit, Memory}
+use Rattle.hyphenation.specs.declared.engine.RunError.TheVariants.{Edit, Memory}
 
 -- The space before each value but the first.
 abbrev pub space_before : ℕ → List ℕ
@@ -23,8 +26,8 @@ IsEditError (Edit number) = ⊤
 IsEditError Memory = ⊤
 IsEditError _ = ⊥
 
--- The errors of what is made of a dictionary alone: loading it failed, or memory.
-abbrev pub IsDictionaryError : RunError → Type 0
-IsDictionaryError (Dictionary e) = HidesNoOutOfMemory (Dictionary e)
-IsDictionaryError Memory = ⊤
-IsDictionaryError _ = ⊥
+-- Loading a text in a language, with its refusal, its dictionary and its language.
+abbrev pub LoadsText : {D : Type 0} → Option (ℕ × Cause) → D → List ℕ → List ℕ → Result D Error → Type 0
+LoadsText refusal contents asked language result =
+    MatchResult result (λ dictionary. (refusal ≡ None) × (dictionary ≡ contents) × (language ≡ asked))
+    (IsLoadErrorIn refusal asked language)
