@@ -1,4 +1,4 @@
-# What the launcher, ./install and the scripts share: which programs are proved and built, and how that is done.
+# Functions that the launcher, ./install and the scripts share: which programs are proved and built, and how to do it.
 # A script that reads this has set `root`, the folder of the repository, and `called`, its own name.
 # shellcheck shell=bash disable=SC2154
 

@@ -2,7 +2,7 @@
 
 use hyphenation_breaks::language::Language;
 use hyphenation_writer::writer::write_standard;
-use pattern_files::fault::{Cause, Refusal};
+use pattern_files::errors::{ConvertError, FileCause};
 use pattern_files::libreoffice::convert_dic;
 use std::alloc::Global;
 use std::test::Fail;
@@ -62,7 +62,7 @@ const UPPER_HALVES: [(&str, &str); 12] = [
 ];
 
 // The text of the dictionary that a file gives, or why it is refused.
-fn text_of(alloc: Global, bytes: &[u8]) -> Result<Result<Vec<u8>, Refusal>, Fail> {
+fn text_of(alloc: Global, bytes: &[u8]) -> Result<Result<Vec<u8>, ConvertError>, Fail> {
     match convert_dic::<(), usize>(alloc, Language::english_us(), Some(2), Some(2), bytes) {
         Ok(converted) => Ok(Ok(write_standard(alloc, &converted.dictionary)?)),
         Err(refusal) => Ok(Err(refusal)),
@@ -99,10 +99,10 @@ fn each_byte_means_the_character_of_its_charset(rt: HostRuntime) -> Result<(), F
 fn expect_refused(alloc: Global, name: &str, byte: u8) -> Result<(), Fail> {
     let mut bytes = Vec::from_slice(alloc, name.as_bytes())?;
     bytes.extend_from_slice(&[b'\n', b'a', b'1', b'b', b'\n', byte, b'1', b'a'])?;
-    let wanted = Refusal::Fault {
+    let wanted = ConvertError::Fault {
         file: 0,
         line: 3,
-        cause: Cause::NotInCharset,
+        cause: FileCause::NotInCharset,
     };
     expect_equal_in(name, &text_of(alloc, &bytes)?.err(), &Some(wanted))
 }

@@ -5,18 +5,24 @@ use hyphenation_breaks::language::Language;
 use hyphenation_dictionary::dictionary::{Extended, Standard};
 use hyphenation_writer::writer::{write_extended, write_standard};
 use pattern_files::convert::{Converted, convert, convert_with_notes};
-use pattern_files::fault::{Cause, Refusal};
+use pattern_files::errors::{ConvertError, FileCause};
 use pattern_files::group::{File, Form, Group};
+use pattern_files::head_minima::minima_for;
 use pattern_files::libreoffice::convert_dic;
-use pattern_files::notes::What;
-use pattern_files::told::minima_for;
+use pattern_files::notes::NoteKind;
 use std::alloc::Global;
 use std::test::Fail;
 use test_support::{expect_equal, expect_equal_bytes, expect_equal_in};
 
 // The text of the standard dictionary that files give; nothing if they are refused.
 fn standard_text(alloc: Global, files: &[File<'_>]) -> Result<Vec<u8>, Fail> {
-    let converted: Result<Standard, Refusal> = convert(alloc, Language::english_us(), 2, 3, files);
+    let converted: Result<Standard, ConvertError> = convert(
+        alloc,
+        Language::english_us(),
+        2,
+        3,
+        files,
+    );
     match converted {
         Ok(dictionary) => Ok(write_standard(alloc, &dictionary)?),
         Err(_) => Ok(Vec::new(alloc)),
@@ -24,8 +30,14 @@ fn standard_text(alloc: Global, files: &[File<'_>]) -> Result<Vec<u8>, Fail> {
 }
 
 // Why files are refused.
-fn refusal_of(alloc: Global, files: &[File<'_>]) -> Option<Refusal> {
-    let converted: Result<Standard, Refusal> = convert(alloc, Language::english_us(), 2, 3, files);
+fn refusal_of(alloc: Global, files: &[File<'_>]) -> Option<ConvertError> {
+    let converted: Result<Standard, ConvertError> = convert(
+        alloc,
+        Language::english_us(),
+        2,
+        3,
+        files,
+    );
     match converted {
         Ok(_) => None,
         Err(refusal) => Some(refusal),
@@ -52,8 +64,8 @@ fn groups_of_a_tex_file_give_their_patterns_and_exceptions(rt: HostRuntime) -> R
 }
 
 // The notes on files, each with the line of its first occurrence and the number of them.
-fn notes_of(alloc: Global, files: &[File<'_>]) -> Result<Vec<(What, usize, u64)>, Fail> {
-    let converted: Result<Converted<(), usize>, Refusal> = convert_with_notes(
+fn notes_of(alloc: Global, files: &[File<'_>]) -> Result<Vec<(NoteKind, usize, u64)>, Fail> {
+    let converted: Result<Converted<(), usize>, ConvertError> = convert_with_notes(
         alloc,
         Language::english_us(),
         2,
@@ -63,7 +75,7 @@ fn notes_of(alloc: Global, files: &[File<'_>]) -> Result<Vec<(What, usize, u64)>
     let notes = converted?
         .notes
         .iter()
-        .map(|n| (n.what, n.first.line, n.times))
+        .map(|n| (n.kind, n.first.line, n.times))
         .collect(alloc)?;
     Ok(notes)
 }
@@ -83,9 +95,9 @@ fn the_last_of_a_repeated_key_counts(rt: HostRuntime) -> Result<(), Fail> {
     let wanted = format!(in rt.alloc(); "{HEAD}p a3b\np c1\ne table 3\ne über 2\n")?;
     expect_equal_bytes("plain files", &text, wanted.as_bytes())?;
     let wanted = [
-        (What::Repeated, 3, 1),
-        (What::Capital, 2, 1),
-        (What::ExceptionRepeated, 3, 1),
+        (NoteKind::Repeated, 3, 1),
+        (NoteKind::Capital, 2, 1),
+        (NoteKind::ExceptionRepeated, 3, 1),
     ];
     expect_equal(
         &notes_of(rt.alloc(), &files)?.as_slice(),
@@ -110,68 +122,82 @@ fn a_language_may_have_no_exceptions(rt: HostRuntime) -> Result<(), Fail> {
         form: Form::Plain(Group::Patterns),
         bytes: b"",
     };
-    let wanted = Some(Refusal::Fault {
+    let wanted = Some(ConvertError::Fault {
         file: 1,
         line: 1,
-        cause: Cause::Nothing,
+        cause: FileCause::Nothing,
     });
     expect_equal(&refusal_of(rt.alloc(), &[exceptions, empty]), &wanted)
 }
 
 #[test]
 fn the_first_error_is_returned(rt: HostRuntime) -> Result<(), Fail> {
-    let cases: [(Form, &[u8], usize, Cause); 13] = [
-        (Form::Tex, b"\\patterns{\na1b\n", 1, Cause::Unclosed),
-        (Form::Tex, b"\n\\input other.tex\n", 2, Cause::Input),
+    let cases: [(Form, &[u8], usize, FileCause); 13] = [
+        (Form::Tex, b"\\patterns{
+a1b
+", 1, FileCause::Unclosed),
+        (Form::Tex, b"
+\\input other.tex
+", 2, FileCause::Input),
         (
             Form::Tex,
             b"\\patterns\n\\input other.tex\n",
             2,
-            Cause::Input,
+            FileCause::Input,
         ),
-        (Form::Tex, b"\\patterns{ \\nom{1a} }", 1, Cause::Command),
-        (Form::Tex, b"\\patterns{\n^^e41b }", 2, Cause::EightBit),
-        (Form::Tex, b"\\patterns{a1b\n\n\xe41b }", 3, Cause::NotUtf8),
+        (Form::Tex, b"\\patterns{ \\nom{1a} }", 1, FileCause::Command),
+        (Form::Tex, b"\\patterns{\n^^e41b }", 2, FileCause::Caret),
+        (
+            Form::Tex,
+            b"\\patterns{a1b\n\n\xe41b }",
+            3,
+            FileCause::NotUtf8,
+        ),
         (
             Form::Plain(Group::Patterns),
             b"a1b\na12b\n",
             2,
-            Cause::TwoInOnePlace,
+            FileCause::TwoInOnePlace,
         ),
         (
             Form::Plain(Group::Patterns),
             b"a1b\n.1.\n",
             2,
-            Cause::NoLetters,
+            FileCause::NoLetters,
         ),
         (
             Form::Plain(Group::Patterns),
             b"Permission is (c)\n",
             1,
-            Cause::Sign,
+            FileCause::Symbol,
         ),
         (
             Form::Plain(Group::Patterns),
             b"\xc31\xa9\n",
             1,
-            Cause::NotUtf8,
+            FileCause::NotUtf8,
         ),
         (
             Form::Plain(Group::Exceptions),
             b"as--so\n",
             1,
-            Cause::TwoInOnePlace,
+            FileCause::TwoInOnePlace,
         ),
         (
             Form::Plain(Group::Exceptions),
             b"as-so\na1b\n",
             2,
-            Cause::Sign,
+            FileCause::Symbol,
         ),
-        (Form::Plain(Group::Exceptions), b"as=so\n", 1, Cause::Sign),
+        (
+            Form::Plain(Group::Exceptions),
+            b"as=so\n",
+            1,
+            FileCause::Symbol,
+        ),
     ];
     for (form, bytes, line, cause) in cases {
-        let wanted = Some(Refusal::Fault {
+        let wanted = Some(ConvertError::Fault {
             file: 0,
             line,
             cause,
@@ -229,7 +255,7 @@ fn patterns_without_values_and_with_capitals_are_noted(rt: HostRuntime) -> Resul
         form,
         bytes: b"a1b\ncd\n",
     };
-    let wanted = [(What::NoValue, 2, 1)];
+    let wanted = [(NoteKind::NoValue, 2, 1)];
     expect_equal(
         &notes_of(rt.alloc(), &[without])?.as_slice(),
         &wanted.as_slice(),
@@ -238,7 +264,7 @@ fn patterns_without_values_and_with_capitals_are_noted(rt: HostRuntime) -> Resul
         form,
         bytes: b"a1b\nA3B\n",
     };
-    let wanted = [(What::Capital, 2, 1), (What::Repeated, 2, 1)];
+    let wanted = [(NoteKind::Capital, 2, 1), (NoteKind::Repeated, 2, 1)];
     expect_equal(
         &notes_of(rt.alloc(), &[capital])?.as_slice(),
         &wanted.as_slice(),
@@ -292,7 +318,7 @@ fn a_dic_of_a_legacy_charset_takes_the_last_of_repeated_lines(rt: HostRuntime) -
 fn standard_of_dic(
     alloc: Global,
     bytes: &[u8],
-) -> Result<(Vec<u8>, Vec<(What, usize, u64)>), Fail> {
+) -> Result<(Vec<u8>, Vec<(NoteKind, usize, u64)>), Fail> {
     let language = Language::english_us();
     let converted = convert_dic::<(), usize>(alloc, language, Some(2), Some(3), bytes);
     match converted {
@@ -301,7 +327,7 @@ fn standard_of_dic(
             let notes = converted
                 .notes
                 .iter()
-                .map(|n| (n.what, n.first.line, n.times))
+                .map(|n| (n.kind, n.first.line, n.times))
                 .collect(alloc)?;
             Ok((text, notes))
         }
@@ -322,8 +348,8 @@ fn a_standard_dictionary_forbids_the_breaks_that_a_dic_changes(
     expect_equal_bytes("a standard text", &text, wanted.as_bytes())?;
     let forbids = notes
         .iter()
-        .find(|note| matches!(note.0, What::ChangeForbidden));
-    expect_equal(&forbids.copied(), &Some((What::ChangeForbidden, 3, 2)))
+        .find(|note| matches!(note.0, NoteKind::ChangeForbidden));
+    expect_equal(&forbids.copied(), &Some((NoteKind::ChangeForbidden, 3, 2)))
 }
 
 #[test]
@@ -344,7 +370,7 @@ fn a_pattern_that_hides_a_value_from_libreoffice_is_noted(rt: HostRuntime) -> Re
         let mut bytes = Vec::from_slice(rt.alloc(), b"UTF-8\n")?;
         bytes.extend_from_slice(patterns)?;
         let (_, notes) = standard_of_dic(rt.alloc(), &bytes)?;
-        let hides = notes.iter().find(|note| matches!(note.0, What::HidesValue));
+        let hides = notes.iter().find(|note| matches!(note.0, NoteKind::HidesValue));
         let hides = hides.map(|note| (note.1, note.2));
         expect_equal_in(patterns.escape_ascii(), &hides, &wanted)?;
     }
@@ -360,7 +386,7 @@ fn two_levels_are_noted_where_both_have_patterns(rt: HostRuntime) -> Result<(), 
     ];
     for (bytes, wanted) in cases {
         let (_, notes) = standard_of_dic(rt.alloc(), bytes)?;
-        let levels = notes.iter().find(|note| matches!(note.0, What::TwoLevels));
+        let levels = notes.iter().find(|note| matches!(note.0, NoteKind::TwoLevels));
         expect_equal_in(bytes.escape_ascii(), &levels.map(|note| note.1), &wanted)?;
     }
     Ok(())
@@ -371,27 +397,27 @@ fn a_dic_without_a_charset_line_is_read_in_latin_1(rt: HostRuntime) -> Result<()
     let (text, notes) = standard_of_dic(rt.alloc(), b"a1\xe4\nLEFTHYPHENMIN 1\n.b2\n")?;
     let wanted = format!(in rt.alloc(); "{HEAD}p .b2\np a1ä\n")?;
     expect_equal_bytes("a standard text", &text, wanted.as_bytes())?;
-    let charset = notes.iter().find(|note| matches!(note.0, What::NoCharset));
-    expect_equal(&charset.copied(), &Some((What::NoCharset, 1, 1)))
+    let charset = notes.iter().find(|note| matches!(note.0, NoteKind::NoCharset));
+    expect_equal(&charset.copied(), &Some((NoteKind::NoCharset, 1, 1)))
 }
 
 // Why a .dic is refused.
-fn refusal_of_dic(alloc: Global, bytes: &[u8]) -> Option<Refusal> {
+fn refusal_of_dic(alloc: Global, bytes: &[u8]) -> Option<ConvertError> {
     let language = Language::english_us();
     convert_dic::<(), usize>(alloc, language, None, None, bytes).err()
 }
 
 #[test]
 fn a_faulty_dic_is_refused(rt: HostRuntime) -> Result<(), Fail> {
-    let cases: [(&[u8], usize, Cause); 5] = [
-        (b"EBCDIC\na1b\n", 1, Cause::Charset),
-        (b"ISO8859-7\na1b\nx\xffy\n", 3, Cause::NotInCharset),
-        (b"UTF-8\nLEFTHYPHENMIN x\n", 2, Cause::Minimum),
-        (b"UTF-8\na1b\nc1\xff\n", 3, Cause::NotUtf8),
-        (b"UTF-8\n% nothing\n", 1, Cause::Nothing),
+    let cases: [(&[u8], usize, FileCause); 5] = [
+        (b"EBCDIC\na1b\n", 1, FileCause::Charset),
+        (b"ISO8859-7\na1b\nx\xffy\n", 3, FileCause::NotInCharset),
+        (b"UTF-8\nLEFTHYPHENMIN x\n", 2, FileCause::Minimum),
+        (b"UTF-8\na1b\nc1\xff\n", 3, FileCause::NotUtf8),
+        (b"UTF-8\n% nothing\n", 1, FileCause::Nothing),
     ];
     for (bytes, line, cause) in cases {
-        let wanted = Some(Refusal::Fault {
+        let wanted = Some(ConvertError::Fault {
             file: 0,
             line,
             cause,

@@ -4,7 +4,7 @@ use hyphenation_breaks::extended::Subregion;
 use hyphenation_breaks::language::Language;
 use hyphenation_writer::writer::{write_extended, write_standard};
 use pattern_files::libreoffice::convert_dic;
-use pattern_files::notes::{Note, What};
+use pattern_files::notes::{Note, NoteKind};
 use std::alloc::Global;
 use std::test::Fail;
 use test_support::{expect_equal_bytes, expect_equal_in};
@@ -69,48 +69,52 @@ fn a_file_gives_an_extended_dictionary(rt: HostRuntime) -> Result<(), Fail> {
 }
 
 // Files, each with the first line and the number of a note that it has; `None` if it lacks it.
-const NOTED: [(&[u8], What, Option<(usize, u64)>); 12] = [
-    (b"UTF-8\na1b\n", What::NoLevels, Some((1, 1))),
-    (b"UTF-8\na1b\n", What::NoMinima, Some((1, 1))),
+const NOTED: [(&[u8], NoteKind, Option<(usize, u64)>); 12] = [
+    (b"UTF-8
+a1b
+", NoteKind::NoLevels, Some((1, 1))),
+    (b"UTF-8
+a1b
+", NoteKind::NoMinima, Some((1, 1))),
     (
         b"UTF-8\nRIGHTHYPHENMIN 3\na1b\n",
-        What::NoMinima,
+        NoteKind::NoMinima,
         Some((1, 1)),
     ),
     (
         b"UTF-8\nLEFTHYPHENMIN 1\nRIGHTHYPHENMIN 3\na1b\n",
-        What::NoMinima,
+        NoteKind::NoMinima,
         None,
     ),
     (
         b"UTF-8\na1b\nn1o/n=o,1,1,1\n",
-        What::ChangeParts,
+        NoteKind::ChangeParts,
         Some((3, 1)),
     ),
     (
         b"UTF-8\na1b\nn1o/n=o,1,x\n",
-        What::ChangeNumber,
+        NoteKind::ChangeNumber,
         Some((3, 1)),
     ),
     (
         b"UTF-8\na1b\nn1o/n=o=,1,1\n",
-        What::ChangeWithoutEquals,
+        NoteKind::ChangeWithoutEquals,
         Some((3, 1)),
     ),
-    (b"UTF-8\na12b\nc12d\n", What::TwoValues, Some((2, 2))),
-    (b"UTF-8\na1b\n.1.\n", What::NoLetters, Some((3, 1))),
-    (b"UTF-8\na1b\ncd\n", What::NoValue, Some((3, 1))),
-    (b"UTF-8\na1b\na3b\n", What::Repeated, Some((3, 1))),
+    (b"UTF-8\na12b\nc12d\n", NoteKind::TwoValues, Some((2, 2))),
+    (b"UTF-8\na1b\n.1.\n", NoteKind::NoLetters, Some((3, 1))),
+    (b"UTF-8\na1b\ncd\n", NoteKind::NoValue, Some((3, 1))),
+    (b"UTF-8\na1b\na3b\n", NoteKind::Repeated, Some((3, 1))),
     (
         b"UTF-8\n1k1l/kk=l,1,2\n",
-        What::ChangeOfSeveral,
+        NoteKind::ChangeOfSeveral,
         Some((2, 1)),
     ),
 ];
 
 // The first line and the number of a note, if it is there.
-fn note_of(notes: &[Note], what: What) -> Option<(usize, u64)> {
-    let note = notes.iter().find(|note| note.what == what)?;
+fn note_of(notes: &[Note], kind: NoteKind) -> Option<(usize, u64)> {
+    let note = notes.iter().find(|note| note.kind == kind)?;
     Some((note.first.line, note.times))
 }
 

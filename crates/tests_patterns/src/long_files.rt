@@ -4,7 +4,7 @@ use hyphenation_breaks::language::Language;
 use hyphenation_dictionary::dictionary::Standard;
 use hyphenation_writer::writer::write_standard;
 use pattern_files::convert::convert;
-use pattern_files::fault::Refusal;
+use pattern_files::errors::ConvertError;
 use pattern_files::group::{File, Form, Group};
 use std::alloc::{AllocError, Global};
 use std::test::Fail;
@@ -49,7 +49,13 @@ fn converted_text(alloc: Global, words: &str) -> Result<Vec<u8>, AllocError> {
         form: Form::Plain(Group::Exceptions),
         bytes: words.as_bytes(),
     }];
-    let answer: Result<Standard, Refusal> = convert(alloc, Language::english_us(), 2, 3, &files);
+    let answer: Result<Standard, ConvertError> = convert(
+        alloc,
+        Language::english_us(),
+        2,
+        3,
+        &files,
+    );
     match answer {
         Ok(dictionary) => write_standard(alloc, &dictionary),
         Err(_) => Ok(Vec::new(alloc)),

@@ -1,6 +1,8 @@
 //! The outputs, messages and statuses of `hyphenate-canonical`.
 
-use canonical_command::{USAGE, answer, report_words};
+use canonical_command;
+use canonical_command::{USAGE, answer};
+use command_line::report_bad_args;
 use std::alloc::{AllocError, Global};
 use std::io;
 use std::io::ErrorKind;
@@ -122,7 +124,12 @@ fn the_version_and_the_usage_are_written(rt: HostRuntime) -> Result<(), Fail> {
 // Whether arguments that cannot be read for this error have this status and this message.
 fn has_message(alloc: Global, kind: ErrorKind, status: u8, message: &str) -> bool {
     let mut messages: Vec<u8> = Vec::new(alloc);
-    let found = report_words(&io::Error::from(kind), &mut messages);
+    let found = report_bad_args(
+        USAGE,
+        canonical_command::NO_MEMORY,
+        &io::Error::from(kind),
+        &mut messages,
+    );
     found == status && messages.as_slice() == message.as_bytes()
 }
 

@@ -2,7 +2,9 @@
 
 use crate::hyphenate::FullOutput;
 use crate::memory_files::{MemoryFiles, files_without_errors};
-use convert_command::{USAGE, answer, report_words};
+use command_line::report_bad_args;
+use convert_command;
+use convert_command::{USAGE, answer};
 use std::alloc::Global;
 use std::io;
 use std::io::ErrorKind;
@@ -250,7 +252,12 @@ fn an_output_that_fails_has_a_beginning_of_the_result(rt: HostRuntime) -> Result
 // Fails unless arguments that cannot be read for this error have this status and message.
 fn expect_message(alloc: Global, kind: ErrorKind, status: u8, message: &str) -> Result<(), Fail> {
     let mut messages: Vec<u8> = Vec::new(alloc);
-    let found = report_words(&io::Error::from(kind), &mut messages);
+    let found = report_bad_args(
+        USAGE,
+        convert_command::NO_MEMORY,
+        &io::Error::from(kind),
+        &mut messages,
+    );
     expect(found == status, message)?;
     expect_equal_bytes("the message", &messages, message.as_bytes())
 }

@@ -1,6 +1,7 @@
 //! The outputs, messages and statuses of `hyphenate`.
 
-use hyphenate_command::{answer, report_words};
+use command_line::report_bad_args;
+use hyphenate_command::{NO_MEMORY, USAGE, answer};
 use std::alloc::{AllocError, Global};
 use std::io::{ErrorKind, Read, Write};
 use std::test::Fail;
@@ -616,7 +617,7 @@ fn a_text_is_not_filled_by_another_language(rt: HostRuntime) -> Result<(), Fail>
 // The status of arguments that cannot be read for this error.
 fn status_of_unread_args(alloc: Global, kind: ErrorKind) -> u8 {
     let mut messages: Vec<u8> = Vec::new(alloc);
-    report_words(&io::Error::from(kind), &mut messages)
+    report_bad_args(USAGE, NO_MEMORY, &io::Error::from(kind), &mut messages)
 }
 
 #[test]
