@@ -1,0 +1,301 @@
+//! Hyphenation for C, and for languages that call C: `bindings/c/hyphenation.h` declares and explains the calls.
+//!
+//! A [`handle::Handle`] lies in the caller's memory, and holds one dictionary or none. Each call but
+//! `hyphenation_free` returns a status ([`statuses`]). A call writes what it finds into a buffer of the caller's. If
+//! the buffer is too short, it stays unchanged, and the count says how much room is wanted. No memory passes from one
+//! side to the other.
+#![tactic(auto)]
+
+ghost use Rattle.std.specs.Prelude.{◌≡◌, None};
+ghost use Rattle.hyphenation_c.specs.Dictionaries.{held};
+ghost use Rattle.hyphenation_c.specs.Statuses.{kind_numbered, Loads, Shares, Edits, WritesLanguage, WritesMinima};
+ghost use Rattle.hyphenation_c.specs.Statuses.{WritesBreaks, WritesValues, WritesChanges, WritesMarkedText};
+ghost use Rattle.hyphenation_c.specs.Statuses.{WritesLines, WritesCanonicalText};
+
+pub mod buffers;
+pub mod calls;
+pub mod changes;
+pub mod edits;
+pub mod handle;
+pub mod loaded;
+pub mod numbers;
+pub mod statuses;
+#[cfg(test)]
+mod tests;
+pub mod values;
+
+use changes::BreakChange;
+use handle::Handle;
+use hyphenation_reader::reader::Refusal;
+use statuses::{DONE, NO_DICTIONARY, OTHER_KIND, OUT_OF_MEMORY, REFUSED};
+use std::alloc::Global;
+
+/// Loads a dictionary of a kind from its text. It takes the place of the dictionary that the handle held.
+///
+/// The kind is 0 for a standard dictionary, and 1 for an extended one. For a refused text (`REFUSED`) the first faulty
+/// line, counted from 1, and the number of its cause are written. With each status but `DONE` the handle is unchanged.
+#[unsafe(no_mangle)]
+pub extern "C" fn hyphenation_load(
+    alloc: Global,
+    kind: u32,
+    bytes: &[u8],
+    handle: &mut Handle,
+    line: &mut usize,
+    cause: &mut u32,
+) -> u32
+    ensures loads { Loads (kind_numbered kind) bytes.now
+        (record {
+          old = held handle.old.slot.kept;
+          new = held handle.new.slot.kept;
+          before = (line.old, cause.old);
+          after = (line.new, cause.new);
+        }) result }
+{
+    let Some(kind) = numbers::kind_numbered(kind) else {
+        return OTHER_KIND;
+    };
+    match calls::load(alloc, kind, bytes) {
+        Ok(loaded) => {
+            let old = handle.take(alloc);
+            *handle = Handle::of(loaded);
+            drop(old);
+            DONE
+        }
+        Err(
+            Refusal::Fault {
+                line: at,
+                cause: why,
+            },
+        ) => {
+            *line = at;
+            *cause = numbers::cause_number(why);
+            REFUSED
+        }
+        Err(Refusal::Memory) => OUT_OF_MEMORY,
+    }
+}
+
+/// Frees the dictionary that the handle holds, if it holds one. The handle holds none afterwards.
+#[unsafe(no_mangle)]
+pub extern "C" fn hyphenation_free(alloc: Global, handle: &mut Handle)
+    ensures empty { held handle.new.slot.kept ≡ None }
+{
+    drop(handle.take(alloc));
+}
+
+/// Lets another handle hold the same dictionary, for another thread for example. Nothing is copied.
+///
+/// It takes the place of the dictionary that the other handle held. With each status but `DONE` the other handle is
+/// unchanged; this one is so always.
+#[unsafe(no_mangle)]
+pub extern "C" fn hyphenation_share(alloc: Global, handle: &mut Handle, other: &mut Handle) -> u32
+    ensures unchanged { held handle.new.slot.kept ≡ held handle.old.slot.kept }
+    ensures shares { Shares (held handle.old.slot.kept) (held other.old.slot.kept) (held other.new.slot.kept) result }
+{
+    let Some(loaded) = handle.take(alloc) else {
+        return NO_DICTIONARY;
+    };
+    let shared = calls::share(alloc, &loaded);
+    *handle = Handle::of(loaded);
+    match shared {
+        Some(shared) => {
+            let old = other.take(alloc);
+            *other = Handle::of(shared);
+            drop(old);
+            DONE
+        }
+        None => OUT_OF_MEMORY,
+    }
+}
+
+/// Edits the exceptions: `+` and an exception as it stands after `e ` in a dictionary text, or `-` and a word.
+///
+/// Other handles with the same dictionary are unchanged: if there are any, this handle holds an edited copy afterwards.
+/// A faulty edit is `REFUSED`. With each status but `DONE` the dictionary is unchanged.
+#[unsafe(no_mangle)]
+pub extern "C" fn hyphenation_edit(alloc: Global, handle: &mut Handle, edit: &[u8]) -> u32
+    ensures edits { Edits (held handle.old.slot.kept) (held handle.new.slot.kept) edit.now result }
+{
+    let Some(mut loaded) = handle.take(alloc) else {
+        return NO_DICTIONARY;
+    };
+    let status = edits::edit(&mut loaded, alloc, edit);
+    *handle = Handle::of(loaded);
+    status
+}
+
+/// Writes the code of the dictionary's language to the front of a buffer: at most 32 bytes.
+#[unsafe(no_mangle)]
+pub extern "C" fn hyphenation_language(
+    alloc: Global,
+    handle: &mut Handle,
+    code: &mut [u8],
+    count: &mut usize,
+) -> u32
+    ensures unchanged { handle.new.slot.kept ≡ handle.old.slot.kept }
+    ensures language { WritesLanguage (held handle.old.slot.kept) code.old code.new count.old count.new result }
+{
+    let Some(loaded) = handle.take(alloc) else {
+        return NO_DICTIONARY;
+    };
+    let status = calls::write_language(&loaded, code, count);
+    *handle = Handle::of(loaded);
+    status
+}
+
+/// Writes the least numbers of characters of a word before its first break and after its last one.
+#[unsafe(no_mangle)]
+pub extern "C" fn hyphenation_minima(
+    alloc: Global,
+    handle: &mut Handle,
+    left: &mut usize,
+    right: &mut usize,
+) -> u32
+    ensures unchanged { handle.new.slot.kept ≡ handle.old.slot.kept }
+    ensures minima { WritesMinima (held handle.old.slot.kept) (left.old, right.old) (left.new, right.new) result }
+{
+    let Some(loaded) = handle.take(alloc) else {
+        return NO_DICTIONARY;
+    };
+    let minima = calls::minima_in(&loaded);
+    *handle = Handle::of(loaded);
+    *left = minima.0;
+    *right = minima.1;
+    DONE
+}
+
+/// Writes the places of a word's breaks, in bytes, to the front of a buffer.
+#[unsafe(no_mangle)]
+pub extern "C" fn hyphenation_breaks(
+    alloc: Global,
+    handle: &mut Handle,
+    word: &[u8],
+    places: &mut [usize],
+    count: &mut usize,
+) -> u32
+    ensures unchanged { handle.new.slot.kept ≡ handle.old.slot.kept }
+    ensures breaks { WritesBreaks (held handle.old.slot.kept) word.now places.old places.new count.old count.new
+        result }
+{
+    let Some(loaded) = handle.take(alloc) else {
+        return NO_DICTIONARY;
+    };
+    let status = calls::write_breaks(&loaded, alloc, word, places, count);
+    *handle = Handle::of(loaded);
+    status
+}
+
+/// Writes the values of a word's places, from place 1 on, to the front of a buffer.
+///
+/// A place is a number of bytes before it. The values are those of the patterns alone, for the word as it is written:
+/// capitals are not made small, and neither the exceptions nor the minima are looked at.
+#[unsafe(no_mangle)]
+pub extern "C" fn hyphenation_values(
+    alloc: Global,
+    handle: &mut Handle,
+    word: &[u8],
+    values: &mut [u8],
+    count: &mut usize,
+) -> u32
+    ensures unchanged { handle.new.slot.kept ≡ handle.old.slot.kept }
+    ensures values { WritesValues (held handle.old.slot.kept) word.now values.old values.new count.old count.new
+        result }
+{
+    let Some(loaded) = handle.take(alloc) else {
+        return NO_DICTIONARY;
+    };
+    let status = values::write_values(&loaded, alloc, word, values, count);
+    *handle = Handle::of(loaded);
+    status
+}
+
+/// Writes a word's breaks and the changes that they make to the front of one buffer, and the texts of the changes to
+/// the front of another one.
+#[unsafe(no_mangle)]
+pub extern "C" fn hyphenation_changes(
+    alloc: Global,
+    handle: &mut Handle,
+    word: &[u8],
+    changes: &mut [BreakChange],
+    count: &mut usize,
+    texts: &mut [u8],
+    length: &mut usize,
+) -> u32
+    ensures unchanged { handle.new.slot.kept ≡ handle.old.slot.kept }
+    ensures changes { WritesChanges (held handle.old.slot.kept) word.now
+        (record { old = changes.old; new = changes.new; before = count.old; after = count.new })
+        (record { old = texts.old; new = texts.new; before = length.old; after = length.new }) result }
+{
+    let Some(loaded) = handle.take(alloc) else {
+        return NO_DICTIONARY;
+    };
+    let status = calls::write_changes(&loaded, alloc, word, changes, count, texts, length);
+    *handle = Handle::of(loaded);
+    status
+}
+
+/// Writes a text with the mark at each break of its words to the front of a buffer.
+#[unsafe(no_mangle)]
+pub extern "C" fn hyphenation_text(
+    alloc: Global,
+    handle: &mut Handle,
+    text: &[u8],
+    mark: &[u8],
+    buffer: &mut [u8],
+    count: &mut usize,
+) -> u32
+    ensures unchanged { handle.new.slot.kept ≡ handle.old.slot.kept }
+    ensures text { WritesMarkedText (held handle.old.slot.kept) text.now mark.now buffer.old buffer.new count.old
+        count.new result }
+{
+    let Some(loaded) = handle.take(alloc) else {
+        return NO_DICTIONARY;
+    };
+    let status = calls::write_text(&loaded, alloc, text, mark, buffer, count);
+    *handle = Handle::of(loaded);
+    status
+}
+
+/// Writes the lines of a text, each with a line feed after it, to the front of a buffer.
+///
+/// A line has at most so many characters, if the text can be divided so. An extended dictionary is `OTHER_KIND`.
+#[unsafe(no_mangle)]
+pub extern "C" fn hyphenation_fill(
+    alloc: Global,
+    handle: &mut Handle,
+    text: &[u8],
+    columns: usize,
+    buffer: &mut [u8],
+    count: &mut usize,
+) -> u32
+    ensures unchanged { handle.new.slot.kept ≡ handle.old.slot.kept }
+    ensures lines { WritesLines (held handle.old.slot.kept) text.now columns buffer.old buffer.new count.old count.new
+        result }
+{
+    let Some(loaded) = handle.take(alloc) else {
+        return NO_DICTIONARY;
+    };
+    let status = calls::write_lines(&loaded, alloc, text, columns, buffer, count);
+    *handle = Handle::of(loaded);
+    status
+}
+
+/// Writes the dictionary's canonical text to the front of a buffer.
+#[unsafe(no_mangle)]
+pub extern "C" fn hyphenation_write(
+    alloc: Global,
+    handle: &mut Handle,
+    buffer: &mut [u8],
+    count: &mut usize,
+) -> u32
+    ensures unchanged { handle.new.slot.kept ≡ handle.old.slot.kept }
+    ensures canonical { WritesCanonicalText (held handle.old.slot.kept) buffer.old buffer.new count.old count.new
+        result }
+{
+    let Some(loaded) = handle.take(alloc) else {
+        return NO_DICTIONARY;
+    };
+    let status = calls::write_canonical_text(&loaded, alloc, buffer, count);
+    *handle = Handle::of(loaded);
+    status
+}
