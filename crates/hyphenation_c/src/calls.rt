@@ -27,7 +27,7 @@ use hyphenation_breaks::language::Language;
 use hyphenation_dictionary::dictionary::{Extended, Standard};
 use hyphenation_grammar::form::Kind;
 use hyphenation_hyphenator::hyphenator::Hyphenator;
-use hyphenation_hyphenator::text::hyphenate_text;
+use hyphenation_hyphenator::text::hyphenated_text;
 use hyphenation_load::Load;
 use hyphenation_reader::reader::{Refusal, read_extended, read_standard};
 use line_filling::fill;
@@ -258,9 +258,7 @@ fn text_by<'h, H: Hyphenator<'h>>(
 ) -> Result<String, AllocError>
     ensures { IfOk result (λ page. string_bytes page ≡ hyphenated_text (H.breaks_of dictionary.now) mark.now text.now) }
 {
-    let mut page = String::new(alloc);
-    hyphenate_text(&mut page, alloc, dictionary, text, mark)?;
-    Ok(page)
+    hyphenated_text(alloc, dictionary, text, mark)
 }
 
 // A text with the mark at each break of its words, by a dictionary that is loaded.

@@ -108,4 +108,12 @@ impl Handle {
             None
         }
     }
+    // Lets the handle hold a dictionary, in the place of the one that it held, which is freed.
+    pub(crate) fn put(&mut self, alloc: Global, loaded: Box<Loaded>)
+        ensures holds { self.new.slot.kept ≡ Some loaded.value }
+    {
+        let old = self.take(alloc);
+        *self = Handle::of(loaded);
+        drop(old);
+    }
 }

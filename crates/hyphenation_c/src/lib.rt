@@ -8,6 +8,7 @@
 
 ghost use Rattle.std.specs.Prelude.{◌≡◌, None};
 ghost use Rattle.hyphenation_c.specs.Dictionaries.{held};
+ghost use Rattle.hyphenation_c.specs.Patterns.{minimum_given, LoadsDic};
 ghost use Rattle.hyphenation_c.specs.Statuses.{kind_numbered, Loads, Shares, Edits, WritesLanguage, WritesMinima};
 ghost use Rattle.hyphenation_c.specs.Statuses.{WritesBreaks, WritesValues, WritesChanges, WritesMarkedText};
 ghost use Rattle.hyphenation_c.specs.Statuses.{WritesLines, WritesCanonicalText};
@@ -19,6 +20,7 @@ pub mod edits;
 pub mod handle;
 pub mod loaded;
 pub mod numbers;
+pub mod patterns;
 pub mod statuses;
 #[cfg(test)]
 mod tests;
@@ -27,7 +29,8 @@ pub mod values;
 use changes::BreakChange;
 use handle::Handle;
 use hyphenation_reader::reader::Refusal;
-use statuses::{DONE, NO_DICTIONARY, OTHER_KIND, OUT_OF_MEMORY, REFUSED};
+use patterns::Failure;
+use statuses::{DONE, NO_DICTIONARY, NO_LANGUAGE, NOT_UTF8, OTHER_KIND, OUT_OF_MEMORY, REFUSED};
 use std::alloc::Global;
 
 /// Loads a dictionary of a kind from its text. It takes the place of the dictionary that the handle held.
@@ -56,9 +59,7 @@ pub extern "C" fn hyphenation_load(
     };
     match calls::load(alloc, kind, bytes) {
         Ok(loaded) => {
-            let old = handle.take(alloc);
-            *handle = Handle::of(loaded);
-            drop(old);
+            handle.put(alloc, loaded);
             DONE
         }
         Err(
@@ -72,6 +73,52 @@ pub extern "C" fn hyphenation_load(
             REFUSED
         }
         Err(Refusal::Memory) => OUT_OF_MEMORY,
+    }
+}
+
+/// Makes a dictionary of a kind of LibreOffice's `.dic`. It takes the place of the dictionary that the handle held.
+///
+/// The language is a code such as `en-us`. A minimum above 255 is the one that the file says, or 2. For a refused file
+/// (`REFUSED`) the line of its first fault, counted from 1, and the number of its cause, from 21 on, are written. With
+/// each status but `DONE` the handle is unchanged.
+#[unsafe(no_mangle)]
+pub extern "C" fn hyphenation_load_dic(
+    alloc: Global,
+    kind: u32,
+    language: &[u8],
+    left: u32,
+    right: u32,
+    bytes: &[u8],
+    handle: &mut Handle,
+    line: &mut usize,
+    cause: &mut u32,
+) -> u32
+    ensures loads { LoadsDic (kind_numbered kind) language.now (minimum_given left) (minimum_given right) bytes.now
+        (record {
+          old = held handle.old.slot.kept;
+          new = held handle.new.slot.kept;
+          before = (line.old, cause.old);
+          after = (line.new, cause.new);
+        }) result }
+{
+    let Some(kind) = numbers::kind_numbered(kind) else {
+        return OTHER_KIND;
+    };
+    let left = patterns::minimum_given(left);
+    let right = patterns::minimum_given(right);
+    match patterns::load_dic(alloc, kind, language, left, right, bytes) {
+        Ok(loaded) => {
+            handle.put(alloc, loaded);
+            DONE
+        }
+        Err(Failure::Fault(at, why)) => {
+            *line = at;
+            *cause = patterns::pattern_cause_number(why);
+            REFUSED
+        }
+        Err(Failure::Memory) => OUT_OF_MEMORY,
+        Err(Failure::NotUtf8) => NOT_UTF8,
+        Err(Failure::NotCode) => NO_LANGUAGE,
     }
 }
 
@@ -99,9 +146,7 @@ pub extern "C" fn hyphenation_share(alloc: Global, handle: &mut Handle, other: &
     *handle = Handle::of(loaded);
     match shared {
         Some(shared) => {
-            let old = other.take(alloc);
-            *other = Handle::of(shared);
-            drop(old);
+            other.put(alloc, shared);
             DONE
         }
         None => OUT_OF_MEMORY,

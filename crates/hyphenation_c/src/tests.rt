@@ -4,8 +4,8 @@ use crate::changes::BreakChange;
 use crate::handle::Handle;
 use crate::{
     hyphenation_breaks, hyphenation_changes, hyphenation_edit, hyphenation_fill, hyphenation_free,
-    hyphenation_language, hyphenation_load, hyphenation_minima, hyphenation_share,
-    hyphenation_text, hyphenation_values, hyphenation_write,
+    hyphenation_language, hyphenation_load, hyphenation_load_dic, hyphenation_minima,
+    hyphenation_share, hyphenation_text, hyphenation_values, hyphenation_write,
 };
 use std::alloc::Global;
 use std::test::Fail;
@@ -170,6 +170,81 @@ fn a_faulty_text_is_refused(rt: HostRuntime) -> Result<(), Fail> {
     assert_eq!(rt; (status, line, cause), (5, 3, 4));
     let kind = hyphenation_load(rt.alloc(), 2, bytes, &mut handle, &mut line, &mut cause);
     assert_eq!(rt; kind, 6);
+    hyphenation_free(rt.alloc(), &mut handle);
+    Ok(())
+}
+
+#[test]
+fn a_dic_makes_a_dictionary(rt: HostRuntime) -> Result<(), Fail> {
+    let mut handle = Handle::empty();
+    let (mut line, mut cause) = (9usize, 9u32);
+    let dic = b"UTF-8\nLEFTHYPHENMIN 1\na1b\n".as_slice();
+    let made = hyphenation_load_dic(
+        rt.alloc(),
+        1,
+        b"hu",
+        256,
+        3,
+        dic,
+        &mut handle,
+        &mut line,
+        &mut cause,
+    );
+    assert_eq!(rt; (made, line, cause), (0, 9, 9));
+    let (mut left, mut right) = (0usize, 0usize);
+    let said = hyphenation_minima(rt.alloc(), &mut handle, &mut left, &mut right);
+    assert_eq!(rt; (said, left, right), (0, 1, 3));
+    let (mut places, mut count) = ([9usize; 2], 9usize);
+    let word = b"abba".as_slice();
+    let status = hyphenation_breaks(rt.alloc(), &mut handle, word, &mut places, &mut count);
+    assert_eq!(rt; (status, count, places), (0, 1, [1, 9]));
+    let bad = b"EBCDIC\na1b\n".as_slice();
+    let refused = hyphenation_load_dic(
+        rt.alloc(),
+        0,
+        b"hu",
+        1,
+        1,
+        bad,
+        &mut handle,
+        &mut line,
+        &mut cause,
+    );
+    assert_eq!(rt; (refused, line, cause), (5, 1, 29));
+    let code = hyphenation_load_dic(
+        rt.alloc(),
+        0,
+        b"HU",
+        1,
+        1,
+        dic,
+        &mut handle,
+        &mut line,
+        &mut cause,
+    );
+    let utf8 = hyphenation_load_dic(
+        rt.alloc(),
+        0,
+        b"\xff",
+        1,
+        1,
+        dic,
+        &mut handle,
+        &mut line,
+        &mut cause,
+    );
+    let kind = hyphenation_load_dic(
+        rt.alloc(),
+        2,
+        b"hu",
+        1,
+        1,
+        dic,
+        &mut handle,
+        &mut line,
+        &mut cause,
+    );
+    assert_eq!(rt; (code, utf8, kind), (7, 4, 6));
     hyphenation_free(rt.alloc(), &mut handle);
     Ok(())
 }
