@@ -1,5 +1,6 @@
 /* Hostile bytes through the calls that load: each file that is named with one byte removed, doubled or changed, and cut
- * at each place; random bytes; and a text of a million lines. Each is loaded or refused with a line of the text. */
+ * at each place; random bytes; and a text of a million lines. Each is loaded or refused with a
+ * line of the text, or the one after it. */
 #include "hyphenation.h"
 #include <assert.h>
 #include <stdio.h>
@@ -25,7 +26,7 @@ static void load(const uint8_t *text, size_t length) {
       assert(hyphenation_breaks(&h, (const uint8_t *)"asszonnyalfirkin", 16, places, 64, &count) == HYPHENATION_DONE);
     } else {
       refused++;
-      assert(!h.held && line >= 1 && line <= lines && *hyphenation_message(cause));
+      assert(!h.held && line >= 1 && line <= lines + 1 && *hyphenation_message(cause));
     }
     hyphenation_free(&h);
     hyphenation_free(&h);
