@@ -1,6 +1,6 @@
 /* Hostile bytes through the calls that load: each file that is named with one byte removed, doubled or changed, and cut
- * at each place; random bytes; and a text of a million lines. Each is loaded or refused with a
- * line of the text, or the one after it. */
+ * at each place; random bytes; and a text of a million lines. Each is loaded, or refused with a line of the text or the
+ * one after it. */
 #include "hyphenation.h"
 #include <assert.h>
 #include <stdio.h>
