@@ -1,4 +1,4 @@
-"""What languages/list says, and where the files of its rows are."""
+"""The rows of languages/list, and the paths of their files."""
 
 import glob
 import os
@@ -42,7 +42,7 @@ def choices():
 
 
 def folders(given):
-    """The folders to search: those that the user gives, then the known ones."""
+    """The folders to search: the user's, then the known ones."""
     known = [folder for pattern in KNOWN_FOLDERS for folder in sorted(glob.glob(pattern))]
     return [*given, *known]
 
@@ -56,6 +56,6 @@ def paths_of(row, searched):
     return None
 
 
-def convert_words(row, paths):
+def convert_command(row, paths):
     """The call of hyphenate-convert for a row."""
     return [program("hyphenate-convert"), row.kind, row.code, row.left, row.right, *paths]

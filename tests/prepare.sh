@@ -1,4 +1,4 @@
-# What the scripts of this folder share: the programs, runs of them with a fault, and the line that a script ends with.
+# Functions that the scripts of this folder share: the programs, runs of them with a failing call, and the last line.
 # shellcheck shell=bash disable=SC2034
 
 set -euo pipefail
@@ -14,8 +14,8 @@ die() {
   exit 2
 }
 
-# needs PROGRAM..: has the programs proved and built that are not current; or ends the script, where AS_BUILT is set,
-# as ./test sets it: it takes the programs that `rt ci` has just built, and builds none anew.
+# needs PROGRAM..: proves and builds the programs that are not current. With AS_BUILT, as ./test sets it, it ends the
+# script instead: ./test takes the programs that `rt ci` has just built, and builds none anew.
 needs() {
   local it file crate
   if [ -z "${AS_BUILT-}" ]; then
@@ -27,14 +27,14 @@ needs() {
   done
 }
 
-# program NAME: the file of a program, which is there.
+# program NAME: the file of a program that was built.
 program() {
   local file crate
   file_of "$1"
   echo "$file"
 }
 
-# compiler: the words of a C compiler: those of CC, else the toolchain's own, else cc.
+# compiler: the command of a C compiler: that of CC, else the toolchain's own, else cc.
 compiler() {
   local page
   if [ -n "${CC-}" ]; then
@@ -50,15 +50,15 @@ compiler() {
 
 # Builds the library that makes calls fail.
 build_faults() {
-  local words
-  words=$(compiler) || die "there is no C compiler: neither one in CC, nor the toolchain's, nor cc"
+  local command
+  command=$(compiler) || die "there is no C compiler: neither one in CC, nor the toolchain's, nor cc"
   # shellcheck disable=SC2086
-  $words -O2 -shared -fPIC -nostdlib -o "$scratch/faults.so" "$root/tests/faults.c" ||
-    die "tests/faults.c was not built by $words"
+  $command -O2 -shared -fPIC -nostdlib -o "$scratch/faults.so" "$root/tests/faults.c" ||
+    die "tests/faults.c was not built by $command"
 }
 
-# with FAULT PROGRAM WORD..: runs the program with that fault. It leaves in `status` how it ended, in `output` and
-# `message` what it wrote, and in `counted`, `touched`, `touched_at`, `touched_after` and `kept` what the report says.
+# with FAULT PROGRAM ARGUMENT..: runs the program with a failing call. It leaves its exit status in `status`, its output
+# in `output` and `message`, and the report in `counted`, `touched`, `touched_at`, `touched_after` and `kept`.
 with() {
   local fault=$1
   shift
@@ -72,7 +72,7 @@ with() {
   message=$(cat "$scratch/message")
 }
 
-# The checks of a script: `check` counts one that passed or, with a text, one that failed, and says why.
+# check [TEXT]: counts a check that passed or, with a text that says why, one that failed.
 passed=0 failed=0
 check() {
   if [ $# = 0 ]; then
@@ -83,7 +83,7 @@ check() {
   fi
 }
 
-# Ends a script: the last line says how many of its checks passed, and the status is 1 where one failed.
+# end: prints how many checks passed, and ends the script. The status is 1 if one failed.
 end() {
   echo "$passed passed, $failed failed"
   [ $failed = 0 ] || exit 1

@@ -7,10 +7,10 @@ tools=(basename bash cat chmod cp dirname env find iconv ln mkdir mktemp mv read
 
 # make_copy: makes the copy, in `copy`, and the folders of commands: `plain` without `rt`, and `stub` with it.
 #
-# The command writes each call to the file `calls`: the folder that it was called in, and its words. `rt try` hands the
-# program `trial` of the copy its words, and says that this was a trial that ended; without that program it gives no
-# answer. `rt run` makes the program `proved` of the copy the crate's; where there is none it fails, as does `rt lib` of a
-# crate that the file `unproved` names, and `rt all` where there is such a file.
+# The command writes each call to the file `calls`: the folder that it was called in, and its arguments. `rt try` passes
+# its arguments to the program `trial` of the copy, and says that this was a trial that ended. Without that program it
+# fails. `rt run` makes the program `proved` of the copy the crate's, and fails without it. `rt lib` fails for a crate
+# that the file `unproved` names.
 make_copy() {
   local it
   copy=$scratch/copy plain=$scratch/plain stub=$scratch/stub
@@ -20,14 +20,13 @@ make_copy() {
     man LICENSE-APACHE LICENSE-MIT examples crates.txt HANDLES crates | tar -C "$copy" -xf -
   find "$copy" -type f -exec touch -d '2 hours ago' {} +
   for it in "${tools[@]}"; do
-    # the launcher does without iconv where there is none
+    # The launcher works without iconv if there is none.
     ! command -v "$it" >/dev/null || ln -s "$(command -v "$it")" "$plain/$it"
   done
   cat >"$stub/rt" <<'STUB'
 #!/usr/bin/env bash
 top=$STUB_COPY
 name=$(basename "$PWD")
-[ "$1" != all ] || name=together
 echo "$name: $*" >>"$top/calls"
 case $1 in
   try)
@@ -38,7 +37,6 @@ case $1 in
     exit $status
     ;;
   lib) ! grep -qsx "$name" "$top/unproved" || { echo "$name: not proved"; exit 1; } ;;
-  all) [ ! -e "$top/unproved" ] || { echo "$(cat "$top/unproved"): not proved"; exit 1; } ;;
   run) mkdir -p out && cp "$top/proved" "out/$name" && chmod 755 "out/$name" ;;
 esac
 STUB
@@ -47,8 +45,8 @@ STUB
   : >"$copy/calls"
 }
 
-# program_at FILE NAME: makes a program that says its name and its words, and what it reads; it says `told` on standard
-# error where there is a word `told`, and ends with the status that the last word is, where that is a number.
+# program_at FILE NAME: makes a program that writes its name, its arguments, and its input. With an argument `message` it
+# writes `message` to standard error. If its last argument is a number, that is its exit status.
 program_at() {
   mkdir -p "$(dirname "$1")"
   cat >"$1" <<PROGRAM
@@ -56,13 +54,13 @@ program_at() {
 printf '$2'
 printf ' [%s]' "\$@"
 printf ' %s\n' "\$(cat)"
-[[ " \$* " != *' told '* ]] || echo told >&2
+[[ " \$* " != *' message '* ]] || echo message >&2
 [[ ! \${!#} =~ ^[0-9]\$ ]] || exit "\${!#}"
 PROGRAM
   chmod 755 "$1"
 }
 
-# called_with PATH WORD..: runs a command of the copy with that PATH, on the input that `input` has, and leaves `status`,
+# called_with PATH ARGUMENT..: runs a command of the copy with that PATH, on the input in `input`. It leaves `status`,
 # `output`, `message` and `calls`, the calls of the stub.
 called_with() {
   local path=$1
@@ -75,7 +73,7 @@ called_with() {
   calls=$(cat "$copy/calls")
 }
 
-# expect WHAT TEST..: a check, which passes where the test does.
+# expect NAME TEST..: a check, which passes if the test does.
 expect() {
   local what=$1
   shift

@@ -1,4 +1,4 @@
-# What the launcher, ./install and the scripts share: which programs are proved and built, and how that is done.
+# Functions that the launcher, ./install and the scripts share: which programs are proved and built, and how to do it.
 # A script that reads this has set `root`, the folder of the repository, and `called`, its own name.
 # shellcheck shell=bash disable=SC2154
 
@@ -55,12 +55,12 @@ has_toolchain() {
   return 1
 }
 
-# prove PROGRAM..: proves and builds the programs that are not current, with a line on standard error for each crate.
-# It returns 1 where one is not proved and built, and says why. Where `at_once` is set, so many crates are proved side by
-# side, each with one job; else one after another, each with all processors.
+# prove PROGRAM..: proves and builds the programs that are not current, and all that they use, with a line on standard error
+# for each crate. It returns 1 where one is not proved and built, and says why. Crates that do not stand on one another are
+# proved side by side: at most `at_once`, or else as many as the processors and the memory allow.
 prove() {
   local -a order=() missing=()
-  local it log done=0
+  local it size processors=1 gigabytes=0 status=0
   for it; do
     is_current "$it" || missing+=("$it")
   done
@@ -70,77 +70,126 @@ prove() {
     crate_of "$it"
     order_of "$crate"
   done
-  echo "$called: proving and building ${missing[*]}; from nothing, all programs took $INSTALL" >&2
-  log=$(mktemp)
-  if [ -n "${at_once-}" ]; then
-    prove_side_by_side "$log" || {
-      tail -n 30 "$log" >&2
-      echo "$called: not all was proved and built; all of what was said is in $log" >&2
-      return 1
-    }
-    rm -f "$log"
-    return
+  processors=$(nproc 2>/dev/null) || processors=1
+  while read -r it size _; do
+    [ "$it" != MemTotal: ] || gigabytes=$((size / 1000000))
+  done 2>/dev/null </proc/meminfo || gigabytes=0
+  if [ -z "${at_once-}" ]; then
+    # the longest chain of crates decides how long all of it takes, so a processor is left to a second job of each
+    at_once=$((processors > 3 ? processors - 1 : 1))
+    at_once=$((gigabytes / 6 < at_once ? gigabytes / 6 : at_once))
+    at_once=$((at_once > 0 ? at_once : 1))
   fi
-  for it in "${order[@]}"; do
-    done=$((done + 1))
-    echo "$called: proving $it ($done of ${#order[@]})" >&2
-    prove_crate "$it" >"$log" 2>&1 </dev/null || {
-      tail -n 30 "$log" >&2
-      echo "$called: $it was not proved and built; all of what was said is in $log" >&2
-      return 1
-    }
-  done
-  rm -f "$log"
+  jobs=()
+  [ "$at_once" = 1 ] || jobs=(--jobs $((processors > 3 ? 2 : 1)))
+  echo "$called: proving and building ${missing[*]}; from nothing, all programs took $INSTALL" >&2
+  prove_all &
+  proving=$!
+  trap 'kill "$proving"; wait "$proving" || exit 130' INT
+  trap 'kill "$proving"; wait "$proving" || exit 143' TERM
+  wait "$proving" || status=1
+  trap - INT TERM
+  return $status
 }
 
-# prove_crate CRATE: proves and builds one crate, whose libraries are built.
-prove_crate() (
-  cd "$root/crates/$1" || exit 1
+# prove_all: proves and builds the crates of the list `order`, each when those that it uses are done, at most `at_once` at a
+# time. Where one is not proved, those that have begun are ended. It is called in the background, so that a signal to the
+# script reaches it at once.
+prove_all() {
+  declare -A state=() crate_by=()
+  local it below ended status log done=0
+  # with job control each crate has a process group of its own, which ends as a whole
+  set -m
+  top=$(mktemp -d "$root/.proving.XXXXXX") || exit 1
+  end_all() {
+    for it in "${!crate_by[@]}"; do
+      kill -- "-$it" 2>/dev/null || true
+    done
+    wait 2>/dev/null
+    for it in "${crate_by[@]}"; do
+      put_back "$it"
+    done
+    rm -rf "$top"
+  }
+  trap end_all EXIT
+  trap 'exit 143' TERM
+  trap - INT
+  while :; do
+    for it in "${order[@]}"; do
+      [ ${#crate_by[@]} -lt "$at_once" ] || break
+      [ -z "${state[$it]-}" ] || continue
+      for below in ${uses[$it]}; do
+        [[ ! -v "uses[$below]" || ${state[$below]-} = proved ]] || continue 2
+      done
+      echo "$called: proving $it" >&2
+      (lay_out "$it" && prove_crate "$it") >"$top/$it.log" 2>&1 </dev/null &
+      state[$it]=begun
+      crate_by[$!]=$it
+    done
+    [ ${#crate_by[@]} != 0 ] || break
+    status=0
+    wait -n -p ended "${!crate_by[@]}" || status=$?
+    it=${crate_by[$ended]}
+    unset "crate_by[$ended]"
+    put_back "$it"
+    if [ "$status" != 0 ]; then
+      log=$(mktemp)
+      cp "$top/$it.log" "$log"
+      tail -n 30 "$log" >&2
+      echo "$called: $it was not proved and built; all of what was said is in $log" >&2
+      exit 1
+    fi
+    rm -rf "${top:?}/$it"
+    state[$it]=proved
+    done=$((done + 1))
+    echo "$called: proved $it ($done of ${#order[@]})" >&2
+  done
+}
+
+# lay_out CRATE: lays out a folder in which one crate can be proved next to others, since a call of rt locks the folders of
+# all crates that it reads: copies of the sources, the libraries that the crate uses, and what is kept of it in out/.
+lay_out() {
+  local -a order=()
+  local it part here=$top/$1
+  order_of "$1"
+  mkdir "$here"
+  cp "$root/HANDLES" "$here"
+  for it in "${order[@]}"; do
+    echo "$it:${uses[$it]}" >>"$here/crates.txt"
+    mkdir -p "$here/crates/$it"
+    for part in src specs proofs; do
+      [ ! -d "$root/crates/$it/$part" ] || cp -R "$root/crates/$it/$part" "$here/crates/$it/$part"
+    done
+    if [ "$it" = "$1" ]; then
+      [ ! -d "$root/crates/$it/out" ] || mv "$root/crates/$it/out" "$here/crates/$it/out"
+    elif [ -d "$root/crates/$it/out/rlib" ]; then
+      mkdir "$here/crates/$it/out"
+      # links to the files where the file system has them, since a library has up to 500 MB
+      cp -al "$root/crates/$it/out/rlib" "$here/crates/$it/out/rlib" 2>/dev/null ||
+        cp -R "$root/crates/$it/out/rlib" "$here/crates/$it/out/"
+    fi
+  done
+}
+
+# put_back CRATE: moves what is kept of a crate to its place again.
+put_back() {
+  [ -d "$top/$1/crates/$1/out" ] || return 0
+  rm -rf "$root/crates/$1/out"
+  mv "$top/$1/crates/$1/out" "$root/crates/$1/out"
+}
+
+# prove_crate CRATE: proves and builds a crate in the folder that was laid out for it.
+prove_crate() {
+  cd "$top/$1/crates/$1" || return 1
   if [ -e src/lib.rt ]; then
-    rt lib
-    exit
+    rt lib "${jobs[@]}"
+    return
   fi
   rm -f "out/$1"
   # a run without arguments ends with the usage, so its status says nothing; the program is there if it was proved
   rt run || true
   [ -x "out/$1" ]
-)
-
-# prove_side_by_side LOG: proves and builds the crates of the list `order`, `at_once` of them at a time, and writes to LOG
-# what is said. `rt all` works on all crates below a folder, and goes through no links: so these crates are copied to a
-# folder of their own. Their out/ is moved there and, however this ends, back again.
-prove_side_by_side() (
-  top=$(mktemp -d)
-  put_back() {
-    for it in "${order[@]}"; do
-      [ -d "$top/crates/$it/out" ] || continue
-      rm -rf "$root/crates/$it/out"
-      mv "$top/crates/$it/out" "$root/crates/$it/out"
-    done
-    rm -rf "$top"
-  }
-  trap put_back EXIT
-  trap 'exit 130' INT
-  trap 'exit 143' TERM
-  cp "$root/HANDLES" "$top"
-  for it in "${order[@]}"; do
-    echo "$it:${uses[$it]}" >>"$top/crates.txt"
-    mkdir -p "$top/crates/$it"
-    for part in src specs proofs; do
-      [ ! -d "$root/crates/$it/$part" ] || cp -R "$root/crates/$it/$part" "$top/crates/$it/$part"
-    done
-    [ ! -d "$root/crates/$it/out" ] || mv "$root/crates/$it/out" "$top/crates/$it/out"
-    rm -f "$top/crates/$it/out/$it"
-  done
-  (cd "$top" && rt all check --jobs "$at_once") </dev/null 2>&1 | tee "$1" | sed -u -n "/^== summary/d; s/^== /$called: done: /p" >&2
-  [ "${PIPESTATUS[0]}" = 0 ] || exit 1
-  for it in "${order[@]}"; do
-    [ -e "$top/crates/$it/src/main.rt" ] || continue
-    # a run without arguments ends with the usage, so its status says nothing; the program is there if it was proved
-    (cd "$top/crates/$it" && rt run) </dev/null >>"$1" 2>&1 || true
-    [ -x "$top/crates/$it/out/$it" ] || exit 1
-  done
-)
+}
 
 # shellcheck source=proof-times
 . "$root/proof-times"

@@ -1,5 +1,6 @@
-//! What people write over these libraries: callers of some thirty to sixty lines, each with a contract of its own,
-//! which cites what the libraries promise and nothing of how they keep it.
+//! Callers of these libraries, to be copied: thirty to sixty lines each.
+//!
+//! The contract of each follows from the contracts of the calls that it makes, and from nothing else of the libraries.
 #![tactic(auto)]
 
 pub mod discretionaries;

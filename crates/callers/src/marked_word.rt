@@ -1,4 +1,4 @@
-//! One word with a mark at each of its breaks, as a dictionary shows it: `hy-phen-a-tion`.
+//! A word with a mark at each of its breaks, as a printed dictionary shows it: `hy-phen-a-tion`.
 
 ghost use Rattle.std.specs.Prelude.{◌≡◌, IfOk};
 ghost use Rattle.std.specs.String.{string_bytes};
@@ -8,9 +8,13 @@ use hyphenation::Hyphenator;
 use hyphenation::iter::push_marked;
 use std::alloc::{AllocError, Global};
 
-/// A word with the mark at each break that the dictionary finds, and with the letters that a break changes.
+/// Returns a word with the mark at each break that the dictionary finds, and with the letters that a break changes.
 ///
 /// The only error is that memory was refused.
+///
+/// ```text
+/// marked_word(alloc, &dictionary, "hyphenation", "·")?    // hy·phen·a·tion
+/// ```
 pub fn marked_word<'h, H: Hyphenator<'h>>(
     alloc: Global,
     dictionary: &'h H,

@@ -1,38 +1,24 @@
-//! A caller of `linefill`: a text with paragraphs, each of which is filled by itself.
+//! A caller of `linefill` that fills each paragraph of a text by itself.
 
-ghost use Rattle.std.specs.Prelude.{◌≡◌, ◌++◌, OnOk, IfOk, map};
+ghost use Rattle.std.specs.Prelude.{◌≡◌, ◌++◌, OnOk, IfOk};
 ghost use Rattle.std.specs.List.{flat_map};
 ghost use Rattle.std.specs.Str.Lines.{lines};
 ghost use Rattle.std.specs.String.{string_bytes};
-ghost use Rattle.line_filling.specs.Lines.{lines_by};
-ghost use Rattle.hyphenation_writer.specs.Canonical.{with_line_feeds};
-ghost use Rattle.callers.specs.Paragraphs.{paragraph_text};
+ghost use Rattle.callers.specs.Paragraphs.{filled_paragraph};
 
 use hyphenation::Hyphenator;
-use linefill::fill;
+use linefill::{fill, push_lines};
 use std::alloc::{AllocError, Global};
 
-/// Appends lines, each with a line feed after it.
-fn push_lines(page: &mut String, lines: &[String]) -> Result<(), AllocError>
-    ensures { OnOk result (string_bytes page.new ≡ string_bytes page.old ++ with_line_feeds
-        (map string_bytes lines.now)) }
-{
-    for line in lines {
-        page.push_str(line)?;
-        page.push('\n')?;
-    }
-    Ok(())
-}
-
-/// Appends the lines of a paragraph, each with a line feed after it; of an empty one a line feed alone.
+// Appends the lines of a paragraph, each with a line feed after it; for an empty paragraph a line feed alone.
 fn push_paragraph<'h, H: Hyphenator<'h, Opportunity = usize>>(
     page: &mut String,
     dictionary: &'h H,
     paragraph: &str,
     columns: usize,
 ) -> Result<(), AllocError>
-    ensures { OnOk result (string_bytes page.new ≡ string_bytes page.old ++ paragraph_text paragraph.now
-        (lines_by (H.breaks_of dictionary.now) paragraph.now columns)) }
+    ensures { OnOk result (string_bytes page.new
+        ≡ string_bytes page.old ++ filled_paragraph (H.breaks_of dictionary.now) columns paragraph.now) }
 {
     let lines = fill(*page.allocator(), dictionary, paragraph, columns)?;
     push_lines(page, &lines)?;
@@ -42,10 +28,14 @@ fn push_paragraph<'h, H: Hyphenator<'h, Opportunity = usize>>(
     Ok(())
 }
 
-/// A text whose paragraphs, parted by line ends, are filled to so many columns, each by itself.
+/// Fills the paragraphs of a text, which its line ends separate, to so many columns each by itself.
 ///
-/// The lines are those of [`fill`], in their order, each with a line feed after it; an empty paragraph stays as an
-/// empty line. The only error is that memory was refused.
+/// Returns the lines of [`fill`], in their order, each with a line feed after it. An empty paragraph stays as an empty
+/// line. The only error is that memory was refused.
+///
+/// ```text
+/// fill_paragraphs(alloc, &dictionary, "I know\n\nnoble accents", 10)?    // "I know\n\nnoble ac-\ncents\n"
+/// ```
 pub fn fill_paragraphs<'h, H: Hyphenator<'h, Opportunity = usize>>(
     alloc: Global,
     dictionary: &'h H,
@@ -53,9 +43,7 @@ pub fn fill_paragraphs<'h, H: Hyphenator<'h, Opportunity = usize>>(
     columns: usize,
 ) -> Result<String, AllocError>
     ensures { IfOk result (λ page.
-        string_bytes page
-        ≡ flat_map (λ paragraph. paragraph_text paragraph (lines_by (H.breaks_of dictionary.now) paragraph columns))
-        (lines text.now)) }
+        string_bytes page ≡ flat_map (filled_paragraph (H.breaks_of dictionary.now) columns) (lines text.now)) }
 {
     let mut page = String::new(alloc);
     for paragraph in text.lines() {

@@ -1,4 +1,4 @@
-//! A text for a page whose reader breaks the lines: with a soft hyphen at each place where a word may be broken.
+//! Soft hyphens for a page whose reader breaks the lines: one at each place where a word may be broken.
 
 ghost use Rattle.std.specs.Prelude.{◌≡◌, ◌++◌, IfOk, OnOk};
 ghost use Rattle.std.specs.List.{flat_map};
@@ -12,7 +12,7 @@ use hyphenation::iter::push_marked;
 use std::alloc::{AllocError, Global};
 use unicode_segmentation::UnicodeSegmentation;
 
-/// Appends a piece of a text, as [`with_soft_hyphens`] has it.
+// Appends a piece of a text, with its soft hyphens.
 fn push_piece<'h, H: Hyphenator<'h, Opportunity = usize>>(
     page: &mut String,
     dictionary: &'h H,
@@ -28,11 +28,14 @@ fn push_piece<'h, H: Hyphenator<'h, Opportunity = usize>>(
     }
 }
 
-/// A text with U+00AD at each break of its words. A word that has soft hyphens already stays as its writer left it.
+/// Returns a text with U+00AD at each break of its words. A word that has soft hyphens already stays as it is.
 ///
-/// It asks for breaks that change nothing: a break that changes letters would change them also where no line ends.
+/// The breaks must be plain. A break that changes letters would change them also where no line ends. The only error
+/// is that memory was refused.
 ///
-/// The only error is that memory was refused.
+/// ```text
+/// with_soft_hyphens(alloc, &dictionary, "Hyphenation.")?    // Hy\u{ad}phen\u{ad}a\u{ad}tion.
+/// ```
 pub fn with_soft_hyphens<'h, H: Hyphenator<'h, Opportunity = usize>>(
     alloc: Global,
     dictionary: &'h H,

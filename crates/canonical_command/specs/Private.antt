@@ -1,2 +1,2 @@
--- What private functions and proofs are stated by. No contract of a public call cites it, so it is not for signing.
+-- Definitions for private functions and proofs. No contract of a public call cites them, so they are not for signing.
 pub mod Statuses

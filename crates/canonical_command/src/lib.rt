@@ -1,43 +1,44 @@
-//! The words, the messages and the statuses of the program `hyphenate-canonical`: a dictionary text, of the kind that
-//! the one word names, is put in order.
+//! The program `hyphenate-canonical` without its `main`: its arguments, messages and statuses.
+//!
+//! It puts a dictionary text in order, of the kind that its argument names.
 #![tactic(auto)]
 
-ghost use Rattle.std.specs.Prelude.{◌≡◌, ◌≢◌, ◌⊎◌, None, OnOk, IfErr, IfSome, IsSome};
-ghost use Rattle.std.specs.Io.KnownBytes.{Appends};
-ghost use Rattle.std.specs.IoError.{error_kind};
+ghost use Rattle.std.specs.Prelude.{◌≡◌, None, Some, OnOk, IfErr, IfSome, IsSome};
 ghost use Rattle.hyphenation_grammar.specs.Judging.{refusal_of};
-ghost use Rattle.hyphenation_load.specs.Load.{Tells};
-ghost use Rattle.command_line.specs.About.{own_text};
-ghost use Rattle.canonical_command.specs.Canonical.{kind_of_words, reordered, IsAnswered};
+ghost use Rattle.hyphenation_load.specs.Load.{AppendsTo, IsLoadError};
+ghost use Rattle.command_line.specs.About.{help_or_version, WritesHelp};
+ghost use Rattle.canonical_command.specs.Canonical.{kind_of_args, reordered, IfAsked, IsExitStatus};
 ghost use Rattle.command_line.specs.Statuses.{BeforeOutput};
-ghost use Rattle.canonical_command.specs.Private.Statuses.{status_of_error, UnlessFault};
+ghost use Rattle.canonical_command.specs.Private.Statuses.{status_of_error, UnlessIo};
 
-use command_line::{VERSION, answer_of_itself, tell};
+use command_line::{VERSION, write_help_or_version, write_message};
 use hyphenation_dictionary::dictionary::{Extended, Standard};
 use hyphenation_grammar::form::Kind;
 use hyphenation_load::{Error, Load, Result};
 use std::alloc::Global;
-use std::io;
-use std::io::{ErrorKind, Read, Write};
+use std::io::{Read, Write};
 
 /// The name of the program.
 pub const NAME: &str = "hyphenate-canonical";
 
-/// What is said of words of no form, and for `--help`.
+/// The usage, for `--help` and for arguments of no form.
 pub const USAGE: &str =
     "usage: hyphenate-canonical KIND\n       hyphenate-canonical --help\n       hyphenate-canonical --version\n";
 
-/// The kind that the words name.
-fn kind_of(words: &[&str]) -> Option<Kind>
-    ensures { result ≡ kind_of_words words.now }
+/// The message if memory was refused.
+pub const NO_MEMORY: &str = "hyphenate-canonical: no memory\n";
+
+// The kind that the arguments name.
+fn kind_of(args: &[&str]) -> Option<Kind>
+    ensures { result ≡ kind_of_args args.now }
 {
-    match words {
+    match args {
         [name] => Kind::from_name(name),
         _ => None,
     }
 }
 
-/// Reads a dictionary text, and writes the canonical text of its dictionary.
+// Loads a dictionary from its text, and writes its canonical text.
 fn put_in_order<D: Load + Drop, R: Read, W: Write>(
     alloc: Global,
     input: &mut R,
@@ -45,17 +46,15 @@ fn put_in_order<D: Load + Drop, R: Read, W: Write>(
 ) -> Result<()>
     ensures accepted { OnOk result (IfSome (R.remaining input.old) (λ bytes. D.refusal bytes ≡ None)) }
     ensures written { OnOk result (IfSome (R.remaining input.old) (λ bytes.
-        (dictionary : D) × D.is_given bytes dictionary
-        × Appends (W.contents output.old) (W.contents output.new) (D.canonical dictionary))) }
-    ensures refused { IfErr result (λ e. IfSome (R.remaining input.old) (λ bytes.
-        Tells (D.refusal bytes) (Unit {0}) (λ _ _. ⊥) e)) }
-    ensures untouched { UnlessFault result (output.new ≡ output.old) }
+        AppendsTo W.contents output.old output.new (D.canonical (D.contents bytes)))) }
+    ensures refused { IfErr result (λ e. IfSome (R.remaining input.old) (λ bytes. IsLoadError (D.refusal bytes) e)) }
+    ensures untouched { UnlessIo result (output.new ≡ output.old) }
 {
     let dictionary = D::any_from_reader(alloc, input)?;
     dictionary.to_writer(alloc, output)
 }
 
-/// The same by the kind of the text.
+// Puts a text of either kind in order.
 fn put_kind_in_order<R: Read, W: Write>(
     alloc: Global,
     kind: Kind,
@@ -64,10 +63,10 @@ fn put_kind_in_order<R: Read, W: Write>(
 ) -> Result<()>
     ensures accepted { OnOk result (IfSome (R.remaining input.old) (λ bytes. refusal_of kind bytes ≡ None)) }
     ensures written { OnOk result (IfSome (R.remaining input.old) (λ bytes.
-        Appends (W.contents output.old) (W.contents output.new) (reordered kind bytes))) }
+        AppendsTo W.contents output.old output.new (reordered kind bytes))) }
     ensures refused { IfErr result (λ e. IfSome (R.remaining input.old) (λ bytes.
-        Tells (refusal_of kind bytes) (Unit {0}) (λ _ _. ⊥) e)) }
-    ensures untouched { UnlessFault result (output.new ≡ output.old) }
+        IsLoadError (refusal_of kind bytes) e)) }
+    ensures untouched { UnlessIo result (output.new ≡ output.old) }
 {
     match kind {
         Kind::Standard => put_in_order::<Standard, R, W>(alloc, input, output),
@@ -75,15 +74,14 @@ fn put_kind_in_order<R: Read, W: Write>(
     }
 }
 
-/// Writes why nothing, or not all, was written, and gives the status. That the message can't be written changes
-/// nothing.
-fn report<E: Write>(alloc: Global, error: &Error, faults: &mut E) -> u8
+// Writes an error, and returns the status that it ends the program with. An error of that writing changes nothing.
+fn report<E: Write>(alloc: Global, error: &Error, errors: &mut E) -> u8
     ensures { result ≡ status_of_error error.now }
 {
-    tell(
+    write_message(
         alloc,
         &format_args!("hyphenate-canonical: {error}\n"),
-        faults,
+        errors,
     );
     match error {
         Error::IO(_) => 5,
@@ -92,59 +90,54 @@ fn report<E: Write>(alloc: Global, error: &Error, faults: &mut E) -> u8
     }
 }
 
-/// Does what the words ask for, and gives the status to end with: 0 where it is done; 2 where the words are not one
-/// kind, `--help` or `--version`; 3 where the text is refused; 5 where it can't be read, or the result can't be
-/// written; 6 where memory is wanting. What is wrong is written to `faults`. The output is as it was but where the
-/// status is 0 or 5.
+/// Does what the arguments ask for, and returns the status to end with.
+///
+/// | Status | When |
+/// |---|---|
+/// | 0 | it is done |
+/// | 2 | the arguments are not one kind, `--help` or `--version` |
+/// | 3 | the text is refused |
+/// | 5 | the text can't be read, or the result can't be written |
+/// | 6 | memory was refused |
+///
+/// A message for any status but 0 is written to `errors`, except if the text of `--help` or `--version` can't be
+/// written. The output is as it was unless the status is 0 or 5.
+///
+/// ```text
+/// answer(rt.alloc(), &["standard"], &mut rt.stdin(), &mut rt.stdout(), &mut rt.stderr())
+/// ```
 pub fn answer<R: Read, W: Write, E: Write>(
     alloc: Global,
-    words: &[&str],
+    args: &[&str],
     input: &mut R,
     output: &mut W,
-    faults: &mut E,
+    errors: &mut E,
 ) -> u8
-    ensures usage { kind_of_words words.now ≡ None → own_text NAME.now VERSION.now USAGE.now words.now ≡ None →
-        (result ≡ 2) × (input.new ≡ input.old) }
-    ensures said { kind_of_words words.now ≡ None → IfSome (own_text NAME.now VERSION.now USAGE.now words.now) (λ text.
-        (input.new ≡ input.old) × ((result ≡ 5)
-        ⊎ ((result ≡ 0) × Appends (W.contents output.old) (W.contents output.new) text))) }
-    ensures answered { IsSome (kind_of_words words.now) → IsAnswered result }
-    ensures accepted { result ≡ 0 → IfSome (kind_of_words words.now) (λ kind. IfSome (R.remaining input.old) (λ bytes.
-        refusal_of kind bytes ≡ None)) }
-    ensures written { result ≡ 0 → IfSome (kind_of_words words.now) (λ kind. IfSome (R.remaining input.old) (λ bytes.
-        Appends (W.contents output.old) (W.contents output.new) (reordered kind bytes))) }
-    ensures refused { result ≡ 3 → IfSome (kind_of_words words.now) (λ kind. IfSome (R.remaining input.old) (λ bytes.
-        IsSome (refusal_of kind bytes))) }
+    ensures usage { kind_of_args args.now ≡ None → help_or_version NAME.now VERSION.now USAGE.now args.now ≡ None →
+        result ≡ 2 }
+    ensures unread { kind_of_args args.now ≡ None → input.new ≡ input.old }
+    ensures help { kind_of_args args.now ≡ None →
+        WritesHelp NAME.now VERSION.now USAGE.now args.now (Some result) W.contents output.old output.new }
+    ensures exit_status { IsSome (kind_of_args args.now) → IsExitStatus result }
+    ensures accepted { result ≡ 0 → IfAsked args.now (R.remaining input.old) (λ kind bytes.
+        refusal_of kind bytes ≡ None) }
+    ensures written { result ≡ 0 → IfAsked args.now (R.remaining input.old) (λ kind bytes.
+        AppendsTo W.contents output.old output.new (reordered kind bytes)) }
+    ensures refused { result ≡ 3 → IfAsked args.now (R.remaining input.old) (λ kind bytes.
+        IsSome (refusal_of kind bytes)) }
     ensures untouched { BeforeOutput result (output.new ≡ output.old) }
 {
-    let Some(kind) = kind_of(words) else {
-        return match answer_of_itself(NAME, USAGE, words, output) {
+    let Some(kind) = kind_of(args) else {
+        return match write_help_or_version(NAME, USAGE, args, output) {
             Some(status) => status,
             None => {
-                let _ = faults.write_all(USAGE.as_bytes());
+                let _ = errors.write_all(USAGE.as_bytes());
                 2
             }
         };
     };
     match put_kind_in_order(alloc, kind, input, output) {
         Ok(()) => 0,
-        Err(error) => report(alloc, &error, faults),
-    }
-}
-
-/// Says why the program's words could not be had, and gives the status: memory is wanting, or they are not UTF-8.
-pub fn report_words<E: Write>(fault: &io::Error, faults: &mut E) -> u8
-    ensures memory { error_kind fault.now ≡ ErrorKind.OutOfMemory → result ≡ 6 }
-    ensures other { error_kind fault.now ≢ ErrorKind.OutOfMemory → result ≡ 2 }
-{
-    match fault.kind() {
-        ErrorKind::OutOfMemory => {
-            let _ = faults.write_all(b"hyphenate-canonical: no memory\n");
-            6
-        }
-        _ => {
-            let _ = faults.write_all(USAGE.as_bytes());
-            2
-        }
+        Err(error) => report(alloc, &error, errors),
     }
 }

@@ -1,16 +1,23 @@
--- What a program says of itself, where its only argument asks for that.
-use Rattle.std.specs.Prelude.{ℕ, List, [], ◌∷◌, ◌++◌, codes, if◌then◌else◌, Option, Some, None}
+-- The text of `--help` and `--version`.
+use Rattle.std.specs.Prelude.{◌≡◌, ◌⊎◌, ℕ, List, [], ◌∷◌, ◌++◌, codes, if◌then◌else◌, Option, Some, None, IfSome}
 use Rattle.std.specs.Borrow.{Bor}
 use Rattle.hyphenation_grammar.specs.Lines.{is_same}
+use Rattle.hyphenation_load.specs.Load.{AppendsTo}
 
 -- The line of a program's name and version.
 abbrev pub version_line : List ℕ → List ℕ → List ℕ
 version_line name version = name ++ (codes " " ++ (version ++ codes "\n"))
 
--- The text that the arguments ask for: `--version` alone asks for the line of the name and the version, `--help` alone
--- for the usage, and nothing else asks for a text.
-abbrev pub own_text : List ℕ → List ℕ → List ℕ → List (Bor (List ℕ)) → Option (List ℕ)
-own_text name version usage (argument ∷ []) =
-    if is_same argument.now (codes "--version") then Some (version_line name version)
-    else (if is_same argument.now (codes "--help") then Some usage else None)
-own_text name version usage _ = None
+-- The text that the arguments ask for: the line of name and version for `--version` alone, the usage for `--help`
+-- alone, else none.
+abbrev pub help_or_version : List ℕ → List ℕ → List ℕ → List (Bor (List ℕ)) → Option (List ℕ)
+help_or_version name version usage (arg ∷ []) =
+    if is_same arg.now (codes "--version") then Some (version_line name version)
+    else (if is_same arg.now (codes "--help") then Some usage else None)
+help_or_version name version usage _ = None
+
+-- If the arguments ask for such a text, the status is 5, or it is 0 and the text was appended to the output.
+abbrev pub WritesHelp : {W : Type 0} → List ℕ → List ℕ → List ℕ → List (Bor (List ℕ)) → Option ℕ
+    → (W → Option (List ℕ)) → W → W → Type 0
+WritesHelp name version usage args status contents old new = IfSome (help_or_version name version usage args)
+    (λ text. (status ≡ Some 5) ⊎ ((status ≡ Some 0) × AppendsTo contents old new text))

@@ -1,6 +1,6 @@
--- The statuses that the programs end with.
+-- Which statuses of a program say that its output is as it was.
 use Rattle.std.specs.Prelude.{◌≢◌, ℕ}
 
--- This holds where a program ends with a status other than 0, for done, and 5, for a fault of reading or writing.
+-- If a program ends with a status other than 0, for done, and 5, for an error of reading or writing, this holds.
 abbrev pub BeforeOutput : ℕ → Type 0 → Type 0
 BeforeOutput status P = status ≢ 0 → status ≢ 5 → P

@@ -1,17 +1,16 @@
-//! What a program says of itself: its version and its usage.
+//! The texts of `--help` and `--version`.
 
-ghost use Rattle.std.specs.Prelude.{◌≡◌, ◌⊎◌, None, Some, OnOk, IfSome};
-ghost use Rattle.std.specs.Io.KnownBytes.{Appends};
-ghost use Rattle.command_line.specs.About.{own_text, version_line};
+ghost use Rattle.std.specs.Prelude.{◌≡◌, None, OnOk};
+ghost use Rattle.command_line.specs.About.{help_or_version, version_line, WritesHelp};
+ghost use Rattle.hyphenation_load.specs.Load.{AppendsTo};
 
 use crate::VERSION;
 use std::io;
 use std::io::Write;
 
-/// Writes the line of a program's name and version.
+// Writes the line of a program's name and version.
 fn write_version<W: Write>(name: &str, output: &mut W) -> io::Result<()>
-    ensures { OnOk result (Appends (W.contents output.old) (W.contents output.new)
-        (version_line name.now VERSION.now)) }
+    ensures { OnOk result (AppendsTo W.contents output.old output.new (version_line name.now VERSION.now)) }
 {
     output.write_all(name.as_bytes())?;
     output.write_all(b" ")?;
@@ -19,25 +18,30 @@ fn write_version<W: Write>(name: &str, output: &mut W) -> io::Result<()>
     output.write_all(b"\n")
 }
 
-/// Writes what the arguments ask a program to say of itself, and gives the status: 0, or 5 where the text can't be
-/// written. None where they ask for something else; then nothing is written.
-pub fn answer_of_itself<W: Write>(
+/// Writes the usage if the only argument is `--help`, and the name with the version if it is `--version`.
+///
+/// Returns the status to end with: 0, or 5 if the text can't be written. For other arguments it returns `None`, and
+/// nothing is written.
+///
+/// ```text
+/// write_help_or_version("hyphenate-convert", USAGE, &["--version"], &mut rt.stdout())    // hyphenate-convert 0.1.0
+/// ```
+pub fn write_help_or_version<W: Write>(
     name: &str,
     usage: &str,
-    arguments: &[&str],
+    args: &[&str],
     output: &mut W,
 ) -> Option<u8>
-    ensures other { own_text name.now VERSION.now usage.now arguments.now ≡ None →
+    ensures other { help_or_version name.now VERSION.now usage.now args.now ≡ None →
         (result ≡ None) × (output.new ≡ output.old) }
-    ensures said { IfSome (own_text name.now VERSION.now usage.now arguments.now) (λ text.
-        (result ≡ Some 5) ⊎ ((result ≡ Some 0) × Appends (W.contents output.old) (W.contents output.new) text)) }
+    ensures asked { WritesHelp name.now VERSION.now usage.now args.now result W.contents output.old output.new }
 {
-    let [argument] = arguments else {
+    let [arg] = args else {
         return None;
     };
-    let written = if *argument == "--version" {
+    let written = if *arg == "--version" {
         write_version(name, output)
-    } else if *argument == "--help" {
+    } else if *arg == "--help" {
         output.write_all(usage.as_bytes())
     } else {
         return None;

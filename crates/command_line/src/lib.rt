@@ -1,31 +1,56 @@
-//! What the three programs share: their version, their arguments, and what they say of themselves.
+//! Shared by the three programs: the version, the arguments, the messages, and the texts of `--help` and `--version`.
 #![tactic(auto)]
+
+ghost use Rattle.std.specs.Prelude.{◌≡◌, ◌≢◌};
+ghost use Rattle.std.specs.IoError.{error_kind};
 
 mod about;
 
-pub use about::answer_of_itself;
+pub use about::write_help_or_version;
+use hyphenation_load::is_out_of_memory;
 use std::alloc::Global;
 use std::env::Env;
 use std::fmt::Display;
-use std::io::Write;
+use std::io::{ErrorKind, Write};
 use std::{env, io};
 
 /// The version of the three programs. The file `VERSION` has the same, and `tests/figures` compares them.
 pub const VERSION: &str = "0.1.0";
 
-/// What a call makes of the words after the program's name; or that they can't be had, since one is not UTF-8, or
-/// memory is wanting.
-pub fn with_words<R: Env + Alloc, T, F: FnOnce(&[&str]) -> T>(rt: &R, call: F) -> io::Result<T>
+/// Calls a function with the arguments of the program, without its name, and returns what that returns.
+///
+/// The error says that an argument is not UTF-8, or, of the kind `OutOfMemory`, that memory was refused.
+pub fn with_args<R: Env + Alloc, T, F: FnOnce(&[&str]) -> T>(rt: &R, call: F) -> io::Result<T>
     requires { F.IsAlwaysCallable call }
 {
-    let words: Vec<String<R::A>, R::A> = env::args(rt)?.skip(1).collect(rt.alloc())?;
-    let words: Vec<&str, R::A> = words.iter().map(|word| word.as_str()).collect(rt.alloc())?;
-    Ok(call(&words))
+    let args: Vec<String<R::A>, R::A> = env::args(rt)?.skip(1).collect(rt.alloc())?;
+    let args: Vec<&str, R::A> = args.iter().map(|arg| arg.as_str()).collect(rt.alloc())?;
+    Ok(call(&args))
 }
 
-/// Writes a message in one piece; where memory for that is wanting, in several. That it can't be written changes
-/// nothing.
-pub fn tell<D: Display, W: Write>(alloc: Global, message: &D, output: &mut W) {
+/// Writes why the arguments could not be had, and returns the status to end with.
+///
+/// If memory was refused, it writes `no_memory`, a whole line, and returns 6; else it writes the usage and returns 2.
+/// An error of writing changes nothing.
+pub fn report_bad_args<W: Write>(
+    usage: &str,
+    no_memory: &str,
+    error: &io::Error,
+    output: &mut W,
+) -> u8
+    ensures out_of_memory { error_kind error.now ≡ ErrorKind.OutOfMemory → result ≡ 6 }
+    ensures other { error_kind error.now ≢ ErrorKind.OutOfMemory → result ≡ 2 }
+{
+    if is_out_of_memory(error) {
+        let _ = output.write_all(no_memory.as_bytes());
+        return 6;
+    }
+    let _ = output.write_all(usage.as_bytes());
+    2
+}
+
+/// Writes a message at once, or, if memory for that is refused, in pieces. An error of writing changes nothing.
+pub fn write_message<D: Display, W: Write>(alloc: Global, message: &D, output: &mut W) {
     let _ = match format!(in alloc; "{message}") {
         Ok(text) => output.write_all(text.as_bytes()),
         Err(_) => write!(output, "{message}"),

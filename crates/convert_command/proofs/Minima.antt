@@ -1,16 +1,16 @@
--- A dictionary of a `.dic` has the language and the minima that are given.
+-- A dictionary of a `.dic` has the language and the minima that the arguments give.
 use Rattle.std.proofs.Common.{◌≡◌, refl, sym, subst, ℕ, List}
 use Rattle.std.specs.Prelude.{Option, Some, None, IfSome}
 use Rattle.hyphenation_breaks.specs.Break.{Change}
 use Rattle.hyphenation_breaks.specs.Dictionary.{Contents}
-use Rattle.pattern_files.specs.LibreOfficeLines.{minimum_of}
-use Rattle.pattern_files.specs.LibreOffice.{contents_of_dic}
+use Rattle.libreoffice_files.specs.LibreOfficeLines.{minimum_of}
+use Rattle.libreoffice_files.specs.LibreOffice.{contents_of_dic}
 use Rattle.convert_command.specs.Written.{IsFor}
 
--- A minimum that is given counts, whatever is told.
-given_counts : (given told : Option ℕ) → IfSome given (λ g. minimum_of given told ≡ g)
-given_counts None told = tt
-given_counts (Some g) told = refl
+-- A minimum that is given counts, whatever the file says.
+given_counts : (given said : Option ℕ) → IfSome given (λ g. minimum_of given said ≡ g)
+given_counts None said = tt
+given_counts (Some g) said = refl
 
 pub dic_is_for : {C B : Type 0} (change_of : C → Option Change) (payload_of : Option Change → C) (code : List ℕ)
     (left right : Option ℕ) (bytes : List ℕ) (dictionary : Contents C B)

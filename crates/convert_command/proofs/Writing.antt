@@ -1,4 +1,4 @@
--- What is written of a dictionary of each kind.
+-- The text that is written of a dictionary of each kind.
 use Rattle.std.proofs.Common.{◌≡◌, ℕ, List, sym, subst}
 use Rattle.std.specs.Prelude.{Option}
 use Rattle.std.specs.Io.KnownBytes.{Appends}

@@ -1,3 +1,3 @@
 pub mod Private
-pub mod Words
+pub mod Arguments
 pub mod Written

@@ -1,11 +1,13 @@
--- What the program `hyphenate-convert` writes, and the statuses that it ends with.
+-- The output and the statuses of the program `hyphenate-convert`.
 use Rattle.std.specs.Prelude.{◌≡◌, ◌⊎◌, ℕ, List, Option, IfSome}
+use Rattle.std.specs.Borrow.{Bor}
 use Rattle.std.specs.Io.KnownBytes.{Appends}
 use Rattle.hyphenation_breaks.specs.Break.{Change}
 use Rattle.hyphenation_breaks.specs.Dictionary.{Contents}
 use Rattle.hyphenation_grammar.specs.declared.form.Kind.{Kind}
 use Rattle.hyphenation_grammar.specs.declared.form.Kind.TheVariants.{Standard, Extended}
 use Rattle.hyphenation_writer.specs.Canonical.{standard_text, extended_text}
+use Rattle.convert_command.specs.Arguments.{ParsedArgs, ParsesAs}
 
 -- The dictionary is of that language, and has each minimum that is given.
 abbrev pub IsFor : {C B : Type 0} → List ℕ → Option ℕ → Option ℕ → Contents C B → Type 0
@@ -19,7 +21,18 @@ Writes Standard code left right old new = (dictionary : Contents (Unit {0}) ℕ)
 Writes Extended code left right old new = (dictionary : Contents (Option Change) (ℕ × Option Change))
     × IsFor code left right dictionary × Appends old new (extended_text dictionary)
 
--- The statuses: 0 done; 2 the arguments are of no form, or the minima are missing; 3 a file can't be opened, read or
--- understood; 5 the result can't be written; 6 memory is wanting.
-abbrev pub IsAnswered : ℕ → Type 0
-IsAnswered status = (status ≡ 0) ⊎ (status ≡ 2) ⊎ (status ≡ 3) ⊎ (status ≡ 5) ⊎ (status ≡ 6)
+-- The canonical text of a dictionary that parsed arguments ask for was appended.
+abbrev pub WritesParsed : {W : Type 0} → ParsedArgs → (W → Option (List ℕ)) → W → W → Type 0
+WritesParsed parsed contents old new =
+    Writes parsed.kind parsed.code parsed.left parsed.right (contents old) (contents new)
+
+-- The canonical text of a dictionary that the arguments ask for was appended.
+abbrev pub WritesFor : {W : Type 0} → List (Bor (List ℕ)) → (W → Option (List ℕ)) → W → W → Type 0
+WritesFor args contents old new =
+    (parsed : ParsedArgs) × ParsesAs args parsed × WritesParsed parsed contents old new
+
+-- The statuses.
+-- 0: done. 2: the arguments have no form, or the minima are missing. 3: a file can't be opened, read or understood.
+-- 5: the result can't be written. 6: memory was refused.
+abbrev pub IsExitStatus : ℕ → Type 0
+IsExitStatus status = (status ≡ 0) ⊎ (status ≡ 2) ⊎ (status ≡ 3) ⊎ (status ≡ 5) ⊎ (status ≡ 6)

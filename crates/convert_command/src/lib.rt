@@ -1,53 +1,57 @@
-//! The words, the messages and the statuses of the program `hyphenate-convert`: files of hyphenation patterns into a
-//! dictionary text.
+//! The program `hyphenate-convert` without its `main`: its arguments, messages and statuses.
+//!
+//! It makes a dictionary text from files of hyphenation patterns.
 #![tactic(auto)]
 
-ghost use Rattle.std.specs.Prelude.{◌≡◌, ◌≢◌, ◌⊎◌, None, OnOk, IfOk, IfErr, IfSome};
-ghost use Rattle.std.specs.Io.KnownBytes.{Appends};
-ghost use Rattle.std.specs.IoError.{error_kind};
-ghost use Rattle.command_line.specs.About.{own_text};
+ghost use Rattle.std.specs.Prelude.{◌≡◌, ◌≢◌, ◌⊎◌, None, Some, OnOk, IfOk, IfErr};
+ghost use Rattle.command_line.specs.About.{help_or_version, WritesHelp};
 ghost use Rattle.command_line.specs.Statuses.{BeforeOutput};
-ghost use Rattle.convert_command.specs.Words.{Asked, Says};
-ghost use Rattle.convert_command.specs.Written.{IsFor, Writes, IsAnswered};
+ghost use Rattle.hyphenation_load.specs.Load.{AppendsTo};
+ghost use Rattle.convert_command.specs.Written.{IsFor, WritesParsed, WritesFor, IsExitStatus};
+ghost use Rattle.convert_command.specs.Private.Requests.{parsed_request};
 ghost use Rattle.convert_command.specs.Private.Statuses.{IsStatusOf, MissesMinima};
 
 mod request;
 
-use command_line::{VERSION, answer_of_itself, tell};
+use command_line::{VERSION, write_help_or_version, write_message};
 use hyphenation_breaks::entry::{Listing, Payload};
 use hyphenation_breaks::extended::Subregion;
 use hyphenation_grammar::form::Kind;
-use hyphenation_load::{Error, Load};
+use hyphenation_load::{Error, Load, is_out_of_memory};
 use pattern_files::convert::{Converted, convert_with_notes};
-use pattern_files::fault::Refusal;
+use pattern_files::errors::ConvertError;
 use pattern_files::group::{File, Form};
+use pattern_files::head_minima::minima_for;
 use pattern_files::libreoffice::convert_dic;
 use pattern_files::notes::Note;
-use pattern_files::told::minima_for;
-use request::{Misfit, Request, Sort, form_of};
+use request::{BadArgs, Input, Request, form_of};
 use std::alloc::{AllocError, Global};
 use std::fs::Files;
-use std::io::{ErrorKind, Read, Write};
+use std::io::{Read, Write};
 use std::{fs, io};
 
 /// The name of the program.
 pub const NAME: &str = "hyphenate-convert";
 
-/// What is said of words of no form, and for `--help`.
+/// The usage, for `--help` and for arguments of no form.
 pub const USAGE: &str =
     "usage: hyphenate-convert KIND CODE LEFT RIGHT FILE..\n       hyphenate-convert --help\n       hyphenate-convert --version\n       FILE: one .dic; or .tex, .pat.txt and .hyp.txt. LEFT and RIGHT: 0 to 255, or - for what the file says\n";
 
-/// Why nothing, or not all, was written.
+/// The message if memory was refused.
+pub const NO_MEMORY: &str = "hyphenate-convert: no memory\n";
+
+// Why nothing, or not all, was written.
 #[derive(Drop)]
 enum Failure {
-    /// A file, counted from 0, can't be opened or read.
+    // The file of this number, counted from 0, can't be opened or read.
     Reading(usize, io::Error),
-    /// A file can't be understood.
-    Refused(Refusal),
-    /// No minima were given, and no file says them.
+    // A file is refused: a fault in it, or memory.
+    Refused(ConvertError),
+    // A minimum is not given, and no file says it.
     Minima,
-    /// The result can't be written.
+    // The result can't be written.
     Writing,
+    // Memory was refused.
     Memory,
 }
 
@@ -62,18 +66,18 @@ impl From<AllocError> for Failure {
     }
 }
 
-impl From<Refusal> for Failure {
+impl From<ConvertError> for Failure {
     ghost use Rattle.std.specs.Prelude.{◌≡◌};
     ghost use Rattle.convert_command.specs.declared.Failure.TheVariants.{Refused};
 
-    ghost from_gives = { λ refusal result. result ≡ Refused refusal };
+    ghost from_gives = { λ error result. result ≡ Refused error };
 
-    fn from(refusal: Refusal) -> Failure {
-        Failure::Refused(refusal)
+    fn from(error: ConvertError) -> Failure {
+        Failure::Refused(error)
     }
 }
 
-/// All bytes of a file.
+// All bytes of a file.
 fn read_file<F: Files>(rt: &F, alloc: Global, path: &str) -> io::Result<Vec<u8>> {
     let mut file = fs::open(rt, path)?;
     let mut bytes = Vec::new(alloc);
@@ -81,7 +85,7 @@ fn read_file<F: Files>(rt: &F, alloc: Global, path: &str) -> io::Result<Vec<u8>>
     Ok(bytes)
 }
 
-/// All bytes of the files.
+// All bytes of each file, in their order.
 fn read_files<F: Files>(rt: &F, alloc: Global, paths: &[&str]) -> Result<Vec<Vec<u8>>, Failure>
     ensures { IfErr result (λ failure. failure ≢ Failure.Minima) }
 {
@@ -99,36 +103,36 @@ fn read_files<F: Files>(rt: &F, alloc: Global, paths: &[&str]) -> Result<Vec<Vec
     Ok(files)
 }
 
-/// The files with their forms.
-fn formed<'a>(
+// The files with their forms.
+fn with_forms<'a>(
     alloc: Global,
     paths: &[&str],
     files: &'a [Vec<u8>],
 ) -> Result<Vec<File<'a>>, AllocError> {
-    let mut formed = Vec::new(alloc);
+    let mut with_forms = Vec::new(alloc);
     for (index, bytes) in files.iter().enumerate() {
         let form = match paths.get(index) {
             Some(path) => form_of(path).unwrap_or(Form::Tex),
             None => Form::Tex,
         };
-        formed.push(File { form, bytes })?;
+        with_forms.push(File { form, bytes })?;
     }
-    Ok(formed)
+    Ok(with_forms)
 }
 
-/// The dictionary of TeX's files.
+// The dictionary of files of TeX and plain ones.
 fn convert_tex<C: Payload, B: Listing>(
     alloc: Global,
     request: &Request<'_>,
     bytes: &[Vec<u8>],
 ) -> Result<Converted<C, B>, Failure>
-    ensures made { IfOk result (λ found.
+    ensures as_asked { IfOk result (λ found.
         IsFor request.now.language request.now.left request.now.right found.dictionary) }
-    ensures missed { IfErr result (MissesMinima request.now.left request.now.right) }
+    ensures misses_minima { IfErr result (MissesMinima request.now.left request.now.right) }
 {
-    let files = formed(alloc, request.paths, bytes)?;
+    let files = with_forms(alloc, request.paths, bytes)?;
     let minima = minima_for(request.left, request.right, &files);
-    // a file that can't be understood is told of before the minima are missed
+    // a file that is refused is reported before missing minima are
     let (left, right) = minima.unwrap_or((0, 0));
     let converted = convert_with_notes(alloc, request.language, left, right, &files)?;
     match minima {
@@ -137,20 +141,20 @@ fn convert_tex<C: Payload, B: Listing>(
     }
 }
 
-/// The dictionary of the files.
+// The dictionary of the files.
 #[tactic(auto, using(crate::proofs::Minima::dic_is_for))]
 fn convert_files<C: Payload, B: Listing>(
     alloc: Global,
     request: &Request<'_>,
     bytes: &[Vec<u8>],
 ) -> Result<Converted<C, B>, Failure>
-    ensures made { IfOk result (λ found.
+    ensures as_asked { IfOk result (λ found.
         IsFor request.now.language request.now.left request.now.right found.dictionary) }
-    ensures missed { IfErr result (MissesMinima request.now.left request.now.right) }
+    ensures misses_minima { IfErr result (MissesMinima request.now.left request.now.right) }
 {
-    match request.sort {
-        Sort::Tex => convert_tex(alloc, request, bytes),
-        Sort::Dic => {
+    match request.input {
+        Input::Tex => convert_tex(alloc, request, bytes),
+        Input::Dic => {
             let first = match bytes.first() {
                 Some(first) => first.as_slice(),
                 None => &[],
@@ -167,16 +171,15 @@ fn convert_files<C: Payload, B: Listing>(
     }
 }
 
-/// Writes a dictionary as its text, which is whole before any of it is written.
+// Writes a dictionary as its canonical text, once all of that is made.
 fn write_text<D: Load, O: Write>(
     alloc: Global,
     dictionary: &D,
     output: &mut O,
 ) -> Result<(), Failure>
-    ensures written { OnOk result (Appends (O.contents output.old) (O.contents output.new)
-        (D.canonical dictionary.now)) }
+    ensures written { OnOk result (AppendsTo O.contents output.old output.new (D.canonical dictionary.now)) }
     ensures untouched { IfErr result (λ failure. (failure ≡ Failure.Writing) ⊎ (output.new ≡ output.old)) }
-    ensures given { IfErr result (λ failure. failure ≢ Failure.Minima) }
+    ensures not_minima { IfErr result (λ failure. failure ≢ Failure.Minima) }
 {
     match dictionary.to_writer(alloc, output) {
         Ok(()) => Ok(()),
@@ -185,7 +188,7 @@ fn write_text<D: Load, O: Write>(
     }
 }
 
-/// Reads the files, makes a dictionary of them and writes that; what there is to tell of it.
+// Reads the files, makes a dictionary of them and writes it. Returns the notes on it.
 #[tactic(auto, using(crate::proofs::Writing::standard_written, crate::proofs::Writing::extended_written))]
 fn run<F: Files, O: Write>(
     rt: &F,
@@ -193,10 +196,9 @@ fn run<F: Files, O: Write>(
     request: &Request<'_>,
     output: &mut O,
 ) -> Result<Vec<Note>, Failure>
-    ensures written { OnOk result (Writes request.now.kind request.now.language request.now.left request.now.right
-        (O.contents output.old) (O.contents output.new)) }
+    ensures written { OnOk result (WritesParsed (parsed_request request.now) O.contents output.old output.new) }
     ensures untouched { IfErr result (λ failure. (failure ≡ Failure.Writing) ⊎ (output.new ≡ output.old)) }
-    ensures missed { IfErr result (MissesMinima request.now.left request.now.right) }
+    ensures misses_minima { IfErr result (MissesMinima request.now.left request.now.right) }
 {
     let bytes = read_files(rt, alloc, request.paths)?;
     match request.kind {
@@ -218,143 +220,147 @@ fn run<F: Files, O: Write>(
     }
 }
 
-/// Writes what was noted. That it can't be written changes nothing.
-fn report_notes<E: Write>(alloc: Global, paths: &[&str], notes: &[Note], faults: &mut E) {
+// Writes the notes. An error of writing changes nothing.
+fn report_notes<E: Write>(alloc: Global, paths: &[&str], notes: &[Note], errors: &mut E) {
     for note in notes {
         let path = paths.get(note.first.file).copied().unwrap_or("");
         let line = note.first.line;
-        let what = note.what;
+        let kind = note.kind;
         let times = note.times;
-        tell(
+        write_message(
             alloc,
-            &format_args!("hyphenate-convert: {path}:{line}: note: {what} ({times})\n"),
-            faults,
+            &format_args!("hyphenate-convert: {path}:{line}: note: {kind} ({times})\n"),
+            errors,
         );
     }
 }
 
-fn report_memory<E: Write>(faults: &mut E) -> u8
+// Writes that memory was refused, and returns the status.
+fn report_memory<E: Write>(errors: &mut E) -> u8
     ensures { result ≡ 6 }
 {
-    let _ = faults.write_all(b"hyphenate-convert: no memory\n");
+    let _ = errors.write_all(NO_MEMORY.as_bytes());
     6
 }
 
-/// Writes why nothing was written, and gives the status.
-fn report<E: Write>(alloc: Global, paths: &[&str], failure: &Failure, faults: &mut E) -> u8
+// Writes why a conversion failed, and returns the status.
+fn report<E: Write>(alloc: Global, paths: &[&str], failure: &Failure, errors: &mut E) -> u8
     ensures { IsStatusOf failure.now result }
 {
     match failure {
         Failure::Reading(index, e) => {
             let path = paths.get(*index).copied().unwrap_or("");
-            if let ErrorKind::OutOfMemory = e.kind() {
-                return report_memory(faults);
+            if is_out_of_memory(e) {
+                return report_memory(errors);
             }
-            tell(
+            write_message(
                 alloc,
                 &format_args!("hyphenate-convert: {path}: {e}\n"),
-                faults,
+                errors,
             );
             3
         }
-        Failure::Refused(Refusal::Fault { file, line, cause }) => {
+        Failure::Refused(ConvertError::Fault { file, line, cause }) => {
             let path = paths.get(*file).copied().unwrap_or("");
-            tell(
+            write_message(
                 alloc,
                 &format_args!("hyphenate-convert: {path}:{line}: {cause}\n"),
-                faults,
+                errors,
             );
             3
         }
         Failure::Minima => {
-            let _ = faults.write_all(
+            let _ = errors.write_all(
                 b"hyphenate-convert: no file says the minima: give LEFT and RIGHT\n",
             );
             2
         }
         Failure::Writing => {
-            let _ = faults.write_all(b"hyphenate-convert: the result can't be written\n");
+            let _ = errors.write_all(b"hyphenate-convert: the result can't be written\n");
             5
         }
-        Failure::Refused(Refusal::Memory) => report_memory(faults),
-        Failure::Memory => report_memory(faults),
+        Failure::Refused(ConvertError::Memory) => report_memory(errors),
+        Failure::Memory => report_memory(errors),
     }
 }
 
-/// Writes why the program's words could not be had, and gives the status.
-pub fn report_words<E: Write>(fault: &io::Error, faults: &mut E) -> u8
-    ensures memory { error_kind fault.now ≡ ErrorKind.OutOfMemory → result ≡ 6 }
-    ensures other { error_kind fault.now ≢ ErrorKind.OutOfMemory → result ≡ 2 }
-{
-    match fault.kind() {
-        ErrorKind::OutOfMemory => report_memory(faults),
-        _ => {
-            let _ = faults.write_all(USAGE.as_bytes());
-            2
-        }
-    }
-}
-
-/// Writes why the words ask for nothing, and gives the status.
-fn report_misfit<E: Write>(alloc: Global, words: &[&str], misfit: Misfit, faults: &mut E) -> u8
+// Writes why the arguments are rejected, and returns the status.
+fn report_rejected_args<E: Write>(
+    alloc: Global,
+    args: &[&str],
+    bad_args: BadArgs,
+    errors: &mut E,
+) -> u8
     ensures { result ≡ 2 }
 {
-    let (index, why) = match misfit {
-        Misfit::Form => {
-            let _ = faults.write_all(USAGE.as_bytes());
+    let (index, why) = match bad_args {
+        BadArgs::NoForm => {
+            let _ = errors.write_all(USAGE.as_bytes());
             return 2;
         }
-        Misfit::Ending(index) => (
+        BadArgs::Ending(index) => (
             index,
             "a file is .dic, .tex, .pat.txt or .hyp.txt, and this is none of them",
         ),
-        Misfit::Beside(index) => (index, "a .dic is converted alone"),
-        Misfit::Language(index) => (
+        BadArgs::NotAlone(index) => (index, "a .dic is converted alone"),
+        BadArgs::OtherLanguage(index) => (
             index,
             "another language than the file before it, by its name",
         ),
     };
-    // the files stand after four words
-    let path = words.get(index.saturating_add(4)).copied().unwrap_or("");
-    tell(
+    // the files come after four arguments
+    let path = args.get(index.saturating_add(4)).copied().unwrap_or("");
+    write_message(
         alloc,
         &format_args!("hyphenate-convert: {path}: {why}\n"),
-        faults,
+        errors,
     );
     2
 }
 
-/// Does what the words ask for, and gives the status to end with: 0 where it is done; 2 where the words are of no
-/// form, or the minima are missing; 3 where a file can't be opened, read or understood; 5 where the result can't be
-/// written; 6 where memory is wanting. What is wrong, and what was left out or decided, is written to `faults`. The
-/// output is as it was but where the status is 0 or 5.
+/// Does what the arguments ask for, and returns the status to end with.
+///
+/// | Status | When |
+/// |---|---|
+/// | 0 | it is done |
+/// | 2 | the arguments have no form of the usage, or the minima are missing |
+/// | 3 | a file can't be opened, read or understood |
+/// | 5 | the result can't be written |
+/// | 6 | memory was refused |
+///
+/// A message for any status but 0 is written to `errors`, except if the text of `--help` or `--version` can't be
+/// written. With status 0 `errors` gets notes on what was left out or decided. The output is as it was unless the
+/// status is 0 or 5.
+///
+/// ```text
+/// let args = ["standard", "en-us", "2", "3", "hyph-en-us.tex"];
+/// answer(&rt, rt.alloc(), &args, &mut rt.stdout(), &mut rt.stderr())
+/// ```
 pub fn answer<F: Files, O: Write, E: Write>(
     rt: &F,
     alloc: Global,
-    words: &[&str],
+    args: &[&str],
     output: &mut O,
-    faults: &mut E,
+    errors: &mut E,
 ) -> u8
-    ensures said { IfSome (own_text NAME.now VERSION.now USAGE.now words.now) (λ text.
-        (result ≡ 5) ⊎ ((result ≡ 0) × Appends (O.contents output.old) (O.contents output.new) text)) }
-    ensures written { own_text NAME.now VERSION.now USAGE.now words.now ≡ None → result ≡ 0 →
-        (asked : Asked) × Says words.now asked
-        × Writes asked.kind asked.code asked.left asked.right (O.contents output.old) (O.contents output.new) }
-    ensures answered { own_text NAME.now VERSION.now USAGE.now words.now ≡ None → IsAnswered result }
+    ensures help { WritesHelp NAME.now VERSION.now USAGE.now args.now (Some result) O.contents output.old output.new }
+    ensures written { help_or_version NAME.now VERSION.now USAGE.now args.now ≡ None → result ≡ 0 →
+        WritesFor args.now O.contents output.old output.new }
+    ensures exit_status { help_or_version NAME.now VERSION.now USAGE.now args.now ≡ None → IsExitStatus result }
     ensures untouched { BeforeOutput result (output.new ≡ output.old) }
 {
-    if let Some(status) = answer_of_itself(NAME, USAGE, words, output) {
+    if let Some(status) = write_help_or_version(NAME, USAGE, args, output) {
         return status;
     }
-    let request = match Request::from_words(words) {
+    let request = match Request::from_args(args) {
         Ok(request) => request,
-        Err(misfit) => return report_misfit(alloc, words, misfit, faults),
+        Err(bad_args) => return report_rejected_args(alloc, args, bad_args, errors),
     };
     match run(rt, alloc, &request, output) {
         Ok(notes) => {
-            report_notes(alloc, request.paths, &notes, faults);
+            report_notes(alloc, request.paths, &notes, errors);
             0
         }
-        Err(failure) => report(alloc, request.paths, &failure, faults),
+        Err(failure) => report(alloc, request.paths, &failure, errors),
     }
 }

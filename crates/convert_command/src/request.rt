@@ -1,36 +1,36 @@
-//! What the program's words ask for.
+//! Parses the arguments of the program.
 
 ghost use Rattle.std.specs.Prelude.{◌≡◌, ◌<◌, ◌+◌, ◌==◌, IfOk, IfSome, None, MatchOption, drop, length, map, option_copied, option_map, position};
-ghost use Rattle.convert_command.specs.Private.Tags.{name_in, tag_in, is_other, stranger_from};
-ghost use Rattle.convert_command.specs.Words.{Says, SaysMinimum};
-ghost use Rattle.convert_command.specs.Private.Requests.{meaning};
+ghost use Rattle.convert_command.specs.Private.Tags.{name_in, tag_in, is_other, other_language_from};
+ghost use Rattle.convert_command.specs.Arguments.{ParsesAs, ParsesAsMinimum};
+ghost use Rattle.convert_command.specs.Private.Requests.{parsed_request};
 
 use hyphenation_breaks::language::Language;
 use hyphenation_grammar::form::Kind;
 use hyphenation_grammar::lines::strip_prefix;
 use pattern_files::group::{Form, Group};
 
-/// What the files are.
+/// The sort of the files.
 #[derive(Drop)]
-pub enum Sort {
-    /// One file of LibreOffice's.
+pub enum Input {
+    /// One `.dic` file of LibreOffice.
     Dic,
-    /// TeX's files, and plain ones.
+    /// Files of TeX, and plain ones.
     Tex,
 }
 
-/// What the words ask for.
+/// The arguments as parsed.
 #[derive(Drop)]
 pub struct Request<'w> {
     pub kind: Kind,
     pub language: Language,
     pub left: Option<u8>,
     pub right: Option<u8>,
-    pub sort: Sort,
+    pub input: Input,
     pub paths: &'w [&'w str],
 }
 
-/// The form of a file of TeX's or a plain one, by the ending of its path.
+/// Returns the form of a file of TeX or a plain one, by the ending of its path.
 pub fn form_of(path: &str) -> Option<Form> {
     if path.ends_with(".tex") {
         Some(Form::Tex)
@@ -43,20 +43,20 @@ pub fn form_of(path: &str) -> Option<Form> {
     }
 }
 
-/// Why words ask for nothing.
+/// Why the arguments are rejected.
 #[derive(Drop)]
-pub enum Misfit {
-    /// They are of no form.
-    Form,
-    /// The file of that number, counted from 0, is of no known form, by its ending.
+pub enum BadArgs {
+    /// They match no form of the usage.
+    NoForm,
+    /// The file of this number, counted from 0, has no known ending.
     Ending(usize),
-    /// A `.dic` that stands beside other files.
-    Beside(usize),
-    /// The name of that file has the tag of another language than an earlier one's.
-    Language(usize),
+    /// The file of this number is a `.dic`, and there are other files.
+    NotAlone(usize),
+    /// The name of the file of this number has the tag of another language than an earlier one.
+    OtherLanguage(usize),
 }
 
-/// Where the last slash of a path stands.
+// The place of the last slash of a path.
 #[tactic(auto, using(crate::proofs::Names::name_found))]
 fn last_slash(path: &str) -> Option<usize>
     ensures { MatchOption result (name_in path.now ≡ path.now)
@@ -65,7 +65,7 @@ fn last_slash(path: &str) -> Option<usize>
     path.rfind('/')
 }
 
-/// The name of a file, by its path.
+// The name of a file, by its path.
 fn name_of(path: &str) -> &[u8]
     ensures { result.now ≡ name_in path.now }
 {
@@ -75,25 +75,25 @@ fn name_of(path: &str) -> &[u8]
     }
 }
 
-/// Where the first full stop stands.
-fn stop(text: &[u8]) -> Option<usize>
+// The place of the first dot.
+fn first_dot(text: &[u8]) -> Option<usize>
     ensures { result ≡ position (λ b. b == 46) text.now }
 {
     text.iter().position(|b| *b == b'.')
 }
 
-/// The tag of a language that a file's name has, as hyph-utf8 names its files: `hyph-TAG.tex`, `hyph-quote-TAG.tex`,
-/// `hyph-TAG.pat.txt`.
+// The tag of a language in a file's name. hyph-utf8 names its files so: `hyph-TAG.tex`, `hyph-quote-TAG.tex`,
+// `hyph-TAG.pat.txt`.
 fn tag_of(path: &str) -> Option<&[u8]>
     ensures { option_map (λ tag. tag.now) result ≡ tag_in path.now }
 {
     let text = strip_prefix(b"hyph-", name_of(path))?;
     let text = strip_prefix(b"quote-", text).unwrap_or(text);
-    let end = stop(text)?;
+    let end = first_dot(text)?;
     Some(&text[..end])
 }
 
-/// Whether a file, by its tag if it has one, is of another language than that of a tag.
+// Whether a file, by its tag if it has one, is of another language than that of the first tag.
 fn is_other(first: &[u8], tag: Option<&[u8]>) -> bool
     ensures { result ≡ is_other first.now (option_copied tag.entry) }
 {
@@ -103,9 +103,9 @@ fn is_other(first: &[u8], tag: Option<&[u8]>) -> bool
     }
 }
 
-/// The first file of another language than those before it, as far as the names say.
-fn stranger(paths: &[&str]) -> Option<usize>
-    ensures { result ≡ stranger_from None 0 (map (λ path. path.now) paths.now) }
+// The first file of another language than those before it, by their names.
+fn first_of_other_language(paths: &[&str]) -> Option<usize>
+    ensures { result ≡ other_language_from None 0 (map (λ path. path.now) paths.now) }
 {
     let mut known: Option<&[u8]> = None;
     for (index, path) in paths.iter().enumerate() {
@@ -121,38 +121,38 @@ fn stranger(paths: &[&str]) -> Option<usize>
     None
 }
 
-/// The first file of an ending that is not TeX's or a plain file's.
-fn unformed(paths: &[&str]) -> Option<Misfit> {
+// The first file whose ending is not that of a file of TeX or a plain one.
+fn first_bad_ending(paths: &[&str]) -> Option<BadArgs> {
     for (index, path) in paths.iter().enumerate() {
         if path.ends_with(".dic") {
-            return Some(Misfit::Beside(index));
+            return Some(BadArgs::NotAlone(index));
         }
         if form_of(path).is_none() {
-            return Some(Misfit::Ending(index));
+            return Some(BadArgs::Ending(index));
         }
     }
     None
 }
 
-/// What the files are, by their paths.
-fn sort_of(paths: &[&str]) -> Result<Sort, Misfit> {
+// The sort of the files, by their paths.
+fn input_of(paths: &[&str]) -> Result<Input, BadArgs> {
     match paths {
-        [] => return Err(Misfit::Form),
-        [path] if path.ends_with(".dic") => return Ok(Sort::Dic),
+        [] => return Err(BadArgs::NoForm),
+        [path] if path.ends_with(".dic") => return Ok(Input::Dic),
         _ => {}
     }
-    if let Some(misfit) = unformed(paths) {
-        return Err(misfit);
+    if let Some(bad_args) = first_bad_ending(paths) {
+        return Err(bad_args);
     }
-    match stranger(paths) {
-        Some(index) => Err(Misfit::Language(index)),
-        None => Ok(Sort::Tex),
+    match first_of_other_language(paths) {
+        Some(index) => Err(BadArgs::OtherLanguage(index)),
+        None => Ok(Input::Tex),
     }
 }
 
-/// A minimum; `-` means that the files say it. None where it is neither.
+// A minimum. `Some(None)` for `-`, which leaves it to the files; `None` for a text that is no minimum.
 fn minimum_of(text: &str) -> Option<Option<u8>>
-    ensures { IfSome result (SaysMinimum text.now) }
+    ensures { IfSome result (ParsesAsMinimum text.now) }
 {
     if text == "-" {
         return Some(None);
@@ -164,19 +164,19 @@ fn minimum_of(text: &str) -> Option<Option<u8>>
 }
 
 impl<'w> Request<'w> {
-    /// The request, or why the words ask for nothing.
-    pub fn from_words(words: &'w [&'w str]) -> Result<Request<'w>, Misfit>
-        ensures { IfOk result (λ request. Says words.now (meaning request)) }
+    /// Parses arguments `KIND CODE LEFT RIGHT FILE..`. The error says why they are rejected.
+    pub fn from_args(args: &'w [&'w str]) -> Result<Request<'w>, BadArgs>
+        ensures { IfOk result (λ request. ParsesAs args.now (parsed_request request)) }
     {
-        let [kind, code, left, right, paths @ ..] = words else {
-            return Err(Misfit::Form);
+        let [kind, code, left, right, paths @ ..] = args else {
+            return Err(BadArgs::NoForm);
         };
         Ok(Request {
-            kind: Kind::from_name(kind).ok_or(Misfit::Form)?,
-            language: Language::from_code(code).ok_or(Misfit::Form)?,
-            left: minimum_of(left).ok_or(Misfit::Form)?,
-            right: minimum_of(right).ok_or(Misfit::Form)?,
-            sort: sort_of(paths)?,
+            kind: Kind::from_name(kind).ok_or(BadArgs::NoForm)?,
+            language: Language::from_code(code).ok_or(BadArgs::NoForm)?,
+            left: minimum_of(left).ok_or(BadArgs::NoForm)?,
+            right: minimum_of(right).ok_or(BadArgs::NoForm)?,
+            input: input_of(paths)?,
             paths,
         })
     }

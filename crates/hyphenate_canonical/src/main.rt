@@ -1,27 +1,28 @@
 //! The program `hyphenate-canonical`: puts a dictionary text in order.
 //!
-//! It reads a dictionary text of the kind that its word names from standard input, and writes the canonical text
-//! of that dictionary to standard output; or says on standard error why it can't. `main` hands its words to
-//! `canonical_command::answer`, which does all and which tests call.
+//! It reads a dictionary text from standard input, of the kind that its argument names. It writes the canonical text
+//! of that dictionary to standard output, or an error to standard error.
+//!
+//! `main` hands its arguments to `canonical_command::answer`, which does the rest. Tests call that.
 #![tactic(auto)]
 
-use canonical_command::{answer, report_words};
-use command_line::with_words;
+use canonical_command::{NO_MEMORY, USAGE, answer};
+use command_line::{report_bad_args, with_args};
 use std::process::ExitCode;
 
 fn main(rt: HostRuntime) -> ExitCode {
-    let answered = with_words(&rt, |words| {
+    let result = with_args(&rt, |args| {
         answer(
             rt.alloc(),
-            words,
+            args,
             &mut rt.stdin(),
             &mut rt.stdout(),
             &mut rt.stderr(),
         )
     });
-    let status = match answered {
+    let status = match result {
         Ok(status) => status,
-        Err(e) => report_words(&e, &mut rt.stderr()),
+        Err(e) => report_bad_args(USAGE, NO_MEMORY, &e, &mut rt.stderr()),
     };
     ExitCode::from(status)
 }

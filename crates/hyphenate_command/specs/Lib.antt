@@ -1,3 +1,3 @@
 pub mod Private
 pub mod Statuses
-pub mod Words
+pub mod Arguments

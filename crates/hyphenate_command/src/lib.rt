@@ -1,51 +1,56 @@
-//! The words, the messages and the statuses of the program `hyphenate`: a text with marks at the breaks of its words,
-//! its lines of a column width, or the score of a word, by a dictionary.
+//! The program `hyphenate` without its `main`: its arguments, messages and statuses.
+//!
+//! By a dictionary it writes a text with marks at the breaks of its words, its lines, or the score of a word.
 #![tactic(auto)]
 
-ghost use Rattle.std.specs.Prelude.{◌≡◌, ◌≢◌, List, ℕ, Result, Err, None, Some, Option, OnOk, IfSome, MatchOption};
-ghost use Rattle.std.specs.Io.KnownBytes.{Appends};
+ghost use Rattle.std.specs.Prelude.{◌≡◌, ◌≢◌, List, ℕ, Err, None, Some, Option, OnOk, IfSome, MatchOption};
+ghost use Rattle.hyphenation_load.specs.Load.{AppendsTo};
 ghost use Rattle.std.specs.IoError.{error_kind};
 ghost use Rattle.hyphenation.specs.Engine.{BeforeWriting, IsUnwritten};
-ghost use Rattle.hyphenation.specs.declared.engine.RunError.{RunError};
 ghost use Rattle.command_line.specs.Statuses.{BeforeOutput};
-ghost use Rattle.hyphenate_command.specs.Words.{asked, score_asked, text_asked, lines_asked};
-ghost use Rattle.hyphenate_command.specs.Statuses.{status_of, EndsFor, BeforeText};
-ghost use Rattle.hyphenate_command.specs.Private.Requests.{wanted_by, meaning};
+ghost use Rattle.hyphenate_command.specs.Arguments.{parsed_args, score_args, text_args, lines_args};
+ghost use Rattle.hyphenate_command.specs.Statuses.{status_of, EndsFor, BeforeText, EndsWith};
+ghost use Rattle.hyphenate_command.specs.Private.Requests.{parsed_task, parsed_request};
 
-use command_line::tell;
+use command_line::write_message;
 use hyphenation::Language;
 use hyphenation::engine::{Kind, RunError, number_of, run, run_score};
 use hyphenation::load::Error;
+use hyphenation_load::is_out_of_memory;
 use linefill::run_fill;
 use std::alloc::Global;
 use std::fs::Files;
 use std::io::{ErrorKind, Read, Write};
 use std::{fs, io};
 
-const USAGE: &str =
+/// The usage, for arguments of no form.
+pub const USAGE: &str =
     "usage: hyphenate KIND CODE PATH MARK [EDIT..]\n       hyphenate score KIND CODE PATH WORD\n       hyphenate fill CODE PATH COLUMNS\n";
 
-/// What is wanted of a dictionary.
+/// The message if memory was refused.
+pub const NO_MEMORY: &str = "hyphenate: no memory\n";
+
+// The task that a dictionary is for.
 #[derive(Drop)]
 enum Task<'w> {
-    /// The score of a word.
+    // The score of a word.
     Score {
         kind: Kind,
         word: &'w str,
     },
-    /// The input with a mark at the breaks of its words, after edits of the exceptions.
+    // The input with a mark at the breaks of its words, after edits of the exceptions.
     Text {
         kind: Kind,
         mark: &'w str,
         edits: &'w [&'w str],
     },
-    /// The lines of the input, of at most so many columns, by a standard dictionary.
+    // The lines of the input, of at most so many columns, by a standard dictionary.
     Lines {
         columns: usize,
     },
 }
 
-/// What the words ask for: a task, and the dictionary for it.
+// The arguments as parsed: a task, and the dictionary for it.
 #[derive(Drop)]
 struct Request<'w> {
     language: Language,
@@ -54,25 +59,25 @@ struct Request<'w> {
 }
 
 impl<'w> Request<'w> {
-    /// The request, where the words are of a form; the first word `score` always chooses the score, and `fill` the
-    /// lines.
-    fn from_words(words: &'w [&'w str]) -> Option<Request<'w>>
-        ensures { MatchOption result (asked words.now ≡ None)
-            (λ request. asked words.now ≡ Some (meaning request)) }
+    // The request, if the arguments have one of the forms. A first argument `score` always chooses the score, and
+    // `fill` the lines.
+    fn from_args(args: &'w [&'w str]) -> Option<Request<'w>>
+        ensures { MatchOption result (parsed_args args.now ≡ None)
+            (λ request. parsed_args args.now ≡ Some (parsed_request request)) }
     {
-        match words.split_first() {
+        match args.split_first() {
             Some((form, rest)) if *form == "score" => Self::for_score(rest),
             Some((form, rest)) if *form == "fill" => Self::for_lines(rest),
-            _ => Self::for_text(words),
+            _ => Self::for_text(args),
         }
     }
 
-    /// Of the form `KIND CODE PATH WORD`.
-    fn for_score(words: &[&'w str]) -> Option<Request<'w>>
-        ensures { MatchOption result (score_asked words.now ≡ None)
-            (λ request. score_asked words.now ≡ Some (meaning request)) }
+    // The request of arguments `KIND CODE PATH WORD`.
+    fn for_score(args: &[&'w str]) -> Option<Request<'w>>
+        ensures { MatchOption result (score_args args.now ≡ None)
+            (λ request. score_args args.now ≡ Some (parsed_request request)) }
     {
-        match words {
+        match args {
             [kind, code, path, word] => Some(Request {
                 task: Task::Score {
                     kind: Kind::from_name(kind)?,
@@ -85,12 +90,12 @@ impl<'w> Request<'w> {
         }
     }
 
-    /// Of the form `KIND CODE PATH MARK [EDIT..]`.
-    fn for_text(words: &'w [&'w str]) -> Option<Request<'w>>
-        ensures { MatchOption result (text_asked words.now ≡ None)
-            (λ request. text_asked words.now ≡ Some (meaning request)) }
+    // The request of arguments `KIND CODE PATH MARK [EDIT..]`.
+    fn for_text(args: &'w [&'w str]) -> Option<Request<'w>>
+        ensures { MatchOption result (text_args args.now ≡ None)
+            (λ request. text_args args.now ≡ Some (parsed_request request)) }
     {
-        match words {
+        match args {
             [kind, code, path, mark, edits @ ..] => Some(Request {
                 task: Task::Text {
                     kind: Kind::from_name(kind)?,
@@ -104,12 +109,12 @@ impl<'w> Request<'w> {
         }
     }
 
-    /// Of the form `CODE PATH COLUMNS`, where COLUMNS is a number of the dictionary text.
-    fn for_lines(words: &[&'w str]) -> Option<Request<'w>>
-        ensures { MatchOption result (lines_asked words.now ≡ None)
-            (λ request. lines_asked words.now ≡ Some (meaning request)) }
+    // The request of arguments `CODE PATH COLUMNS`, where COLUMNS is a number as dictionary texts have it.
+    fn for_lines(args: &[&'w str]) -> Option<Request<'w>>
+        ensures { MatchOption result (lines_args args.now ≡ None)
+            (λ request. lines_args args.now ≡ Some (parsed_request request)) }
     {
-        match words {
+        match args {
             [code, path, columns] => Some(Request {
                 task: Task::Lines {
                     columns: number_of(columns.as_bytes())?,
@@ -122,7 +127,7 @@ impl<'w> Request<'w> {
     }
 }
 
-/// Opens the dictionary, and does what is wanted of it.
+// Opens the dictionary, and does the task.
 fn run_request<F: Files, I: Read, O: Write>(
     rt: &F,
     alloc: Global,
@@ -130,12 +135,12 @@ fn run_request<F: Files, I: Read, O: Write>(
     input: &mut I,
     output: &mut O,
 ) -> Result<(), RunError>
-    ensures ended { EndsFor (wanted_by request.now.task) (I.remaining input.old) result }
-    ensures unread { BeforeText (wanted_by request.now.task) result (input.new ≡ input.old) }
+    ensures ended { EndsFor (parsed_task request.now.task) (I.remaining input.old) result }
+    ensures unread { BeforeText (parsed_task request.now.task) result (input.new ≡ input.old) }
     ensures untouched { BeforeWriting result (output.new ≡ output.old) }
-    ensures whole { OnOk result ((text : List ℕ) × Appends (O.contents output.old) (O.contents output.new) text) }
+    ensures whole { OnOk result ((text : List ℕ) × AppendsTo O.contents output.old output.new text) }
 {
-    let mut dictionary = fs::open(rt, request.path).map_err(opening_fault)?;
+    let mut dictionary = fs::open(rt, request.path).map_err(opening_error)?;
     match request.task {
         Task::Score { kind, word } => run_score(
             alloc,
@@ -166,96 +171,91 @@ fn run_request<F: Files, I: Read, O: Write>(
     }
 }
 
-/// A fault of opening: want of memory, or the fault.
-fn opening_fault(e: io::Error) -> RunError
-    ensures memory { error_kind e ≡ ErrorKind.OutOfMemory → result ≡ RunError.Memory }
-    ensures fault { error_kind e ≢ ErrorKind.OutOfMemory → result ≡ RunError.Dictionary (Error.IO e) }
+// An error of opening the dictionary as an error of the run.
+fn opening_error(e: io::Error) -> RunError
+    ensures out_of_memory { error_kind e ≡ ErrorKind.OutOfMemory → result ≡ RunError.Memory }
+    ensures other { error_kind e ≢ ErrorKind.OutOfMemory → result ≡ RunError.Dictionary (Error.IO e) }
     ensures unwritten { IsUnwritten result }
 {
-    match e.kind() {
-        ErrorKind::OutOfMemory => RunError::Memory,
-        _ => RunError::Dictionary(Error::IO(e)),
+    if is_out_of_memory(&e) {
+        return RunError::Memory;
     }
+    RunError::Dictionary(Error::IO(e))
 }
 
-/// Writes why a run failed, and gives its status. That the message can't be written changes nothing.
-fn report<E: Write>(alloc: Global, path: &str, fault: &RunError, faults: &mut E) -> u8
-    ensures status { result ≡ status_of (Err fault.now) }
+// Writes why a run failed, and returns its status. An error of writing changes nothing.
+fn report<E: Write>(alloc: Global, path: &str, error: &RunError, errors: &mut E) -> u8
+    ensures status { result ≡ status_of (Err error.now) }
 {
-    match fault {
-        RunError::Dictionary(error) => {
-            tell(alloc, &format_args!("hyphenate: {path}: {error}\n"), faults);
+    match error {
+        RunError::Dictionary(cause) => {
+            write_message(alloc, &format_args!("hyphenate: {path}: {cause}\n"), errors);
             3
         }
         RunError::Edit(number) => {
-            tell(
+            write_message(
                 alloc,
                 &format_args!("hyphenate: edit {number} is refused\n"),
-                faults,
+                errors,
             );
             2
         }
         RunError::TextNotUtf8 => {
-            let _ = faults.write_all(b"hyphenate: the text is not UTF-8\n");
+            let _ = errors.write_all(b"hyphenate: the text is not UTF-8\n");
             4
         }
         RunError::Input(_) => {
-            let _ = faults.write_all(b"hyphenate: the text can't be read\n");
+            let _ = errors.write_all(b"hyphenate: the text can't be read\n");
             5
         }
         RunError::Output(_) => {
-            let _ = faults.write_all(b"hyphenate: the result can't be written\n");
+            let _ = errors.write_all(b"hyphenate: the result can't be written\n");
             5
         }
         RunError::Memory => {
-            let _ = faults.write_all(b"hyphenate: no memory\n");
+            let _ = errors.write_all(NO_MEMORY.as_bytes());
             6
         }
     }
 }
 
-/// Writes why the program's words could not be had, and gives the status: they are not UTF-8, or memory is wanting.
-pub fn report_words<E: Write>(fault: &io::Error, faults: &mut E) -> u8
-    ensures memory { error_kind fault.now ≡ ErrorKind.OutOfMemory → result ≡ 6 }
-    ensures other { error_kind fault.now ≢ ErrorKind.OutOfMemory → result ≡ 2 }
-{
-    match fault.kind() {
-        ErrorKind::OutOfMemory => {
-            let _ = faults.write_all(b"hyphenate: no memory\n");
-            6
-        }
-        _ => {
-            let _ = faults.write_all(USAGE.as_bytes());
-            2
-        }
-    }
-}
-
-/// Does what the words ask for, and gives the status to end with: 0 where it is done; 2 where the words are of
-/// no form, or an edit is refused; 3 where the dictionary can't be opened, read or accepted; 4 where the text is
-/// not UTF-8; 5 where it can't be read, or the result can't be written; 6 where memory is wanting. What is wrong is
-/// written to `faults`. The output is as it was but where the status is 0 or 5.
+/// Does what the arguments ask for, and returns the status to end with.
+///
+/// | Status | When |
+/// |---|---|
+/// | 0 | it is done |
+/// | 2 | the arguments have no form of the usage, or an edit is refused |
+/// | 3 | the dictionary can't be opened, read or accepted, or is of another language |
+/// | 4 | the text is not UTF-8 |
+/// | 5 | the text can't be read, or the result can't be written |
+/// | 6 | memory was refused |
+///
+/// A message for any status but 0 is written to `errors`. The output is as it was unless the status is 0 or 5.
+///
+/// ```text
+/// let args = ["score", "standard", "en-gb", "examples/firkin.txt", "firkins"];
+/// answer(&rt, rt.alloc(), &args, &mut rt.stdin(), &mut rt.stdout(), &mut rt.stderr())    // 0, and 0 2 5 1 0 0
+/// ```
 pub fn answer<F: Files, I: Read, O: Write, E: Write>(
     rt: &F,
     alloc: Global,
-    words: &[&str],
+    args: &[&str],
     input: &mut I,
     output: &mut O,
-    faults: &mut E,
+    errors: &mut E,
 ) -> u8
-    ensures usage { asked words.now ≡ None → (result ≡ 2) × (input.new ≡ input.old) }
-    ensures ended { IfSome (asked words.now) (λ asked. (ended : Result (Unit {0}) RunError) × (result ≡ status_of ended)
-        × EndsFor asked.wanted (I.remaining input.old) ended
-        × BeforeText asked.wanted ended (input.new ≡ input.old)) }
+    ensures usage { parsed_args args.now ≡ None → (result ≡ 2) × (input.new ≡ input.old) }
+    ensures ended { IfSome (parsed_args args.now) (λ parsed.
+        EndsWith parsed.task (I.remaining input.old) (input.new ≡ input.old) result) }
     ensures untouched { BeforeOutput result (output.new ≡ output.old) }
-    ensures written { result ≡ 0 → (text : List ℕ) × Appends (O.contents output.old) (O.contents output.new) text }
+    ensures written { result ≡ 0 → (text : List ℕ) × AppendsTo O.contents output.old output.new text }
 {
-    let Some(request) = Request::from_words(words) else {
-        let _ = faults.write_all(USAGE.as_bytes());
+    let Some(request) = Request::from_args(args) else {
+        let _ = errors.write_all(USAGE.as_bytes());
         return 2;
     };
     match run_request(rt, alloc, &request, input, output) {
         Ok(()) => 0,
-        Err(fault) => report(alloc, request.path, &fault, faults),
+        Err(error) => report(alloc, request.path, &error, errors),
     }
 }

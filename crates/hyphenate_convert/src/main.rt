@@ -1,19 +1,19 @@
 //! The program `hyphenate-convert`: files of hyphenation patterns into a dictionary text.
 //!
-//! `main` hands its words to `convert_command::answer`, which does all and which tests call.
+//! `main` hands its arguments to `convert_command::answer`, which does the rest. Tests call that.
 #![tactic(auto)]
 
-use command_line::with_words;
-use convert_command::{answer, report_words};
+use command_line::{report_bad_args, with_args};
+use convert_command::{NO_MEMORY, USAGE, answer};
 use std::process::ExitCode;
 
 fn main(rt: HostRuntime) -> ExitCode {
-    let answered = with_words(&rt, |words| {
-        answer(&rt, rt.alloc(), words, &mut rt.stdout(), &mut rt.stderr())
+    let result = with_args(&rt, |args| {
+        answer(&rt, rt.alloc(), args, &mut rt.stdout(), &mut rt.stderr())
     });
-    let status = match answered {
+    let status = match result {
         Ok(status) => status,
-        Err(e) => report_words(&e, &mut rt.stderr()),
+        Err(e) => report_bad_args(USAGE, NO_MEMORY, &e, &mut rt.stderr()),
     };
     ExitCode::from(status)
 }

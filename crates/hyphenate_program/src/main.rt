@@ -1,27 +1,27 @@
-//! The program `hyphenate`: a text with marks at the breaks of its words, its lines of a column width, or the score of
-//! a word, by a dictionary.
+//! The program `hyphenate`: by a dictionary, a text with marks at the breaks of its words, its lines, or the score of a
+//! word.
 //!
-//! `main` hands its words to `hyphenate_command::answer`, which does all and which tests call.
+//! `main` hands its arguments to `hyphenate_command::answer`, which does the rest. Tests call that.
 #![tactic(auto)]
 
-use command_line::with_words;
-use hyphenate_command::{answer, report_words};
+use command_line::{report_bad_args, with_args};
+use hyphenate_command::{NO_MEMORY, USAGE, answer};
 use std::process::ExitCode;
 
 fn main(rt: HostRuntime) -> ExitCode {
-    let answered = with_words(&rt, |words| {
+    let result = with_args(&rt, |args| {
         answer(
             &rt,
             rt.alloc(),
-            words,
+            args,
             &mut rt.stdin(),
             &mut rt.stdout(),
             &mut rt.stderr(),
         )
     });
-    let status = match answered {
+    let status = match result {
         Ok(status) => status,
-        Err(e) => report_words(&e, &mut rt.stderr()),
+        Err(e) => report_bad_args(USAGE, NO_MEMORY, &e, &mut rt.stderr()),
     };
     ExitCode::from(status)
 }

@@ -1,14 +1,13 @@
--- What is written of a word's score, and when a run is refused.
-use Rattle.std.specs.Prelude.{◌≡◌, ◌≢◌, ℕ, List, [], ◌∷◌, ◌++◌, map, decimal, IsUtf8, None, Result, Ok, Err, Option, Some, unwrap_or, slice_index_or}
+-- The output of whole runs, and the order in which they fail.
+use Rattle.std.specs.Prelude.{◌≡◌, ◌≢◌, ℕ, List, [], ◌∷◌, ◌++◌, map, decimal, IsUtf8, None, Result, Ok, Err, OnOk, IfOk, IfSome, Option, Some, ⊤}
+use Rattle.std.specs.Borrow.{Bor}
 use Rattle.std.specs.List.{join_with_byte}
 use Rattle.hyphenation_breaks.specs.Break.{Break, plain_break}
 use Rattle.hyphenation_breaks.specs.Dictionary.{entries_of_keys}
 use Rattle.hyphenation_reader.specs.Edits.{after_edits, first_refused}
-use Rattle.hyphenation_grammar.specs.Lines.{lines_of, language_of}
 use Rattle.hyphenation_grammar.specs.Reading.{place_as_listing, break_as_listing, standard_contents, extended_contents}
 use Rattle.hyphenation_grammar.specs.declared.form.Kind.{Kind}
 use Rattle.hyphenation_grammar.specs.declared.form.Kind.TheVariants.{Standard, Extended}
-use Rattle.hyphenation_grammar.specs.declared.Cause.{Cause}
 use Rattle.hyphenation_grammar.specs.declared.Error.{Error}
 use Rattle.hyphenation_grammar.specs.declared.Error.TheVariants.{Deserialization, IO, LanguageMismatch, Memory as NoMemory}
 use Rattle.hyphenation.specs.declared.engine.RunError.{RunError}
@@ -16,74 +15,31 @@ use Rattle.hyphenation.specs.declared.engine.RunError.TheVariants.{Dictionary, E
 use Rattle.std.specs.IoError.{error_kind}
 use Rattle.std.specs.declared.io.ErrorKind.TheVariants.{OutOfMemory}
 use Rattle.hyphenation_hyphenator.specs.Fitting.{fitted_breaks_of}
-use Rattle.hyphenation_load.specs.Load.{TellsIn}
+use Rattle.hyphenation_hyphenator.specs.Hyphenated.{hyphenated_text}
 use Rattle.hyphenation_hyphenator.specs.Opportunities.{no_change, own_break, rules_of, all_breaks_of}
+use Rattle.hyphenation_grammar.specs.Judging.{refusal_of}
+use Rattle.hyphenation_grammar.specs.declared.Cause.{Cause}
+use Rattle.hyphenation_load.specs.Load.{language_of_text, IsAcceptedIn, IsLoadErrorIn, AppendsTo}
 use Rattle.hyphenation_score.specs.Scoring.{own_change, values}
+
+-- ---- the output
+
+-- The texts of a list of borrowed texts.
+abbrev pub texts_now : List (Bor (List ℕ)) → List (List ℕ)
+texts_now texts = map (λ text. text.now) texts
 
 -- Values in decimal, one space between, and a line feed.
 abbrev pub score_line : List ℕ → List ℕ
 score_line values = join_with_byte 32 (map decimal values) ++ 10 ∷ []
 
--- The language that the second line of a text names, whatever the kind; empty where it names none.
-abbrev pub language_in : List ℕ → List ℕ
-language_in bytes = unwrap_or (language_of (slice_index_or (lines_of bytes) 1 [])) []
-
 -- The values of a word's places by the dictionary of that kind that a text gives.
 abbrev pub values_by : Kind → List ℕ → List ℕ → List ℕ
-values_by Standard bytes word = values (entries_of_keys (standard_contents bytes)) word
-values_by Extended bytes word = values (entries_of_keys (extended_contents bytes)) word
+values_by Standard word bytes = values (entries_of_keys (standard_contents bytes)) word
+values_by Extended word bytes = values (entries_of_keys (extended_contents bytes)) word
 
--- A dictionary's text is accepted, and of that language.
-abbrev pub IsAccepted : (List ℕ → Option (ℕ × Cause)) → (List ℕ → List ℕ) → List ℕ → List ℕ → Type 0
-IsAccepted refusal language asked bytes = (refusal bytes ≡ None) × (language bytes ≡ asked)
-
--- Why a score is not written: its dictionary can't be had, the writing failed, or memory was refused.
-abbrev pub IsOfScore : RunError → Type 0
-IsOfScore (Dictionary e) = Unit {0}
-IsOfScore (Output e) = Unit {0}
-IsOfScore Memory = Unit {0}
-IsOfScore _ = ⊥
-
--- This holds where a run ended before the reading of its text: over its dictionary, or over an edit.
-abbrev pub BeforeReading : {X : Type 0} → Result X RunError → Type 0 → Type 0
-BeforeReading (Err (Dictionary e)) P = P
-BeforeReading (Err (Edit number)) P = P
-BeforeReading _ P = Unit {0}
-
--- This holds where a run ended before its writing.
-abbrev pub BeforeWriting : Result (Unit {0}) RunError → Type 0 → Type 0
-BeforeWriting (Ok done) P = Unit {0}
-BeforeWriting (Err (Dictionary e)) P = P
-BeforeWriting (Err (Edit number)) P = P
-BeforeWriting (Err TextNotUtf8) P = P
-BeforeWriting (Err (Input e)) P = P
-BeforeWriting (Err (Output e)) P = Unit {0}
-BeforeWriting (Err Memory) P = P
-
--- A run that is refused other than by its writing.
-abbrev pub IsUnwritten : RunError → Type 0
-IsUnwritten (Dictionary e) = Unit {0}
-IsUnwritten (Edit number) = Unit {0}
-IsUnwritten TextNotUtf8 = Unit {0}
-IsUnwritten (Input e) = Unit {0}
-IsUnwritten (Output e) = ⊥
-IsUnwritten Memory = Unit {0}
-
--- What a fault of loading makes of a run.
-abbrev pub run_error : Error → RunError
-run_error (Deserialization line cause) = Dictionary (Deserialization line cause)
-run_error (IO e) = Dictionary (IO e)
-run_error (LanguageMismatch expected found) = Dictionary (LanguageMismatch expected found)
-run_error (NoMemory e) = Memory
-
--- An error that tells of the dictionary or of the input tells of no want of memory, whoever told it.
-abbrev pub HoldsNoWant : RunError → Type 0
-HoldsNoWant (Dictionary (IO e)) = error_kind e ≢ OutOfMemory
-HoldsNoWant (Dictionary (NoMemory e)) = ⊥
-HoldsNoWant (Input e) = error_kind e ≢ OutOfMemory
-HoldsNoWant _ = Unit {0}
-
--- ---- a run over a whole text
+-- The line of a word's values by the dictionary of that kind that a text gives.
+abbrev pub score_by : Kind → List ℕ → List ℕ → List ℕ
+score_by kind word bytes = score_line (values_by kind word bytes)
 
 -- The breaks of a word as written by the dictionary of that kind that a text gives, after edits.
 abbrev pub breaks_by : Kind → List ℕ → List (List ℕ) → List ℕ → List Break
@@ -92,35 +48,113 @@ breaks_by Standard bytes edits word =
 breaks_by Extended bytes edits word =
     fitted_breaks_of (rules_of own_change own_break (after_edits break_as_listing (extended_contents bytes) edits)) word
 
--- The dictionary is judged first: only where it is accepted, and of the asked language, anything else is answered than
--- an error of the dictionary or want of memory.
-abbrev pub JudgesDictionary : {X : Type 0} → (List ℕ → Option (ℕ × Cause)) → List ℕ → List ℕ → Result X RunError
-    → Type 0
-JudgesDictionary refusal asked bytes (Err (Dictionary e)) = TellsIn refusal language_in asked bytes e
-JudgesDictionary refusal asked bytes (Err Memory) = Unit {0}
-JudgesDictionary refusal asked bytes _ = IsAccepted refusal language_in asked bytes
+-- The output of a run: the text with its words hyphenated by the dictionary of that kind that bytes give, after edits.
+abbrev pub run_output : Kind → List (Bor (List ℕ)) → List ℕ → List ℕ → List ℕ → List ℕ
+run_output kind edits mark bytes text = hyphenated_text (breaks_by kind bytes (texts_now edits)) mark text
 
--- Then the edits: only where each is good, anything later is answered; else the first that is refused, by its number.
+-- If the bytes of the dictionary and of the input are known, this holds of them.
+abbrev pub IfBothKnown : Option (List ℕ) → Option (List ℕ) → (List ℕ → List ℕ → Type 0) → Type 0
+IfBothKnown dictionary input P = IfSome dictionary (λ bytes. IfSome input (λ text. P bytes text))
+
+-- The text that is returned is the output for the bytes of the dictionary and of the input, if they are known.
+abbrev pub RunReturns : {S : Type 0} → (S → List ℕ) → Result S RunError → (List ℕ → List ℕ → List ℕ)
+    → Option (List ℕ) → Option (List ℕ) → Type 0
+RunReturns bytes_of result output dictionary input =
+    IfOk result (λ returned. IfBothKnown dictionary input (λ bytes text. bytes_of returned ≡ output bytes text))
+
+-- On Ok, the output for the bytes of the dictionary and of the input, if they are known, was appended to a writer.
+abbrev pub RunWrites : {W : Type 0} → Result (Unit {0}) RunError → (W → Option (List ℕ)) → W → W
+    → (List ℕ → List ℕ → List ℕ) → Option (List ℕ) → Option (List ℕ) → Type 0
+RunWrites result contents old new output dictionary input =
+    OnOk result (IfBothKnown dictionary input (λ bytes text. AppendsTo contents old new (output bytes text)))
+
+-- ---- the order in which a run fails
+
+-- This holds where a run ended before the reading of its text: over its dictionary, or over an edit.
+abbrev pub BeforeReading : {X : Type 0} → Result X RunError → Type 0 → Type 0
+BeforeReading (Err (Dictionary e)) P = P
+BeforeReading (Err (Edit number)) P = P
+BeforeReading _ P = ⊤
+
+-- This holds where a run ended before its writing.
+abbrev pub BeforeWriting : Result (Unit {0}) RunError → Type 0 → Type 0
+BeforeWriting (Ok done) P = ⊤
+BeforeWriting (Err (Dictionary e)) P = P
+BeforeWriting (Err (Edit number)) P = P
+BeforeWriting (Err TextNotUtf8) P = P
+BeforeWriting (Err (Input e)) P = P
+BeforeWriting (Err (Output e)) P = ⊤
+BeforeWriting (Err Memory) P = P
+
+-- The dictionary is judged first. Its errors are those that its text gives. Any other result, but that of refused
+-- memory, is of an accepted text of the asked language.
+abbrev pub JudgesBytes : {X : Type 0} → Option (ℕ × Cause) → List ℕ → List ℕ → Result X RunError → Type 0
+JudgesBytes refusal asked language (Err (Dictionary e)) = IsLoadErrorIn refusal asked language e
+JudgesBytes refusal asked language (Err Memory) = ⊤
+JudgesBytes refusal asked language _ = IsAcceptedIn refusal asked language
+
+-- The bytes of the dictionary, if they are known, are judged as a text of that kind and language.
+abbrev pub JudgesDictionary : {X : Type 0} → Kind → List ℕ → Option (List ℕ) → Result X RunError → Type 0
+JudgesDictionary kind asked known result =
+    IfSome known (λ bytes. JudgesBytes (refusal_of kind bytes) asked (language_of_text bytes) result)
+
+-- Then the edits: the first that is refused, by its number; any later error or result only if each is good.
 abbrev pub JudgesEdits : {X : Type 0} → Kind → List (List ℕ) → Result X RunError → Type 0
-JudgesEdits kind edits (Err (Dictionary e)) = Unit {0}
+JudgesEdits kind edits (Err (Dictionary e)) = ⊤
 JudgesEdits kind edits (Err (Edit number)) = first_refused kind edits ≡ Some number
-JudgesEdits kind edits (Err Memory) = Unit {0}
+JudgesEdits kind edits (Err Memory) = ⊤
 JudgesEdits kind edits _ = first_refused kind edits ≡ None
 
--- Then the text: only where it is UTF-8 it is written, and only where it is not, that is answered.
-abbrev pub JudgesText : {X : Type 0} → List ℕ → Result X RunError → Type 0
-JudgesText text (Ok done) = IsUtf8 text
-JudgesText text (Err TextNotUtf8) = ¬ (IsUtf8 text)
-JudgesText text (Err (Output e)) = IsUtf8 text
-JudgesText text (Err _) = Unit {0}
+-- Then the text: it is written only if it is UTF-8, and it is refused as not UTF-8 only if it is not.
+abbrev pub JudgesUtf8 : {X : Type 0} → List ℕ → Result X RunError → Type 0
+JudgesUtf8 text (Ok done) = IsUtf8 text
+JudgesUtf8 text (Err TextNotUtf8) = ¬ (IsUtf8 text)
+JudgesUtf8 text (Err (Output e)) = IsUtf8 text
+JudgesUtf8 text (Err _) = ⊤
 
--- Why the input can't be had: a fault of it that is no want of memory, or that want.
-abbrev pub IsOfInput : RunError → Type 0
-IsOfInput (Input e) = error_kind e ≢ OutOfMemory
-IsOfInput Memory = Unit {0}
-IsOfInput _ = ⊥
+-- The bytes of the input, if they are known, are judged as a text.
+abbrev pub JudgesText : {X : Type 0} → Option (List ℕ) → Result X RunError → Type 0
+JudgesText known result = IfSome known (λ text. JudgesUtf8 text result)
 
--- Why the text can't be had: as the input, or it is not UTF-8.
-abbrev pub IsOfText : RunError → Type 0
-IsOfText TextNotUtf8 = Unit {0}
-IsOfText e = IsOfInput e
+-- ---- the errors of a run
+
+-- Any error but one of writing.
+abbrev pub IsUnwritten : RunError → Type 0
+IsUnwritten (Dictionary e) = ⊤
+IsUnwritten (Edit number) = ⊤
+IsUnwritten TextNotUtf8 = ⊤
+IsUnwritten (Input e) = ⊤
+IsUnwritten (Output e) = ⊥
+IsUnwritten Memory = ⊤
+
+-- The errors of a score: its dictionary, the writing, or memory.
+abbrev pub IsScoreError : RunError → Type 0
+IsScoreError (Dictionary e) = ⊤
+IsScoreError (Output e) = ⊤
+IsScoreError Memory = ⊤
+IsScoreError _ = ⊥
+
+-- The errors of reading an input: an I/O error of a kind other than OutOfMemory, or memory.
+abbrev pub IsInputError : RunError → Type 0
+IsInputError (Input e) = error_kind e ≢ OutOfMemory
+IsInputError Memory = ⊤
+IsInputError _ = ⊥
+
+-- The errors of an input that is read as a text: those of reading it, or that it is not UTF-8.
+abbrev pub IsTextError : RunError → Type 0
+IsTextError TextNotUtf8 = ⊤
+IsTextError e = IsInputError e
+
+-- An error of loading as that of a run.
+abbrev pub run_error : Error → RunError
+run_error (Deserialization line cause) = Dictionary (Deserialization line cause)
+run_error (IO e) = Dictionary (IO e)
+run_error (LanguageMismatch expected found) = Dictionary (LanguageMismatch expected found)
+run_error (NoMemory e) = Memory
+
+-- Errors of the dictionary and of the input are never of the kind OutOfMemory: that is `Memory`.
+abbrev pub HidesNoOutOfMemory : RunError → Type 0
+HidesNoOutOfMemory (Dictionary (IO e)) = error_kind e ≢ OutOfMemory
+HidesNoOutOfMemory (Dictionary (NoMemory e)) = ⊥
+HidesNoOutOfMemory (Input e) = error_kind e ≢ OutOfMemory
+HidesNoOutOfMemory _ = ⊤

@@ -1,43 +1,40 @@
-//! Whole runs, from a dictionary's bytes to what is written.
+//! Whole runs, from the bytes of a dictionary to what is written: the score of a word, and a hyphenated text.
 
-ghost use Rattle.std.specs.Prelude.{◌≡◌, ◌++◌, List, ℕ, OnOk, IfOk, IfErr, IfSome, decimal, map};
+ghost use Rattle.std.specs.Prelude.{◌≡◌, ◌++◌, List, ℕ, OnOk, IfOk, IfErr, IfSome, decimal};
 ghost use Rattle.std.specs.String.{string_bytes};
-ghost use Rattle.std.specs.Io.KnownBytes.{Appends};
-ghost use Rattle.hyphenation_breaks.specs.Dictionary.{entries_of_keys};
-ghost use Rattle.hyphenation_grammar.specs.Judging.{refusal_of};
-ghost use Rattle.hyphenation_score.specs.Scoring.{values};
-ghost use Rattle.hyphenation.specs.Engine.{score_line, values_by, breaks_by, IsOfScore, JudgesDictionary, JudgesEdits, JudgesText, BeforeReading, BeforeWriting, HoldsNoWant, IsUnwritten};
-ghost use Rattle.hyphenation.specs.Private.Engine.{space_before};
-ghost use Rattle.hyphenation_hyphenator.specs.Hyphenated.{hyphenated_text};
+ghost use Rattle.hyphenation_load.specs.Load.{AppendsTo};
+ghost use Rattle.hyphenation.specs.Engine.{texts_now, score_line, values_by, score_by, run_output, RunReturns, RunWrites};
+ghost use Rattle.hyphenation.specs.Engine.{JudgesBytes, JudgesDictionary, JudgesEdits, JudgesText};
+ghost use Rattle.hyphenation.specs.Engine.{BeforeReading, BeforeWriting, IsScoreError, IsUnwritten, HidesNoOutOfMemory};
+ghost use Rattle.hyphenation.specs.Private.Engine.{space_before, IsDictionaryError};
 
-mod whole;
+mod run_dictionary;
+mod text_run;
 
-use hyphenation_breaks::extended::Subregion;
 use hyphenation_breaks::language::Language;
 use hyphenation_dictionary::dictionary::{Extended, Standard};
 pub use hyphenation_grammar::form::Kind;
 pub use hyphenation_grammar::number_of;
-use hyphenation_load::{Error, Load};
-use hyphenation_score::Score;
-use hyphenation_score::laws::scores_have_values;
+use hyphenation_load::Error;
+use run_dictionary::RunDictionary;
 use std::alloc::{AllocError, Global};
 use std::io;
 use std::io::{Read, Write};
-pub use whole::read_input;
-use whole::whole_text;
+pub use text_run::read_input;
+use text_run::run_text;
 
 /// Why a run wrote nothing, or not all.
 #[derive(Debug, Drop)]
 pub enum RunError {
-    /// The dictionary could not be had; never for want of memory.
+    /// Loading the dictionary failed. Running out of memory is `Memory`, never this.
     Dictionary(Error),
-    /// The edit of that number, counted from 1, is refused, and none before it.
+    /// The edit of this number, counted from 1, is the first that is refused.
     Edit(usize),
-    /// The text is not UTF-8.
+    /// The input is not UTF-8.
     TextNotUtf8,
-    /// The text could not be read, other than for want of memory.
+    /// Reading the input failed. Running out of memory is `Memory`, never this.
     Input(io::Error),
-    /// The result could not be written; a beginning of it may have gone out.
+    /// Writing the result failed; a beginning of it may be written.
     Output(io::Error),
     /// Memory was refused.
     Memory,
@@ -68,7 +65,7 @@ impl From<AllocError> for RunError {
     }
 }
 
-/// Appends a value in decimal, after a space unless it is the first.
+// Appends a value in decimal, after a space unless it is the first.
 fn append_value(line: &mut String, index: usize, value: u8) -> Result<(), AllocError>
     ensures { OnOk result (string_bytes line.new ≡ string_bytes line.old ++ space_before index ++ decimal value) }
 {
@@ -79,7 +76,7 @@ fn append_value(line: &mut String, index: usize, value: u8) -> Result<(), AllocE
     line.push_str(&digits)
 }
 
-/// The line of values: in decimal, one space between, and a line feed.
+// The line of values: in decimal, one space between, and a line feed.
 fn line_of(alloc: Global, values: &[u8]) -> Result<String, AllocError>
     ensures { IfOk result (λ line. string_bytes line ≡ score_line values.now) }
 {
@@ -91,62 +88,43 @@ fn line_of(alloc: Global, values: &[u8]) -> Result<String, AllocError>
     Ok(line)
 }
 
-/// Values without the changes that stand beside them.
-fn values_alone(alloc: Global, scores: &[(u8, Option<&Subregion>)]) -> Result<Vec<u8>, AllocError>
-    ensures { IfOk result (λ values. values.items ≡ map (λ score. score.0) scores.now) }
-{
-    scores.iter().map(|score| score.0).collect(alloc)
-}
-
-/// The values of a word by an extended dictionary, without the changes.
-fn values_of(alloc: Global, dictionary: &Extended, word: &str) -> Result<Vec<u8>, AllocError>
-    ensures { IfOk result (λ found. found.items ≡ values (entries_of_keys dictionary.now) word.now) }
-{
-    scores_have_values::<Option<Subregion>>();
-    let scores = dictionary.score(alloc, word)?;
-    let found = values_alone(alloc, &scores)?;
-    Ok(found)
-}
-
-/// The values of a word by the standard dictionary of that language that a reader's bytes give.
-fn standard_values<D: Read>(
+// The values of a word by the dictionary of a kind and language that a reader's bytes give.
+fn values_of<K: RunDictionary, D: Read>(
     alloc: Global,
     lang: Language,
     word: &str,
     reader: &mut D,
 ) -> Result<Vec<u8>, RunError>
     ensures dictionary { IfSome (D.remaining reader.old) (λ bytes.
-        JudgesDictionary (refusal_of Kind.Standard) lang bytes result) }
+        JudgesBytes (K.refusal bytes) lang (K.language (K.contents bytes)) result) }
     ensures values { IfOk result (λ found.
-        IfSome (D.remaining reader.old) (λ bytes. found.items ≡ values_by Kind.Standard bytes word.now)) }
-    ensures unwritten { IfErr result IsUnwritten }
-    ensures cause { IfErr result IsOfScore }
-    ensures kind { IfErr result HoldsNoWant }
+        IfSome (D.remaining reader.old) (λ bytes. found.items ≡ K.values_of (K.contents bytes) word.now)) }
+    ensures dictionary_error { IfErr result IsDictionaryError }
 {
-    let dictionary = Standard::from_reader(alloc, lang, reader)?;
-    Ok(dictionary.score(alloc, word)?)
+    let dictionary = K::from_reader(alloc, lang, reader)?;
+    Ok(dictionary.values(alloc, word)?)
 }
 
-/// The same by the extended dictionary: the values alone, without the changes.
-fn extended_values<D: Read>(
+// The values of a word by the dictionary of that kind and language that a reader's bytes give.
+fn values_by<D: Read>(
     alloc: Global,
+    kind: Kind,
     lang: Language,
     word: &str,
     reader: &mut D,
 ) -> Result<Vec<u8>, RunError>
-    ensures dictionary { IfSome (D.remaining reader.old) (λ bytes.
-        JudgesDictionary (refusal_of Kind.Extended) lang bytes result) }
+    ensures dictionary { JudgesDictionary kind lang (D.remaining reader.old) result }
     ensures values { IfOk result (λ found.
-        IfSome (D.remaining reader.old) (λ bytes. found.items ≡ values_by Kind.Extended bytes word.now)) }
-    ensures unwritten { IfErr result IsUnwritten }
-    ensures cause { IfErr result IsOfScore }
-    ensures kind { IfErr result HoldsNoWant }
+        IfSome (D.remaining reader.old) (λ bytes. found.items ≡ values_by kind word.now bytes)) }
+    ensures dictionary_error { IfErr result IsDictionaryError }
 {
-    let dictionary = Extended::from_reader(alloc, lang, reader)?;
-    Ok(values_of(alloc, &dictionary, word)?)
+    match kind {
+        Kind::Standard => values_of::<Standard, D>(alloc, lang, word, reader),
+        Kind::Extended => values_of::<Extended, D>(alloc, lang, word, reader),
+    }
 }
 
-/// The line of a word's values by the dictionary of that kind and language that a reader's bytes give.
+// The line of a word's values by the dictionary of that kind and language that a reader's bytes give.
 fn score_line<D: Read>(
     alloc: Global,
     kind: Kind,
@@ -154,23 +132,26 @@ fn score_line<D: Read>(
     word: &str,
     reader: &mut D,
 ) -> Result<String, RunError>
-    ensures dictionary { IfSome (D.remaining reader.old) (λ bytes. JudgesDictionary
-        (refusal_of kind) lang bytes result) }
+    ensures dictionary { JudgesDictionary kind lang (D.remaining reader.old) result }
     ensures line { IfOk result (λ line.
-        IfSome (D.remaining reader.old) (λ bytes. string_bytes line ≡ score_line (values_by kind bytes word.now))) }
-    ensures unwritten { IfErr result IsUnwritten }
-    ensures cause { IfErr result IsOfScore }
-    ensures kind { IfErr result HoldsNoWant }
+        IfSome (D.remaining reader.old) (λ bytes. string_bytes line ≡ score_by kind word.now bytes)) }
+    ensures dictionary_error { IfErr result IsDictionaryError }
 {
-    let values = match kind {
-        Kind::Standard => standard_values(alloc, lang, word, reader)?,
-        Kind::Extended => extended_values(alloc, lang, word, reader)?,
-    };
+    let values = values_by(alloc, kind, lang, word, reader)?;
     Ok(line_of(alloc, &values)?)
 }
 
-/// Loads a dictionary of that kind and language, and writes the values of the word as it is handed in, unfolded: in
-/// decimal, one space between, and a line feed at the end. Before that line is whole nothing is written.
+/// Loads a dictionary of that kind and language, and writes the values of a word's places.
+///
+/// They are written in decimal, with one space between and a line feed at the end. The word is taken as it is,
+/// capitals included. Nothing is written before that line is whole. The errors are `Dictionary`, `Output` and
+/// `Memory`.
+///
+/// ```text
+/// let mut dictionary = &b"hyphenation 1 standard\nlanguage en-us\nminima 2 3\np hy3ph\n"[..];
+/// let lang = Language::english_us();
+/// run_score(alloc, Kind::Standard, lang, "hyphen", &mut dictionary, &mut rt.stdout())?;    // 0 3 0 0 0
+/// ```
 pub fn run_score<D: Read, O: Write>(
     alloc: Global,
     kind: Kind,
@@ -179,22 +160,20 @@ pub fn run_score<D: Read, O: Write>(
     dictionary: &mut D,
     output: &mut O,
 ) -> Result<(), RunError>
-    ensures dictionary { IfSome (D.remaining dictionary.old) (λ bytes.
-        JudgesDictionary (refusal_of kind) lang bytes result) }
-    ensures written { OnOk result (IfSome (D.remaining dictionary.old)
-        (λ bytes. Appends (O.contents output.old) (O.contents output.new)
-        (score_line (values_by kind bytes word.now)))) }
-    ensures whole { OnOk result ((text : List ℕ) × Appends (O.contents output.old) (O.contents output.new) text) }
+    ensures dictionary { JudgesDictionary kind lang (D.remaining dictionary.old) result }
+    ensures written { OnOk result (IfSome (D.remaining dictionary.old) (λ bytes.
+        AppendsTo O.contents output.old output.new (score_by kind word.now bytes))) }
+    ensures whole { OnOk result ((text : List ℕ) × AppendsTo O.contents output.old output.new text) }
     ensures untouched { BeforeWriting result (output.new ≡ output.old) }
-    ensures cause { IfErr result IsOfScore }
-    ensures kind { IfErr result HoldsNoWant }
+    ensures score_error { IfErr result IsScoreError }
+    ensures not_out_of_memory { IfErr result HidesNoOutOfMemory }
 {
     let line = score_line(alloc, kind, lang, word, dictionary)?;
     output.write_all(line.as_bytes()).map_err(RunError::Output)
 }
 
-/// The text of an input with its words hyphenated by the dictionary of that kind and language that a reader's bytes
-/// give, after edits.
+// The text of an input with its words hyphenated by the dictionary of that kind and language that a reader's bytes
+// give, after edits.
 fn text_by<D: Read, I: Read>(
     alloc: Global,
     kind: Kind,
@@ -204,29 +183,34 @@ fn text_by<D: Read, I: Read>(
     reader: &mut D,
     input: &mut I,
 ) -> Result<String, RunError>
-    ensures dictionary { IfSome (D.remaining reader.old) (λ bytes.
-        JudgesDictionary (refusal_of kind) lang bytes result) }
-    ensures edits { JudgesEdits kind (map (λ edit. edit.now) edits.now) result }
-    ensures text { IfSome (I.remaining input.old) (λ text. JudgesText text result) }
-    ensures output { IfOk result (λ output. IfSome (D.remaining reader.old)
-        (λ bytes. IfSome (I.remaining input.old) (λ text.
-        string_bytes output
-        ≡ hyphenated_text (breaks_by kind bytes (map (λ edit. edit.now) edits.now)) mark.now text))) }
+    ensures dictionary { JudgesDictionary kind lang (D.remaining reader.old) result }
+    ensures edits { JudgesEdits kind (texts_now edits.now) result }
+    ensures text { JudgesText (I.remaining input.old) result }
+    ensures output { RunReturns string_bytes result (run_output kind edits.now mark.now)
+        (D.remaining reader.old) (I.remaining input.old) }
     ensures unwritten { IfErr result IsUnwritten }
     ensures unread { BeforeReading result (input.new ≡ input.old) }
-    ensures kind { IfErr result HoldsNoWant }
+    ensures not_out_of_memory { IfErr result HidesNoOutOfMemory }
 {
     match kind {
-        Kind::Standard => whole_text::<Standard, D, I>(alloc, lang, edits, mark, reader, input),
-        Kind::Extended => whole_text::<Extended, D, I>(alloc, lang, edits, mark, reader, input),
+        Kind::Standard => run_text::<Standard, D, I>(alloc, lang, edits, mark, reader, input),
+        Kind::Extended => run_text::<Extended, D, I>(alloc, lang, edits, mark, reader, input),
     }
 }
 
-/// Loads a dictionary of that kind and language, edits its exceptions, and writes the text of the input with the mark
-/// at each break of its words: what stands between word bounds is hyphenated, piece by piece.
+/// Writes the text of an input with the mark at each break of its words, by a dictionary of that kind and language.
 ///
-/// In this order: the dictionary is loaded; the edits are judged and done, from first to last; the whole input is
-/// read, and has to be UTF-8; the result is written. Before it is whole nothing is written.
+/// The steps come in this order. The dictionary is loaded. The edits of its exceptions are judged and done, from first
+/// to last. The input is read to its end, and must be UTF-8. The result is written, once all of it is made. The first
+/// step that fails gives the error; [`RunError`] has one for each. A word is a piece of the text between word bounds.
+///
+/// ```text
+/// let mut dictionary = &b"hyphenation 1 standard\nlanguage en-us\nminima 2 3\ne hyphenation 2 6 7\n"[..];
+/// let mut input = &b"Hyphenation, again.\n"[..];
+/// let lang = Language::english_us();
+/// // Hy-phen-a-tion, ag-ain.
+/// run(alloc, Kind::Standard, lang, &["+again 2"], "-", &mut dictionary, &mut input, &mut rt.stdout())?;
+/// ```
 pub fn run<D: Read, I: Read, O: Write>(
     alloc: Global,
     kind: Kind,
@@ -237,17 +221,15 @@ pub fn run<D: Read, I: Read, O: Write>(
     input: &mut I,
     output: &mut O,
 ) -> Result<(), RunError>
-    ensures dictionary { IfSome (D.remaining dictionary.old) (λ bytes.
-        JudgesDictionary (refusal_of kind) lang bytes result) }
-    ensures edits { JudgesEdits kind (map (λ edit. edit.now) edits.now) result }
-    ensures text { IfSome (I.remaining input.old) (λ text. JudgesText text result) }
-    ensures written { OnOk result (IfSome (D.remaining dictionary.old) (λ bytes. IfSome (I.remaining input.old) (λ text.
-        Appends (O.contents output.old) (O.contents output.new)
-        (hyphenated_text (breaks_by kind bytes (map (λ edit. edit.now) edits.now)) mark.now text)))) }
-    ensures whole { OnOk result ((text : List ℕ) × Appends (O.contents output.old) (O.contents output.new) text) }
+    ensures dictionary { JudgesDictionary kind lang (D.remaining dictionary.old) result }
+    ensures edits { JudgesEdits kind (texts_now edits.now) result }
+    ensures text { JudgesText (I.remaining input.old) result }
+    ensures written { RunWrites result O.contents output.old output.new (run_output kind edits.now mark.now)
+        (D.remaining dictionary.old) (I.remaining input.old) }
+    ensures whole { OnOk result ((text : List ℕ) × AppendsTo O.contents output.old output.new text) }
     ensures untouched { BeforeWriting result (output.new ≡ output.old) }
     ensures unread { BeforeReading result (input.new ≡ input.old) }
-    ensures kind { IfErr result HoldsNoWant }
+    ensures not_out_of_memory { IfErr result HidesNoOutOfMemory }
 {
     let text = text_by(alloc, kind, lang, edits, mark, dictionary, input)?;
     output.write_all(text.as_bytes()).map_err(RunError::Output)

@@ -1,4 +1,4 @@
--- The test of a boundary, and the standard library's word for one.
+-- Tests of a boundary: the one of the definitions and the one of the standard library.
 use Rattle.std.proofs.Common.{◌≡◌, ℕ, ◌≤◌, ◌<◌, get_or, List, arith, IsCharBoundary, true, inl, inr, length, nat_le, nat_lt, slice_index, ◌||◌}
 use Rattle.std.proofs.lemmas.Bool.{and_parts, or_cases, leb-true, ltb-true}
 use Rattle.std.proofs.lemmas.Bool.Decides.{nat_tests}

@@ -1,4 +1,4 @@
--- Codes are short, and text.
+-- Codes have at most 32 bytes, and are UTF-8.
 use Rattle.std.proofs.Common.{◌≡◌, ℕ, ◌-◌, ◌≤◌, ◌<◌, [], ◌∷◌, ◌&&◌, true, false, IsUtf8, nat_le, Bool, List, ◌++◌, length, drop, replicate, IsTrue, arith, leb-true, ◌∙◌, refl}
 use Rattle.std.specs.Prelude.{Result, Ok, Err, IsOk, MatchResult}
 use Rattle.std.specs.List.{list_all, AllByRecursion}

@@ -2,4 +2,4 @@ pub mod LanguageCodes
 pub mod PlacesInOrder
 pub mod Changes
 pub mod Boundaries
-pub mod StandsIn
+pub mod LiesIn

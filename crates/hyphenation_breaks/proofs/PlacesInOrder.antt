@@ -1,4 +1,4 @@
--- What is asked of all listed breaks, and of all entries of a key, asked of one after the other: so a loop asks it.
+-- Tests of all listed breaks and of all entries, as a loop makes them: one after the other.
 use Rattle.std.proofs.Common.{◌≡◌, ℕ, ◌+◌, Bool, true, false, ◌&&◌, nat_le, List, [], ◌∷◌, map, Option, refl, ap, ◌∙◌}
 use Rattle.std.specs.List.{list_all}
 use Rattle.hyphenation_breaks.specs.Break.{Break, Change, ascend_on, is_boundary}

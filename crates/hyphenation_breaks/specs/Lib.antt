@@ -1,4 +1,5 @@
 pub mod Ascii
+pub mod Borrowed
 pub mod Language
 pub mod Break
 pub mod Dictionary

@@ -1,2 +1,2 @@
--- What private functions and proofs are stated by. No contract of a public call cites it, so it is not for signing.
+-- Definitions of private functions and proofs. No contract of a public call cites them, so they need no signature.
 pub mod Language

@@ -1,52 +1,61 @@
-//! What a break of a word is.
+//! Breaks of words.
 
 ghost use Rattle.std.specs.Prelude.{◌≡◌, ◌≤◌, ◌<◌, ◌^◌, ◌&&◌, IsTrue, IsSome, IfSome, ◌↔◌};
 ghost use Rattle.hyphenation_breaks.specs.Break.{left_of, begin_of, end_of, before_of, after_of, is_changed, is_boundary, has_boundary};
-ghost use Rattle.hyphenation_breaks.specs.Invariant.{can_be_said_if_any, lists_within};
+ghost use Rattle.hyphenation_breaks.specs.Invariant.{can_be_written_if_any, lists_within};
 
 /// A break of a word: a place, and a change or none.
 ///
-/// A change puts a substitution for a range of the word around the place, and breaks that: its
-/// first half stands at the end of one segment, its second half at the beginning of the next.
-/// All numbers are of bytes.
+/// A change replaces a range of the word around the place by a substitution, and breaks the substitution. Its first half
+/// ends one segment, and its second half begins the next. All numbers count bytes.
+///
+/// ```text
+/// // `asszonnyal` with a change at place 2: asz-szonnyal
+/// let b = (2, Some(Subregion::new(1, 2, szsz, 2)));
+/// b.place()     // 2
+/// b.range()     // Some((1, 4)): the bytes `ssz`
+/// b.before()    // "sz"
+/// b.after()     // "sz"
+/// ```
 pub trait Break: Drop {
     ghost use Rattle.hyphenation_breaks.specs.Break.{Break};
 
-    /// The place and the change.
+    /// The break as contracts see it.
     ghost meaning: { Self → Break };
 
-    /// The number of bytes of the word before it.
+    /// Returns the place: the number of bytes of the word before the break.
     fn place(&self) -> usize
         ensures { result ≡ (meaning self.now).place };
 
-    /// Where its range begins and ends; both at the place where nothing is changed.
+    /// Returns where the range begins and ends, in bytes of the word; without a change both are the place.
     ///
-    /// None where the range would begin before 0 or end at 2^64 or later, which no word reaches.
+    /// The result is `None` if the range would begin before 0 or end at 2^64 or later, which no word reaches.
     fn range(&self) -> Option<(usize, usize)>
         ensures known { IsSome result
             ↔ ((left_of (meaning self.now).change ≤ (meaning self.now).place) × (end_of (meaning self.now) < 2 ^ 64)) }
         ensures value { IfSome result (λ r. r ≡ (begin_of (meaning self.now), end_of (meaning self.now))) };
 
-    /// Whether it has a change.
+    /// Tests whether the break has a change.
     fn changed(&self) -> bool
         ensures { result ≡ is_changed (meaning self.now) };
 
-    /// The first half of its substitution; empty without a change.
+    /// Returns the first half of the substitution, or the empty text without a change.
     fn before(&self) -> &str
         ensures { result.now ≡ before_of (meaning self.now).change };
 
-    /// The second half of its substitution; empty without a change.
+    /// Returns the second half of the substitution, or the empty text without a change.
     fn after(&self) -> &str
         ensures { result.now ≡ after_of (meaning self.now).change };
 
-    /// What is true of each break, for a proof: a change is broken between characters of its substitution, and a
-    /// dictionary text can say it. The call does nothing.
+    /// Gives proofs the invariant of a break, and does nothing.
+    ///
+    /// A change is broken between characters of its substitution, and can be written in a dictionary text.
     fn invariant(&self)
         ensures boundary { IsTrue (has_boundary (meaning self.now).change) }
-        ensures said { IsTrue (can_be_said_if_any (meaning self.now).change) };
+        ensures writable { IsTrue (can_be_written_if_any (meaning self.now).change) };
 }
 
-/// A place alone changes nothing.
+/// A place alone is a plain break: it changes nothing.
 impl Break for usize {
     ghost use Rattle.hyphenation_breaks.specs.Break.{plain_break};
 
@@ -75,7 +84,7 @@ impl Break for usize {
     fn invariant(&self) {}
 }
 
-/// Whether a place and both ends of a range stand in a text between its characters.
+// Tests whether a place and both ends of a range are character boundaries of a text.
 fn are_boundaries(text: &str, place: usize, range: (usize, usize)) -> bool
     ensures { result
         ≡ (is_boundary text.now place && is_boundary text.now range.0 && is_boundary text.now range.1) }
@@ -83,8 +92,8 @@ fn are_boundaries(text: &str, place: usize, range: (usize, usize)) -> bool
     text.is_char_boundary(place) && text.is_char_boundary(range.0) && text.is_char_boundary(range.1)
 }
 
-/// Whether a break's place, and the ends of its range, stand in a text between its characters.
-pub fn stands_in<B: Break>(text: &str, b: &B) -> bool
+/// Tests whether a break lies in a text: its place and both ends of its range are character boundaries of the text.
+pub fn lies_in<B: Break>(text: &str, b: &B) -> bool
     ensures { IsTrue result
         ↔ IsTrue (is_boundary text.now (B.meaning b.now).place && lists_within text.now (B.meaning b.now).place
         (B.meaning b.now).change) }

@@ -1,46 +1,48 @@
-//! What a dictionary holds of values and of listed breaks, by its kind: alone, or with changes.
+//! Values and listed breaks as a dictionary of either kind holds them: alone, or with changes.
 
 ghost use Rattle.std.specs.Prelude.{◌≡◌, option_copied};
 ghost use Rattle.hyphenation_breaks.specs.Break.{Break};
+ghost use Rattle.hyphenation_breaks.specs.Invariant.{has_letter};
 
 use crate::breaks::Break;
 use crate::extended::Subregion;
 
-/// A value at a place of a key, and what it carries.
+/// A value at a place of a key, with its payload.
 #[derive(Debug, Drop)]
 pub struct Entry<C> {
-    /// The number of bytes of the key before it. No key of a dictionary has 2^32 bytes.
+    /// The number of bytes of the key before the value. No key of a dictionary has 2^32 bytes.
     pub place: u32,
-    /// Odd where it allows a break; never 0 in a dictionary.
+    /// An odd value allows a break, and an even one forbids it. No dictionary holds the value 0.
     pub value: u8,
-    /// Nothing in a standard dictionary, a change or none in an extended one.
+    /// The payload: nothing in a standard dictionary, a change or none in an extended one.
     pub change: C,
 }
 
-/// What the values of a dictionary carry: nothing, or a change or none.
+/// The payload of a value: nothing in a standard dictionary, a change or none in an extended one.
 pub trait Payload: Drop {
     ghost use Rattle.std.specs.Prelude.{◌≡◌, ◌⊎◌, Option, None, option_copied};
     ghost use Rattle.hyphenation_breaks.specs.Break.{Change};
 
-    /// The change, where there is one.
+    /// The change that a payload carries, if any.
     ghost change_of: { Self → Option Change };
 
-    /// What is carried of a change or none.
+    /// The payload that is made of a change or none.
     ghost payload_of: { Option Change → Self };
 
-    /// Carries a change or none.
+    /// Returns the payload made of a change or none. A payload of a standard dictionary drops the change.
     fn from_change(change: Option<Subregion>) -> Self
         ensures { result ≡ payload_of change };
 
-    /// The change that is carried, where there is one.
+    /// Returns the change that is carried, if any.
     fn as_change(&self) -> Option<&Subregion>
         ensures { option_copied result ≡ change_of self.now };
 
-    /// That very change is carried, or none.
-    ghost kept: { (c : Option Change) → (change_of (payload_of c) ≡ c) ⊎ (change_of (payload_of c) ≡ None) };
+    /// A payload made of a change carries that change, or none.
+    ghost carried_or_none: { (c : Option Change)
+        → (change_of (payload_of c) ≡ c) ⊎ (change_of (payload_of c) ≡ None) };
 }
 
-/// Nothing is carried.
+/// The payload of a standard dictionary carries nothing.
 impl Payload for () {
     ghost use Rattle.std.specs.Prelude.{None, refl};
     ghost use Rattle.std.proofs.Common.{inr};
@@ -49,7 +51,7 @@ impl Payload for () {
 
     ghost payload_of = { λ _. tt };
 
-    ghost kept = { λ _. inr refl };
+    ghost carried_or_none = { λ _. inr refl };
 
     fn from_change(_change: Option<Subregion>) {}
 
@@ -58,7 +60,7 @@ impl Payload for () {
     }
 }
 
-/// The change is carried as it is.
+/// The payload of an extended dictionary is the change itself.
 impl Payload for Option<Subregion> {
     ghost use Rattle.std.specs.Prelude.{refl};
     ghost use Rattle.std.proofs.Common.{inl};
@@ -67,7 +69,7 @@ impl Payload for Option<Subregion> {
 
     ghost payload_of = { λ change. change };
 
-    ghost kept = { λ _. inl refl };
+    ghost carried_or_none = { λ _. inl refl };
 
     fn from_change(change: Option<Subregion>) -> Option<Subregion> {
         change
@@ -78,35 +80,35 @@ impl Payload for Option<Subregion> {
     }
 }
 
-/// What the exceptions of a dictionary list: a place, alone or with a change or none.
+/// A listed break as a dictionary holds it: its place in a standard one, place and change in an extended one.
 pub trait Listing: Break {
     ghost use Rattle.std.specs.Prelude.{◌≡◌, ◌⊎◌, option_copied};
     ghost use Rattle.hyphenation_breaks.specs.Break.{Break, break_at, plain_break};
 
-    /// What is listed of a break.
+    /// The listing that is made of a break.
     ghost listing_of: { Break → Self };
 
-    /// Lists a place with a change or none.
+    /// Returns the listing of a place, in bytes, with a change or none. A standard dictionary drops the change.
     fn from_place(place: usize, change: Option<Subregion>) -> Self
         ensures { result ≡ listing_of (break_at place change) };
 
-    /// The change that is listed, where there is one.
+    /// Returns the change that is listed, if any.
     fn change(&self) -> Option<&Subregion>
         ensures { option_copied result ≡ (Self.meaning self.now).change };
 
-    /// That very break is listed, or its place alone.
-    ghost kept: { (b : Break) → (Self.meaning (listing_of b) ≡ b) ⊎ (Self.meaning (listing_of b)
-        ≡ plain_break b.place) };
+    /// A listing made of a break means that break, or its place alone.
+    ghost listed_or_plain: { (b : Break)
+        → (Self.meaning (listing_of b) ≡ b) ⊎ (Self.meaning (listing_of b) ≡ plain_break b.place) };
 }
 
-/// The place alone is listed.
+/// The listing of a standard dictionary is the place alone.
 impl Listing for usize {
     ghost use Rattle.std.specs.Prelude.{refl};
     ghost use Rattle.std.proofs.Common.{inr};
 
     ghost listing_of = { λ b. b.place };
 
-    ghost kept = { λ _. inr refl };
+    ghost listed_or_plain = { λ _. inr refl };
 
     fn from_place(place: usize, _change: Option<Subregion>) -> usize {
         place
@@ -117,14 +119,14 @@ impl Listing for usize {
     }
 }
 
-/// Both are listed as they are.
+/// The listing of an extended dictionary is the place with the change or none.
 impl Listing for (usize, Option<Subregion>) {
     ghost use Rattle.std.specs.Prelude.{refl};
     ghost use Rattle.std.proofs.Common.{inl};
 
     ghost listing_of = { λ b. (b.place, b.change) };
 
-    ghost kept = { λ _. inl refl };
+    ghost listed_or_plain = { λ _. inl refl };
 
     fn from_place(place: usize, change: Option<Subregion>) -> (usize, Option<Subregion>) {
         (place, change)
@@ -133,4 +135,21 @@ impl Listing for (usize, Option<Subregion>) {
     fn change(&self) -> Option<&Subregion> {
         self.1.as_ref()
     }
+}
+
+/// Tests whether a key has a letter: a byte other than a dot.
+///
+/// ```text
+/// has_letter(b".fi")    // true
+/// has_letter(b"..")     // false, and so is the empty key
+/// ```
+pub fn has_letter(key: &[u8]) -> bool
+    ensures { result ≡ has_letter key.now }
+{
+    for b in key {
+        if *b != b'.' {
+            return true;
+        }
+    }
+    false
 }

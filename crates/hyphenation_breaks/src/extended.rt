@@ -1,30 +1,30 @@
-//! Extended hyphenation: breaks that change the letters around them.
+//! Changes, for extended hyphenation: breaks that change the letters around them.
 //!
-//! The Hungarian `asszonnyal` is written `asz-szony-nyal` where it is broken. So a value of a pattern,
-//! and a break of an exception, may carry a [`Subregion`].
+//! The Hungarian `asszonnyal` becomes `asz-szony-nyal` when it is broken. So a value of a pattern, or a break of an
+//! exception, may carry a [`Subregion`].
 
 ghost use Rattle.std.specs.Prelude.{◌≡◌, ◌+◌, ◌-◌, ◌<◌, ◌≤◌, ◌^◌, ◌↔◌, IsTrue, IsSome, IfSome, take, drop};
 ghost use Rattle.std.specs.String.{string_bytes};
 ghost use Rattle.hyphenation_breaks.specs.Break.{is_boundary};
-ghost use Rattle.hyphenation_breaks.specs.Invariant.{can_be_said};
+ghost use Rattle.hyphenation_breaks.specs.Invariant.{can_be_written};
 
 use crate::breaks::Break;
 use std::hash::{Hash, Hasher};
 use std::marker::Model;
 
-/// A change of a word around a break: from `left` bytes before the break to `right` bytes after it
-/// stands the substitution, broken at its breakpoint.
+/// A change of a word around a break: a substitution replaces a range, and is broken at its breakpoint.
 ///
-/// To contracts it is a change. The breakpoint is a character boundary of the substitution.
+/// The range goes from `left` bytes before the break to `right` bytes after it. The breakpoint is a character boundary
+/// of the substitution.
 #[derive(Debug, Drop)]
 pub struct Subregion {
-    /// How many bytes before the break its range begins.
+    /// The number of bytes from the beginning of the range to the break.
     pub left: usize,
-    /// How many bytes after the break its range ends.
+    /// The number of bytes from the break to the end of the range.
     pub right: usize,
-    /// What stands in place of the range.
+    /// The text that replaces the range.
     pub substitution: String,
-    /// The number of bytes of the substitution before its own break.
+    /// The number of bytes of the substitution in its first half.
     pub breakpoint: usize,
 }
 
@@ -47,8 +47,15 @@ impl Model for Subregion {
 }
 
 impl Subregion {
-    /// A change of these parts. The caller owes that the breakpoint is a character boundary of the
-    /// substitution.
+    /// Returns the change of these parts; all numbers count bytes.
+    ///
+    /// The breakpoint must be a character boundary of the substitution.
+    ///
+    /// ```text
+    /// // `asszonnyal`, broken before its third byte: asz-szonnyal
+    /// let change = Subregion::new(1, 2, szsz, 2);
+    /// change.range_at(2)    // Some((1, 4))
+    /// ```
     pub fn new(left: usize, right: usize, substitution: String, breakpoint: usize) -> Subregion
         requires { IsTrue (is_boundary (string_bytes substitution) breakpoint) }
         ensures { result
@@ -62,7 +69,9 @@ impl Subregion {
         }
     }
 
-    /// The range that it takes at a place; `None` where it would begin before 0 or end at 2^64 or later.
+    /// Returns where the range at a place begins and ends, in bytes.
+    ///
+    /// The result is `None` if the range would begin before 0 or end at 2^64 or later.
     pub fn range_at(&self, place: usize) -> Option<(usize, usize)>
         ensures known { IsSome result ↔ ((self.now.left ≤ place) × (place + self.now.right < 2 ^ 64)) }
         ensures value { IfSome result (λ range. range ≡ (place - self.now.left, place + self.now.right)) }
@@ -73,17 +82,18 @@ impl Subregion {
         ))
     }
 
-    /// What is true of each change, for a proof: it is broken between characters of its substitution, and a dictionary
-    /// text can say it. The call does nothing.
+    /// Gives proofs the invariant of a change, and does nothing.
+    ///
+    /// A change is broken between characters of its substitution, and can be written in a dictionary text.
     pub fn invariant(&self)
         ensures boundary { IsTrue (is_boundary self.now.substitution self.now.breakpoint) }
-        ensures said { IsTrue (can_be_said self.now) }
+        ensures writable { IsTrue (can_be_written self.now) }
     {
-        // The look at the fields opens what the type holds.
+        // Reading the fields gives the proof the invariant of the type.
         let (_left, _right, _breakpoint) = (self.left, self.right, self.breakpoint);
     }
 
-    /// The two halves of its substitution.
+    // Returns the two halves of the substitution.
     fn halves(&self) -> (&str, &str)
         ensures before { result.0.now ≡ take self.now.breakpoint self.now.substitution }
         ensures after { result.1.now ≡ drop self.now.breakpoint self.now.substitution }
@@ -92,7 +102,7 @@ impl Subregion {
     }
 }
 
-/// A place with a change that is lent, or with none.
+/// A place with a borrowed change, or with none, is a break.
 impl<'a> Break for (usize, Option<&'a Subregion>) {
     ghost use Rattle.std.specs.Prelude.{option_copied};
     ghost use Rattle.hyphenation_breaks.specs.Break.{break_at};
@@ -136,7 +146,7 @@ impl<'a> Break for (usize, Option<&'a Subregion>) {
     }
 }
 
-/// A place with a change of its own, or with none.
+/// A place with an owned change, or with none, is a break.
 impl Break for (usize, Option<Subregion>) {
     ghost use Rattle.hyphenation_breaks.specs.Break.{break_at};
 

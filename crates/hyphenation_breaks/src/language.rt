@@ -1,4 +1,4 @@
-//! A language is a checked code.
+//! Languages, known by their codes.
 //!
 //! There is no table of languages: each text of 1 to 32 bytes of `a-z`, `0-9` and `-` is a code.
 
@@ -9,12 +9,12 @@ ghost use Rattle.std.specs.List.{list_all};
 use std::fmt;
 use std::marker::Model;
 
-/// A language, by its code: 1 to 32 bytes of `a-z`, `0-9` and `-`.
+/// A language, known by its code: 1 to 32 bytes of `a-z`, `0-9` and `-`.
 ///
-/// Displayed it is its code.
+/// `Display` writes the code.
 #[derive(Clone, Copy)]
 pub struct Language {
-    /// The code, and zeros after it.
+    // The code, with zeros after it.
     bytes: [u8; 32],
     len: usize,
 }
@@ -37,21 +37,21 @@ impl Model for Language {
     } };
 }
 
-/// Whether a byte may stand in a code.
+// Tests whether a byte may occur in a code.
 fn is_code_byte(byte: u8) -> bool
     ensures { result ≡ is_code_byte byte }
 {
     matches!(byte, b'a'..=b'z' | b'0'..=b'9' | b'-')
 }
 
-/// Whether all bytes may.
+// Tests whether each byte of a text may occur in a code.
 fn are_code_bytes(text: &[u8]) -> bool
     ensures { result ≡ list_all is_code_byte text.now }
 {
     text.iter().all(|b| is_code_byte(*b))
 }
 
-/// Whether a text is a code: 1 to 32 such bytes.
+// Tests whether a text is a code.
 fn is_code(text: &[u8]) -> bool
     ensures { result ≡ is_code text.now }
 {
@@ -59,9 +59,14 @@ fn is_code(text: &[u8]) -> bool
 }
 
 impl Language {
-    /// The language of this code; none where the text is no code.
+    /// Returns the language of a code, or `None` if the text is not a code.
+    ///
+    /// ```text
+    /// Language::from_code("en-gb")    // Some(en-gb)
+    /// Language::from_code("en_GB")    // None: a code has no capitals and no underscore
+    /// ```
     pub fn from_code(code: &str) -> Option<Language>
-        ensures some { IsSome result ↔ IsCode code.now }
+        ensures if_code { IsSome result ↔ IsCode code.now }
         ensures code { IfSome result (λ language. language ≡ code.now) }
     {
         let text = code.as_bytes();
@@ -74,36 +79,36 @@ impl Language {
         Some(Language { bytes, len })
     }
 
-    /// American English, `en-us`.
+    /// Returns American English, `en-us`.
     pub fn english_us() -> Language
         ensures { result ≡ codes "en-us" }
     {
         Language::from_code("en-us").unwrap()
     }
 
-    /// Hungarian, `hu`.
+    /// Returns Hungarian, `hu`.
     pub fn hungarian() -> Language
         ensures { result ≡ codes "hu" }
     {
         Language::from_code("hu").unwrap()
     }
 
-    /// Turkish, `tr`.
+    /// Returns Turkish, `tr`.
     pub fn turkish() -> Language
         ensures { result ≡ codes "tr" }
     {
         Language::from_code("tr").unwrap()
     }
 
-    /// What is true of each language, for a proof. The call does nothing.
+    /// Gives proofs the invariant of a language: its text is a code. The call does nothing.
     pub fn invariant(&self)
         ensures { IsCode self.now }
     {
-        // The look at a field opens what the type holds.
+        // Reading a field gives the proof the invariant of the type.
         let _len = self.len;
     }
 
-    /// The code.
+    /// Returns the code.
     pub fn code(&self) -> &str
         ensures { result.now ≡ self.now }
     {
@@ -112,7 +117,7 @@ impl Language {
     }
 }
 
-/// Two languages are equal where their codes are.
+/// Two languages are equal if their codes are equal.
 impl PartialEq for Language {
     ghost use Rattle.std.specs.Cmp.{partial_equiv_from_equiv};
     ghost use Rattle.std.specs.Cmp.Lexicographic.{nat_list_eq_equiv};
@@ -133,7 +138,7 @@ impl Eq for Language {
     ghost laws = { nat_list_eq_equiv };
 }
 
-/// `Language("en-us")`.
+/// Writes `Language("en-us")` for the code `en-us`.
 impl fmt::Debug for Language {
     fn fmt<W: fmt::Write>(&self, f: &mut fmt::Formatter<W>) -> fmt::Result {
         f.debug_tuple("Language").field(&self.code()).finish()

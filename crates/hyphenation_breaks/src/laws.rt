@@ -1,25 +1,25 @@
-//! What the definitions of breaks, entries and codes mean.
+//! Laws of breaks, entries and codes.
 //!
 //! Each function here does nothing: its contract is a law, which the check proves.
 
 ghost use Rattle.hyphenation_breaks.specs.Laws.{ListedInOrder, EntriesInOrder, BoundaryIsOfChars, CodesAreText};
 
-/// To judge all listed breaks is to judge one after the other.
+/// Judging all listed breaks equals judging them one after the other.
 pub fn listed_in_order<B>()
     ensures { ListedInOrder B }
 {}
 
-/// To judge all entries of a key is to judge one after the other.
+/// Judging all entries of a key equals judging them one after the other.
 pub fn entries_in_order<C>()
     ensures { EntriesInOrder C }
 {}
 
-/// The test of a boundary finds the standard library's boundaries of characters.
+/// The test of a boundary finds exactly the character boundaries of the standard library.
 pub fn boundary_is_of_chars()
     ensures { BoundaryIsOfChars }
 {}
 
-/// The code of a language is text.
+/// The code of a language is UTF-8.
 pub fn codes_are_text()
     ensures { CodesAreText }
 {}

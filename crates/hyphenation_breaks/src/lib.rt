@@ -1,5 +1,7 @@
-//! Languages, and what the breaks of words are: places, changes of the letters around them, and how the kinds of
-//! dictionaries hold both.
+//! Languages, and the breaks of words: places, and changes of the letters around them.
+//!
+//! The module [`breaks`] says what a break is, [`extended`] what a change is. The module [`entry`] says how each kind of
+//! dictionary holds them.
 #![tactic(auto)]
 
 pub mod breaks;

@@ -1,4 +1,4 @@
--- The tests of the entries of a key, one after the other.
+-- Tests of the entries of a key, one after the other.
 use Rattle.std.proofs.Common.{◌≡◌, ◌∙◌, ℕ, ◌+◌, ◌<◌, ◌≤◌, ◌^◌, Bool, true, false, ◌&&◌, nat_le, List, ◌∷◌, Option, length, get_or, drop, drop-cons, add-one, refl, sym, ap, arith}
 use Rattle.std.specs.Prelude.{IsTrue, ◌↔◌}
 use Rattle.std.proofs.lemmas.Bool.Decides.{nat_tests}
@@ -7,13 +7,13 @@ use Rattle.hyphenation_breaks.specs.Invariant.{is_value, stays_within, fits_usiz
 use Rattle.hyphenation_breaks.specs.Laws.{is_entry, entries_from}
 use Rattle.hyphenation_breaks.specs.declared.entry.Entry.{Entry}
 
--- two tests that hold together are one
+-- Two tests that hold together are equal.
 alike : (r t : Bool) → (IsTrue r ↔ IsTrue t) → r ≡ t
 alike true t h = sym (h.0 refl)
 alike false true h = h.1 refl
 alike false false h = refl
 
--- an entry, whose place and value fit
+-- The test of an entry whose place and value are in range.
 told : (r b f s v : Bool) → (IsTrue r ↔ IsTrue (b && (f && s))) → f ≡ true → v ≡ true → r ≡ (b && (v && s))
 told r b f s v h ef ev = alike r (b && (f && s)) h ∙ (λ i. b && ((ef ∙ sym ev) i && s))
 

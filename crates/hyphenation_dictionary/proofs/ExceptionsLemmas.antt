@@ -1,4 +1,4 @@
--- The finite map that a map of words makes.
+-- The finite map that a hash map of words makes.
 use Rattle.std.proofs.Common.{◌≡◌, ℕ, Bool, true, false, cond, List, [], ◌∷◌, map, Option, Some, None, refl, sym, ap, ◌∙◌}
 use Rattle.std.specs.Option.{option_map}
 use Rattle.std.specs.Ordering.{nat_cmp, eq_by_cmp}
@@ -23,7 +23,7 @@ mapped_or_none : {A X : Type 0} (f : A → X) (b : Bool) (o : Option A) → opti
 mapped_or_none f true o = refl
 mapped_or_none f false o = refl
 
--- the test by which a finite map looks a word up is that of the map
+-- The finite map and the hash map compare words alike.
 same_word_test : (q w : List ℕ) → eq_by_cmp (slice_cmp nat_cmp) q w ≡ bytes_eq w q
 same_word_test q w = same_test q w
 
@@ -35,11 +35,11 @@ find-words {B} {Y} {Z} (e ∷ es) q =
     ∙ ap (λ b. cond b (Some e.1.items) (option_map (λ v. v.items) (lookup (λ k. bytes_eq q (string_bytes k)) es))) (sym (texts_ties q (string_bytes e.0)))
     ∙ sym (mapped_either (λ v. v.items) (bytes_eq q (string_bytes e.0)) e.1 (lookup (λ k. bytes_eq q (string_bytes k)) es))
 
--- what a look-up by a word answers
+-- The result of a look-up by a word.
 pub get-exceptions_of : {B Y Z S : Type 0} (m : HashMap (String Y) (Vec B Z) S) (word : List ℕ) → finite.get (exceptions_of m) word ≡ option_map (λ v. v.items) (get_by_text m word)
 get-exceptions_of m word = get-from_entries nat_list_cmp_total (map (λ x. (string_bytes x.0, x.1.items)) m.entries) word ∙ find-words m.entries word
 
--- an insertion into the map is one into the finite map
+-- An insertion into the hash map inserts into the finite map.
 pub exceptions_of-insert : {B Y Z S : Type 0} (old new : HashMap (String Y) (Vec B Z) S) (word : String Y) (listed : Vec B Z) → Updates string_eq old new word (Some listed)
     → exceptions_of new ≡ finite.insert (exceptions_of old) (string_bytes word) listed.items
 exceptions_of-insert {B} {Y} {Z} {S} old new word listed updates =
@@ -52,7 +52,7 @@ exceptions_of-insert {B} {Y} {Z} {S} old new word listed updates =
     ∙ ap (λ b. cond b (Some listed.items) (finite.get (exceptions_of old) q)) (sym (same_word_test q w))
     ∙ sym (get-insert nat_list_cmp_total (exceptions_of old) w listed.items q))
 
--- a removal from the map is one from the finite map
+-- A removal from the hash map removes from the finite map.
 pub exceptions_of-remove : {B Y Z S : Type 0} (old new : HashMap (String Y) (Vec B Z) S) (word : List ℕ) → UpdatesBy string_eq (λ k. bytes_eq word (string_bytes k)) old new None
     → exceptions_of new ≡ finite.remove (exceptions_of old) word
 exceptions_of-remove old new word updates =
@@ -64,10 +64,10 @@ exceptions_of-remove old new word updates =
     ∙ ap (λ b. cond b None (finite.get (exceptions_of old) q)) (sym (same_word_test q word))
     ∙ sym (get-remove nat_list_cmp_total (exceptions_of old) word q))
 
--- the same entries make the same finite map
+-- Equal entries make equal finite maps.
 pub exceptions_of-unchanged : {B Y Z S : Type 0} (old new : HashMap (String Y) (Vec B Z) S) → IsUnchanged old new → exceptions_of new ≡ exceptions_of old
 exceptions_of-unchanged old new same = ap (λ es. finite.from_entries (map (λ x. (string_bytes x.0, x.1.items)) es)) same
 
--- a map of no entry makes the empty one
+-- A hash map without entries makes the empty finite map.
 pub exceptions_of-empty : {B Y Z S : Type 0} (m : HashMap (String Y) (Vec B Z) S) → IsEmpty m → exceptions_of m ≡ finite.empty
 exceptions_of-empty m none = ap (λ es. finite.from_entries (map (λ x. (string_bytes x.0, x.1.items)) es)) none

@@ -1,4 +1,4 @@
--- Edits of the exceptions keep what is always true of a dictionary.
+-- Edits of the exceptions keep the invariant of a dictionary.
 use Rattle.std.proofs.Common.{◌≡◌, ℕ, suc, ◌+◌, ◌<◌, Bool, true, false, ◌&&◌, nat_le, arith, length, get_or, drop, drop-cons, List, Option, refl, sym, ap, ◌∙◌}
 use Rattle.std.specs.Prelude.{IsTrue, ◌↔◌}
 use Rattle.std.proofs.lemmas.Bool.Decides.{nat_tests}
@@ -29,7 +29,7 @@ IsKept-remove change_of break_of contents word kept = record {
   exceptions = removed (IsException break_of) contents.exceptions word kept.exceptions;
 }
 
--- breaks that do not ascend, or do not stand in the word, are not listed
+-- Breaks that do not ascend, or do not lie in the word, may not be listed.
 pub never : (t : Bool) → t ≡ false → (IsTrue false → IsTrue t) × (IsTrue t → IsTrue false)
 never true e = absurd cc
 never false e = (λ h. h, λ h. h)

@@ -1,6 +1,6 @@
 pub mod TextMaps
 pub mod ExceptionsLemmas
-pub mod SpotMarks
+pub mod UsedSlots
 pub mod InvariantLemmas
 pub mod PatternsLemmas
 pub mod EntryTests

@@ -1,4 +1,4 @@
--- What is true of keys and words that a dictionary is made of is true of those that it then has.
+-- A dictionary made of keys and words has the invariant if each key and each word is allowed.
 use Rattle.std.proofs.Common.{◌≡◌, ℕ, suc, zero, arith, Bool, true, false, ◌&&◌, List, [], ◌∷◌, map, fold, Option, Some, None, refl, sym, ap, ◌∙◌}
 use Rattle.std.specs.Prelude.{IsTrue, All}
 use Rattle.std.specs.Ordering.{nat_cmp}
@@ -63,7 +63,7 @@ pub words_hold : {B Y Z : Type 0} (break_of : B → Break) (es : List (String Y 
     → Holds (IsException break_of) (map_of_pairs (map pair_of es))
 words_hold break_of es all = folded (IsException break_of) (map pair_of es) finite.empty (nothing_held (IsException break_of)) (words-are break_of es all)
 
--- one text more, taken off the list of those to come
+-- The map after one more pair of the list.
 pub one_more : {X Y Z : Type 0} (old new : TextMap (List X)) (x : String Y × Vec X Z) (left rest : List (String Y × Vec X Z)) (all : TextMap (List X))
     → new ≡ finite.insert old (string_bytes x.0) x.1.items → left ≡ x ∷ rest → fold with_pair old (map pair_of left) ≡ all → fold with_pair new (map pair_of rest) ≡ all
 one_more {X} {Y} {Z} old new x left rest all added step so_far =

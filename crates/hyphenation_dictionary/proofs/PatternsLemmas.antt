@@ -10,7 +10,7 @@ use Rattle.hyphenation_dictionary.proofs.TextMaps.{same_test}
 use Rattle.hyphenation_trie.specs.Keys.{pairs_of}
 use Rattle.hyphenation_trie.specs.Trie.{entries_at}
 
--- A text that no node has is no key.
+-- A text of no node is not a key.
 no_node : {E : Type 0} (ts : List (List ℕ)) (es : List (Option (List E))) (q : List ℕ) → ((i : ℕ) → i < length ts → get_or ts i [] ≡ q → ⊥) → entries_at ts es q ≡ None
 no_node [] es q other = refl
 no_node (t ∷ ts) [] q other = refl

@@ -1,4 +1,4 @@
--- What is true of each text of a finite map stays true when a text is put in or taken out.
+-- A fact of each text of a finite map stays true after an insertion and a removal.
 use Rattle.std.proofs.Common.{◌≡◌, ℕ, Bool, true, false, cond, nat_eq, List, Some, None, refl, sym, subst, ◌∙◌}
 use Rattle.std.specs.Ordering.{nat_cmp, eq_by_cmp}
 use Rattle.std.specs.Cmp.Lexicographic.{slice_cmp, pointwise, bytes_decides, nat_list_cmp_total, nat_list_eq_equiv, texts_ties}
@@ -6,11 +6,11 @@ use Rattle.std.specs.FinMap as finite
 use Rattle.std.specs.FinMap.{get-insert, get-remove}
 use Rattle.hyphenation_breaks.specs.Dictionary.{TextMap}
 
--- The test by which a finite map of texts looks up is the equality of their bytes.
+-- A finite map of texts compares them byte by byte.
 pub same_test : (a b : List ℕ) → eq_by_cmp (slice_cmp nat_cmp) a b ≡ pointwise nat_eq b a
 same_test a b = sym (texts_ties a b) ∙ nat_list_eq_equiv.symm a b
 
--- Each text of the map, with what is held of it, is so.
+-- The fact holds of each text of the map with its value.
 abbrev pub Holds : {X : Type 0} → (List ℕ → X → Type 0) → TextMap X → Type 0
 Holds {X} P texts = (q : List ℕ) (x : X) → finite.get texts q ≡ Some x → P q x
 

@@ -1,16 +1,16 @@
--- What is true of the finite map that the keys of a trie make.
+-- Laws of the finite map that the keys of a trie make.
 use Rattle.std.specs.Prelude.{◌≡◌, ℕ, nat_eq, if◌then◌else◌, List, Some}
 use Rattle.std.specs.Cmp.Lexicographic.{pointwise}
 use Rattle.std.specs.FinMap as finite
 use Rattle.hyphenation_dictionary.specs.Parts.{patterns_of}
 use Rattle.hyphenation_trie.specs.Trie.{Tree, IsTrie, entries_of_key}
 
--- It has just the keys of the trie, with their entries.
+-- The map of a trie's keys has exactly these keys, with their entries.
 abbrev pub KeysAreLookedUp : Type 0 → Type 0
 KeysAreLookedUp E =
     (t : Tree E) → IsTrie t → (text : List ℕ) → finite.get (patterns_of t) text ≡ entries_of_key t text
 
--- Where a trie differs from an old one by the entries of one key, it has that key more than the old one's map.
+-- If two tries differ by the entries of one key alone, their maps differ by that key alone.
 abbrev pub InsertedKeyIsAdded : Type 0 → Type 0
 InsertedKeyIsAdded E =
     (old new : Tree E) (key : List ℕ) (entries : List E) → IsTrie old → IsTrie new

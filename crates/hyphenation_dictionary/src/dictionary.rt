@@ -1,7 +1,7 @@
-//! Dictionaries: patterns that allow and forbid breaks, and the exceptions to them.
+//! Dictionaries: patterns that allow and forbid breaks, and exceptions.
 //!
-//! A pattern is a key, a text that may occur in words, with values at places of the key. An
-//! exception is a word with the breaks that are listed for it.
+//! A pattern is a key, a text that may occur in words, with values at places of the key. An exception is a word with its
+//! listed breaks.
 
 ghost use Rattle.std.specs.Prelude.{◌≡◌, ◌↔◌, IsTrue, IfOk, OnOk, OnErr, option_copied};
 ghost use Rattle.std.specs.FinMap as finite;
@@ -9,12 +9,10 @@ ghost use Rattle.std.specs.Option.{option_map};
 ghost use Rattle.std.specs.String.{string_bytes};
 ghost use Rattle.hyphenation_breaks.specs.Break.{Break};
 ghost use Rattle.hyphenation_breaks.specs.Dictionary.{Contents};
-ghost use Rattle.hyphenation_dictionary.specs.Parts.{patterns_of};
 ghost use Rattle.hyphenation_breaks.specs.Invariant.{IsDictionary, are_listed};
-ghost use Rattle.hyphenation_dictionary.specs.Parts.{pair_views};
 
 use crate::exceptions::Exceptions;
-use hyphenation_breaks::breaks::{Break, stands_in};
+use hyphenation_breaks::breaks::{Break, lies_in};
 use hyphenation_breaks::entry::{Entry, Payload};
 use hyphenation_breaks::extended::Subregion;
 use hyphenation_breaks::language::Language;
@@ -24,20 +22,20 @@ use std::alloc::{AllocError, Global};
 use std::fmt;
 use std::marker::Model;
 
-/// A dictionary whose values carry a `C`, and whose exceptions list breaks of type `B`.
+/// A dictionary whose values carry a payload `C`, and whose exceptions list breaks of type `B`.
 pub struct Dictionary<C: Payload, B: Break> {
     pub(crate) language: Language,
-    /// The least number of characters of a word before its first break.
+    // The least number of characters of a word before its first break.
     pub(crate) left: u8,
-    /// The least number of characters of a word after its last break.
+    // The least number of characters of a word after its last break.
     pub(crate) right: u8,
     pub(crate) patterns: Automaton<Entry<C>>,
-    /// Words, each with its listed breaks.
+    // Words, each with its listed breaks.
     pub(crate) exceptions: Exceptions<B>,
 }
 
-// It does what the derived one would. As a call it is one step in the proof of a function that holds a dictionary; the
-// derived one is a step for each list that a dictionary has, at each way out.
+// It drops each field, as the derived implementation would. The proof of a function that drops a dictionary has one
+// step for this call. With the derived implementation it has a step for each list of the dictionary.
 impl<C: Payload, B: Break> Drop for Dictionary<C, B> {
     fn drop(self) {
         let Dictionary {
@@ -52,16 +50,16 @@ impl<C: Payload, B: Break> Drop for Dictionary<C, B> {
     }
 }
 
-/// A dictionary of patterns and exceptions that break words and change nothing.
+/// A dictionary whose breaks change no letters.
 pub type Standard = Dictionary<(), usize>;
 
-/// A dictionary of patterns and exceptions whose breaks may change the letters around them.
+/// A dictionary whose breaks may change the letters around them.
 pub type Extended = Dictionary<Option<Subregion>, (usize, Option<Subregion>)>;
 
 impl<C: Payload, B: Break> Model for Dictionary<C, B> {
     ghost use Rattle.hyphenation_breaks.specs.Dictionary.{Contents};
     ghost use Rattle.hyphenation_dictionary.specs.Private.Views.{contents_code};
-    ghost use Rattle.hyphenation_dictionary.specs.Parts.{patterns_of};
+    ghost use Rattle.hyphenation_dictionary.specs.Parts.{contents_of_parts};
     ghost use Rattle.hyphenation_trie.specs.Trie.{EachBeginsKey};
     ghost use Rattle.hyphenation_breaks.specs.Invariant.{IsDictionary};
 
@@ -70,61 +68,68 @@ impl<C: Payload, B: Break> Model for Dictionary<C, B> {
     ghost coded = { contents_code C.code B.code };
 
     ghost view = { λ d.
-        record {
-          language = d.language;
-          left = d.left;
-          right = d.right;
-          patterns = patterns_of d.patterns;
-          exceptions = d.exceptions;
-        } };
+        contents_of_parts d.language d.left d.right d.patterns d.exceptions };
 
     ghost invariant = { λ d.
         EachBeginsKey d.patterns
         × IsDictionary C.change_of B.meaning
-        (record {
-          language = d.language;
-          left = d.left;
-          right = d.right;
-          patterns = patterns_of d.patterns;
-          exceptions = d.exceptions;
-        }) };
+        (contents_of_parts d.language d.left d.right d.patterns d.exceptions) };
 }
 
 impl<C: Payload, B: Break> Dictionary<C, B> {
-    /// The language whose words it breaks.
+    /// Returns the language whose words the dictionary breaks.
+    ///
+    /// ```text
+    /// dictionary.language().code()    // "en-gb"
+    /// ```
     pub fn language(&self) -> Language
         ensures { result ≡ self.now.language }
     {
         self.language
     }
 
-    /// What is true of each dictionary, for a proof. The call does nothing.
+    /// Gives proofs the invariant of a dictionary, and does nothing.
     pub fn invariant(&self)
         ensures { IsDictionary C.change_of B.meaning self.now }
     {
-        // The look at a field opens what the type holds.
+        // Reading a field gives the proof the invariant of the type.
         let _left = self.left;
     }
 
-    /// The least numbers of characters of a word before its first break and after its last one.
+    /// Returns the minima: the least numbers of characters of a word before its first break and after its last one.
+    ///
+    /// ```text
+    /// let (left, right) = dictionary.minima();    // (2, 3) for British English
+    /// ```
     pub fn minima(&self) -> (usize, usize)
         ensures { result ≡ (self.now.left, self.now.right) }
     {
         (usize::from(self.left), usize::from(self.right))
     }
 
-    /// The breaks listed for a word, if it is an exception.
+    /// Returns the breaks listed for a word, or `None` if the word is not an exception.
+    ///
+    /// The look-up compares bytes, so an exception in small letters is found by small letters alone.
+    ///
+    /// ```text
+    /// dictionary.listed("table")    // Some(&[2]) if the exceptions have ta-ble
+    /// ```
     pub fn listed(&self, word: &str) -> Option<&[B]>
         ensures { option_copied result ≡ finite.get self.now.exceptions word.now }
     {
         self.exceptions.get(word)
     }
 
-    /// Whether breaks may be listed for a word.
+    /// Tests whether breaks may be listed for a word.
     ///
-    /// They may if their places ascend strictly, and each place and each end of a changed range is
-    /// in the word, or at its end, on a boundary of characters. Ranges may overlap. No breaks at all
-    /// may always be listed.
+    /// They may be listed if their places ascend strictly, and each place and each end of a range is a character boundary
+    /// of the word. Ranges may overlap. The empty list may be listed for each word.
+    ///
+    /// ```text
+    /// Standard::fits("table", &[2])       // true
+    /// Standard::fits("table", &[3, 2])    // false: the places do not ascend
+    /// Standard::fits("né", &[2])          // false: the place is inside the é
+    /// ```
     pub fn fits(word: &str, listed: &[B]) -> bool
         ensures { IsTrue result ↔ IsTrue (are_listed B.meaning word.now listed.now) }
     {
@@ -134,7 +139,7 @@ impl<C: Payload, B: Break> Dictionary<C, B> {
             if b.place() < least {
                 return false;
             }
-            if !stands_in(word, b) {
+            if !lies_in(word, b) {
                 return false;
             }
             least = b.place() + 1;
@@ -142,32 +147,40 @@ impl<C: Payload, B: Break> Dictionary<C, B> {
         true
     }
 
-    /// Lists breaks for a word, and answers those that were listed for it before.
+    /// Lists breaks for a word, and returns the breaks that were listed for it before, if any.
     ///
-    /// The caller owes that the breaks fit the word, as `fits` tests. Nothing else changes. The
-    /// only error is memory, and then the dictionary is as it was.
+    /// The breaks must fit the word, as [`Dictionary::fits`] tests. No other word changes. The only error is out of memory;
+    /// it leaves the dictionary as it was.
+    ///
+    /// ```text
+    /// dictionary.insert_exception(table, breaks)?    // None if `table` was not an exception
+    /// ```
     pub fn insert_exception(
         &mut self,
         word: String,
         listed: Vec<B>,
     ) -> Result<Option<Vec<B>>, AllocError>
         requires { IsTrue (are_listed B.meaning (string_bytes word) listed.items) }
-        ensures ok { OnOk result (self.new ≡ record self.old
+        ensures listed { OnOk result (self.new ≡ record self.old
             { exceptions = finite.insert self.old.exceptions (string_bytes word) listed.items }) }
-        ensures old { IfOk result (λ old.
+        ensures listed_before { IfOk result (λ old.
             option_map (λ v. v.items) old ≡ finite.get self.old.exceptions (string_bytes word)) }
-        ensures err { OnErr result (self.new ≡ self.old) }
+        ensures unchanged_on_error { OnErr result (self.new ≡ self.old) }
     {
         let old = self.exceptions.insert(word, listed)?;
         Ok(old)
     }
 
-    /// Takes a word out of the exceptions, and answers the breaks that were listed for it.
+    /// Removes a word from the exceptions, and returns the breaks that were listed for it, if any.
     ///
-    /// Nothing else changes.
+    /// No other word changes.
+    ///
+    /// ```text
+    /// dictionary.remove_exception("table")    // Some of the listed breaks; the patterns decide then
+    /// ```
     pub fn remove_exception(&mut self, word: &str) -> Option<Vec<B>>
         ensures removed { self.new ≡ record self.old { exceptions = finite.remove self.old.exceptions word.now } }
-        ensures old { option_map (λ v. v.items) result ≡ finite.get self.old.exceptions word.now }
+        ensures listed_before { option_map (λ v. v.items) result ≡ finite.get self.old.exceptions word.now }
     {
         self.exceptions.remove(word)
     }

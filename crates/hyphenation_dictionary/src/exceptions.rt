@@ -1,7 +1,7 @@
 //! Exceptions: words, each with a list.
 //!
-//! Most words that are looked up are no exceptions. A mark for each of some thousand spots says whether a word that is
-//! listed, or was, falls on it, so that most look-ups end before the word is hashed.
+//! A table of 16,384 flags, indexed by a cheap hash, answers most look-ups of words that are no exceptions. The other
+//! look-ups ask a hash map.
 
 ghost use Rattle.std.specs.Prelude.{◌≡◌, ◌<◌, true, false, ℕ, List, IfOk, OnOk, OnErr, length, option_copied, replicate, slice_index_or};
 ghost use Rattle.std.specs.FinMap as finite;
@@ -10,7 +10,7 @@ ghost use Rattle.std.specs.String.{string_bytes};
 ghost use Rattle.hyphenation_breaks.specs.Dictionary.{TextMap};
 ghost use Rattle.hyphenation_dictionary.specs.Private.Views.{exceptions_of};
 ghost use Rattle.hyphenation_dictionary.specs.Parts.{pair_views};
-ghost use Rattle.hyphenation_dictionary.specs.Private.Spots.{spots, spot, AreMarked};
+ghost use Rattle.hyphenation_dictionary.specs.Private.Slots.{slot_count, slot_of, AreUsed};
 
 use std::alloc::{AllocError, Global};
 use std::collections::HashMap;
@@ -19,8 +19,8 @@ use std::marker::Model;
 /// Words, each with a list.
 #[derive(Drop)]
 pub struct Exceptions<B> {
-    /// For each spot whether a word that falls on it is listed, or was.
-    marks: Vec<bool>,
+    // A flag for each slot. The slots of all listed words are used; other slots may be, too.
+    used: Vec<bool>,
     words: HashMap<String, Vec<B>>,
 }
 
@@ -30,7 +30,7 @@ impl<B> Model for Exceptions<B> {
     ghost use Rattle.std.specs.FinMap as finite;
     ghost use Rattle.hyphenation_breaks.specs.Dictionary.{TextMap};
     ghost use Rattle.hyphenation_dictionary.specs.Private.Views.{exceptions_of};
-    ghost use Rattle.hyphenation_dictionary.specs.Private.Spots.{AreMarked};
+    ghost use Rattle.hyphenation_dictionary.specs.Private.Slots.{AreUsed};
 
     ghost Value = { TextMap (List B) };
 
@@ -38,16 +38,16 @@ impl<B> Model for Exceptions<B> {
 
     ghost view = { λ e. exceptions_of e.words };
 
-    ghost invariant = { λ e. AreMarked e.marks.items (exceptions_of e.words) };
+    ghost invariant = { λ e. AreUsed e.used.items (exceptions_of e.words) };
 }
 
-/// How many spots there are. With a few thousand words nine look-ups in ten of other words meet no mark.
-const SPOTS: usize = 16384;
+// The number of slots. With a few thousand words, nine in ten look-ups of other words end at a slot that is not used.
+const SLOTS: usize = 16384;
 
-/// The spot on which a word falls, by its length and four of its bytes.
-fn spot(word: &[u8]) -> usize
-    ensures value { result ≡ spot word.now }
-    ensures below { result < spots }
+// Returns the slot of a word: a hash of its length and of four of its bytes.
+fn slot_of(word: &[u8]) -> usize
+    ensures value { result ≡ slot_of word.now }
+    ensures below { result < slot_count }
 {
     let count = word.len();
     if count == 0 {
@@ -57,52 +57,52 @@ fn spot(word: &[u8]) -> usize
     let middle = word[count / 2] as usize;
     let quarter = word[count / 4] as usize;
     let last = word[count - 1] as usize;
-    // Each step is one addition to eight times what was there.
-    ((((last * 8 + quarter) * 8 + middle) * 8 + first) * 8 + count % 64) % SPOTS
+    // A sum of powers of 8 needs shifts and additions alone.
+    ((((last * 8 + quarter) * 8 + middle) * 8 + first) * 8 + count % 64) % SLOTS
 }
 
-/// So many spots without a mark.
-fn no_marks(alloc: Global, count: usize) -> Result<Vec<bool>, AllocError>
+// Returns a table of slots that are not used. The only error is out of memory.
+fn unused_slots(alloc: Global, count: usize) -> Result<Vec<bool>, AllocError>
     ensures { IfOk result (λ v. v.items ≡ replicate count false) }
 {
     vec![in alloc; false; count]
 }
 
-/// Marks a spot.
-fn mark(marks: &mut Vec<bool>, at: usize)
-    requires { at < length marks.old.items }
-    ensures len { length marks.new.items ≡ length marks.old.items }
-    ensures here { slice_index_or marks.new.items at false ≡ true }
-    ensures others { (i : ℕ) → slice_index_or marks.old.items i false ≡ true
-        → slice_index_or marks.new.items i false ≡ true }
+// Sets a slot used.
+fn set_used(used: &mut Vec<bool>, at: usize)
+    requires { at < length used.old.items }
+    ensures same_count { length used.new.items ≡ length used.old.items }
+    ensures used { slice_index_or used.new.items at false ≡ true }
+    ensures others_stay { (i : ℕ) → slice_index_or used.old.items i false ≡ true
+        → slice_index_or used.new.items i false ≡ true }
 {
-    marks[at] = true;
+    used[at] = true;
 }
 
 impl<B: Drop> Exceptions<B> {
-    /// No exceptions, with room for so many. The only error is memory.
+    /// Returns an empty set of exceptions with room for `count` words. The only error is out of memory.
     ///
-    /// Room that is not used costs little more than addresses. It saves the copies that growing makes.
+    /// Room that is not used costs little more than addresses, and saves copies when the map grows.
     pub fn with_room(alloc: Global, count: usize) -> Result<Exceptions<B>, AllocError>
         ensures { IfOk result (λ e. e ≡ finite.empty) }
     {
-        let marks = no_marks(alloc, SPOTS)?;
+        let used = unused_slots(alloc, SLOTS)?;
         let words = HashMap::with_capacity(alloc, count)?;
-        Ok(Exceptions { marks, words })
+        Ok(Exceptions { used, words })
     }
 
-    /// The list of a word, if it has one.
+    // Returns the list of a word, if it has one.
     #[inline(always)]
     pub(crate) fn get(&self, word: &str) -> Option<&[B]>
         ensures { option_copied result ≡ finite.get self.now word.now }
     {
-        if !self.marks[spot(word.as_bytes())] {
+        if !self.used[slot_of(word.as_bytes())] {
             return None;
         }
         self.find(word)
     }
 
-    /// The same, whatever the marks say. It is a function of its own, so that words without a mark save no registers.
+    // Returns the list of a word by a look-up in the map. Kept out of line, so that `get` saves no registers for most words.
     #[inline(never)]
     fn find(&self, word: &str) -> Option<&[B]>
         ensures { option_copied result ≡ finite.get self.now word.now }
@@ -110,28 +110,30 @@ impl<B: Drop> Exceptions<B> {
         self.words.get(word).map(Vec::as_slice)
     }
 
-    /// Gives a word a list, and answers the one that it had. Nothing else changes; after an error nothing has.
+    /// Gives a word a list, and returns the list that it had before, if any.
+    ///
+    /// No other word changes. The only error is out of memory; it leaves the exceptions as they were.
     pub fn insert(&mut self, word: String, listed: Vec<B>) -> Result<Option<Vec<B>>, AllocError>
-        ensures ok { OnOk result (self.new ≡ finite.insert self.old (string_bytes word) listed.items) }
-        ensures old { IfOk result (λ old. option_map (λ v. v.items) old ≡ finite.get self.old (string_bytes word)) }
-        ensures err { OnErr result (self.new ≡ self.old) }
+        ensures listed { OnOk result (self.new ≡ finite.insert self.old (string_bytes word) listed.items) }
+        ensures listed_before { IfOk result (λ old. option_map (λ v. v.items) old ≡ finite.get self.old (string_bytes word)) }
+        ensures unchanged_on_error { OnErr result (self.new ≡ self.old) }
     {
-        let at = spot(word.as_bytes());
+        let at = slot_of(word.as_bytes());
         let old = self.words.insert(word, listed)?;
-        mark(&mut self.marks, at);
+        set_used(&mut self.used, at);
         Ok(old)
     }
 
-    /// Takes a word and its list out, and answers the list. Nothing else changes.
+    // Removes a word, and returns the list that it had, if any. No other word changes.
     pub(crate) fn remove(&mut self, word: &str) -> Option<Vec<B>>
         ensures removed { self.new ≡ finite.remove self.old word.now }
-        ensures old { option_map (λ v. v.items) result ≡ finite.get self.old word.now }
+        ensures listed_before { option_map (λ v. v.items) result ≡ finite.get self.old word.now }
     {
-        // The mark stays: another word may fall on the spot.
+        // The slot stays used: another word may have it.
         self.words.remove(word)
     }
 
-    /// The words with their lists, in no order that means anything.
+    // Returns the words with their lists, in no particular order. The only error is out of memory.
     pub(crate) fn pairs(&self, alloc: Global) -> Result<Vec<(&[u8], &[B])>, AllocError>
         ensures { IfOk result (λ words. finite.from_entries (pair_views words.items) ≡ self.now) }
     {

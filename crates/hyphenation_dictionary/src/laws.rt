@@ -1,15 +1,15 @@
-//! What the finite map of a trie's keys means.
+//! Laws of the finite map that the keys of a trie make.
 //!
 //! Each function here does nothing: its contract is a law, which the check proves.
 
 ghost use Rattle.hyphenation_dictionary.specs.Laws.{KeysAreLookedUp, InsertedKeyIsAdded};
 
-/// The map has just the keys of the trie, with their entries.
+/// The map of a trie's keys has exactly these keys, with their entries.
 pub fn keys_are_looked_up<E>()
     ensures { KeysAreLookedUp E }
 {}
 
-/// Where a trie differs from an old one by the entries of one key, its map is the old one's with that key.
+/// If two tries differ by the entries of one key alone, their maps differ by that key alone.
 pub fn inserted_key_is_added<E>()
     ensures { InsertedKeyIsAdded E }
 {}

@@ -1,5 +1,7 @@
-//! Dictionaries: patterns that allow and forbid breaks, and the exceptions to them; and how they are made of their
-//! parts.
+//! Dictionaries: patterns that allow and forbid breaks, exceptions, and how both make a dictionary.
+//!
+//! The module [`dictionary`] has the type, and [`maker`] makes one of keys and words. The modules [`search`] and [`parts`]
+//! serve the crates that search a dictionary, read it or write it.
 #![tactic(auto)]
 
 pub mod dictionary;

@@ -1,50 +1,39 @@
 //! Dictionaries made of keys and words.
 //!
-//! A dictionary mostly comes from its text. Who has patterns and exceptions in another form makes one of them here,
-//! and can then write it as a text.
+//! Most dictionaries are read from a dictionary text. A program that has patterns and exceptions in another form makes a
+//! dictionary of them here, and can then write its text.
 
 ghost use Rattle.std.specs.Prelude.{◌≡◌, ◌&&◌, ◌↔◌, IsTrue, IfOk, map, All};
 ghost use Rattle.std.specs.String.{string_bytes};
 ghost use Rattle.hyphenation_dictionary.specs.Parts.{patterns_of};
 ghost use Rattle.hyphenation_breaks.specs.Break.{is_boundary};
 ghost use Rattle.hyphenation_breaks.specs.Laws.{is_entry};
-ghost use Rattle.hyphenation_breaks.specs.Invariant.{has_letter, are_entries, are_listed};
-ghost use Rattle.hyphenation_dictionary.specs.Maker.{map_of_pairs, pair_of, fits_key};
+ghost use Rattle.hyphenation_breaks.specs.Invariant.{are_entries, are_listed};
+ghost use Rattle.hyphenation_dictionary.specs.Maker.{map_of_pairs, pair_of, contents_of_pairs, fits_key};
 ghost use Rattle.hyphenation_trie.specs.Trie.{EachBeginsKey};
 
 use crate::dictionary::Dictionary;
 use crate::exceptions::Exceptions;
 use crate::parts::dictionary_of;
-use hyphenation_breaks::breaks::stands_in;
-use hyphenation_breaks::entry::{Entry, Listing, Payload};
+use hyphenation_breaks::breaks::lies_in;
+use hyphenation_breaks::entry::{Entry, Listing, Payload, has_letter};
 use hyphenation_breaks::language::Language;
 use hyphenation_breaks::laws::entries_in_order;
 use hyphenation_trie::Trie;
 use std::alloc::{AllocError, Global};
 
-/// Whether a key has a character other than a dot.
-fn has_letter(key: &str) -> bool
-    ensures { result ≡ has_letter key.now }
-{
-    for b in key.as_bytes() {
-        if *b != b'.' {
-            return true;
-        }
-    }
-    false
-}
-
-/// Whether an entry stands on a boundary of a key, with a value above 0 and a change that keeps within it.
+// Tests whether a key may have an entry. The place must be a character boundary, the value not 0, and the change must
+// keep within the key.
 fn is_entry<C: Payload>(key: &str, entry: &Entry<C>) -> bool
     ensures { result ≡ (is_boundary key.now entry.now.place && is_entry C.change_of key.now entry.now) }
 {
     if entry.value == 0 {
         return false;
     }
-    stands_in(key, &(entry.place as usize, entry.change.as_change()))
+    lies_in(key, &(entry.place as usize, entry.change.as_change()))
 }
 
-/// Whether entries ascend on the boundaries of a key, with values above 0 and changes that keep within it.
+// Tests whether a key may have entries: each of them is allowed, and their places ascend strictly.
 fn are_entries<C: Payload>(key: &str, entries: &[Entry<C>]) -> bool
     ensures { result ≡ are_entries C.change_of key.now entries.now }
 {
@@ -63,18 +52,23 @@ fn are_entries<C: Payload>(key: &str, entries: &[Entry<C>]) -> bool
     true
 }
 
-/// Whether a key may have these entries.
+/// Tests whether a key may have entries.
 ///
-/// It may if it has a character other than a dot, if their places ascend strictly, and each place and each end of a
-/// changed range is in the key, or at its end, on a boundary of characters, and if no value is 0. A key may have no
-/// entries; it then bears on nothing.
+/// The key must have a letter, a byte other than a dot. The places of the entries must ascend strictly. Each place and
+/// each end of a range must be a character boundary of the key. No value may be 0. A key may be without entries; it then
+/// bears on nothing.
+///
+/// ```text
+/// fits_key(".fi", &[Entry { place: 3, value: 2, change: () }])    // true
+/// fits_key("...", &[])                                            // false: no letter
+/// ```
 pub fn fits_key<C: Payload>(key: &str, entries: &[Entry<C>]) -> bool
     ensures { IsTrue result ↔ IsTrue (fits_key C.change_of key.now entries.now) }
 {
-    has_letter(key) && are_entries(key, entries)
+    has_letter(key.as_bytes()) && are_entries(key, entries)
 }
 
-/// The trie of these keys.
+// Returns the trie of these keys; the last of equal keys counts. The only error is out of memory.
 fn trie_of<C: Payload>(
     alloc: Global,
     patterns: Vec<(String, Vec<Entry<C>>)>,
@@ -91,7 +85,7 @@ fn trie_of<C: Payload>(
     Ok(trie)
 }
 
-/// The map of these words.
+// Returns the exceptions of these words; the last of equal words counts. The only error is out of memory.
 fn map_of<B: Listing>(
     alloc: Global,
     exceptions: Vec<(String, Vec<B>)>,
@@ -105,12 +99,18 @@ fn map_of<B: Listing>(
     Ok(words)
 }
 
-/// Makes a dictionary of these patterns and exceptions. Where a key or a word stands several times, the last one
-/// counts. `left` and `right` are the least numbers of characters before the first break of a word and after its last
-/// one.
+/// Makes a dictionary of patterns and exceptions. The last of equal keys counts, and the last of equal words.
 ///
-/// The caller owes that each key may have its entries, as `fits_key` tests, and each word its breaks, as
-/// `Dictionary::fits` tests. The only error is memory.
+/// `left` and `right` are the least numbers of characters of a word before its first break and after its last one.
+/// [`fits_key`] must be true of each key with its entries, and [`Dictionary::fits`] of each word with its breaks. The only
+/// error is out of memory.
+///
+/// ```text
+/// // the pattern .fi2 and the exception ta-ble
+/// let patterns = vec![(".fi", vec![Entry { place: 3, value: 2, change: () }])];
+/// let exceptions = vec![("table", vec![2])];
+/// let dictionary: Standard = make(alloc, language, 2, 3, patterns, exceptions)?;
+/// ```
 pub fn make<C: Payload, B: Listing>(
     alloc: Global,
     language: Language,
@@ -121,16 +121,8 @@ pub fn make<C: Payload, B: Listing>(
 ) -> Result<Dictionary<C, B>, AllocError>
     requires keys { All (λ p. IsTrue (fits_key C.change_of (string_bytes p.0) p.1.items)) patterns.items }
     requires words { All (λ e. IsTrue (are_listed B.meaning (string_bytes e.0) e.1.items)) exceptions.items }
-    ensures { IfOk result (λ d.
-        d
-        ≡ record {
-          language = language;
-          left = left;
-          right = right;
-          patterns = map_of_pairs
-              (map pair_of patterns.items);
-          exceptions = map_of_pairs (map pair_of exceptions.items);
-        }) }
+    ensures { IfOk result (λ dictionary. dictionary
+        ≡ contents_of_pairs language left right (map pair_of patterns.items) (map pair_of exceptions.items)) }
 {
     language.invariant();
     let trie = trie_of(alloc, patterns)?.freeze(alloc)?;

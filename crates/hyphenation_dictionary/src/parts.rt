@@ -1,10 +1,11 @@
-//! A dictionary made of its parts, and taken apart again, for the crates of the dictionary text alone. No search calls
-//! this, and no crate exports it to users.
+//! Dictionaries made of their parts and taken apart again, for the crates that read and write dictionary texts.
+//!
+//! No search calls this module, and no crate exports it to users.
 
 ghost use Rattle.std.specs.Prelude.{◌≡◌, IfOk};
 ghost use Rattle.std.specs.FinMap as finite;
 ghost use Rattle.hyphenation_breaks.specs.Invariant.{IsDictionary};
-ghost use Rattle.hyphenation_dictionary.specs.Parts.{patterns_of, pair_views};
+ghost use Rattle.hyphenation_dictionary.specs.Parts.{contents_of_parts, pair_views};
 ghost use Rattle.hyphenation_trie.specs.Keys.{key_views};
 ghost use Rattle.hyphenation_trie.specs.Trie.{EachBeginsKey};
 
@@ -17,10 +18,9 @@ use hyphenation_trie::Automaton;
 use hyphenation_trie::parts::keys_of;
 use std::alloc::{AllocError, Global};
 
-/// A dictionary of these parts; `left` and `right` are the minima, in characters.
+/// Returns the dictionary of these parts; `left` and `right` are the minima, in characters.
 ///
-/// The caller owes that what is always true of a dictionary is true of the parts, and that each node of the
-/// automaton but the root begins a key.
+/// The parts must meet the invariant of a dictionary. Each node of the automaton but the root must begin a key.
 pub fn dictionary_of<C: Payload, B: Break>(
     language: Language,
     left: u8,
@@ -29,24 +29,9 @@ pub fn dictionary_of<C: Payload, B: Break>(
     exceptions: Exceptions<B>,
 ) -> Dictionary<C, B>
     requires begins { EachBeginsKey patterns }
-    requires kept { IsDictionary C.change_of B.meaning
-        (record {
-          language = language;
-          left = left;
-          right = right;
-          patterns = patterns_of patterns;
-          exceptions =
-              exceptions;
-        }) }
-    ensures { result
-        ≡ record {
-          language = language;
-          left = left;
-          right = right;
-          patterns = patterns_of patterns;
-          exceptions =
-              exceptions;
-        } }
+    requires invariant { IsDictionary C.change_of B.meaning
+        (contents_of_parts language left right patterns exceptions) }
+    ensures { result ≡ contents_of_parts language left right patterns exceptions }
 {
     Dictionary {
         language,
@@ -57,8 +42,9 @@ pub fn dictionary_of<C: Payload, B: Break>(
     }
 }
 
-/// The keys of a dictionary with their entries, in no order that means anything. Of a key that stands twice the first
-/// counts. The only error is memory.
+/// Returns the keys of a dictionary with their entries, in no particular order; the first of equal keys counts.
+///
+/// The only error is out of memory.
 pub fn keys<C: Payload, B: Break>(
     dictionary: &Dictionary<C, B>,
     alloc: Global,
@@ -68,8 +54,10 @@ pub fn keys<C: Payload, B: Break>(
     keys_of(&dictionary.patterns, alloc)
 }
 
-/// The exceptions of a dictionary with their listed breaks, in no order that means anything. Of a word that stands twice
-/// the first counts. The only error is memory.
+/// Returns the exceptions of a dictionary with their listed breaks, in no particular order; the first of equal words
+/// counts.
+///
+/// The only error is out of memory.
 pub fn words<C: Payload, B: Break>(
     dictionary: &Dictionary<C, B>,
     alloc: Global,

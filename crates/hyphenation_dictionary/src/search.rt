@@ -1,4 +1,4 @@
-//! The patterns of a dictionary, as a search asks for them.
+//! The patterns of a dictionary, for the crates that score words.
 
 ghost use Rattle.std.specs.Prelude.{◌≡◌, List, ℕ};
 ghost use Rattle.hyphenation_breaks.specs.Dictionary.{entries_of_keys};
@@ -9,7 +9,7 @@ use hyphenation_breaks::breaks::Break;
 use hyphenation_breaks::entry::{Entry, Payload};
 use hyphenation_trie::Automaton;
 
-/// The keys of a dictionary with their entries. Each node but the root begins a key.
+/// Returns the keys of a dictionary with their entries, ready to be found in words. Each node but the root begins a key.
 pub fn automaton_of<C: Payload, B: Break>(dictionary: &Dictionary<C, B>) -> &Automaton<Entry<C>>
     ensures known { (text : List ℕ) → entries_of_keys dictionary.now text ≡ entries_of_key result.now text }
     ensures begins { EachBeginsKey result.now }

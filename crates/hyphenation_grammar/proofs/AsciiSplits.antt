@@ -1,4 +1,4 @@
--- UTF-8 parted at ASCII bytes: by escapes, values and spaces.
+-- UTF-8 split at ASCII bytes: by escapes, values and spaces.
 use Rattle.std.proofs.Common.{◌≡◌, ℕ, suc, zero, ◌+◌, ◌-◌, ◌<◌, ◌&&◌, nat_lt, Bool, true, false, cond, eqb, List, [], ◌∷◌, ◌++◌, length, get_or, refl, sym, subst, append_assoc, arith, length-append}
 use Rattle.std.specs.Prelude.{IsUtf8, IsCharBoundary}
 use Rattle.std.specs.List.{slice_split, onto_first, AllByRecursion}

@@ -1,4 +1,4 @@
--- What a later token says, by its parts.
+-- The meaning of a later token, by its parts.
 use Rattle.std.proofs.Common.{◌≡◌, ◌∙◌, ℕ, suc, ◌-◌, ◌<◌, Bool, true, false, cond, ◌&&◌, nat_lt, eqb, List, [], ◌∷◌, length, take, drop, map, get_or, Option, Some, None, refl, sym, ap, arith, Bor}
 use Rattle.std.specs.Prelude.{position, is_some}
 use Rattle.std.specs.List.{list_all}
@@ -7,14 +7,14 @@ use Rattle.std.proofs.lemmas.List.{take-map, length-map}
 use Rattle.hyphenation_breaks.specs.Break.{Change}
 use Rattle.hyphenation_grammar.specs.Lines.{is_number, number, number_of}
 use Rattle.hyphenation_grammar.specs.Tokens.{escaped_bytes_of, text_spelt, parts_of}
-use Rattle.hyphenation_grammar.specs.Parsed.{later_token, token_said, parted_token_said, part_at, sound_change, token_with}
+use Rattle.hyphenation_grammar.specs.Parsed.{later_token, parse_parts, parse_change_token, part_at, sound_change, token_with}
 use Rattle.hyphenation_grammar.specs.declared.tokens.Escapes.TheVariants.{Plain}
 use Rattle.hyphenation_grammar.specs.declared.tokens.LaterToken.{LaterToken}
 use Rattle.hyphenation_grammar.specs.declared.tokens.LaterToken.TheVariants.{NoNumber, Sound}
 use Rattle.hyphenation_grammar.proofs.TokenParts.{unparted}
 
 abbrev told_by : List ℕ → List (List ℕ) → Option LaterToken
-told_by token ps = cond (nat_lt 0 (length token) && list_all (λ written. is_some (escaped_bytes_of Plain written)) (take 4 ps) && list_all (λ written. is_some (text_spelt written)) (drop 4 ps)) (Some (token_said ps)) None
+told_by token ps = cond (nat_lt 0 (length token) && list_all (λ written. is_some (escaped_bytes_of Plain written)) (take 4 ps) && list_all (λ written. is_some (text_spelt written)) (drop 4 ps)) (Some (parse_parts ps)) None
 
 more : (n k : ℕ) → n < k → nat_lt n k ≡ true
 more n k h = grind (arith, nat_tests)
@@ -77,16 +77,16 @@ first_of_all (p ∷ ps) n m d b some is e on =
 
 pub parted : (token : List ℕ) (parts : List (Bor (List ℕ))) (b : Bool) (said : LaterToken) → 0 < length token → now_of parts ≡ parts_of token → 1 < length parts
     → b ≡ (list_all (λ written. is_some (escaped_bytes_of Plain written)) (take 4 (now_of parts)) && list_all (λ written. is_some (text_spelt written)) (drop 4 (now_of parts))) → b ≡ true
-    → said ≡ parted_token_said (now_of parts) → Some said ≡ later_token token
+    → said ≡ parse_change_token (now_of parts) → Some said ≡ later_token token
 parted token parts b said some are two read on is =
     let long : length (now_of parts) ≡ length parts = length-map parts (λ (part : Bor (List ℕ)). part.now) in
     ap (λ (t : LaterToken). Some t) is
     ∙ both_on (nat_lt 0 (length token)) (list_all (λ written. is_some (escaped_bytes_of Plain written)) (take 4 (now_of parts))) (list_all (λ written. is_some (text_spelt written)) (drop 4 (now_of parts)))
-    (nat_lt 1 (length (now_of parts))) (parted_token_said (now_of parts)) (cond (list_all is_number (now_of parts)) (Sound (number (part_at (now_of parts) 0)) None) NoNumber)
+    (nat_lt 1 (length (now_of parts))) (parse_change_token (now_of parts)) (cond (list_all is_number (now_of parts)) (Sound (number (part_at (now_of parts) 0)) None) NoNumber)
     (more 0 (length token) some) (sym read ∙ on) (more 1 (length (now_of parts)) (omega arith))
     ∙ ap (told_by token) are
 
--- what is said where all numbers are told, with the first of them, and where some are none
+-- the token if all its numbers are read, with the first of them, and if some are none
 with_first : (all : Bool) (first place : ℕ) (change : Option Change) → Some place ≡ cond all (Some first) None → token_with place change ≡ cond {A = LaterToken} all (token_with first change) NoNumber
 with_first true first place change e = ap (λ (p : ℕ). token_with p change) cc
 with_first false first place change e = absurd cc
@@ -101,11 +101,11 @@ first_by parts n = cond (list_all is_number (take (n - 1) (now_of parts))) (Some
 as_long : (parts : List (Bor (List ℕ))) → length parts ≡ length (now_of parts)
 as_long parts = sym (length-map parts (λ (part : Bor (List ℕ)). part.now))
 
-pub told_at : (parts : List (Bor (List ℕ))) (place : ℕ) (change : Option Change) → change ≡ sound_change (now_of parts) → Some place ≡ first_by parts (length parts) → token_with place change ≡ parted_token_said (now_of parts)
+pub told_at : (parts : List (Bor (List ℕ))) (place : ℕ) (change : Option Change) → change ≡ sound_change (now_of parts) → Some place ≡ first_by parts (length parts) → token_with place change ≡ parse_change_token (now_of parts)
 told_at parts place change is e =
     ap (λ (c : Option Change). token_with place c) is
     ∙ with_first (list_all is_number (take (length (now_of parts) - 1) (now_of parts))) (number (part_at (now_of parts) 0)) place (sound_change (now_of parts)) (e ∙ ap (first_by parts) (as_long parts))
 
-pub told_nowhere : (parts : List (Bor (List ℕ))) → None ≡ first_by parts (length parts) → NoNumber ≡ parted_token_said (now_of parts)
+pub told_nowhere : (parts : List (Bor (List ℕ))) → None ≡ first_by parts (length parts) → NoNumber ≡ parse_change_token (now_of parts)
 told_nowhere parts e =
     without (list_all is_number (take (length (now_of parts) - 1) (now_of parts))) (number (part_at (now_of parts) 0)) (token_with (number (part_at (now_of parts) 0)) (sound_change (now_of parts))) (e ∙ ap (first_by parts) (as_long parts))

@@ -3,6 +3,7 @@ pub mod LinesSplit
 pub mod LanguageLine
 pub mod LaterTokens
 pub mod Numbers
+pub mod Spellings
 pub mod TokenParts
 pub mod TokenUtf8
 pub mod WordUtf8

@@ -3,12 +3,12 @@ use Rattle.std.proofs.Common.{◌≡◌, ◌∙◌, ◌+◌, ◌<◌, ◌&&◌, 
 use Rattle.std.specs.Option.{option_map}
 use Rattle.std.proofs.lemmas.List.Sums.{fold-append}
 use Rattle.hyphenation_grammar.specs.Parsed.{ReadPattern, with_spelt}
-use Rattle.hyphenation_grammar.specs.Tokens.{bytes_added, concatenation, escaped_bytes_after, pattern_escapes}
+use Rattle.hyphenation_grammar.specs.Tokens.{unescape_byte, concatenation, escaped_bytes_after, pattern_escapes}
 use Rattle.hyphenation_grammar.specs.declared.form.Version.{Version}
 use Rattle.hyphenation_grammar.specs.declared.tokens.Escapes.{Escapes}
 use Rattle.hyphenation_grammar.specs.declared.tokens.EscapedByte.{EscapedByte}
 
-signs_next : (escapes : Escapes) (after : Bool) (b : ℕ) (rest : List ℕ) → escaped_bytes_after escapes after (b ∷ rest) ≡ concatenation (bytes_added escapes after b) (escaped_bytes_after escapes (not after && eqb b 92) rest)
+signs_next : (escapes : Escapes) (after : Bool) (b : ℕ) (rest : List ℕ) → escaped_bytes_after escapes after (b ∷ rest) ≡ concatenation (unescape_byte escapes after b) (escaped_bytes_after escapes (not after && eqb b 92) rest)
 signs_next escapes true b rest = refl
 signs_next escapes false b rest = refl
 
@@ -34,7 +34,7 @@ else_after false new t e h = absurd cc
 
 pub byte_more : (version : Version) (token : List ℕ) (i : ℕ) (after next stands : Bool) (old new : ReadPattern) (whole : Option ReadPattern) → i < length token
     → next ≡ (not after && eqb (get_or token i 0) 92) → stands ≡ true
-    → cond stands (Some new) None ≡ option_map (fold (with_spelt version) old) (bytes_added (pattern_escapes version) after (get_or token i 0))
+    → cond stands (Some new) None ≡ option_map (fold (with_spelt version) old) (unescape_byte (pattern_escapes version) after (get_or token i 0))
     → option_map (fold (with_spelt version) old) (escaped_bytes_after (pattern_escapes version) after (drop i token)) ≡ whole
     → option_map (fold (with_spelt version) new) (escaped_bytes_after (pattern_escapes version) next (drop (i + 1) token)) ≡ whole
 byte_more version token i after next stands old new whole lt is stays read so_far =
@@ -44,6 +44,6 @@ byte_more version token i after next stands old new whole lt is stays read so_fa
     let more : suc i ≡ i + 1 = omega arith in
     let split : drop i token ≡ b ∷ drop (i + 1) token = drop-cons token i 0 lt ∙ ap (λ (k : ℕ). b ∷ drop k token) more in
     ap (λ (t : Bool). option_map (fold f new) (escaped_bytes_after es t (drop (i + 1) token))) is
-    ∙ on f old new (bytes_added es after b) (escaped_bytes_after es (not after && eqb b 92) (drop (i + 1) token)) (stood stands new _ stays read)
+    ∙ on f old new (unescape_byte es after b) (escaped_bytes_after es (not after && eqb b 92) (drop (i + 1) token)) (stood stands new _ stays read)
     ∙ ap (option_map (fold f old)) (sym (signs_next es after b (drop (i + 1) token)))
     ∙ ap (λ (bytes : List ℕ). option_map (fold f old) (escaped_bytes_after es after bytes)) (sym split) ∙ so_far

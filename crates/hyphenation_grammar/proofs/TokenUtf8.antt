@@ -1,4 +1,4 @@
--- What is read of a UTF-8 token is UTF-8, and so is what stands between the values of a pattern.
+-- The bytes that a UTF-8 token spells are UTF-8, and so are the letters between the values of a pattern.
 use Rattle.std.proofs.Common.{◌≡◌, ◌∙◌, ℕ, ◌+◌, ◌-◌, ◌<◌, Bool, true, false, cond, not, ◌&&◌, eqb, List, [], ◌∷◌, ◌++◌, Option, Some, None, refl, sym, subst, append_assoc, arith, length, length-append}
 use Rattle.std.specs.Prelude.{IsUtf8, IsCharBoundary}
 use Rattle.std.specs.List.{AllByRecursion}
@@ -7,7 +7,7 @@ use Rattle.std.proofs.lemmas.List.{append-nil}
 use Rattle.std.proofs.lemmas.Bool.Decides.{nat_tests}
 use Rattle.std.proofs.lemmas.Str.{IsUtf8-append, IsCharBoundary-at_seam}
 use Rattle.hyphenation_grammar.specs.Lines.{is_digit}
-use Rattle.hyphenation_grammar.specs.Tokens.{values_from, escaped_bytes_after, escaped_bytes_of, byte_of_escape, escaped_also, concatenation, bytes_added, bytes_of, element_of, key_of, is_raw, is_raw_digit, braced_value, step_outside, step_inside, elements_from, elements_of, pattern_escapes, pattern_bytes}
+use Rattle.hyphenation_grammar.specs.Tokens.{values_from, escaped_bytes_after, escaped_bytes_of, byte_of_escape, escaped_also, concatenation, unescape_byte, bytes_of, element_of, key_of, is_unescaped, is_unescaped_digit, braced_value, step_outside, step_inside, elements_from, elements_of, pattern_escapes, pattern_bytes}
 use Rattle.hyphenation_grammar.specs.declared.form.Version.{Version}
 use Rattle.hyphenation_grammar.specs.declared.form.Version.TheVariants.{First, Second}
 use Rattle.hyphenation_grammar.specs.declared.tokens.Escapes.{Escapes}
@@ -61,7 +61,7 @@ module _ (es : Escapes) where
       × ((p : List ℕ) (ss : List EscapedByte) → IsUtf8 p → IsUtf8 rest → escaped_bytes_after es true rest ≡ Some ss → AreParted p ss)
 
   keeps_plain : (b : ℕ) (rest p : List ℕ) (ss : List EscapedByte) → Keeps rest → IsUtf8 (p ++ b ∷ rest)
-      → concatenation (bytes_added es false b) (escaped_bytes_after es (eqb b 92) rest) ≡ Some ss → AreParted p ss
+      → concatenation (unescape_byte es false b) (escaped_bytes_after es (eqb b 92) rest) ≡ Some ss → AreParted p ss
   keeps_plain b rest p ss more u e = by (eqb b 92) (eqb b 13) refl refl e
     where
       by : (t1 t2 : Bool) → eqb b 92 ≡ t1 → eqb b 13 ≡ t2 → concatenation (cond t1 (Some []) (cond t2 None (Some (record { byte = b; escaped = false } ∷ [])))) (escaped_bytes_after es t1 rest) ≡ Some ss → AreParted p ss
@@ -130,10 +130,10 @@ abbrev Between : Version → List EscapedByte → Type 0
 Between version ss = ((p : List ℕ) (ms : List PatternElement) → AreParted p ss → elements_from version None ss ≡ Some ms → AreSeams p ms)
     × ((p digits : List ℕ) (ms : List PatternElement) → IsUtf8 p → AreParted [] ss → elements_from version (Some digits) ss ≡ Some ms → AreSeams p ms)
 
-raw_byte : (b : ℕ) (s : EscapedByte) → is_raw b s ≡ true → b < 128 → (s.escaped ≡ false) × (s.byte < 128)
+raw_byte : (b : ℕ) (s : EscapedByte) → is_unescaped b s ≡ true → b < 128 → (s.escaped ≡ false) × (s.byte < 128)
 raw_byte b s e small = let two = both_on (not s.escaped) (eqb s.byte b) e in (not_on s.escaped two.0, same_byte s.byte b two.1 small)
 
-raw_digit : (s : EscapedByte) → is_raw_digit s ≡ true → (s.escaped ≡ false) × (s.byte < 128)
+raw_digit : (s : EscapedByte) → is_unescaped_digit s ≡ true → (s.escaped ≡ false) × (s.byte < 128)
 raw_digit s e = let two = both_on (not s.escaped) (is_digit s.byte) e in (not_on s.escaped two.0, small_digit_byte s.byte two.1)
 
 none_and_then : (f : Option (List ℕ) × List PatternElement → Option (List PatternElement)) (ms : List PatternElement) → option_and_then f None ≡ Some ms → ⊥
@@ -152,9 +152,9 @@ first_marks ss more p s ms h e =
     subst (AreSeams p) r.2 (one_mark p s ss r.0 h (λ left. more.0 (p ++ s.byte ∷ []) r.0 left r.1) (λ left. more.0 [] r.0 left r.1))
 
 outside_marks : (ss : List EscapedByte) → Between Second ss → (p : List ℕ) (s : EscapedByte) (ms : List PatternElement) → AreParted p (s ∷ ss) → option_and_then (rest_of Second ss) (step_outside s) ≡ Some ms → AreSeams p ms
-outside_marks ss more p s ms h e = by (is_raw 123 s) (is_raw 125 s) refl e
+outside_marks ss more p s ms h e = by (is_unescaped 123 s) (is_unescaped 125 s) refl e
   where
-    by : (t u : Bool) → is_raw 123 s ≡ t → option_and_then (rest_of Second ss) (cond t (Some (Some [], [])) (cond u None (Some (None, element_of s ∷ [])))) ≡ Some ms → AreSeams p ms
+    by : (t u : Bool) → is_unescaped 123 s ≡ t → option_and_then (rest_of Second ss) (cond t (Some (Some [], [])) (cond u None (Some (None, element_of s ∷ [])))) ≡ Some ms → AreSeams p ms
     by true u is e' =
         let raw = raw_byte 123 s is (omega arith) in
         let cut = h.1 raw.0 raw.1 in
@@ -166,7 +166,7 @@ outside_marks ss more p s ms h e = by (is_raw 123 s) (is_raw 125 s) refl e
         subst (AreSeams p) r.2 (one_mark p s ss r.0 h (λ left. more.0 (p ++ s.byte ∷ []) r.0 left r.1) (λ left. more.0 [] r.0 left r.1))
 
 inside_marks : (ss : List EscapedByte) → Between Second ss → (p digits : List ℕ) (s : EscapedByte) (ms : List PatternElement) → IsUtf8 p → AreParted [] (s ∷ ss) → option_and_then (rest_of Second ss) (step_inside digits s) ≡ Some ms → AreSeams p ms
-inside_marks ss more p digits s ms u h e = by (is_raw 125 s) (is_raw_digit s) refl refl e
+inside_marks ss more p digits s ms u h e = by (is_unescaped 125 s) (is_unescaped_digit s) refl refl e
   where
     closed : (o : Option ℕ) → AreParted [] ss → option_and_then (rest_of Second ss) (option_map (λ value. (None, Value value ∷ [])) o) ≡ Some ms → AreSeams p ms
     closed None left e' = absurd (none_and_then (rest_of Second ss) ms e')
@@ -174,7 +174,7 @@ inside_marks ss more p digits s ms u h e = by (is_raw 125 s) (is_raw_digit s) re
         let r = mapped_some (Value value ∷ []) (elements_from Second None ss) ms e' in
         subst (AreSeams p) r.2 (u, more.0 [] r.0 left r.1)
 
-    by : (t d : Bool) → is_raw 125 s ≡ t → is_raw_digit s ≡ d
+    by : (t d : Bool) → is_unescaped 125 s ≡ t → is_unescaped_digit s ≡ d
         → option_and_then (rest_of Second ss) (cond t (option_map (λ value. (None, Value value ∷ [])) (braced_value digits)) (cond d (Some (Some (digits ++ s.byte ∷ []), [])) None)) ≡ Some ms → AreSeams p ms
     by true d is isd e' = let raw = raw_byte 125 s is (omega arith) in closed (braced_value digits) (h.1 raw.0 raw.1).1 e'
     by false true is isd e' =

@@ -1,4 +1,4 @@
--- What a UTF-8 token is read as is UTF-8.
+-- The word that a UTF-8 token spells is UTF-8.
 use Rattle.std.proofs.Common.{◌≡◌, ◌∙◌, ℕ, Bool, true, false, cond, ◌&&◌, ◌||◌, eqb, not, List, [], ◌∷◌, Option, Some, None, refl, sym, ap, subst}
 use Rattle.std.specs.List.{list_all}
 use Rattle.std.specs.Prelude.{IsUtf8}
@@ -6,7 +6,7 @@ use Rattle.std.specs.Option.{option_map}
 use Rattle.std.proofs.lemmas.Str.{IsUtf8-nil}
 use Rattle.hyphenation_grammar.specs.Lines.{is_same}
 use Rattle.hyphenation_grammar.specs.Tokens.{text_spelt, escaped_bytes_of, concatenation, bytes_of}
-use Rattle.hyphenation_grammar.specs.Private.Tokens.{is_itself}
+use Rattle.hyphenation_grammar.specs.Private.Tokens.{stands_for_itself}
 use Rattle.hyphenation_grammar.specs.declared.tokens.Escapes.TheVariants.{Plain}
 use Rattle.hyphenation_grammar.specs.declared.tokens.EscapedByte.{EscapedByte}
 use Rattle.hyphenation_grammar.proofs.TokenUtf8.{read-utf8}
@@ -39,19 +39,19 @@ one_more sign (Some ss) text e =
     let is : bytes_of ss ≡ text = cc in
     ap (λ (bytes : List ℕ). Some (sign.byte ∷ bytes)) is
 
-plain_signs : (text : List ℕ) → list_all is_itself text ≡ true → option_map bytes_of (escaped_bytes_of Plain text) ≡ Some text
+plain_signs : (text : List ℕ) → list_all stands_for_itself text ≡ true → option_map bytes_of (escaped_bytes_of Plain text) ≡ Some text
 plain_signs [] e = refl
 plain_signs (b ∷ text) e =
-    let parts = both_on (is_itself b) (list_all is_itself text) e in
+    let parts = both_on (stands_for_itself b) (list_all stands_for_itself text) e in
     let off = no_escape (eqb b 92) (eqb b 13) parts.0 in
     rw (off.0, off.1) (one_more (record { byte = b; escaped = false }) (escaped_bytes_of Plain text) text (plain_signs text parts.1))
 
-not_empty_mark : (text : List ℕ) → list_all is_itself text ≡ true → is_same text (92 ∷ 101 ∷ []) ≡ false
+not_empty_mark : (text : List ℕ) → list_all stands_for_itself text ≡ true → is_same text (92 ∷ 101 ∷ []) ≡ false
 not_empty_mark [] e = refl
 not_empty_mark (b ∷ text) e =
-    let parts = both_on (is_itself b) (list_all is_itself text) e in
+    let parts = both_on (stands_for_itself b) (list_all stands_for_itself text) e in
     let off = no_escape (eqb b 92) (eqb b 13) parts.0 in
     rw off.0 refl
 
-pub text_itself : (text : List ℕ) → list_all is_itself text ≡ true → Some text ≡ text_spelt text
+pub text_itself : (text : List ℕ) → list_all stands_for_itself text ≡ true → Some text ≡ text_spelt text
 text_itself text e = sym (ap (λ (t : Bool). cond t (Some []) (option_map bytes_of (escaped_bytes_of Plain text))) (not_empty_mark text e) ∙ plain_signs text e)

@@ -1,46 +1,45 @@
--- What the `p` and `e` lines spell.
+-- The patterns and exceptions that `p` and `e` lines spell.
 use Rattle.std.specs.Prelude.{ℕ, ◌==◌, Bool, if◌then◌else◌, List, [], ◌∷◌, map, drop, codes, Option, Some, None, unwrap_or, slice_index_or}
-use Rattle.std.specs.List.{slice_split}
 use Rattle.hyphenation_breaks.specs.Break.{Break, Change}
-use Rattle.hyphenation_grammar.specs.Lines.{starts_with}
+use Rattle.hyphenation_grammar.specs.Lines.{between_spaces, starts_with}
 use Rattle.hyphenation_grammar.specs.Tokens.{elements_of, text_spelt, key_of, values_from, has_comma, place_of_token, change_of_token}
 use Rattle.hyphenation_grammar.specs.declared.form.Version.{Version}
 use Rattle.hyphenation_grammar.specs.declared.tokens.PatternElement.{PatternElement}
 use Rattle.hyphenation_breaks.specs.declared.entry.Entry.{Entry}
 
--- The line is a `p` line.
+-- A line is a `p` line.
 abbrev pub is_pattern_line : List ℕ → Bool
 is_pattern_line line = starts_with (codes "p ") line
 
--- The line is an `e` line.
+-- A line is an `e` line.
 abbrev pub is_exception_line : List ℕ → Bool
 is_exception_line line = starts_with (codes "e ") line
 
--- The tokens of such a line: what stands between single spaces after its first two bytes.
+-- The tokens of such a line: the pieces between single spaces after its first two bytes.
 abbrev pub tokens_of : List ℕ → List (List ℕ)
-tokens_of line = slice_split (λ b. b == 32) (drop 2 line)
+tokens_of line = between_spaces (drop 2 line)
 
--- The first of them.
+-- Its first token.
 abbrev pub first_token_of : List ℕ → List ℕ
 first_token_of line = slice_index_or (tokens_of line) 0 []
 
--- All others.
+-- Its later tokens.
 abbrev pub later_tokens_of : List ℕ → List (List ℕ)
 later_tokens_of line = drop 1 (tokens_of line)
 
--- The elements of a pattern; none where they can't be read.
+-- The elements of a pattern; none if they can't be read.
 abbrev pub pattern_elements : Version → List ℕ → List PatternElement
 pattern_elements version line = unwrap_or (elements_of version (first_token_of line)) []
 
--- Its key.
+-- The key of a pattern.
 abbrev pub key_of_line : Version → List ℕ → List ℕ
 key_of_line version line = key_of (pattern_elements version line)
 
--- The word of an exception; empty where it can't be read.
+-- The word of an exception; empty if it can't be read.
 abbrev pub word_of_line : List ℕ → List ℕ
 word_of_line line = unwrap_or (text_spelt (first_token_of line)) []
 
--- Which of the two texts the places of a line count in.
+-- The text in which the places of a line count: the key or the word.
 abbrev pub counted_text : Version → List ℕ → List ℕ
 counted_text version line = if is_pattern_line line then key_of_line version line else word_of_line line
 
@@ -52,7 +51,7 @@ key_spelt version line = if is_pattern_line line then Some (key_of_line version 
 abbrev pub word_spelt : List ℕ → Option (List ℕ)
 word_spelt line = if is_exception_line line then Some (word_of_line line) else None
 
--- What a later token lists: a place, with a change where it has commas.
+-- The break that a later token lists: a place, with a change if the token has commas.
 abbrev pub break_of_token : List ℕ → Break
 break_of_token token = record {
   place = place_of_token token;
@@ -60,26 +59,26 @@ break_of_token token = record {
       else None;
 }
 
--- What the later tokens of a line list.
+-- The breaks that the later tokens of a line list.
 abbrev pub breaks_of_line : List ℕ → List Break
 breaks_of_line line = map break_of_token (later_tokens_of line)
 
--- The change of the first break that is listed at the place; none where it has none, or none is listed there.
+-- The change of the first break that is listed at the place; none if that has none, or no break is listed there.
 abbrev pub change_at : ℕ → List Break → Option Change
 change_at place [] = None
 change_at place (b ∷ rest) = if b.place == place then b.change else change_at place rest
 
--- The entries of a key: its values, each with its change.
+-- The entries of a key: its values, each with the change at its place.
 abbrev pub entries_of_line : Version → List ℕ → List (Entry (Option Change))
 entries_of_line version line =
     map (λ v. record { place = v.0; value = v.1; change = change_at v.0 (breaks_of_line line) })
     (values_from 0 (pattern_elements version line))
 
--- What a `p` line spells: its key with its entries.
+-- The pattern that a `p` line spells: its key with its entries.
 abbrev pub pattern_of_line : Version → List ℕ → Option (List ℕ × List (Entry (Option Change)))
 pattern_of_line version line =
     if is_pattern_line line then Some (key_of_line version line, entries_of_line version line) else None
 
--- What an `e` line spells: its word with its listed breaks.
+-- The exception that an `e` line spells: its word with its listed breaks.
 abbrev pub exception_of_line : List ℕ → Option (List ℕ × List Break)
 exception_of_line line = if is_exception_line line then Some (word_of_line line, breaks_of_line line) else None

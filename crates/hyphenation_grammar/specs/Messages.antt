@@ -1,4 +1,4 @@
--- What a refusal says of its cause.
+-- The messages of causes and of errors.
 use Rattle.std.specs.Prelude.{ℕ, List, ◌++◌, codes, Option, Some, None}
 use Rattle.std.specs.Fmt.{decimal}
 use Rattle.hyphenation_grammar.specs.declared.Cause.{Cause}
@@ -23,7 +23,7 @@ message Change = codes "bad change"
 message RepeatedPattern = codes "repeated pattern"
 message RepeatedException = codes "repeated exception"
 
--- What an error says; a fault of reading or writing says it itself.
+-- The message of an error. An I/O error has its own.
 abbrev pub error_text : Error → Option (List ℕ)
 error_text (Deserialization line cause) = Some (codes "line " ++ decimal line ++ codes ": " ++ message cause)
 error_text (IO error) = None

@@ -1,4 +1,4 @@
--- What private functions and proofs are stated by. No contract of a public call cites it, so it is not for signing.
+-- Definitions for private functions and proofs. No contract of a public call cites them, so nobody need sign them.
 pub mod Examples
 pub mod Lines
 pub mod Tokens

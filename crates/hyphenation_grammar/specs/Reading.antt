@@ -1,4 +1,4 @@
--- What lines spell together, and the dictionary that an accepted text gives.
+-- The items that lines spell together, and the dictionary that an accepted text gives.
 use Rattle.std.specs.Prelude.{ℕ, List, [], map, Option, option_map, unwrap_or, slice_index_or}
 use Rattle.std.specs.List.{filter_map}
 use Rattle.std.specs.FinMap as finite
@@ -12,16 +12,17 @@ use Rattle.hyphenation_grammar.specs.Lines.{lines_of, language_of, minima_of}
 use Rattle.hyphenation_grammar.specs.Items.{pattern_of_line, exception_of_line}
 use Rattle.hyphenation_breaks.specs.declared.entry.Entry.{Entry}
 
--- The texts that lines spell, each with what they say of it.
+-- The keys or words that lines spell, each with its list. If a text comes twice, its first list counts; accepted texts
+-- repeat none.
 abbrev pub map_of_lines : {X : Type 0} → (List ℕ → Option (List ℕ × X)) → List (List ℕ) → TextMap X
 map_of_lines spells lines = finite.from_entries (filter_map spells lines)
 
--- The same said of each text in another way.
+-- A spelling whose list is carried over by `say`.
 abbrev pub spelling_as : {X Y : Type 0} → (X → Y) → (List ℕ → Option (List ℕ × List X))
     → List ℕ → Option (List ℕ × List Y)
 spelling_as say spells line = option_map (λ x. (x.0, map say x.1)) (spells line)
 
--- An entry as a dictionary of one kind holds it.
+-- An entry as a kind of dictionary holds it.
 abbrev pub entry_as : {C : Type 0} → (Option Change → C) → Entry (Option Change) → Entry C
 entry_as payload_of entry = record { place = entry.place; value = entry.value; change = payload_of entry.change }
 
@@ -30,7 +31,7 @@ pub record SpeltItems (C B : Type 0) : Type 0 where
   pub patterns : TextMap (List (Entry C))
   pub exceptions : TextMap (List B)
 
--- What lines spell, where a kind of dictionary holds a change by payload_of and a listed break by listing_of.
+-- The items that lines spell. payload_of and listing_of say what a kind of dictionary holds for a change and a break.
 abbrev pub items_of_lines : {C B : Type 0} → Version → (Option Change → C) → (Break → B) → List (List ℕ)
     → SpeltItems C B
 items_of_lines version payload_of listing_of lines =

@@ -13,7 +13,7 @@ impl Kind {
     ghost use Rattle.std.specs.Prelude.{◌≡◌};
     ghost use Rattle.hyphenation_grammar.specs.Form.{kind_of_name};
 
-    /// The kind of that name: `standard` or `extended`.
+    /// Returns the kind of a name: `standard` or `extended`. `None` for any other name, capitals included.
     pub fn from_name(name: &str) -> Option<Kind>
         ensures { result ≡ kind_of_name name.now }
     {
@@ -27,18 +27,20 @@ impl Kind {
     }
 }
 
-/// The version of a dictionary text, which says how a pattern's values are written.
+/// The version of a dictionary text: how it writes the values of patterns.
 #[derive(Clone, Copy, Debug, PartialEq, Eq)]
 pub enum Version {
     /// Values from 0 to 9, each a digit.
     First,
-    /// Values from 0 to 255: from 10 on they stand in braces, as in `a{11}b`.
+    /// Values from 0 to 255. From 10 on they are written in braces, as in `a{11}b`.
     Second,
 }
 
-/// What decides how a text is read: the kind that is asked for, and the version that its first line names.
+/// The form of a dictionary text: the kind that the reader asks for, and the version that its first line names.
 #[derive(Clone, Copy, Debug, PartialEq, Eq)]
 pub struct Form {
+    /// Whether the text may have changes.
     pub kind: Kind,
+    /// How the text writes values.
     pub version: Version,
 }

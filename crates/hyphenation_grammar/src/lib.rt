@@ -1,8 +1,9 @@
 //! The grammar of dictionary texts: forms, lines, tokens and patterns, and why a text is refused.
 //!
-//! [`form`] has the kinds and versions of texts. The definitions, in `specs/`, say what each line spells, which test it
-//! fails first, and what an accepted text gives. The crate `hyphenation_reader` makes a dictionary of a text, and
-//! `hyphenation_writer` writes the one text of a dictionary that is canonical.
+//! The definitions, in `specs/`, say what each line spells, which test it fails first, and which dictionary an accepted
+//! text gives. [`form`] has kinds and versions, [`lines`] lines and numbers, [`tokens`] and [`pattern`] tokens, and
+//! [`laws`] what is true of all of them. Two crates stand on this one: `hyphenation_reader` makes a dictionary of a
+//! text, and `hyphenation_writer` writes the canonical text of a dictionary.
 #![tactic(auto)]
 
 mod examples;
@@ -18,10 +19,11 @@ use std::alloc::AllocError;
 use std::{fmt, io};
 use thiserror::Error;
 
-/// The first test, in this order, that a line of a dictionary text fails.
+/// The tests of a line of a dictionary text, in the order in which they are tried.
+/// A refusal names the first that fails.
 #[derive(Clone, Copy, Debug, PartialEq, Eq)]
 pub enum Cause {
-    /// Its bytes are not UTF-8.
+    /// The bytes of the line are not UTF-8.
     NotUtf8,
     /// Line 1 is not a head of the kind of dictionary that was asked for.
     Header,
@@ -29,25 +31,25 @@ pub enum Cause {
     Language,
     /// Line 3 gives no two minima from 0 to 255.
     Minima,
-    /// A later line is none of the four sorts.
+    /// A later line is not empty, and begins with none of `#`, `p ` and `e `.
     UnknownLine,
-    /// A token is empty, holds a carriage return as it is, or a backslash that begins no escape there.
+    /// A token is empty, holds an unescaped carriage return, or a backslash that begins no escape there.
     Token,
-    /// A brace opens or closes no value from 10 to 255; in a text of version 2.
+    /// In a text of version 2 a brace opens or closes no value from 10 to 255.
     Value,
-    /// Two values stand in succession in a pattern.
+    /// Two values of a pattern follow one another without a letter between them.
     Pattern,
-    /// A pattern's key has no character other than a dot.
+    /// The key of a pattern has no character other than a dot.
     NoLetters,
-    /// What should be a number is none below 2^64.
+    /// A part that must be a number below 2^64 is none.
     Number,
-    /// The places do not ascend, or one is no character boundary of the key or word.
+    /// The places, in bytes, do not ascend, or one is no character boundary of the key or word.
     Place,
-    /// A change does not belong there, or does not fit.
+    /// A change is not allowed there, lacks a part, or reaches past the key or word.
     Change,
-    /// The key stands in an earlier line.
+    /// An earlier line has the same key.
     RepeatedPattern,
-    /// The word stands in an earlier line.
+    /// An earlier line has the same word.
     RepeatedException,
 }
 
@@ -82,14 +84,14 @@ impl fmt::Display for Cause {
 /// Why a dictionary was not loaded, or not written.
 #[derive(Debug, Drop, Error)]
 pub enum Error {
-    /// The text was read and is refused: the first faulty line, counted from 1, and the first test that it fails.
+    /// The text was read and is refused: the number of its first bad line, from 1, and the first test that this fails.
     Deserialization { line: usize, cause: Cause },
-    /// Opening, reading or writing failed. Loading never makes it of the kind `OutOfMemory`; writing and
+    /// Opening, reading or writing failed. Loading never returns it with the kind `OutOfMemory`; writing and
     /// `From<io::Error>` may.
     IO(io::Error),
-    /// The text is accepted, and is of another language than the one asked for.
+    /// The text is accepted, but its language is not the one asked for.
     LanguageMismatch { expected: Language, found: Language },
-    /// Memory was refused.
+    /// Out of memory.
     Memory(AllocError),
 }
 
@@ -122,5 +124,5 @@ impl From<io::Error> for Error {
     }
 }
 
-/// What loading answers.
+/// The result of loading and writing dictionaries.
 pub type Result<T> = std::result::Result<T, Error>;

@@ -1,19 +1,24 @@
-//! Lines, numbers and the three head lines.
+//! Lines of a dictionary text, the numbers in them, and the three head lines.
 
-ghost use Rattle.std.specs.Prelude.{◌≡◌, ◌==◌, ◌^◌, ◌<◌, ◌∷◌, [], IsUtf8, IfOk, IfSome, IfNone, position, length, map, option_map, nat_lt, true, if◌then◌else◌, Some, None};
-ghost use Rattle.std.specs.List.{list_all, slice_split};
+ghost use Rattle.std.specs.Prelude.{◌≡◌, ◌==◌, ◌^◌, ◌<◌, ◌∷◌, [], IsUtf8, IfOk, IfSome, IfNone, position, length};
+ghost use Rattle.std.specs.Prelude.{map, option_map, nat_lt, true, if◌then◌else◌, Some, None};
+ghost use Rattle.std.specs.List.{list_all};
 ghost use Rattle.std.specs.Str.{is_utf8};
+ghost use Rattle.hyphenation_breaks.specs.Borrowed.{texts_now};
+ghost use Rattle.hyphenation_breaks.specs.Ascii.{line_feed, space};
 ghost use Rattle.hyphenation_grammar.specs.Form.{head_line, head_of, version_by};
-ghost use Rattle.hyphenation_grammar.specs.Lines.{lines_of, tokens_after, strip_prefix, starts_with, is_digit, has_no_leading_zero, number_of, with_digit, language_of, minima_of, small_of, two_small, is_same};
-ghost use Rattle.hyphenation_grammar.specs.Private.Lines.{value_below};
+ghost use Rattle.hyphenation_grammar.specs.Lines.{between_spaces, lines_of, tokens_after, strip_prefix, starts_with, is_digit};
+ghost use Rattle.hyphenation_grammar.specs.Lines.{has_no_leading_zero, number_of, with_digit, language_of, minima_of};
+ghost use Rattle.hyphenation_grammar.specs.Lines.{number_to_255, two_minima, is_same};
+ghost use Rattle.hyphenation_grammar.specs.Private.Lines.{value_in_64_bits};
 
 use crate::form::{Form, Kind, Version};
 use hyphenation_breaks::language::Language;
 use hyphenation_breaks::laws::codes_are_text;
 use std::alloc::{AllocError, Global};
 
-/// The first line of a text, and what stands after the line feed that ends it. The lines of a text are what
-/// stands between line feeds, without an empty one at the end.
+/// Returns the first line of a text, without its line feed, and the rest of the text after it. `None` for an empty
+/// text. A last line may end without a line feed.
 pub fn next_line(text: &[u8]) -> Option<(&[u8], &[u8])>
     ensures none { IfNone result (lines_of text.now ≡ []) }
     ensures first { IfSome result (λ x. lines_of text.now ≡ x.0.now ∷ lines_of x.1.now) }
@@ -23,68 +28,67 @@ pub fn next_line(text: &[u8]) -> Option<(&[u8], &[u8])>
     if text.is_empty() {
         return None;
     }
-    match feed(text) {
+    match find_line_feed(text) {
         None => Some((text, &text[text.len()..])),
         Some(at) => Some((&text[..at], &text[at + 1..])),
     }
 }
 
-/// Where the first line feed stands.
-fn feed(text: &[u8]) -> Option<usize>
-    ensures { result ≡ position (λ b. b == 10) text.now }
+// Returns the place of the first line feed, in bytes.
+fn find_line_feed(text: &[u8]) -> Option<usize>
+    ensures { result ≡ position (λ b. b == line_feed) text.now }
 {
     text.iter().position(|b| *b == b'\n')
 }
 
-/// What stands between spaces.
+// Splits a text at its spaces.
 pub(crate) fn between_spaces(alloc: Global, text: &[u8]) -> Result<Vec<&[u8]>, AllocError>
-    ensures { IfOk result (λ v. map (λ token. token.now) v.items ≡ slice_split (λ b. b == 32) text.now) }
+    ensures { IfOk result (λ v. texts_now v.items ≡ between_spaces text.now) }
 {
     text.split(|b| *b == b' ').collect(alloc)
 }
 
-/// Where the first space stands.
-fn space(text: &[u8]) -> Option<usize>
-    ensures { result ≡ position (λ b. b == 32) text.now }
+// Returns the place of the first space, in bytes.
+fn find_space(text: &[u8]) -> Option<usize>
+    ensures { result ≡ position (λ b. b == space) text.now }
 {
     text.iter().position(|b| *b == b' ')
 }
 
-/// The first token of a text, and what stands after the space that ends it, if there is one.
+/// Returns the first token of a text, and the text after the space that ends it. `None` if there is no space.
 pub fn first_token(text: &[u8]) -> (&[u8], Option<&[u8]>)
-    ensures parts { slice_split (λ b. b == 32) text.now
-        ≡ result.0.now ∷ tokens_after (option_map (λ rest. rest.now) result.1) }
+    ensures parts { between_spaces text.now ≡ result.0.now ∷ tokens_after (option_map (λ rest. rest.now) result.1) }
     ensures utf8 { IsUtf8 text.now → IsUtf8 result.0.now × IfSome result.1 (λ rest. IsUtf8 rest.now) }
     ensures shorter { IfSome result.1 (λ rest. length rest.now < length text.now) }
 {
-    match space(text) {
+    match find_space(text) {
         None => (text, None),
         Some(at) => (&text[..at], Some(&text[at + 1..])),
     }
 }
 
-/// What stands after a beginning, if the text begins so.
+/// Returns the text without that beginning. `None` if it begins otherwise.
 pub fn strip_prefix<'t>(start: &[u8], text: &'t [u8]) -> Option<&'t [u8]>
     ensures { option_map (λ rest. rest.now) result ≡ strip_prefix start.now text.now }
 {
     text.strip_prefix(start)
 }
 
-/// Whether the text begins so.
+/// Whether a text begins with these bytes.
 pub fn starts_with(start: &[u8], text: &[u8]) -> bool
     ensures { result ≡ starts_with start.now text.now }
 {
     strip_prefix(start, text).is_some()
 }
 
-/// Whether a line is line 1 of a text of that form.
+/// Whether a line is the line 1 of that form.
 pub fn is_head(form: Form, line: &[u8]) -> bool
     ensures { result ≡ is_same line.now (head_line form) }
 {
     line == head_of(form.kind, form.version)
 }
 
-/// Line 1 of a text of that kind and version.
+/// Returns line 1 of a text of that kind and version, without its line feed.
 pub fn head_of(kind: Kind, version: Version) -> &'static [u8]
     ensures { result.now ≡ head_of kind version }
 {
@@ -96,7 +100,7 @@ pub fn head_of(kind: Kind, version: Version) -> &'static [u8]
     }
 }
 
-/// The version that a first line names in a text of that kind; the first one where it names none.
+/// Returns the version that a first line names in a text of that kind, or the first version if it names none.
 pub fn version_by(kind: Kind, line: &[u8]) -> Version
     ensures { result ≡ version_by kind line.now }
 {
@@ -107,7 +111,7 @@ pub fn version_by(kind: Kind, line: &[u8]) -> Version
     }
 }
 
-/// The language of line 2.
+/// Returns the language that line 2 names. `None` if it is no language line.
 pub fn language_of(line: &[u8]) -> Option<Language>
     ensures { result ≡ language_of line.now }
 {
@@ -119,7 +123,7 @@ pub fn language_of(line: &[u8]) -> Option<Language>
     }
 }
 
-/// The two minima of line 3.
+/// Returns the two minima of line 3, in characters. `None` if it is no minima line. The only error is memory.
 pub fn minima_of(alloc: Global, line: &[u8]) -> Result<Option<(u8, u8)>, AllocError>
     ensures { IfOk result (λ found. found ≡ minima_of line.now) }
 {
@@ -127,33 +131,33 @@ pub fn minima_of(alloc: Global, line: &[u8]) -> Result<Option<(u8, u8)>, AllocEr
         None => Ok(None),
         Some(rest) => {
             let parts = between_spaces(alloc, rest)?;
-            Ok(two_small(&parts))
+            Ok(two_minima(&parts))
         }
     }
 }
 
-/// Two numbers from 0 to 255, where there are exactly two parts.
-fn two_small(parts: &[&[u8]]) -> Option<(u8, u8)>
-    ensures { result ≡ two_small (map (λ part. part.now) parts.now) }
+// Returns two numbers from 0 to 255, if there are exactly two parts.
+fn two_minima(parts: &[&[u8]]) -> Option<(u8, u8)>
+    ensures { result ≡ two_minima (texts_now parts.now) }
 {
     if parts.len() != 2 {
         return None;
     }
-    match (small(parts[0]), small(parts[1])) {
+    match (number_to_255(parts[0]), number_to_255(parts[1])) {
         (Some(left), Some(right)) => Some((left, right)),
         _ => None,
     }
 }
 
-/// A number from 0 to 255.
-pub(crate) fn small(text: &[u8]) -> Option<u8>
-    ensures { result ≡ small_of text.now }
+// Returns a number from 0 to 255, as minima and values are.
+pub(crate) fn number_to_255(text: &[u8]) -> Option<u8>
+    ensures { result ≡ number_to_255 text.now }
 {
     let value = number_of(text)?;
     u8::try_from(value).ok()
 }
 
-/// The number that a text spells: `0`, or digits without a leading zero, below 2^64; `None` of any other text.
+/// Returns the number that a text spells: `0`, or digits without a leading zero, below 2^64. `None` for any other text.
 pub fn number_of(text: &[u8]) -> Option<usize>
     ensures { result ≡ number_of text.now }
 {
@@ -163,21 +167,21 @@ pub fn number_of(text: &[u8]) -> Option<usize>
     digits_value(text)
 }
 
-/// Whether a byte is a digit of ASCII.
+// Whether a byte is an ASCII digit.
 fn is_digit(byte: u8) -> bool
     ensures { result ≡ is_digit byte }
 {
     byte.is_ascii_digit()
 }
 
-/// Whether all bytes are digits.
+// Whether all bytes are digits.
 fn are_digits(text: &[u8]) -> bool
     ensures { result ≡ list_all is_digit text.now }
 {
     text.iter().all(|byte| is_digit(*byte))
 }
 
-/// Whether a text is not empty, and begins with no zero unless that stands alone.
+// Whether a text is not empty, and begins with no zero unless it is that zero alone.
 fn has_no_leading_zero(text: &[u8]) -> bool
     ensures { result ≡ has_no_leading_zero text.now }
 {
@@ -187,10 +191,10 @@ fn has_no_leading_zero(text: &[u8]) -> bool
     }
 }
 
-/// The number of a row of digits, if it is below 2^64.
+// Returns the number that digits write, if it is below 2^64.
 fn digits_value(text: &[u8]) -> Option<usize>
     requires { list_all is_digit text.now ≡ true }
-    ensures { result ≡ value_below text.now }
+    ensures { result ≡ value_in_64_bits text.now }
 {
     let mut value: usize = 0;
     for byte in text {
@@ -202,7 +206,7 @@ fn digits_value(text: &[u8]) -> Option<usize>
     Some(value)
 }
 
-/// The value with one digit more at its end, where it is below 2^64.
+// Appends a digit to a number, if the result is below 2^64.
 fn with_digit(value: usize, digit: u8) -> Option<usize>
     requires { is_digit digit ≡ true }
     ensures { result ≡ (if nat_lt (with_digit value digit) (2 ^ 64) then Some (with_digit value digit) else None) }
@@ -211,7 +215,7 @@ fn with_digit(value: usize, digit: u8) -> Option<usize>
     value.checked_mul(10)?.checked_add(units)
 }
 
-/// Whether a text is UTF-8.
+/// Whether bytes are UTF-8.
 pub fn is_utf8(text: &[u8]) -> bool
     ensures { result ≡ is_utf8 text.now }
 {

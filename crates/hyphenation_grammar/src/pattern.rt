@@ -1,38 +1,40 @@
 //! A pattern's token, read in one pass.
 
-ghost use Rattle.std.specs.Prelude.{◌≡◌, ◌≢◌, IfOk, None, Some, false, if◌then◌else◌, true};
+ghost use Rattle.std.specs.Prelude.{◌≡◌, ◌≢◌, IfOk, false, true};
+ghost use Rattle.hyphenation_breaks.specs.Ascii.{backslash, carriage_return, close_brace, open_brace};
 ghost use Rattle.hyphenation_grammar.specs.Lines.{is_digit};
-ghost use Rattle.hyphenation_grammar.specs.Parsed.{read_pattern, pattern_view};
+ghost use Rattle.hyphenation_grammar.specs.Parsed.{read_pattern, pattern_view, some_if};
 ghost use Rattle.hyphenation_grammar.specs.Tokens.{braced_value, pattern_escapes};
 
 use crate::form::Version;
-use crate::lines::small;
-use crate::tokens::{EscapedByte, Escapes, PatternElement, added, element_of};
+use crate::lines::number_to_255;
+use crate::tokens::{EscapedByte, Escapes, PatternElement, element_of, unescape_byte};
 use std::alloc::{AllocError, Global};
 
-/// What a pattern's token says, as far as it is read. It may be read into again and again: its lists keep their room.
+/// The contents of a pattern's token, as far as it is read. It can be filled again and again, and keeps its buffers.
 #[derive(Drop)]
 pub struct PatternToken {
-    /// The bytes that the letters spell.
+    /// The letters, as bytes.
     pub key: Vec<u8>,
-    /// The values other than 0, each after its place.
+    /// The values other than 0, each with its place in the key, in bytes.
     pub values: Vec<(usize, u8)>,
     /// Whether the last element is a value.
     pub ends_in_value: bool,
-    /// Whether two values stand in succession.
+    /// Whether two values follow one another.
     pub has_two_values: bool,
-    /// Whether a brace opened or closed no value.
+    /// Whether some brace is known to open or close no value.
     pub has_bad_value: bool,
     /// The digits after a brace that is still open.
     pub digits: Option<Vec<u8>>,
 }
 
 impl PatternToken {
-    ghost use Rattle.std.specs.Prelude.{◌≡◌, None, Some, IfOk, OnOk, fold, if◌then◌else◌, option_map};
-    ghost use Rattle.hyphenation_grammar.specs.Parsed.{is_bad, pattern_view, nothing_read, with_element, with_spelt, with_step};
-    ghost use Rattle.hyphenation_grammar.specs.Tokens.{bytes_added, step_inside, step_outside, pattern_escapes};
+    ghost use Rattle.std.specs.Prelude.{◌≡◌, None, IfOk, OnOk};
+    ghost use Rattle.hyphenation_grammar.specs.Parsed.{is_bad, pattern_view, nothing_read, some_if, with_byte};
+    ghost use Rattle.hyphenation_grammar.specs.Parsed.{with_element, with_spelt, with_step};
+    ghost use Rattle.hyphenation_grammar.specs.Tokens.{step_inside, step_outside};
 
-    /// A token of which nothing is read, without room yet.
+    /// Returns an empty token. It allocates nothing yet.
     pub fn new(alloc: Global) -> Self
         ensures { pattern_view result ≡ nothing_read }
     {
@@ -46,7 +48,7 @@ impl PatternToken {
         }
     }
 
-    /// As if nothing was read.
+    // Empties the token, and keeps its buffers.
     fn clear(&mut self)
         ensures { pattern_view self.new ≡ nothing_read }
     {
@@ -65,7 +67,7 @@ impl PatternToken {
         self.has_bad_value || self.digits.is_some()
     }
 
-    /// One byte more of the token, after a backslash or not. False where it can't stand there.
+    // Reads one byte more; `after` says whether the byte before it began an escape. False if the byte is not allowed.
     #[inline(always)]
     fn read(
         &mut self,
@@ -75,16 +77,14 @@ impl PatternToken {
         byte: u8,
     ) -> Result<bool, AllocError>
         ensures { IfOk result (λ stands.
-            (if stands then Some (pattern_view self.new) else None)
-            ≡ option_map (fold (with_spelt version) (pattern_view self.old))
-            (bytes_added (pattern_escapes version) after byte)) }
+            some_if stands (pattern_view self.new) ≡ with_byte version after (pattern_view self.old) byte) }
     {
         // Most bytes are letters outside braces.
         if !after && is_plain(byte) && self.digits.is_none() {
             self.add_element(PatternElement::Letter(byte))?;
             return Ok(true);
         }
-        match added(pattern_escapes(version), after, byte) {
+        match unescape_byte(pattern_escapes(version), after, byte) {
             None => Ok(false),
             Some(None) => Ok(true),
             Some(Some(spelt)) => {
@@ -94,7 +94,7 @@ impl PatternToken {
         }
     }
 
-    /// One element more.
+    // Appends an element.
     #[inline(always)]
     fn add_element(&mut self, element: PatternElement) -> Result<(), AllocError>
         ensures { OnOk result (pattern_view self.new ≡ with_element (pattern_view self.old) element) }
@@ -116,7 +116,7 @@ impl PatternToken {
         Ok(())
     }
 
-    /// One byte more, with its escape read.
+    // Appends a byte whose escape is read.
     #[inline(always)]
     fn add(&mut self, alloc: Global, version: Version, spelt: EscapedByte) -> Result<(), AllocError>
         ensures { OnOk result (pattern_view self.new ≡ with_spelt version (pattern_view self.old) spelt) }
@@ -130,7 +130,7 @@ impl PatternToken {
         }
     }
 
-    /// One that stands outside braces.
+    // Appends a byte outside braces.
     fn add_outside(&mut self, alloc: Global, spelt: EscapedByte) -> Result<(), AllocError>
         requires { (pattern_view self.old).digits ≡ None }
         ensures { OnOk result (pattern_view self.new ≡ with_step (pattern_view self.old) (step_outside spelt)) }
@@ -143,7 +143,7 @@ impl PatternToken {
         Ok(())
     }
 
-    /// One that stands in braces, after these digits.
+    // Appends a byte in braces, after these digits.
     fn add_inside(&mut self, mut digits: Vec<u8>, spelt: EscapedByte) -> Result<(), AllocError>
         requires { (pattern_view self.old).digits ≡ None }
         ensures { OnOk result (pattern_view self.new
@@ -164,28 +164,28 @@ impl PatternToken {
     }
 }
 
-/// Whether a byte is a letter wherever it stands outside braces and after no backslash. Some other letters, such as the
-/// dot, are not told.
+// Whether a byte is surely a letter outside braces and escapes: the fast path. False also for the dot and some other
+// letters.
 fn is_plain(byte: u8) -> bool
     ensures digit { result ≡ true → is_digit byte ≡ false }
-    ensures escape { result ≡ true → (byte ≢ 92) × (byte ≢ 13) }
-    ensures brace { result ≡ true → (byte ≢ 123) × (byte ≢ 125) }
+    ensures escape { result ≡ true → (byte ≢ backslash) × (byte ≢ carriage_return) }
+    ensures brace { result ≡ true → (byte ≢ open_brace) × (byte ≢ close_brace) }
 {
     b'9' < byte && byte != b'\\' && byte != b'{' && byte != b'}'
 }
 
-/// The value that digits in braces write: a number from 10 to 255.
+// Returns the value that digits in braces write: a number from 10 to 255.
 fn braced(digits: &[u8]) -> Option<u8>
     ensures { result ≡ braced_value digits.now }
 {
-    let value = small(digits)?;
+    let value = number_to_255(digits)?;
     if value < 10 {
         return None;
     }
     Some(value)
 }
 
-/// Which letters may stand after a backslash in a pattern.
+/// Returns which letters a backslash may escape in a pattern of that version.
 pub fn pattern_escapes(version: Version) -> Escapes
     ensures { result ≡ pattern_escapes version }
 {
@@ -195,8 +195,8 @@ pub fn pattern_escapes(version: Version) -> Escapes
     }
 }
 
-/// Reads a pattern's token, in place of what was read before. False where its escapes can't be read; what is read then
-/// means nothing.
+/// Reads a pattern's token into `pattern`, whose old contents are dropped. False if an escape is bad; then `pattern`
+/// means nothing. The only error is memory.
 #[inline(always)]
 pub fn read_pattern(
     alloc: Global,
@@ -204,8 +204,7 @@ pub fn read_pattern(
     token: &[u8],
     pattern: &mut PatternToken,
 ) -> Result<bool, AllocError>
-    ensures { IfOk result (λ is_read.
-        (if is_read then Some (pattern_view pattern.new) else None) ≡ read_pattern version token.now) }
+    ensures { IfOk result (λ is_read. some_if is_read (pattern_view pattern.new) ≡ read_pattern version token.now) }
 {
     pattern.clear();
     let mut after = false;

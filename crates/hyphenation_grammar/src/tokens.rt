@@ -1,49 +1,57 @@
-//! Tokens: escapes, elements, and the parts of a later token.
+//! Tokens of `p` and `e` lines: escapes, the elements of a pattern, and the parts of later tokens.
 
-ghost use Rattle.std.specs.Prelude.{IsUtf8, ◌≡◌, ◌==◌, ◌-◌, ◌<◌, ◌∷◌, ◌&&◌, [], IfOk, IsSome, length, map, take, drop, slice_index_or, false, Some, None, option_map, is_some, if◌then◌else◌, position, MatchOption};
+ghost use Rattle.std.specs.Prelude.{IsUtf8, ◌≡◌, ◌==◌, ◌-◌, ◌<◌, ◌∷◌, ◌&&◌, [], IfOk, IsSome, length, map, take};
+ghost use Rattle.std.specs.Prelude.{drop, slice_index_or, false, Some, None, option_map, is_some, if◌then◌else◌};
+ghost use Rattle.std.specs.Prelude.{position, MatchOption};
 ghost use Rattle.std.specs.Option.{option_to_list};
 ghost use Rattle.std.specs.List.{list_all};
+ghost use Rattle.hyphenation_breaks.specs.Borrowed.{texts_now};
+ghost use Rattle.hyphenation_breaks.specs.Ascii.{comma};
 ghost use Rattle.hyphenation_breaks.specs.Break.{is_boundary};
 ghost use Rattle.hyphenation_grammar.specs.declared.tokens.Escapes.TheVariants.{Plain};
 ghost use Rattle.hyphenation_grammar.specs.Lines.{is_number, number};
 ghost use Rattle.std.specs.String.{string_bytes};
-ghost use Rattle.hyphenation_grammar.specs.Parsed.{later_token, parted_token_said, sound_change, change_with, part_at, token_with};
-ghost use Rattle.hyphenation_grammar.specs.Tokens.{bytes_added, escaped_also, element_of, byte_of_escape, bytes_of, parts_of, parts_within, escaped_bytes_of, text_spelt};
-ghost use Rattle.hyphenation_grammar.specs.Private.Tokens.{is_itself};
+ghost use Rattle.hyphenation_grammar.specs.Parsed.{later_token, parse_change_token, sound_change, change_with};
+ghost use Rattle.hyphenation_grammar.specs.Parsed.{part_at, token_with};
+ghost use Rattle.hyphenation_grammar.specs.Tokens.{unescape_byte, escaped_also, element_of, byte_of_escape, bytes_of};
+ghost use Rattle.hyphenation_grammar.specs.Tokens.{parts_of, parts_within, escaped_bytes_of, text_spelt};
+ghost use Rattle.hyphenation_grammar.specs.Private.Tokens.{IsSplit, are_readable, first_number, stands_for_itself};
 
 use crate::lines::number_of;
 use hyphenation_breaks::extended::Subregion;
 use std::alloc::{AllocError, Global};
 
-/// Which letters may stand after a backslash.
+/// The escapes of a token: which letters may stand after a backslash.
 #[derive(Clone, Copy)]
 pub enum Escapes {
-    /// The four of each token.
+    /// The four of each token: `\\`, `\s`, `\n` and `\r`.
     Plain,
-    /// Digits too: in a pattern token of version 1.
+    /// The four, and digits: in a pattern of version 1.
     Digits,
-    /// Digits and braces too: in a pattern token of version 2.
+    /// The four, digits and braces: in a pattern of version 2.
     DigitsAndBraces,
 }
 
-/// A byte of a token's text, as it was written.
+/// A byte that a token spells, and whether it was written with an escape.
 #[derive(Clone, Copy)]
 pub struct EscapedByte {
+    /// The byte that is meant.
     pub byte: u8,
+    /// Whether an escape means it.
     pub escaped: bool,
 }
 
-/// What stands in a pattern.
+/// An element of a pattern.
 #[derive(Clone, Copy)]
 pub enum PatternElement {
     /// A byte of the key.
     Letter(u8),
-    /// The value of the place where it stands.
+    /// A value, at the place after the letters before it.
     Value(u8),
 }
 
-/// The byte that a letter after a backslash means.
-fn meaning(escapes: Escapes, letter: u8) -> Option<u8>
+// Returns the byte that a letter after a backslash means. `None` if it begins no escape.
+fn byte_of_escape(escapes: Escapes, letter: u8) -> Option<u8>
     ensures { result ≡ byte_of_escape escapes letter }
 {
     match letter {
@@ -55,7 +63,7 @@ fn meaning(escapes: Escapes, letter: u8) -> Option<u8>
     }
 }
 
-/// Whether a letter stands for itself after a backslash, beside the four of each token.
+/// Whether a letter after a backslash means itself: a digit or a brace, where these escapes have them.
 pub fn escaped_also(escapes: Escapes, letter: u8) -> bool
     ensures { result ≡ escaped_also escapes letter }
 {
@@ -66,13 +74,12 @@ pub fn escaped_also(escapes: Escapes, letter: u8) -> bool
     }
 }
 
-/// What a byte adds to what was read before it, after a backslash or not: a byte, or nothing where it is a
-/// backslash itself. None where it cannot stand there.
-pub(crate) fn added(escapes: Escapes, after: bool, byte: u8) -> Option<Option<EscapedByte>>
-    ensures { option_map option_to_list result ≡ bytes_added escapes after byte }
+// Reads one byte of a token. `Some(None)` for a backslash that opens an escape; `None` if the byte is not allowed here.
+pub(crate) fn unescape_byte(escapes: Escapes, after: bool, byte: u8) -> Option<Option<EscapedByte>>
+    ensures { option_map option_to_list result ≡ unescape_byte escapes after byte }
 {
     if after {
-        let byte = meaning(escapes, byte)?;
+        let byte = byte_of_escape(escapes, byte)?;
         return Some(Some(EscapedByte {
             byte,
             escaped: true,
@@ -88,13 +95,13 @@ pub(crate) fn added(escapes: Escapes, after: bool, byte: u8) -> Option<Option<Es
     }
 }
 
-/// Whether each escape is one, and no carriage return stands there.
+// Whether each backslash begins an escape, and no carriage return is unescaped.
 pub(crate) fn has_good_escapes(escapes: Escapes, text: &[u8]) -> bool
     ensures { result ≡ is_some (escaped_bytes_of escapes text.now) }
 {
     let mut after = false;
     for byte in text {
-        if added(escapes, after, *byte).is_none() {
+        if unescape_byte(escapes, after, *byte).is_none() {
             return false;
         }
         after = !after && *byte == b'\\';
@@ -102,21 +109,21 @@ pub(crate) fn has_good_escapes(escapes: Escapes, text: &[u8]) -> bool
     !after
 }
 
-/// Whether a byte stands for itself, and needs no escape to do so.
-fn is_itself(byte: u8) -> bool
-    ensures { result ≡ is_itself byte }
+// Whether a byte stands for itself without an escape.
+fn stands_for_itself(byte: u8) -> bool
+    ensures { result ≡ stands_for_itself byte }
 {
     byte != b'\\' && byte != b'\r'
 }
 
-/// Whether all bytes stand for themselves in a token.
-fn are_themselves(text: &[u8]) -> bool
-    ensures { result ≡ list_all is_itself text.now }
+// Whether all bytes stand for themselves.
+fn stand_for_themselves(text: &[u8]) -> bool
+    ensures { result ≡ list_all stands_for_itself text.now }
 {
-    text.iter().all(|byte| is_itself(*byte))
+    text.iter().all(|byte| stands_for_itself(*byte))
 }
 
-/// A copy of a text.
+// Returns a copy of a text.
 fn copied(alloc: Global, text: &[u8]) -> Result<Vec<u8>, AllocError>
     ensures { IfOk result (λ v. v.items ≡ text.now) }
 {
@@ -125,7 +132,7 @@ fn copied(alloc: Global, text: &[u8]) -> Result<Vec<u8>, AllocError>
     Ok(copy)
 }
 
-/// A word or a substitution as it is written.
+// Returns the bytes that a word or a substitution spells. `None` if an escape is bad.
 pub(crate) fn text_of(alloc: Global, written: &[u8]) -> Result<Option<Vec<u8>>, AllocError>
     ensures { IfOk result (λ found. option_map (λ v. v.items) found ≡ text_spelt written.now) }
 {
@@ -133,14 +140,14 @@ pub(crate) fn text_of(alloc: Global, written: &[u8]) -> Result<Option<Vec<u8>>, 
         return Ok(Some(Vec::new(alloc)));
     }
     // Most texts have no escape.
-    if are_themselves(written) {
+    if stand_for_themselves(written) {
         let copy = copied(alloc, written)?;
         return Ok(Some(copy));
     }
     unescaped(alloc, written)
 }
 
-/// A text with its escapes read.
+// Returns a text with its escapes read. `None` if one is bad.
 fn unescaped(alloc: Global, written: &[u8]) -> Result<Option<Vec<u8>>, AllocError>
     ensures { IfOk result (λ found.
         option_map (λ v. v.items) found ≡ option_map bytes_of (escaped_bytes_of Plain written.now)) }
@@ -148,7 +155,7 @@ fn unescaped(alloc: Global, written: &[u8]) -> Result<Option<Vec<u8>>, AllocErro
     let mut text = Vec::with_capacity(alloc, written.len())?;
     let mut after = false;
     for byte in written {
-        match added(Escapes::Plain, after, *byte) {
+        match unescape_byte(Escapes::Plain, after, *byte) {
             None => return Ok(None),
             Some(None) => {}
             Some(Some(spelt)) => text.push(spelt.byte)?,
@@ -158,7 +165,7 @@ fn unescaped(alloc: Global, written: &[u8]) -> Result<Option<Vec<u8>>, AllocErro
     Ok(if after { None } else { Some(text) })
 }
 
-/// In a pattern an unescaped digit is a value.
+// Returns the element that a byte is outside braces: an unescaped digit is a value.
 pub(crate) fn element_of(spelt: EscapedByte) -> PatternElement
     ensures { result ≡ element_of spelt }
 {
@@ -168,7 +175,7 @@ pub(crate) fn element_of(spelt: EscapedByte) -> PatternElement
     }
 }
 
-/// Whether a character begins there, or the text ends there.
+/// Whether a character begins at the place, in bytes, or the text ends there.
 pub fn is_boundary(text: &[u8], at: usize) -> bool
     ensures { result ≡ is_boundary text.now at }
 {
@@ -178,30 +185,30 @@ pub fn is_boundary(text: &[u8], at: usize) -> bool
     }
 }
 
-/// Where the first comma stands.
-fn comma(text: &[u8]) -> Option<usize>
-    ensures { result ≡ position (λ b. b == 44) text.now }
+// Returns the place of the first comma, in bytes.
+fn find_comma(text: &[u8]) -> Option<usize>
+    ensures { result ≡ position (λ b. b == comma) text.now }
 {
     text.iter().position(|b| *b == b',')
 }
 
-/// What stands before and after the first comma, where commas still part a token.
+// Splits a text at its first comma, if at most `commas` commas may split it and it has one.
 fn at_comma(commas: usize, text: &[u8]) -> Option<(&[u8], &[u8])>
     ensures { MatchOption result (parts_within commas text.now ≡ text.now ∷ []) (λ x.
-        (0 < commas) × (parts_within commas text.now ≡ x.0.now ∷ parts_within (commas - 1) x.1.now)) }
+        IsSplit commas text.now x.0.now x.1.now) }
 {
     if commas == 0 {
         return None;
     }
-    match comma(text) {
+    match find_comma(text) {
         None => None,
         Some(at) => Some((&text[..at], &text[at + 1..])),
     }
 }
 
-/// The parts of a later token, between its first four commas.
+// Splits a later token at its first four commas.
 fn parts_of(alloc: Global, token: &[u8]) -> Result<Vec<&[u8]>, AllocError>
-    ensures { IfOk result (λ v. map (λ part. part.now) v.items ≡ parts_of token.now) }
+    ensures { IfOk result (λ v. texts_now v.items ≡ parts_of token.now) }
 {
     let mut parts = Vec::new(alloc);
     let mut rest = token;
@@ -215,18 +222,18 @@ fn parts_of(alloc: Global, token: &[u8]) -> Result<Vec<&[u8]>, AllocError>
     Ok(parts)
 }
 
-/// What a later token says whose parts can be read.
+/// A later token whose parts can be read.
 #[derive(Drop)]
 pub enum LaterToken {
-    /// A part that has to be a number is none.
+    /// A part that must be a number is none.
     NoNumber,
-    /// The change at this place lacks a part, or is broken within a character of its substitution.
+    /// The change at this place lacks a part, or its breakpoint is within a character of its substitution.
     Unsound(usize),
-    /// A place, with a change where it has commas.
+    /// A place, in bytes, with a change if the token has commas.
     Sound(usize, Option<Subregion>),
 }
 
-/// What a later token says; none where some part of it can't be read.
+/// Reads a later token. `None` if it is empty or an escape is bad. The only error is memory.
 pub fn later_token(alloc: Global, token: &[u8]) -> Result<Option<LaterToken>, AllocError>
     requires { IsUtf8 token.now }
     ensures { IfOk result (λ found. found ≡ later_token token.now) }
@@ -234,16 +241,16 @@ pub fn later_token(alloc: Global, token: &[u8]) -> Result<Option<LaterToken>, Al
     if token.is_empty() {
         return Ok(None);
     }
-    if comma(token).is_none() {
-        return Ok(whole_token(token));
+    if find_comma(token).is_none() {
+        return Ok(plain_token(token));
     }
-    parted_token(alloc, token)
+    change_token(alloc, token)
 }
 
-/// A token without a comma.
-fn whole_token(token: &[u8]) -> Option<LaterToken>
-    requires some { 0 < length token.now }
-    requires whole { None ≡ position (λ b. b == 44) token.now }
+// Reads a token without a comma: a place.
+fn plain_token(token: &[u8]) -> Option<LaterToken>
+    requires not_empty { 0 < length token.now }
+    requires no_comma { None ≡ position (λ b. b == comma) token.now }
     ensures { result ≡ later_token token.now }
 {
     if !has_good_escapes(Escapes::Plain, token) {
@@ -255,25 +262,25 @@ fn whole_token(token: &[u8]) -> Option<LaterToken>
     }
 }
 
-/// A token with a comma.
-fn parted_token(alloc: Global, token: &[u8]) -> Result<Option<LaterToken>, AllocError>
+// Reads a token with a comma: a change at a place.
+fn change_token(alloc: Global, token: &[u8]) -> Result<Option<LaterToken>, AllocError>
     requires utf8 { IsUtf8 token.now }
-    requires some { 0 < length token.now }
-    requires parted { IsSome (position (λ b. b == 44) token.now) }
+    requires not_empty { 0 < length token.now }
+    requires has_comma { IsSome (position (λ b. b == comma) token.now) }
     ensures { IfOk result (λ found. found ≡ later_token token.now) }
 {
     let parts = parts_of(alloc, token)?;
     if !are_readable(&parts) {
         return Ok(None);
     }
-    Ok(Some(told(alloc, &parts)?))
+    Ok(Some(parse_change_token(alloc, &parts)?))
 }
 
-/// What two parts or more say.
-fn told(alloc: Global, parts: &[&[u8]]) -> Result<LaterToken, AllocError>
-    requires utf8 { IsUtf8 (part_at (map (λ part. part.now) parts.now) 4) }
-    requires parted { 1 < length parts.now }
-    ensures { IfOk result (λ token. token ≡ parted_token_said (map (λ part. part.now) parts.now)) }
+// Parses the parts of a token that has a comma.
+fn parse_change_token(alloc: Global, parts: &[&[u8]]) -> Result<LaterToken, AllocError>
+    requires utf8 { IsUtf8 (part_at (texts_now parts.now) 4) }
+    requires several_parts { 1 < length parts.now }
+    ensures { IfOk result (λ token. token ≡ parse_change_token (texts_now parts.now)) }
 {
     match first_number(parts) {
         None => Ok(LaterToken::NoNumber),
@@ -284,7 +291,7 @@ fn told(alloc: Global, parts: &[&[u8]]) -> Result<LaterToken, AllocError>
     }
 }
 
-/// A token with commas at a place, which has this change or an unsound one.
+// Returns the token at a place with this change, or with an unsound one for `None`.
 fn token_with(place: usize, change: Option<Subregion>) -> LaterToken
     ensures { result ≡ token_with place change }
 {
@@ -294,10 +301,10 @@ fn token_with(place: usize, change: Option<Subregion>) -> LaterToken
     }
 }
 
-/// The change that parts say, if they are all there and it is broken between characters.
+// Returns the change of five parts, if each can be read and the breakpoint is between characters.
 fn change_of(alloc: Global, parts: &[&[u8]]) -> Result<Option<Subregion>, AllocError>
-    requires { IsUtf8 (part_at (map (λ part. part.now) parts.now) 4) }
-    ensures { IfOk result (λ found. found ≡ sound_change (map (λ part. part.now) parts.now)) }
+    requires { IsUtf8 (part_at (texts_now parts.now) 4) }
+    ensures { IfOk result (λ found. found ≡ sound_change (texts_now parts.now)) }
 {
     let [_, left, right, breakpoint, written] = parts else {
         return Ok(None);
@@ -320,7 +327,7 @@ fn change_of(alloc: Global, parts: &[&[u8]]) -> Result<Option<Subregion>, AllocE
     Ok(change_with(left, right, breakpoint, substitution))
 }
 
-/// A change of these numbers, if it is broken between characters.
+// Returns the change of these numbers of bytes, if its breakpoint is between characters.
 fn change_with(
     left: usize,
     right: usize,
@@ -335,7 +342,7 @@ fn change_with(
     Some(Subregion::new(left, right, substitution, breakpoint))
 }
 
-/// The word or the substitution that a token spells.
+/// Returns the word or the substitution that a token spells. `None` if an escape is bad. The only error is memory.
 pub fn string_of(alloc: Global, token: &[u8]) -> Result<Option<String>, AllocError>
     requires { IsUtf8 token.now }
     ensures { IfOk result (λ found. option_map (λ text. string_bytes text) found ≡ text_spelt token.now) }
@@ -346,20 +353,18 @@ pub fn string_of(alloc: Global, token: &[u8]) -> Result<Option<String>, AllocErr
     Ok(Some(String::from_utf8(text).unwrap()))
 }
 
-/// Whether each part can be read; `\e` may stand after the fourth comma alone.
+// Whether each part can be read. `\e` is allowed after the fourth comma alone.
 fn are_readable(parts: &[&[u8]]) -> bool
-    ensures { result
-        ≡ (list_all (λ written. is_some (escaped_bytes_of Plain written)) (take 4 (map (λ part. part.now) parts.now))
-        && list_all (λ written. is_some (text_spelt written)) (drop 4 (map (λ part. part.now) parts.now))) }
+    ensures { result ≡ are_readable (texts_now parts.now) }
 {
     let commas = parts.len().min(4);
     have_good_escapes(&parts[..commas]) && are_texts(&parts[commas..])
 }
 
-/// Whether each part can be read.
+// Whether the escapes of each part are good.
 fn have_good_escapes(parts: &[&[u8]]) -> bool
     ensures { result
-        ≡ list_all (λ written. is_some (escaped_bytes_of Plain written)) (map (λ part. part.now) parts.now) }
+        ≡ list_all (λ written. is_some (escaped_bytes_of Plain written)) (texts_now parts.now) }
 {
     for part in parts {
         if !has_good_escapes(Escapes::Plain, part) {
@@ -369,9 +374,9 @@ fn have_good_escapes(parts: &[&[u8]]) -> bool
     true
 }
 
-/// Whether each part spells a text.
+// Whether each part spells a text.
 fn are_texts(parts: &[&[u8]]) -> bool
-    ensures { result ≡ list_all (λ written. is_some (text_spelt written)) (map (λ part. part.now) parts.now) }
+    ensures { result ≡ list_all (λ written. is_some (text_spelt written)) (texts_now parts.now) }
 {
     for part in parts {
         if !is_text(part) {
@@ -381,20 +386,17 @@ fn are_texts(parts: &[&[u8]]) -> bool
     true
 }
 
-/// Whether what is written spells a text, as `\e` does.
+// Whether bytes spell a text. `\e` spells the empty one.
 fn is_text(written: &[u8]) -> bool
     ensures { result ≡ is_some (text_spelt written.now) }
 {
     written == b"\\e".as_slice() || has_good_escapes(Escapes::Plain, written)
 }
 
-/// The number of the first part, if each part but the last is one.
+// Returns the number of the first part, if each part but the last is a number.
 fn first_number(parts: &[&[u8]]) -> Option<usize>
     requires { 1 < length parts.now }
-    ensures { result
-        ≡ (if list_all is_number (take (length parts.now - 1) (map (λ part. part.now) parts.now))
-        then Some (number (slice_index_or (map (λ part. part.now) parts.now) 0 []))
-        else None) }
+    ensures { result ≡ first_number (length parts.now - 1) (texts_now parts.now) }
 {
     if !are_numbers(&parts[..parts.len() - 1]) {
         return None;
@@ -402,9 +404,9 @@ fn first_number(parts: &[&[u8]]) -> Option<usize>
     number_of(parts[0])
 }
 
-/// Whether each part is a number.
+// Whether each part is a number.
 fn are_numbers(parts: &[&[u8]]) -> bool
-    ensures { result ≡ list_all is_number (map (λ part. part.now) parts.now) }
+    ensures { result ≡ list_all is_number (texts_now parts.now) }
 {
     for part in parts {
         if number_of(part).is_none() {

@@ -13,7 +13,7 @@ boundary_test text at h = by (h.1) (get_or_past text at 0)
     by : (at < length text → 128 ≤ get_or text at 0 → 192 ≤ get_or text at 0) → (length text ≤ at → get_or text at 0 ≡ 0) → is_boundary text at ≡ true
     by lead past = let in_text : at ≤ length text = h.0 in grind (arith, nat_tests)
 
--- From a least place on, by std's word for a boundary, which gives each place its facts.
+-- Places that ascend from a least place on, by std's definition of a character boundary.
 abbrev pub Ascend : List ℕ → ℕ → List ℕ → Type 0
 Ascend text least [] = Unit {0}
 Ascend text least (p ∷ ps) = (least ≤ p) × IsCharBoundary text p × Ascend text (p + 1) ps
@@ -36,7 +36,7 @@ pub fits_ascend : (text : List ℕ) (last_end least : ℕ) (places : List ℕ) �
 fits_ascend text last_end least [] f = tt
 fits_ascend text last_end least (p ∷ ps) f = (f.0.ascends, f.0.place, fits_ascend text (p + 0) (p + 1) ps f.1)
 
--- The tests of a boundary and of places, and the words for them.
+-- The tests of a boundary and of places, and the facts that they test.
 pub boundary_from_test : (text : List ℕ) (at : ℕ) → is_boundary text at ≡ true → IsCharBoundary text at
 boundary_from_test text at passes =
     let both = and_parts (nat_le at (length text)) (nat_lt (slice_index text at) 128 || nat_le 192 (slice_index text at)) passes in (

@@ -1,4 +1,4 @@
--- Words of ASCII: their characters are their bytes, they have no soft hyphens, and no place moves where they are folded.
+-- Words of ASCII: characters are bytes, there are no soft hyphens, and folding moves no place.
 use Rattle.std.proofs.Common.{◌≡◌, ℕ, suc, ◌-◌, ◌<◌, ◌≤◌, ◌==◌, not, ◌⊎◌, max, true, false, cond, nat_le, leb-true, List, [], ◌∷◌, length, map, take, chars, slice_index, Some, None, refl, sym, ap, subst, ◌∙◌, arith}
 use Rattle.std.specs.Char.{encode_utf8, is_ascii_lowercase, is_ascii_uppercase, to_ascii_lowercase}
 use Rattle.std.specs.List.{list_all, list_any}
@@ -12,7 +12,7 @@ use Rattle.unicode.specs.CaseFolding.{simple_fold}
 use Rattle.hyphenation_breaks.specs.Break.{Break}
 use Rattle.hyphenation_hyphenator.specs.Boundaries.{boundaries}
 use Rattle.hyphenation_hyphenator.specs.Fitting.{kept_breaks, fitted_breaks_of}
-use Rattle.hyphenation_hyphenator.specs.Private.Fitting.{is_steady_by}
+use Rattle.hyphenation_hyphenator.specs.Private.Fitting.{range_holds_no_shift}
 use Rattle.hyphenation_hyphenator.specs.Folding.{fold_character, fold_case, carried_back, shifts_of}
 use Rattle.hyphenation_hyphenator.specs.Opportunities.{Rules, opportunities, Ascending}
 use Rattle.hyphenation_hyphenator.specs.Places.{place_of_character}
@@ -22,7 +22,7 @@ use Rattle.hyphenation_hyphenator.proofs.FoldingRows.{capitals_fold}
 use Rattle.hyphenation_hyphenator.proofs.Folds.{fold_stays}
 use Rattle.hyphenation_hyphenator.proofs.Shifts.{no_shifts}
 use Rattle.hyphenation_hyphenator.proofs.SoftHyphens.{none_in_ascii}
-use Rattle.hyphenation_hyphenator.proofs.UnmovedPlaces.{unmoved_breaks}
+use Rattle.hyphenation_hyphenator.proofs.UnmovedPlaces.{breaks_where_unmoved}
 
 -- ---- letters a to z
 
@@ -32,9 +32,9 @@ letter_below c e = let parts = and_parts (nat_le 97 c) (nat_le c 122) e in omega
 letter_is_small : (c : ℕ) → is_ascii_lowercase c ≡ true → is_ascii_uppercase c ≡ false
 letter_is_small c e = let parts = and_parts (nat_le 97 c) (nat_le c 122) e in let low = leb-true 97 c parts.0 in grind (arith)
 
-pub letters_ascii : (word : List ℕ) → list_all is_ascii_lowercase word ≡ true → IsAscii word
-letters_ascii [] e = IsAscii-nil
-letters_ascii (c ∷ cs) e = let parts = and_parts (is_ascii_lowercase c) (list_all is_ascii_lowercase cs) e in IsAscii-cons c cs (letter_below c parts.0) (letters_ascii cs parts.1)
+pub ascii_lowercase_ascii : (word : List ℕ) → list_all is_ascii_lowercase word ≡ true → IsAscii word
+ascii_lowercase_ascii [] e = IsAscii-nil
+ascii_lowercase_ascii (c ∷ cs) e = let parts = and_parts (is_ascii_lowercase c) (list_all is_ascii_lowercase cs) e in IsAscii-cons c cs (letter_below c parts.0) (ascii_lowercase_ascii cs parts.1)
 
 small_letters : (word : List ℕ) → list_all is_ascii_lowercase word ≡ true → list_any is_uppercase word ≡ false
 small_letters [] e = refl
@@ -42,9 +42,9 @@ small_letters (c ∷ cs) e =
     let parts = and_parts (is_ascii_lowercase c) (list_all is_ascii_lowercase cs) e in
     rw (sym (is_uppercase_ascii c (letter_below c parts.0)) ∙ letter_is_small c parts.0) (small_letters cs parts.1)
 
-pub letters_fold : (word : List ℕ) → list_all is_ascii_lowercase word ≡ true → fold_case word ≡ word
-letters_fold word e =
-    let ascii = letters_ascii word e in
+pub ascii_lowercase_fold : (word : List ℕ) → list_all is_ascii_lowercase word ≡ true → fold_case word ≡ word
+ascii_lowercase_fold word e =
+    let ascii = ascii_lowercase_ascii word e in
     fold_stays word (IsUtf8-from_ascii word ascii) (ap (list_any is_uppercase) (chars-IsAscii word ascii) ∙ small_letters word e)
 
 -- ---- the folding of ASCII
@@ -113,6 +113,6 @@ ascii_carried word p a le =
 -- ---- breaks
 
 pub ascii_breaks : (rules : Rules) (word folded : List ℕ) (kept : List Break) → IsAscii word → folded ≡ fold_case word → Ascending (fold_case word) (opportunities rules (fold_case word))
-    → kept ≡ kept_breaks (is_steady_by (length folded) []) (opportunities rules folded) → kept ≡ fitted_breaks_of rules word
+    → kept ≡ kept_breaks (range_holds_no_shift (length folded) []) (opportunities rules folded) → kept ≡ fitted_breaks_of rules word
 ascii_breaks rules word folded kept a folded_is ascend is =
-    unmoved_breaks rules word folded kept (ascii_no_shifts word a) (none_in_ascii word a) (λ p at. ascii_carried word p a at.0) folded_is ascend is
+    breaks_where_unmoved rules word folded kept (ascii_no_shifts word a) (none_in_ascii word a) (λ p at. ascii_carried word p a at.0) folded_is ascend is

@@ -1,4 +1,4 @@
--- The ranges of the breaks that a dictionary finds stand on boundaries, where they lie in the word.
+-- Ranges of found breaks that lie in the word begin and end on its character boundaries.
 use Rattle.std.proofs.Common.{◌≡◌, ℕ, zero, suc, ◌+◌, ◌-◌, ◌<◌, ◌≤◌, ◌&&◌, nat_le, leb-true, Bool, true, false, cond, List, [], ◌∷◌, length, map, filter, get_or, Option, Some, None, refl, sym, subst, arith, add-zero}
 use Rattle.std.specs.List.{list_all, range_with_len, slice_range}
 use Rattle.std.specs.Option.{IfSome, option_map, option_and_then, option_map_or, unwrap_or}
@@ -8,7 +8,7 @@ use Rattle.std.proofs.Math.Nat.{sub-zero}
 use Rattle.std.proofs.lemmas.Bool.{and_parts}
 use Rattle.hyphenation_breaks.specs.Break.{Break, Change, break_at, ascend_on, is_boundary, keeps_within}
 use Rattle.hyphenation_breaks.specs.Dictionary.{Contents, entries_of_keys}
-use Rattle.hyphenation_breaks.specs.Invariant.{IsDictionary, fits_usize, can_be_said, is_value, stays_within, lists_within}
+use Rattle.hyphenation_breaks.specs.Invariant.{IsDictionary, fits_usize, can_be_written, is_value, stays_within, lists_within}
 use Rattle.hyphenation_breaks.specs.declared.entry.Entry.{Entry}
 use Rattle.hyphenation_hyphenator.specs.Opportunities.{rules_of, is_odd, within, breaks_within, winning_break, breaks_at_odd_values, by_patterns, by_exception, opportunities_in, opportunities, boundaries_by}
 use Rattle.hyphenation_score.specs.Laws.{ValueIsBorne, WinnerIsFirst}
@@ -20,7 +20,7 @@ use Rattle.hyphenation_hyphenator.proofs.RulesAscend.{odd_is_some}
 
 -- ---- exceptions
 
--- The parts of what keeps within a text.
+-- The parts of the fact that a change keeps within a text.
 pub record KeepsWithin (text : List ℕ) (place : ℕ) (change : Change) : Type 0 where
   pub left : change.left ≤ place
   pub begin : IsCharBoundary text (place - change.left)
@@ -38,7 +38,7 @@ unchanged_ranged text place at = λ left end. (subst (IsCharBoundary text) (sym 
 
 stays_ranged : (text : List ℕ) (place : ℕ) (change : Option Change) → IsCharBoundary text place → stays_within text place change ≡ true → Ranged text (break_at place change)
 stays_ranged text place None at h = unchanged_ranged text place at
-stays_ranged text place (Some change) at h = λ left end. let k = kept_within text place change (and_parts (fits_usize place && can_be_said change) _ h).1 in (k.begin, k.end)
+stays_ranged text place (Some change) at h = λ left end. let k = kept_within text place change (and_parts (fits_usize place && can_be_written change) _ h).1 in (k.begin, k.end)
 
 listed_ranged : {B : Type 0} (break_of : B → Break) (word : List ℕ) (least : ℕ) (listed : List B) → ascend_on word least (map (λ b. (break_of b).place) listed) ≡ true
     → list_all (λ b. lists_within word (break_of b).place (break_of b).change) listed ≡ true → AreRanged word (map break_of listed)
@@ -64,7 +64,7 @@ entry_stays {C} change_of key (e ∷ es) i entry h lt is =
       | suc i ↦ λ lt there. entry_stays change_of key es i entry all.1 (omega arith) there
     ] lt is
 
--- In the word a change stands as it does in the key, the dots of the frame aside.
+-- A change has the same bounds in the word as in the key, but for the dots of the frame.
 in_word : (word : List ℕ) (p start end at : ℕ) (change : Change) → IsUtf8 word → start < end → end ≤ length (frame word) → IsUtf8 (slice_range (frame word) start end) → start + at ≡ p + 1
     → KeepsWithin (slice_range (frame word) start end) at change → Ranged word (break_at p (Some change))
 in_word word p start end at change u some within v place k = λ left last.
@@ -94,7 +94,7 @@ won_ranged {C} change_of break_of contents word p first kept u at =
           let stays = entry_stays change_of key bears.entries bears.among.0 entry sound bears.among.1.0 bears.among.1.1 in
           elim (change_of entry.change) as (λ change. stays_within key entry.place change ≡ true → Ranged word (break_at p change)) [
             | None ↦ λ _. unchanged_ranged word p at
-            | Some change ↦ λ h. in_word word p wins.0 wins.1 entry.place change u bears.some bears.within pattern.utf8 bears.place (kept_within key entry.place change (and_parts (fits_usize entry.place && can_be_said change) _ h).1)
+            | Some change ↦ λ h. in_word word p wins.0 wins.1 entry.place change u bears.not_empty bears.within pattern.utf8 bears.place (kept_within key entry.place change (and_parts (fits_usize entry.place && can_be_written change) _ h).1)
           ] stays
     ] refl
 
@@ -107,7 +107,7 @@ picked_ranged text test break_to first (suc n) at =
       | false ↦ λ _. rest
     ] refl
 
--- ---- what is found
+-- ---- found breaks
 
 within_ranged : (text : List ℕ) (breaks : List Break) (bounds : ℕ × ℕ) → AreRanged text breaks → AreRanged text (breaks_within breaks bounds)
 within_ranged text [] bounds r = tt

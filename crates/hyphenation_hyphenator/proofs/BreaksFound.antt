@@ -1,4 +1,4 @@
--- The steps of finding, carrying and keeping breaks.
+-- Steps of the loops that find, carry back and keep breaks.
 use Rattle.std.proofs.Common.{◌≡◌, ℕ, zero, suc, ◌+◌, ◌-◌, ◌<◌, ◌≤◌, ◌&&◌, Bool, true, false, cond, nat_le, List, [], ◌∷◌, ◌++◌, length, map, filter, take, drop, get_or, Option, Some, None, refl, sym, ap, subst, ◌∙◌, arith}
 use Rattle.std.specs.List.{slice_index_or, range_with_len}
 use Rattle.std.specs.FinMap as finite
@@ -16,7 +16,7 @@ use Rattle.hyphenation_breaks.specs.Invariant.{IsDictionary}
 use Rattle.hyphenation_breaks.specs.declared.entry.Entry.{Entry}
 use Rattle.hyphenation_hyphenator.specs.Fitting.{keep_break, kept_breaks}
 use Rattle.hyphenation_hyphenator.specs.Opportunities.{within, breaks_within, is_odd, winning_break, breaks_at_odd_values, rules_of, by_patterns, by_exception, Ascending}
-use Rattle.hyphenation_hyphenator.specs.Private.Opportunities.{won_at, won_break, is_won, won_within}
+use Rattle.hyphenation_hyphenator.specs.Private.Opportunities.{break_at_winner, break_at_index, has_break_at_index, breaks_at_winners}
 use Rattle.hyphenation_score.specs.Laws.{ValueIsBorne, WinnerHasValue}
 use Rattle.hyphenation_score.specs.Scoring.{value_of, value_at, winner_at, winners}
 use Rattle.hyphenation_hyphenator.proofs.Fitting.{EndsAt}
@@ -51,7 +51,7 @@ listed_more {X} m xs i x bounds breaks lt at is =
     ∙ ap (λ bs. bs ++ cond (within bounds (m (get_or xs i x)).place) (m (get_or xs i x) ∷ []) []) (sym is)
     ∙ ap (λ (y : X). breaks ++ cond (within bounds (m y).place) (m y ∷ []) []) (sym at)
 
--- One more break is written over.
+-- One more break is overwritten.
 pub written_more : {X : Type 0} (f : Break → Break) (m : X → Break) (all : List Break) (items : List X) (i : ℕ) (x new : X) → i < length all → i < length items
     → map m items ≡ map f (take i all) ++ drop i all → x ≡ get_or items i x → m new ≡ f (m x) → map m (set items i new) ≡ map f (take (i + 1) all) ++ drop (i + 1) all
 written_more f m all items i x new lt in_items is at written =
@@ -61,30 +61,30 @@ written_more f m all items i x new lt in_items is at written =
 pub all_written_over : (f : Break → Break) (all : List Break) (i : ℕ) → length all ≤ i → map f (take i all) ++ drop i all ≡ map f all
 all_written_over f all i h = ap (λ xs. map f xs ++ drop i all) (take_all i all h) ∙ ap (λ xs. map f all ++ xs) (drop_all i all h) ∙ append-nil (map f all)
 
--- One more place may be won.
+-- One more winner may be a break.
 pub won_more : {C : Type 0} (change_of : C → Option Change) (winners : List (Option (Entry C))) (bounds : ℕ × ℕ) (i : ℕ) (breaks : List Break)
-    → breaks ≡ map (won_break change_of winners) (filter (is_won winners bounds) (range_with_len 0 i))
-    → map (won_break change_of winners) (filter (is_won winners bounds) (range_with_len 0 (i + 1))) ≡ breaks ++ cond (is_won winners bounds i) (won_break change_of winners i ∷ []) []
+    → breaks ≡ map (break_at_index change_of winners) (filter (has_break_at_index winners bounds) (range_with_len 0 i))
+    → map (break_at_index change_of winners) (filter (has_break_at_index winners bounds) (range_with_len 0 (i + 1))) ≡ breaks ++ cond (has_break_at_index winners bounds i) (break_at_index change_of winners i ∷ []) []
 won_more change_of winners bounds i breaks is =
-    picked_more (won_break change_of winners) (is_won winners bounds) i ∙ ap (λ bs. bs ++ cond (is_won winners bounds i) (won_break change_of winners i ∷ []) []) (sym is)
+    picked_more (break_at_index change_of winners) (has_break_at_index winners bounds) i ∙ ap (λ bs. bs ++ cond (has_break_at_index winners bounds i) (break_at_index change_of winners i ∷ []) []) (sym is)
 
-pub is_won_at : {C : Type 0} (change_of : C → Option Change) (winners : List (Option (Entry C))) (bounds : ℕ × ℕ) (i : ℕ) (breaks : List Break) (b : Break) (winner : Option (Entry C))
-    → winner ≡ slice_index_or winners i None → breaks ≡ map (won_break change_of winners) (filter (is_won winners bounds) (range_with_len 0 i)) → Some b ≡ won_at change_of (i + 1) winner bounds
-    → breaks ++ b ∷ [] ≡ map (won_break change_of winners) (filter (is_won winners bounds) (range_with_len 0 (i + 1)))
-is_won_at {C} change_of winners bounds i breaks b winner at is e =
-    let here : Some b ≡ cond (is_won winners bounds i) (Some (won_break change_of winners i)) None = e ∙ ap (λ w. won_at change_of (i + 1) w bounds) at in
-    let found = some_if (is_won winners bounds i) b (won_break change_of winners i) here in
-    ap (λ y. breaks ++ y ∷ []) found.1 ∙ sym (won_more change_of winners bounds i breaks is ∙ ap (λ t. breaks ++ cond t (won_break change_of winners i ∷ []) []) found.0)
+pub break_at_next : {C : Type 0} (change_of : C → Option Change) (winners : List (Option (Entry C))) (bounds : ℕ × ℕ) (i : ℕ) (breaks : List Break) (b : Break) (winner : Option (Entry C))
+    → winner ≡ slice_index_or winners i None → breaks ≡ map (break_at_index change_of winners) (filter (has_break_at_index winners bounds) (range_with_len 0 i)) → Some b ≡ break_at_winner change_of (i + 1) winner bounds
+    → breaks ++ b ∷ [] ≡ map (break_at_index change_of winners) (filter (has_break_at_index winners bounds) (range_with_len 0 (i + 1)))
+break_at_next {C} change_of winners bounds i breaks b winner at is e =
+    let here : Some b ≡ cond (has_break_at_index winners bounds i) (Some (break_at_index change_of winners i)) None = e ∙ ap (λ w. break_at_winner change_of (i + 1) w bounds) at in
+    let found = some_if (has_break_at_index winners bounds i) b (break_at_index change_of winners i) here in
+    ap (λ y. breaks ++ y ∷ []) found.1 ∙ sym (won_more change_of winners bounds i breaks is ∙ ap (λ t. breaks ++ cond t (break_at_index change_of winners i ∷ []) []) found.0)
 
-pub is_not_won : {C : Type 0} (change_of : C → Option Change) (winners : List (Option (Entry C))) (bounds : ℕ × ℕ) (i : ℕ) (breaks : List Break) (winner : Option (Entry C))
-    → winner ≡ slice_index_or winners i None → breaks ≡ map (won_break change_of winners) (filter (is_won winners bounds) (range_with_len 0 i)) → None ≡ won_at change_of (i + 1) winner bounds
-    → breaks ≡ map (won_break change_of winners) (filter (is_won winners bounds) (range_with_len 0 (i + 1)))
-is_not_won change_of winners bounds i breaks winner at is e =
-    let here : None ≡ cond (is_won winners bounds i) (Some (won_break change_of winners i)) None = e ∙ ap (λ w. won_at change_of (i + 1) w bounds) at in
-    let no = none_if (is_won winners bounds i) (won_break change_of winners i) here in
-    sym (won_more change_of winners bounds i breaks is ∙ ap (λ t. breaks ++ cond t (won_break change_of winners i ∷ []) []) no ∙ append-nil breaks)
+pub no_break_at_next : {C : Type 0} (change_of : C → Option Change) (winners : List (Option (Entry C))) (bounds : ℕ × ℕ) (i : ℕ) (breaks : List Break) (winner : Option (Entry C))
+    → winner ≡ slice_index_or winners i None → breaks ≡ map (break_at_index change_of winners) (filter (has_break_at_index winners bounds) (range_with_len 0 i)) → None ≡ break_at_winner change_of (i + 1) winner bounds
+    → breaks ≡ map (break_at_index change_of winners) (filter (has_break_at_index winners bounds) (range_with_len 0 (i + 1)))
+no_break_at_next change_of winners bounds i breaks winner at is e =
+    let here : None ≡ cond (has_break_at_index winners bounds i) (Some (break_at_index change_of winners i)) None = e ∙ ap (λ w. break_at_winner change_of (i + 1) w bounds) at in
+    let no = none_if (has_break_at_index winners bounds i) (break_at_index change_of winners i) here in
+    sym (won_more change_of winners bounds i breaks is ∙ ap (λ t. breaks ++ cond t (break_at_index change_of winners i ∷ []) []) no ∙ append-nil breaks)
 
--- ---- what is found, by the rules of a dictionary
+-- ---- found breaks, by the rules of a dictionary
 
 same_won : (f g : ℕ → Break) (test odd : ℕ → Bool) (bounds : ℕ × ℕ) → ((p : ℕ) → (g p).place ≡ p) → (a n : ℕ)
     → ((i : ℕ) → a ≤ i → i < a + n → (f i ≡ g (i + 1)) × (test i ≡ (odd (i + 1) && within bounds (i + 1))))
@@ -102,25 +102,25 @@ same_won f g test odd bounds placed a (suc n) agree =
     ap (λ t. map f (cond t (a ∷ front) front)) here.1
     ∙ elim (odd (a + 1)) as (λ o. map f (cond (o && within bounds (a + 1)) (a ∷ front) front) ≡ breaks_within (map g (cond o ((a + 1) ∷ back) back)) bounds) [ true ↦ both | false ↦ rest ]
 
--- The places that are won within bounds are the breaks that the keys allow.
-pub won_allowed : {C : Type 0} (change_of : C → Option Change) (keys : Patterns C) (word : List ℕ) (bounds : ℕ × ℕ) (found : List (Option (Entry C)))
-    → WinnerHasValue C → found ≡ winners keys word → won_within change_of found bounds ≡ breaks_within (breaks_at_odd_values change_of keys word) bounds
+-- Breaks by the winners within bounds are the breaks that the keys allow.
+pub breaks_at_winners_are : {C : Type 0} (change_of : C → Option Change) (keys : Patterns C) (word : List ℕ) (bounds : ℕ × ℕ) (found : List (Option (Entry C)))
+    → WinnerHasValue C → found ≡ winners keys word → breaks_at_winners change_of found bounds ≡ breaks_within (breaks_at_odd_values change_of keys word) bounds
 unfolding breaks_at_odd_values
-won_allowed {C} change_of keys word bounds found has_value is =
+breaks_at_winners_are {C} change_of keys word bounds found has_value is =
     let n = length word - 1 in
     let ws : List (Option (Entry C)) = winners keys word in
     let count : length ws ≡ n = length-map-range_with_len (λ p. winner_at keys word p) 1 n in
     let at : (i : ℕ) → i < n → slice_index_or ws i None ≡ winner_at keys word (i + 1) = λ i lt. get_or-map-range_with_len (λ p. winner_at keys word p) 1 n i (i + 1) None lt (omega arith) in
-    ap (λ (vs : List (Option (Entry C))). won_within change_of vs bounds) is
-    ∙ ap (λ m. map (won_break change_of ws) (filter (is_won ws bounds) (range_with_len 0 m))) count
-    ∙ same_won (won_break change_of ws) (winning_break change_of keys word) (is_won ws bounds) (λ place. is_odd (value_at keys word place)) bounds (λ _. refl) 0 n
+    ap (λ (vs : List (Option (Entry C))). breaks_at_winners change_of vs bounds) is
+    ∙ ap (λ m. map (break_at_index change_of ws) (filter (has_break_at_index ws bounds) (range_with_len 0 m))) count
+    ∙ same_won (break_at_index change_of ws) (winning_break change_of keys word) (has_break_at_index ws bounds) (λ place. is_odd (value_at keys word place)) bounds (λ _. refl) 0 n
     (λ i l h.
     let winner : slice_index_or ws i None ≡ winner_at keys word (i + 1) = at i (omega arith) in (
       ap (λ w. break_at (i + 1) (option_and_then (λ entry. change_of entry.change) w)) winner,
       ap (λ w. is_odd (value_of w) && within bounds (i + 1)) winner ∙ ap (λ v. is_odd v && within bounds (i + 1)) (has_value keys word (i + 1)),
     ))
 
--- What is found for an exception.
+-- The breaks found for an exception are those by exception.
 pub exception_is : {C B : Type 0} (change_of : C → Option Change) (break_of : B → Break) (contents : Contents C B) (word : List ℕ) (listed : List B) (found : List Break) (bounds : ℕ × ℕ) → finite.get contents.exceptions word ≡ Some listed
     → found ≡ breaks_within (map break_of listed) bounds → Some found ≡ by_exception (rules_of change_of break_of contents) word bounds
 exception_is change_of break_of contents word listed found bounds is e = ap Some e ∙ ap (λ o. option_map (λ l. breaks_within l bounds) (option_map (map break_of) o)) (sym is)
@@ -136,7 +136,7 @@ pub listed_ascend : {C B : Type 0} (change_of : C → Option Change) (break_of :
 listed_ascend change_of break_of contents word listed bounds found kept is e =
     found_ascend change_of break_of contents word bounds found kept (exception_is change_of break_of contents word listed found bounds is e)
 
-pub won_ascend : {C B : Type 0} (change_of : C → Option Change) (break_of : B → Break) (contents : Contents C B) (word : List ℕ) (bounds : ℕ × ℕ) (found : List Break) → ValueIsBorne C → IsDictionary change_of break_of contents → IsUtf8 word
+pub pattern_breaks_ascend : {C B : Type 0} (change_of : C → Option Change) (break_of : B → Break) (contents : Contents C B) (word : List ℕ) (bounds : ℕ × ℕ) (found : List Break) → ValueIsBorne C → IsDictionary change_of break_of contents → IsUtf8 word
     → found ≡ by_patterns (rules_of change_of break_of contents) word bounds → Ascending word found
-won_ascend change_of break_of contents word bounds found borne kept u is =
+pattern_breaks_ascend change_of break_of contents word bounds found borne kept u is =
     subst (Ascending word) (sym is) (by_patterns_ascend (rules_of change_of break_of contents) word bounds (rules_are_sound change_of break_of contents word borne kept u))

@@ -1,4 +1,4 @@
--- Which numbers the table of Uppercase leaves out, found in one pass of its ranges.
+-- Numbers that the table of Uppercase leaves out, found in one pass over its ranges.
 use Rattle.std.proofs.Common.{◌≡◌, ℕ, ◌<◌, ◌≤◌, ◌&&◌, ◌||◌, nat_le, nat_lt, Bool, true, false, List, [], ◌∷◌, drop, refl, sym, ap, ◌∙◌, arith, inl, inr}
 use Rattle.std.specs.Char.{is_ascii_uppercase}
 use Rattle.std.specs.List.{list_all}
@@ -29,7 +29,7 @@ pub none_upper_between : (low high c : ℕ) → list_all (is_apart low high) upp
 unfolding is_uppercase
 none_upper_between low high c h l k = in_none low high c uppercase_ranges h l k
 
--- Of ASCII the first range alone holds any.
+-- The first range alone holds ASCII characters.
 pub is_uppercase_ascii : (c : ℕ) → c < 128 → is_ascii_uppercase c ≡ is_uppercase c
 unfolding is_uppercase uppercase_ranges in_ranges
 is_uppercase_ascii c below =

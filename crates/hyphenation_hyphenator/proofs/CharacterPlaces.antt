@@ -1,4 +1,4 @@
--- Where the character with a number starts.
+-- Where a character begins, by its number.
 use Rattle.std.proofs.Common.{◌≡◌, ℕ, ◌+◌, ◌-◌, ◌≤◌, ◌<◌, ◌⊎◌, max, List, [], ◌∷◌, ◌++◌, map, length, chars, encode_utf8, encode_utf8_all, IsUtf8, refl, sym, ap, subst, ◌∙◌, arith, append_assoc, length-append, take, drop, IsCharBoundary, zero-add, Option, Some, None, inl, inr, ◌&&◌, nat_le, nat_lt, if◌then◌else◌}
 use Rattle.std.proofs.lemmas.Str.{IsUtf8-past_char, chars_past_char, IsCharBoundary-at_seam, encodes-append}
 use Rattle.std.proofs.lemmas.Bool.{le-leb, lt-ltb, lt-leb, le-ltb}
@@ -9,7 +9,7 @@ use Rattle.hyphenation_hyphenator.specs.Boundaries.{boundaries}
 use Rattle.std.specs.Iterator.{Yields}
 use Rattle.std.specs.Str.Iter.{char_indices_steps, char_indices_rest, char_indices_offset}
 
--- Characters came off the front of the text, which leaves the rest, at the place.
+-- So many characters were taken off the front of the text, which leaves the rest, at the place.
 pub record Passed (text : List ℕ) (from : ℕ) (cs rest : List ℕ) (place : ℕ) : Type 0 where
   pub bytes : text ≡ encode_utf8_all cs ++ rest
   pub read : chars text ≡ cs ++ chars rest
@@ -35,7 +35,7 @@ taken {text} {cs} {rest} n h e =
     let at = h.at ∙ zero-add _ in
     (rw e at, rw at (IsCharBoundary-at_seam text (encode_utf8_all cs) rest h.bytes h.utf8))
 
--- Of two characters the one with the lesser number starts no later.
+-- A character with a lesser number begins no later.
 pub places_ascend : (text : List ℕ) (i j : ℕ) → i ≤ j → place_of_character text i ≤ place_of_character text j
 places_ascend text i j h =
     let first = take i (chars text) in
@@ -53,7 +53,7 @@ bounds_dropped : (l r n : ℕ) (bounds : Option (ℕ × ℕ)) → (n ≤ l) ⊎ 
 bounds_dropped l r n bounds (inl h) = rw (le-ltb l n h, and-false (nat_le (l + r) n)) refl
 bounds_dropped l r n bounds (inr h) = rw (lt-leb (l + r) n (omega (arith, h))) refl
 
--- A word has characters enough for the minima.
+-- A word has enough characters for the minima.
 pub bounds_met : (l r n : ℕ) (word : List ℕ) → n ≡ length (chars word) → l < n → r ≤ n - l → boundaries l r word ≡ Some (place_of_character word l, place_of_character word (n - max r 1))
 bounds_met l r n word count below room =
     let below_count : l < length (chars word) = omega (arith, count, below) in

@@ -1,4 +1,4 @@
--- What an extended dictionary computes, in terms of breaks.
+-- The breaks that an extended dictionary computes are those of the definitions.
 use Rattle.std.proofs.Common.{◌≡◌, ◌≢◌, ℕ, ◌<◌, ◌^◌, ◌==◌, true, false, Result, Ok, Err, List, [], ◌∷◌, ◌++◌, length, map, take, drop, Option, refl, sym, ap, subst, ◌∙◌, arith}
 use Rattle.std.specs.Result.{OnOk}
 use Rattle.std.specs.Str.{IsUtf8}
@@ -11,7 +11,7 @@ use Rattle.hyphenation_hyphenator.specs.declared.case_folding.Shift.{Shift}
 use Rattle.hyphenation_score.specs.Laws.{ValueIsBorne, WinnerIsFirst}
 use Rattle.hyphenation_segments.specs.Fits.{Fits}
 use Rattle.hyphenation_hyphenator.specs.Fitting.{kept_breaks, fitted_breaks, fitted_breaks_of, KeepRanges}
-use Rattle.hyphenation_hyphenator.specs.Private.Fitting.{is_steady_by}
+use Rattle.hyphenation_hyphenator.specs.Private.Fitting.{range_holds_no_shift}
 use Rattle.hyphenation_hyphenator.specs.Folding.{fold_case, shifts_of}
 use Rattle.hyphenation_hyphenator.specs.Opportunities.{Rules, rules_of, opportunities, break_carried_back, Ascending, breaks_as_written}
 use Rattle.hyphenation_hyphenator.specs.Private.Opportunities.{realigned_break}
@@ -22,7 +22,7 @@ use Rattle.hyphenation_hyphenator.proofs.BreakRanges.{opportunities_ranged}
 use Rattle.hyphenation_hyphenator.proofs.RulesAscend.{rules_are_sound, opportunities_ascend, increasing_fit, fits_ascends, to_ascending}
 use Rattle.hyphenation_hyphenator.proofs.SoftHyphens.{ascending, within}
 
--- Places that are made breaks with no change are plain breaks.
+-- Places with no change are plain breaks.
 pub made_plain : {X : Type 0} (m : X → Break) (make : ℕ → X) (xs : List ℕ) → ((p : ℕ) → m (make p) ≡ plain_break p) → map m (map make xs) ≡ map plain_break xs
 made_plain m make [] h = refl
 made_plain m make (x ∷ xs) h = ap (λ b. b ∷ map m (map make xs)) (h x) ∙ ap (λ bs. plain_break x ∷ bs) (made_plain m make xs h)
@@ -31,7 +31,7 @@ pub some_soft_hyphens : (xs : List ℕ) → xs ≢ [] → (length xs == 0) ≡ f
 some_soft_hyphens [] h = absurd (h refl)
 some_soft_hyphens (x ∷ xs) h = grind (arith)
 
--- What a vector holds after a write to all of it.
+-- A vector holds the items that were written to all of it.
 pub whole_written : {X : Type 0} (len : ℕ) (new items : List X) → length new ≡ len → take len (new ++ drop (length new) items) ≡ new
 whole_written len new items e = take_at new (drop (length new) items) len e
 
@@ -39,14 +39,14 @@ pub on_ok_always : {X E : Type 0} (r : Result X E) (P : Type 0) → P → OnOk r
 on_ok_always (Ok x) P h = h
 on_ok_always (Err e) P h = tt
 
--- What is folded, found, kept and realigned.
+-- The steps of hyphenating a word: folded, found, kept and carried back.
 pub record Carries (rules : Rules) (word folded : List ℕ) (size : ℕ) (shifts : List Shift) (found kept new : List Break) : Type 0 where
   pub folded_is : folded ≡ fold_case word
   pub size_is : size ≡ length folded
   pub shifts_are : shifts ≡ shifts_of word
   pub found_are : found ≡ opportunities rules folded
   pub ascend : Ascending folded found
-  pub kept_are : kept ≡ kept_breaks (is_steady_by size shifts) found
+  pub kept_are : kept ≡ kept_breaks (range_holds_no_shift size shifts) found
   pub new_are : new ≡ map (realigned_break shifts) kept
 
 pub carried_fitted : (rules : Rules) (word folded : List ℕ) (size : ℕ) (shifts : List Shift) (found kept new : List Break) → IsUtf8 word → length word < 2 ^ 64 → Carries rules word folded size shifts found kept new
@@ -57,8 +57,8 @@ carried_fitted rules word folded size shifts found kept new u l c =
     let size_is : size ≡ length (fold_case word) = c.size_is ∙ ap length c.folded_is in
     let ascend : Ascending (fold_case word) all = subst (Ascending (fold_case word)) found_is (subst (λ t. Ascending t found) c.folded_is c.ascend) in
     let kept_is : kept ≡ fitted_breaks word all =
-    c.kept_are ∙ ap (λ n. kept_breaks (is_steady_by n shifts) found) size_is ∙ ap (λ s. kept_breaks (is_steady_by (length (fold_case word)) s) found) c.shifts_are
-    ∙ ap (kept_breaks (is_steady_by (length (fold_case word)) (shifts_of word))) found_is ∙ fitted_by_shifts word all in
+    c.kept_are ∙ ap (λ n. kept_breaks (range_holds_no_shift n shifts) found) size_is ∙ ap (λ s. kept_breaks (range_holds_no_shift (length (fold_case word)) s) found) c.shifts_are
+    ∙ ap (kept_breaks (range_holds_no_shift (length (fold_case word)) (shifts_of word))) found_is ∙ fitted_by_shifts word all in
     c.new_are ∙ ap (λ s. map (realigned_break s) kept) c.shifts_are ∙ ap (map (realigned_break (shifts_of word))) kept_is ∙ fitted_realigned word all u l ascend
 
 pub breaks_are : (rules : Rules) (word folded : List ℕ) (size : ℕ) (shifts : List Shift) (found kept new : List Break) → IsUtf8 word → length word < 2 ^ 64 → (length (soft_hyphens word) == 0) ≡ true → Carries rules word folded size shifts found kept new
@@ -73,7 +73,7 @@ unfolding fitted_breaks_of breaks_as_written
 soft_breaks_are rules word found some is =
     is ∙ sym (cond-false (length (soft_hyphens word) == 0) (map (break_carried_back word) (fitted_breaks word (opportunities rules (fold_case word)))) (map plain_break (soft_hyphens word)) (some_soft_hyphens (soft_hyphens word) some))
 
--- The breaks that are kept of a dictionary's opportunities fit, and their ranges take as many bytes.
+-- The opportunities that are kept fit the word as written, and their ranges have as many bytes there.
 module _ {C B : Type 0} (change_of : C → Option Change) (break_of : B → Break) (contents : Contents C B) (word : List ℕ) (borne : ValueIsBorne C) (first : WinnerIsFirst C)
     (kept : IsDictionary change_of break_of contents) (u : IsUtf8 word) where
   abbrev all : List Break
@@ -91,7 +91,7 @@ module _ {C B : Type 0} (change_of : C → Option Change) (break_of : B → Brea
   pub opportunities_keep : KeepRanges (rules_of change_of break_of contents) word
   opportunities_keep = fitted_keep word all u ascend ranged
 
-  -- So do all breaks of the word as written, also where they are its soft hyphens.
+  -- All breaks of a word as written fit it, also where they are its soft hyphens.
   pub breaks_fit : Fits word (fitted_breaks_of (rules_of change_of break_of contents) word)
   unfolding fitted_breaks_of breaks_as_written
   breaks_fit =

@@ -12,9 +12,9 @@ use Rattle.std.proofs.lemmas.List.Folds.{list_all-append, list_any_at}
 use Rattle.std.proofs.lemmas.Str.{IsCharBoundary-start}
 use Rattle.std.proofs.lemmas.List.FromFn.{get_or-range_with_len, length-range_with_len}
 use Rattle.hyphenation_breaks.specs.Break.{Break, break_at, left_of, right_of, begin_of, end_of}
-use Rattle.hyphenation_segments.specs.Fits.{Fits, FitsFrom, Stands}
-use Rattle.hyphenation_hyphenator.specs.Fitting.{holds_changed, is_steady, is_after, keep_break, kept_breaks, fitted_breaks, KeepsRange}
-use Rattle.hyphenation_hyphenator.specs.Private.Fitting.{holds_shift, is_steady_by}
+use Rattle.hyphenation_segments.specs.Fits.{Fits, FitsFrom, BreakFitsAfter}
+use Rattle.hyphenation_hyphenator.specs.Fitting.{holds_length_change, range_keeps_lengths, is_after, keep_break, kept_breaks, fitted_breaks, KeepsRange}
+use Rattle.hyphenation_hyphenator.specs.Private.Fitting.{holds_shift, range_holds_no_shift}
 use Rattle.hyphenation_hyphenator.specs.Folding.{fold_character, fold_case, carried_back, changes_length, shift_of, shifts_of}
 use Rattle.hyphenation_hyphenator.specs.Opportunities.{break_carried_back, Ascending}
 use Rattle.hyphenation_hyphenator.specs.Private.Opportunities.{realigned_break}
@@ -26,12 +26,12 @@ use Rattle.hyphenation_hyphenator.proofs.Standard.{realigned_boundary}
 
 -- ---- the same breaks, kept with the end of the last range alone
 
--- What is kept after an end.
+-- The breaks that are kept after an end.
 abbrev pub kept_from : (Break → Bool) → ℕ → List Break → List Break
 kept_from test last_end [] = []
 kept_from test last_end (b ∷ bs) = cond (test b && nat_le last_end (begin_of b)) (b ∷ kept_from test (end_of b) bs) (kept_from test last_end bs)
 
--- A place is after all ranges of the kept breaks where it is after this end.
+-- A break is after the ranges of all kept breaks exactly where it begins at this end or later.
 abbrev pub EndsAt : List Break → ℕ → Type 0
 EndsAt kept last_end = (b : Break) → is_after kept b ≡ nat_le last_end (begin_of b)
 
@@ -98,7 +98,7 @@ both : (a b : Bool) → a ≡ true → b ≡ true → (a && b) ≡ true
 both a b h k = rw (h, k) refl
 
 -- No character of the range changes its number of bytes.
-none_held : (word : List ℕ) (begin end j : ℕ) → holds_changed word begin end ≡ false → j < length (chars word) → begin ≤ place_of_character (fold_case word) j → place_of_character (fold_case word) j < end → changes_length word j ≡ false
+none_held : (word : List ℕ) (begin end j : ℕ) → holds_length_change word begin end ≡ false → j < length (chars word) → begin ≤ place_of_character (fold_case word) j → place_of_character (fold_case word) j < end → changes_length word j ≡ false
 none_held word begin end j h l a b =
     let n = length (chars word) in
     let test : ℕ → Bool = λ j. changes_length word j && (nat_le begin (place_of_character (fold_case word) j) && nat_lt (place_of_character (fold_case word) j) end) in
@@ -145,7 +145,7 @@ abbrev pub AreRanged : List ℕ → List Break → Type 0
 AreRanged text [] = Unit {0}
 AreRanged text (b ∷ bs) = Ranged text b × AreRanged text bs
 
--- The range of a break, carried back, is that of the break carried back, and both its ends are boundaries.
+-- The range of a break, carried back, is the range of the break carried back. Both its ends are boundaries.
 pub record CarriesRange (word : List ℕ) (b : Break) : Type 0 where
   pub left : left_of b.change ≤ b.place
   pub begin_at : IsCharBoundary (fold_case word) (begin_of b)
@@ -153,9 +153,9 @@ pub record CarriesRange (word : List ℕ) (b : Break) : Type 0 where
   pub begin : carried_back word (begin_of b) + left_of b.change ≡ carried_back word b.place
   pub end : carried_back word (end_of b) ≡ carried_back word b.place + right_of b.change
 
-pub range_carried : (word : List ℕ) (b : Break) → IsUtf8 word → IsCharBoundary (fold_case word) b.place → Ranged (fold_case word) b → is_steady word b ≡ true → CarriesRange word b
+pub range_carried : (word : List ℕ) (b : Break) → IsUtf8 word → IsCharBoundary (fold_case word) b.place → Ranged (fold_case word) b → range_keeps_lengths word b ≡ true → CarriesRange word b
 range_carried word b u at ranged steady =
-    let all = and_parts (nat_le (left_of b.change) b.place && nat_le (end_of b) (length (fold_case word))) (not (holds_changed word (begin_of b) (end_of b))) steady in
+    let all = and_parts (nat_le (left_of b.change) b.place && nat_le (end_of b) (length (fold_case word))) (not (holds_length_change word (begin_of b) (end_of b))) steady in
     let two = and_parts (nat_le (left_of b.change) b.place) (nat_le (end_of b) (length (fold_case word))) all.0 in
     let left : left_of b.change ≤ b.place = leb-true _ _ two.0 in
     let ends = ranged left (leb-true _ _ two.1) in
@@ -171,7 +171,7 @@ carried_keeps_order word p q u a b h =
       | false ↦ λ e. let back = ltb-false p q e in let same : p ≡ q = omega arith in let carry = ap (carried_back word) same in omega arith
     ] refl
 
-stands : (word : List ℕ) (last_end least : ℕ) (b : Break) → IsUtf8 word → IsCharBoundary (fold_case word) last_end → CarriesRange word b → last_end ≤ begin_of b → least ≤ carried_back word b.place → Stands word (carried_back word last_end) least (break_carried_back word b)
+stands : (word : List ℕ) (last_end least : ℕ) (b : Break) → IsUtf8 word → IsCharBoundary (fold_case word) last_end → CarriesRange word b → last_end ≤ begin_of b → least ≤ carried_back word b.place → BreakFitsAfter word (carried_back word last_end) least (break_carried_back word b)
 stands word last_end least b u at range apart least_ok =
     let place = carried_back word b.place in
     let begin_is : carried_back word (begin_of b) ≡ place - left_of b.change = let e = range.begin in omega arith in
@@ -185,7 +185,7 @@ stands word last_end least b u at range apart least_ok =
       end = subst (IsCharBoundary word) range.end (carried_is_boundary word (end_of b) u);
     }
 
--- From a place of the folded word on, no place is carried back to before the least one.
+-- A later place of the folded word is not carried back before an earlier one.
 abbrev pub CarriesFrom : List ℕ → ℕ → ℕ → Type 0
 CarriesFrom word low least = (place : ℕ) → IsCharBoundary (fold_case word) place → low ≤ place → least ≤ carried_back word place
 
@@ -193,10 +193,10 @@ carries_after : (word : List ℕ) (p : ℕ) → IsUtf8 word → IsCharBoundary (
 carries_after word p u at = λ q b h. let rises = carried_rises word p q u at b (omega arith) in omega arith
 
 kept_from_fits : (word : List ℕ) (last_end low least : ℕ) (breaks : List Break) → IsUtf8 word → IsCharBoundary (fold_case word) last_end → AscendFrom (fold_case word) low breaks → AreRanged (fold_case word) breaks → CarriesFrom word low least
-    → FitsFrom word (carried_back word last_end) least (map (break_carried_back word) (kept_from (is_steady word) last_end breaks))
+    → FitsFrom word (carried_back word last_end) least (map (break_carried_back word) (kept_from (range_keeps_lengths word) last_end breaks))
 kept_from_fits word last_end low least [] u at a ranged from = tt
 kept_from_fits word last_end low least (b ∷ bs) u at a ranged from =
-    let test = is_steady word in
+    let test = range_keeps_lengths word in
     let passes = test b && nat_le last_end (begin_of b) in
     elim passes as (λ t. passes ≡ t → FitsFrom word (carried_back word last_end) least (map (break_carried_back word) (cond t (b ∷ kept_from test (end_of b) bs) (kept_from test last_end bs)))) [
       | true ↦ λ e.
@@ -209,20 +209,20 @@ kept_from_fits word last_end low least (b ∷ bs) u at a ranged from =
       | false ↦ λ e. kept_from_fits word last_end low least bs u at (ascend_earlier (fold_case word) (b.place + 1) low bs (omega (arith, a.0)) a.2) ranged.1 from
     ] refl
 
--- Breaks that are kept fit the word as written when they are carried back.
+-- Breaks that are kept and carried back fit the word as written.
 pub fitted_fit : (word : List ℕ) (breaks : List Break) → IsUtf8 word → Ascending (fold_case word) breaks → AreRanged (fold_case word) breaks → Fits word (map (break_carried_back word) (fitted_breaks word breaks))
 unfolding fitted_breaks
 fitted_fit word breaks u a ranged =
     let start : IsCharBoundary (fold_case word) 0 = IsCharBoundary-start (fold_case word) (fold_is_utf8 word u) in
-    subst (λ bs. Fits word (map (break_carried_back word) bs)) (sym (kept_is (is_steady word) breaks))
-    (subst (λ x. FitsFrom word x 0 (map (break_carried_back word) (kept_from (is_steady word) 0 breaks))) (carried_start word u)
+    subst (λ bs. Fits word (map (break_carried_back word) bs)) (sym (kept_is (range_keeps_lengths word) breaks))
+    (subst (λ x. FitsFrom word x 0 (map (break_carried_back word) (kept_from (range_keeps_lengths word) 0 breaks))) (carried_start word u)
     (kept_from_fits word 0 0 0 breaks u start (from_ascending (fold_case word) breaks a) ranged (λ q b h. omega arith)))
 
--- Their ranges take as many bytes there.
-kept_from_keep : (word : List ℕ) (last_end low : ℕ) (breaks : List Break) → IsUtf8 word → AscendFrom (fold_case word) low breaks → AreRanged (fold_case word) breaks → All (KeepsRange word) (kept_from (is_steady word) last_end breaks)
+-- The ranges of kept breaks have as many bytes in the word as written.
+kept_from_keep : (word : List ℕ) (last_end low : ℕ) (breaks : List Break) → IsUtf8 word → AscendFrom (fold_case word) low breaks → AreRanged (fold_case word) breaks → All (KeepsRange word) (kept_from (range_keeps_lengths word) last_end breaks)
 kept_from_keep word last_end low [] u a ranged = All-nil (KeepsRange word)
 kept_from_keep word last_end low (b ∷ bs) u a ranged =
-    let test = is_steady word in
+    let test = range_keeps_lengths word in
     let passes = test b && nat_le last_end (begin_of b) in
     elim passes as (λ t. passes ≡ t → All (KeepsRange word) (cond t (b ∷ kept_from test (end_of b) bs) (kept_from test last_end bs))) [
       | true ↦ λ e.
@@ -234,9 +234,9 @@ kept_from_keep word last_end low (b ∷ bs) u a ranged =
 
 pub fitted_keep : (word : List ℕ) (breaks : List Break) → IsUtf8 word → Ascending (fold_case word) breaks → AreRanged (fold_case word) breaks → All (KeepsRange word) (fitted_breaks word breaks)
 unfolding fitted_breaks
-fitted_keep word breaks u a ranged = subst (All (KeepsRange word)) (sym (kept_is (is_steady word) breaks)) (kept_from_keep word 0 0 breaks u (from_ascending (fold_case word) breaks a) ranged)
+fitted_keep word breaks u a ranged = subst (All (KeepsRange word)) (sym (kept_is (range_keeps_lengths word) breaks)) (kept_from_keep word 0 0 breaks u (from_ascending (fold_case word) breaks a) ranged)
 
--- ---- the same by the shifts
+-- ---- keeping breaks by the shifts
 
 any_picked : {X Y : Type 0} (f : X → Y) (p : X → Bool) (q : Y → Bool) (xs : List X) → list_any q (map f (filter p xs)) ≡ list_any (λ x. p x && q (f x)) xs
 any_picked f p q [] = refl
@@ -246,12 +246,12 @@ any_picked {X} {Y} f p q (x ∷ xs) =
       | false ↦ any_picked f p q xs
     ]
 
--- A character whose number of bytes changes begins in a range where a shift does.
-pub held_by_shifts : (word : List ℕ) (begin end : ℕ) → holds_shift (shifts_of word) begin end ≡ holds_changed word begin end
+-- A character whose number of bytes changes begins in a range exactly where a shift does.
+pub held_by_shifts : (word : List ℕ) (begin end : ℕ) → holds_shift (shifts_of word) begin end ≡ holds_length_change word begin end
 held_by_shifts word begin end = any_picked (shift_of word) (changes_length word) (λ shift. nat_le begin shift.index && nat_lt shift.index end) (range_with_len 0 (length (chars word)))
 
-pub steady_by_shifts : (word : List ℕ) (b : Break) → is_steady_by (length (fold_case word)) (shifts_of word) b ≡ is_steady word b
-unfolding is_steady_by
+pub steady_by_shifts : (word : List ℕ) (b : Break) → range_holds_no_shift (length (fold_case word)) (shifts_of word) b ≡ range_keeps_lengths word b
+unfolding range_holds_no_shift
 steady_by_shifts word b = ap (λ t. nat_le (left_of b.change) b.place && nat_le (end_of b) (length (fold_case word)) && not t) (held_by_shifts word (begin_of b) (end_of b))
 
 kept_same : (test other : Break → Bool) (last_end : ℕ) (breaks : List Break) → ((b : Break) → test b ≡ other b) → kept_from test last_end breaks ≡ kept_from other last_end breaks
@@ -261,9 +261,9 @@ kept_same test other last_end (b ∷ bs) same =
     ∙ ap (λ rest. cond (other b && nat_le last_end (begin_of b)) (b ∷ rest) (kept_from test last_end bs)) (kept_same test other (end_of b) bs same)
     ∙ ap (λ rest. cond (other b && nat_le last_end (begin_of b)) (b ∷ kept_from other (end_of b) bs) rest) (kept_same test other last_end bs same)
 
-pub fitted_by_shifts : (word : List ℕ) (breaks : List Break) → kept_breaks (is_steady_by (length (fold_case word)) (shifts_of word)) breaks ≡ fitted_breaks word breaks
+pub fitted_by_shifts : (word : List ℕ) (breaks : List Break) → kept_breaks (range_holds_no_shift (length (fold_case word)) (shifts_of word)) breaks ≡ fitted_breaks word breaks
 unfolding fitted_breaks
-fitted_by_shifts word breaks = kept_is _ breaks ∙ kept_same _ _ 0 breaks (steady_by_shifts word) ∙ sym (kept_is (is_steady word) breaks)
+fitted_by_shifts word breaks = kept_is _ breaks ∙ kept_same _ _ 0 breaks (steady_by_shifts word) ∙ sym (kept_is (range_keeps_lengths word) breaks)
 
 realigned_from : (word : List ℕ) (test : Break → Bool) (last_end low : ℕ) (breaks : List Break) → IsUtf8 word → length word < 2 ^ 64 → AscendFrom (fold_case word) low breaks
     → map (realigned_break (shifts_of word)) (kept_from test last_end breaks) ≡ map (break_carried_back word) (kept_from test last_end breaks)
@@ -277,8 +277,8 @@ realigned_from word test last_end low (b ∷ bs) u l a =
       | false ↦ realigned_from word test last_end (b.place + 1) bs u l a.2
     ]
 
--- Kept breaks that are realigned are carried back.
+-- Kept breaks that are carried back by shifts are carried back.
 pub fitted_realigned : (word : List ℕ) (breaks : List Break) → IsUtf8 word → length word < 2 ^ 64 → Ascending (fold_case word) breaks → map (realigned_break (shifts_of word)) (fitted_breaks word breaks) ≡ map (break_carried_back word) (fitted_breaks word breaks)
 unfolding fitted_breaks
 fitted_realigned word breaks u l a =
-    ap (map (realigned_break (shifts_of word))) (kept_is (is_steady word) breaks) ∙ realigned_from word (is_steady word) 0 0 breaks u l (from_ascending (fold_case word) breaks a) ∙ ap (map (break_carried_back word)) (sym (kept_is (is_steady word) breaks))
+    ap (map (realigned_break (shifts_of word))) (kept_is (range_keeps_lengths word) breaks) ∙ realigned_from word (range_keeps_lengths word) 0 0 breaks u l (from_ascending (fold_case word) breaks a) ∙ ap (map (break_carried_back word)) (sym (kept_is (range_keeps_lengths word) breaks))

@@ -1,4 +1,4 @@
--- What the rows of the table of simple foldings give, found in one pass of them.
+-- Facts of the table of simple case foldings, found in one pass over its rows.
 use Rattle.std.proofs.Common.{◌≡◌, ℕ, zero, suc, ◌+◌, ◌<◌, ◌≤◌, ◌==◌, ◌&&◌, nat_le, Bool, true, false, cond, List, [], ◌∷◌, refl, subst, arith, inl, inr, eqb-true}
 use Rattle.std.specs.Char.{to_ascii_lowercase}
 use Rattle.std.specs.List.{list_all, range_with_len}
@@ -15,7 +15,7 @@ value_passes test default (r ∷ rs) c d h =
     let parts = and_parts (test r.2) (list_all (λ r. test r.2) rs) h in
     elim (nat_le r.0 c && nat_le c r.1) as (λ b. test (cond b r.2 (value_in default rs c)) ≡ true) [ true ↦ parts.0 | false ↦ value_passes test default rs c d parts.1 ]
 
--- What the table folds to are characters.
+-- The table folds characters to characters.
 pub foldings_are_scalars : (c : ℕ) → all_scalars (simple_folding c) ≡ true
 unfolding simple_folding simple_folding_rows
 foldings_are_scalars c = value_passes all_scalars [] simple_folding_rows c refl refl
@@ -29,7 +29,7 @@ each_passes test a (suc n) c h l k =
       | inr here ↦ let same : a ≡ c = omega arith in subst (λ x. test x ≡ true) same parts.0
     ]
 
--- The capitals of ASCII fold to its small letters.
+-- The capitals of ASCII fold to its lowercase letters.
 pub capitals_fold : (c : ℕ) → 65 ≤ c → c < 91 → simple_fold c ≡ to_ascii_lowercase c
 unfolding simple_folding simple_folding_rows value_in
 capitals_fold c l k = eqb-true _ _ (each_passes (λ x. simple_fold x == to_ascii_lowercase x) 65 26 c refl l k)

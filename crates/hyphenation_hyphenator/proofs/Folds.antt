@@ -1,4 +1,4 @@
--- The folding, character by character, and the places that are carried back.
+-- Folding character by character, and places carried back.
 use Rattle.std.proofs.Common.{◌≡◌, ℕ, ◌<◌, ◌≤◌, ◌==◌, Bool, true, false, cond, List, [], ◌∷◌, length, take, map, chars, encode_utf8_all, refl, sym, ap, subst, ◌∙◌, arith, min}
 use Rattle.std.specs.Char.{IsScalar}
 use Rattle.std.specs.List.{slice_index_or, list_any}
@@ -14,7 +14,7 @@ use Rattle.hyphenation_hyphenator.specs.Folding.{fold_character, fold_case, has_
 use Rattle.hyphenation_hyphenator.proofs.FoldingRows.{foldings_are_scalars}
 use Rattle.hyphenation_hyphenator.proofs.Places.{place_end, place_rises, place_reflects_order, place_of_boundary, boundary_within, characters_before, place_is_boundary, same_place}
 
--- What the table folds to are characters.
+-- The folding of a character is a character.
 
 first_is_scalar : (v : List ℕ) (c : ℕ) → all_scalars v ≡ true → IsScalar c → IsScalar (slice_index_or v 0 c)
 first_is_scalar [] c h s = s
@@ -39,7 +39,7 @@ fold_is_utf8 text u = (map fold_character (chars text), (folded_are_scalars (cha
 pub as_many_characters : (text : List ℕ) → IsUtf8 text → length (chars (fold_case text)) ≡ length (chars text)
 as_many_characters text u = ap length (chars_of_fold text u) ∙ length-map _ _
 
--- Texts without a character that is Uppercase stay.
+-- A text without Uppercase characters folds to itself.
 
 pub dotted_is_uppercase : is_uppercase 0x130 ≡ true
 unfolding is_uppercase uppercase_ranges in_ranges

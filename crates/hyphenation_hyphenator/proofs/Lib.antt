@@ -21,8 +21,8 @@ pub mod PlainBreaks
 pub mod UnmovedPlaces
 pub mod CapitalRanges
 pub mod AsciiWords
-pub mod SmallLetters
+pub mod CommonLowercase
 pub mod OddPlaces
 pub mod PiecesJoin
-pub mod TextGivenBack
+pub mod EmptyMark
 pub mod ExceptionRemoval

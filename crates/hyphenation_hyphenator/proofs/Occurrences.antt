@@ -1,4 +1,4 @@
--- A value above 0 stands between characters of the word.
+-- Values above 0 stand on character boundaries of the word.
 use Rattle.std.proofs.Common.{◌≡◌, ℕ, zero, suc, ◌+◌, ◌-◌, ◌<◌, ◌≤◌, ◌&&◌, nat_le, true, List, [], ◌∷◌, ◌++◌, length, map, take, drop, get_or, Option, refl, sym, ap, subst, ◌∙◌, arith, add-one, inl, inr}
 use Rattle.std.specs.List.{slice_index, slice_range}
 use Rattle.std.specs.Str.{IsUtf8, IsCharBoundary}
@@ -14,7 +14,7 @@ use Rattle.hyphenation_score.specs.Laws.{ValueIsBorne}
 use Rattle.hyphenation_score.specs.Winners.{Bears}
 use Rattle.hyphenation_hyphenator.proofs.Ascending.{boundary_from_test}
 
--- Where a text stands in a longer one, its boundaries are boundaries of the longer one.
+-- The boundaries of a text are boundaries of a longer text in which it occurs.
 pub occurrence_boundary : (framed : List ℕ) (start end place : ℕ) → IsUtf8 framed → start < end → end ≤ length framed
     → IsUtf8 (slice_range framed start end) → IsCharBoundary (slice_range framed start end) place → IsCharBoundary framed (start + place)
 occurrence_boundary framed start end place u some within v b =
@@ -56,7 +56,7 @@ entry_boundary {C} key least (e ∷ es) i entry h lt is =
       | suc i ↦ λ lt there. entry_boundary key (e.place + 1) es i entry all.1 (omega arith) there
     ] lt is
 
--- What bears on a place of a word bears on a boundary of its characters.
+-- An entry that bears on a place of a word bears on a character boundary.
 bears_boundary : {C B : Type 0} (change_of : C → Option Change) (break_of : B → Break) (contents : Contents C B) (word : List ℕ) (p start end : ℕ) (entry : Entry C)
     → IsDictionary change_of break_of contents → IsUtf8 word → p ≤ length word → Bears (entries_of_keys contents) word p start end entry → IsCharBoundary word p
 bears_boundary change_of break_of contents word p start end entry kept u within bears =
@@ -64,10 +64,10 @@ bears_boundary change_of break_of contents word p start end entry kept u within 
     let pattern = kept.patterns key bears.entries bears.key in
     let places = (and_parts (ascend_on key 0 (map (λ e. e.place) bears.entries)) _ pattern.ascend).0 in
     let at_key = entry_boundary key 0 bears.entries bears.among.0 entry places bears.among.1.0 bears.among.1.1 in
-    let at_frame = occurrence_boundary (frame word) start end entry.place (frame_is_utf8 word u) bears.some bears.within pattern.utf8 at_key in
+    let at_frame = occurrence_boundary (frame word) start end entry.place (frame_is_utf8 word u) bears.not_empty bears.within pattern.utf8 at_key in
     unframed_boundary word p within (subst (IsCharBoundary (frame word)) bears.place at_frame)
 
--- No value above 0 stands inside of a character.
+-- A place inside of a character has the value 0.
 pub value_boundary : {C B : Type 0} (change_of : C → Option Change) (break_of : B → Break) (contents : Contents C B) (word : List ℕ) (p : ℕ)
     → ValueIsBorne C → IsDictionary change_of break_of contents → IsUtf8 word → p ≤ length word → 0 < value_at (entries_of_keys contents) word p → IsCharBoundary word p
 value_boundary change_of break_of contents word p borne_by kept u within some =

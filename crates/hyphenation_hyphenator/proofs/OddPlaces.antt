@@ -1,4 +1,4 @@
--- The odd places of a word are the breaks that patterns allow, where none changes anything; they are looked for within the bounds alone.
+-- Places with odd values are the breaks that patterns allow, where no winner carries a change.
 use Rattle.std.proofs.Common.{◌≡◌, ◌≢◌, ◌%◌, ◌&&◌, nat_le, ℕ, zero, suc, ◌+◌, ◌-◌, ◌<◌, ◌≤◌, ◌⊎◌, Bool, true, false, cond, List, [], ◌∷◌, ◌++◌, length, map, filter, max, min, Option, Some, None, refl, sym, ap, subst, ◌∙◌, arith, inl, inr}
 use Rattle.std.specs.List.{range_with_len, slice_index}
 use Rattle.std.specs.Option.{option_and_then}
@@ -68,7 +68,7 @@ outside values bounds first end p is_first is_end one (inr late) = elim (cases_l
   | inr before ↦ ap (λ v. is_odd v && within bounds p) (get_or_past values (p - 1) 0 (omega arith))
 ]
 
--- One more place of a row that is filtered.
+-- One more place of a list that is filtered.
 filtered_more : (test : ℕ → Bool) (first n : ℕ) → filter test (range_with_len first (n + 1)) ≡ filter test (range_with_len first n) ++ cond (test (first + n)) ((first + n) ∷ []) []
 filtered_more test first n = ap (filter test) (range-append first n 1) ∙ filter-append test (range_with_len first n) ((first + n) ∷ [])
 
@@ -127,11 +127,11 @@ same_breaks test odd break_to bounds is first (suc n) agree =
       | false ↦ rest
     ]
 
--- Where nothing carries a change, no winner does.
-pub none_won : {C : Type 0} (keys : Patterns C) (word : List ℕ) (p : ℕ) → option_and_then (λ entry. no_change entry.change) (winner_at keys word p) ≡ None
-none_won {C} keys word p = elim (winner_at keys word p) as (λ winner. option_and_then (λ (entry : Entry C). no_change entry.change) winner ≡ None) [ None ↦ refl | Some entry ↦ refl ]
+-- No winner carries a change, where no entry does.
+pub winners_have_no_change : {C : Type 0} (keys : Patterns C) (word : List ℕ) (p : ℕ) → option_and_then (λ entry. no_change entry.change) (winner_at keys word p) ≡ None
+winners_have_no_change {C} keys word p = elim (winner_at keys word p) as (λ winner. option_and_then (λ (entry : Entry C). no_change entry.change) winner ≡ None) [ None ↦ refl | Some entry ↦ refl ]
 
--- The odd places within bounds are the breaks that the keys allow, where no winner carries a change.
+-- Places with odd values within bounds are the breaks that the keys allow, where no winner carries a change.
 pub places_allowed : {C : Type 0} (change_of : C → Option Change) (keys : Patterns C) (word : List ℕ) (bounds : ℕ × ℕ) → ((p : ℕ) → option_and_then (λ entry. change_of entry.change) (winner_at keys word p) ≡ None)
     → map plain_break (filter (test_of (values keys word) bounds) (range_with_len 1 (length (values keys word)))) ≡ breaks_within (breaks_at_odd_values change_of keys word) bounds
 unfolding breaks_at_odd_values

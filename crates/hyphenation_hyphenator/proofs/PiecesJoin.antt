@@ -1,4 +1,4 @@
--- The pieces of a text between word bounds, each given back as it is, join to the text.
+-- The pieces of a text between word bounds join to the text.
 use Rattle.std.proofs.Common.{◌≡◌, ℕ, List, [], ◌∷◌, ◌++◌, map, length, refl, sym, ap, subst, ◌∙◌, true, false, cond, append_assoc, append-nil}
 use Rattle.std.specs.Prelude.{encode_utf8, encode_utf8_all}
 use Rattle.std.specs.List.{concat, flat_map}
@@ -8,7 +8,7 @@ use Rattle.std.proofs.lemmas.Str.{encodes-append, encodes-chars, IsUtf8-past_cha
 use Rattle.unicode_segmentation.specs.Segments.{Rule, prepend, cut, segments}
 use Rattle.unicode_segmentation.specs.Word.{is_word_break, word_bounds}
 
--- The bytes of a part that is put in front, and of what is cut.
+-- The bytes of a part that is put in front, and of a part that is cut off.
 front_bytes : (part : List ℕ) (pieces : List (List ℕ)) → concat (map encode_utf8_all (prepend part pieces)) ≡ encode_utf8_all part ++ concat (map encode_utf8_all pieces)
 front_bytes part [] = refl
 front_bytes part (cs ∷ pieces) = ap (λ xs. xs ++ concat (map encode_utf8_all pieces)) (encodes-append part cs) ∙ append_assoc (encode_utf8_all part) (encode_utf8_all cs) (concat (map encode_utf8_all pieces))
@@ -36,8 +36,8 @@ each_back f back (cs ∷ pieces) u =
     let own : IsUtf8 piece = subst IsUtf8 (take-append_seam piece rest) (IsUtf8-take (piece ++ rest) (length piece) u (IsCharBoundary-at_seam (piece ++ rest) piece rest refl later)) in
     ap (λ x. x ++ flat_map f (map encode_utf8_all pieces)) (back piece own) ∙ ap (λ xs. piece ++ xs) (each_back f back pieces later)
 
-pub pieces_back : (f : List ℕ → List ℕ) → ((piece : List ℕ) → IsUtf8 piece → f piece ≡ piece) → (text : List ℕ) → IsUtf8 text → flat_map f (word_bounds text) ≡ text
+pub pieces_join : (f : List ℕ → List ℕ) → ((piece : List ℕ) → IsUtf8 piece → f piece ≡ piece) → (text : List ℕ) → IsUtf8 text → flat_map f (word_bounds text) ≡ text
 unfolding segments
-pieces_back f back text u =
+pieces_join f back text u =
     let whole = cut_bytes is_word_break [] (chars text) [] ∙ encodes-chars text u in
     each_back f back (cut is_word_break [] (chars text) []) (subst IsUtf8 (sym whole) u) ∙ whole

@@ -21,11 +21,11 @@ scalars_drop cs zero h = h
 scalars_drop [] (suc j) h = refl
 scalars_drop (c ∷ cs) (suc j) h = let parts = both_true _ (all_scalars cs) h in scalars_drop cs j parts.1
 
--- The bytes of the first j characters, and those of the others.
+-- The bytes of the first j characters, and of the others.
 text_split : (text : List ℕ) (j : ℕ) → IsUtf8 text → text ≡ encode_utf8_all (take j (chars text)) ++ encode_utf8_all (drop j (chars text))
 text_split text j u = sym (encodes-chars text u) ∙ ap encode_utf8_all (sym (take-append-drop j (chars text))) ∙ encodes-append (take j (chars text)) (drop j (chars text))
 
--- a text whose first characters are known
+-- ---- texts whose first characters are known
 pub place_at : (text front back : List ℕ) → chars text ≡ front ++ back → place_of_character text (length front) ≡ length (encode_utf8_all front)
 place_at text front back e = ap (λ cs. length (encode_utf8_all cs)) (ap (take (length front)) e ∙ take_at front back (length front) refl)
 
@@ -56,7 +56,7 @@ rises_by text j (suc n) l =
 pub place_rises : (text : List ℕ) (j k : ℕ) → j < k → k ≤ length (chars text) → place_of_character text j < place_of_character text k
 place_rises text j k h l = let e : j + suc (k - suc j) ≡ k = omega arith in subst (λ m. place_of_character text j < place_of_character text m) e (rises_by text j (k - suc j) (omega arith))
 
--- The place of a boundary is that of the character with as many before it.
+-- A character boundary is the place of the character with as many characters before it.
 pub place_of_boundary : (text : List ℕ) (p : ℕ) → IsUtf8 text → IsCharBoundary text p → p ≡ place_of_character text (length (chars (take p text)))
 place_of_boundary text p u b =
     let front = IsUtf8-take text p u b in
@@ -99,6 +99,6 @@ place_reflects_order text j k l h =
       | false ↦ λ e. let m = place_keeps_order text k j (ltb-false j k e) l in absurd (omega arith)
     ] refl
 
--- Past the last character the place stays.
+-- The place past the last character is the text's end.
 pub same_place : (text : List ℕ) (j : ℕ) → place_of_character text (min j (length (chars text))) ≡ place_of_character text j
 same_place text j = ap (λ cs. length (encode_utf8_all cs)) (take_min j (chars text))

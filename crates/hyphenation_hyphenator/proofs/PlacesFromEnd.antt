@@ -1,4 +1,4 @@
--- Where so many characters from the end of a text begin.
+-- Where the last so many characters of a text begin.
 use Rattle.std.proofs.Common.{◌≡◌, ℕ, ◌+◌, ◌-◌, ◌≤◌, ◌<◌, List, [], ◌∷◌, ◌++◌, length, chars, encode_utf8, encode_utf8_all, IsUtf8, refl, sym, ap, subst, ◌∙◌, arith, append_assoc, append-nil, length-append, take, take_all, drop, max, None, Some, inl, inr, IsCharBoundary}
 use Rattle.std.proofs.Math.Seq.{take-add}
 use Rattle.std.proofs.lemmas.Bool.{cases_lt}
@@ -8,7 +8,7 @@ use Rattle.hyphenation_hyphenator.specs.Boundaries.{boundaries}
 use Rattle.hyphenation_hyphenator.specs.Places.{place_of_character}
 use Rattle.hyphenation_hyphenator.proofs.CharacterPlaces.{bounds_met, bounds_missed, places_ascend}
 
--- After the rest of the text, which is its front, so many of its characters are left.
+-- So many characters of the text were taken off its end.
 pub record AreLast (text rest : List ℕ) (count : ℕ) : Type 0 where
   pub last : List ℕ
   pub read : chars text ≡ chars rest ++ last
@@ -68,14 +68,14 @@ places_strict text i j h inside =
     ap (λ cs. length (encode_utf8_all cs)) split ∙ ap length (encodes-append first more) ∙ length-append (encode_utf8_all first) (encode_utf8_all more) in
     omega (arith, bytes, length-le-encodes more, length-take (j - i) (drop i (chars text)), length-drop i (chars text))
 
--- the last character within a word stands before the first one
+-- There are no boundaries where the last would be before the first.
 pub bounds_apart : (l r : ℕ) (word : List ℕ) → max r 1 ≤ length (chars word) → place_of_character word (length (chars word) - max r 1) < place_of_character word l → boundaries l r word ≡ None
 bounds_apart l r word enough apart =
     let n : ℕ = length (chars word) in
     let few : n - max r 1 < l = elim (cases_lt (n - max r 1) l) [ inl lt ↦ lt | inr ge ↦ let up = places_ascend word l (n - max r 1) ge in absurd (omega arith) ] in
     bounds_missed l r n word refl (elim (cases_lt l n) [ inl lt ↦ inr (omega arith) | inr ge ↦ inl ge ])
 
--- it stands there or after
+-- The boundaries are these two places where the last is not before the first.
 pub bounds_in_order : (l r : ℕ) (word : List ℕ) → max r 1 ≤ length (chars word) → place_of_character word l ≤ place_of_character word (length (chars word) - max r 1)
     → boundaries l r word ≡ Some (place_of_character word l, place_of_character word (length (chars word) - max r 1))
 bounds_in_order l r word enough order =

@@ -1,4 +1,4 @@
--- Breaks that change nothing are all kept, and those of a standard dictionary are such.
+-- Plain breaks are all kept, and a standard dictionary has plain breaks alone.
 use Rattle.std.proofs.Common.{◌≡◌, ℕ, ◌+◌, ◌-◌, ◌≤◌, ◌==◌, ◌&&◌, not, Bool, true, false, cond, nat_le, le-leb, List, [], ◌∷◌, length, map, Option, Some, None, Bor, option_copied, refl, sym, ap, ◌∙◌, arith}
 use Rattle.std.specs.Option.{option_map, option_and_then, option_map_or, unwrap_or}
 use Rattle.std.specs.Str.{IsUtf8}
@@ -11,8 +11,8 @@ use Rattle.hyphenation_breaks.specs.Dictionary.{Contents, Patterns, entries_of_k
 use Rattle.hyphenation_breaks.specs.Invariant.{IsDictionary}
 use Rattle.hyphenation_hyphenator.specs.declared.case_folding.Shift.{Shift}
 use Rattle.hyphenation_hyphenator.specs.Fitting.{kept_breaks, fitted_breaks_of}
-use Rattle.hyphenation_hyphenator.specs.Private.Fitting.{holds_shift, is_steady_by}
-use Rattle.hyphenation_hyphenator.specs.Private.Opportunities.{lent_break}
+use Rattle.hyphenation_hyphenator.specs.Private.Fitting.{holds_shift, range_holds_no_shift}
+use Rattle.hyphenation_hyphenator.specs.Private.Opportunities.{borrowed_break}
 use Rattle.hyphenation_hyphenator.specs.Folding.{fold_case, carried_back, shifts_of}
 use Rattle.hyphenation_hyphenator.specs.Opportunities.{Rules, no_change, rules_of, within, breaks_within, winning_break, breaks_at_odd_values, by_patterns, opportunities_in, opportunities, boundaries_by, all_breaks_of, breaks_as_written, break_carried_back, Ascending}
 use Rattle.hyphenation_hyphenator.specs.SoftHyphens.{soft_hyphens}
@@ -22,7 +22,7 @@ use Rattle.hyphenation_hyphenator.proofs.Fitting.{kept_from, kept_is, fitted_by_
 use Rattle.hyphenation_hyphenator.proofs.Folds.{fold_is_utf8}
 use Rattle.hyphenation_hyphenator.proofs.RulesAscend.{AscendFrom, from_ascending, rules_are_sound, opportunities_ascend}
 
--- Each break is a place alone.
+-- Each break is plain.
 abbrev pub ArePlain : List Break → Type 0
 ArePlain [] = Unit {0}
 ArePlain (b ∷ bs) = (b ≡ plain_break b.place) × ArePlain bs
@@ -37,8 +37,8 @@ none_between place (s ∷ ss) =
       | false ↦ λ e. grind (arith, none_between place ss)
     ] refl
 
-plain_is_steady : (size : ℕ) (shifts : List Shift) (place : ℕ) → place ≤ size → is_steady_by size shifts (plain_break place) ≡ true
-unfolding is_steady_by
+plain_is_steady : (size : ℕ) (shifts : List Shift) (place : ℕ) → place ≤ size → range_holds_no_shift size shifts (plain_break place) ≡ true
+unfolding range_holds_no_shift
 plain_is_steady size shifts place h =
     ap (λ t. (nat_le 0 place && t) && not (holds_shift shifts (place - 0) (place + 0))) (le-leb (place + 0) size (omega arith))
     ∙ ap (λ t. (t && true) && not (holds_shift shifts (place - 0) (place + 0))) (le-leb 0 place (omega arith))
@@ -53,25 +53,25 @@ all_kept text test last_end least (b ∷ bs) steady h a p =
     ap (λ x. test x && nat_le last_end (begin_of x)) p.0 ∙ ap (λ t. t && nat_le last_end (place - 0)) (steady place (a.1).0) ∙ le-leb last_end (place - 0) (omega (arith, a.0)) in
     cond-true _ (b ∷ kept_from test (end_of b) bs) (kept_from test last_end bs) passes ∙ ap (λ rest. b ∷ rest) (all_kept text test (end_of b) (place + 1) bs steady (omega arith) a.2 p.1)
 
-pub plain_kept : (text : List ℕ) (shifts : List Shift) (breaks : List Break) → Ascending text breaks → ArePlain breaks → kept_breaks (is_steady_by (length text) shifts) breaks ≡ breaks
-plain_kept text shifts breaks a p = kept_is _ breaks ∙ all_kept text (is_steady_by (length text) shifts) 0 0 breaks (plain_is_steady (length text) shifts) (omega arith) (from_ascending text breaks a) p
+pub plain_kept : (text : List ℕ) (shifts : List Shift) (breaks : List Break) → Ascending text breaks → ArePlain breaks → kept_breaks (range_holds_no_shift (length text) shifts) breaks ≡ breaks
+plain_kept text shifts breaks a p = kept_is _ breaks ∙ all_kept text (range_holds_no_shift (length text) shifts) 0 0 breaks (plain_is_steady (length text) shifts) (omega arith) (from_ascending text breaks a) p
 
 carried_plain : (word : List ℕ) (breaks : List Break) → ArePlain breaks → ArePlain (map (break_carried_back word) breaks)
 carried_plain word [] p = tt
 carried_plain word (b ∷ bs) p = (ap (λ x. break_at (carried_back word b.place) x.change) p.0, carried_plain word bs p.1)
 
--- ---- of a standard dictionary
+-- ---- the breaks of a standard dictionary
 
 pub plain_made : {X : Type 0} (make : X → Break) → ((x : X) → make x ≡ plain_break (make x).place) → (xs : List X) → ArePlain (map make xs)
 plain_made make h [] = tt
 plain_made make h (x ∷ xs) = (h x, plain_made make h xs)
 
--- Of lent breaks without a change.
-pub plain_lent : (found : List (ℕ × Option (Bor Change))) → list_all (λ b. is_none b.1) found ≡ true → ArePlain (map lent_break found)
-plain_lent [] none = tt
-plain_lent (b ∷ bs) none =
+-- Borrowed breaks without a change are plain.
+pub plain_borrowed : (found : List (ℕ × Option (Bor Change))) → list_all (λ b. is_none b.1) found ≡ true → ArePlain (map borrowed_break found)
+plain_borrowed [] none = tt
+plain_borrowed (b ∷ bs) none =
     let parts = and_parts (is_none b.1) (list_all (λ b. is_none b.1) bs) none in
-    (elim b.1 as (λ o. is_none o ≡ true → break_at b.0 (option_copied o) ≡ plain_break b.0) [ None ↦ λ _. refl | Some change ↦ λ h. absurd cc ] parts.0, plain_lent bs parts.1)
+    (elim b.1 as (λ o. is_none o ≡ true → break_at b.0 (option_copied o) ≡ plain_break b.0) [ None ↦ λ _. refl | Some change ↦ λ h. absurd cc ] parts.0, plain_borrowed bs parts.1)
 
 plain_within : (breaks : List Break) (bounds : ℕ × ℕ) → ArePlain breaks → ArePlain (breaks_within breaks bounds)
 plain_within [] bounds p = tt
@@ -105,7 +105,7 @@ module _ (contents : Contents (Unit {0}) ℕ) (word : List ℕ) where
             ]
       ]
 
-  -- Its breaks change nothing.
+  -- The breaks of a standard dictionary are plain.
   pub breaks_plain : ArePlain (all_breaks_of rules word)
   unfolding breaks_as_written
   breaks_plain =
@@ -115,7 +115,7 @@ module _ (contents : Contents (Unit {0}) ℕ) (word : List ℕ) where
         | false ↦ plain_made plain_break (λ _. refl) (soft_hyphens word)
       ]
 
-  -- Its breaks are the same where they are fitted first.
+  -- All breaks of a standard dictionary are kept.
   pub fitted_alike : ValueIsBorne (Unit {0}) → IsDictionary no_change plain_break contents → IsUtf8 word → fitted_breaks_of rules word ≡ all_breaks_of rules word
   unfolding fitted_breaks_of
   fitted_alike borne kept u =

@@ -1,4 +1,4 @@
--- What holds while a word is folded: of its first characters, the folding and the shifts so far.
+-- The invariant of folding a word: the folding and the shifts of its first characters.
 use Rattle.std.proofs.Common.{◌≡◌, ◌≢◌, ℕ, ◌+◌, ◌<◌, ◌==◌, true, false, cond, not, List, [], ◌∷◌, ◌++◌, length, take, drop, map, chars, encode_utf8_all, ℤ, pos, ◌-ℤ◌, refl, sym, ap, subst, ◌∙◌, arith, length-append, length-drop, append_assoc}
 use Rattle.std.specs.Char.{encode_utf8}
 use Rattle.std.specs.List.{slice_index, list_any}
@@ -16,7 +16,7 @@ use Rattle.hyphenation_hyphenator.proofs.NumberedCharacters.{picked_more}
 use Rattle.hyphenation_hyphenator.proofs.Places.{place_at}
 use Rattle.hyphenation_hyphenator.proofs.Shifts.{shifts_before, no_shifts}
 
--- The characters done are folded, and rest is to come.
+-- The characters done are folded, and the rest is to come.
 pub record Refolding (original rest folded : List ℕ) (written : ℕ) (shifts : List Shift) : Type 0 where
   pub utf8 : IsUtf8 original
   pub rest_utf8 : IsUtf8 rest
@@ -27,7 +27,7 @@ pub record Refolding (original rest folded : List ℕ) (written : ℕ) (shifts :
   pub shifts_are : shifts ≡ shifts_before original (length done)
   pub left : written + length rest ≡ length original
 
--- At the start.
+-- The invariant holds at the start.
 
 not_uppercase : (cs : List ℕ) (j : ℕ) → list_any is_uppercase cs ≡ false → j < length cs → is_uppercase (slice_index cs j) ≡ false
 not_uppercase cs j h l =
@@ -63,7 +63,7 @@ pub begins : (original rest folded : List ℕ) (place : ℕ) (shifts : List Shif
 begins original rest folded place shifts u b n r f s =
     subst (λ x. Refolding original x folded place shifts) (sym r) (subst (λ x. Refolding original (drop place original) x place shifts) (sym f) (subst (λ x. Refolding original (drop place original) (take place original) place x) (sym s) (starts original place u b n)))
 
--- A text without a character that is Uppercase has no shifts.
+-- A text without Uppercase characters has no shifts.
 pub stays_without_shifts : (text : List ℕ) → has_uppercase text ≡ false → shifts_of text ≡ []
 stays_without_shifts text n = no_shifts text (length (chars text)) (λ j l. keeps_length text j (not_uppercase (chars text) j n l))
 
@@ -80,7 +80,7 @@ folded_place original rest folded written shifts r =
     let parts : chars (fold_case original) ≡ map fold_character r.done ++ map fold_character (chars rest) = chars_of_fold original r.utf8 ∙ ap (map fold_character) r.all ∙ map-append fold_character r.done (chars rest) in
     ap (place_of_character (fold_case original)) (sym (length-map _ _)) ∙ place_at (fold_case original) (map fold_character r.done) (map fold_character (chars rest)) parts ∙ sym (ap length r.folded_is)
 
--- One character further.
+-- The invariant holds after one more character.
 
 module _ (original rest next folded folded' : List ℕ) (written written' c : ℕ) (shifts : List Shift) (before : Refolding original rest folded written shifts)
     (e : rest ≡ encode_utf8 c ++ next) (f : folded' ≡ folded ++ encode_utf8 (fold_character c)) (w : written' ≡ written + length (encode_utf8 c)) where
@@ -128,7 +128,7 @@ module _ (original rest next folded folded' : List ℕ) (written written' c : �
       further shifts' (k ∙ ap (λ xs. xs ++ s ∷ []) before.shifts_are ∙ ap (λ t. shifts_before original n ++ t ∷ []) this
       ∙ sym (picked_more (shift_of original) (changes_length original) n ∙ ap (λ b. shifts_before original n ++ cond b (shift_of original n ∷ []) []) (changes ∙ unequal _ _ h)))
 
--- At the end.
+-- The invariant at the end has the whole folding.
 
 pub folded_whole : (original rest folded : List ℕ) (written : ℕ) (shifts : List Shift) → Refolding original rest folded written shifts → length rest ≡ 0 → (folded ≡ fold_case original) × (shifts ≡ shifts_of original)
 folded_whole original [] folded written shifts r h =

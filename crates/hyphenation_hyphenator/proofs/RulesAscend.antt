@@ -1,4 +1,4 @@
--- What the rules of a dictionary give ascends on character boundaries.
+-- Breaks by the rules of a dictionary ascend on character boundaries.
 use Rattle.std.proofs.Common.{◌≡◌, ℕ, zero, suc, ◌+◌, ◌-◌, ◌<◌, ◌≤◌, Bool, true, false, cond, List, [], ◌∷◌, length, map, filter, Option, Some, None, refl, sym, ap, subst, ◌∙◌, arith, add-one}
 use Rattle.std.specs.Prelude.{All}
 use Rattle.std.specs.List.{range_with_len, slice_index}
@@ -19,7 +19,7 @@ use Rattle.hyphenation_hyphenator.specs.Opportunities.{Rules, rules_of, is_odd, 
 use Rattle.hyphenation_hyphenator.proofs.Ascending.{Ascend, ascend_from_test, ascend_fits, test_from_ascend}
 use Rattle.hyphenation_hyphenator.proofs.Occurrences.{value_boundary}
 
--- From a least place on.
+-- Breaks that ascend from a least place on.
 abbrev pub AscendFrom : List ℕ → ℕ → List Break → Type 0
 AscendFrom text least breaks = Ascend text least (map (λ b. b.place) breaks)
 
@@ -45,7 +45,7 @@ within_ascend text least (b ∷ bs) bounds a =
 within_ascending : (text : List ℕ) (breaks : List Break) (bounds : ℕ × ℕ) → Ascending text breaks → Ascending text (breaks_within breaks bounds)
 within_ascending text breaks bounds a = to_ascending text (breaks_within breaks bounds) (within_ascend text 0 breaks bounds (from_ascending text breaks a))
 
--- What is listed for a word, and what is allowed in it, ascends.
+-- The breaks listed for a word, and those that patterns allow in it, ascend.
 pub record AreSound (rules : Rules) (word : List ℕ) : Type 0 where
   pub listed : IfSome (rules.listed word) (λ listed. Ascending word listed)
   pub allowed : Ascending word (rules.allowed word)
@@ -90,7 +90,7 @@ rules_are_sound {C} {B} change_of break_of contents word borne kept u =
           (λ p lt odd. value_boundary change_of break_of contents word p borne kept u (omega arith) (odd_is_some (value_at keys word p) odd)));
     }
 
--- ---- what they give
+-- ---- breaks by rules
 
 pub by_patterns_ascend : (rules : Rules) (word : List ℕ) (bounds : ℕ × ℕ) → AreSound rules word → Ascending word (by_patterns rules word bounds)
 by_patterns_ascend rules word bounds sound = within_ascending word (rules.allowed word) bounds sound.allowed

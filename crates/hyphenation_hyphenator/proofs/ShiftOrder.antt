@@ -1,4 +1,4 @@
--- Shifts in the order of their indices, and whether one stands between two places.
+-- Sorted shifts, and whether one lies between two places.
 use Rattle.std.proofs.Common.{◌≡◌, ℕ, zero, suc, ◌<◌, ◌≤◌, ◌&&◌, Bool, true, false, cond, nat_le, nat_lt, le-leb, le-ltb, ltb-true, ltb-false, List, [], ◌∷◌, length, map, filter, chars, get_or, take, reverse, Some, None, ◌-◌, refl, sym, ap, subst, ◌∙◌, arith}
 use Rattle.std.specs.List.{range_with_len, find, slice_get, AllWithin}
 use Rattle.std.specs.List.Sorted.{IsNonDecreasingBy, IsPartitionPoint}
@@ -27,7 +27,7 @@ module _ (shifts : List Shift) (begin end at : ℕ) (point : IsPartitionPoint (�
       let l : (get_or shifts k d).index < begin = ltb-true _ _ (point.0 k d (omega arith) h) in
       ap (λ t. t && nat_lt (get_or shifts k d).index end) (lt-leb _ _ l)
 
-  -- The shift at the point is the first that could be held.
+  -- The shift at the point is the first that can lie in the range.
   pub held_at : (shift : Shift) → at < length shifts → shift ≡ get_or shifts at shift → IsNonDecreasingBy (λ (s : Shift). s.index) shifts → nat_lt shift.index end ≡ holds_shift shifts begin end
   held_at shift h is order =
       let above : begin ≤ shift.index = subst (λ (s : Shift). begin ≤ s.index) (sym is) (ltb-false _ _ (point.1 at shift (omega arith) h)) in
@@ -66,7 +66,7 @@ module _ {X : Type 0} (test : X → Bool) where
       let is = slice_get-get_or (y ∷ ys) (length ys) y (omega arith) in
       ap (λ n. option_or (slice_get (y ∷ ys) n) (Some x)) short ∙ ap (λ o. option_or o (Some x)) is ∙ sym is ∙ ap (slice_get (x ∷ y ∷ ys)) (sym long)
 
-  -- Where all before a point pass the test and none from there on, the last one before it is the first from the end that passes.
+  -- The last element before the point is the first from the end that passes, where exactly those before the point pass.
   pub last_before : (xs : List X) (at : ℕ) → IsPartitionPoint (λ x. test x ≡ true) (λ x. test x ≡ false) xs at → at ≤ length xs → slice_get (take at xs) (length (take at xs) - 1) ≡ find test (reverse xs)
   last_before xs zero point h = sym (none_passes xs point.1)
   last_before [] (suc at) point h = absurd (omega (arith, h))
@@ -92,7 +92,7 @@ row_in_order g n rises = λ i j d h l.
     let at_j : g (get_or (range_with_len 0 n) j d) ≡ g j = ap g (get_or-range_with_len 0 n j d j_in ∙ omega arith) in
     let o = rises i j h j_in in omega arith
 
--- The shifts of a folding are in order.
+-- The shifts of a folding are sorted.
 pub shifts_in_order : (word : List ℕ) → IsUtf8 word → IsNonDecreasingBy (λ (s : Shift). s.index) (shifts_of word)
 shifts_in_order word u =
     let n = length (chars word) in

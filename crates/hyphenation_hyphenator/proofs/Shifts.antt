@@ -1,4 +1,4 @@
--- The shifts of a folding, and what the last one below a place tells.
+-- The shifts of a folding, and the growth that the last shift below a place states.
 use Rattle.std.proofs.Common.{◌≡◌, ℕ, ◌+◌, ◌-◌, ◌<◌, ◌≤◌, ◌^◌, ◌==◌, true, false, cond, not, zero, suc, List, [], ◌∷◌, ◌++◌, length, map, filter, reverse, min, chars, Some, nat_lt, lt-ltb, le-ltb, ℤ, pos, ◌-ℤ◌, refl, sym, ap, subst, ◌∙◌, arith, add-one, add-zero}
 use Rattle.std.proofs.lemmas.Bool.{cond-true, cond-false}
 use Rattle.std.specs.Char.{encode_utf8}
@@ -26,7 +26,7 @@ delta_below_more shifts s place =
 abbrev pub shifts_before : List ℕ → ℕ → List Shift
 shifts_before text n = map (shift_of text) (filter (changes_length text) (range_with_len 0 n))
 
--- By how many bytes the first j characters grow.
+-- The growth of the first j characters, in bytes.
 abbrev pub growth : List ℕ → ℕ → ℤ
 growth text j = pos (place_of_character (fold_case text) j) -ℤ pos (place_of_character text j)
 
@@ -80,13 +80,13 @@ beyond text j (suc m) u l =
       | false ↦ λ e. step ∙ cond-false _ _ _ e ∙ before
     ] refl)
 
--- The last shift below a place tells by how many bytes the characters before it grow.
+-- The delta of the last shift below a place is the growth of the characters before it.
 pub delta_is_growth : (text : List ℕ) (j : ℕ) → IsUtf8 text → j ≤ length (chars text) → delta_below (shifts_of text) (place_of_character (fold_case text) j) ≡ growth text j
 delta_is_growth text j u l =
     let e : j + (length (chars text) - j) ≡ length (chars text) = omega arith in
     subst (λ n. delta_below (shifts_before text n) (place_of_character (fold_case text) j) ≡ growth text j) e (beyond text j (length (chars text) - j) u (omega arith))
 
--- The place that a folded place less that growth, held between its ends, comes to.
+-- A folded place less that growth, held between 0 and the greatest `usize`, is the place as written.
 back : (p q : ℕ) (d : ℤ) → d ≡ pos p -ℤ pos q → q < 2 ^ 64 → saturate_unsigned w64 (pos p -ℤ d) ≡ q
 back p q d e h =
     let whole : pos p -ℤ d ≡ pos q = omega (arith, ints) in
@@ -102,11 +102,11 @@ realigned text j u l =
     let d : delta_below (shifts_of text) p ≡ pos p -ℤ pos (place_of_character text k) = subst (λ q. delta_below (shifts_of text) q ≡ pos q -ℤ pos (place_of_character text k)) folded grown in
     back p (place_of_character text k) (delta_below (shifts_of text) p) d (omega (arith, place_within text k u)) ∙ same_place text j
 
--- What subtracting that growth gives is the place carried back.
+-- A folded place less that growth is the place carried back.
 pub carried_back : (text : List ℕ) (j place result : ℕ) (shifts : List Shift) → IsUtf8 text → length text < 2 ^ 64 → shifts ≡ shifts_of text → place ≡ place_of_character (fold_case text) j → result ≡ saturate_unsigned w64 (pos place -ℤ delta_below shifts place) → result ≡ place_of_character text j
 carried_back text j place result shifts u l e k v = v ∙ ap (λ s. saturate_unsigned w64 (pos place -ℤ delta_below s place)) e ∙ ap (λ p. saturate_unsigned w64 (pos p -ℤ delta_below (shifts_of text) p)) k ∙ realigned text j u l
 
--- Where no character changes its length there is no shift.
+-- There is no shift where no character changes its length.
 pub no_shifts : (text : List ℕ) (n : ℕ) → ((j : ℕ) → j < n → changes_length text j ≡ false) → shifts_before text n ≡ []
 no_shifts text zero h = refl
 no_shifts text (suc n) h =

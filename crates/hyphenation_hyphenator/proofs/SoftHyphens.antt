@@ -1,4 +1,4 @@
--- The soft hyphens of a word, and what holds while they are looked for.
+-- The soft hyphens of a word, and the invariant of the search for them.
 use Rattle.std.proofs.Common.{◌≡◌, ◌≢◌, ℕ, ◌+◌, ◌-◌, ◌<◌, ◌≤◌, ◌==◌, true, false, cond, AllPairs, zero, suc, List, [], ◌∷◌, ◌++◌, length, map, filter, chars, encode_utf8_all, All, refl, sym, ap, subst, ◌∙◌, arith, length-append, append_assoc, add-one, add-zero}
 use Rattle.std.specs.Char.{encode_utf8}
 use Rattle.std.specs.List.{slice_index, range_with_len}
@@ -19,7 +19,7 @@ use Rattle.hyphenation_hyphenator.proofs.Places.{place_at, place_rises, place_en
 abbrev pub soft_hyphens_before : List ℕ → ℕ → List ℕ
 soft_hyphens_before text n = map (place_of_character text) (filter (is_soft_hyphen text) (range_with_len 0 n))
 
--- What was found stays found.
+-- A soft hyphen that was found stays found.
 
 front_empty : (xs ys : List ℕ) → xs ++ ys ≡ [] → xs ≡ []
 front_empty [] ys e = refl
@@ -32,7 +32,7 @@ some_found word n (suc m) h = λ e.
     let grown = picked_more (place_of_character word) (is_soft_hyphen word) (n + m) in
     some_found word n m h (front_empty _ _ (sym grown ∙ ap (soft_hyphens_before word) k ∙ e))
 
--- The characters done are searched, and rest is to come, from the offset on.
+-- The characters done are searched, and the rest is to come, from the offset on.
 pub record Searching (word rest : List ℕ) (offset : ℕ) (places : List ℕ) : Type 0 where
   pub rest_utf8 : IsUtf8 rest
   pub done : List ℕ
@@ -80,7 +80,7 @@ module _ (word rest next : List ℕ) (offset offset' c : ℕ) (places : List ℕ
   pub found : (places' : List ℕ) → (c == 0xAD) ≡ true → places' ≡ places ++ offset ∷ [] → Searching word next offset' places'
   found places' h k = further places' (k ∙ sym (grown ∙ ap (λ b. places ++ cond b (offset ∷ []) []) h))
 
-  -- A soft hyphen that was met is one of the word.
+  -- A word in which a soft hyphen was met has soft hyphens.
   pub one_met : (c == 0xAD) ≡ true → soft_hyphens word ≢ []
   one_met h =
       let n = length before.done in
@@ -106,7 +106,7 @@ none_found word rest offset places s h k = empty_list places (soft_hyphens word)
 pub some_left : (word rest : List ℕ) (offset : ℕ) (places : List ℕ) → Searching word rest offset places → length rest ≡ 0 → 0 < length places → soft_hyphens word ≢ []
 some_left word rest offset places s h k = λ none. omega (arith, ap length (searched_whole word rest offset places s h ∙ none), k)
 
--- What holds of the places of the first n characters holds of the soft hyphens among them.
+-- A fact of the places of the first n characters is a fact of the soft hyphens among them.
 all_before : (P : ℕ → Type 0) (word : List ℕ) (n : ℕ) → ((j : ℕ) → j < n → P (place_of_character word j)) → All P (soft_hyphens_before word n)
 all_before P word zero h = All-nil P
 all_before P word (suc n) h =
@@ -145,7 +145,7 @@ within word u =
     let n = length (chars word) in
     all_before (λ place. IsCharBoundary word place × (place < length word)) word n (λ j h. (place_is_boundary word j u, omega (arith, place_rises word j n h (omega arith), place_end word n u (omega arith))))
 
--- Among ASCII characters there is none.
+-- ASCII has no soft hyphen.
 other_number : (a : ℕ) → a < 128 → (a == 0xAD) ≡ false
 other_number a h = grind (arith, nat_tests)
 

@@ -1,4 +1,4 @@
--- Breaks that are carried back, and the rules after an edit of the exceptions.
+-- Breaks carried back, and the rules after a change of the exceptions.
 use Rattle.std.proofs.Common.{◌≡◌, ◌≢◌, ℕ, ◌<◌, ◌^◌, ◌==◌, nat_eq, Result, Ok, Err, Bool, true, false, cond, List, [], ◌∷◌, length, map, take, chars, Option, Some, None, pos, ◌-ℤ◌, refl, sym, ap, ◌∙◌}
 use Rattle.std.specs.Int.{saturate_unsigned, w64}
 use Rattle.std.specs.Option.{IsSome, option_map}
@@ -13,14 +13,14 @@ use Rattle.hyphenation_breaks.specs.Dictionary.{Contents}
 use Rattle.hyphenation_hyphenator.specs.declared.case_folding.Shift.{Shift}
 use Rattle.hyphenation_hyphenator.specs.Places.{place_of_character}
 use Rattle.hyphenation_hyphenator.specs.Folding.{fold_case, carried_back, shifts_of, delta_below}
-use Rattle.hyphenation_hyphenator.specs.Opportunities.{rules_of, ListsAnew}
+use Rattle.hyphenation_hyphenator.specs.Opportunities.{rules_of, ListsOnly}
 use Rattle.hyphenation_hyphenator.proofs.Folds.{fold_is_utf8}
 use Rattle.hyphenation_hyphenator.proofs.Places.{place_of_boundary}
 use Rattle.hyphenation_hyphenator.proofs.Shifts.{realigned}
 
--- ---- carried back
+-- ---- breaks carried back
 
--- What a place becomes by shifts.
+-- A place carried back by shifts.
 abbrev pub realigned_by : List Shift → ℕ → ℕ
 realigned_by shifts place = saturate_unsigned w64 (pos place -ℤ delta_below shifts place)
 
@@ -38,13 +38,13 @@ chosen_map : {B : Type 0} (break_of : B → Break) (b : Bool) (x y : Option (Lis
 chosen_map break_of true x y = refl
 chosen_map break_of false x y = refl
 
--- The test by which a finite map of texts looks up is the equality of their bytes.
+-- A finite map of texts looks up by the equality of their bytes.
 same_test : (a b : List ℕ) → eq_by_cmp (slice_cmp nat_cmp) a b ≡ pointwise nat_eq b a
 same_test a b = sym (texts_ties a b) ∙ nat_list_eq_equiv.symm a b
 
--- Rules after an edit of the exceptions.
+-- The rules after a change of the exceptions.
 pub lists_inserted : {C B : Type 0} (change_of : C → Option Change) (break_of : B → Break) (contents : Contents C B) (word : List ℕ) (listed : List B)
-    → ListsAnew (rules_of change_of break_of contents) (rules_of change_of break_of (record contents { exceptions = finite.insert contents.exceptions word listed })) word (Some (map break_of listed))
+    → ListsOnly (rules_of change_of break_of contents) (rules_of change_of break_of (record contents { exceptions = finite.insert contents.exceptions word listed })) word (Some (map break_of listed))
 lists_inserted change_of break_of contents word listed = record {
   minima = refl;
   listed = λ other.
@@ -54,7 +54,7 @@ lists_inserted change_of break_of contents word listed = record {
 }
 
 pub lists_removed : {C B : Type 0} (change_of : C → Option Change) (break_of : B → Break) (contents : Contents C B) (word : List ℕ)
-    → ListsAnew (rules_of change_of break_of contents) (rules_of change_of break_of (record contents { exceptions = finite.remove contents.exceptions word })) word None
+    → ListsOnly (rules_of change_of break_of contents) (rules_of change_of break_of (record contents { exceptions = finite.remove contents.exceptions word })) word None
 lists_removed change_of break_of contents word = record {
   minima = refl;
   listed = λ other.

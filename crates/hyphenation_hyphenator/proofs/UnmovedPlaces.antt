@@ -3,8 +3,8 @@ use Rattle.std.proofs.Common.{◌≡◌, ℕ, ◌+◌, ◌==◌, ◌&&◌, Bool,
 use Rattle.std.specs.Str.{IsCharBoundary}
 use Rattle.std.proofs.lemmas.Bool.{cond-true}
 use Rattle.hyphenation_breaks.specs.Break.{Break, plain_break, begin_of, end_of}
-use Rattle.hyphenation_hyphenator.specs.Fitting.{is_steady, kept_breaks, fitted_breaks, fitted_breaks_of}
-use Rattle.hyphenation_hyphenator.specs.Private.Fitting.{is_steady_by}
+use Rattle.hyphenation_hyphenator.specs.Fitting.{range_keeps_lengths, kept_breaks, fitted_breaks, fitted_breaks_of}
+use Rattle.hyphenation_hyphenator.specs.Private.Fitting.{range_holds_no_shift}
 use Rattle.hyphenation_hyphenator.specs.Folding.{fold_case, carried_back, shifts_of}
 use Rattle.hyphenation_hyphenator.specs.Opportunities.{Rules, opportunities, break_carried_back, Ascending, breaks_as_written}
 use Rattle.hyphenation_hyphenator.specs.SoftHyphens.{soft_hyphens}
@@ -26,15 +26,15 @@ kept_stay word test last_end least (b ∷ bs) stays ascend =
       | false ↦ kept_stay word test last_end (b.place + 1) bs stays ascend.2
     ]
 
--- What is kept of the folded word's breaks, with no shifts, are the breaks of the word as written.
-pub unmoved_breaks : (rules : Rules) (word folded : List ℕ) (kept : List Break) → shifts_of word ≡ [] → soft_hyphens word ≡ [] → MovesNothing word → folded ≡ fold_case word → Ascending (fold_case word) (opportunities rules (fold_case word))
-    → kept ≡ kept_breaks (is_steady_by (length folded) []) (opportunities rules folded) → kept ≡ fitted_breaks_of rules word
+-- The kept breaks of the folded word, without shifts, are the breaks of the word as written.
+pub breaks_where_unmoved : (rules : Rules) (word folded : List ℕ) (kept : List Break) → shifts_of word ≡ [] → soft_hyphens word ≡ [] → MovesNothing word → folded ≡ fold_case word → Ascending (fold_case word) (opportunities rules (fold_case word))
+    → kept ≡ kept_breaks (range_holds_no_shift (length folded) []) (opportunities rules folded) → kept ≡ fitted_breaks_of rules word
 unfolding fitted_breaks_of fitted_breaks breaks_as_written
-unmoved_breaks rules word folded kept no_shifts no_hyphens stays folded_is ascend is =
+breaks_where_unmoved rules word folded kept no_shifts no_hyphens stays folded_is ascend is =
     let all = opportunities rules (fold_case word) in
     let kept_are : kept ≡ fitted_breaks word all =
-    is ∙ ap (λ t. kept_breaks (is_steady_by (length t) []) (opportunities rules t)) folded_is ∙ ap (λ s. kept_breaks (is_steady_by (length (fold_case word)) s) all) (sym no_shifts) ∙ fitted_by_shifts word all in
-    let from : fitted_breaks word all ≡ kept_from (is_steady word) 0 all = kept_is (is_steady word) all in
-    let stay : map (break_carried_back word) (fitted_breaks word all) ≡ fitted_breaks word all = ap (map (break_carried_back word)) from ∙ kept_stay word (is_steady word) 0 0 all stays (from_ascending (fold_case word) all ascend) ∙ sym from in
+    is ∙ ap (λ t. kept_breaks (range_holds_no_shift (length t) []) (opportunities rules t)) folded_is ∙ ap (λ s. kept_breaks (range_holds_no_shift (length (fold_case word)) s) all) (sym no_shifts) ∙ fitted_by_shifts word all in
+    let from : fitted_breaks word all ≡ kept_from (range_keeps_lengths word) 0 all = kept_is (range_keeps_lengths word) all in
+    let stay : map (break_carried_back word) (fitted_breaks word all) ≡ fitted_breaks word all = ap (map (break_carried_back word)) from ∙ kept_stay word (range_keeps_lengths word) 0 0 all stays (from_ascending (fold_case word) all ascend) ∙ sym from in
     let none : (length (soft_hyphens word) == 0) ≡ true = ap (λ xs. length xs == 0) no_hyphens in
     kept_are ∙ sym stay ∙ sym (cond-true (length (soft_hyphens word) == 0) (map (break_carried_back word) (fitted_breaks word all)) (map plain_break (soft_hyphens word)) none)

@@ -1,4 +1,4 @@
--- Texts with and without a character that is Uppercase.
+-- Texts with and without Uppercase characters.
 use Rattle.std.proofs.Common.{◌≡◌, ◌↔◌, Option, None, Some, MatchOption, IsNone, IfSome, ℕ, ◌≤◌, Bool, true, false, List, [], ◌∷◌, ◌++◌, take, drop, chars, refl, sym, ap, ◌∙◌, arith}
 use Rattle.std.specs.List.{list_any}
 use Rattle.std.specs.Str.{IsUtf8, IsCharBoundary, NoCharPasses, NonePass}
@@ -27,7 +27,7 @@ with_uppercase text i j u b h =
     let first : chars back ≡ h.0 ∷ chars (drop j text) = chars_past_char back (drop j text) h.0 (IsUtf8-drop text i u b) h.2.split in
     ap (list_any is_uppercase) (parts ∙ ap (λ cs. chars front ++ cs) first) ∙ any_after (chars front) (chars (drop j text)) h.0 h.1
 
--- What `find` answers, at the test that its closure computes.
+-- The result of `find`, for the test that its closure computes.
 pub found_by : (G : (ℕ → Bool) → Type 0) (text : List ℕ) (r : Option ℕ) → MatchOption r ((k : ℕ → Bool) → G k → NoCharPasses k text) (λ i. (j : ℕ) × ((k : ℕ → Bool) → G k → FindsBy k text (Some (i, j))) × (i ≤ j) × IsCharBoundary text i × IsCharBoundary text j) → G is_uppercase → MatchOption r (NoCharPasses is_uppercase text) (λ i. IsCharBoundary text i × NoCharPasses is_uppercase (take i text) × ((j : ℕ) × HasPassingCharAt is_uppercase text i j))
 found_by G text None h g = h is_uppercase g
 found_by G text (Some i) h g = let f = h.1 is_uppercase g in (h.3, f.0, (h.0, f.1))

@@ -1,8 +1,7 @@
-//! Words with the breaks that fit them, and the dictionaries that find them.
+//! Dictionaries that find the breaks of words.
 //!
-//! A [`Hyphenator`] finds where a word may be broken. There are calls for words in small letters,
-//! whose answers are the places of that very word, and [`Hyphenator::hyphenate`] for a word as
-//! written, which may have capitals and soft hyphens.
+//! A [`Hyphenator`] finds where a word may be broken. [`Hyphenator::hyphenate`] takes a word as written, which may have
+//! capitals and soft hyphens. The other calls take a word in lowercase and return places of that very word.
 
 ghost use Rattle.std.specs.Prelude.{◌≡◌, ℕ, ◌≤◌, List, IsTrue, Option, Some, None, IfSome, IfOk, OnOk, OnErr, map};
 ghost use Rattle.std.specs.Option.{option_map};
@@ -12,14 +11,16 @@ ghost use Rattle.hyphenation_breaks.specs.Break.{Break};
 ghost use Rattle.hyphenation_breaks.specs.Invariant.{are_listed};
 ghost use Rattle.hyphenation_segments.specs.Fits.{Fits};
 ghost use Rattle.hyphenation_hyphenator.specs.Fitting.{KeepRanges};
-ghost use Rattle.hyphenation_hyphenator.specs.Opportunities.{Rules, by_patterns, by_exception, boundaries_by, exception_within_boundaries, opportunities, Ascending, ListsAnew};
+ghost use Rattle.hyphenation_hyphenator.specs.Opportunities.{Rules, boundaries_by, by_patterns, by_exception};
+ghost use Rattle.hyphenation_hyphenator.specs.Opportunities.{exception_within_boundaries, opportunities};
+ghost use Rattle.hyphenation_hyphenator.specs.Opportunities.{HasBreaks, HasBreaksIfAny, Ascending, ListsOnly};
 
+mod ascii_lowercase;
 mod boundaries;
 mod break_kind;
 mod extended;
 mod fitting;
 pub mod laws;
-mod letters;
 mod pattern_breaks;
 mod standard;
 mod word_paths;
@@ -32,131 +33,159 @@ use std::alloc::{AllocError, Global};
 
 /// A dictionary that finds the breaks of single words.
 ///
-/// All places and bounds are numbers of bytes. Where a call returns a `Result`, the only error is
-/// that memory was refused.
+/// All places and bounds are counted in bytes. An error of any of these calls says that memory was refused.
 pub trait Hyphenator<'h> {
-    /// A break that the dictionary finds in a word.
+    /// A break that is found in a word: a place, or a place with a change or none.
     type Opportunity: Break;
 
-    /// A break that it holds in the list of an exception.
+    /// A break that is listed for an exception.
     type Exact: Break;
 
-    /// The minima, the exceptions, and what the patterns allow.
+    /// The minima, the listed breaks of each exception, and the breaks that patterns allow.
     ghost rules: { Self → Rules };
 
-    /// The breaks of a word as written, a function of the dictionary and the word.
+    /// The breaks of a word as written.
     ghost breaks_of: { Self → List ℕ → List Break };
 
-    /// That the breaks of each word there is, whether they are asked for or not, fit it: so they ascend strictly, on
-    /// its character boundaries. It is for a proof, and the call does nothing.
+    /// A law for proofs: the breaks of every word fit it, so they ascend strictly on its character boundaries.
+    ///
+    /// The call does nothing.
     fn breaks_fit(&self)
         ensures fit { (word : List ℕ) → IsUtf8 word → Fits word (breaks_of self.now word) }
         ensures ascend { (word : List ℕ) → IsUtf8 word → Ascending word (breaks_of self.now word) };
 
-    /// The least numbers of characters before the first break of a word and after the last one.
+    /// Returns the minima: the least numbers of characters before the first break of a word and after the last one.
     fn unbreakable_chars(&self) -> (usize, usize)
         ensures { result ≡ (rules self.now).minima };
 
-    /// The first and the last place at which the minima let a word be broken, as `boundaries_of`
-    /// gives them; `None` where the word has too few characters.
+    /// Returns the first and the last place at which the minima allow a break, as [`boundaries_of`] does.
+    ///
+    /// The result is `None` where the word has too few characters.
     fn boundaries(&self, word: &str) -> Option<(usize, usize)>
         ensures value { result ≡ boundaries_by (rules self.now) word.now }
         ensures ordered { IfSome result (λ bounds. bounds.0 ≤ bounds.1) }
-        ensures left { IfSome result (λ bounds. IsCharBoundary word.now bounds.0) }
-        ensures right { IfSome result (λ bounds. IsCharBoundary word.now bounds.1) };
+        ensures first_at_character { IfSome result (λ bounds. IsCharBoundary word.now bounds.0) }
+        ensures last_at_character { IfSome result (λ bounds. IsCharBoundary word.now bounds.1) };
 
-    /// The breaks that patterns allow from the first bound to the second, both included.
+    /// Returns the breaks that patterns allow from the first bound to the second, both included.
     ///
-    /// Neither the minima nor the exceptions are looked at. Bounds may be any places: where the
-    /// first is greater than the second there is no break.
+    /// Minima and exceptions play no part. Bounds may be any numbers; where the first is greater than the second there
+    /// is no break.
+    ///
+    /// ```text
+    /// dictionary.opportunities_within(alloc, "hyphenation", (0, 7))?      // 2, 6, 7
+    /// ```
     fn opportunities_within(
         &'h self,
         alloc: Global,
         lowercase_word: &str,
         bounds: (usize, usize),
     ) -> Result<Vec<Self::Opportunity>, AllocError>
-        ensures breaks { IfOk result (λ v.
-            map Self.Opportunity.meaning v.items ≡ by_patterns (rules self.now) lowercase_word.now bounds) }
+        ensures breaks { HasBreaks Self.Opportunity.meaning result
+            (by_patterns (rules self.now) lowercase_word.now bounds) }
         ensures ascend { IfOk result (λ v. Ascending lowercase_word.now (map Self.Opportunity.meaning v.items)) };
 
-    /// The breaks listed for a word from the first bound to the second, both included; `None`
-    /// where the word is no exception.
+    /// Returns the breaks listed for a word from the first bound to the second, both included.
+    ///
+    /// The result is `None` where the word is no exception.
     fn exception_within(
         &'h self,
         alloc: Global,
         lowercase_word: &str,
         bounds: (usize, usize),
     ) -> Result<Option<Vec<Self::Opportunity>>, AllocError>
-        ensures breaks { IfOk result (λ found.
-            option_map (λ v. map Self.Opportunity.meaning v.items) found
-            ≡ by_exception (rules self.now) lowercase_word.now bounds) }
+        ensures breaks { HasBreaksIfAny Self.Opportunity.meaning result
+            (by_exception (rules self.now) lowercase_word.now bounds) }
         ensures ascend { IfOk result
             (λ found. IfSome found (λ v. Ascending lowercase_word.now (map Self.Opportunity.meaning v.items))) };
 
-    /// The breaks listed for a word, within its boundaries; `None` where the word has too few
-    /// characters, or is no exception.
+    /// Returns the breaks listed for a word, within its boundaries.
+    ///
+    /// The result is `None` where the word has too few characters, or is no exception.
     fn exception(
         &'h self,
         alloc: Global,
         lowercase_word: &str,
     ) -> Result<Option<Vec<Self::Opportunity>>, AllocError>
-        ensures breaks { IfOk result (λ found.
-            option_map (λ v. map Self.Opportunity.meaning v.items) found
-            ≡ exception_within_boundaries (rules self.now) lowercase_word.now) }
+        ensures breaks { HasBreaksIfAny Self.Opportunity.meaning result
+            (exception_within_boundaries (rules self.now) lowercase_word.now) }
         ensures ascend { IfOk result
             (λ found. IfSome found (λ v. Ascending lowercase_word.now (map Self.Opportunity.meaning v.items))) };
 
-    /// The breaks of a word in small letters, within its boundaries.
+    /// Returns the breaks of a word in lowercase, within its boundaries.
     ///
-    /// Where the word is an exception they are those listed for it, and the patterns are not
-    /// asked; else they are those that the patterns allow.
+    /// For an exception these are the breaks listed for it, and patterns play no part. For any other word they are the
+    /// breaks that patterns allow.
+    ///
+    /// ```text
+    /// dictionary.opportunities(alloc, "hyphenation")?      // 2, 6, 7
+    /// ```
     fn opportunities(
         &'h self,
         alloc: Global,
         lowercase_word: &str,
     ) -> Result<Vec<Self::Opportunity>, AllocError>
-        ensures breaks { IfOk result (λ v.
-            map Self.Opportunity.meaning v.items ≡ opportunities (rules self.now) lowercase_word.now) }
+        ensures breaks { HasBreaks Self.Opportunity.meaning result (opportunities (rules self.now) lowercase_word.now) }
         ensures ascend { IfOk result (λ v. Ascending lowercase_word.now (map Self.Opportunity.meaning v.items)) };
 
-    /// Lists breaks for a word, and answers those that were listed for it before.
+    /// Makes a word an exception with these breaks, and returns the breaks that were listed for it before.
     ///
-    /// The caller owes that the breaks may be listed, as the dictionary's `fits` tests. Nothing else
-    /// changes. After an `Err` the dictionary is as it was, and the word and the breaks are let go.
+    /// The word must be one for which these breaks may be listed, as `Dictionary::fits` tests. Nothing else changes.
+    /// After an error the dictionary is unchanged, and the word and the breaks are dropped.
+    ///
+    /// ```text
+    /// let mut places = Vec::new(alloc);
+    /// places.push(3)?;
+    /// let word = String::from_str(alloc, "present")?;
+    /// if Standard::fits("present", &places) {
+    ///     let before = dictionary.add_exception(word, places)?;      // None, or the breaks listed before
+    /// }
+    /// ```
     fn add_exception(
         &mut self,
         lowercase_word: String,
         ops: Vec<Self::Exact>,
     ) -> Result<Option<Vec<Self::Exact>>, AllocError>
         requires { IsTrue (are_listed Self.Exact.meaning (string_bytes lowercase_word) ops.items) }
-        ensures lists { OnOk result (ListsAnew (rules self.old) (rules self.new) (string_bytes lowercase_word)
+        ensures lists { OnOk result (ListsOnly (rules self.old) (rules self.new) (string_bytes lowercase_word)
             (Some (map Self.Exact.meaning ops.items))) }
-        ensures old { IfOk result (λ old.
-            option_map (λ v. map Self.Exact.meaning v.items) old
-            ≡ (rules self.old).listed (string_bytes lowercase_word)) }
-        ensures err { OnErr result (self.new ≡ self.old) };
+        ensures returns_old { HasBreaksIfAny Self.Exact.meaning result
+            ((rules self.old).listed (string_bytes lowercase_word)) }
+        ensures unchanged_on_error { OnErr result (self.new ≡ self.old) };
 
-    /// Takes a word out of the exceptions, and answers the breaks that were listed for it.
+    /// Makes a word no exception, and returns the breaks that were listed for it, or `None` where it was none.
     ///
     /// Nothing else changes.
+    ///
+    /// ```text
+    /// let before = dictionary.remove_exception("present");      // the breaks listed before, or None
+    /// ```
     fn remove_exception(&mut self, word: &str) -> Option<Vec<Self::Exact>>
-        ensures lists { ListsAnew (rules self.old) (rules self.new) word.now None }
-        ensures old { option_map (λ v. map Self.Exact.meaning v.items) result ≡ (rules self.old).listed word.now };
+        ensures unlists { ListsOnly (rules self.old) (rules self.new) word.now None }
+        ensures returns_old { option_map (λ v. map Self.Exact.meaning v.items) result ≡
+            (rules self.old).listed word.now };
 
-    /// The breaks of a word as written, as [`hyphenate`](Hyphenator::hyphenate) has them.
+    /// Returns the breaks of a word as written, which are those of [`hyphenate`](Hyphenator::hyphenate).
     fn breaks(&'h self, alloc: Global, word: &str) -> Result<Vec<Self::Opportunity>, AllocError>
-        ensures breaks { IfOk result (λ v. map Self.Opportunity.meaning v.items ≡ breaks_of self.now word.now) }
+        ensures breaks { HasBreaks Self.Opportunity.meaning result (breaks_of self.now word.now) }
         ensures fits { IfOk result (λ v. Fits word.now (map Self.Opportunity.meaning v.items)) }
         ensures ranges { OnOk result (KeepRanges (rules self.now) word.now) };
 
-    /// A word with its breaks.
+    /// Returns a word as written, with its breaks.
     ///
-    /// A word with soft hyphens is broken where they begin, and nowhere else. Any other is folded
-    /// to small letters, and each break of the folded word stands in the word as written after as
-    /// many characters. Of the breaks of an extended dictionary those are left out whose range, empty
-    /// for a plain one, doesn't lie in the folded word, holds a character whose number of bytes the
-    /// folding changed, or begins before the end of a range that is kept; the others change the same
-    /// letters of the word as written.
+    /// A word with soft hyphens is broken where they begin, and nowhere else. Any other word is folded to lowercase.
+    /// Each break of the folded word is carried back to the place with as many characters before it.
+    ///
+    /// An extended dictionary leaves out a break whose range lies outside of the folded word, or begins before a kept
+    /// range ends. It leaves out one whose range holds a character whose number of bytes the folding changed. The other
+    /// changes apply to the same letters of the word as written.
+    ///
+    /// ```text
+    /// let word = dictionary.hyphenate(alloc, "Hyphenation")?;      // word.breaks: 2, 6, 7
+    /// for segment in word {                                        // Hy-  phen-  a-  tion
+    ///     line.push_str(segment?.as_str())?;
+    /// }
+    /// ```
     final fn hyphenate<'t>(
         &'h self,
         alloc: Global,

@@ -1,4 +1,4 @@
-//! Soft hyphens: the breaks that a text names itself.
+//! Soft hyphens, by which a word names its own breaks.
 ghost use Rattle.std.specs.Prelude.{◌≡◌, ◌≢◌, ◌<◌, ◌↔◌, [], All, length, IfOk, IfSome, IsSome, Ok, None};
 ghost use Rattle.std.specs.Str.{IsCharBoundary};
 ghost use Rattle.std.specs.List.Sorted.{IsStrictlyIncreasing};
@@ -8,20 +8,24 @@ use std::alloc::{AllocError, Global};
 
 const SOFT_HYPHEN: char = '\u{ad}';
 
-/// The places at which the soft hyphens of a word begin, in bytes of the word, ascending, or `None`
-/// where it has none.
+/// Returns the places at which the soft hyphens of a word begin, in ascending order, or `None` where it has none.
 ///
-/// Without a soft hyphen no memory is taken, and the answer is always `Ok(None)`; with one, an
-/// `Err` says that memory was refused.
+/// Places are counted in bytes. A word without soft hyphens takes no memory and is never an error; for any other word
+/// an error says that memory was refused.
+///
+/// ```text
+/// soft_hyphen_indices(alloc, "hy\u{ad}phen\u{ad}ation")?      // Some: 2, 8
+/// soft_hyphen_indices(alloc, "hyphenation")?                  // None
+/// ```
 pub fn soft_hyphen_indices(alloc: Global, word: &str) -> Result<Option<Vec<usize>>, AllocError>
-    ensures found { IfOk result (λ found. IfSome found (λ places. places.items ≡ soft_hyphens word.now)) }
-    ensures some { IfOk result (λ found. IsSome found ↔ (soft_hyphens word.now ≢ [])) }
-    ensures none { soft_hyphens word.now ≡ [] → result ≡ Ok None }
+    ensures places { IfOk result (λ found. IfSome found (λ places. places.items ≡ soft_hyphens word.now)) }
+    ensures some_if_any { IfOk result (λ found. IsSome found ↔ (soft_hyphens word.now ≢ [])) }
+    ensures none_without { soft_hyphens word.now ≡ [] → result ≡ Ok None }
     ensures ascending { IfOk result (λ found. IfSome found (λ places. IsStrictlyIncreasing places.items)) }
-    ensures within { IfOk result (λ found. IfSome found (λ places.
+    ensures within_word { IfOk result (λ found. IfSome found (λ places.
         All (λ place. IsCharBoundary word.now place × (place < length word.now)) places.items)) }
 {
-    // A short road, since most words are ASCII.
+    // A fast path, since most words are ASCII.
     if word.is_ascii() {
         return Ok(None);
     }

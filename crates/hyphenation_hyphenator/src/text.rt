@@ -1,4 +1,4 @@
-//! Whole texts: the pieces of a text between word bounds, each hyphenated.
+//! Hyphenating whole texts, piece by piece between their word bounds.
 
 ghost use Rattle.std.specs.Prelude.{◌≡◌, ◌++◌, IfOk, OnOk, OnErr};
 ghost use Rattle.std.specs.String.{string_bytes};
@@ -10,7 +10,7 @@ use hyphenation_segments::iter::push_marked;
 use std::alloc::{AllocError, Global};
 use unicode_segmentation::UnicodeSegmentation;
 
-/// Appends a word with the mark at its breaks.
+// Appends a word with the mark at its breaks.
 fn push_word<'h, H: Hyphenator<'h>>(
     alloc: Global,
     output: &mut String,
@@ -25,7 +25,14 @@ fn push_word<'h, H: Hyphenator<'h>>(
     push_marked(output, &word, mark)
 }
 
-/// A text with the mark at each break of its words.
+/// Hyphenates a whole text: returns it with the mark at each break of its words.
+///
+/// The text is divided at the word bounds of Unicode. Each piece is replaced by its segments, each but the last with
+/// the mark after it. An error says that memory was refused.
+///
+/// ```text
+/// let text = hyphenated_text(alloc, &dictionary, "Firkin, firkins.", "-")?;      // Fir-kin, fir-k-ins.
+/// ```
 pub fn hyphenated_text<'h, H: Hyphenator<'h>>(
     alloc: Global,
     dictionary: &'h H,
@@ -42,13 +49,12 @@ pub fn hyphenated_text<'h, H: Hyphenator<'h>>(
     Ok(output)
 }
 
-/// Appends a text with the mark at each break of its words.
+/// Hyphenates a whole text and appends it to a `String`, with the mark at each break of its words.
 ///
-/// The text is cut at the word bounds of Unicode, as `unicode_segmentation` lists the pieces; each piece, whether it is
-/// a word or not, is hyphenated by the dictionary, and in its place stand its segments, each but the last with the mark
-/// after it. What is in the `String` before stays in front.
+/// The text is divided at the word bounds of Unicode, as the crate `unicode_segmentation` lists the pieces. Each piece,
+/// whether it is a word or not, is replaced by its segments, each but the last with the mark after it.
 ///
-/// The only error is that memory was refused, and then the `String` is as it was.
+/// An error says that memory was refused; the `String` is then unchanged.
 ///
 /// ```text
 /// hyphenate_text(alloc, &mut page, &dictionary, "Firkin, firkins.", "-")?;      // Fir-kin, fir-k-ins.
@@ -62,7 +68,7 @@ pub fn hyphenate_text<'h, H: Hyphenator<'h>>(
 ) -> Result<(), AllocError>
     ensures appended { OnOk result (string_bytes output.new ≡ string_bytes output.old ++ hyphenated_text
         (H.breaks_of dictionary.now) mark.now text.now) }
-    ensures err { OnErr result (string_bytes output.new ≡ string_bytes output.old) }
+    ensures unchanged_on_error { OnErr result (string_bytes output.new ≡ string_bytes output.old) }
 {
     let hyphenated = hyphenated_text(alloc, dictionary, text, mark)?;
     output.push_str(&hyphenated)

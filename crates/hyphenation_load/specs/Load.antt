@@ -1,74 +1,92 @@
--- What loading a dictionary from bytes answers.
-use Rattle.std.specs.Prelude.{◌≡◌, ◌≢◌, ℕ, List, Option, None, Some, Result, Ok, Err, IfSome, MatchResult}
+-- The results of loading a dictionary, and the errors of writing one.
+use Rattle.std.specs.Prelude.{◌≡◌, ◌≢◌, ℕ, List, [], Option, None, Some, Result, Ok, Err, IfSome, MatchResult, slice_index_or, unwrap_or, ⊤}
+use Rattle.std.specs.Io.KnownBytes.{Appends}
 use Rattle.std.specs.IoError.{error_kind}
 use Rattle.std.specs.declared.io.ErrorKind.TheVariants.{OutOfMemory}
+use Rattle.hyphenation_grammar.specs.Lines.{lines_of, language_of}
 use Rattle.hyphenation_grammar.specs.declared.Cause.{Cause}
 use Rattle.hyphenation_grammar.specs.declared.Error.{Error}
 use Rattle.hyphenation_grammar.specs.declared.Error.TheVariants.{Deserialization, IO, LanguageMismatch, Memory}
 
--- What an error says of the bytes of a dictionary: of a fault of the text, that it is refused so; of a fault of the
--- reading and of another language what is handed in; of want of memory nothing.
-abbrev pub Tells : Option (ℕ × Cause) → Type 0 → (List ℕ → List ℕ → Type 0) → Error → Type 0
-Tells refused reading other (Deserialization line cause) = refused ≡ Some (line, cause)
-Tells refused reading other (IO e) = reading
-Tells refused reading other (LanguageMismatch expected found) = other expected found
-Tells refused reading other (Memory e) = Unit {0}
+-- The code that line 2 of a text names, whatever its kind; empty if it names none.
+abbrev pub language_of_text : List ℕ → List ℕ
+language_of_text bytes = unwrap_or (language_of (slice_index_or (lines_of bytes) 1 [])) []
 
--- Of bytes: the dictionary that the text gives, exactly where it is accepted; its refusal, exactly where it is
--- refused; or want of memory. A fault of the reading means what is said first; and no language was asked for.
-abbrev pub Reads : {D : Type 0} → Type 0 → (List ℕ → Option (ℕ × Cause)) → (List ℕ → D → Type 0) → List ℕ
+-- The error is the one that a text gives: its first faulty line with the cause. No language is asked for, so there is no
+-- mismatch. Errors of memory and I/O say nothing of the text.
+abbrev pub IsLoadError : Option (ℕ × Cause) → Error → Type 0
+IsLoadError refusal (Deserialization line cause) = refusal ≡ Some (line, cause)
+IsLoadError refusal (LanguageMismatch expected found) = ⊥
+IsLoadError refusal (IO e) = ⊤
+IsLoadError refusal (Memory e) = ⊤
+
+-- Loading a text returns its dictionary exactly where it is accepted, else such an error.
+abbrev pub Loads : {D : Type 0} → Option (ℕ × Cause) → D → Result D Error → Type 0
+Loads refusal contents result =
+    MatchResult result (λ dictionary. (refusal ≡ None) × (dictionary ≡ contents)) (IsLoadError refusal)
+
+-- The text is accepted, and of the asked language.
+abbrev pub IsAcceptedIn : Option (ℕ × Cause) → List ℕ → List ℕ → Type 0
+IsAcceptedIn refusal asked language = (refusal ≡ None) × (language ≡ asked)
+
+-- The error is the one that a text of this language gives if another one is asked for: its first faulty line with the
+-- cause; or, if it is accepted, both codes, which differ.
+abbrev pub IsLoadErrorIn : Option (ℕ × Cause) → List ℕ → List ℕ → Error → Type 0
+IsLoadErrorIn refusal asked language (Deserialization line cause) = refusal ≡ Some (line, cause)
+IsLoadErrorIn refusal asked language (LanguageMismatch expected found) =
+    (refusal ≡ None) × (language ≡ found) × (expected ≡ asked) × (found ≢ asked)
+IsLoadErrorIn refusal asked language (IO e) = ⊤
+IsLoadErrorIn refusal asked language (Memory e) = ⊤
+
+-- Loading in a language returns the dictionary exactly where the text is accepted and of that language, else such an
+-- error. The language of a text is that of its dictionary.
+abbrev pub LoadsIn : {D : Type 0} → (List ℕ → Option (ℕ × Cause)) → (List ℕ → D) → (D → List ℕ) → List ℕ → List ℕ
     → Result D Error → Type 0
-Reads reading refusal is_given bytes result =
-    MatchResult result (λ dictionary. (refusal bytes ≡ None) × is_given bytes dictionary)
-    (Tells (refusal bytes) reading (λ _ _. ⊥))
-
--- What an error says where a language was asked for: another one, that the text is accepted and of that language, and
--- both codes, which differ; a fault of the reading and want of memory say nothing of the bytes.
-abbrev pub TellsIn : (List ℕ → Option (ℕ × Cause)) → (List ℕ → List ℕ) → List ℕ → List ℕ → Error → Type 0
-TellsIn refusal language asked bytes =
-    Tells (refusal bytes) (Unit {0})
-    (λ expected found. (refusal bytes ≡ None) × (language bytes ≡ found) × (expected ≡ asked) × (found ≢ asked))
-
--- Of bytes: the dictionary that the text gives, exactly where it is accepted and of the asked language; else an error.
-abbrev pub ReadsIn : {D : Type 0} → (List ℕ → Option (ℕ × Cause)) → (List ℕ → D → Type 0) → (List ℕ → List ℕ) → List ℕ
-    → List ℕ → Result D Error → Type 0
-ReadsIn refusal is_given language asked bytes result =
+LoadsIn refusal contents language asked bytes result =
     MatchResult result
-    (λ dictionary. (refusal bytes ≡ None) × is_given bytes dictionary × (language bytes ≡ asked))
-    (TellsIn refusal language asked bytes)
+    (λ dictionary. (refusal bytes ≡ None) × (dictionary ≡ contents bytes) × (language (contents bytes) ≡ asked))
+    (IsLoadErrorIn (refusal bytes) asked (language (contents bytes)))
 
--- Of a path: a fault of opening or reading, or want of memory; else what is said of the bytes of some file, where it is
--- known what bytes that has.
-abbrev pub FromFile : {F D : Type 0} → (F → Option (List ℕ)) → (List ℕ → Option (ℕ × Cause)) → (List ℕ → D → Type 0)
-    → (List ℕ → List ℕ) → List ℕ → Result D Error → Type 0
-FromFile remaining refusal is_given language asked (Err (IO e)) = Unit {0}
-FromFile remaining refusal is_given language asked (Err (Memory e)) = Unit {0}
-FromFile {F} remaining refusal is_given language asked result =
-    (file : F) × IfSome (remaining file) (λ bytes. ReadsIn refusal is_given language asked bytes result)
+-- Loading a path fails by I/O or for memory, or returns what the bytes of some file give, if they are known.
+abbrev pub LoadsSomeFile : {F D : Type 0} → (F → Option (List ℕ)) → (List ℕ → Option (ℕ × Cause)) → (List ℕ → D)
+    → (D → List ℕ) → List ℕ → Result D Error → Type 0
+LoadsSomeFile remaining refusal contents language asked (Err (IO e)) = ⊤
+LoadsSomeFile remaining refusal contents language asked (Err (Memory e)) = ⊤
+LoadsSomeFile {F} remaining refusal contents language asked result =
+    (file : F) × IfSome (remaining file) (λ bytes. LoadsIn refusal contents language asked bytes result)
 
--- Whatever was read: a dictionary is of the asked language; where another one was found, both codes are told.
-abbrev pub InLanguage : {D : Type 0} → (D → List ℕ) → List ℕ → Result D Error → Type 0
-InLanguage language asked (Ok dictionary) = language dictionary ≡ asked
-InLanguage language asked (Err (LanguageMismatch expected found)) = (expected ≡ asked) × (found ≢ asked)
-InLanguage language asked (Err _) = Unit {0}
+-- Whatever was read, a dictionary is of the asked language, and a mismatch names that language and another one.
+abbrev pub RespectsLanguage : {D : Type 0} → (D → List ℕ) → List ℕ → Result D Error → Type 0
+RespectsLanguage language asked (Ok dictionary) = language dictionary ≡ asked
+RespectsLanguage language asked (Err (LanguageMismatch expected found)) = (expected ≡ asked) × (found ≢ asked)
+RespectsLanguage language asked (Err _) = ⊤
 
--- No language was asked for, so none is missed.
-abbrev pub AsksNone : {D : Type 0} → Result D Error → Type 0
-AsksNone (Err (LanguageMismatch expected found)) = ⊥
-AsksNone _ = Unit {0}
+-- No language is asked for, so there is no mismatch.
+abbrev pub HasNoMismatch : {D : Type 0} → Result D Error → Type 0
+HasNoMismatch (Err (LanguageMismatch expected found)) = ⊥
+HasNoMismatch _ = ⊤
 
--- A fault of the reading is none that counts as want of memory.
-abbrev pub IsNoWant : Error → Type 0
-IsNoWant (IO e) = error_kind e ≢ OutOfMemory
-IsNoWant _ = Unit {0}
+-- The result is no I/O error.
+abbrev pub IsNotIo : {D : Type 0} → Result D Error → Type 0
+IsNotIo (Err (IO e)) = ⊥
+IsNotIo _ = ⊤
 
--- Where memory was refused, this holds.
+-- An I/O error is never of the kind OutOfMemory.
+abbrev pub IsNotOutOfMemory : Error → Type 0
+IsNotOutOfMemory (IO e) = error_kind e ≢ OutOfMemory
+IsNotOutOfMemory _ = ⊤
+
+-- A text was appended to the contents of a writer, if these are known.
+abbrev pub AppendsTo : {W : Type 0} → (W → Option (List ℕ)) → W → W → List ℕ → Type 0
+AppendsTo contents old new text = Appends (contents old) (contents new) text
+
+-- If memory was refused, this holds.
 abbrev pub IfMemory : {X : Type 0} → Result X Error → Type 0 → Type 0
 IfMemory (Err (Memory e)) P = P
-IfMemory _ P = Unit {0}
+IfMemory _ P = ⊤
 
--- Writing fails for want of memory, or by a fault of the writer.
-abbrev pub IsOfWriting : Error → Type 0
-IsOfWriting (IO e) = Unit {0}
-IsOfWriting (Memory e) = Unit {0}
-IsOfWriting _ = ⊥
+-- Writing fails by I/O, or because memory was refused.
+abbrev pub IsWriteError : Error → Type 0
+IsWriteError (IO e) = ⊤
+IsWriteError (Memory e) = ⊤
+IsWriteError _ = ⊥

@@ -1,15 +1,16 @@
 //! Reading, loading and writing dictionaries.
 //!
-//! A dictionary is a text; docs/DICTIONARY_TEXT.md has its format. All of a reader is read before any line is judged,
-//! and a text is whole before any of it is written.
+//! A dictionary is a text; docs/DICTIONARY_TEXT.md has its format. A reader is read to its end before any line is
+//! judged, and a text is whole before any of it is written.
 #![tactic(auto)]
 
-ghost use Rattle.std.specs.Prelude.{◌≡◌, ◌≢◌, Ok, Err, None, List, ℕ, Option, IfOk, IfErr, IfSome, OnOk, alloc_error};
-ghost use Rattle.std.specs.Io.KnownBytes.{Appends, IsAtEnd};
+ghost use Rattle.std.specs.Prelude.{◌≡◌, ◌≢◌, ◌↔◌, Ok, Err, None, List, ℕ, IfOk, IfErr, IfSome, IsTrue, Option, OnOk, alloc_error};
+ghost use Rattle.std.specs.Io.KnownBytes.{IsAtEnd};
 ghost use Rattle.std.specs.IoError.{error_kind};
-ghost use Rattle.hyphenation_load.specs.Load.{Reads, ReadsIn, FromFile, InLanguage, AsksNone, IsNoWant, IfMemory, IsOfWriting};
-ghost use Rattle.hyphenation_load.specs.Private.Load.{error_of, IsOfLanguage, IsOfReading};
 ghost use Rattle.hyphenation_grammar.specs.declared.Cause.{Cause};
+ghost use Rattle.hyphenation_load.specs.Load.{Loads, LoadsIn, LoadsSomeFile, RespectsLanguage, HasNoMismatch};
+ghost use Rattle.hyphenation_load.specs.Load.{IsNotIo, IsNotOutOfMemory, AppendsTo, IfMemory, IsWriteError};
+ghost use Rattle.hyphenation_load.specs.Private.Load.{error_of, ChecksLanguage, IsReadError};
 
 use hyphenation_breaks::breaks::Break;
 use hyphenation_breaks::entry::Payload;
@@ -23,16 +24,13 @@ use std::fs::Files;
 use std::io::{ErrorKind, Read, Write};
 use std::{fs, io};
 
-/// Loading a kind of dictionary from its text, and writing it as one.
+/// A kind of dictionary that is loaded from its text and written as one.
 pub trait Load: Sized {
-    /// The line and cause for which a text is refused; none where it is accepted.
+    /// The line and cause for which a text is refused; none if it is accepted.
     ghost refusal: { List ℕ → Option (ℕ × Cause) };
 
-    /// The dictionary is the one that an accepted text gives.
-    ghost is_given: { List ℕ → Self → Type 0 };
-
-    /// The code of an accepted text's language.
-    ghost language_of: { List ℕ → List ℕ };
+    /// The dictionary that an accepted text gives.
+    ghost contents: { List ℕ → Self };
 
     /// The code of a dictionary's language.
     ghost language: { Self → List ℕ };
@@ -40,83 +38,132 @@ pub trait Load: Sized {
     /// The canonical text of a dictionary.
     ghost canonical: { Self → List ℕ };
 
-    /// The dictionary, of whatever language, from what a reading gave.
+    /// Makes a dictionary of any language from the result of reading its text.
     ///
-    /// Of bytes it answers the dictionary, `Error::Deserialization` with the first faulty line and its first failed
-    /// test, or `Error::Memory`; of an error `Error::Memory` where its kind is `OutOfMemory`, else `Error::IO` holding
-    /// it.
+    /// Bytes give the dictionary, or `Error::Deserialization` with the first faulty line and the first test that it
+    /// fails. An I/O error becomes `Error::Memory` if its kind is `OutOfMemory`, else `Error::IO` with that error.
+    /// `Error::Memory` also says that memory for the dictionary was refused.
+    ///
+    /// ```text
+    /// let dictionary = Standard::from_read(alloc, read_all(alloc, &mut file))?;
+    /// ```
     fn from_read(alloc: Global, read: io::Result<Vec<u8>>) -> Result<Self>
-        ensures bytes { IfOk read (λ bytes. Reads ⊥ refusal is_given bytes.items result) }
+        ensures loaded { IfOk read (λ bytes. Loads (refusal bytes.items) (contents bytes.items) result) }
+        ensures no_io_error { IfOk read (λ _. IsNotIo result) }
         ensures memory { IfErr read (λ e.
             error_kind e ≡ ErrorKind.OutOfMemory → result ≡ Err (Error.Memory alloc_error)) }
-        ensures fault { IfErr read (λ e. error_kind e ≢ ErrorKind.OutOfMemory → result ≡ Err (Error.IO e)) };
+        ensures io_error { IfErr read (λ e. error_kind e ≢ ErrorKind.OutOfMemory → result ≡ Err (Error.IO e)) };
 
-    /// The dictionary, of whatever language, that a reader's bytes give: all of them are read, then judged.
+    /// Loads a dictionary of any language from all bytes that a reader has left.
     ///
-    /// The same answers as `from_read`'s; a fault of the reading is answered before any line is judged. How far the
-    /// reader was read after a refusal is not said.
+    /// The reader is read to its end, then the lines are judged. So an I/O error comes before any
+    /// `Error::Deserialization`. How far the reader was read after an error is not said.
+    ///
+    /// ```text
+    /// let mut text = &b"hyphenation 1 standard\nlanguage en-us\nminima 2 3\ne hyphenation 2 6 7\n"[..];
+    /// let dictionary = Standard::any_from_reader(alloc, &mut text)?;
+    /// ```
     fn any_from_reader<R: Read>(alloc: Global, reader: &mut R) -> Result<Self>
-        ensures bytes { IfSome (R.remaining reader.old) (λ bytes. Reads (Unit {0}) refusal is_given bytes result) }
-        ensures end { OnOk result (IsAtEnd (R.remaining reader.new)) }
-        ensures any { AsksNone result }
-        ensures kind { IfErr result IsNoWant };
+        ensures loaded { IfSome (R.remaining reader.old) (λ bytes. Loads (refusal bytes) (contents bytes) result) }
+        ensures read_to_end { OnOk result (IsAtEnd (R.remaining reader.new)) }
+        ensures no_mismatch { HasNoMismatch result }
+        ensures not_out_of_memory { IfErr result IsNotOutOfMemory }
+    {
+        Self::from_read(alloc, read_all(alloc, reader))
+    }
 
-    /// The same of a language that is asked for: an accepted text of another one is `Error::LanguageMismatch`.
+    /// Loads a dictionary of the language `lang` from all bytes that a reader has left.
+    ///
+    /// An accepted text of another language gives `Error::LanguageMismatch`. The other errors are those of
+    /// `any_from_reader`.
+    ///
+    /// ```text
+    /// let mut text = &b"hyphenation 1 standard\nlanguage en-us\nminima 2 3\n"[..];
+    /// // Err(LanguageMismatch { expected: hu, found: en-us })
+    /// Standard::from_reader(alloc, Language::hungarian(), &mut text)
+    /// ```
     fn from_reader<R: Read>(alloc: Global, lang: Language, reader: &mut R) -> Result<Self>
-        ensures bytes { IfSome (R.remaining reader.old) (λ bytes.
-            ReadsIn refusal is_given language_of lang bytes result) }
-        ensures end { OnOk result (IsAtEnd (R.remaining reader.new)) }
-        ensures asked { InLanguage language lang result }
-        ensures kind { IfErr result IsNoWant };
+        ensures loaded { IfSome (R.remaining reader.old) (λ bytes.
+            LoadsIn refusal contents language lang bytes result) }
+        ensures read_to_end { OnOk result (IsAtEnd (R.remaining reader.new)) }
+        ensures in_language { RespectsLanguage language lang result }
+        ensures not_out_of_memory { IfErr result IsNotOutOfMemory };
 
-    /// The same of a file, by its path: it is opened, and `from_reader` reads it.
+    /// Loads a dictionary of the language `lang` from the file at a path: opens it, and reads it by `from_reader`.
     ///
-    /// Where it can't be opened the error is `Error::Memory` where its kind is `OutOfMemory`, else `Error::IO` holding
-    /// it.
+    /// If it can't be opened, the error is `Error::Memory` if its kind is `OutOfMemory`, else `Error::IO` with it.
+    ///
+    /// ```text
+    /// let lang = Language::from_code("en-gb").unwrap();
+    /// let dictionary = Standard::from_path(&rt, rt.alloc(), lang, "examples/firkin.txt")?;
+    /// ```
     fn from_path<F: Files>(rt: &F, alloc: Global, lang: Language, path: &str) -> Result<Self>
-        ensures file { FromFile F.File.remaining refusal is_given language_of lang result }
-        ensures asked { InLanguage language lang result }
-        ensures kind { IfErr result IsNoWant };
+        ensures of_some_file { LoadsSomeFile F.File.remaining refusal contents language lang result }
+        ensures in_language { RespectsLanguage language lang result }
+        ensures not_out_of_memory { IfErr result IsNotOutOfMemory }
+    {
+        let mut file = fs::open(rt, path).map_err(error_of_reading)?;
+        Self::from_reader(alloc, lang, &mut file)
+    }
 
-    /// The dictionary as its canonical text, which is accepted and gives this very dictionary again. The only error is
-    /// memory.
+    /// Returns the canonical text of the dictionary, from which this very dictionary is loaded again.
     ///
-    /// The three head lines, a line for each key in the order of their bytes, and a line for each exception in the
-    /// order of theirs; no more is escaped than has to be. It is a text of version 1 where each value is at most 9,
-    /// else of version 2.
+    /// It has the three head lines, then a line for each key, then one for each exception, both in the order of their
+    /// bytes. Only bytes that must be escaped are. It is of version 1 if each value is at most 9, else of version 2.
+    /// The only error is that memory was refused.
+    ///
+    /// ```text
+    /// let text = dictionary.to_text(alloc)?;
+    /// let again = Standard::any_from_reader(alloc, &mut text.as_slice())?;    // equal to dictionary
+    /// ```
     fn to_text(&self, alloc: Global) -> std::result::Result<Vec<u8>, AllocError>
-        ensures text { IfOk result (λ text. text.items ≡ canonical self.now) }
+        ensures canonical { IfOk result (λ text. text.items ≡ canonical self.now) }
         ensures accepted { IfOk result (λ text. refusal text.items ≡ None) }
-        ensures given { IfOk result (λ text. is_given text.items self.now) };
+        ensures read_again { IfOk result (λ text. self.now ≡ contents text.items) };
 
-    /// Writes the dictionary as its canonical text, which is whole before any of it is written.
+    /// Writes the canonical text of the dictionary, once all of it is made.
     ///
-    /// The error is `Error::Memory` where memory for the text was refused, and then nothing was written; or `Error::IO`
-    /// holding the fault of the writer, whatever its kind, and then a beginning of the text may have gone out.
+    /// `Error::Memory` says that memory for the text was refused, and then nothing was written. `Error::IO` holds the
+    /// error of the writer, whatever its kind, and then a beginning of the text may be written.
+    ///
+    /// ```text
+    /// dictionary.to_writer(alloc, &mut rt.stdout())?;
+    /// ```
     fn to_writer<W: Write>(&self, alloc: Global, writer: &mut W) -> Result<()>
-        ensures written { OnOk result (Appends (W.contents writer.old) (W.contents writer.new) (canonical self.now)) }
+        ensures written { OnOk result (AppendsTo W.contents writer.old writer.new (canonical self.now)) }
         ensures accepted { OnOk result (refusal (canonical self.now) ≡ None) }
-        ensures given { OnOk result (is_given (canonical self.now) self.now) }
-        ensures untouched { IfMemory result (writer.new ≡ writer.old) }
-        ensures kind { IfErr result IsOfWriting };
+        ensures read_again { OnOk result (self.now ≡ contents (canonical self.now)) }
+        ensures unwritten_without_memory { IfMemory result (writer.new ≡ writer.old) }
+        ensures write_error { IfErr result IsWriteError }
+    {
+        let text = self.to_text(alloc).map_err(Error::Memory)?;
+        writer.write_all(&text).map_err(Error::IO)
+    }
 }
 
-/// All that a reader has left.
+/// Returns all bytes that a reader has left. Any error is that of the reader.
 pub fn read_all<R: Read>(alloc: Global, reader: &mut R) -> io::Result<Vec<u8>>
     ensures read { IfOk result (λ read. IfSome (R.remaining reader.old) (λ bytes. read.items ≡ bytes)) }
-    ensures end { OnOk result (IsAtEnd (R.remaining reader.new)) }
+    ensures read_to_end { OnOk result (IsAtEnd (R.remaining reader.new)) }
 {
     let mut bytes = Vec::new(alloc);
     reader.read_to_end(&mut bytes)?;
     Ok(bytes)
 }
 
-/// The dictionary, where it is of that language.
+/// Whether an I/O error says that memory was refused.
+pub fn is_out_of_memory(error: &io::Error) -> bool
+    ensures { IsTrue result ↔ (error_kind error.now ≡ ErrorKind.OutOfMemory) }
+{
+    matches!(error.kind(), ErrorKind::OutOfMemory)
+}
+
+// The dictionary, if it is of that language.
 fn of_language<C: Payload, B: Break>(
     lang: Language,
     dictionary: Dictionary<C, B>,
 ) -> Result<Dictionary<C, B>>
-    ensures { IsOfLanguage lang dictionary result }
+    ensures { ChecksLanguage lang dictionary result }
 {
     let found = dictionary.language();
     if found != lang {
@@ -128,7 +175,7 @@ fn of_language<C: Payload, B: Break>(
     Ok(dictionary)
 }
 
-/// The refusal of a text as an error of loading.
+// The refusal of a text as an error of loading.
 fn error_of(refusal: Refusal) -> Error
     ensures { result ≡ error_of refusal }
 {
@@ -138,30 +185,27 @@ fn error_of(refusal: Refusal) -> Error
     }
 }
 
-/// A fault of reading as an error of loading.
+// An error of opening or reading as an error of loading.
 fn error_of_reading(e: io::Error) -> Error
-    ensures memory { error_kind e ≡ ErrorKind.OutOfMemory → result ≡ Error.Memory alloc_error }
+    ensures out_of_memory { error_kind e ≡ ErrorKind.OutOfMemory → result ≡ Error.Memory alloc_error }
     ensures other { error_kind e ≢ ErrorKind.OutOfMemory → result ≡ Error.IO e }
-    ensures kind { IsOfReading result }
+    ensures read_error { IsReadError result }
 {
-    match e.kind() {
-        ErrorKind::OutOfMemory => Error::Memory(AllocError),
-        _ => Error::IO(e),
+    if is_out_of_memory(&e) {
+        return Error::Memory(AllocError);
     }
+    Error::IO(e)
 }
 
 impl Load for Standard {
-    ghost use Rattle.std.specs.Prelude.{◌≡◌};
     ghost use Rattle.hyphenation_grammar.specs.declared.form.Kind.TheVariants.{Standard as OfStandard};
-    ghost use Rattle.hyphenation_grammar.specs.Judging.{refusal_of};
     ghost use Rattle.hyphenation_grammar.specs.Reading.{standard_contents};
+    ghost use Rattle.hyphenation_grammar.specs.Judging.{refusal_of};
     ghost use Rattle.hyphenation_writer.specs.Canonical.{standard_text};
 
     ghost refusal = { refusal_of OfStandard };
 
-    ghost is_given = { λ bytes dictionary. dictionary ≡ standard_contents bytes };
-
-    ghost language_of = { λ bytes. (standard_contents bytes).language };
+    ghost contents = { standard_contents };
 
     ghost language = { λ dictionary. dictionary.language };
 
@@ -172,41 +216,24 @@ impl Load for Standard {
         read_standard(alloc, &bytes).map_err(error_of)
     }
 
-    fn any_from_reader<R: Read>(alloc: Global, reader: &mut R) -> Result<Standard> {
-        Self::from_read(alloc, read_all(alloc, reader))
-    }
-
     fn from_reader<R: Read>(alloc: Global, lang: Language, reader: &mut R) -> Result<Standard> {
         of_language(lang, Self::any_from_reader(alloc, reader)?)
-    }
-
-    fn from_path<F: Files>(rt: &F, alloc: Global, lang: Language, path: &str) -> Result<Standard> {
-        let mut file = fs::open(rt, path).map_err(error_of_reading)?;
-        Self::from_reader(alloc, lang, &mut file)
     }
 
     fn to_text(&self, alloc: Global) -> std::result::Result<Vec<u8>, AllocError> {
         write_standard(alloc, self)
     }
-
-    fn to_writer<W: Write>(&self, alloc: Global, writer: &mut W) -> Result<()> {
-        let text = write_standard(alloc, self).map_err(Error::Memory)?;
-        writer.write_all(&text).map_err(Error::IO)
-    }
 }
 
 impl Load for Extended {
-    ghost use Rattle.std.specs.Prelude.{◌≡◌};
     ghost use Rattle.hyphenation_grammar.specs.declared.form.Kind.TheVariants.{Extended as OfExtended};
-    ghost use Rattle.hyphenation_grammar.specs.Judging.{refusal_of};
     ghost use Rattle.hyphenation_grammar.specs.Reading.{extended_contents};
+    ghost use Rattle.hyphenation_grammar.specs.Judging.{refusal_of};
     ghost use Rattle.hyphenation_writer.specs.Canonical.{extended_text};
 
     ghost refusal = { refusal_of OfExtended };
 
-    ghost is_given = { λ bytes dictionary. dictionary ≡ extended_contents bytes };
-
-    ghost language_of = { λ bytes. (extended_contents bytes).language };
+    ghost contents = { extended_contents };
 
     ghost language = { λ dictionary. dictionary.language };
 
@@ -217,25 +244,11 @@ impl Load for Extended {
         read_extended(alloc, &bytes).map_err(error_of)
     }
 
-    fn any_from_reader<R: Read>(alloc: Global, reader: &mut R) -> Result<Extended> {
-        Self::from_read(alloc, read_all(alloc, reader))
-    }
-
     fn from_reader<R: Read>(alloc: Global, lang: Language, reader: &mut R) -> Result<Extended> {
         of_language(lang, Self::any_from_reader(alloc, reader)?)
     }
 
-    fn from_path<F: Files>(rt: &F, alloc: Global, lang: Language, path: &str) -> Result<Extended> {
-        let mut file = fs::open(rt, path).map_err(error_of_reading)?;
-        Self::from_reader(alloc, lang, &mut file)
-    }
-
     fn to_text(&self, alloc: Global) -> std::result::Result<Vec<u8>, AllocError> {
         write_extended(alloc, self)
-    }
-
-    fn to_writer<W: Write>(&self, alloc: Global, writer: &mut W) -> Result<()> {
-        let text = write_extended(alloc, self).map_err(Error::Memory)?;
-        writer.write_all(&text).map_err(Error::IO)
     }
 }

@@ -14,18 +14,16 @@ use Rattle.std.proofs.lemmas.Str.Ascii.{IsAscii-cons, IsAscii-nil}
 use Rattle.hyphenation_breaks.specs.Break.{Break, Change, plain_break}
 use Rattle.hyphenation_breaks.specs.Dictionary.{Contents}
 use Rattle.hyphenation_reader.specs.Edits.{as_line, form_in, is_addition, is_sound_line, edit_line, after_edit, after_edits}
-use Rattle.hyphenation_reader.specs.Laws.{SpeltIsSound, said_of_word, word_named, last_said_of}
+use Rattle.hyphenation_reader.specs.Laws.{SpeltIsSound, effect_on_word, word_named, last_effect_on}
 use Rattle.hyphenation_reader.specs.Private.Edits.{ReadsException}
 use Rattle.hyphenation_grammar.specs.Items.{breaks_of_line}
 use Rattle.hyphenation_grammar.specs.Judging.{own_cause, is_known}
 use Rattle.hyphenation_breaks.specs.Invariant.{are_listed}
 use Rattle.hyphenation_grammar.specs.Lines.{is_same, strip_prefix}
-use Rattle.hyphenation_reader.specs.Private.LineAnswers.{AnswersException, item_cause}
+use Rattle.hyphenation_reader.specs.Private.LineAnswers.{ReturnsException, item_cause}
 use Rattle.hyphenation_grammar.specs.declared.form.Form.{Form}
 use Rattle.hyphenation_grammar.specs.declared.form.Kind.{Kind}
 use Rattle.hyphenation_grammar.specs.declared.form.Version.TheVariants.{First}
-use Rattle.hyphenation_reader.specs.declared.items.Fault.{Fault}
-use Rattle.hyphenation_reader.specs.declared.items.Fault.TheVariants.{Fails}
 use Rattle.hyphenation_grammar.specs.declared.Cause.{Cause}
 use Rattle.hyphenation_grammar.specs.declared.Cause.TheVariants.{NotUtf8, UnknownLine}
 use Rattle.hyphenation_reader.proofs.JudgingLine.{halves, past_byte}
@@ -62,18 +60,18 @@ none_there : {X : Type 0} (o : Option X) → is_none o ≡ true → o ≡ None
 none_there None e = refl
 none_there (Some x) e = absurd cc
 
-pub read : {B Y Z : Type 0} (kind : Kind) (listing_of : Break → B) (text : List ℕ) (r : Result (String Y × Vec B Z) Fault) → IsUtf8 text
-    → ((line : List ℕ) → Some text ≡ strip_prefix (codes "e ") line → AnswersException (form_in kind First) listing_of line r) → (x : String Y × Vec B Z) → r ≡ Ok x → ReadsException kind listing_of (Some x) (as_line text)
+pub read : {B Y Z : Type 0} (kind : Kind) (listing_of : Break → B) (text : List ℕ) (r : Result (String Y × Vec B Z) Cause) → IsUtf8 text
+    → ((line : List ℕ) → Some text ≡ strip_prefix (codes "e ") line → ReturnsException (form_in kind First) listing_of line r) → (x : String Y × Vec B Z) → r ≡ Ok x → ReadsException kind listing_of (Some x) (as_line text)
 read {B} {Y} {Z} kind listing_of text r u answers x e =
     let form = form_in kind First in
-    let h : AnswersException form listing_of (as_line text) (Ok x) = subst (λ (s : Result (String Y × Vec B Z) Fault). AnswersException form listing_of (as_line text) s) e (answers (as_line text) refl) in
+    let h : ReturnsException form listing_of (as_line text) (Ok x) = subst (λ (s : Result (String Y × Vec B Z) Cause). ReturnsException form listing_of (as_line text) s) e (answers (as_line text) refl) in
     (no_cause (own_cause form 4 (as_line text)) (only_item form text u ∙ h.0), h.1.1)
 
-pub unread : {B Y Z : Type 0} (kind : Kind) (listing_of : Break → B) (text : List ℕ) (r : Result (String Y × Vec B Z) Fault) → IsUtf8 text
-    → ((line : List ℕ) → Some text ≡ strip_prefix (codes "e ") line → AnswersException (form_in kind First) listing_of line r) → (fault : Fault) (cause : Cause) → r ≡ Err fault → fault ≡ Fails cause → is_sound_line kind (as_line text) ≡ false
-unread {B} {Y} {Z} kind listing_of text r u answers fault cause e fails =
+pub unread : {B Y Z : Type 0} (kind : Kind) (listing_of : Break → B) (text : List ℕ) (r : Result (String Y × Vec B Z) Cause) → IsUtf8 text
+    → ((line : List ℕ) → Some text ≡ strip_prefix (codes "e ") line → ReturnsException (form_in kind First) listing_of line r) → (cause : Cause) → r ≡ Err cause → is_sound_line kind (as_line text) ≡ false
+unread {B} {Y} {Z} kind listing_of text r u answers cause e =
     let form = form_in kind First in
-    let h : item_cause form (as_line text) ≡ Some cause = subst (λ (s : Result (String Y × Vec B Z) Fault). AnswersException form listing_of (as_line text) s) (e ∙ ap Err fails) (answers (as_line text) refl) in
+    let h : item_cause form (as_line text) ≡ Some cause = subst (λ (s : Result (String Y × Vec B Z) Cause). ReturnsException form listing_of (as_line text) s) e (answers (as_line text) refl) in
     some_cause (own_cause form 4 (as_line text)) cause (only_item form text u ∙ h)
 
 pub may_be_listed : {B Y Z : Type 0} → SpeltIsSound → (kind : Kind) (listing_of : Break → B) (break_of : B → Break) → ((b : Break) → (break_of (listing_of b) ≡ b) ⊎ (break_of (listing_of b) ≡ plain_break b.place))
@@ -109,9 +107,9 @@ either_or None p x y e = e
 either_or (Some z) p x y e = refl
 
 pub last_decides : {C B : Type 0} (listing_of : Break → B) (dictionary : Contents C B) (edits : List (List ℕ)) (word : List ℕ)
-    → finite.get (after_edits listing_of dictionary edits).exceptions word ≡ unwrap_or (last_said_of listing_of word edits) (finite.get dictionary.exceptions word)
+    → finite.get (after_edits listing_of dictionary edits).exceptions word ≡ unwrap_or (last_effect_on listing_of word edits) (finite.get dictionary.exceptions word)
 last_decides listing_of dictionary [] word = refl
 last_decides {C} {B} listing_of dictionary (e ∷ es) word =
     last_decides listing_of (after_edit listing_of dictionary e) es word
-    ∙ either_or (last_said_of listing_of word es) (cond (is_same (word_named e) word) (Some (said_of_word listing_of e)) None) (finite.get dictionary.exceptions word) (finite.get (after_edit listing_of dictionary e).exceptions word)
+    ∙ either_or (last_effect_on listing_of word es) (cond (is_same (word_named e) word) (Some (effect_on_word listing_of e)) None) (finite.get dictionary.exceptions word) (finite.get (after_edit listing_of dictionary e).exceptions word)
     (one_edit dictionary (word_named e) word (map listing_of (breaks_of_line (edit_line e))) (is_addition e))

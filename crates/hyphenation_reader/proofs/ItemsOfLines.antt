@@ -1,4 +1,4 @@
--- What lines spell, one line more; and the tests of repetition by what was spelt.
+-- The items of lines, with one line more; and the tests of repetition by these items.
 use Rattle.std.proofs.Common.{◌≡◌, ℕ, Bool, true, false, cond, ◌&&◌, ◌||◌, nat_eq, List, [], ◌∷◌, ◌++◌, map, Option, Some, None, is_some, refl, sym, ap, ◌∙◌}
 use Rattle.std.specs.Option.{option_map, option_map_or}
 use Rattle.std.specs.List.{filter_map, cons_option}
@@ -12,7 +12,7 @@ use Rattle.hyphenation_breaks.specs.Break.{Break, Change}
 use Rattle.hyphenation_breaks.specs.Dictionary.{TextMap}
 use Rattle.hyphenation_grammar.specs.Lines.{is_same}
 use Rattle.hyphenation_grammar.specs.Items.{is_pattern_line, is_exception_line, key_of_line, word_of_line, key_spelt, word_spelt, pattern_of_line, exception_of_line, entries_of_line, breaks_of_line}
-use Rattle.hyphenation_grammar.specs.Judging.{stands_in, repetition}
+use Rattle.hyphenation_grammar.specs.Judging.{is_repeated, repetition}
 use Rattle.hyphenation_grammar.specs.Reading.{map_of_lines, spelling_as, entry_as, items_of_lines}
 use Rattle.hyphenation_breaks.specs.declared.entry.Entry.{Entry}
 use Rattle.hyphenation_grammar.specs.declared.form.Version.{Version}
@@ -25,12 +25,12 @@ same_test a b = sym (texts_ties a b) ∙ nat_list_eq_equiv.symm a b
 
 -- a text stands among the entries where it is spelt in a line
 standing : {X : Type 0} (spells : List ℕ → Option (List ℕ × X)) (earlier : List (List ℕ)) (q : List ℕ)
-    → is_some (find (slice_cmp nat_cmp) q (filter_map spells earlier)) ≡ stands_in (λ l. option_map (λ x. x.0) (spells l)) earlier q
+    → is_some (find (slice_cmp nat_cmp) q (filter_map spells earlier)) ≡ is_repeated (λ l. option_map (λ x. x.0) (spells l)) earlier q
 standing spells [] q = refl
 standing {X} spells (l ∷ ls) q =
-    elim (spells l) as (λ o. is_some (find (slice_cmp nat_cmp) q (cons_option o (filter_map spells ls))) ≡ (option_map_or (λ other. is_same other q) (option_map (λ x. x.0) o) false || stands_in (λ l. option_map (λ x. x.0) (spells l)) ls q)) [
+    elim (spells l) as (λ o. is_some (find (slice_cmp nat_cmp) q (cons_option o (filter_map spells ls))) ≡ (option_map_or (λ other. is_same other q) (option_map (λ x. x.0) o) false || is_repeated (λ l. option_map (λ x. x.0) (spells l)) ls q)) [
       | None ↦ standing spells ls q
-      | Some x ↦ either (eq_by_cmp (slice_cmp nat_cmp) q x.0) (is_same x.0 q) x.1 (find (slice_cmp nat_cmp) q (filter_map spells ls)) (stands_in (λ l. option_map (λ x. x.0) (spells l)) ls q) (same_test q x.0) (standing spells ls q)
+      | Some x ↦ either (eq_by_cmp (slice_cmp nat_cmp) q x.0) (is_same x.0 q) x.1 (find (slice_cmp nat_cmp) q (filter_map spells ls)) (is_repeated (λ l. option_map (λ x. x.0) (spells l)) ls q) (same_test q x.0) (standing spells ls q)
     ]
   where
     either : (a b : Bool) (v : X) (o : Option X) (t : Bool) → a ≡ b → is_some o ≡ t → is_some (cond a (Some v) o) ≡ (b || t)
@@ -38,7 +38,7 @@ standing {X} spells (l ∷ ls) q =
     either false b v o t e f = f ∙ ap (λ y. y || t) e
 
 contains : {X : Type 0} (spells : List ℕ → Option (List ℕ × X)) (earlier : List (List ℕ)) (q : List ℕ)
-    → is_some (finite.get (map_of_lines spells earlier) q) ≡ stands_in (λ l. option_map (λ x. x.0) (spells l)) earlier q
+    → is_some (finite.get (map_of_lines spells earlier) q) ≡ is_repeated (λ l. option_map (λ x. x.0) (spells l)) earlier q
 contains spells earlier q = ap is_some (get-from_entries nat_list_cmp_total (filter_map spells earlier) q) ∙ standing spells earlier q
 
 none_of : {X : Type 0} (o : Option X) → is_some o ≡ false → o ≡ None
@@ -81,22 +81,22 @@ module _ {C B : Type 0} (version : Version) (payload_of : Option Change → C) (
   word_agrees : (l : List ℕ) → option_map (λ x. x.0) (spelling_as listing_of exception_of_line l) ≡ word_spelt l
   word_agrees l = elim (is_exception_line l) as (λ b. option_map (λ (x : List ℕ × List B). x.0) (option_map {U = List ℕ × List B} (λ x. (x.0, map listing_of x.1)) (cond {A = Option (List ℕ × List Break)} b (Some (word_of_line l, breaks_of_line l)) None)) ≡ cond b (Some (word_of_line l)) None) [ true ↦ refl | false ↦ refl ]
 
-  key_stands : (earlier : List (List ℕ)) (q : List ℕ) → is_some (finite.get (items_of_lines version payload_of listing_of earlier).patterns q) ≡ stands_in (key_spelt version) earlier q
-  key_stands earlier q = contains (spelling_as (entry_as payload_of) (pattern_of_line version)) earlier q ∙ ap (λ (s : List ℕ → Option (List ℕ)). stands_in s earlier q) (λ k l. key_agrees l k)
+  key_stands : (earlier : List (List ℕ)) (q : List ℕ) → is_some (finite.get (items_of_lines version payload_of listing_of earlier).patterns q) ≡ is_repeated (key_spelt version) earlier q
+  key_stands earlier q = contains (spelling_as (entry_as payload_of) (pattern_of_line version)) earlier q ∙ ap (λ (s : List ℕ → Option (List ℕ)). is_repeated s earlier q) (λ k l. key_agrees l k)
 
-  word_stands : (earlier : List (List ℕ)) (q : List ℕ) → is_some (finite.get (items_of_lines version payload_of listing_of earlier).exceptions q) ≡ stands_in word_spelt earlier q
-  word_stands earlier q = contains (spelling_as listing_of exception_of_line) earlier q ∙ ap (λ (s : List ℕ → Option (List ℕ)). stands_in s earlier q) (λ k l. word_agrees l k)
+  word_stands : (earlier : List (List ℕ)) (q : List ℕ) → is_some (finite.get (items_of_lines version payload_of listing_of earlier).exceptions q) ≡ is_repeated word_spelt earlier q
+  word_stands earlier q = contains (spelling_as listing_of exception_of_line) earlier q ∙ ap (λ (s : List ℕ → Option (List ℕ)). is_repeated s earlier q) (λ k l. word_agrees l k)
 
-  has_key : (earlier : List (List ℕ)) (line : List ℕ) → has (items_of_lines version payload_of listing_of earlier).patterns (spelling_as (entry_as payload_of) (pattern_of_line version) line) ≡ (is_pattern_line line && stands_in (key_spelt version) earlier (key_of_line version line))
+  has_key : (earlier : List (List ℕ)) (line : List ℕ) → has (items_of_lines version payload_of listing_of earlier).patterns (spelling_as (entry_as payload_of) (pattern_of_line version) line) ≡ (is_pattern_line line && is_repeated (key_spelt version) earlier (key_of_line version line))
   has_key earlier line =
-      elim (is_pattern_line line) as (λ b. has (items_of_lines version payload_of listing_of earlier).patterns (option_map {U = List ℕ × List (Entry C)} (λ x. (x.0, map (entry_as payload_of) x.1)) (cond {A = Option (List ℕ × List (Entry (Option Change)))} b (Some (key_of_line version line, entries_of_line version line)) None)) ≡ (b && stands_in (key_spelt version) earlier (key_of_line version line))) [
+      elim (is_pattern_line line) as (λ b. has (items_of_lines version payload_of listing_of earlier).patterns (option_map {U = List ℕ × List (Entry C)} (λ x. (x.0, map (entry_as payload_of) x.1)) (cond {A = Option (List ℕ × List (Entry (Option Change)))} b (Some (key_of_line version line, entries_of_line version line)) None)) ≡ (b && is_repeated (key_spelt version) earlier (key_of_line version line))) [
         | true ↦ key_stands earlier (key_of_line version line)
         | false ↦ refl
       ]
 
-  has_word : (earlier : List (List ℕ)) (line : List ℕ) → has (items_of_lines version payload_of listing_of earlier).exceptions (spelling_as listing_of exception_of_line line) ≡ (is_exception_line line && stands_in word_spelt earlier (word_of_line line))
+  has_word : (earlier : List (List ℕ)) (line : List ℕ) → has (items_of_lines version payload_of listing_of earlier).exceptions (spelling_as listing_of exception_of_line line) ≡ (is_exception_line line && is_repeated word_spelt earlier (word_of_line line))
   has_word earlier line =
-      elim (is_exception_line line) as (λ b. has (items_of_lines version payload_of listing_of earlier).exceptions (option_map {U = List ℕ × List B} (λ x. (x.0, map listing_of x.1)) (cond {A = Option (List ℕ × List Break)} b (Some (word_of_line line, breaks_of_line line)) None)) ≡ (b && stands_in word_spelt earlier (word_of_line line))) [
+      elim (is_exception_line line) as (λ b. has (items_of_lines version payload_of listing_of earlier).exceptions (option_map {U = List ℕ × List B} (λ x. (x.0, map listing_of x.1)) (cond {A = Option (List ℕ × List Break)} b (Some (word_of_line line, breaks_of_line line)) None)) ≡ (b && is_repeated word_spelt earlier (word_of_line line))) [
         | true ↦ word_stands earlier (word_of_line line)
         | false ↦ refl
       ]
@@ -106,7 +106,7 @@ module _ {C B : Type 0} (version : Version) (payload_of : Option Change → C) (
       → repeats (items_of_lines version payload_of listing_of earlier).patterns (items_of_lines version payload_of listing_of earlier).exceptions (spelling_as (entry_as payload_of) (pattern_of_line version) line) (spelling_as listing_of exception_of_line line) ≡ repetition version earlier line
   repeats-spelt earlier line =
       ap (λ (b : Bool). cond b (Some RepeatedPattern) (cond (has (items_of_lines version payload_of listing_of earlier).exceptions (spelling_as listing_of exception_of_line line)) (Some RepeatedException) None)) (has_key earlier line)
-      ∙ ap (λ (b : Bool). cond (is_pattern_line line && stands_in (key_spelt version) earlier (key_of_line version line)) (Some RepeatedPattern) (cond b (Some RepeatedException) None)) (has_word earlier line)
+      ∙ ap (λ (b : Bool). cond (is_pattern_line line && is_repeated (key_spelt version) earlier (key_of_line version line)) (Some RepeatedPattern) (cond b (Some RepeatedException) None)) (has_word earlier line)
 
   -- a line more, which repeats none
   pub new_key : (earlier : List (List ℕ)) (line : List ℕ) → None ≡ repetition version earlier line → has (map_of_lines (spelling_as (entry_as payload_of) (pattern_of_line version)) earlier) (spelling_as (entry_as payload_of) (pattern_of_line version) line) ≡ false

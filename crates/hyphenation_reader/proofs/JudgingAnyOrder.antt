@@ -13,7 +13,7 @@ use Rattle.hyphenation_grammar.specs.declared.form.Form.{Form}
 use Rattle.hyphenation_grammar.specs.declared.form.Version.{Version}
 use Rattle.hyphenation_grammar.specs.Lines.{is_same}
 use Rattle.hyphenation_grammar.specs.Items.{is_pattern_line, is_exception_line, key_of_line, word_of_line, key_spelt, word_spelt}
-use Rattle.hyphenation_grammar.specs.Judging.{fault_after, own_cause, missing_head, repetition, stands_in}
+use Rattle.hyphenation_grammar.specs.Judging.{fault_after, own_cause, missing_head, repetition, is_repeated}
 use Rattle.hyphenation_grammar.specs.declared.Cause.{Cause}
 use Rattle.hyphenation_grammar.specs.declared.Cause.TheVariants.{RepeatedPattern, RepeatedException}
 use Rattle.hyphenation_reader.proofs.ItemsOfLines.{neither}
@@ -73,13 +73,13 @@ none_again false false e = refl
 
 no_clash : (version : Version) (earlier : List (List ℕ)) (l : List ℕ) → None ≡ repetition version earlier l → list_any (λ e. clash version e l) earlier ≡ false
 no_clash version earlier l none =
-    let off = neither (is_pattern_line l && stands_in (key_spelt version) earlier (key_of_line version l)) (is_exception_line l && stands_in word_spelt earlier (word_of_line l)) none in
+    let off = neither (is_pattern_line l && is_repeated (key_spelt version) earlier (key_of_line version l)) (is_exception_line l && is_repeated word_spelt earlier (word_of_line l)) none in
     sym (gather (is_pattern_line l) (is_exception_line l) (spells_same (key_spelt version) (key_of_line version l)) (spells_same word_spelt (word_of_line l)) earlier)
-    ∙ both_false (is_pattern_line l && stands_in (key_spelt version) earlier (key_of_line version l)) (is_exception_line l && stands_in word_spelt earlier (word_of_line l)) off.0 off.1
+    ∙ both_false (is_pattern_line l && is_repeated (key_spelt version) earlier (key_of_line version l)) (is_exception_line l && is_repeated word_spelt earlier (word_of_line l)) off.0 off.1
 
 no_repetition : (version : Version) (earlier : List (List ℕ)) (l : List ℕ) → list_any (λ e. clash version e l) earlier ≡ false → None ≡ repetition version earlier l
 no_repetition version earlier l none =
-    none_again (is_pattern_line l && stands_in (key_spelt version) earlier (key_of_line version l)) (is_exception_line l && stands_in word_spelt earlier (word_of_line l))
+    none_again (is_pattern_line l && is_repeated (key_spelt version) earlier (key_of_line version l)) (is_exception_line l && is_repeated word_spelt earlier (word_of_line l))
     (gather (is_pattern_line l) (is_exception_line l) (spells_same (key_spelt version) (key_of_line version l)) (spells_same word_spelt (word_of_line l)) earlier ∙ none)
 
 -- none among the first i, place by place

@@ -9,10 +9,9 @@ use Rattle.std.proofs.lemmas.Str.{IsUtf8-from_is_utf8, IsUtf8-past_char}
 use Rattle.std.proofs.lemmas.Str.Ascii.{encode_ascii}
 use Rattle.hyphenation_grammar.specs.declared.form.Form.{Form}
 use Rattle.hyphenation_grammar.specs.Judging.{own_cause, fails}
-use Rattle.hyphenation_reader.specs.Private.Judging.{before_item, early_cause}
+use Rattle.hyphenation_reader.specs.Private.Judging.{cause_before_token, early_cause}
 use Rattle.hyphenation_grammar.specs.Lines.{strip_prefix, starts_with}
-use Rattle.hyphenation_reader.specs.Private.LineAnswers.{IsFault, item_cause}
-use Rattle.hyphenation_reader.specs.declared.items.Fault.{Fault}
+use Rattle.hyphenation_reader.specs.Private.LineAnswers.{item_cause}
 use Rattle.hyphenation_grammar.specs.declared.Cause.{Cause}
 use Rattle.hyphenation_grammar.specs.declared.Cause.TheVariants.{NotUtf8, Header, Language, Minima, UnknownLine}
 use Rattle.hyphenation_reader.proofs.LineCauses.{begun}
@@ -27,11 +26,11 @@ five false false false true e rest = refl
 five false false false false true rest = refl
 five false false false false false rest = refl
 
-pub halves : (form : Form) (number : ℕ) (line : List ℕ) → own_cause form number line ≡ option_or (before_item form number line) (item_cause form line)
+pub halves : (form : Form) (number : ℕ) (line : List ℕ) → own_cause form number line ≡ option_or (cause_before_token form number line) (item_cause form line)
 halves form number line =
     five (fails form number line NotUtf8) (fails form number line Header) (fails form number line Language) (fails form number line Minima) (fails form number line UnknownLine) (item_cause form line)
 
-pub early : (form : Form) (number : ℕ) (line : List ℕ) (cause : Cause) → Some cause ≡ before_item form number line → own_cause form number line ≡ Some cause
+pub early : (form : Form) (number : ℕ) (line : List ℕ) (cause : Cause) → Some cause ≡ cause_before_token form number line → own_cause form number line ≡ Some cause
 early form number line cause e = halves form number line ∙ ap (λ (o : Option Cause). option_or o (item_cause form line)) (sym e)
 
 -- it is UTF-8, and so is what stands after the beginning of an exception
@@ -39,7 +38,7 @@ utf8_by : (t : Bool) (rest : Option Cause) → cond (not t) (Some NotUtf8) rest 
 utf8_by true rest e = refl
 utf8_by false rest e = absurd cc
 
-line-utf8 : (form : Form) (number : ℕ) (line : List ℕ) → before_item form number line ≡ None → IsUtf8 line
+line-utf8 : (form : Form) (number : ℕ) (line : List ℕ) → cause_before_token form number line ≡ None → IsUtf8 line
 line-utf8 form number line e =
     IsUtf8-from_is_utf8 line (utf8_by (is_utf8 line) (cond (fails form number line Header) (Some Header) (cond (fails form number line Language) (Some Language) (cond (fails form number line Minima) (Some Minima) (cond (fails form number line UnknownLine) (Some UnknownLine) None)))) e)
 
@@ -70,25 +69,25 @@ none_of : (o : Option Cause) → ((x : Cause) → o ≡ Some x → ⊥) → o �
 none_of None never = refl
 none_of (Some x) never = absurd (never x refl)
 
-pub exception-utf8 : (form : Form) (number : ℕ) (line text : List ℕ) (found : Option Cause) → ((x : Cause) → found ≡ Some x → ⊥) → found ≡ before_item form number line → Some text ≡ strip_prefix (codes "e ") line → IsUtf8 text
+pub exception-utf8 : (form : Form) (number : ℕ) (line text : List ℕ) (found : Option Cause) → ((x : Cause) → found ≡ Some x → ⊥) → found ≡ cause_before_token form number line → Some text ≡ strip_prefix (codes "e ") line → IsUtf8 text
 exception-utf8 form number line text found never is start =
     let b = begun (codes "e ") line text start in
     subst IsUtf8 b.1 (after-utf8 101 (omega arith) line (line-utf8 form number line (sym is ∙ none_of found never)) b.0)
 
-pub pattern-utf8 : (form : Form) (number : ℕ) (line text : List ℕ) (found : Option Cause) → ((x : Cause) → found ≡ Some x → ⊥) → found ≡ before_item form number line → Some text ≡ strip_prefix (codes "p ") line → IsUtf8 text
+pub pattern-utf8 : (form : Form) (number : ℕ) (line text : List ℕ) (found : Option Cause) → ((x : Cause) → found ≡ Some x → ⊥) → found ≡ cause_before_token form number line → Some text ≡ strip_prefix (codes "p ") line → IsUtf8 text
 pattern-utf8 form number line text found never is start =
     let b = begun (codes "p ") line text start in
     subst IsUtf8 b.1 (after-utf8 112 (omega arith) line (line-utf8 form number line (sym is ∙ none_of found never)) b.0)
 
 -- a line that passes the first five tests fails the first of the others
-pub refused_late : {X : Type 0} (form : Form) (number : ℕ) (line : List ℕ) (found : Option Cause) → ((x : Cause) → found ≡ Some x → ⊥) → found ≡ before_item form number line
-    → (P : X → Type 0) (r : Result X Fault) → MatchResult r P (λ fault. IsFault fault (item_cause form line)) → IfErr r (λ fault. IsFault fault (own_cause form number line))
+pub refused_late : {X : Type 0} (form : Form) (number : ℕ) (line : List ℕ) (found : Option Cause) → ((x : Cause) → found ≡ Some x → ⊥) → found ≡ cause_before_token form number line
+    → (P : X → Type 0) (r : Result X Cause) → MatchResult r P (λ cause. item_cause form line ≡ Some cause) → IfErr r (λ cause. own_cause form number line ≡ Some cause)
 refused_late form number line found never is P (Ok x) h = tt
-refused_late form number line found never is P (Err fault) h =
-    subst (IsFault fault) (sym (halves form number line ∙ ap (λ (o : Option Cause). option_or o (item_cause form line)) (sym is ∙ none_of found never))) h
+refused_late form number line found never is P (Err cause) h =
+    halves form number line ∙ ap (λ (o : Option Cause). option_or o (item_cause form line)) (sym is ∙ none_of found never) ∙ h
 
 -- the lines after the third are judged alike
-after_third : (form : Form) (number : ℕ) (line : List ℕ) → 3 < number → before_item form number line ≡ early_cause line
+after_third : (form : Form) (number : ℕ) (line : List ℕ) → 3 < number → cause_before_token form number line ≡ early_cause line
 after_third form number line late = rw (other 1 (omega arith), other 2 (omega arith), other 3 (omega arith), more) refl
   where
     other : (k : ℕ) → k < number → eqb number k ≡ false

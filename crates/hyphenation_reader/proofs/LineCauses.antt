@@ -5,6 +5,7 @@ use Rattle.std.specs.Option.{option_map, option_and_then, option_or, unwrap_or}
 use Rattle.std.specs.List.{list_all, slice_split}
 use Rattle.std.proofs.lemmas.Bool.Decides.{nat_tests}
 use Rattle.hyphenation_breaks.specs.Break.{Break, Change as Changed, ascend_on, is_boundary}
+use Rattle.hyphenation_breaks.specs.Invariant.{has_letter}
 use Rattle.hyphenation_grammar.specs.declared.form.Form.{Form}
 use Rattle.hyphenation_grammar.specs.Items.{is_pattern_line, is_exception_line, tokens_of, pattern_of_line, exception_of_line, break_of_token, change_at, entries_of_line, breaks_of_line, key_of_line, word_of_line}
 use Rattle.hyphenation_grammar.specs.Judging.{is_extended, is_good_later_token, has_value_at, has_bad_number, has_bad_place, has_bad_change}
@@ -63,7 +64,7 @@ by_tokens form a x tokens =
     cond ((a || x) && not ((nat_lt 0 (length (first_token tokens)) && cond a (is_some (pattern_bytes form.version (first_token tokens))) (is_some (text_spelt (first_token tokens)))) && list_all is_readable (drop 1 tokens))) (Some Token)
     (cond (a && is_none (elements_of form.version (first_token tokens))) (Some BadValue)
     (cond (a && two_values false (unwrap_or (elements_of form.version (first_token tokens)) [])) (Some Pattern)
-    (cond (a && list_all (λ b. eqb b 46) (key_of (unwrap_or (elements_of form.version (first_token tokens)) []))) (Some NoLetters)
+    (cond (a && not (has_letter (key_of (unwrap_or (elements_of form.version (first_token tokens)) [])))) (Some NoLetters)
     (cond ((a || x) && has_bad_number (drop 1 tokens)) (Some Number)
     (cond ((a || x) && has_bad_place (cond a (key_of (unwrap_or (elements_of form.version (first_token tokens)) [])) (unwrap_or (text_spelt (first_token tokens)) [])) (drop 1 tokens)) (Some Place)
     (cond ((a || x) && has_bad_change form a (unwrap_or (elements_of form.version (first_token tokens)) []) (cond a (key_of (unwrap_or (elements_of form.version (first_token tokens)) [])) (unwrap_or (text_spelt (first_token tokens)) [])) (drop 1 tokens)) (Some Change) None))))))
@@ -321,7 +322,7 @@ pattern_rest form found later =
     let ms = unwrap_or found [] in
     cond (is_none found) (Some BadValue)
     (cond (two_values false ms) (Some Pattern)
-    (cond (list_all (λ b. eqb b 46) (key_of ms)) (Some NoLetters)
+    (cond (not (has_letter (key_of ms))) (Some NoLetters)
     (cond (has_bad_number later) (Some Number) (cond (has_bad_place (key_of ms) later) (Some Place) (cond (has_bad_change form true ms (key_of ms) later) (Some Change) None)))))
 
 abbrev pattern_test : Version → List (List ℕ) → Bool
@@ -334,7 +335,7 @@ pattern_none form x tokens e =
 -- its first test but one, by its key and its values
 abbrev caused : Form → ReadLater → Bool → Bool → List ℕ → List (ℕ × ℕ) → Option Cause
 caused form l bad two key values =
-    cond bad (Some BadValue) (cond two (Some Pattern) (cond (list_all (λ b. eqb b 46) key) (Some NoLetters) (option_or (places_cause key l) (cond (not (l.are_sound && list_all (suits_key form key values) l.listed)) (Some Change) None))))
+    cond bad (Some BadValue) (cond two (Some Pattern) (cond (not (has_letter key)) (Some NoLetters) (option_or (places_cause key l) (cond (not (l.are_sound && list_all (suits_key form key values) l.listed)) (Some Change) None))))
 
 -- what is read of the first token, by its marks
 pub record IsRead (r : ReadPattern) (ms : List PatternElement) : Type 0 where
@@ -363,7 +364,7 @@ caused_by : (form : Form) (later : List (List ℕ)) (r : ReadPattern) (l : ReadL
 caused_by form later r l read None bad = ap (λ (b : Bool). caused form l b r.has_two_values r.key r.values) (sym bad)
 caused_by form later r l read (Some ms) found =
     let is = is_read r ms found in
-    ap (λ (rest : Option Cause). cond (two_values false ms) (Some Pattern) (cond (list_all (λ b. eqb b 46) (key_of ms)) (Some NoLetters) rest)) (pattern_tail form l later read ms (key_of ms))
+    ap (λ (rest : Option Cause). cond (two_values false ms) (Some Pattern) (cond (not (has_letter (key_of ms))) (Some NoLetters) rest)) (pattern_tail form l later read ms (key_of ms))
     ∙ (λ i. caused form l (sym is.good i) (is.twice i) (is.key i) (is.values i))
 
 pattern_some : (form : Form) (x : Bool) (tokens : List (List ℕ)) (r : ReadPattern) (l : ReadLater) → pattern_parts form.version tokens ≡ Some (r, l) → by_tokens form true x tokens ≡ pattern_cause form r l
@@ -403,7 +404,7 @@ passed true false false f e = absurd cc
 passed false p s f e = absurd cc
 
 pattern_passed : (form : Form) (r : ReadPattern) (l : ReadLater) → pattern_cause form r l ≡ None → (not l.are_numbers ≡ false) × (l.are_sound ≡ true) × (is_bad r ≡ false)
-pattern_passed form r l e = by (is_bad r) r.has_two_values (list_all (λ b. eqb b 46) r.key) refl e
+pattern_passed form r l e = by (is_bad r) r.has_two_values (not (has_letter r.key)) refl e
   where
     by : (bad two dots : Bool) → is_bad r ≡ bad
         → cond bad (Some BadValue) (cond two (Some Pattern) (cond dots (Some NoLetters) (option_or (places_cause r.key l) (cond (not (l.are_sound && list_all (suits_key form r.key r.values) l.listed)) (Some Change) None)))) ≡ None

@@ -1,4 +1,4 @@
--- What a line that fails no test of its own spells: well-formed keys with their entries, and words with their listed breaks.
+-- A line that fails no test by itself spells a key with well-formed entries, or a word with breaks that may be listed.
 use Rattle.std.proofs.Common.{◌≡◌, ℕ, ◌+◌, ◌-◌, ◌^◌, ◌<◌, ◌≤◌, Bool, true, false, cond, not, ◌==◌, ◌&&◌, ◌||◌, eqb, nat_le, nat_lt, nat_eq, List, [], ◌∷◌, ◌++◌, length, map, take, drop, get_or, Option, Some, None, is_some, unwrap_or, refl, ap, subst, ◌∙◌, arith}
 use Rattle.std.specs.Prelude.{IsUtf8, IsCharBoundary}
 use Rattle.std.specs.Option.{option_map, option_and_then, is_none}
@@ -10,9 +10,9 @@ use Rattle.std.proofs.lemmas.Str.{IsUtf8-from_is_utf8, is_utf8-from_IsUtf8, IsUt
 use Rattle.hyphenation_breaks.specs.Break.{Break, Change, ascend_on, is_boundary, keeps_within}
 use Rattle.std.specs.Cmp.{first_so, second_so}
 use Rattle.hyphenation_grammar.specs.declared.form.Form.{Form}
-use Rattle.hyphenation_breaks.specs.Invariant.{fits_usize, can_be_said, is_value, stays_within, lists_within, are_listed, IsPattern, IsException}
-use Rattle.hyphenation_grammar.specs.Lines.{is_digit, has_no_leading_zero, is_number, is_small, number}
-use Rattle.hyphenation_grammar.specs.Tokens.{element_of, is_raw, is_raw_digit, braced_value, step_outside, step_inside, elements_from, elements_of, pattern_bytes, text_spelt, key_of, values_from, two_values, has_comma, parts_of, numerals_of, place_of_token, change_of_token, is_whole}
+use Rattle.hyphenation_breaks.specs.Invariant.{fits_usize, can_be_written, has_letter, is_value, stays_within, lists_within, are_listed, IsPattern, IsException}
+use Rattle.hyphenation_grammar.specs.Lines.{is_digit, has_no_leading_zero, is_number, is_number_to_255, number}
+use Rattle.hyphenation_grammar.specs.Tokens.{element_of, is_unescaped, is_unescaped_digit, braced_value, step_outside, step_inside, elements_from, elements_of, pattern_bytes, text_spelt, key_of, values_from, two_values, has_comma, parts_of, numerals_of, place_of_token, change_of_token, has_five_parts}
 use Rattle.hyphenation_grammar.specs.Items.{is_pattern_line, is_exception_line, tokens_of, first_token_of, later_tokens_of, pattern_elements, key_of_line, word_of_line, counted_text, break_of_token, breaks_of_line, change_at, entries_of_line}
 use Rattle.hyphenation_grammar.specs.Judging.{is_item_line, is_extended, has_value_at, is_good_later_token, fails, own_cause}
 use Rattle.hyphenation_breaks.specs.declared.entry.Entry.{Entry}
@@ -43,9 +43,9 @@ on_from_not : (b : Bool) → not b ≡ false → b ≡ true
 on_from_not true e = refl
 on_from_not false e = absurd cc
 
-not_off : (b : Bool) → b ≡ false → not b ≡ true
-not_off true e = absurd cc
-not_off false e = refl
+not_none : (b : Bool) → not b ≡ false → b ≡ true
+not_none true e = refl
+not_none false e = absurd cc
 
 pub found_none : {X : Type 0} (p : X → Bool) (x : X) (xs : List X) → find p (x ∷ xs) ≡ None → (p x ≡ false) × (find p xs ≡ None)
 found_none {X} p x xs e = by (p x) refl e
@@ -153,7 +153,7 @@ place_short token e = by (has_comma token) refl e
 four : (a b c d : Bool) → a ≡ true → b ≡ true → c ≡ true → d ≡ true → (a && b && c && d) ≡ true
 four a b c d x y z w = rw (x, y, z, w) refl
 
-change_said : TextLaws → (token : List ℕ) → IsUtf8 token → has_comma token ≡ true → has_numbers token ≡ true → is_whole token ≡ true → can_be_said (change_of_token token) ≡ true
+change_said : TextLaws → (token : List ℕ) → IsUtf8 token → has_comma token ≡ true → has_numbers token ≡ true → has_five_parts token ≡ true → can_be_written (change_of_token token) ≡ true
 change_said laws token u comma e whole =
     let n : length (parts_of token) ≡ 5 = five (parts_of token) (first_so (length (parts_of token) == 5) (nat_lt 0 (length (get_or (parts_of token) 4 []))) whole) in
     let h : list_all is_number (take (length (parts_of token) - 1) (parts_of token)) ≡ true = subst (λ (t : Bool). list_all is_number (cond t (take (length (parts_of token) - 1) (parts_of token)) (parts_of token)) ≡ true) comma e in
@@ -171,13 +171,13 @@ module _ (laws : TextLaws) (form : Form) (in_pattern : Bool) (marks : List Patte
   stays : (token : List ℕ) → IsUtf8 token → has_numbers token ≡ true → is_good_later_token form in_pattern marks text token ≡ true → stays_within text (place_of_token token) (break_of_token token).change ≡ true
   stays token u numbers e = by (has_comma token) refl e
     where
-      by : (t : Bool) → has_comma token ≡ t → cond t (is_extended form.kind && is_whole token && keeps_within text (place_of_token token) (change_of_token token) && (not in_pattern || has_value_at marks (place_of_token token))) (not in_pattern) ≡ true
+      by : (t : Bool) → has_comma token ≡ t → cond t (is_extended form.kind && has_five_parts token && keeps_within text (place_of_token token) (change_of_token token) && (not in_pattern || has_value_at marks (place_of_token token))) (not in_pattern) ≡ true
           → stays_within text (place_of_token token) (cond t (Some (change_of_token token)) None) ≡ true
       by true is h =
-          let most = first_so (is_extended form.kind && is_whole token && keeps_within text (place_of_token token) (change_of_token token)) (not in_pattern || has_value_at marks (place_of_token token)) h in
-          let whole = second_so (is_extended form.kind) (is_whole token) (first_so (is_extended form.kind && is_whole token) (keeps_within text (place_of_token token) (change_of_token token)) most) in
-          three (fits_usize (place_of_token token)) (can_be_said (change_of_token token)) (keeps_within text (place_of_token token) (change_of_token token)) (place_short token numbers) (change_said laws token u is numbers whole)
-          (second_so (is_extended form.kind && is_whole token) (keeps_within text (place_of_token token) (change_of_token token)) most)
+          let most = first_so (is_extended form.kind && has_five_parts token && keeps_within text (place_of_token token) (change_of_token token)) (not in_pattern || has_value_at marks (place_of_token token)) h in
+          let whole = second_so (is_extended form.kind) (has_five_parts token) (first_so (is_extended form.kind && has_five_parts token) (keeps_within text (place_of_token token) (change_of_token token)) most) in
+          three (fits_usize (place_of_token token)) (can_be_written (change_of_token token)) (keeps_within text (place_of_token token) (change_of_token token)) (place_short token numbers) (change_said laws token u is numbers whole)
+          (second_so (is_extended form.kind && has_five_parts token) (keeps_within text (place_of_token token) (change_of_token token)) most)
       by false is h = refl
 
   pub changes-stay : (later : List (List ℕ)) → AllUtf8 later → list_all has_numbers later ≡ true → list_all (is_good_later_token form in_pattern marks text) later ≡ true → (place : ℕ)
@@ -255,9 +255,9 @@ byte_small : (n : ℕ) → nat_le n 255 ≡ true → n ≤ 255
 byte_small n e = grind (arith, nat_tests)
 
 braced-small : (ss : List EscapedByte) → AreSmallThen (elements_from Second None ss) → (digits : List ℕ) → AreSmallThen (option_and_then (rest_of Second ss) (option_map (λ value. (None, Value value ∷ [])) (braced_value digits)))
-braced-small ss more digits = by (is_small digits) (nat_le 10 (number digits)) refl
+braced-small ss more digits = by (is_number_to_255 digits) (nat_le 10 (number digits)) refl
   where
-    by : (t u : Bool) → is_small digits ≡ t
+    by : (t u : Bool) → is_number_to_255 digits ≡ t
         → AreSmallThen (option_and_then (rest_of Second ss) (option_map (λ value. (None, Value value ∷ [])) (option_and_then (λ value. cond (nat_le 10 value) (Some value) None) (cond t (Some (number digits)) None))))
     by false u is = tt
     by true u is = at (nat_le 10 (number digits))
@@ -267,7 +267,7 @@ braced-small ss more digits = by (is_small digits) (nat_le 10 (number digits)) r
         at false = tt
 
 outside-small : (s : EscapedByte) (ss : List EscapedByte) → ((digits : Option (List ℕ)) → AreSmallThen (elements_from Second digits ss)) → AreSmallThen (option_and_then (rest_of Second ss) (step_outside s))
-outside-small s ss more = by (is_raw 123 s) (is_raw 125 s)
+outside-small s ss more = by (is_unescaped 123 s) (is_unescaped 125 s)
   where
     by : (t u : Bool) → AreSmallThen (option_and_then (rest_of Second ss) (cond t (Some (Some [], [])) (cond u None (Some (None, element_of s ∷ [])))))
     by true u = nothing-small (elements_from Second (Some []) ss) (more (Some []))
@@ -275,7 +275,7 @@ outside-small s ss more = by (is_raw 123 s) (is_raw 125 s)
     by false false = letters-small s (elements_from Second None ss) (more None)
 
 inside-small : (s : EscapedByte) (ss : List EscapedByte) (digits : List ℕ) → ((digits : Option (List ℕ)) → AreSmallThen (elements_from Second digits ss)) → AreSmallThen (option_and_then (rest_of Second ss) (step_inside digits s))
-inside-small s ss digits more = by (is_raw 125 s) (is_raw_digit s)
+inside-small s ss digits more = by (is_unescaped 125 s) (is_unescaped_digit s)
   where
     by : (t d : Bool) → AreSmallThen (option_and_then (rest_of Second ss) (cond t (option_map (λ value. (None, Value value ∷ [])) (braced_value digits)) (cond d (Some (Some (digits ++ s.byte ∷ []), [])) None)))
     by true d = braced-small ss (more None) digits
@@ -300,7 +300,7 @@ values-small version token = by (pattern_bytes version token)
     by None = tt
     by (Some ss) = marked (elements_from version None ss) (all-small version ss None)
 
--- the values of marks between which the key is parted on its characters
+-- the values of elements that stand between characters of the key
 module _ (laws : TextLaws) (key : List ℕ) (said : List Break) (within : (place : ℕ) → stays_within key place (change_at place said) ≡ true) where
   abbrev entry : ℕ × ℕ → Entry (Option Change)
   entry v = record { place = v.0; value = v.1; change = change_at v.0 said }
@@ -382,7 +382,7 @@ module _ (laws : TextLaws) (form : Form) (number : ℕ) (line : List ℕ) (none 
       let by_key : list_all (is_good_later_token form (is_pattern_line line) (pattern_elements form.version line) (key_of_line form.version line)) (later_tokens_of line) ≡ true = subst (λ (t : Bool). list_all (is_good_later_token form (is_pattern_line line) (pattern_elements form.version line) (cond t (key_of_line form.version line) (word_of_line line))) (later_tokens_of line) ≡ true) sort good in
       record {
         utf8 = read.0;
-        letter = not_off (list_all (λ b. b == 46) (key_of_line form.version line)) (off_right (is_pattern_line line) (list_all (λ b. b == 46) (key_of_line form.version line)) passed.letters sort);
+        letter = not_none (has_letter (key_of_line form.version line)) (off_right (is_pattern_line line) (not (has_letter (key_of_line form.version line))) passed.letters sort);
         ascend = laws.order (λ c. c) (key_of_line form.version line) (entries_of_line form.version line)
             ∙ values-stand laws (key_of_line form.version line) (breaks_of_line line) (changes-stay laws form (is_pattern_line line) (pattern_elements form.version line) (key_of_line form.version line) (later_tokens_of line) (later-utf8 rest) numbers by_key) (pattern_elements form.version line) 0 0 false read.1 (values-small form.version (first_token_of line))
             (off_right (is_pattern_line line) (two_values false (pattern_elements form.version line)) passed.pattern sort) (omega arith);

@@ -7,8 +7,9 @@ use Rattle.std.specs.Option.{option_or}
 use Rattle.std.specs.List.{list_all, list_any}
 use Rattle.std.proofs.lemmas.Bool.Decides.{nat_tests}
 use Rattle.hyphenation_breaks.specs.Break.{Change as Changed, ascend_on, is_boundary}
+use Rattle.hyphenation_breaks.specs.Invariant.{has_letter}
 use Rattle.hyphenation_grammar.specs.Items.{change_at}
-use Rattle.hyphenation_reader.specs.Private.Matched.{ascend, have_values, from_next, first_at, left_at, matched_entries, unmatched_changes, suits_form_in_pattern, cause_before_match}
+use Rattle.hyphenation_reader.specs.Private.Matched.{ascend, have_values, pending, head_change_at, tail_after, matched_entries, unmatched_changes, suits_form_in_pattern, cause_before_match}
 use Rattle.hyphenation_grammar.specs.Parsed.{ReadPattern, is_bad, read_pattern}
 use Rattle.hyphenation_reader.specs.Private.Parsed.{ReadLater, no_later, read_later, first_token, pattern_parts}
 use Rattle.hyphenation_reader.specs.Private.LineAnswers.{breaks_listed, entries_of, suits_key, pattern_cause, places_cause}
@@ -166,37 +167,37 @@ makes {C} payload_of least more (v ∷ values) (b ∷ listed) e f all =
 
 -- one value more
 entries_step : {C : Type 0} (payload_of : Option Changed → C) (made : List (Entry C)) (values : List (ℕ × ℕ)) (i : ℕ) (listed : List (ℕ × Option Changed)) → i < length values
-    → (made ++ record { place = (get_or values i (0, 0)).0; value = (get_or values i (0, 0)).1; change = payload_of (first_at (get_or values i (0, 0)).0 listed) } ∷ []) ++ matched_entries payload_of (drop (i + 1) values) (left_at (get_or values i (0, 0)).0 listed)
+    → (made ++ record { place = (get_or values i (0, 0)).0; value = (get_or values i (0, 0)).1; change = payload_of (head_change_at (get_or values i (0, 0)).0 listed) } ∷ []) ++ matched_entries payload_of (drop (i + 1) values) (tail_after (get_or values i (0, 0)).0 listed)
     ≡ made ++ matched_entries payload_of (drop i values) listed
 entries_step {C} payload_of made values i listed lt =
-    append_assoc made (record { place = (get_or values i (0, 0)).0; value = (get_or values i (0, 0)).1; change = payload_of (first_at (get_or values i (0, 0)).0 listed) } ∷ []) (matched_entries payload_of (drop (i + 1) values) (left_at (get_or values i (0, 0)).0 listed))
+    append_assoc made (record { place = (get_or values i (0, 0)).0; value = (get_or values i (0, 0)).1; change = payload_of (head_change_at (get_or values i (0, 0)).0 listed) } ∷ []) (matched_entries payload_of (drop (i + 1) values) (tail_after (get_or values i (0, 0)).0 listed))
     ∙ ap (λ (vs : List (ℕ × ℕ)). made ++ matched_entries payload_of vs listed) (sym (drop-cons values i (0, 0) lt ∙ ap (λ (n : ℕ). get_or values i (0, 0) ∷ drop n values) (sym (add-one i))))
 
 pub goes_on : {C : Type 0} (payload_of : Option Changed → C) (made more : List (Entry C)) (values : List (ℕ × ℕ)) (i : ℕ) (listed rest : List (ℕ × Option Changed)) (change : Option Changed) (carried : C) → i < length values
     → more ≡ made ++ record { place = (get_or values i (0, 0)).0; value = (get_or values i (0, 0)).1; change = carried } ∷ [] → carried ≡ payload_of change
-    → change ≡ first_at (get_or values i (0, 0)).0 listed → rest ≡ left_at (get_or values i (0, 0)).0 listed
+    → change ≡ head_change_at (get_or values i (0, 0)).0 listed → rest ≡ tail_after (get_or values i (0, 0)).0 listed
     → (more ++ matched_entries payload_of (drop (i + 1) values) rest ≡ made ++ matched_entries payload_of (drop i values) listed) × (unmatched_changes (drop (i + 1) values) rest ≡ unmatched_changes (drop i values) listed)
 goes_on {C} payload_of made more values i listed rest change carried lt is carry taken left = (
   (λ k. is k ++ matched_entries payload_of (drop (i + 1) values) (left k))
-      ∙ ap (λ (c : C). (made ++ record { place = (get_or values i (0, 0)).0; value = (get_or values i (0, 0)).1; change = c } ∷ []) ++ matched_entries payload_of (drop (i + 1) values) (left_at (get_or values i (0, 0)).0 listed)) (carry ∙ ap payload_of taken)
+      ∙ ap (λ (c : C). (made ++ record { place = (get_or values i (0, 0)).0; value = (get_or values i (0, 0)).1; change = c } ∷ []) ++ matched_entries payload_of (drop (i + 1) values) (tail_after (get_or values i (0, 0)).0 listed)) (carry ∙ ap payload_of taken)
       ∙ entries_step payload_of made values i listed lt,
   ap (unmatched_changes (drop (i + 1) values)) left ∙ ap (λ (vs : List (ℕ × ℕ)). unmatched_changes vs listed) (sym (drop-cons values i (0, 0) lt ∙ ap (λ (n : ℕ). get_or values i (0, 0) ∷ drop n values) (sym (add-one i)))),
 )
 
 -- after the last value
 module _ (values : List (ℕ × ℕ)) (listed : List (ℕ × Option Changed)) (e : ascend 0 values ≡ true) (f : ascend 0 listed ≡ true) (i : ℕ) (past : length values ≤ i) (next : Option (ℕ × Option Changed)) (rest : List (ℕ × Option Changed)) where
-  pub told : unmatched_changes (drop i values) (from_next next rest) ≡ unmatched_changes values listed → have_values values listed ≡ not (is_some next)
+  pub told : unmatched_changes (drop i values) (pending next rest) ≡ unmatched_changes values listed → have_values values listed ≡ not (is_some next)
   told is =
-      sym (leaves 0 0 values listed e f) ∙ ap none_left (sym is ∙ ap (λ (vs : List (ℕ × ℕ)). unmatched_changes vs (from_next next rest)) (drop_of_length-le values past)) ∙ by next
+      sym (leaves 0 0 values listed e f) ∙ ap none_left (sym is ∙ ap (λ (vs : List (ℕ × ℕ)). unmatched_changes vs (pending next rest)) (drop_of_length-le values past)) ∙ by next
     where
-      by : (o : Option (ℕ × Option Changed)) → none_left (from_next o rest) ≡ not (is_some o)
+      by : (o : Option (ℕ × Option Changed)) → none_left (pending o rest) ≡ not (is_some o)
       by None = refl
       by (Some b) = refl
 
-  pub made_all : {C : Type 0} (payload_of : Option Changed → C) (made : List (Entry C)) → made ++ matched_entries payload_of (drop i values) (from_next next rest) ≡ matched_entries payload_of values listed → have_values values listed ≡ true
+  pub made_all : {C : Type 0} (payload_of : Option Changed → C) (made : List (Entry C)) → made ++ matched_entries payload_of (drop i values) (pending next rest) ≡ matched_entries payload_of values listed → have_values values listed ≡ true
       → made ≡ entries_of payload_of values listed
   made_all {C} payload_of made is all =
-      sym (append-nil made) ∙ ap (λ (vs : List (ℕ × ℕ)). made ++ matched_entries payload_of vs (from_next next rest)) (sym (drop_of_length-le values past)) ∙ is ∙ makes payload_of 0 0 values listed e f all
+      sym (append-nil made) ∙ ap (λ (vs : List (ℕ × ℕ)). made ++ matched_entries payload_of vs (pending next rest)) (sym (drop_of_length-le values past)) ∙ is ∙ makes payload_of 0 0 values listed e f all
 
 -- the values of marks ascend, where no two stand in succession
 values_ascend : (after : Bool) (at : ℕ) (marks : List PatternElement) → two_values after marks ≡ false → ascend (at + cond after 1 0) (values_from at marks) ≡ true
@@ -258,8 +259,8 @@ chain false false false true true false None = refl
 
 pub in_two : (form : Form) (r : ReadPattern) (l : ReadLater) → pattern_cause form r l ≡ option_or (cause_before_match form r l) (match_cause (have_values r.values l.listed))
 in_two form r l =
-    ap (λ (b : Bool). cond (is_bad r) (Some BadValue) (cond r.has_two_values (Some Pattern) (cond (list_all (λ x. eqb x 46) r.key) (Some NoLetters) (option_or (places_cause r.key l) (cond (not (l.are_sound && b)) (Some Change) None))))) (all_fit_apart form r.key r.values l.listed)
-    ∙ chain (is_bad r) r.has_two_values (list_all (λ x. eqb x 46) r.key) l.are_sound (list_all (suits_form_in_pattern form r.key) l.listed) (have_values r.values l.listed) (places_cause r.key l)
+    ap (λ (b : Bool). cond (is_bad r) (Some BadValue) (cond r.has_two_values (Some Pattern) (cond (not (has_letter r.key)) (Some NoLetters) (option_or (places_cause r.key l) (cond (not (l.are_sound && b)) (Some Change) None))))) (all_fit_apart form r.key r.values l.listed)
+    ∙ chain (is_bad r) r.has_two_values (not (has_letter r.key)) l.are_sound (list_all (suits_form_in_pattern form r.key) l.listed) (have_values r.values l.listed) (places_cause r.key l)
 
 pub before_match : (form : Form) (r : ReadPattern) (l : ReadLater) (cause : Cause) → cause_before_match form r l ≡ Some cause → pattern_cause form r l ≡ Some cause
 before_match form r l cause is = in_two form r l ∙ ap (λ (o : Option Cause). option_or o (match_cause (have_values r.values l.listed))) is
@@ -272,7 +273,7 @@ pub none_by : (some none : Bool) → some ≡ not none → none ≡ not some
 none_by some true e = ap not (sym e)
 none_by some false e = ap not (sym e)
 
--- what the match tells of values that were lent
+-- the result of the match, for borrowed values
 pub told_of : (lent values : List (ℕ × ℕ)) (listed : List (ℕ × Option Changed)) (known all : Bool) → lent ≡ values → known ≡ have_values lent listed → known ≡ all → have_values values listed ≡ all
 told_of lent values listed known all same told is = ap (λ (vs : List (ℕ × ℕ)). have_values vs listed) (sym same) ∙ sym told ∙ is
 
@@ -290,6 +291,6 @@ passed false false false sound kept true true e = (refl, refl, refl)
 pub both_ascend : (form : Form) (tokens : List (List ℕ)) (r : ReadPattern) (l : ReadLater) → pattern_parts form.version tokens ≡ Some (r, l) → cause_before_match form r l ≡ None → (ascend 0 r.values ≡ true) × (ascend 0 l.listed ≡ true)
 both_ascend form tokens r l e none =
     let parts = both_parts (eqb (length (first_token tokens)) 0) (read_pattern form.version (first_token tokens)) (read_later no_later (drop 1 tokens)) r l e in
-    let ok = passed (is_bad r) r.has_two_values (list_all (λ x. eqb x 46) r.key) l.are_sound (list_all (suits_form_in_pattern form r.key) l.listed) l.are_numbers (ascend_on r.key 0 (map (λ b. b.0) l.listed)) none in
+    let ok = passed (is_bad r) r.has_two_values (not (has_letter r.key)) l.are_sound (list_all (suits_form_in_pattern form r.key) l.listed) l.are_numbers (ascend_on r.key 0 (map (λ b. b.0) l.listed)) none in
     let m = read_marks r (elements_of form.version (first_token tokens)) (found_marks form.version (first_token tokens) r parts.0) ok.0 in
     (sym (ap (ascend 0) m.2.values) ∙ values_ascend false 0 m.0 (m.2.twice ∙ ok.1), listed_ascend r.key 0 l.listed ok.2)

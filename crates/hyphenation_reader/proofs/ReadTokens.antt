@@ -1,4 +1,4 @@
--- What one pass over tokens finds is what the definitions say of them.
+-- One pass over tokens finds the contents that the definitions give them.
 use Rattle.std.proofs.Common.{◌≡◌, ◌∙◌, ℕ, ◌+◌, ◌-◌, Bool, true, false, cond, not, ◌&&◌, ◌||◌, eqb, nat_lt, List, [], ◌∷◌, ◌++◌, length, take, drop, map, Option, Some, None, refl, sym, ap, arith, append_assoc, length-append, is_some}
 use Rattle.std.specs.Prelude.{fold}
 use Rattle.std.specs.Option.{option_map, option_and_then}
@@ -8,7 +8,7 @@ use Rattle.std.proofs.lemmas.Grind.{fold-append}
 use Rattle.std.proofs.lemmas.Bool.Decides.{nat_tests}
 use Rattle.hyphenation_grammar.specs.Lines.{is_number, number}
 use Rattle.hyphenation_grammar.specs.Tokens.{elements_from, step_at, pattern_bytes, text_spelt, key_of, values_from, two_values, is_readable, parts_of}
-use Rattle.hyphenation_grammar.specs.Parsed.{ReadPattern, nothing_read, is_bad, with_element, with_step, with_spelt, read_pattern, token_said, parted_token_said, token_with, sound_change, part_at}
+use Rattle.hyphenation_grammar.specs.Parsed.{ReadPattern, nothing_read, is_bad, with_element, with_step, with_spelt, read_pattern, parse_parts, parse_change_token, token_with, sound_change, part_at}
 use Rattle.hyphenation_reader.specs.Private.Parsed.{ReadLater, no_later, with_token, read_later, first_token, both, pattern_parts, exception_parts}
 use Rattle.hyphenation_breaks.specs.Break.{Change}
 use Rattle.hyphenation_grammar.specs.declared.tokens.LaterToken.{LaterToken}
@@ -90,9 +90,9 @@ pub record ReadsLater (r l : ReadLater) (ts : List (List ℕ)) : Type 0 where
 
 -- one token more
 pub record ReadsOne (r : ReadLater) (parts : List (List ℕ)) : Type 0 where
-  pub numbers : (with_token r (token_said parts)).are_numbers ≡ (r.are_numbers && has_numbers parts)
-  pub sound : has_numbers parts ≡ true → (with_token r (token_said parts)).are_sound ≡ (r.are_sound && is_sound parts)
-  pub listed : has_numbers parts ≡ true → (with_token r (token_said parts)).listed ≡ r.listed ++ said_by parts ∷ []
+  pub numbers : (with_token r (parse_parts parts)).are_numbers ≡ (r.are_numbers && has_numbers parts)
+  pub sound : has_numbers parts ≡ true → (with_token r (parse_parts parts)).are_sound ≡ (r.are_sound && is_sound parts)
+  pub listed : has_numbers parts ≡ true → (with_token r (parse_parts parts)).listed ≡ r.listed ++ said_by parts ∷ []
 
 abbrev told_as : Bool → Bool → ℕ → Option Change → LaterToken
 told_as two numbers place change = cond two (cond numbers (token_with place change) NoNumber) (cond numbers (Sound place None) NoNumber)
@@ -114,7 +114,7 @@ reads_one r parts = by (nat_lt 1 (length parts)) refl
     by true is =
         let n = list_all is_number (take (length parts - 1) parts) in
         let one = reads_as r true n (number (part_at parts 0)) (sound_change parts) in
-        let same : token_said parts ≡ parted_token_said parts = ap (λ (t : Bool). cond t (parted_token_said parts) (cond (list_all is_number parts) (Sound (number (part_at parts 0)) None) NoNumber)) is in
+        let same : parse_parts parts ≡ parse_change_token parts = ap (λ (t : Bool). cond t (parse_change_token parts) (cond (list_all is_number parts) (Sound (number (part_at parts 0)) None) NoNumber)) is in
         let ns : has_numbers parts ≡ n = ap (λ (t : Bool). list_all is_number (cond t (take (length parts - 1) parts) parts)) is in
         record {
           numbers = ap (λ (t : LaterToken). (with_token r t).are_numbers) same ∙ one.0 ∙ ap (λ (b : Bool). r.are_numbers && b) (sym ns);
@@ -124,7 +124,7 @@ reads_one r parts = by (nat_lt 1 (length parts)) refl
     by false is =
         let n = list_all is_number parts in
         let one = reads_as r false n (number (part_at parts 0)) (sound_change parts) in
-        let same : token_said parts ≡ cond n (Sound (number (part_at parts 0)) None) NoNumber = ap (λ (t : Bool). cond t (parted_token_said parts) (cond n (Sound (number (part_at parts 0)) None) NoNumber)) is in
+        let same : parse_parts parts ≡ cond n (Sound (number (part_at parts 0)) None) NoNumber = ap (λ (t : Bool). cond t (parse_change_token parts) (cond n (Sound (number (part_at parts 0)) None) NoNumber)) is in
         let ns : has_numbers parts ≡ n = ap (λ (t : Bool). list_all is_number (cond t (take (length parts - 1) parts) parts)) is in
         record {
           numbers = ap (λ (t : LaterToken). (with_token r t).are_numbers) same ∙ one.0 ∙ ap (λ (b : Bool). r.are_numbers && b) (sym ns);
@@ -151,10 +151,10 @@ reads_later r l [] e =
       listed = λ on. ap (λ (x : ReadLater). x.listed) (sym same) ∙ sym (append-nil r.listed);
     }
 reads_later r l (token ∷ ts) e =
-    by (is_readable token) e (λ f. reads_later (with_token r (token_said (parts_of token))) l ts f)
+    by (is_readable token) e (λ f. reads_later (with_token r (parse_parts (parts_of token))) l ts f)
   where
-    by : (t : Bool) → option_and_then (λ x. read_later (with_token r x) ts) (cond t (Some (token_said (parts_of token))) None) ≡ Some l
-        → (read_later (with_token r (token_said (parts_of token))) ts ≡ Some l → ReadsLater (with_token r (token_said (parts_of token))) l ts) → ReadsLater r l (token ∷ ts)
+    by : (t : Bool) → option_and_then (λ x. read_later (with_token r x) ts) (cond t (Some (parse_parts (parts_of token))) None) ≡ Some l
+        → (read_later (with_token r (parse_parts (parts_of token))) ts ≡ Some l → ReadsLater (with_token r (parse_parts (parts_of token))) l ts) → ReadsLater r l (token ∷ ts)
     by true e more =
         let m = more e in
         let one = reads_one r (parts_of token) in
@@ -175,9 +175,9 @@ reads_later r l (token ∷ ts) e =
 pub later_total : (r : ReadLater) (ts : List (List ℕ)) → is_some (read_later r ts) ≡ list_all is_readable ts
 later_total r [] = refl
 later_total r (token ∷ ts) =
-    by (is_readable token) (later_total (with_token r (token_said (parts_of token))) ts)
+    by (is_readable token) (later_total (with_token r (parse_parts (parts_of token))) ts)
   where
-    by : (t : Bool) → is_some (read_later (with_token r (token_said (parts_of token))) ts) ≡ list_all is_readable ts → is_some (option_and_then (λ x. read_later (with_token r x) ts) (cond t (Some (token_said (parts_of token))) None)) ≡ (t && list_all is_readable ts)
+    by : (t : Bool) → is_some (read_later (with_token r (parse_parts (parts_of token))) ts) ≡ list_all is_readable ts → is_some (option_and_then (λ x. read_later (with_token r x) ts) (cond t (Some (parse_parts (parts_of token))) None)) ≡ (t && list_all is_readable ts)
     by true more = more
     by false more = refl
 

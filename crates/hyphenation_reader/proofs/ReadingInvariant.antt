@@ -1,4 +1,4 @@
--- What an accepted text gives is a dictionary: its head lines, and each of its patterns and exceptions.
+-- An accepted text gives a dictionary with its invariant: head lines, patterns and exceptions.
 use Rattle.std.proofs.Common.{◌≡◌, ℕ, ◌+◌, ◌<◌, ◌≤◌, Bool, true, false, cond, ◌&&◌, ◌==◌, nat_le, List, [], ◌∷◌, ◌++◌, length, map, Option, Some, None, is_some, unwrap_or, refl, sym, ap, subst, ◌∙◌, arith, inl, inr}
 use Rattle.std.specs.Prelude.{◌⊎◌, is_none, option_and_then, slice_index_or, codes}
 use Rattle.std.specs.Option.{option_map}
@@ -11,7 +11,7 @@ use Rattle.hyphenation_grammar.specs.declared.form.Form.{Form}
 use Rattle.hyphenation_grammar.specs.declared.form.Version.{Version}
 use Rattle.hyphenation_breaks.specs.Invariant.{fits_usize, is_value, stays_within, lists_within, are_entries, are_listed, IsPattern, IsException, IsDictionary}
 use Rattle.hyphenation_breaks.specs.Language.{IsCode, is_code}
-use Rattle.hyphenation_grammar.specs.Lines.{strip_prefix, language_of, minima_of, small_of, two_small, is_small, is_number, number}
+use Rattle.hyphenation_grammar.specs.Lines.{strip_prefix, language_of, minima_of, number_to_255, two_minima, is_number_to_255, is_number, number}
 use Rattle.hyphenation_grammar.specs.Items.{is_pattern_line, is_exception_line, key_of_line, word_of_line, breaks_of_line, entries_of_line, pattern_of_line, exception_of_line}
 use Rattle.hyphenation_grammar.specs.Judging.{fault_after, own_cause, repetition}
 use Rattle.hyphenation_grammar.specs.Reading.{spelling_as, entry_as, SpeltItems, items_of_lines, contents_in}
@@ -76,20 +76,20 @@ abbrev AreSmall : Option (ℕ × ℕ) → Type 0
 AreSmall None = Unit {0}
 AreSmall (Some minima) = (minima.0 ≤ 255) × (minima.1 ≤ 255)
 
-small : (text : List ℕ) (n : ℕ) → small_of text ≡ Some n → n ≤ 255
-small text n e = by (is_small text) refl e
+small : (text : List ℕ) (n : ℕ) → number_to_255 text ≡ Some n → n ≤ 255
+small text n e = by (is_number_to_255 text) refl e
   where
-    below : is_small text ≡ true → number text ≤ 255
+    below : is_number_to_255 text ≡ true → number text ≤ 255
     below h = let le : nat_le (number text) 255 ≡ true = second_so (is_number text) (nat_le (number text) 255) h in grind (arith, nat_tests)
 
-    by : (t : Bool) → is_small text ≡ t → cond {A = Option ℕ} t (Some (number text)) None ≡ Some n → n ≤ 255
+    by : (t : Bool) → is_number_to_255 text ≡ t → cond {A = Option ℕ} t (Some (number text)) None ≡ Some n → n ≤ 255
     by true is h = let same : number text ≡ n = cc in subst (λ (x : ℕ). x ≤ 255) same (below is)
     by false is h = absurd cc
 
-two_are_small : (parts : List (List ℕ)) → AreSmall (two_small parts)
-two_are_small parts = by (length parts == 2) (small_of (slice_index_or parts 0 [])) (small_of (slice_index_or parts 1 [])) refl refl
+two_are_small : (parts : List (List ℕ)) → AreSmall (two_minima parts)
+two_are_small parts = by (length parts == 2) (number_to_255 (slice_index_or parts 0 [])) (number_to_255 (slice_index_or parts 1 [])) refl refl
   where
-    by : (t : Bool) (x y : Option ℕ) → small_of (slice_index_or parts 0 []) ≡ x → small_of (slice_index_or parts 1 []) ≡ y
+    by : (t : Bool) (x y : Option ℕ) → number_to_255 (slice_index_or parts 0 []) ≡ x → number_to_255 (slice_index_or parts 1 []) ≡ y
         → AreSmall (cond {A = Option (ℕ × ℕ)} t (option_and_then (λ left. option_map {U = ℕ × ℕ} (λ right. (left, right)) y) x) None)
     by false x y ex ey = tt
     by true None y ex ey = tt
@@ -103,9 +103,9 @@ minima_small line = by (strip_prefix (codes "minima ") line)
     kept None h = (omega arith, omega arith)
     kept (Some minima) h = h
 
-    by : (o : Option (List ℕ)) → ((unwrap_or (option_and_then (λ rest. two_small (slice_split (λ b. b == 32) rest)) o) (0, 0)).0 ≤ 255) × ((unwrap_or (option_and_then (λ rest. two_small (slice_split (λ b. b == 32) rest)) o) (0, 0)).1 ≤ 255)
+    by : (o : Option (List ℕ)) → ((unwrap_or (option_and_then (λ rest. two_minima (slice_split (λ b. b == 32) rest)) o) (0, 0)).0 ≤ 255) × ((unwrap_or (option_and_then (λ rest. two_minima (slice_split (λ b. b == 32) rest)) o) (0, 0)).1 ≤ 255)
     by None = (omega arith, omega arith)
-    by (Some rest) = kept (two_small (slice_split (λ b. b == 32) rest)) (two_are_small (slice_split (λ b. b == 32) rest))
+    by (Some rest) = kept (two_minima (slice_split (λ b. b == 32) rest)) (two_are_small (slice_split (λ b. b == 32) rest))
 
 told_from : {X Y : Type 0} (say : X → Y) (spells : List ℕ → Option (List ℕ × List X)) (line k : List ℕ) (ys : List Y) → spelling_as say spells line ≡ Some (k, ys)
     → (xs : List X) × (spells line ≡ Some (k, xs)) × (map say xs ≡ ys)

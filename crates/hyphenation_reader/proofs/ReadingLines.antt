@@ -1,4 +1,4 @@
--- One line after the other: the first fault among them, and what they spell.
+-- One line after the other: the first fault among them, and the items that they spell.
 use Rattle.std.proofs.Common.{◌≡◌, ◌==◌, ℕ, suc, ◌+◌, ◌<◌, ◌≤◌, false, List, [], ◌∷◌, ◌++◌, length, map, get_or, take, drop, Option, Some, None, is_some, refl, sym, ap, subst, ◌∙◌, arith, add-one}
 use Rattle.std.specs.Option.{option_map, option_or}
 use Rattle.std.specs.Prelude.{Result, Ok, Err, MatchResult}
@@ -24,7 +24,7 @@ use Rattle.hyphenation_reader.specs.declared.reader.Refusal.{Refusal}
 use Rattle.hyphenation_reader.specs.declared.reader.Refusal.TheVariants.{Memory, Fault}
 use Rattle.hyphenation_reader.proofs.ItemsOfLines.{with_spelt, repeats, repeats-spelt, spelt-more}
 
--- something was there before, if a look-up told so
+-- something was there before, if a look-up found it
 pub had_by : {A X : Type 0} (f : A → X) (old : Option A) (at got : Option X) → option_map f old ≡ at → got ≡ at → is_some old ≡ is_some got
 had_by f None at got e g = ap is_some (e ∙ sym g)
 had_by f (Some x) at got e g = ap is_some (e ∙ sym g)

@@ -1,4 +1,4 @@
--- Some line is so, told along the list of lines, and the kit's `Any` and `Contains` beside it.
+-- Some line has a property, by recursion on the lines, and by `Any` and `Contains` of the standard library.
 use Rattle.std.proofs.Common.{◌≡◌, ℕ, zero, suc, List, [], ◌∷◌, refl, sym, subst, inl, inr, arith}
 use Rattle.std.specs.Prelude.{◌⊎◌, ◌↔◌, Any, Contains, slice_index_or}
 
@@ -20,7 +20,7 @@ some-any P [] h = absurd (omega (arith, h.2))
 some-any P (m ∷ ls) (zero, x, lt, at, is) = inl (subst P (sym at) is)
 some-any P (m ∷ ls) (suc k, x, lt, at, is) = inr (some-any P ls (k, x, omega (arith, lt), at, is))
 
--- The same lines stand in both texts.
+-- Both texts have the same lines.
 pub among : (ls ms : List (List ℕ)) → ((line : List ℕ) → Contains ls line ↔ Contains ms line) → AllAmong ls ms
 among ls ms same l h =
     let r = any-some (λ m. m ≡ l) ls h in

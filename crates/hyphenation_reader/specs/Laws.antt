@@ -1,6 +1,5 @@
--- What is true of all texts that are read, and of edits, of either kind and in either version.
--- In each law payload_of and listing_of say what a kind of dictionary holds of a change and of a listed break, and
--- change_of and break_of say what that means; so one law is of all kinds.
+-- Laws of texts that are read, and of edits, for both kinds and both versions.
+-- Each law is for all kinds: payload_of and listing_of say what a kind of dictionary holds for a change and a break.
 use Rattle.std.specs.Prelude.{◌≡◌, ℕ, ◌↔◌, Any, Contains, List, [], ◌∷◌, Option, Some, None, IsTrue, IsUtf8, find, if◌then◌else◌, map, unwrap_or}
 use Rattle.std.specs.List.Sorted.{IsPermutation}
 use Rattle.std.specs.FinMap as finite
@@ -21,8 +20,7 @@ use Rattle.hyphenation_grammar.specs.declared.form.Version.{Version}
 use Rattle.hyphenation_reader.specs.Edits.{after_edits, as_line, cause_in, edit_line, form_in, is_addition}
 use Rattle.std.specs.Option.{option_or}
 
--- What a line that fails no test of its own spells may stand in a dictionary: the entries of its key, or the breaks of
--- its word.
+-- A line that fails no test by itself spells a key with entries, or a word with breaks, that a dictionary may hold.
 abbrev pub SpeltIsSound : Type 0
 SpeltIsSound =
     (form : Form) (number : ℕ) (line : List ℕ) → own_cause form number line ≡ None
@@ -40,7 +38,7 @@ KeysAreSpelt C B =
     ≡ Some (key, entries))
     lines
 
--- A word has exactly the list that some `e` line spells for it.
+-- A word has exactly the breaks that some `e` line lists for it.
 abbrev pub WordsAreSpelt : Type 0 → Type 0 → Type 0
 WordsAreSpelt C B =
     (kind : Kind) (payload_of : Option Change → C) (listing_of : Break → B) (lines : List (List ℕ)) (word : List ℕ)
@@ -48,7 +46,7 @@ WordsAreSpelt C B =
     → (finite.get (contents_of kind payload_of listing_of lines).exceptions word ≡ Some listed)
     ↔ Any (λ line. spelling_as listing_of exception_of_line line ≡ Some (word, listed)) lines
 
--- Two accepted texts of the same lines after the third, in whatever order, give the same dictionary.
+-- Two accepted texts with the same lines after the third, in any order, give the same dictionary.
 abbrev pub OrderMeansNothing : Type 0 → Type 0 → Type 0
 OrderMeansNothing C B =
     (kind : Kind) (payload_of : Option Change → C) (listing_of : Break → B) (first second third : List ℕ)
@@ -58,7 +56,7 @@ OrderMeansNothing C B =
     → contents_of kind payload_of listing_of (first ∷ second ∷ third ∷ ls)
     ≡ contents_of kind payload_of listing_of (first ∷ second ∷ third ∷ ms)
 
--- After the third line the lines of an accepted text may stand in any order: it stays accepted.
+-- An accepted text stays accepted when its lines after the third are put in another order.
 abbrev pub AcceptedInAnyOrder : Type 0
 AcceptedInAnyOrder =
     (kind : Kind) (first second third : List ℕ) (ls ms : List (List ℕ)) → IsPermutation ls ms
@@ -68,23 +66,23 @@ AcceptedInAnyOrder =
 abbrev pub word_named : List ℕ → List ℕ
 word_named edit = word_of_line (edit_line edit)
 
--- What an edit says of its word: the breaks that are listed for it, or that it is no exception.
-abbrev pub said_of_word : {B : Type 0} → (Break → B) → List ℕ → Option (List B)
-said_of_word listing_of edit =
+-- The breaks that an edit lists for its word; none if it removes the word.
+abbrev pub effect_on_word : {B : Type 0} → (Break → B) → List ℕ → Option (List B)
+effect_on_word listing_of edit =
     if is_addition edit then Some (map listing_of (breaks_of_line (edit_line edit))) else None
 
--- What the last edit that names a word says of it; none, where no edit names it.
-abbrev pub last_said_of : {B : Type 0} → (Break → B) → List ℕ → List (List ℕ) → Option (Option (List B))
-last_said_of listing_of word [] = None
-last_said_of listing_of word (edit ∷ edits) =
-    option_or (last_said_of listing_of word edits)
-    (if is_same (word_named edit) word then Some (said_of_word listing_of edit) else None)
+-- The effect of the last edit that names a word; none if no edit names it.
+abbrev pub last_effect_on : {B : Type 0} → (Break → B) → List ℕ → List (List ℕ) → Option (Option (List B))
+last_effect_on listing_of word [] = None
+last_effect_on listing_of word (edit ∷ edits) =
+    option_or (last_effect_on listing_of word edits)
+    (if is_same (word_named edit) word then Some (effect_on_word listing_of edit) else None)
 
--- Of the edits that name a word the last one decides, and where there is none, the dictionary before them.
+-- The last edit that names a word decides on it. Without one, the word stays as it is in the dictionary.
 abbrev pub LastDecides : Type 0 → Type 0 → Type 0
 LastDecides C B = (listing_of : Break → B) (dictionary : Contents C B) (edits : List (List ℕ)) (word : List ℕ) →
     finite.get (after_edits listing_of dictionary edits).exceptions word
-    ≡ unwrap_or (last_said_of listing_of word edits) (finite.get dictionary.exceptions word)
+    ≡ unwrap_or (last_effect_on listing_of word edits) (finite.get dictionary.exceptions word)
 
 -- Both versions judge the line of an edit alike.
 abbrev pub VersionsAgree : Type 0
@@ -92,7 +90,7 @@ VersionsAgree =
     (kind : Kind) (version : Version) (edit : List ℕ)
     → cause_in kind version (edit_line edit) ≡ cause_in kind First (edit_line edit)
 
--- Of all tests the line of an exception can fail these by itself.
+-- The line of an exception can fail these tests by itself, and no others.
 abbrev pub FourTests : Type 0
 FourTests = (kind : Kind) (version : Version) (exception : List ℕ) → IsUtf8 exception →
     cause_in kind version (as_line exception)

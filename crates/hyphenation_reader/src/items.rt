@@ -1,123 +1,110 @@
-//! What one line spells, or the first test that it fails by itself.
+//! The item that one line spells, or the first test that the line fails by itself.
 
-ghost use Rattle.std.specs.Prelude.{◌≡◌, ◌==◌, IfOk, IfErr, IfSome, IsTrue, OnOk, None, Some, IsUtf8, List, ℕ, codes, false, is_some, map, nat_lt, option_map, true};
-ghost use Rattle.std.specs.List.{list_all, slice_split};
+ghost use Rattle.std.specs.Prelude.{◌≡◌, ◌==◌, IfOk, IfErr, IfSome, IsTrue, OnOk, None, Some, IsUtf8, List, ℕ, codes};
+ghost use Rattle.std.specs.Prelude.{false, is_some, map, nat_lt, option_map, true};
+ghost use Rattle.std.specs.List.{list_all};
 ghost use Rattle.std.specs.Str.{is_utf8};
 ghost use Rattle.std.specs.String.{string_bytes};
 ghost use Rattle.hyphenation_breaks.specs.Break.{ascend_on, keeps_within};
 ghost use Rattle.hyphenation_grammar.specs.Judging.{is_extended, is_known, own_cause};
 ghost use Rattle.hyphenation_reader.specs.Private.Judging.{early_cause};
-ghost use Rattle.hyphenation_grammar.specs.Lines.{strip_prefix, tokens_after};
-ghost use Rattle.hyphenation_reader.specs.Private.Matched.{ascend, cause_before_match, first_at, have_values, suits_form_in_pattern, left_at, from_next};
+ghost use Rattle.hyphenation_grammar.specs.Lines.{between_spaces, strip_prefix, tokens_after};
+ghost use Rattle.hyphenation_reader.specs.Private.Matched.{ascend, cause_before_match, head_change_at, have_values};
+ghost use Rattle.hyphenation_reader.specs.Private.Matched.{suits_form_in_pattern, tail_after, pending};
 ghost use Rattle.hyphenation_grammar.specs.Parsed.{pattern_view};
-ghost use Rattle.hyphenation_reader.specs.Private.Parsed.{exception_parts, no_later, pattern_parts, read_later, later_view};
-ghost use Rattle.hyphenation_reader.specs.Private.LineAnswers.{Answers, IsFault, AnswersException, IsItemOf, breaks_listed, entries_of, exception_cause, suits_word, suits_form, places_cause};
+ghost use Rattle.hyphenation_reader.specs.Private.Parsed.{exception_parts, no_later, pattern_parts, read_later};
+ghost use Rattle.hyphenation_reader.specs.Private.Parsed.{later_view};
+ghost use Rattle.hyphenation_reader.specs.Private.LineAnswers.{ReturnsItem, ReturnsException, IsItemOf};
+ghost use Rattle.hyphenation_reader.specs.Private.LineAnswers.{breaks_listed, entries_of, exception_cause};
+ghost use Rattle.hyphenation_reader.specs.Private.LineAnswers.{suits_word, suits_form, places_cause};
 
-use hyphenation_breaks::entry::{Entry, Listing, Payload};
+use hyphenation_breaks::entry::{Entry, Listing, Payload, has_letter};
 use hyphenation_breaks::extended::Subregion;
 use hyphenation_grammar::Cause;
 use hyphenation_grammar::form::{Form, Kind, Version};
 use hyphenation_grammar::lines::{first_token, is_utf8, starts_with, strip_prefix};
 use hyphenation_grammar::pattern::{PatternToken, read_pattern};
 use hyphenation_grammar::tokens::{LaterToken, is_boundary, later_token, string_of};
-use hyphenation_trie::in_32_bits;
+use hyphenation_trie::to_u32;
 use std::alloc::{AllocError, Global};
 use std::mem;
 use std::vec::IntoIter;
 
-/// What a line spells.
+// The item that a line spells.
 #[derive(Drop)]
 pub(crate) enum Item<C: Drop, B: Drop> {
-    /// A head line, an empty line or a comment.
+    // A head line, an empty line or a comment.
     Nothing,
-    /// A key with its entries.
+    // A key with its entries.
     Pattern {
         key: Vec<u8>,
         entries: Vec<Entry<C>>,
     },
-    /// A word with its listed breaks.
+    // A word with its listed breaks.
     Exception {
         word: String,
         listed: Vec<B>,
     },
 }
 
-/// Lists that one line filled and a later one may fill again, so that not each line asks for memory. What stands
-/// in them means nothing.
-pub(crate) struct Scratch<C: Drop> {
-    /// What a pattern's token says.
+// Buffers that each line fills anew, so that not each line asks for memory. Their contents between two lines mean
+// nothing.
+pub(crate) struct LineBuffers<C: Drop> {
+    // The contents of a pattern's token.
     pub pattern: PatternToken,
-    /// The entries of a key.
+    // The entries of a key.
     pub entries: Vec<Entry<C>>,
 }
 
-// It does what the derived one would. As a call it is one step in the proof of a function that holds these lists; the
-// derived one is a step for each list, at each way out.
-impl<C: Drop> Drop for Scratch<C> {
+// Does as the derived one would. As a call it is one step in the proof of a function that holds these buffers. The
+// derived one is a step for each buffer, at each way out.
+impl<C: Drop> Drop for LineBuffers<C> {
     fn drop(self) {
-        let Scratch { pattern, entries } = self;
+        let LineBuffers { pattern, entries } = self;
         drop(pattern);
         drop(entries);
     }
 }
 
-impl<C: Drop> Scratch<C> {
-    /// Lists without room yet.
+impl<C: Drop> LineBuffers<C> {
+    // Returns empty buffers. Nothing is allocated yet.
     pub(crate) fn new(alloc: Global) -> Self {
-        Scratch {
+        LineBuffers {
             pattern: PatternToken::new(alloc),
             entries: Vec::new(alloc),
         }
     }
 }
 
-/// Why a line is not read.
-#[derive(Drop)]
-pub(crate) enum Fault {
-    /// Memory was refused.
-    Memory,
-    /// The line fails this test, and none before it.
-    Fails(Cause),
-}
-
-impl From<AllocError> for Fault {
-    ghost use Rattle.std.specs.Prelude.{◌≡◌};
-    ghost use Rattle.hyphenation_reader.specs.declared.items.Fault.TheVariants.{Memory};
-
-    ghost from_gives = { λ _ e. e ≡ Memory };
-
-    fn from(_error: AllocError) -> Fault {
-        Fault::Memory
-    }
-}
-
-/// The item that a line after the third spells, or the first test that it fails by itself, in a text of a form. Such a
-/// line is judged alike whatever its number. The caller may know already that it is UTF-8.
+// Returns the item that a line after the third spells, or the first test that it fails by itself, in a text of a form.
+// Such lines are judged alike whatever their numbers. `known` says that the caller knows the line to be UTF-8. The only
+// error is memory.
 pub(crate) fn item_of<C: Payload, B: Listing>(
     alloc: Global,
     form: Form,
     line: &[u8],
     known: bool,
-    scratch: &mut Scratch<C>,
-) -> Result<Item<C, B>, Fault>
+    buffers: &mut LineBuffers<C>,
+) -> Result<Result<Item<C, B>, Cause>, AllocError>
     requires utf8 { known ≡ true → IsUtf8 line.now }
-    ensures passes { OnOk result (own_cause form 4 line.now ≡ None) }
-    ensures says { IfOk result (λ item. IsItemOf form.version C.payload_of B.listing_of item line.now) }
-    ensures refused { IfErr result (λ fault. IsFault fault (own_cause form 4 line.now)) }
+    ensures passes { IfOk result (λ found. OnOk found (own_cause form 4 line.now ≡ None)) }
+    ensures says { IfOk result (λ found.
+        IfOk found (λ item. IsItemOf form.version C.payload_of B.listing_of item line.now)) }
+    ensures refused { IfOk result (λ found. IfErr found (λ cause. own_cause form 4 line.now ≡ Some cause)) }
 {
     if let Some(cause) = early_cause(line, known) {
-        return Err(Fault::Fails(cause));
+        return Ok(Err(cause));
     }
     match strip_prefix(b"p ", line) {
-        Some(text) => pattern_item(alloc, form, text, scratch),
+        Some(text) => pattern_item(alloc, form, text, buffers),
         None => match strip_prefix(b"e ", line) {
             Some(text) => exception_item(alloc, form, text),
-            None => Ok(Item::Nothing),
+            None => Ok(Ok(Item::Nothing)),
         },
     }
 }
 
-/// The first test before Token that a line after the third fails.
+// Returns the first test before `Token` that a line after the third fails.
 #[inline(always)]
 fn early_cause(line: &[u8], known: bool) -> Option<Cause>
     requires { known ≡ true → IsUtf8 line.now }
@@ -132,7 +119,7 @@ fn early_cause(line: &[u8], known: bool) -> Option<Cause>
     None
 }
 
-/// Whether a line is UTF-8, where that may be known already.
+// Whether a line is UTF-8. If that is known already, the line is not tested.
 fn is_utf8_line(line: &[u8], known: bool) -> bool
     requires { known ≡ true → IsUtf8 line.now }
     ensures { result ≡ is_utf8 line.now }
@@ -140,7 +127,7 @@ fn is_utf8_line(line: &[u8], known: bool) -> bool
     known || is_utf8(line)
 }
 
-/// Whether a line after the third is of one of the four sorts.
+// Whether a line is empty, a comment, a `p` line or an `e` line.
 fn is_known(line: &[u8]) -> bool
     ensures { result ≡ is_known line.now }
 {
@@ -150,35 +137,34 @@ fn is_known(line: &[u8]) -> bool
         || starts_with(b"e ", line)
 }
 
-/// The item of a `p` line, of which the text stands after `p `.
+// Returns the item of a `p` line, given the text after `p `, or the first test that it fails.
 fn pattern_item<C: Payload, B: Listing>(
     alloc: Global,
     form: Form,
     text: &[u8],
-    scratch: &mut Scratch<C>,
-) -> Result<Item<C, B>, Fault>
+    buffers: &mut LineBuffers<C>,
+) -> Result<Result<Item<C, B>, Cause>, AllocError>
     requires { IsUtf8 text.now }
-    ensures { (line : List ℕ) → Some text.now ≡ strip_prefix (codes "p ") line
-        → Answers form C.payload_of B.listing_of line result }
+    ensures { IfOk result (λ found. (line : List ℕ) → Some text.now ≡ strip_prefix (codes "p ") line
+        → ReturnsItem form C.payload_of B.listing_of line found) }
 {
-    let Some(later) = pattern_parts(alloc, form.version, text, &mut scratch.pattern)? else {
-        return Err(Fault::Fails(Cause::Token));
+    let Some(later) = pattern_parts(alloc, form.version, text, &mut buffers.pattern)? else {
+        return Ok(Err(Cause::Token));
     };
-    if let Some(cause) = pattern_cause(form, &scratch.pattern, &later) {
-        return Err(Fault::Fails(cause));
+    if let Some(cause) = pattern_cause(form, &buffers.pattern, &later) {
+        return Ok(Err(cause));
     }
-    if !matched(&scratch.pattern.values, later.listed, &mut scratch.entries)? {
-        return Err(Fault::Fails(Cause::Change));
+    if !entries_with_changes(&buffers.pattern.values, later.listed, &mut buffers.entries)? {
+        return Ok(Err(Cause::Change));
     }
-    Ok(Item::Pattern {
-        key: mem::replace(&mut scratch.pattern.key, Vec::new(alloc)),
-        entries: mem::replace(&mut scratch.entries, Vec::new(alloc)),
-    })
+    Ok(Ok(Item::Pattern {
+        key: mem::replace(&mut buffers.pattern.key, Vec::new(alloc)),
+        entries: mem::replace(&mut buffers.entries, Vec::new(alloc)),
+    }))
 }
 
-// Inlined; so are the two tests of each pattern.
-/// The later tokens of a `p` line, where each token can be read; what the first one says is put in place of what was read
-/// before.
+// Reads the tokens of a `p` line: the first into `pattern`, and returns the later ones. `None` if one of them can't be
+// read. Inlined: it avoids copying the parsed pattern.
 #[inline(always)]
 fn pattern_parts(
     alloc: Global,
@@ -189,7 +175,7 @@ fn pattern_parts(
     requires { IsUtf8 text.now }
     ensures { IfOk result (λ found.
         option_map (λ later. (pattern_view pattern.new, later_view later)) found
-        ≡ pattern_parts version (slice_split (λ b. b == 32) text.now)) }
+        ≡ pattern_parts version (between_spaces text.now)) }
 {
     let (first, later) = first_token(text);
     if first.is_empty() {
@@ -205,7 +191,8 @@ fn pattern_parts(
     later_of(alloc, later)
 }
 
-/// The first test after Token that a `p` line fails, but for the values that its changes are to have.
+// Returns the first test after `Token` that a `p` line fails, before its changes are matched with its values. Inlined
+// for the same reason as `pattern_parts`.
 #[inline(always)]
 fn pattern_cause(form: Form, pattern: &PatternToken, later: &Later) -> Option<Cause>
     ensures { result ≡ cause_before_match form (pattern_view pattern.now) (later_view later.now) }
@@ -216,7 +203,7 @@ fn pattern_cause(form: Form, pattern: &PatternToken, later: &Later) -> Option<Ca
     if pattern.has_two_values {
         return Some(Cause::Pattern);
     }
-    if is_dots(&pattern.key) {
+    if !has_letter(&pattern.key) {
         return Some(Cause::NoLetters);
     }
     if let Some(cause) = places_cause(&pattern.key, later) {
@@ -228,14 +215,7 @@ fn pattern_cause(form: Form, pattern: &PatternToken, later: &Later) -> Option<Ca
     None
 }
 
-/// Whether a key is dots alone.
-fn is_dots(key: &[u8]) -> bool
-    ensures { result ≡ list_all (λ b. b == 46) key.now }
-{
-    key.iter().all(|byte| *byte == b'.')
-}
-
-/// Whether each may be listed for a key, be there a value at its place or not.
+// Whether each change is allowed in a pattern, even without a value at its place.
 fn suit_form_in_pattern(form: Form, key: &[u8], listed: &[(usize, Option<Subregion>)]) -> bool
     ensures { result ≡ list_all (suits_form_in_pattern form key.now) listed.now }
 {
@@ -247,7 +227,7 @@ fn suit_form_in_pattern(form: Form, key: &[u8], listed: &[(usize, Option<Subregi
     true
 }
 
-/// Whether it is a change, of an extended text, that keeps within the key.
+// Whether a listed place has a change that the form allows and that keeps within the key.
 fn suits_form_in_pattern(form: Form, key: &[u8], b: &(usize, Option<Subregion>)) -> bool
     ensures { result ≡ suits_form_in_pattern form key.now b.now }
 {
@@ -258,14 +238,14 @@ fn suits_form_in_pattern(form: Form, key: &[u8], b: &(usize, Option<Subregion>))
     }
 }
 
-/// Whether the text is extended, and the change keeps within the key or the word.
+// Whether the form allows changes, and the change keeps within the key or the word.
 fn suits_form(form: Form, text: &[u8], place: usize, change: &Subregion) -> bool
     ensures { result ≡ suits_form form text.now place change.now }
 {
     is_extended(form) && keeps_within(text, place, change)
 }
 
-/// Whether a text of that form may have changes.
+// Whether texts of that form may have changes.
 fn is_extended(form: Form) -> bool
     ensures { result ≡ is_extended form.kind }
 {
@@ -275,7 +255,7 @@ fn is_extended(form: Form) -> bool
     }
 }
 
-/// Whether the ends of a change's range stand in a text between its characters.
+// Whether both ends of a change's range are character boundaries of the text.
 fn keeps_within(text: &[u8], place: usize, change: &Subregion) -> bool
     ensures { result ≡ keeps_within text.now place change.now }
 {
@@ -286,17 +266,16 @@ fn keeps_within(text: &[u8], place: usize, change: &Subregion) -> bool
     }
 }
 
-/// Makes the entries of values, each with the change that is listed at its place, in place of what stood in their list.
-/// Whether each is listed at the place of a value; where one is not, what is made means nothing. The caller owes that the
-/// places ascend in both: so one pass is enough.
-fn matched<C: Payload>(
+// Fills `entries` with the values, each with the change that is listed at its place. Returns whether each listed place
+// has a value; if not, `entries` means nothing. Places must ascend in both lists, so that one pass is enough.
+fn entries_with_changes<C: Payload>(
     values: &[(usize, u8)],
     listed: Vec<(usize, Option<Subregion>)>,
     entries: &mut Vec<Entry<C>>,
 ) -> Result<bool, AllocError>
     requires values { IsTrue (ascend 0 values.now) }
     requires listed { IsTrue (ascend 0 listed.items) }
-    ensures known { IfOk result (λ all. all ≡ have_values values.now listed.items) }
+    ensures each_has_value { IfOk result (λ all. all ≡ have_values values.now listed.items) }
     ensures entries { IfOk result (λ all.
         IsTrue all → entries.new.items ≡ entries_of C.payload_of values.now listed.items) }
 {
@@ -304,8 +283,8 @@ fn matched<C: Payload>(
     let mut rest = listed.into_iter();
     let mut next = rest.next();
     for value in values {
-        let place = in_32_bits(value.0)?;
-        let change = taken_at(value.0, &mut next, &mut rest);
+        let place = to_u32(value.0)?;
+        let change = take_change_at(value.0, &mut next, &mut rest);
         entries.push(Entry {
             place,
             value: value.1,
@@ -315,14 +294,14 @@ fn matched<C: Payload>(
     Ok(next.is_none())
 }
 
-/// Takes the change that is listed next, if it is listed at the place, and goes on to the one after it.
-fn taken_at(
+// Takes the next listed change, if it is at the place.
+fn take_change_at(
     place: usize,
     next: &mut Option<(usize, Option<Subregion>)>,
     rest: &mut IntoIter<(usize, Option<Subregion>)>,
 ) -> Option<Subregion>
-    ensures taken { result ≡ first_at place (from_next next.old rest.old.rest.items) }
-    ensures left { from_next next.new rest.new.rest.items ≡ left_at place (from_next next.old rest.old.rest.items) }
+    ensures change { result ≡ head_change_at place (pending next.old rest.old.rest.items) }
+    ensures tail { pending next.new rest.new.rest.items ≡ tail_after place (pending next.old rest.old.rest.items) }
 {
     match next.take() {
         Some((at, change)) if at == place => {
@@ -336,47 +315,49 @@ fn taken_at(
     }
 }
 
-/// The item of an `e` line, of which the text stands after `e `.
+// Returns the item of an `e` line, given the text after `e `, or the first test that it fails.
 fn exception_item<C: Payload, B: Listing>(
     alloc: Global,
     form: Form,
     text: &[u8],
-) -> Result<Item<C, B>, Fault>
+) -> Result<Result<Item<C, B>, Cause>, AllocError>
     requires { IsUtf8 text.now }
-    ensures { (line : List ℕ) → Some text.now ≡ strip_prefix (codes "e ") line
-        → Answers form C.payload_of B.listing_of line result }
+    ensures { IfOk result (λ found. (line : List ℕ) → Some text.now ≡ strip_prefix (codes "e ") line
+        → ReturnsItem form C.payload_of B.listing_of line found) }
 {
-    let (word, listed) = exception_of(alloc, form, text)?;
-    Ok(Item::Exception { word, listed })
+    match exception_of(alloc, form, text)? {
+        Ok((word, listed)) => Ok(Ok(Item::Exception { word, listed })),
+        Err(cause) => Ok(Err(cause)),
+    }
 }
 
-/// The word of an `e` line, of which the text stands after `e `, and its listed breaks.
+// Returns the word of an `e` line and its listed breaks, given the text after `e `, or the first test that it fails.
 pub(crate) fn exception_of<B: Listing>(
     alloc: Global,
     form: Form,
     text: &[u8],
-) -> Result<(String, Vec<B>), Fault>
+) -> Result<Result<(String, Vec<B>), Cause>, AllocError>
     requires { IsUtf8 text.now }
-    ensures { (line : List ℕ) → Some text.now ≡ strip_prefix (codes "e ") line
-        → AnswersException form B.listing_of line result }
+    ensures { IfOk result (λ found. (line : List ℕ) → Some text.now ≡ strip_prefix (codes "e ") line
+        → ReturnsException form B.listing_of line found) }
 {
     let Some((word, later)) = exception_parts(alloc, text)? else {
-        return Err(Fault::Fails(Cause::Token));
+        return Ok(Err(Cause::Token));
     };
     if let Some(cause) = exception_cause(form, word.as_bytes(), &later) {
-        return Err(Fault::Fails(cause));
+        return Ok(Err(cause));
     }
     let listed = listed_of(alloc, later.listed)?;
-    Ok((word, listed))
+    Ok(Ok((word, listed)))
 }
 
-/// The word of an `e` line and its later tokens, where each can be read.
+// Returns the word of an `e` line and its later tokens. `None` if one of them can't be read.
 #[inline(always)]
 fn exception_parts(alloc: Global, text: &[u8]) -> Result<Option<(String, Later)>, AllocError>
     requires { IsUtf8 text.now }
     ensures { IfOk result (λ found.
         option_map (λ x. (string_bytes x.0, later_view x.1)) found
-        ≡ exception_parts (slice_split (λ b. b == 32) text.now)) }
+        ≡ exception_parts (between_spaces text.now)) }
 {
     let (first, later) = first_token(text);
     if first.is_empty() {
@@ -391,33 +372,33 @@ fn exception_parts(alloc: Global, text: &[u8]) -> Result<Option<(String, Later)>
     Ok(Some((word, later)))
 }
 
-/// The first test after Token that an `e` line fails.
+// Returns the first test after `Token` that an `e` line fails.
 fn exception_cause(form: Form, word: &[u8], later: &Later) -> Option<Cause>
     ensures { result ≡ exception_cause form word.now (later_view later.now) }
 {
     if let Some(cause) = places_cause(word, later) {
         return Some(cause);
     }
-    if !later.are_sound || !all_fit_word(form, word, &later.listed) {
+    if !later.are_sound || !suit_word(form, word, &later.listed) {
         return Some(Cause::Change);
     }
     None
 }
 
-/// Whether each may be listed for a word.
-fn all_fit_word(form: Form, word: &[u8], listed: &[(usize, Option<Subregion>)]) -> bool
+// Whether each break may be listed for a word.
+fn suit_word(form: Form, word: &[u8], listed: &[(usize, Option<Subregion>)]) -> bool
     ensures { result ≡ list_all (suits_word form word.now) listed.now }
 {
     for b in listed {
-        if !fits_word(form, word, b) {
+        if !suits_word(form, word, b) {
             return false;
         }
     }
     true
 }
 
-/// Whether the change of a break, where there is one, may be listed for a word.
-fn fits_word(form: Form, word: &[u8], b: &(usize, Option<Subregion>)) -> bool
+// Whether a break may be listed for a word: its change, if it has one, fits the form and the word.
+fn suits_word(form: Form, word: &[u8], b: &(usize, Option<Subregion>)) -> bool
     ensures { result ≡ suits_word form word.now b.now }
 {
     let place = b.0;
@@ -427,7 +408,7 @@ fn fits_word(form: Form, word: &[u8], b: &(usize, Option<Subregion>)) -> bool
     }
 }
 
-/// Breaks as a dictionary lists them.
+// Returns breaks as a dictionary lists them.
 fn listed_of<B: Listing>(
     alloc: Global,
     listed: Vec<(usize, Option<Subregion>)>,
@@ -441,14 +422,14 @@ fn listed_of<B: Listing>(
     Ok(found)
 }
 
-/// What the later tokens of a line say, as far as they are read.
+// The later tokens of a line, as far as they are read.
 #[derive(Drop)]
 struct Later {
-    /// Their places, each with its change, as far as the parts are numbers.
+    // Places with their changes, as far as the parts are numbers.
     listed: Vec<(usize, Option<Subregion>)>,
-    /// Whether each part is a number that has to be one.
+    // Whether each part is a number that must be one.
     are_numbers: bool,
-    /// Whether the changes are whole, and broken between characters.
+    // Whether each change has all parts, and its breakpoint between characters.
     are_sound: bool,
 }
 
@@ -456,7 +437,7 @@ impl Later {
     ghost use Rattle.std.specs.Prelude.{◌≡◌, IfOk, OnOk};
     ghost use Rattle.hyphenation_reader.specs.Private.Parsed.{no_later, later_view, with_token};
 
-    /// What no token says.
+    // Returns the contents of no tokens. Nothing is allocated.
     fn none(alloc: Global) -> Self
         ensures { later_view result ≡ no_later }
     {
@@ -467,7 +448,7 @@ impl Later {
         }
     }
 
-    /// The same, with room for so many tokens.
+    // Returns the contents of no tokens, with room for `count` of them.
     fn with_room(alloc: Global, count: usize) -> Result<Self, AllocError>
         ensures { IfOk result (λ later. later_view later ≡ no_later) }
     {
@@ -478,7 +459,7 @@ impl Later {
         })
     }
 
-    /// One token more.
+    // Appends a token.
     fn add(&mut self, token: LaterToken) -> Result<(), AllocError>
         ensures { OnOk result (later_view self.new ≡ with_token (later_view self.old) token) }
     {
@@ -494,14 +475,14 @@ impl Later {
     }
 }
 
-/// What the tokens after a space say, where each can be read; nothing where there is no space.
+// Reads the tokens after a space, if there is a space. `None` if one of them can't be read.
 #[inline]
 fn later_of(alloc: Global, after: Option<&[u8]>) -> Result<Option<Later>, AllocError>
     requires { IfSome after (λ text. IsUtf8 text.now) }
     ensures { IfOk result (λ found.
         option_map later_view found ≡ read_later no_later (tokens_after (option_map (λ text. text.now) after.entry))) }
 {
-    // Each token but the last takes two bytes or more, with the space after it.
+    // A token takes at least two bytes, with the space after it; only the last may take one.
     let count = after.map_or(0, |text| (text.len() / 2 + 1).min(8));
     let mut later = Later::with_room(alloc, count)?;
     let mut rest = after;
@@ -516,7 +497,7 @@ fn later_of(alloc: Global, after: Option<&[u8]>) -> Result<Option<Later>, AllocE
     Ok(Some(later))
 }
 
-/// The first of the tests Number and Place that later tokens fail, whose places count in the text.
+// Returns the first of the tests `Number` and `Place` that later tokens fail. Their places are bytes of the text.
 fn places_cause(text: &[u8], later: &Later) -> Option<Cause>
     ensures { result ≡ places_cause text.now (later_view later.now) }
 {
@@ -529,7 +510,7 @@ fn places_cause(text: &[u8], later: &Later) -> Option<Cause>
     None
 }
 
-/// Whether places ascend, each on a character boundary of the text.
+// Whether places ascend on character boundaries of the text.
 fn are_places(text: &[u8], listed: &[(usize, Option<Subregion>)]) -> bool
     ensures { result ≡ ascend_on text.now 0 (map (λ b. b.0) listed.now) }
 {

@@ -1,7 +1,7 @@
-//! Dictionaries read from their texts, and edits of exceptions, which are written as lines of a text are.
+//! Dictionaries read from their texts, and edits of exceptions.
 //!
-//! [`reader`] makes a dictionary of a text, or tells its first fault; [`edits`] judges and does edits; [`laws`] says
-//! what is true of all texts that are read.
+//! [`reader`] makes a dictionary of a text, or returns its first fault. [`edits`] judges and applies edits, which are
+//! written as lines of a text. [`laws`] has what is true of all accepted texts.
 #![tactic(auto)]
 
 pub mod edits;

@@ -1,21 +1,23 @@
-//! Whole texts: one pass over the lines, which judges each, takes its item in and sees by that whether an
-//! earlier line spells the same.
+//! Whole texts, in one pass over their lines. Each line is judged and its item added; an item that replaces another one
+//! repeats an earlier line.
 
 ghost use Rattle.std.specs.Prelude.{◌≡◌, [], None, Some, IfOk, IfErr, IsUtf8, ◌<◌, true, take, drop, OnOk, length};
 ghost use Rattle.std.specs.FinMap as finite;
 ghost use Rattle.std.specs.String.{string_bytes};
-ghost use Rattle.hyphenation_reader.specs.Private.Builder.{HasHead, IsAfterHead, are_idle, items_held, no_items, with_item, repeated_by};
+ghost use Rattle.hyphenation_reader.specs.Private.Builder.{HasHead, IsAfterHead, spell_nothing, items_held, no_items};
+ghost use Rattle.hyphenation_reader.specs.Private.Builder.{with_item, repeated_by};
 ghost use Rattle.hyphenation_grammar.specs.Form.{form_of};
 ghost use Rattle.hyphenation_grammar.specs.Lines.{lines_of, language_of, minima_of};
 ghost use Rattle.hyphenation_grammar.specs.Judging.{own_cause, fault_after, refusal_of};
-ghost use Rattle.hyphenation_reader.specs.Private.Judging.{before_item};
-ghost use Rattle.hyphenation_grammar.specs.Reading.{items_of_lines, contents_in, contents_of, standard_contents, extended_contents};
+ghost use Rattle.hyphenation_reader.specs.Private.Judging.{cause_before_token};
+ghost use Rattle.hyphenation_grammar.specs.Reading.{items_of_lines, contents_in, contents_of, standard_contents};
+ghost use Rattle.hyphenation_grammar.specs.Reading.{extended_contents};
 ghost use Rattle.hyphenation_reader.specs.Refusals.{IsRefusal};
 ghost use Rattle.hyphenation_reader.specs.Private.Refusals.{at_number};
 ghost use Rattle.hyphenation_reader.specs.Private.LineAnswers.{IsItemOf};
 ghost use Rattle.hyphenation_trie.specs.Trie.{EachBeginsKey};
 
-use crate::items::{Fault, Item, Scratch, item_of};
+use crate::items::{Item, LineBuffers, item_of};
 use crate::laws::spelt_is_sound;
 use hyphenation_breaks::entry::{Entry, Listing, Payload};
 use hyphenation_breaks::language::Language;
@@ -32,10 +34,10 @@ use std::alloc::{AllocError, Global};
 /// Why a text gives no dictionary.
 #[derive(Drop)]
 pub enum Refusal {
-    /// Memory was refused.
+    /// Out of memory. This says nothing of the text.
     Memory,
-    /// The first fault of the text: the number of its line, from 1, and the first test that the line fails. A
-    /// line 1, 2 or 3 that is missing counts as the line after the last one.
+    /// The first fault of the text: the number of its line, from 1, and the first test that this line fails. A
+    /// missing line 1, 2 or 3 counts as the line after the last one.
     Fault { line: usize, cause: Cause },
 }
 
@@ -50,13 +52,13 @@ impl From<AllocError> for Refusal {
     }
 }
 
-/// What the lines so far spell.
+// The items of the lines so far.
 struct Builder<C: Payload, B: Listing> {
     patterns: Trie<Entry<C>>,
     exceptions: Exceptions<B>,
 }
 
-// It does what the derived one would, in one step of a proof.
+// Does as the derived one would, in one step of a proof.
 impl<C: Payload, B: Listing> Drop for Builder<C, B> {
     fn drop(self) {
         let Builder {
@@ -69,8 +71,8 @@ impl<C: Payload, B: Listing> Drop for Builder<C, B> {
 }
 
 impl<C: Payload, B: Listing> Builder<C, B> {
-    /// Nothing yet, with room for a text of so many bytes: a text of patterns has six to eight bytes for each node,
-    /// and seldom more than one exception in 40 bytes.
+    // Returns an empty builder, with room for a text of so many bytes. Texts of patterns have six to eight bytes for
+    // each node, and seldom more than one exception in 40 bytes.
     fn new(alloc: Global, bytes: usize) -> Result<Builder<C, B>, AllocError>
         ensures empty { IfOk result (λ builder. items_held builder ≡ no_items) }
         ensures begins { IfOk result (λ builder. EachBeginsKey builder.patterns) }
@@ -81,7 +83,7 @@ impl<C: Payload, B: Listing> Builder<C, B> {
         })
     }
 
-    /// What it holds.
+    // Returns the patterns and the exceptions.
     fn into_parts(self) -> (Trie<Entry<C>>, Exceptions<B>)
         ensures patterns { result.0 ≡ self.patterns }
         ensures exceptions { result.1 ≡ self.exceptions }
@@ -93,9 +95,9 @@ impl<C: Payload, B: Listing> Builder<C, B> {
         (patterns, exceptions)
     }
 
-    /// Takes in a key with its entries, in place of those that it had. Whether it had any.
+    // Adds a key with its entries, in place of its old ones. Returns whether it had any.
     fn add_pattern(&mut self, key: &[u8], entries: &mut Vec<Entry<C>>) -> Result<bool, AllocError>
-        ensures had { IfOk result (λ had. had ≡ finite.contains_key (items_held self.old).patterns key.now) }
+        ensures was_held { IfOk result (λ had. had ≡ finite.contains_key (items_held self.old).patterns key.now) }
         ensures patterns { OnOk result ((items_held self.new).patterns
             ≡ finite.insert (items_held self.old).patterns key.now
             entries.old.items) }
@@ -110,9 +112,9 @@ impl<C: Payload, B: Listing> Builder<C, B> {
         Ok(had)
     }
 
-    /// Takes in a word with its listed breaks, in place of those that it had. Whether it had any.
+    // Adds a word with its listed breaks, in place of its old ones. Returns whether it had any.
     fn add_exception(&mut self, word: String, listed: Vec<B>) -> Result<bool, AllocError>
-        ensures had { IfOk result (λ had. had
+        ensures was_held { IfOk result (λ had. had
             ≡ finite.contains_key (items_held self.old).exceptions (string_bytes word)) }
         ensures exceptions { OnOk result ((items_held self.new).exceptions
             ≡ finite.insert (items_held self.old).exceptions
@@ -123,12 +125,12 @@ impl<C: Payload, B: Listing> Builder<C, B> {
         Ok(old.is_some())
     }
 
-    /// Takes in what a line spells, and gives lists back that can be filled again. The cause, where an earlier line
-    /// spells its key or its word.
+    // Adds the item of a line, and puts its lists into the buffers. Returns the cause if an earlier line has its key or
+    // its word.
     fn add(
         &mut self,
         item: Item<C, B>,
-        scratch: &mut Scratch<C>,
+        buffers: &mut LineBuffers<C>,
     ) -> Result<Option<Cause>, AllocError>
         ensures cause { IfOk result (λ cause. cause ≡ repeated_by (items_held self.old) item) }
         ensures added { OnOk result (items_held self.new ≡ with_item (items_held self.old) item) }
@@ -138,8 +140,8 @@ impl<C: Payload, B: Listing> Builder<C, B> {
             Item::Nothing => Ok(None),
             Item::Pattern { key, mut entries } => {
                 let had = self.add_pattern(&key, &mut entries)?;
-                scratch.pattern.key = key;
-                scratch.entries = entries;
+                buffers.pattern.key = key;
+                buffers.entries = entries;
                 Ok(had.then_some(Cause::RepeatedPattern))
             }
             Item::Exception { word, listed } => {
@@ -150,32 +152,31 @@ impl<C: Payload, B: Listing> Builder<C, B> {
     }
 }
 
-/// The item of the line of that number, which is one after the third.
+// Returns the item of the line of that number, which must be above 3, or its refusal.
 fn item_at<C: Payload, B: Listing>(
     alloc: Global,
     form: Form,
     number: usize,
     line: &[u8],
     known: bool,
-    scratch: &mut Scratch<C>,
+    buffers: &mut LineBuffers<C>,
 ) -> Result<Item<C, B>, Refusal>
     requires utf8 { known ≡ true → IsUtf8 line.now }
-    requires late { 3 < number }
+    requires past_head { 3 < number }
     ensures passes { OnOk result (own_cause form number line.now ≡ None) }
     ensures says { IfOk result (λ item. IsItemOf form.version C.payload_of B.listing_of item line.now) }
     ensures refused { IfErr result (λ refusal. IsRefusal refusal (at_number number (own_cause form number line.now))) }
 {
-    match item_of(alloc, form, line, known, scratch) {
+    match item_of(alloc, form, line, known, buffers)? {
         Ok(item) => Ok(item),
-        Err(Fault::Memory) => Err(Refusal::Memory),
-        Err(Fault::Fails(cause)) => Err(Refusal::Fault {
+        Err(cause) => Err(Refusal::Fault {
             line: number,
             cause,
         }),
     }
 }
 
-/// What the three head lines say, and what stands after them.
+// The contents of the three head lines, and the text after them.
 #[derive(Drop)]
 struct Head<'t> {
     language: Language,
@@ -184,10 +185,10 @@ struct Head<'t> {
     rest: &'t [u8],
 }
 
-/// Judges line 1.
+// Judges line 1.
 fn read_first(form: Form, line: &[u8]) -> Result<(), Refusal>
-    ensures passes { OnOk result (before_item form 1 line.now ≡ None) }
-    ensures refused { IfErr result (λ refusal. IsRefusal refusal (at_number 1 (before_item form 1 line.now))) }
+    ensures passes { OnOk result (cause_before_token form 1 line.now ≡ None) }
+    ensures refused { IfErr result (λ refusal. IsRefusal refusal (at_number 1 (cause_before_token form 1 line.now))) }
 {
     if !is_utf8(line) {
         return Err(Refusal::Fault {
@@ -204,11 +205,11 @@ fn read_first(form: Form, line: &[u8]) -> Result<(), Refusal>
     Ok(())
 }
 
-/// The language of line 2.
+// Returns the language of line 2, or its refusal.
 fn read_language(form: Form, line: &[u8]) -> Result<Language, Refusal>
-    ensures passes { OnOk result (before_item form 2 line.now ≡ None) }
+    ensures passes { OnOk result (cause_before_token form 2 line.now ≡ None) }
     ensures says { IfOk result (λ language. language_of line.now ≡ Some language) }
-    ensures refused { IfErr result (λ refusal. IsRefusal refusal (at_number 2 (before_item form 2 line.now))) }
+    ensures refused { IfErr result (λ refusal. IsRefusal refusal (at_number 2 (cause_before_token form 2 line.now))) }
 {
     if !is_utf8(line) {
         return Err(Refusal::Fault {
@@ -225,11 +226,11 @@ fn read_language(form: Form, line: &[u8]) -> Result<Language, Refusal>
     }
 }
 
-/// The minima of line 3.
+// Returns the minima of line 3, or its refusal.
 fn read_minima(alloc: Global, form: Form, line: &[u8]) -> Result<(u8, u8), Refusal>
-    ensures passes { OnOk result (before_item form 3 line.now ≡ None) }
+    ensures passes { OnOk result (cause_before_token form 3 line.now ≡ None) }
     ensures says { IfOk result (λ minima. minima_of line.now ≡ Some minima) }
-    ensures refused { IfErr result (λ refusal. IsRefusal refusal (at_number 3 (before_item form 3 line.now))) }
+    ensures refused { IfErr result (λ refusal. IsRefusal refusal (at_number 3 (cause_before_token form 3 line.now))) }
 {
     if !is_utf8(line) {
         return Err(Refusal::Fault {
@@ -246,7 +247,7 @@ fn read_minima(alloc: Global, form: Form, line: &[u8]) -> Result<(u8, u8), Refus
     }
 }
 
-/// What the head lines say, and what stands after them; or the first fault among them, where a missing one is one.
+// Reads the three head lines. Refused for the first bad or missing one.
 fn read_head(alloc: Global, form: Form, bytes: &[u8]) -> Result<Head<'_>, Refusal>
     ensures says { IfOk result (λ head. HasHead form (lines_of bytes.now) head.language (head.left, head.right)) }
     ensures rest { IfOk result (λ head. IsAfterHead bytes.now head.rest.now) }
@@ -281,7 +282,7 @@ fn read_head(alloc: Global, form: Form, bytes: &[u8]) -> Result<Head<'_>, Refusa
     })
 }
 
-/// Takes in what the lines after the head spell, or tells the first fault among them.
+// Adds the items of the lines after the head. Refused for the first bad line.
 fn add_lines<C: Payload, B: Listing>(
     alloc: Global,
     form: Form,
@@ -289,10 +290,10 @@ fn add_lines<C: Payload, B: Listing>(
     after_head: &[u8],
     builder: &mut Builder<C, B>,
 ) -> Result<(), Refusal>
-    requires long { 2 < length (lines_of bytes.now) }
+    requires three_lines { 2 < length (lines_of bytes.now) }
     requires head { fault_after form [] (lines_of bytes.now)
         ≡ fault_after form (take 3 (lines_of bytes.now)) (drop 3 (lines_of bytes.now)) }
-    requires idle { are_idle (take 3 (lines_of bytes.now)) ≡ true }
+    requires spells_nothing { spell_nothing (take 3 (lines_of bytes.now)) ≡ true }
     requires rest { IsAfterHead bytes.now after_head.now }
     requires empty { items_held builder.old ≡ no_items }
     requires begins { EachBeginsKey builder.old.patterns }
@@ -302,14 +303,14 @@ fn add_lines<C: Payload, B: Listing>(
     ensures begins { OnOk result (EachBeginsKey builder.new.patterns) }
     ensures refused { IfErr result (λ refusal. IsRefusal refusal (fault_after form [] (lines_of bytes.now))) }
 {
-    let mut scratch = Scratch::new(alloc);
-    // Where the whole text is UTF-8, as it is wherever none is refused for that, so is each line, and none is tested.
+    let mut buffers = LineBuffers::new(alloc);
+    // If the whole text is UTF-8, so is each line; then no line is tested again.
     let known = is_utf8(bytes);
     let mut rest = after_head;
     let mut count: usize = 3;
     while let Some((line, after)) = next_line(rest) {
-        let item = item_at(alloc, form, count + 1, line, known, &mut scratch)?;
-        if let Some(cause) = builder.add(item, &mut scratch)? {
+        let item = item_at(alloc, form, count + 1, line, known, &mut buffers)?;
+        if let Some(cause) = builder.add(item, &mut buffers)? {
             return Err(Refusal::Fault {
                 line: count + 1,
                 cause,
@@ -321,17 +322,17 @@ fn add_lines<C: Payload, B: Listing>(
     Ok(())
 }
 
-/// What the lines after the head spell together, or the first fault among them.
+// Returns the items of the lines after the head. Refused for the first bad line.
 fn read_lines<C: Payload, B: Listing>(
     alloc: Global,
     form: Form,
     bytes: &[u8],
     after_head: &[u8],
 ) -> Result<Builder<C, B>, Refusal>
-    requires long { 2 < length (lines_of bytes.now) }
+    requires three_lines { 2 < length (lines_of bytes.now) }
     requires head { fault_after form [] (lines_of bytes.now)
         ≡ fault_after form (take 3 (lines_of bytes.now)) (drop 3 (lines_of bytes.now)) }
-    requires idle { are_idle (take 3 (lines_of bytes.now)) ≡ true }
+    requires spells_nothing { spell_nothing (take 3 (lines_of bytes.now)) ≡ true }
     requires rest { IsAfterHead bytes.now after_head.now }
     ensures accepted { OnOk result (fault_after form [] (lines_of bytes.now) ≡ None) }
     ensures spelt { IfOk result (λ builder. items_held builder
@@ -344,7 +345,7 @@ fn read_lines<C: Payload, B: Listing>(
     Ok(builder)
 }
 
-/// The dictionary of an accepted text: what its head lines say, and what all its lines spell.
+// Returns the dictionary of an accepted text, given its head and its items.
 fn dictionary_of<C: Payload, B: Listing>(
     alloc: Global,
     form: Form,
@@ -365,7 +366,7 @@ fn dictionary_of<C: Payload, B: Listing>(
     Ok(parts::dictionary_of(head.language, head.left, head.right, patterns, exceptions))
 }
 
-/// The form of a text of that kind: its first line says the version.
+// Returns the form of a text of that kind, whose first line names the version.
 fn form_of(kind: Kind, bytes: &[u8]) -> Form
     ensures { result ≡ form_of kind (lines_of bytes.now) }
 {
@@ -376,9 +377,10 @@ fn form_of(kind: Kind, bytes: &[u8]) -> Form
     Form { kind, version }
 }
 
-/// Reads a dictionary from its text of a kind, in either version, looking at each line once. A refusal names the
-/// first line that fails a test, and the first test that it fails; one for want of memory says nothing of the text.
-/// The kind is to be that of the dictionary that is made: of another one changes are refused, or dropped.
+/// Reads a dictionary of a kind from its text, in either version, in one pass. A refusal names the first line that
+/// fails a test, with that test, or says that memory ran out.
+///
+/// The kind must be that of the dictionary type: with the other kind changes are refused, or dropped.
 pub fn read_text<C: Payload, B: Listing>(
     alloc: Global,
     kind: Kind,
@@ -398,7 +400,7 @@ pub fn read_text<C: Payload, B: Listing>(
     Ok(dictionary_of(alloc, form, bytes, head, builder)?)
 }
 
-/// Reads a standard dictionary.
+/// Reads a standard dictionary from its text. Refused for the first bad line, or if memory runs out.
 pub fn read_standard(alloc: Global, bytes: &[u8]) -> Result<Standard, Refusal>
     ensures accepted { OnOk result (refusal_of Kind.Standard bytes.now ≡ None) }
     ensures contents { IfOk result (λ d. d ≡ standard_contents bytes.now) }
@@ -407,7 +409,7 @@ pub fn read_standard(alloc: Global, bytes: &[u8]) -> Result<Standard, Refusal>
     read_text(alloc, Kind::Standard, bytes)
 }
 
-/// Reads an extended dictionary.
+/// Reads an extended dictionary from its text. Refused for the first bad line, or if memory runs out.
 pub fn read_extended(alloc: Global, bytes: &[u8]) -> Result<Extended, Refusal>
     ensures accepted { OnOk result (refusal_of Kind.Extended bytes.now ≡ None) }
     ensures contents { IfOk result (λ d. d ≡ extended_contents bytes.now) }

@@ -1,4 +1,4 @@
--- The first entry of the greatest value, and of two the greater.
+-- The first entry of the greatest value, and the greater of two entries.
 use Rattle.std.proofs.Common.{◌≡◌, ℕ, ◌<◌, ◌≤◌, max, Bool, true, false, cond, eqb, ltb, List, [], ◌∷◌, ◌++◌, map, Option, Some, None, refl, sym, ap, ◌∙◌, arith, inl, inr}
 use Rattle.std.specs.Option.{option_map_or}
 use Rattle.std.specs.List.{find}
@@ -77,7 +77,7 @@ winner-append {C} xs ys =
           ∙ ap (λ t. cond t (first_greatest ys) (first_greatest xs)) (sym (le-ltb a b le))
     ]
 
--- what is found has the value that is sought
+-- the entry found has the value sought
 found_value : {C : Type 0} (es : List (Entry C)) (v : ℕ) (e : Entry C) → find (λ x. eqb x.value v) es ≡ Some e → e.value ≡ v
 found_value [] v e is = absurd cc
 found_value {C} (x ∷ es) v e is =
@@ -91,11 +91,11 @@ alone {C} e pos =
     let some : eqb e.value 0 ≡ false = not_equal e.value pos in
     ap (λ b. cond {A = Option (Entry C)} b None (cond (eqb e.value e.value) (Some e) None)) some ∙ ap (λ b. cond {A = Option (Entry C)} b (Some e) None) (eq-eqb e.value e.value refl)
 
--- where the greatest value is 0, there is no first
+-- there is no first greatest entry if the greatest value is 0
 pub first_none : {C : Type 0} (es : List (Entry C)) → greatest_value es ≡ 0 → first_greatest es ≡ None
 first_none {C} es nil = ap (λ b. cond {A = Option (Entry C)} b None (find (λ e. eqb e.value (greatest_value es)) es)) (eq-eqb (greatest_value es) 0 nil)
 
--- and else there is one
+-- there is one if the greatest value is above 0
 pub first_some : {C : Type 0} (es : List (Entry C)) → 0 < greatest_value es → (e : Entry C) × (first_greatest es ≡ Some e) × (find (λ x. eqb x.value (greatest_value es)) es ≡ Some e) × (e.value ≡ greatest_value es)
 first_some {C} es pos =
     let f = is_found es (greatest_value es) refl pos in

@@ -3,10 +3,11 @@ pub mod FirstGreatest
 pub mod NumberRows
 pub mod OnePass
 pub mod OnePassInvariant
-pub mod WinnersMet
+pub mod BestAfter
 pub mod WinnerVisits
 pub mod NoKeys
 pub mod Longest
 pub mod WinnerPlaces
 pub mod ValuesInOrder
 pub mod ScoredWinners
+pub mod Counting

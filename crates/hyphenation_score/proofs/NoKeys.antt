@@ -1,4 +1,4 @@
--- Where the longest key has no byte there is no key.
+-- There are no keys if the longest key has no byte.
 use Rattle.std.proofs.Common.{◌≡◌, ℕ, List, Option, Some, None, refl, sym, subst, arith}
 use Rattle.std.specs.Prelude.{IsSome}
 use Rattle.std.proofs.lemmas.List.{nil_from_length}

@@ -1,4 +1,4 @@
--- What one pass has met: keys by their ends.
+-- The entries and keys that one pass meets, by the ends of the keys.
 use Rattle.std.proofs.Common.{◌≡◌, ℕ, zero, suc, ◌+◌, ◌-◌, ◌<◌, ◌≤◌, max, ◌==◌, Bool, true, false, cond, List, [], ◌∷◌, ◌++◌, length, take, drop, get_or, filter, Option, Some, None, refl, sym, ap, subst, ◌∙◌, arith, add-zero, zero-add, inl, inr}
 use Rattle.std.specs.Prelude.{slice_range, IsSome, is_some, unwrap_or, count_by}
 use Rattle.std.specs.List.{flat_map, range_with_len, sum_by}
@@ -41,7 +41,7 @@ pub raised_more : {C : Type 0} (p : Entry C → Bool) (es : List (Entry C)) (k :
 raised_more p es k e first now next lt read a b =
     b ∙ ap (λ x. max x (cond (p e) e.value 0)) a ∙ max_assoc first (greatest_value (filter p (take k es))) (cond (p e) e.value 0) ∙ ap (max first) (sym (filtered_more p es k e lt read))
 
--- what is left of a text ends it
+-- a text without its first bytes ends the text
 pub Ends-drop : (t : List ℕ) (k : ℕ) → k ≤ length t → EndsWith t (drop k t)
 Ends-drop t k le =
     let len : length (drop k t) ≡ length t - k = length-drop k t in
@@ -59,7 +59,7 @@ depth_pos tree trie j pos lj =
     let up = trie.closed j pos lj in
     omega (arith, ap length up.3, length-append (node_text tree up.0) (up.1 ∷ []))
 
--- what a node of the path has
+-- the entries of a node on the path
 pub piece_is : {C : Type 0} (tree : Tree (Entry C)) (t : List ℕ) (end p at depth : ℕ) (o : Option (List (Entry C))) → EndsWith t (node_text tree at) → length t ≤ end → depth ≡ length (node_text tree at) → o ≡ entries_of_key tree (node_text tree at)
     → entries_of_end (entries_of_key tree) t end p (length t - length (node_text tree at)) ≡ filter (λ entry. (end - depth) + entry.place == p + 1) (unwrap_or o [])
 piece_is tree t end p at depth o ends le deep is =
@@ -69,7 +69,7 @@ piece_is tree t end p at depth o ends le deep is =
 
 -- ---- keys by their ends
 
--- those of all keys that end there
+-- the entries of all keys that end there
 abbrev pub ending_at : {C : Type 0} → Patterns C → List ℕ → ℕ → ℕ → List (Entry C)
 ending_at keys framed p end = flat_map (λ start. bearers_between keys framed p start end) (range_with_len 0 end)
 
@@ -147,7 +147,7 @@ by_ends keys framed p =
     (greatest_value-within starts 0 n _ (λ s low high. greatest_value-within (λ e. bearers_between keys framed p s e) (s + 1) (n - s) _ (λ e elow ehigh.
     le_trans _ _ _ (le_gv (λ s. bearers_between keys framed p s e) 0 e s (omega arith) (omega arith)) (le_gv ends 1 n e (omega arith) (omega arith)))))
 
--- where there is no key, the root alone stands
+-- without keys the root is the only node
 pub alone_is : {E : Type 0} (tree : Tree E) → EachBeginsKey tree → ((q : List ℕ) → entries_of_key tree q ≡ None) → (j : ℕ) → j < length tree.texts → j ≡ 0
 alone_is {E} tree begins none j lj = elim (cases_eq j 0) [
   | inl is ↦ is
@@ -159,7 +159,7 @@ alone_is {E} tree begins none j lj = elim (cases_eq j 0) [
 
 -- ---- visits
 
--- after a key's node and before the next report no key stands
+-- no key ends between a key's node and the next report
 pub none_next : {E : Type 0} (tree : Tree E) (t : List ℕ) (at next : ℕ) → EndsWith t (node_text tree at) → IsReport tree (drop 1 (node_text tree at)) next
     → (k : ℕ) → length t - length (node_text tree at) < k → k < length t - length (node_text tree next) → entries_of_key tree (drop k t) ≡ None
 none_next tree t at next ends report k low high =
@@ -169,7 +169,7 @@ none_next tree t at next ends report k low high =
     let same : drop m (drop 1 (node_text tree at)) ≡ drop k t = drop-drop m 1 (node_text tree at) ∙ ap (drop (1 + m)) (sym ends.1) ∙ drop-drop (1 + m) d0 t ∙ ap (λ (x : ℕ). drop x t) n in
     ap (entries_of_key tree) (sym same) ∙ report.none m (omega (arith, ends.0, report.ends.0, length-drop 1 (node_text tree at)))
 
--- what is met by one visit more
+-- the entries met after one more visit
 pub visited_more : {C : Type 0} (tree : Tree (Entry C)) (t : List ℕ) (end p at to : ℕ) → EndsWith t (node_text tree at) → length (node_text tree to) < length (node_text tree at)
     → ((k : ℕ) → length t - length (node_text tree at) < k → k < length t - length (node_text tree to) → entries_of_key tree (drop k t) ≡ None)
     → flat_map (λ d. entries_of_end (entries_of_key tree) t end p d) (range_with_len 0 (length t - length (node_text tree to)))
@@ -184,7 +184,7 @@ visited_more tree t end p at to ends less none =
     ap (λ (k : ℕ). flat_map f (range_with_len 0 k)) n ∙ ap (flat_map f) (range-append 0 (d0 + 1) gap) ∙ flat_map-append f (range_with_len 0 (d0 + 1)) (range_with_len (0 + (d0 + 1)) gap)
     ∙ ap (λ (k : ℕ). flat_map f (range_with_len 0 (d0 + 1)) ++ flat_map f (range_with_len k gap)) (omega arith) ∙ ap (λ ys. flat_map f (range_with_len 0 (d0 + 1)) ++ ys) rest ∙ append-nil (flat_map f (range_with_len 0 (d0 + 1)))
 
--- one visit more
+-- the greatest value after one more visit
 pub visit_more : {C : Type 0} (tree : Tree (Entry C)) (t : List ℕ) (end p at to first now next : ℕ) → EndsWith t (node_text tree at) → length (node_text tree to) < length (node_text tree at)
     → ((k : ℕ) → length t - length (node_text tree at) < k → k < length t - length (node_text tree to) → entries_of_key tree (drop k t) ≡ None)
     → now ≡ max first (greatest_value (flat_map (λ d. entries_of_end (entries_of_key tree) t end p d) (range_with_len 0 (length t - length (node_text tree at)))))
@@ -203,7 +203,7 @@ pub visited_first : {C : Type 0} (tree : Tree (Entry C)) (t : List ℕ) (end p t
 visited_first tree t end p to report = flat_map_none (λ d. entries_of_end (entries_of_key tree) t end p d) 0 (length t - length (node_text tree to)) (λ k low high.
     ap (λ o. filter (λ entry. (end - (length t - k)) + entry.place == p + 1) (unwrap_or o [])) (report.none k (omega arith)))
 
--- where there is none before the first, nothing is to be raised
+-- without a first report no value is raised
 pub visit_first : {C : Type 0} (tree : Tree (Entry C)) (t : List ℕ) (end p to first : ℕ) → IsReport tree t to → first ≡ max first (greatest_value (flat_map (λ d. entries_of_end (entries_of_key tree) t end p d) (range_with_len 0 (length t - length (node_text tree to)))))
 visit_first tree t end p to first report = omega (arith, ap greatest_value (visited_first tree t end p to report))
 
@@ -290,7 +290,7 @@ counted_is {C} tree nodes framed end node le longest =
     slice_is framed (e0 + d) end (omega arith) ∙ sym (drop-drop d e0 T) ∙ ap (λ (k : ℕ). drop d (drop k T)) (omega arith) ∙ ap (drop d) longest.ends.1 ∙ ap (λ (k : ℕ). drop k t) (omega arith) in
     ap (λ x. is_some (entries_of_key tree x)) same)
 
--- ---- what is known of the keys in two ways
+-- ---- equal patterns
 
 pub same_keys : {A B : Type 0} (f g : A → B) → ((x : A) → f x ≡ g x) → f ≡ g
 same_keys f g h = λ i x. h x i

@@ -1,4 +1,4 @@
--- What holds while the frame of a word is read.
+-- The invariant of the pass over the frame of a word.
 use Rattle.std.proofs.Common.{◌≡◌, ◌+◌, ◌-◌, ◌*◌, ◌<◌, ◌≤◌, ◌^◌, max, ℕ, List, [], ◌∷◌, ◌++◌, length, map, take, drop, slice_index, refl, ap, sym, subst, ◌∙◌, arith, None, add-one}
 use Rattle.std.specs.List.{range_with_len, flat_map, sum_by}
 use Rattle.std.proofs.Math.Nat.{mul-le-mul_right}
@@ -14,7 +14,7 @@ use Rattle.hyphenation_score.specs.OnePass.{keys_ending, occurrences}
 use Rattle.hyphenation_score.specs.Private.OnePass.{entries_of_ends}
 use Rattle.hyphenation_score.proofs.OnePass.{length-frame, read_more, sum_more, greatest_more, ending_at, ending_is, by_ends, alone_is, counted_is, keys_in_most}
 
--- The first bytes of the frame are read: the node, the values, and what was counted before and is counted now.
+-- The first bytes of the frame are read: the node, the values, and the counts before and now.
 pub record Passed {C : Type 0} (tree : Tree (Entry C)) (word : List ℕ) (at node : ℕ) (vals : List ℕ) (made_first reported_first made reported : ℕ) : Type 0 where
   pub longest : IsLongest tree.texts (take at (frame word)) node
   pub vals_are : (i : ℕ) → i < length vals → slice_index vals i ≡ greatest_value (flat_map (λ end. ending_at (entries_of_key tree) (frame word) (i + 1) end) (range_with_len 1 at))
@@ -32,7 +32,7 @@ module _ {C : Type 0} (tree : Tree (Entry C)) (word : List ℕ) (trie : IsTrie t
   passed_none vals made reported zeros =
       let nil : length (node_text tree 0) ≡ 0 = ap length trie.root in
       record {
-        longest = record { within = trie.some; ends = subst (λ (s : List ℕ). (length s ≤ 0) × (drop (0 - length s) [] ≡ s)) (sym trie.root) (omega arith, refl); most = λ k lk ends. omega (arith, ends.0) };
+        longest = record { within = trie.has_root; ends = subst (λ (s : List ℕ). (length s ≤ 0) × (drop (0 - length s) [] ≡ s)) (sym trie.root) (omega arith, refl); most = λ k lk ends. omega (arith, ends.0) };
         vals_are = zeros;
         most = omega arith;
         alone = λ none. omega arith;
@@ -50,7 +50,7 @@ module _ {C : Type 0} (tree : Tree (Entry C)) (word : List ℕ) (trie : IsTrie t
       let times = mul-le-mul_right {m = at} {n = 9223372036854775810} (length word + 2) (omega arith) in
       (omega (arith, p.most), omega (arith, p.few))
 
-  -- The node after the next byte is that of the longest text that ends what is read then.
+  -- The node after the next byte has the longest text that ends the part of the frame read then.
   pub passed_goes_on : LongestGoesOn (Entry C) → (at from byte : ℕ) (vals : List ℕ) (m0 r0 m r : ℕ) → at < length word + 2 → byte ≡ slice_index (frame word) at → Passed tree word at from vals m0 r0 m r
       → (node : ℕ) → IsLongest tree.texts (node_text tree from ++ byte ∷ []) node → IsLongest tree.texts (take (at + 1) (frame word)) node
   passed_goes_on goes_on at from byte vals m0 r0 m r inside byte_is p node step =
@@ -121,7 +121,7 @@ module _ {C : Type 0} (tree : Tree (Entry C)) (word : List ℕ) (trie : IsTrie t
       subst (λ (k : ℕ). Passed tree word k node [] m0 r0 m' r') two
       (passed_more nodes goes_on begins (length word + 1) from 46 node [] [] m0 r0 m r m' r' (omega arith) last_byte last step refl (λ i lt. absurd (omega arith)) least most alone counted)
 
-  -- All is read.
+  -- The whole frame is read.
   pub passed_values : (node : ℕ) (vals : List ℕ) (m0 r0 m r : ℕ) → length vals ≡ length word - 1 → Passed tree word (length word + 2) node vals m0 r0 m r → vals ≡ values (entries_of_key tree) word
   passed_values node vals m0 r0 m r len p =
       let n : ℕ = length word - 1 in

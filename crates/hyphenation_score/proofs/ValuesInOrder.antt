@@ -34,18 +34,18 @@ map-value_of keys word =
     let same : ◌≡◌ {A = ℕ → ℕ} (λ p. value_of (winner_at keys word p)) (λ p. value_at keys word p) = λ k p. value_of-winner keys word p k in
     map-map value_of (λ p. winner_at keys word p) (places word) ∙ ap (λ (f : ℕ → ℕ). map f (places word)) same
 
--- and those of scores, without their changes
+-- the values are those of the scores
 pub values-of-scores : {C : Type 0} (change_of : C → Option Change) (keys : Patterns C) (word : List ℕ) (pairs : List (ℕ × Option (Bor Change))) → map scored_pair pairs ≡ scores change_of keys word → map (λ pair. pair.0) pairs ≡ values keys word
 values-of-scores change_of keys word pairs e =
     sym (map-map (λ s. s.value) scored_pair pairs) ∙ ap (map (λ (s : Scored). s.value)) e ∙ map-map (λ s. s.value) (score_of_winner change_of) (winners keys word) ∙ map-value_of keys word
 
--- patterns that know the same of each text have the same winners
+-- equal patterns have equal winners
 pub winners_same : {C : Type 0} (keys other : Patterns C) (word : List ℕ) → ((text : List ℕ) → keys text ≡ other text) → winners keys word ≡ winners other word
 winners_same {C} keys other word same =
     let path : ◌≡◌ {A = Patterns C} keys other = λ k text. same text k in
     ap (λ (ks : Patterns C). winners ks word) path
 
--- a result that is described by an equal list
+-- a result described by an equal list
 pub ok_same : {X E L : Type 0} (r : Result X E) (f : X → L) (a b : L) → a ≡ b → IfOk r (λ v. f v ≡ a) → IfOk r (λ v. f v ≡ b)
 ok_same r f a b e h = subst (λ x. IfOk r (λ v. f v ≡ x)) e h
 

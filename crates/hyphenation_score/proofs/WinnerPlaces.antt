@@ -1,4 +1,4 @@
--- Where an entry that wins stands.
+-- The occurrence of a winner.
 use Rattle.std.proofs.Common.{◌≡◌, ℕ, zero, suc, ◌+◌, ◌-◌, ◌<◌, ◌≤◌, ◌==◌, max, Bool, true, false, cond, List, [], ◌∷◌, length, get_or, filter, map, Option, Some, None, refl, sym, ap, subst, ◌∙◌, arith, ◌⊎◌, inl, inr}
 use Rattle.std.specs.Prelude.{slice_range, unwrap_or}
 use Rattle.std.specs.List.{find, flat_map, range_with_len, IsAmong}
@@ -27,7 +27,7 @@ kept_value {C} test (x ∷ es) (suc i) e lt is passes =
       | false ↦ later
     ]
 
--- what is found among those that pass is an element, and passes
+-- an element found among those that pass is one of them, and passes
 found_kept : {C : Type 0} (test asked : Entry C → Bool) (es : List (Entry C)) (e : Entry C) → find asked (filter test es) ≡ Some e → (IsAmong es e) × (test e ≡ true)
 found_kept test asked [] e is = absurd cc
 found_kept {C} test asked (x ∷ es) e is =
@@ -93,7 +93,7 @@ row_first {C} f a (suc n) e is =
 
 -- ---- entries that bear
 
--- what the key has that stands there
+-- the entries of the key that occurs there
 pub bearing_is : {C : Type 0} (keys : Patterns C) (framed : List ℕ) (p start end : ℕ) (entries : List (Entry C)) → keys (slice_range framed start end) ≡ Some entries → bearers_between keys framed p start end ≡ filter (λ entry. start + entry.place == p + 1) entries
 bearing_is {C} keys framed p start end entries is = ap (λ (o : Option (List (Entry C))). filter (λ entry. start + entry.place == p + 1) (unwrap_or o [])) is
 
@@ -106,13 +106,13 @@ bears_value keys word p start end entry bears =
 
 pub bears_from : {C : Type 0} (keys : Patterns C) (word : List ℕ) (p start end : ℕ) (entry : Entry C) → Bears keys word p start end entry → entry.value ≤ greatest_value (bearers_from keys (frame word) p start)
 bears_from keys word p start end entry bears =
-    omega (arith, bears_value keys word p start end entry bears, row_value (λ e. bearers_between keys (frame word) p start e) (start + 1) (length (frame word) - start) end (omega (arith, bears.some)) (omega (arith, bears.some, bears.within)))
+    omega (arith, bears_value keys word p start end entry bears, row_value (λ e. bearers_between keys (frame word) p start e) (start + 1) (length (frame word) - start) end (omega (arith, bears.not_empty)) (omega (arith, bears.not_empty, bears.within)))
 
 pub bears_at : {C : Type 0} (keys : Patterns C) (word : List ℕ) (p start end : ℕ) (entry : Entry C) → Bears keys word p start end entry → entry.value ≤ value_at keys word p
 bears_at keys word p start end entry bears =
-    omega (arith, bears_from keys word p start end entry bears, row_value (λ s. bearers_from keys (frame word) p s) 0 (length (frame word)) start (omega arith) (omega (arith, bears.some, bears.within)))
+    omega (arith, bears_from keys word p start end entry bears, row_value (λ s. bearers_from keys (frame word) p s) 0 (length (frame word)) start (omega arith) (omega (arith, bears.not_empty, bears.within)))
 
--- what is first has a value above 0
+-- the first greatest entry has a value above 0
 positive : {C : Type 0} (es : List (Entry C)) (e : Entry C) → first_greatest es ≡ Some e → 0 < greatest_value es
 positive es e is = elim (cases_eq (greatest_value es) 0) [
   | inl nil ↦ let both : None ≡ Some e = sym (first_none es nil) ∙ is in absurd cc
@@ -130,7 +130,7 @@ first_bears {C} keys word p start end entry some within is =
       | None ↦ λ e h. absurd cc
       | Some entries ↦ λ e h.
           let kept = found_kept (λ e. start + e.place == p + 1) (λ x. x.value == greatest_value (bearers_between keys (frame word) p start end)) entries entry h in
-          record { some = some; within = within; entries = entries; key = e; among = kept.0; place = eqb-true (start + entry.place) (p + 1) kept.1 }
+          record { not_empty = some; within = within; entries = entries; key = e; among = kept.0; place = eqb-true (start + entry.place) (p + 1) kept.1 }
     ] refl found
 
 -- the winner wins
@@ -152,7 +152,7 @@ winner_wins keys word p entry is =
             | inr apart ↦ inl (omega arith)
             | inl at ↦ elim (cases_lt end e.0) [
               | inr ge ↦ inr (at, ge)
-              | inl shorter ↦ absurd (omega (arith, ap (λ (x : ℕ). greatest_value (bearers_between keys (frame word) p x end)) at, bears_value keys word p start end other bears, bears.some, e.1.less end (omega (arith, bears.some)) shorter))
+              | inl shorter ↦ absurd (omega (arith, ap (λ (x : ℕ). greatest_value (bearers_between keys (frame word) p x end)) at, bears_value keys word p start end other bears, bears.not_empty, e.1.less end (omega (arith, bears.not_empty)) shorter))
             ]
           ]
         ];
@@ -169,11 +169,11 @@ value_borne keys word p = elim (cases_eq (value_at keys word p) 0) [
       inr (w.0, w.1, f.0, w.2.bears, w.3)
 ]
 
--- where there is no winner, the value is 0
+-- without a winner the value is 0
 pub missing_value : {C : Type 0} (keys : Patterns C) (word : List ℕ) (p : ℕ) → winner_at keys word p ≡ None → value_at keys word p ≡ 0
 missing_value keys word p is = sym (value_of-first (bearers keys (frame word) p)) ∙ ap value_of is
 
--- two that come before each other are one
+-- two occurrences that come before each other are equal
 both_before : (start end other_start other_end : ℕ) → Before start end other_start other_end → Before other_start other_end start end → (other_start ≡ start) × (other_end ≡ end)
 both_before start end other_start other_end one two = elim one [
   | inl less ↦ elim two [ inl more ↦ absurd (omega arith) | inr at ↦ absurd (omega (arith, at.0)) ]

@@ -1,38 +1,38 @@
--- Which keys stand in a word, which values they give to its places, and which entry wins each place.
+-- The values of a word's places, and the entries that win them.
 -- Sources: F. M. Liang, Word Hy-phen-a-tion by Com-put-er (1983), for keys whose values compete;
 -- L. Németh, Automatic non-standard hyphenation in OpenOffice.org, TUGboat 27:1 (2006), for values that carry changes.
 use Rattle.std.specs.Prelude.{ℕ, ◌+◌, ◌-◌, ◌==◌, if◌then◌else◌, List, [], ◌∷◌, ◌++◌, length, map, filter, Option, Some, None, unwrap_or, option_copied, slice_range}
 use Rattle.std.specs.List.{find, flat_map, range_with_len}
 use Rattle.std.specs.Borrow.{Bor}
 use Rattle.std.specs.Option.{option_and_then}
+use Rattle.hyphenation_breaks.specs.Ascii.{dot}
 use Rattle.hyphenation_breaks.specs.Break.{Change}
 use Rattle.hyphenation_breaks.specs.Dictionary.{Patterns, greatest}
 use Rattle.hyphenation_breaks.specs.declared.entry.Entry.{Entry}
 
--- A change or none, carried as it is: so it is in an extended dictionary.
+-- The payload of an extended dictionary is the change itself, or none.
 abbrev pub own_change : Option Change → Option Change
 own_change change = change
 
--- The frame of a word: the word between two dots, so that a dot of a key may stand at the word's edge.
+-- The frame of a word: the word between two dots. So a dot of a key can match an end of the word.
 abbrev pub frame : List ℕ → List ℕ
-frame word = 46 ∷ word ++ 46 ∷ []
+frame word = dot ∷ word ++ dot ∷ []
 
--- The places of a word: where it may be parted between two of its bytes. Place p of the word is place p + 1 of its frame.
+-- The places of a word, each between two of its bytes. Place p of the word is place p + 1 of its frame.
 abbrev pub places : List ℕ → List ℕ
 places word = range_with_len 1 (length word - 1)
 
--- The entries that bear on the word's place p, of the key that stands in the frame from start to end; none, if no key
--- stands there.
+-- The entries that bear on the word's place p, of the key that occurs from start to end in the frame; none without one.
 abbrev pub bearers_between : {C : Type 0} → Patterns C → List ℕ → ℕ → ℕ → ℕ → List (Entry C)
 bearers_between keys framed p start end =
     filter (λ entry. start + entry.place == p + 1) (unwrap_or (keys (slice_range framed start end)) [])
 
--- Those of the keys that stand from start on, the shorter key first.
+-- The entries that bear on the word's place p, of all keys that occur from start on; shorter keys come first.
 abbrev pub bearers_from : {C : Type 0} → Patterns C → List ℕ → ℕ → ℕ → List (Entry C)
 bearers_from keys framed p start =
     flat_map (λ end. bearers_between keys framed p start end) (range_with_len (start + 1) (length framed - start))
 
--- Those of all keys that stand in the frame, in the order of their starts.
+-- The entries that bear on the word's place p, of all keys that occur in the frame, in the order of their starts.
 abbrev pub bearers : {C : Type 0} → Patterns C → List ℕ → ℕ → List (Entry C)
 bearers keys framed p = flat_map (λ start. bearers_from keys framed p start) (range_with_len 0 (length framed))
 
@@ -40,7 +40,7 @@ bearers keys framed p = flat_map (λ start. bearers_from keys framed p start) (r
 abbrev pub greatest_value : {C : Type 0} → List (Entry C) → ℕ
 greatest_value entries = greatest (map (λ entry. entry.value) entries)
 
--- The first entry that has the greatest value; none where that is 0.
+-- The first entry that has the greatest value; none if that value is 0.
 abbrev pub first_greatest : {C : Type 0} → List (Entry C) → Option (Entry C)
 first_greatest entries =
     if greatest_value entries == 0 then None else find (λ entry. entry.value == greatest_value entries) entries
@@ -49,8 +49,8 @@ first_greatest entries =
 abbrev pub value_at : {C : Type 0} → Patterns C → List ℕ → ℕ → ℕ
 value_at keys word p = greatest_value (bearers keys (frame word) p)
 
--- The entry that wins the word's place p: of those with its value the one whose key starts first, and then is shortest;
--- none where that value is 0.
+-- The winner of the word's place p: of the entries with its value, the one whose key starts first and then is shortest.
+-- None if that value is 0.
 abbrev pub winner_at : {C : Type 0} → Patterns C → List ℕ → ℕ → Option (Entry C)
 winner_at keys word p = first_greatest (bearers keys (frame word) p)
 
@@ -58,7 +58,7 @@ winner_at keys word p = first_greatest (bearers keys (frame word) p)
 abbrev pub values : {C : Type 0} → Patterns C → List ℕ → List ℕ
 values keys word = map (λ p. value_at keys word p) (places word)
 
--- The entries that win a word's places, from place 1 on.
+-- The winners of a word's places, from place 1 on.
 abbrev pub winners : {C : Type 0} → Patterns C → List ℕ → List (Option (Entry C))
 winners keys word = map (λ p. winner_at keys word p) (places word)
 
@@ -67,24 +67,24 @@ abbrev pub value_of : {C : Type 0} → Option (Entry C) → ℕ
 value_of None = 0
 value_of (Some entry) = entry.value
 
--- A place's value with the change that its winner carries.
+-- The score of a place: its value with the change of its winner.
 pub record Scored : Type 0 where
   pub value : ℕ
   pub change : Option Change
 
--- A value without a change, as each is in a standard dictionary.
+-- The score of a place in a standard dictionary: a value without a change.
 abbrev pub plain_value : ℕ → Scored
 plain_value value = record { value = value; change = None }
 
--- A place's value with the change that its winner carries, where it is told which change an entry carries.
+-- The score of a place with this winner, given the change that a payload carries.
 abbrev pub score_of_winner : {C : Type 0} → (C → Option Change) → Option (Entry C) → Scored
 score_of_winner change_of winner =
     record { value = value_of winner; change = option_and_then (λ entry. change_of entry.change) winner }
 
--- The same of a word's places, from place 1 on.
+-- The scores of a word's places, from place 1 on.
 abbrev pub scores : {C : Type 0} → (C → Option Change) → Patterns C → List ℕ → List Scored
 scores change_of keys word = map (score_of_winner change_of) (winners keys word)
 
--- A value with a change that is lent, or none.
+-- A value with a borrowed change or none, as a score.
 abbrev pub scored_pair : ℕ × Option (Bor Change) → Scored
 scored_pair pair = record { value = pair.0; change = option_copied pair.1 }

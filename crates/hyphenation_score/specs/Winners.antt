@@ -1,25 +1,25 @@
--- What bears on a place and wins it, in terms of single keys; and the winner as one pass finds it: keys by their ends.
+-- Entries that bear on a place or win it, in terms of single keys, whatever the order in which the keys are met.
 use Rattle.std.specs.Prelude.{◌≡◌, ℕ, ◌<◌, ◌≤◌, ◌⊎◌, List, length, Option, Some, None, slice_range, ◌+◌}
 use Rattle.hyphenation_breaks.specs.Dictionary.{Patterns}
 use Rattle.hyphenation_breaks.specs.declared.entry.Entry.{Entry}
 use Rattle.hyphenation_score.specs.Scoring.{bearers_between, first_greatest, greatest_value, frame}
 use Rattle.std.specs.List.{IsAmong}
 
--- The key that stands in the word's frame from start to end has this entry, and it bears on the word's place p.
+-- The key that occurs in the word's frame from start to end has this entry, and the entry bears on the word's place p.
 pub record Bears {C : Type 0} (keys : Patterns C) (word : List ℕ) (p start end : ℕ) (entry : Entry C) : Type 0 where
-  pub some : start < end
+  pub not_empty : start < end
   pub within : end ≤ length (frame word)
   pub entries : List (Entry C)
   pub key : keys (slice_range (frame word) start end) ≡ Some entries
   pub among : IsAmong entries entry
   pub place : start + entry.place ≡ p + 1
 
--- The start is less, or the same and the end is no greater.
+-- One occurrence comes before another: its start is less, or equal and its end is no greater.
 abbrev pub Before : ℕ → ℕ → ℕ → ℕ → Type 0
 Before start end other_start other_end = (start < other_start) ⊎ ((start ≡ other_start) × (end ≤ other_end))
 
--- The entry bears on the place, no entry that does has a greater value, and each that has the same starts no earlier, or
--- at the same byte and ends no earlier.
+-- The entry wins the place. It bears on the place, no entry that does has a greater value, and it comes before all
+-- others with its value.
 pub record Wins {C : Type 0} (keys : Patterns C) (word : List ℕ) (p start end : ℕ) (entry : Entry C) : Type 0 where
   pub bears : Bears keys word p start end entry
   pub most : (other_start other_end : ℕ) (other : Entry C) → Bears keys word p other_start other_end other
@@ -31,7 +31,8 @@ pub record Wins {C : Type 0} (keys : Patterns C) (word : List ℕ) (p start end 
 abbrev pub IsPair : List ℕ → ℕ → ℕ → Type 0
 IsPair framed start end = (start < end) × (end ≤ length framed)
 
--- Of the pairs in question this one gives the place the greatest value, by this entry, and comes before all others that give it.
+-- One of the pairs in question gives the place the greatest value, by this entry, and comes before all others that give
+-- that value.
 pub record IsBest {C : Type 0} (keys : Patterns C) (framed : List ℕ) (p : ℕ) (asked : ℕ → ℕ → Type 0) (start end : ℕ)
     (entry : Entry C) : Type 0 where
   pub pair : asked start end
@@ -40,12 +41,12 @@ pub record IsBest {C : Type 0} (keys : Patterns C) (framed : List ℕ) (p : ℕ)
   pub before : (s e : ℕ) → asked s e → greatest_value (bearers_between keys framed p s e) ≡ entry.value
       → Before start end s e
 
--- The entry that is best so far, if any, and where its key starts; 0 without one.
-abbrev pub Best : Type 0 → Type 0
-Best C = Option (Entry C) × ℕ
+-- The best so far: an entry, if any, with the start of its key; 0 without an entry.
+abbrev pub BestSoFar : Type 0 → Type 0
+BestSoFar C = Option (Entry C) × ℕ
 
--- What is best of the pairs in question.
-abbrev pub Holds : {C : Type 0} → Patterns C → List ℕ → ℕ → (ℕ → ℕ → Type 0) → Best C → Type 0
-Holds {C} keys framed p asked now =
+-- The best so far is the best of the pairs in question.
+abbrev pub IsBestOf : {C : Type 0} → Patterns C → List ℕ → ℕ → (ℕ → ℕ → Type 0) → BestSoFar C → Type 0
+IsBestOf {C} keys framed p asked now =
     ((now.0 ≡ None) × (now.1 ≡ 0) × ((s e : ℕ) → asked s e → greatest_value (bearers_between keys framed p s e) ≡ 0))
     ⊎ ((entry : Entry C) × (end : ℕ) × (now.0 ≡ Some entry) × IsBest keys framed p asked now.1 end entry)

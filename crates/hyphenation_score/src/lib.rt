@@ -1,8 +1,7 @@
 //! The values of a word's places, and the entries that give them.
 //!
-//! The keys of a dictionary that stand in a word compete at its places. Here is the word `firkin`
-//! with a dot at each end, its frame. Below are the patterns that stand in the frame, and then the
-//! word with the greatest value at each of its places:
+//! The keys of a dictionary that occur in a word compete at its places. Here is the word `firkin` with a dot at each end,
+//! its frame. Below it are the patterns that occur in the frame, and then the word with the greatest value at each place:
 //!
 //! ```text
 //!     . f i r k i n .
@@ -15,19 +14,19 @@
 //!       f0i2r5k2i0n
 //! ```
 //!
-//! An odd value allows a break, so `firkin` breaks before its `k`. Of the entries that give a place
-//! its value the winner is the one whose key starts first, and of those that start there the one
-//! whose key is shortest.
+//! An odd value allows a break, so `firkin` breaks before its `k`. The winner of a place is one of the entries that
+//! give its value. Its key starts first, and is the shortest of those with that start.
 //!
-//! A place is the number of the word's bytes before it: 1 up to the word's length less 1.
-//! [`Score`] gives the values, and [`winners`] the entries that won. Both search the frame in one pass,
-//! which meets each key where it ends. Users call the crate `hyphenation`, which exports this one as its `score`.
+//! A place is the number of the word's bytes before it, from 1 to the word's length less 1. [`Score`] returns the values,
+//! and [`winners`] the entries that win. Both search the frame in one pass, which meets each key where it ends. Users call
+//! the crate `hyphenation`, which exports this one as its `score`.
 #![tactic(auto)]
 
-ghost use Rattle.std.specs.Prelude.{◌≡◌, ◌↔◌, ◌+◌, ◌-◌, ◌*◌, ◌%◌, ◌≤◌, ◌^◌, ◌<◌, ℕ, List, None, length, map, option_copied, IfOk, OnOk, IsTrue};
+ghost use Rattle.std.specs.Prelude.{◌≡◌, ◌↔◌, ◌+◌, ◌-◌, ◌*◌, ◌%◌, ◌≤◌, ◌^◌, ◌<◌, ℕ, None, length, map, option_copied, IfOk, IsOk, IsTrue};
 ghost use Rattle.std.specs.List.{slice_index_or};
 ghost use Rattle.hyphenation_breaks.specs.Dictionary.{entries_of_keys, longest_key};
 ghost use Rattle.hyphenation_trie.specs.Trie.{entries_of_key, EachBeginsKey};
+ghost use Rattle.hyphenation_score.specs.Counting.{CountsBy, CountsOf, CountsWithin};
 ghost use Rattle.hyphenation_score.specs.OnePass.{occurrences};
 ghost use Rattle.hyphenation_score.specs.Scoring.{own_change, score_of_winner, scores, scored_pair, frame, values, plain_value};
 
@@ -47,37 +46,48 @@ use hyphenation_trie::Automaton;
 pub use hyphenation_trie::LookUps;
 use std::alloc::{AllocError, Global};
 
-/// Scoring the places of words by the patterns of a dictionary.
+/// A dictionary that scores the places of words by its patterns.
 ///
-/// A place of a word is a number of bytes before it: 1 up to the word's length less 1.
+/// A place is the number of the word's bytes before it, from 1 to the word's length less 1.
 pub trait Score<'d> {
     ghost use Rattle.std.specs.Prelude.{List, ℕ};
     ghost use Rattle.hyphenation_score.specs.Scoring.{Scored};
 
-    /// What a place has: its value, and in an extended dictionary the change of its winner.
+    /// The score of a place: its value, and in an extended dictionary also the change of its winner.
     type Value: Drop;
 
-    /// The value and the change.
+    /// The value and the change of a score.
     ghost meaning: { Self.Value → Scored };
 
-    /// What a word's places have, from place 1 on.
+    /// The scores of a word's places, from place 1 on.
     ghost scores: { Self → List ℕ → List Scored };
 
-    /// The number of bytes of the longest key; 0 where there is none.
+    /// The number of bytes of the longest key; 0 without keys.
     ghost longest: { Self → ℕ };
 
     /// The number of occurrences of keys in a word's frame.
     ghost occurring: { Self → List ℕ → ℕ };
 
-    /// What the places of a word have, from place 1 on. The only error is memory.
+    /// Returns the scores of the places of a word, from place 1 on. The only error is out of memory.
+    ///
+    /// ```text
+    /// dictionary.score(alloc, "firkin")?    // 0, 2, 5, 2, 0: an odd value allows a break
+    /// ```
     fn score(&'d self, alloc: Global, word: &str) -> Result<Vec<Self::Value>, AllocError>
         ensures places { IfOk result (λ v. length v.items ≡ length word.now - 1) }
         ensures scores { IfOk result (λ v. map meaning v.items ≡ scores self.now word.now) };
 
-    /// The same, and each look-up of a byte among the children of a node is counted.
+    /// Returns the scores of the places of a word, from place 1 on, and counts what the search does.
     ///
-    /// Each key that stands in the word's frame is reported where it stands. The error is memory, and then the look-ups
-    /// made and the keys reported so far are counted.
+    /// It counts each look-up of a byte among the children of a node. It counts one report for each occurrence of a key
+    /// in the word's frame. The only error is out of memory; the counts then have what was done before it.
+    ///
+    /// ```text
+    /// let mut count = LookUps::new();
+    /// dictionary.score_counted(alloc, "firkin", &mut count)?;
+    /// count.made()        // from 8 to 16: the frame has 8 bytes
+    /// count.reported()    // 6: the patterns drawn above
+    /// ```
     fn score_counted(
         &'d self,
         alloc: Global,
@@ -88,15 +98,15 @@ pub trait Score<'d> {
         requires reported { count.old.reported ≤ 2 ^ 64 }
         ensures places { IfOk result (λ v. length v.items ≡ length word.now - 1) }
         ensures scores { IfOk result (λ v. map meaning v.items ≡ scores self.now word.now) }
-        ensures most { count.new.made ≤ count.old.made + (length word.now + 2) * (longest self.now + 1) }
-        ensures linear { count.new.made ≤ count.old.made + 2 * (length word.now + 2) }
-        ensures least { OnOk result (count.old.made + (length word.now + 2) ≤ count.new.made) }
-        ensures kept { count.old.made ≤ count.new.made }
-        ensures counted { count.old.reported ≤ count.new.reported }
-        ensures reported { OnOk result (count.new.reported ≡ count.old.reported + occurring self.now word.now) }
-        ensures visited { count.new.reported ≤ count.old.reported + occurring self.now word.now };
+        ensures counts { CountsWithin (length word.now) (longest self.now) (occurring self.now word.now) count.old count.new
+            (IsOk result) };
 
-    /// Whether such a value allows a break: whether it is odd.
+    /// Tests whether a score allows a break: its value is odd.
+    ///
+    /// ```text
+    /// Standard::denotes_opportunity(5)    // true
+    /// Standard::denotes_opportunity(2)    // false
+    /// ```
     fn denotes_opportunity(value: Self::Value) -> bool
         ensures { IsTrue result ↔ (meaning value).value % 2 ≡ 1 };
 }
@@ -139,15 +149,7 @@ impl<'d> Score<'d> for Standard {
         ensures scores { IfOk result (λ v.
             map plain_value v.items ≡ map plain_value (values (entries_of_keys self.now) word.now)) }
         ensures values { IfOk result (λ v. v.items ≡ values (entries_of_keys self.now) word.now) }
-        ensures most { count.new.made ≤ count.old.made + (length word.now + 2) * (longest_key self.now + 1) }
-        ensures linear { count.new.made ≤ count.old.made + 2 * (length word.now + 2) }
-        ensures least { OnOk result (count.old.made + (length word.now + 2) ≤ count.new.made) }
-        ensures kept { count.old.made ≤ count.new.made }
-        ensures counted { count.old.reported ≤ count.new.reported }
-        ensures reported { OnOk result (count.new.reported ≡ count.old.reported + occurrences (entries_of_keys self.now)
-            (frame word.now)) }
-        ensures visited { count.new.reported ≤ count.old.reported
-            + occurrences (entries_of_keys self.now) (frame word.now) }
+        ensures counts { CountsOf self.now word.now count.old count.new (IsOk result) }
     {
         values(alloc, self, word, count)
     }
@@ -159,7 +161,7 @@ impl<'d> Score<'d> for Standard {
     }
 }
 
-/// The value of a place with the change that its winner carries.
+// Returns the score of a winner: its value with the change that it carries, or 0 without a winner.
 fn scored<'d>(winner: Option<&'d Entry<Option<Subregion>>>) -> (u8, Option<&'d Subregion>)
     ensures { scored_pair result ≡ score_of_winner own_change (option_copied winner.entry) }
 {
@@ -169,7 +171,7 @@ fn scored<'d>(winner: Option<&'d Entry<Option<Subregion>>>) -> (u8, Option<&'d S
     }
 }
 
-/// The values that winners give, with the changes that they carry.
+// Returns the scores of winners. The only error is out of memory.
 fn scored_all<'d>(
     alloc: Global,
     winners: &[Option<&'d Entry<Option<Subregion>>>],
@@ -184,7 +186,8 @@ fn scored_all<'d>(
     Ok(all)
 }
 
-/// The values of the places of a word, with the changes of their winners, found in a list of no entries.
+// Returns the scores of the places of a word. `bests` must have one `None` for each place, and is filled with the winners.
+// The only error is out of memory.
 #[inline(always)]
 fn scores_from<'d>(
     alloc: Global,
@@ -200,22 +203,13 @@ fn scores_from<'d>(
     requires none { (i : ℕ) → i < length bests.old → slice_index_or bests.old i None ≡ None }
     ensures scores { IfOk result (λ v. map scored_pair v.items
         ≡ scores own_change (entries_of_key automaton.now) word.now) }
-    ensures linear { count.new.made ≤ count.old.made + 2 * (length word.now + 2) }
-    ensures alone { ((q : List ℕ) → entries_of_key automaton.now q ≡ None)
-        → count.new.made ≤ count.old.made + (length word.now + 2) }
-    ensures least { OnOk result (count.old.made + (length word.now + 2) ≤ count.new.made) }
-    ensures kept { count.old.made ≤ count.new.made }
-    ensures counted { count.old.reported ≤ count.new.reported }
-    ensures reported { OnOk result (count.new.reported ≡ count.old.reported + occurrences (entries_of_key automaton.now)
-        (frame word.now)) }
-    ensures visited { count.new.reported ≤ count.old.reported
-        + occurrences (entries_of_key automaton.now) (frame word.now) }
+    ensures counts { CountsBy (entries_of_key automaton.now) word.now count.old count.new (IsOk result) }
 {
     compete_all(automaton, word, bests, count);
     scored_all(alloc, bests)
 }
 
-/// The values of the places of a word, with the changes of their winners, by the automaton of the keys.
+// Returns the scores of the places of a word, by the automaton of the keys. The only error is out of memory.
 #[inline(always)]
 fn scores_in<'d>(
     alloc: Global,
@@ -228,20 +222,11 @@ fn scores_in<'d>(
     requires reported { count.old.reported ≤ 2 ^ 64 }
     ensures scores { IfOk result (λ v. map scored_pair v.items
         ≡ scores own_change (entries_of_key automaton.now) word.now) }
-    ensures linear { count.new.made ≤ count.old.made + 2 * (length word.now + 2) }
-    ensures alone { ((q : List ℕ) → entries_of_key automaton.now q ≡ None)
-        → count.new.made ≤ count.old.made + (length word.now + 2) }
-    ensures least { OnOk result (count.old.made + (length word.now + 2) ≤ count.new.made) }
-    ensures kept { count.old.made ≤ count.new.made }
-    ensures counted { count.old.reported ≤ count.new.reported }
-    ensures reported { OnOk result (count.new.reported ≡ count.old.reported + occurrences (entries_of_key automaton.now)
-        (frame word.now)) }
-    ensures visited { count.new.reported ≤ count.old.reported
-        + occurrences (entries_of_key automaton.now) (frame word.now) }
+    ensures counts { CountsBy (entries_of_key automaton.now) word.now count.old count.new (IsOk result) }
 {
     let places = word.len().saturating_sub(1);
     if places <= 32 {
-        // The winners of most words take no memory.
+        // The winners of most words need no allocation.
         let mut bests: [Option<&'d Entry<Option<Subregion>>>; 32] = [None; 32];
         return scores_from(alloc, automaton, word, &mut bests[..places], count);
     }
@@ -249,9 +234,7 @@ fn scores_in<'d>(
     scores_from(alloc, automaton, word, &mut bests, count)
 }
 
-/// The values of the places of a word, with the changes of their winners, from place 1 on.
-///
-/// The look-ups and the reports are counted, and the only error is memory.
+// Returns the scores of the places of a word, from place 1 on. The only error is out of memory.
 #[inline(always)]
 fn scores<'d>(
     alloc: Global,
@@ -264,16 +247,7 @@ fn scores<'d>(
     ensures places { IfOk result (λ v. length v.items ≡ length word.now - 1) }
     ensures scores { IfOk result (λ v. map scored_pair v.items
         ≡ scores own_change (entries_of_keys dictionary.now) word.now) }
-    ensures most { count.new.made ≤ count.old.made + (length word.now + 2) * (longest_key dictionary.now + 1) }
-    ensures linear { count.new.made ≤ count.old.made + 2 * (length word.now + 2) }
-    ensures least { OnOk result (count.old.made + (length word.now + 2) ≤ count.new.made) }
-    ensures kept { count.old.made ≤ count.new.made }
-    ensures counted { count.old.reported ≤ count.new.reported }
-    ensures reported { OnOk result (count.new.reported ≡ count.old.reported
-        + occurrences (entries_of_keys dictionary.now)
-        (frame word.now)) }
-    ensures visited { count.new.reported ≤ count.old.reported
-        + occurrences (entries_of_keys dictionary.now) (frame word.now) }
+    ensures counts { CountsOf dictionary.now word.now count.old count.new (IsOk result) }
 {
     dictionary.invariant();
     scores_in(alloc, automaton_of(dictionary), word.as_bytes(), count)

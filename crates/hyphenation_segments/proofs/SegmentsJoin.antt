@@ -22,7 +22,7 @@ pub neighbours : (text : List ℕ) (last : Break) (breaks : List Break) (number 
     ≡ Some (segment_between text (break_number (last ∷ (breaks ++ plain_break (length text) ∷ [])) number) (break_number (last ∷ (breaks ++ plain_break (length text) ∷ [])) (number + 1)))
 neighbours text last breaks number h = rw (add-one number) (step text last breaks number h)
 
--- Between plain breaks stands the text alone.
+-- The segment between plain breaks is a slice of the text.
 plain_segment : (text : List ℕ) (a b : ℕ) → segment_between text (plain_break a) (plain_break b) ≡ slice_range text a b
 plain_segment text a b = rw (add-zero a, sub-zero b, append-nil (take (b - a) (drop a text))) refl
 

@@ -1,42 +1,44 @@
 //! Iterators over the segments of a word, with a mark after each but the last or without marks.
 //!
-//! A word's breaks come one after another (`Breaks`); `Segments` takes them, and gives the text between each two of
-//! them, and `SegmentsExt` does so where breaks may change it; `Hyphenating` takes such texts (`Texts`), and gives each
-//! with its mark. [`push_marked`] writes them all after a text at once.
+//! [`Segments`] takes the breaks of a word one by one (from [`Breaks`]) and returns the text between each two.
+//! [`SegmentsExt`] does so for breaks that may change letters. [`Hyphenating`] takes such texts (from [`Texts`]) and
+//! adds marks. [`push_marked`] appends all marked segments to a text at once.
 
 ghost use Rattle.std.specs.Prelude.{◌≡◌, ℕ, List, Option, Some, None, length, MatchResult};
 ghost use Rattle.hyphenation_breaks.specs.Break.{Break};
 ghost use Rattle.hyphenation_segments.specs.Remaining.{TakesFirst, TakesFirstOrRefuses};
 
-mod changed;
-mod joined;
+mod extended;
 pub mod laws;
 mod marks;
 mod plain;
+mod pushing;
 
-pub use changed::SegmentsExt;
+pub use extended::SegmentsExt;
 use hyphenation_breaks::breaks::Break;
-pub use joined::push_marked;
 pub use marks::{Hyphenating, Iter};
 pub use plain::Segments;
+pub use pushing::push_marked;
 use std::alloc::AllocError;
 use std::borrow::CowStr;
 use std::iter::Copied;
 use std::{slice, vec};
 
-/// A list of breaks to come.
+/// A source of breaks to come, in their order.
 pub trait Breaks: Drop {
     type Item: Break;
 
     /// The breaks to come.
     ghost to_come: { Self → List Break };
 
-    /// The next break, taken from the list, or `None` where the list is empty; what comes after a `None` is open.
+    /// Takes and returns the next break, or `None` where none is to come.
+    ///
+    /// Nothing is promised of calls after a `None`.
     fn pull(&mut self) -> Option<Self::Item>
         ensures { TakesFirst Self.Item.meaning to_come self.old result self.new };
 
-    /// The number of breaks to come.
-    fn left(&self) -> usize
+    /// Returns the number of breaks to come.
+    fn remaining_len(&self) -> usize
         ensures { result ≡ length (to_come self.now) };
 }
 
@@ -52,7 +54,7 @@ impl<T: Break> Breaks for vec::IntoIter<T> {
         self.next()
     }
 
-    fn left(&self) -> usize {
+    fn remaining_len(&self) -> usize {
         self.len()
     }
 }
@@ -70,17 +72,17 @@ impl<'a, T: Break + Copy> Breaks for Copied<slice::Iter<'a, T>> {
         self.next()
     }
 
-    fn left(&self) -> usize {
+    fn remaining_len(&self) -> usize {
         self.len()
     }
 }
 
-/// An item that holds a text, or a refusal of the memory for it.
+/// An item that holds a text, or an error that memory for it was refused.
 pub trait SegmentText: Drop {
-    /// The text, and none where the item holds a refusal.
+    /// The text, or `None` where the item holds an error.
     ghost held: { Self → Option (List ℕ) };
 
-    /// The text, or the refusal that the item holds.
+    /// Returns the text, or the error that the item holds.
     fn text(&self) -> Result<&str, AllocError>
         ensures { MatchResult result (λ text. held self.now ≡ Some text.now) (λ _. held self.now ≡ None) };
 }
@@ -104,9 +106,9 @@ impl<'t> SegmentText for CowStr<'t> {
 }
 
 impl<'t> SegmentText for Result<CowStr<'t>, AllocError> {
-    ghost use Rattle.hyphenation_segments.specs.ChangedSegments.{text_held};
+    ghost use Rattle.hyphenation_segments.specs.ChangedSegments.{text_if_made};
 
-    ghost held = { text_held };
+    ghost held = { text_if_made };
 
     fn text(&self) -> Result<&str, AllocError> {
         match self {
@@ -116,35 +118,38 @@ impl<'t> SegmentText for Result<CowStr<'t>, AllocError> {
     }
 }
 
-/// A segment that was made, or a refusal of the memory for it.
+/// A segment that [`SegmentsExt`] made, or an error that memory for it was refused.
 #[derive(Drop)]
-pub struct Pulled<'t> {
+pub struct MadeSegment<'t> {
+    /// The segment, made anew or borrowed, or the error.
     pub segment: Result<CowStr<'t>, AllocError>,
 }
 
-impl<'t> SegmentText for Pulled<'t> {
-    ghost use Rattle.hyphenation_segments.specs.ChangedSegments.{text_held};
+impl<'t> SegmentText for MadeSegment<'t> {
+    ghost use Rattle.hyphenation_segments.specs.ChangedSegments.{text_if_made};
 
-    ghost held = { λ item. text_held item.segment };
+    ghost held = { λ item. text_if_made item.segment };
 
     fn text(&self) -> Result<&str, AllocError> {
         self.segment.text()
     }
 }
 
-/// A list of texts to come.
+/// A source of texts to come, in their order.
 pub trait Texts: Drop {
     type Item: SegmentText;
 
     /// The texts to come.
     ghost texts: { Self → List (List ℕ) };
 
-    /// An item for the next text, which is taken from the list: the item holds it, or a refusal in its place. It is
-    /// `None` where the list is empty; what comes after that is open.
+    /// Takes the next text and returns an item that holds it, or `None` where none is to come.
+    ///
+    /// The item may hold an error in place of the text, which is taken all the same. Nothing is promised of calls after
+    /// a `None`.
     fn pull(&mut self) -> Option<Self::Item>
         ensures { TakesFirstOrRefuses Self.Item.held texts self.old result self.new };
 
-    /// The number of texts to come.
-    fn left(&self) -> usize
+    /// Returns the number of texts to come.
+    fn remaining_len(&self) -> usize
         ensures { result ≡ length (texts self.now) };
 }

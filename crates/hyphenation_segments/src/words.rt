@@ -1,24 +1,36 @@
-//! Words, and the breaks that fit them.
+//! Words with breaks that fit them.
 
-ghost use Rattle.std.specs.Prelude.{◌≡◌, ◌↔◌, map, IsTrue, IfOk, MatchOption};
+ghost use Rattle.std.specs.Prelude.{◌≡◌, ◌↔◌, map, IsTrue, IfOk, IfNone, IfSome};
 ghost use Rattle.hyphenation_breaks.specs.Break.{end_of};
-ghost use Rattle.hyphenation_segments.specs.Fits.{Fits, Stands};
+ghost use Rattle.hyphenation_segments.specs.Fits.{Fits, BreakFitsAfter};
 ghost use Rattle.hyphenation_segments.specs.Private.Fits.{FitsFrom-prop};
 
 use hyphenation_breaks::breaks::Break;
 use std::alloc::{AllocError, Global};
 
-/// A word with the breaks that fit it, as `Word::fits` says.
+/// A word with breaks that fit it, as [`Word::fits`] tests.
 #[derive(PartialEq, Eq, Hash, Debug, Drop)]
 pub struct Word<'t, B: Break> {
+    /// The word as written.
     pub text: &'t str,
+    /// Its breaks, whose places ascend strictly and are counted in bytes.
     pub breaks: Vec<B>,
     pub ghost fit: { Fits text.now (map B.meaning breaks.items) } by { FitsFrom-prop text.now 0 0
         (map B.meaning breaks.items) },
 }
 
 impl<'t, B: Break> Word<'t, B> {
-    /// The word of a text and breaks that fit it; `Word::fits` tests whether they do.
+    /// Makes a word of a text and breaks that fit it.
+    ///
+    /// The breaks must fit; [`Word::fits`] tests that.
+    ///
+    /// ```text
+    /// if Word::fits("hyphenation", &breaks) {                    // breaks: 2, 6, 7
+    ///     for segment in Word::new("hyphenation", breaks) {      // hy-  phen-  a-  tion
+    ///         line.push_str(segment?.as_str())?;
+    ///     }
+    /// }
+    /// ```
     pub fn new(text: &'t str, breaks: Vec<B>) -> Word<'t, B>
         requires { Fits text.now (map B.meaning breaks.items) }
         ensures text { result.text.now ≡ text.now }
@@ -27,16 +39,23 @@ impl<'t, B: Break> Word<'t, B> {
         Word { text, breaks }
     }
 
-    /// Whether breaks fit a text: their places ascend strictly from 0 to the text's length, both included; no range
-    /// begins before the text or before the end of the range before it, or ends after the text; and each place and
-    /// both ends of each range are character boundaries. The range of a plain break is empty, at its place.
+    /// Whether breaks fit a text.
+    ///
+    /// Breaks fit where their places ascend strictly, and no range begins before the end of the range before it. Each
+    /// place and both ends of each range must be character boundaries from 0 to the text's length. The range of a
+    /// plain break is empty, at its place.
+    ///
+    /// ```text
+    /// Word::fits("hyphenation", &[2usize, 6, 7])      // true
+    /// Word::fits("né", &[2usize])                     // false: 2 is inside of é
+    /// ```
     pub fn fits(text: &str, breaks: &[B]) -> bool
         ensures { IsTrue result ↔ Fits text.now (map B.meaning breaks.now) }
     {
         let mut last_end = 0;
         let mut least = 0;
         for b in breaks {
-            match end_in(text, last_end, least, b) {
+            match fitting_end(text, last_end, least, b) {
                 None => return false,
                 Some(end) => {
                     last_end = end;
@@ -49,7 +68,9 @@ impl<'t, B: Break> Word<'t, B> {
 }
 
 impl<'t, B: Break + Copy> Word<'t, B> {
-    /// An equal word, with a list of its own; `AllocError` where there is no memory for the list.
+    /// Copies the word, with a list of breaks of its own.
+    ///
+    /// An error says that memory for the list was refused.
     pub fn try_clone(&self, alloc: Global) -> Result<Word<'t, B>, AllocError>
         ensures text { IfOk result (λ word. word.text.now ≡ self.now.text.now) }
         ensures breaks { IfOk result (λ word. word.breaks.items ≡ self.now.breaks.items) }
@@ -62,11 +83,11 @@ impl<'t, B: Break + Copy> Word<'t, B> {
     }
 }
 
-/// Where the range of a break ends, if the break stands in the text after the end of the last range and no earlier than
-/// the least place.
-fn end_in<B: Break>(text: &str, last_end: usize, least: usize, b: &B) -> Option<usize>
-    ensures { MatchOption result (¬ (Stands text.now last_end least (B.meaning b.now)))
-        (λ end. (end ≡ end_of (B.meaning b.now)) × Stands text.now last_end least (B.meaning b.now)) }
+// Returns where the range of a break ends, if the break fits after the last range and from the least place on.
+fn fitting_end<B: Break>(text: &str, last_end: usize, least: usize, b: &B) -> Option<usize>
+    ensures none_without { IfNone result (¬ (BreakFitsAfter text.now last_end least (B.meaning b.now))) }
+    ensures fits_after { IfSome result (λ _. BreakFitsAfter text.now last_end least (B.meaning b.now)) }
+    ensures range_end { IfSome result (λ end. end ≡ end_of (B.meaning b.now)) }
 {
     let place = b.place();
     let (begin, end) = b.range()?;

@@ -4,7 +4,7 @@ use Rattle.std.proofs.lemmas.Bool.{cases_eq, cases_lt}
 use Rattle.std.proofs.lemmas.List.{length-append, length-drop, length-map, map_push, get_or-map, get_or_append_left, get_or_push}
 use Rattle.hyphenation_trie.specs.Trie.{Tree, node_text, IsTrie}
 use Rattle.hyphenation_trie.specs.Private.Trie.{texts_of, HasFroms}
-use Rattle.hyphenation_trie.specs.Private.Rows.{child_in, edge_in, HasRow, IsFullRow}
+use Rattle.hyphenation_trie.specs.Private.Rows.{child_in, edge_in, HasRowBy, IsFullRow}
 use Rattle.hyphenation_trie.specs.Private.Links.{HasNoChild, HasParents, parent_of, byte_of, IsDepths, IsFrozen, HasDepths}
 use Rattle.hyphenation_trie.specs.declared.rows.Cell.{Cell}
 use Rattle.std.specs.List.{zip}
@@ -13,7 +13,7 @@ use Rattle.hyphenation_trie.specs.Private.States.{froms_by, texts_by}
 use Rattle.std.proofs.lemmas.Simd.{map-map}
 use Rattle.hyphenation_trie.proofs.TrieNodes.{length-texts_of, last_same, not_empty}
 
--- ---- where nodes come from
+-- ---- parents and bytes of nodes
 
 pub HasFroms-grow : (texts : List (List ℕ)) (froms : List (Option (ℕ × ℕ))) (i b : ℕ) → length froms ≡ length texts → i < length texts → HasFroms texts froms
     → HasFroms (texts ++ (get_or texts i [] ++ b ∷ []) ∷ []) (froms ++ Some (i, b) ∷ [])
@@ -72,7 +72,7 @@ depth_is texts parents bytes depths root has deep (suc fuel) j lt lj = elim (cas
 -- ---- rows
 
 pub frozen_is : {E : Type 0} (tree : Tree E) (parents bytes bases : List ℕ) (cells : List Cell) → IsTrie tree → HasParents tree.texts parents bytes → length bases ≡ length parents
-    → ((i : ℕ) → i < length parents → HasRow parents bytes cells (slice_index bases i) i) → IsFullRow cells (slice_index bases 0) 0 → IsFrozen tree bases cells
+    → ((i : ℕ) → i < length parents → HasRowBy parents bytes cells (slice_index bases i) i) → IsFullRow cells (slice_index bases 0) 0 → IsFrozen tree bases cells
 frozen_is tree parents bytes bases cells trie has len rows full = record {
   trie = trie;
   lengths = len ∙ has.nodes;
@@ -100,7 +100,7 @@ frozen_is tree parents bytes bases cells trie has len rows full = record {
 same_some : (a b : ℕ) → Some a ≡ Some b → a ≡ b
 same_some a b e = cc
 
--- What a look-up finds: the child, or that there is none. The root finds itself where it has none.
+-- The result of a look-up: the child, or none; the root itself where the root has no child.
 abbrev pub Found : {E : Type 0} → Tree E → ℕ → ℕ → Option ℕ → Type 0
 Found tree i b None = (0 < i) × HasNoChild tree i b
 Found tree i b (Some j) =

@@ -40,7 +40,7 @@ held-new = record {
   chained = chained-new;
 }
 
--- a parent stands before its children
+-- a parent comes before its children
 pub earlier : (fs : List (Option (ℕ × ℕ))) → HasFroms (texts_of fs) fs → (j : ℕ) → 0 < j → j < length (map parent_of fs) → slice_index (map parent_of fs) j < j
 earlier fs has j pos lj =
     let count : length (map parent_of fs) ≡ length fs = length-map fs parent_of in
@@ -66,7 +66,7 @@ held-grow fs lasts befores n i b is held li absent =
           chained-push (map parent_of fs) lasts befores i held.chained (held.nodes ∙ sym is ∙ sym count) (earlier fs held.from) (omega (arith, count, is, length-texts_of fs))));
     }
 
--- a node of another parent is not the one that is sought
+-- a node of another parent is not the child sought
 elsewhere : (froms : List (Option (ℕ × ℕ))) (node byte k : ℕ) → k < length froms → slice_index (map parent_of froms) k ≢ node → get_or froms k None ≢ Some (node, byte)
 elsewhere froms node byte k lt apart e = apart (get_or-map parent_of froms k None 0 lt ∙ ap parent_of e)
 

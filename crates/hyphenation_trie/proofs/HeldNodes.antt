@@ -1,10 +1,10 @@
--- A trie that grows, as it is held: it is a trie.
+-- The lists of a growing trie hold a trie.
 use Rattle.std.proofs.Common.{◌≡◌, ℕ, ◌<◌, ◌≤◌, List, [], ◌∷◌, ◌++◌, length, map, set, slice_index, Option, Some, None, sym, ap, subst, ◌∙◌, arith}
 use Rattle.std.proofs.lemmas.List.{length-map, length-append, length-set, map_push, map-set}
 use Rattle.hyphenation_trie.specs.Private.Growing.{IsGrowing}
 use Rattle.hyphenation_trie.specs.Private.Chains.{IsChained}
 use Rattle.hyphenation_trie.specs.Private.Links.{parent_of, HasParents}
-use Rattle.hyphenation_trie.specs.Private.Rows.{AreChildren}
+use Rattle.hyphenation_trie.specs.Private.Rows.{AreChildrenBy}
 use Rattle.hyphenation_trie.specs.Private.States.{IsHeld, froms_by, texts_by, span_in}
 use Rattle.hyphenation_trie.specs.Private.Trie.{tree_of, texts_of, with_child, AreWithin, IsWithin}
 use Rattle.hyphenation_trie.specs.Trie.{IsTrie}
@@ -70,7 +70,7 @@ tree_more parents bytes states {lasts} {befores} {bound} es i b s held none =
 pub parents_held : (parents bytes : List ℕ) (states : List State) (lasts befores : List ℕ) (bound : ℕ) → IsHeld parents bytes states lasts befores bound → HasParents (texts_by parents bytes) parents bytes
 parents_held parents bytes states lasts befores bound held = has_parents parents bytes held.parents_from held.bytes_from held.bytes_of held.growing.from
 
-pub children_held : (parents bytes : List ℕ) (states : List State) (lasts befores : List ℕ) (bound : ℕ) → IsHeld parents bytes states lasts befores bound → ((k : ℕ) → slice_index bytes k < 256) → AreChildren parents bytes lasts befores
+pub children_held : (parents bytes : List ℕ) (states : List State) (lasts befores : List ℕ) (bound : ℕ) → IsHeld parents bytes states lasts befores bound → ((k : ℕ) → slice_index bytes k < 256) → AreChildrenBy parents bytes lasts befores
 children_held parents bytes states lasts befores bound held small = record {
   bytes_of = held.bytes_of;
   nodes = held.growing.nodes ∙ length-froms_by parents bytes held.parents_from held.bytes_of;

@@ -1,4 +1,4 @@
--- What is read of the states of nodes, and what stays when links are set.
+-- Facts read from the states of nodes, and facts that stay when links are set.
 use Rattle.std.proofs.Common.{◌≡◌, ◌≢◌, ℕ, zero, suc, ◌+◌, ◌<◌, ◌≤◌, true, false, cond, List, [], ◌∷◌, length, map, get_or, set, slice_index, Option, Some, None, refl, sym, ap, subst, ◌∙◌, arith, inl, inr}
 use Rattle.std.specs.Prelude.{IsSome, replicate}
 use Rattle.std.proofs.Math.Seq.{map-set_same}
@@ -15,7 +15,7 @@ use Rattle.hyphenation_trie.specs.declared.state.State.{State}
 use Rattle.hyphenation_trie.specs.declared.rows.Cell.{Cell}
 use Rattle.hyphenation_trie.proofs.TrieNodes.{entries_at-here}
 
--- ---- what is read of a state
+-- ---- facts read from a state
 
 pub states_within : {E : Type 0} (tree : Tree E) (parents bytes : List ℕ) (states : List State) (moves : List Moves) (reports : List Reports) (cells : List Cell) (bound node : ℕ) → HasStates tree parents bytes states moves reports cells bound → node < length tree.texts → node < length states
 states_within tree parents bytes states moves reports cells bound node has lt = omega (arith, has.depths_of.lengths, length-map states (λ s. s.depth))
@@ -52,7 +52,7 @@ span_of_entries es s some =
       | false ↦ λ h. absurd cc
     ] some
 
--- where the entries of a key stand is within those of all
+-- the span of a key ends within the entries of all keys
 pub key_within : {E : Type 0} (tree : Tree E) (parents bytes : List ℕ) (states : List State) (moves : List Moves) (reports : List Reports) (cells : List Cell) (bound node : ℕ) (s : State) → HasStates tree parents bytes states moves reports cells bound → node < length tree.texts
     → s ≡ get_or states node s → span_in s ≡ Some s.span → s.span.start + s.span.count ≤ bound
 key_within tree parents bytes states moves reports cells bound node s has lt read is =
@@ -80,7 +80,7 @@ pub tree_same : {E : Type 0} (es : List E) (old new : List State) (parents bytes
     → tree_of (froms_by parents bytes) (map span_in new) es ≡ tree_of (froms_by parents bytes) (map span_in old) es
 tree_same es old new parents bytes spans = λ k. record { texts = texts_by parents bytes; entries = map (entries_there es) (spans k) }
 
--- what is true of the states before a node, and of the one that is set there, is true of one more
+-- a fact of the states before a node and of the state set there is true of one more state
 pub one_more : {X : Type 0} (f : State → X) (d : X) (states : List State) (node : ℕ) (s : State) (asked : ℕ → X) → node < length states → f s ≡ asked node → ((j : ℕ) → j < node → get_or (map f states) j d ≡ asked j)
     → (j : ℕ) → j < node + 1 → get_or (map f (set states node s)) j d ≡ asked j
 one_more {X} f d states node s asked lt here before j lj = elim (cases_eq j node) [

@@ -1,4 +1,4 @@
--- Ends of texts, and the longest that is a node's.
+-- Ends of texts, and the longest end that is a text of a node.
 use Rattle.std.proofs.Common.{◌≡◌, ◌≢◌, ℕ, suc, ◌+◌, ◌-◌, ◌<◌, ◌≤◌, List, [], ◌∷◌, ◌++◌, length, drop, get_or, sym, ap, subst, ◌∙◌, arith, ◌⊎◌, inl, inr}
 use Rattle.std.proofs.lemmas.Bool.{cases_eq, cases_lt}
 use Rattle.std.proofs.lemmas.List.{length-append, length-drop, drop-drop, drop-append-le, drop_all}
@@ -13,7 +13,7 @@ Ends-refl t = let n : length t - length t ≡ 0 = omega arith in (omega arith, a
 pub Ends-nil : (t : List ℕ) → EndsWith t []
 Ends-nil t = (omega arith, drop_all (length t - 0) t (omega arith))
 
--- of two ends of one text the shorter ends the longer
+-- the shorter of two ends of one text ends the longer one
 pub Ends-both : (t u s : List ℕ) → EndsWith t u → EndsWith t s → length s ≤ length u → EndsWith u s
 Ends-both t u s eu es le =
     let n : (length t - length u) + (length u - length s) ≡ length t - length s = omega (arith, eu.0, es.0) in
@@ -24,7 +24,7 @@ Ends-trans t u s eu es =
     let n : (length t - length u) + (length u - length s) ≡ length t - length s = omega (arith, eu.0, es.0) in
     (omega (arith, eu.0, es.0), ap (λ (k : ℕ). drop k t) (sym n) ∙ sym (drop-drop (length u - length s) (length t - length u) t) ∙ ap (λ (x : List ℕ). drop (length u - length s) x) eu.1 ∙ es.1)
 
--- ends of one length are one
+-- ends of the same length are equal
 pub Ends-same : (t u s : List ℕ) → EndsWith t u → EndsWith t s → length s ≡ length u → s ≡ u
 Ends-same t u s eu es e = sym es.1 ∙ ap (λ (n : ℕ). drop (length t - n) t) e ∙ eu.1
 
@@ -89,13 +89,14 @@ longest_more tree trie t b node next now then = record {
   ];
 }
 
--- What the search for a node after a byte has found: the text of `at` ends the first one, and no node with a longer text than one byte more comes into question.
+-- The state of the search for a node after a byte. The text of `at` ends the first text, and no node with a text of
+-- more than one more byte is possible.
 pub record IsSought {E : Type 0} (tree : Tree E) (t : List ℕ) (b at : ℕ) : Type 0 where
   pub within : at < length tree.texts
   pub ends : EndsWith t (node_text tree at)
   pub most : (k : ℕ) → k < length tree.texts → EndsWith (t ++ b ∷ []) (node_text tree k) → length (node_text tree k) ≤ length (node_text tree at) + 1
 
--- where a child is there, it is the longest
+-- a child is the longest
 sought_here : {E : Type 0} (tree : Tree E) (t : List ℕ) (b at child : ℕ) → IsSought tree t b at → child < length tree.texts → node_text tree child ≡ node_text tree at ++ b ∷ [] → IsLongest tree.texts (t ++ b ∷ []) child
 sought_here tree t b at child s lt is = record {
   within = lt;
@@ -103,7 +104,7 @@ sought_here tree t b at child s lt is = record {
   most = λ k lk e. omega (arith, s.most k lk e, ap length is, length-push (node_text tree at) b);
 }
 
--- where no child is there, the longest is no longer than the node's text
+-- without a child the longest is no longer than the node's text
 shorter : {E : Type 0} (tree : Tree E) → IsTrie tree → (t : List ℕ) (b at : ℕ) → IsSought tree t b at → ((j : ℕ) → j < length tree.texts → node_text tree j ≢ node_text tree at ++ b ∷ [])
     → (k : ℕ) → k < length tree.texts → EndsWith (t ++ b ∷ []) (node_text tree k) → length (node_text tree k) ≤ length (node_text tree at)
 shorter tree trie t b at s none k lk e = elim (cases_lt (length (node_text tree at)) (length (node_text tree k))) [
@@ -133,7 +134,7 @@ sought_up tree trie t b at up s pos link none =
       less,
     )
 
--- where the root has no child, it is the longest itself
+-- the root itself is the longest if it has no child
 sought_root : {E : Type 0} (tree : Tree E) → IsTrie tree → (t : List ℕ) (b : ℕ) → IsSought tree t b 0 → HasNoChild tree 0 b → IsLongest tree.texts (t ++ b ∷ []) 0
 sought_root tree trie t b s none = record {
   within = s.within;
@@ -141,7 +142,7 @@ sought_root tree trie t b s none = record {
   most = shorter tree trie t b 0 s none;
 }
 
--- what a look-up finds is the longest
+-- a look-up finds the longest
 pub sought_next : {E : Type 0} (tree : Tree E) → IsTrie tree → (t : List ℕ) (b at next : ℕ) → IsSought tree t b at → next < length tree.texts → (0 < at + next → node_text tree next ≡ node_text tree at ++ b ∷ [])
     → (at + next ≡ 0 → HasNoChild tree at b) → IsLongest tree.texts (t ++ b ∷ []) next
 sought_next tree trie t b at next s lt child none = elim (cases_eq (at + next) 0) [

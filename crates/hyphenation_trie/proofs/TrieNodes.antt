@@ -64,7 +64,7 @@ IsTrie-seen froms spans es lasts befores len held =
     let r = root_text (texts_of froms) held.root in
     record {
       lengths = length-map spans (entries_there es) ∙ len ∙ sym (length-texts_of froms);
-      some = r.1;
+      has_root = r.1;
       root = r.0;
       distinct = held.apart;
       closed = λ j pos lj. let h = held.from j pos lj in (h.0.0, h.0.1, omega (arith, h.2), h.3);

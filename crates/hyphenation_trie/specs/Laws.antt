@@ -1,4 +1,4 @@
--- What is true of all tries, and of the links between their nodes.
+-- Laws of tries, and of the links between their nodes.
 use Rattle.std.specs.Prelude.{◌≡◌, ℕ, ◌<◌, List, [], ◌∷◌, ◌++◌, length, IsSome}
 use Rattle.hyphenation_trie.specs.Trie.{Tree, node_text, entries_of_key, IsTrie}
 use Rattle.hyphenation_trie.specs.Links.{IsLongest, IsReport}
@@ -9,14 +9,14 @@ KeysHaveNodes E =
     (tree : Tree E) (key : List ℕ) → IsSome (entries_of_key tree key)
     → (node : ℕ) × (node < length tree.texts) × (node_text tree node ≡ key)
 
--- The longest that ends a text leads to the longest that ends the text with a byte more: no byte before it need be read
--- again.
+-- The node with the longest text that ends a text leads to the one with the longest text that ends it with one more byte.
+-- So no byte is read again.
 abbrev pub LongestGoesOn : Type 0 → Type 0
 LongestGoesOn E =
     (tree : Tree E) → IsTrie tree → (text : List ℕ) (byte node next : ℕ) → IsLongest tree.texts text node
     → IsLongest tree.texts (node_text tree node ++ byte ∷ []) next → IsLongest tree.texts (text ++ byte ∷ []) next
 
--- The longest key that ends a text ends the text of the longest node.
+-- The longest key that ends a text ends also the longest text of a node that ends it.
 abbrev pub LongestHasReport : Type 0 → Type 0
 LongestHasReport E =
     (tree : Tree E) (text : List ℕ) (node report : ℕ) → IsLongest tree.texts text node

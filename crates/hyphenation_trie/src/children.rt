@@ -2,32 +2,32 @@
 
 ghost use Rattle.std.specs.Prelude.{◌≡◌, ◌+◌, ◌<◌, ◌≤◌, ◌++◌, [], ◌∷◌, length, slice_index, slice_set, vec_len, vec_capacity, IfOk, OnOk, OnErr};
 
-use super::in_32_bits;
-use super::lists::begun;
+use super::lists::list_of_first;
+use super::to_u32;
 use std::alloc::{AllocError, Global};
 
-/// The parents and the children of all nodes.
+// The parents and the children of all nodes.
 #[derive(Drop)]
 pub(crate) struct Children {
-    /// The parent of each node, and the byte that leads from it to the node. The root comes first, with 0 for both, and
-    /// each other node is later than its parent.
+    // The parent of each node, and the byte that leads from the parent to the node. The root comes first, with 0 for both;
+    // each other node comes after its parent.
     pub(crate) parents: Vec<u32>,
     pub(crate) bytes: Vec<u8>,
-    /// The last child of each node, and the sibling before each node; 0 where there is none.
+    // The last child of each node, and the sibling before each node; 0 if there is none.
     pub(crate) last: Vec<u32>,
     pub(crate) before: Vec<u32>,
 }
 
 impl Children {
-    /// Those of the root alone, with room for so many nodes. The only error is memory.
+    // Returns the root alone, with room for `nodes` nodes. The only error is out of memory.
     pub(crate) fn with_room(alloc: Global, nodes: usize) -> Result<Children, AllocError>
-        ensures { IfOk result (λ children. (children.parents.items ≡ 0 ∷ []) × (children.bytes.items ≡ 0 ∷ [])
-            × (children.last.items ≡ 0 ∷ []) × (children.before.items ≡ 0 ∷ [])) }
+        ensures nodes { IfOk result (λ children. (children.parents.items ≡ 0 ∷ []) × (children.bytes.items ≡ 0 ∷ [])) }
+        ensures chains { IfOk result (λ children. (children.last.items ≡ 0 ∷ []) × (children.before.items ≡ 0 ∷ [])) }
     {
-        let parents = begun(alloc, nodes, 0)?;
-        let bytes = begun(alloc, nodes, 0)?;
-        let last = begun(alloc, nodes, 0)?;
-        let before = begun(alloc, nodes, 0)?;
+        let parents = list_of_first(alloc, nodes, 0)?;
+        let bytes = list_of_first(alloc, nodes, 0)?;
+        let last = list_of_first(alloc, nodes, 0)?;
+        let before = list_of_first(alloc, nodes, 0)?;
         Ok(Children {
             parents,
             bytes,
@@ -36,7 +36,7 @@ impl Children {
         })
     }
 
-    /// Has room for a node more, and changes nothing. The only error is memory.
+    // Makes room for one more node, and changes no node. The only error is out of memory.
     fn reserve(&mut self) -> Result<(), AllocError>
         ensures nodes { (self.new.parents.items ≡ self.old.parents.items)
             × (self.new.bytes.items ≡ self.old.bytes.items) }
@@ -53,7 +53,7 @@ impl Children {
         self.before.reserve(1)
     }
 
-    /// A child more of a node, the last one, which has no children yet. Its number.
+    // Adds a child to a node, as its last one, and returns the number of the child. The only error is out of memory.
     pub(crate) fn add(&mut self, node: u32, byte: u8) -> Result<u32, AllocError>
         requires { node < length self.old.last.items }
         ensures child { IfOk result (λ child. child ≡ length self.old.before.items) }
@@ -63,13 +63,13 @@ impl Children {
             (length self.old.before.items)) }
         ensures before { OnOk result (self.new.before.items ≡ self.old.before.items ++ slice_index self.old.last.items
             node ∷ []) }
-        ensures err_nodes { OnErr result ((self.new.parents.items ≡ self.old.parents.items)
+        ensures same_nodes_on_error { OnErr result ((self.new.parents.items ≡ self.old.parents.items)
             × (self.new.bytes.items ≡ self.old.bytes.items)) }
-        ensures err_chains { OnErr result ((self.new.last.items ≡ self.old.last.items)
+        ensures same_chains_on_error { OnErr result ((self.new.last.items ≡ self.old.last.items)
             × (self.new.before.items ≡ self.old.before.items)) }
     {
-        let child = in_32_bits(self.before.len())?;
-        // Room first, so that no list has a node that is then refused.
+        let child = to_u32(self.before.len())?;
+        // Room comes first, so that no list gets a node that another list then refuses.
         self.reserve()?;
         self.parents.push(node).unwrap();
         self.bytes.push(byte).unwrap();

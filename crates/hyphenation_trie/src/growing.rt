@@ -1,36 +1,34 @@
-//! A trie that grows: keys with their entries are put in, one after another.
+//! A trie that grows by keys with their entries, inserted one after the other.
 
-ghost use Rattle.std.specs.Prelude.{◌≡◌, ◌≢◌, ◌+◌, ◌<◌, ◌++◌, [], ◌∷◌, ℕ, List, length, slice_index, None, Some, IfOk, OnOk, OnErr, if◌then◌else◌, nat_eq, is_some, IfSome, IfNone};
-ghost use Rattle.std.specs.Cmp.Lexicographic.{pointwise};
-ghost use Rattle.hyphenation_trie.specs.Trie.{node_text, entries_of_key, IsTrie, AddsFront, KeepsNodes, EachBeginsKey};
+ghost use Rattle.std.specs.Prelude.{◌≡◌, ◌≢◌, ◌+◌, ◌<◌, ◌++◌, [], ◌∷◌, ℕ, length, slice_index, None, IfOk, OnOk, OnErr, is_some, IfSome, IfNone};
+ghost use Rattle.hyphenation_trie.specs.Trie.{node_text, entries_of_key, IsTrie, AddsFront, KeepsNodes, KeepsKeys, SetsKey, EachBeginsKey};
 ghost use Rattle.hyphenation_trie.specs.Private.Trie.{with_child, Grows, with_entries};
 
 use crate::Automaton;
 use crate::automaton::link_all;
 use crate::children::Children;
 use crate::frozen::{Frozen, Reports};
-use crate::levels::Levels;
-use crate::lists::begun;
+use crate::lists::list_of_first;
+use crate::nodes_by_depth::NodesByDepth;
 use crate::rows::rows_of;
 use crate::state::{Span, State};
 use std::alloc::{AllocError, Global};
 use std::fmt;
 use std::marker::Model;
 
-/// Keys, each with its entries.
+/// Keys, each with its entries, to which more can be added.
 pub struct Trie<E> {
-    /// The children of each node. In a text whose keys stand in order the child that is asked for is the last one or
-    /// new.
+    // The children of each node. If keys are inserted in order, each look-up finds the last child or none.
     pub(crate) children: Children,
-    /// What a search asks of each node. As yet it is known where its entries stand, and no more.
+    // The states of the nodes. Their spans are known; their depths are set when the trie is frozen.
     pub(crate) states: Vec<State>,
-    /// The entries of all keys, in one list, so that a key costs no allocation of its own. Those that a key had
-    /// before it was given others stay here, unused.
+    // The entries of all keys in one list, so that a key needs no allocation of its own. Replaced entries stay here,
+    // unused.
     pub(crate) entries: Vec<E>,
 }
 
-// It does what the derived one would. As a call it is one step in the proof of a function that holds a trie; the derived
-// one is a step for each list that a trie has, at each way out.
+// It drops each field, as the derived implementation would. The proof of a function that drops a trie has one step for
+// this call. With the derived implementation it has a step for each list of the trie.
 impl<E: Drop> Drop for Trie<E> {
     fn drop(self) {
         let Trie {
@@ -61,20 +59,26 @@ impl<E> Model for Trie<E> {
 }
 
 impl<E: Drop> Trie<E> {
-    /// The trie of no key: the root alone. The only error is memory.
+    /// Returns a trie without keys: the root alone. The only error is out of memory.
+    ///
+    /// ```text
+    /// let mut trie = Trie::new(alloc)?;
+    /// trie.insert(b"rk", &mut entries)?;      // false: `rk` was not a key
+    /// let automaton = trie.freeze(alloc)?;
+    /// ```
     pub fn new(alloc: Global) -> Result<Self, AllocError>
         ensures { IfOk result (λ trie. trie ≡ record { texts = [] ∷ []; entries = None ∷ [] }) }
     {
         Self::with_room(alloc, 0)
     }
 
-    /// The trie of no key, with room for so many nodes. The only error is memory.
+    /// Returns a trie without keys, with room for `nodes` nodes. The only error is out of memory.
     ///
-    /// Room that is not used costs addresses and no memory. It saves the copies that growing makes.
+    /// Room that is not used costs addresses and no memory, and saves copies when the trie grows.
     pub fn with_room(alloc: Global, nodes: usize) -> Result<Self, AllocError>
         ensures { IfOk result (λ trie. trie ≡ record { texts = [] ∷ []; entries = None ∷ [] }) }
     {
-        let states = begun(alloc, nodes, State::bare())?;
+        let states = list_of_first(alloc, nodes, State::of_no_key())?;
         let entries = Vec::with_capacity(alloc, nodes)?;
         let children = Children::with_room(alloc, nodes)?;
         Ok(Trie {
@@ -84,18 +88,17 @@ impl<E: Drop> Trie<E> {
         })
     }
 
-    /// Moves these entries to a key, in place of those that it had. Whether it was a key.
+    /// Moves entries to a key, in place of the entries that it had, and returns whether it was a key.
     ///
-    /// No other key changes, and the list is empty then and can be filled again. The only error is memory, also where a
-    /// trie would have more nodes or entries than 32 bits number; then each key and the list are as before.
+    /// No other key changes. The list of entries is empty then, and can be filled again. The only error is out of
+    /// memory, also if the trie would have 2^32 nodes or entries. It leaves each key and the list as they were.
     pub fn insert(&mut self, key: &[u8], entries: &mut Vec<E>) -> Result<bool, AllocError>
-        ensures ok { OnOk result ((q : List ℕ) → entries_of_key self.new q ≡
-            (if pointwise nat_eq key.now q then Some entries.old.items else entries_of_key self.old q)) }
+        ensures key_set { OnOk result (SetsKey self.old self.new key.now entries.old.items) }
         ensures had { IfOk result (λ had. had ≡ is_some (entries_of_key self.old key.now)) }
-        ensures moved { OnOk result (entries.new.items ≡ []) }
+        ensures entries_moved { OnOk result (entries.new.items ≡ []) }
         ensures begins { OnOk result (EachBeginsKey self.old → EachBeginsKey self.new) }
-        ensures err { OnErr result ((q : List ℕ) → entries_of_key self.new q ≡ entries_of_key self.old q) }
-        ensures unmoved { OnErr result (entries.new.items ≡ entries.old.items) }
+        ensures same_keys_on_error { OnErr result (KeepsKeys self.old self.new) }
+        ensures entries_kept_on_error { OnErr result (entries.new.items ≡ entries.old.items) }
         ensures adds { AddsFront self.old self.new key.now }
         ensures nodes { KeepsNodes self.old self.new }
     {
@@ -105,15 +108,15 @@ impl<E: Drop> Trie<E> {
         Ok(had)
     }
 
-    /// What is true of each trie, for a proof. The call does nothing.
+    /// Gives proofs the invariant of a trie, and does nothing.
     pub fn invariant(&self)
         ensures { IsTrie self.now }
     {
-        // The look at a field opens what the type holds.
+        // Reading a field gives the proof the invariant of the type.
         let _nodes = &self.states;
     }
 
-    /// The root: the node of the empty text.
+    // Returns the root: the node of the empty text.
     fn root(&self) -> u32
         ensures root { result ≡ 0 }
         ensures node { result < length self.now.texts }
@@ -123,14 +126,13 @@ impl<E: Drop> Trie<E> {
         0
     }
 
-    /// The child of a node at a byte.
+    // Returns the child of a node at a byte, if it has one.
     fn child_of(&self, node: u32, byte: u8) -> Option<u32>
         requires { node < length self.now.texts }
         ensures found { IfSome result (λ j.
             (j < length self.now.texts) × (node_text self.now j ≡ node_text self.now node ++ byte ∷ [])) }
         ensures none { IfNone result ((j : ℕ) → j < length self.now.texts
-            → node_text self.now j ≢ node_text self.now node
-            ++ byte ∷ []) }
+            → node_text self.now j ≢ node_text self.now node ++ byte ∷ []) }
     {
         let mut child = self.children.last[node as usize];
         while child != 0 {
@@ -142,25 +144,25 @@ impl<E: Drop> Trie<E> {
         None
     }
 
-    /// A new child of a node.
+    // Adds a child to a node, and returns it. The only error is out of memory.
     fn grow(&mut self, node: u32, byte: u8) -> Result<u32, AllocError>
         requires node { node < length self.old.texts }
         requires absent { (j : ℕ) → j < length self.old.texts
             → node_text self.old j ≢ node_text self.old node ++ byte ∷ [] }
-        ensures ok { IfOk result (λ j. (j ≡ length self.old.texts) × (self.new ≡ with_child self.old node byte)) }
-        ensures err { OnErr result (self.new ≡ self.old) }
+        ensures child_added { IfOk result (λ j. (j ≡ length self.old.texts) × (self.new ≡ with_child self.old node byte)) }
+        ensures unchanged_on_error { OnErr result (self.new ≡ self.old) }
     {
-        // Room first, so that no node is added that is then refused.
+        // Room comes first, so that no node is added without its state.
         self.states.reserve(1)?;
         let child = self.children.add(node, byte)?;
-        self.states.push(State::bare()).unwrap();
+        self.states.push(State::of_no_key()).unwrap();
         Ok(child)
     }
 
-    /// The child of a node at a byte, made where there is none.
+    // Returns the child of a node at a byte, and adds it if there is none. The only error is out of memory.
     fn step(&mut self, node: u32, byte: u8) -> Result<u32, AllocError>
         requires { node < length self.old.texts }
-        ensures ok { IfOk result (λ j.
+        ensures child { IfOk result (λ j.
             (j < length self.new.texts) × (node_text self.new j ≡ node_text self.old node ++ byte ∷ [])) }
         ensures grows { Grows self.old self.new (node_text self.old node ++ byte ∷ []) }
     {
@@ -170,10 +172,10 @@ impl<E: Drop> Trie<E> {
         }
     }
 
-    /// The node of a text, made where there is none.
+    // Returns the node of a text, and adds it if there is none. The only error is out of memory; nodes may be added then.
     fn path(&mut self, text: &[u8]) -> Result<u32, AllocError>
-        ensures ok { IfOk result (λ j. (j < length self.new.texts) × (node_text self.new j ≡ text.now)) }
-        ensures keys { (q : List ℕ) → entries_of_key self.new q ≡ entries_of_key self.old q }
+        ensures node { IfOk result (λ j. (j < length self.new.texts) × (node_text self.new j ≡ text.now)) }
+        ensures keys_stay { KeepsKeys self.old self.new }
         ensures adds { AddsFront self.old self.new text.now }
         ensures nodes { KeepsNodes self.old self.new }
     {
@@ -185,35 +187,36 @@ impl<E: Drop> Trie<E> {
         Ok(node)
     }
 
-    /// Moves these entries to a node, in place of those that it had. Whether it had any.
+    // Moves entries to a node, in place of the entries that it had, and returns whether its text was a key. The only error is
+    // out of memory.
     fn set_entries(&mut self, node: u32, entries: &mut Vec<E>) -> Result<bool, AllocError>
         requires { node < length self.old.texts }
         ensures set { OnOk result (self.new ≡ with_entries self.old node entries.old.items) }
         ensures had { IfOk result (λ had. had ≡ is_some (entries_of_key self.old (node_text self.old node))) }
-        ensures moved { OnOk result (entries.new.items ≡ []) }
-        ensures err { OnErr result (self.new ≡ self.old) }
-        ensures unmoved { OnErr result (entries.new.items ≡ entries.old.items) }
+        ensures entries_moved { OnOk result (entries.new.items ≡ []) }
+        ensures unchanged_on_error { OnErr result (self.new ≡ self.old) }
+        ensures entries_kept_on_error { OnErr result (entries.new.items ≡ entries.old.items) }
     {
         let span = Span::of(self.entries.len(), entries.len())?;
         self.entries.append(entries)?;
         Ok(self.states[node as usize].set_span(span))
     }
 
-    /// The same keys with their entries, made ready to be found. The only error is memory, also where 32 bits do not
-    /// number its nodes or cells.
+    /// Makes the automaton that finds the keys of the trie. The only error is out of memory, also if it would have 2^32 nodes
+    /// or cells.
     pub fn freeze(self, alloc: Global) -> Result<Automaton<E>, AllocError>
         ensures { IfOk result (λ automaton. automaton ≡ self) }
     {
         self.invariant();
-        bytes_are_small(&self.children.bytes);
-        // What takes memory is made while the trie is lent, so that a refusal lets go of the trie as it is.
+        bytes_are_below_256(&self.children.bytes);
+        // Memory is taken while the trie is borrowed, so that an error drops the trie as a whole.
         let none = Reports {
             report: 0,
             next_report: 0,
         };
         let reports = vec![in alloc; none; self.children.parents.len()]?;
         let rows = rows_of(alloc, &self.children)?;
-        let levels = Levels::of(alloc, &self.children.parents)?;
+        let levels = NodesByDepth::of(alloc, &self.children.parents)?;
         let Trie {
             children,
             states,
@@ -225,8 +228,8 @@ impl<E: Drop> Trie<E> {
     }
 }
 
-/// That each byte is below 256. The function does nothing.
-fn bytes_are_small(bytes: &[u8])
+// Gives proofs that each byte is below 256, and does nothing.
+fn bytes_are_below_256(bytes: &[u8])
     ensures { (k : ℕ) → slice_index bytes.now k < 256 }
 {}
 

@@ -1,4 +1,4 @@
-//! What is true of all tries, and of the links by which one pass over a text meets all keys in it.
+//! Laws of tries, and of the links by which one pass over a text meets all keys in it.
 //!
 //! Each function here does nothing: its contract is a law, which the check proves.
 
@@ -9,12 +9,12 @@ pub fn keys_have_nodes<E>()
     ensures { KeysHaveNodes E }
 {}
 
-/// The longest node that ends a text leads to the longest that ends the text with a byte more.
+/// The node with the longest text that ends a text leads to the one with the longest text that ends it with one more byte.
 pub fn longest_goes_on<E>()
     ensures { LongestGoesOn E }
 {}
 
-/// The longest key that ends a text ends the text of the longest node.
+/// The longest key that ends a text ends also the longest text of a node that ends it.
 pub fn longest_has_report<E>()
     ensures { LongestHasReport E }
 {}

@@ -1,8 +1,8 @@
 //! A trie: a tree that holds keys by the bytes that they share.
 //!
-//! Each node stands for a text, the root for the empty one. A step along a byte leads to the node
-//! of the text with that byte after it, its child. A node whose text is a key holds the key's
-//! entries. Here are the keys `ir`, `rk` and `rkin`, whose nodes are marked:
+//! Each node has a text, and the root has the empty one. A step along a byte leads from a node to its child, whose text
+//! has that byte at its end. If the text of a node is a key, the node has the key's entries. Here are the keys `ir`, `rk`
+//! and `rkin`, whose nodes are marked:
 //!
 //! ```text
 //!             root
@@ -16,11 +16,11 @@
 //!                  [rkin]
 //! ```
 //!
-//! A trie grows key by key. Then it is frozen, which makes it an [`Automaton`]: that grows no more, and finds
-//! the keys that stand in a word in one pass over the word's bytes.
+//! A [`Trie`] grows key by key. [`Trie::freeze`] makes an [`Automaton`] of it, which does not grow. An automaton finds
+//! the keys that occur in a word in one pass over the word's bytes.
 //!
-//! Nodes are numbers: those below the number of texts that a clause sees, `length texts`. A node
-//! keeps its number as the trie grows, and when it is frozen.
+//! Nodes are numbers below the number of texts, which contracts call `length texts`. A node keeps its number while the trie
+//! grows, and in the automaton.
 #![tactic(auto)]
 
 ghost use Rattle.std.specs.Prelude.{◌≡◌, ◌≤◌, ◌^◌, IfOk, OnErr};
@@ -31,9 +31,9 @@ mod children;
 mod frozen;
 mod growing;
 pub mod laws;
-mod levels;
 mod lists;
 mod look_ups;
+mod nodes_by_depth;
 pub mod parts;
 mod rows;
 mod state;
@@ -43,12 +43,12 @@ pub use growing::Trie;
 pub use look_ups::LookUps;
 use std::alloc::AllocError;
 
-/// A number in 32 bits, as a dictionary holds those of its nodes, cells and entries, and the places of its keys.
+/// Returns a number in 32 bits, as a dictionary holds the numbers of its nodes, cells and entries, and places in keys.
 ///
-/// One from 2^32 on is refused. That is a limit: the error is the one of refused memory, though none was refused.
-pub fn in_32_bits(number: usize) -> Result<u32, AllocError>
-    ensures held { IfOk result (λ held. held ≡ number) }
-    ensures refused { OnErr result (2 ^ 32 ≤ number) }
+/// Numbers from 2^32 on are above this limit: the error is then the one of refused memory, though no memory was refused.
+pub fn to_u32(number: usize) -> Result<u32, AllocError>
+    ensures same_number { IfOk result (λ held. held ≡ number) }
+    ensures refused_from_limit { OnErr result (2 ^ 32 ≤ number) }
 {
     if number <= u32::MAX as usize {
         Ok(number as u32)

@@ -1,11 +1,15 @@
-//! Lists as they begin.
+//! Lists with their first element.
 
 ghost use Rattle.std.specs.Prelude.{◌≡◌, [], ◌∷◌, IfOk};
 
 use std::alloc::{AllocError, Global};
 
-/// A list of one element, with room for so many. The only error is memory.
-pub(crate) fn begun<T: Copy>(alloc: Global, room: usize, first: T) -> Result<Vec<T>, AllocError>
+// Returns a list of one element, with room for `room` elements. The only error is out of memory.
+pub(crate) fn list_of_first<T: Copy>(
+    alloc: Global,
+    room: usize,
+    first: T,
+) -> Result<Vec<T>, AllocError>
     ensures { IfOk result (λ list. list.items ≡ first ∷ []) }
 {
     let mut list = Vec::with_capacity(alloc, room)?;

@@ -1,12 +1,18 @@
-//! Counts of what a search asks of a trie.
+//! Counts of the look-ups and reports of a search.
 
 ghost use Rattle.std.specs.Prelude.{◌≡◌, ◌+◌, ◌<◌, ◌^◌};
 
 use std::marker::Model;
 
-/// Counts the look-ups of a byte among a node's children, and the keys reported.
+/// Counts of the look-ups that a search makes, and of the keys that it reports.
 ///
-/// Each look-up counts, whether there is such a child or not.
+/// A look-up asks for the child of a node at a byte. It is counted whether there is such a child or not.
+///
+/// ```text
+/// let mut count = LookUps::new();
+/// dictionary.score_counted(alloc, "firkin", &mut count)?;
+/// count.made()    // at least 8, one for each byte of `.firkin.`
+/// ```
 #[derive(Debug, Drop)]
 pub struct LookUps {
     made: u128,
@@ -22,7 +28,7 @@ impl Model for LookUps {
 }
 
 impl LookUps {
-    /// Counts from 0.
+    /// Returns counts of 0.
     pub fn new() -> Self
         ensures { result ≡ record { made = 0; reported = 0 } }
     {
@@ -32,21 +38,21 @@ impl LookUps {
         }
     }
 
-    /// The number of look-ups made.
+    /// Returns the number of look-ups made.
     pub fn made(&self) -> u128
         ensures { result ≡ self.now.made }
     {
         self.made
     }
 
-    /// The number of keys reported.
+    /// Returns the number of keys reported.
     pub fn reported(&self) -> u128
         ensures { result ≡ self.now.reported }
     {
         self.reported
     }
 
-    /// Counts one look-up.
+    // Counts one look-up.
     pub(crate) fn look_up(&mut self)
         requires { self.old.made + 1 < 2 ^ 128 }
         ensures { self.new ≡ record self.old { made = self.old.made + 1 } }
@@ -54,7 +60,7 @@ impl LookUps {
         self.made += 1;
     }
 
-    /// Counts one report.
+    // Counts one report.
     pub(crate) fn report(&mut self)
         requires { self.old.reported + 1 < 2 ^ 128 }
         ensures { self.new ≡ record self.old { reported = self.old.reported + 1 } }

@@ -1,5 +1,7 @@
-//! What a trie is made of, for the crates that write dictionary texts. No search calls this, and no crate exports it to
-//! users: a search comes to the entries of a key by the counted calls of [`Automaton`] alone.
+//! The keys of a trie, for the crates that write dictionary texts.
+//!
+//! No search calls this module, and no crate exports it to users. A search reaches the entries of a key by the counted calls
+//! of [`Automaton`] alone.
 
 ghost use Rattle.std.specs.Prelude.{◌≡◌, IfOk};
 ghost use Rattle.hyphenation_trie.specs.Keys.{pairs_of, key_views};
@@ -7,7 +9,7 @@ ghost use Rattle.hyphenation_trie.specs.Keys.{pairs_of, key_views};
 use crate::Automaton;
 use std::alloc::{AllocError, Global};
 
-/// The keys of a trie, each with its entries, in no order that means anything. The only error is memory.
+/// Returns the keys of a trie, each with its entries, in no particular order. The only error is out of memory.
 pub fn keys_of<E: Drop>(
     automaton: &Automaton<E>,
     alloc: Global,

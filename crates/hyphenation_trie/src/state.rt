@@ -1,13 +1,13 @@
-//! What a search asks of a node whose text is a key: its depth, and where its entries stand.
+//! The state of a node: its depth, and the span of its entries if its text is a key.
 
 ghost use Rattle.std.specs.Prelude.{◌≡◌, ◌+◌, ◌≤◌, length, Some, None, is_some, IfOk};
 ghost use Rattle.std.specs.List.{slice_range};
 ghost use Rattle.hyphenation_trie.specs.Private.States.{span_in};
 
-use super::in_32_bits;
+use super::to_u32;
 use std::alloc::AllocError;
 
-/// Where the entries of a key stand among the entries of all keys.
+// The entries of a key, as a range of the entries of all keys.
 #[derive(Clone, Copy)]
 pub(crate) struct Span {
     pub(crate) start: u32,
@@ -15,18 +15,18 @@ pub(crate) struct Span {
 }
 
 impl Span {
-    /// So many from there on.
+    // Returns the span of `count` entries from `start` on. The only error is out of memory, for numbers from 2^32 on.
     pub(crate) fn of(start: usize, count: usize) -> Result<Span, AllocError>
         ensures { IfOk result (λ span. (span.start ≡ start) × (span.count ≡ count)) }
     {
-        let start = in_32_bits(start)?;
-        let count = in_32_bits(count)?;
+        let start = to_u32(start)?;
+        let count = to_u32(count)?;
         Ok(Span { start, count })
     }
 }
 
-/// The entries that stand there.
-pub(crate) fn part<E>(entries: &[E], span: Span) -> &[E]
+// Returns the entries of a span.
+pub(crate) fn entries_in<E>(entries: &[E], span: Span) -> &[E]
     requires { span.start + span.count ≤ length entries.now }
     ensures { result.now ≡ slice_range entries.now span.start (span.start + span.count) }
 {
@@ -34,20 +34,20 @@ pub(crate) fn part<E>(entries: &[E], span: Span) -> &[E]
     &entries[start..start + span.count as usize]
 }
 
-/// What is asked of a node where its text is a key.
+// The part of a node that a search reads if the text is a key.
 #[derive(Clone, Copy)]
 pub(crate) struct State {
-    /// The number of bytes of its text.
+    // The number of bytes of the node's text.
     pub(crate) depth: u32,
-    /// Whether its text is a key.
+    // Whether the node's text is a key.
     pub(crate) is_key: bool,
-    /// Where its entries stand, where it is one. Who knows that it is need not ask again.
+    // The span of its entries if it is a key. Callers that know it is one read this directly.
     pub(crate) span: Span,
 }
 
 impl State {
-    /// The state of a node of which nothing is known yet, and whose text is no key.
-    pub(crate) fn bare() -> State
+    // Returns the state of a node whose text is not a key, and whose depth is not known yet.
+    pub(crate) fn of_no_key() -> State
         ensures { span_in result ≡ None }
     {
         State {
@@ -57,7 +57,7 @@ impl State {
         }
     }
 
-    /// The node's text is a key now, whose entries stand there. Whether it was one.
+    // Makes the node's text a key with the entries of a span, and returns whether it was a key.
     pub(crate) fn set_span(&mut self, span: Span) -> bool
         ensures set { span_in self.new ≡ Some span }
         ensures had { result ≡ is_some (span_in self.old) }
@@ -68,7 +68,7 @@ impl State {
         had
     }
 
-    /// It is known how deep the node is.
+    // Sets the depth of the node.
     pub(crate) fn set_depth(&mut self, depth: u32)
         ensures depth { self.new.depth ≡ depth }
         ensures span { span_in self.new ≡ span_in self.old }

@@ -19,7 +19,7 @@ one_ascii b small = IsUtf8-from_ascii (b ∷ []) (λ i. below i)
 pub two_ascii : (a b : ℕ) → a < 128 → b < 128 → IsUtf8 (a ∷ b ∷ [])
 two_ascii a b sa sb = IsUtf8-append (a ∷ []) (b ∷ []) (one_ascii a sa) (one_ascii b sb)
 
--- A text parted at an ASCII byte.
+-- A text split at an ASCII byte.
 pub split_ascii : (p : List ℕ) (b : ℕ) (rest : List ℕ) → b < 128 → IsUtf8 (p ++ b ∷ rest) → IsUtf8 p × IsUtf8 rest
 split_ascii p b rest small u =
     let here : get_or (p ++ b ∷ rest) (length p) 0 ≡ b = get_or-append_seam p b rest 0 in

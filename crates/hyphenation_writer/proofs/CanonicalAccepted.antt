@@ -13,7 +13,7 @@ use Rattle.std.proofs.lemmas.List.Folds.{list_any-append}
 use Rattle.std.proofs.lemmas.List.Elements.{filter_map-append}
 use Rattle.std.proofs.lemmas.Bool.Decides.{nat_tests}
 use Rattle.hyphenation_breaks.specs.Dictionary.{TextMap}
-use Rattle.hyphenation_grammar.specs.Judging.{own_cause, repetition, stands_in, fault_after, missing_head}
+use Rattle.hyphenation_grammar.specs.Judging.{own_cause, repetition, is_repeated, fault_after, missing_head}
 use Rattle.hyphenation_grammar.specs.Lines.{is_same}
 use Rattle.hyphenation_grammar.specs.Reading.{map_of_lines}
 use Rattle.hyphenation_grammar.specs.declared.Cause.{Cause}
@@ -99,11 +99,11 @@ module _ (form : Form) where
     pub record Fine (q : List ℕ) (v : X) : Type 0 where
       pub own : (n : ℕ) → 3 < n → own_cause form n (line (q, v)) ≡ None
       pub says : spells (line (q, v)) ≡ Some q
-      pub alone : (earlier : List (List ℕ)) → stands_in spells earlier q ≡ false → repetition form.version earlier (line (q, v)) ≡ None
+      pub alone : (earlier : List (List ℕ)) → is_repeated spells earlier q ≡ false → repetition form.version earlier (line (q, v)) ≡ None
 
     abbrev pub AllNew : List (List ℕ) → List (List ℕ × X) → Type 0
     AllNew earlier [] = Unit {0}
-    AllNew earlier (x ∷ xs) = (stands_in spells earlier x.0 ≡ false) × AllNew earlier xs
+    AllNew earlier (x ∷ xs) = (is_repeated spells earlier x.0 ≡ false) × AllNew earlier xs
 
     new-more : (earlier : List (List ℕ)) (l q : List ℕ) (v : X) (xs : List (List ℕ × X)) → spells l ≡ Some q → T (is_sorted (slice_cmp nat_cmp) ((q, v) ∷ xs)) → AllNew earlier xs → AllNew (earlier ++ l ∷ []) xs
     new-more earlier l q v [] says s new = tt
@@ -111,8 +111,8 @@ module _ (form : Form) where
         let p = pick (is_lt (slice_cmp nat_cmp q x.0)) _ _ _ s in
         let apart : is_same q x.0 ≡ false = texts_ties q x.0 ∙ less_off (slice_cmp nat_cmp q x.0) p.0 in (
           list_any-append (λ other. option_map_or (λ t. is_same t x.0) (spells other) false) earlier (l ∷ [])
-              ∙ ap (λ (o : Option (List ℕ)). stands_in spells earlier x.0 || (option_map_or (λ t. is_same t x.0) o false || false)) says
-              ∙ ap (λ (t : Bool). stands_in spells earlier x.0 || (t || false)) apart ∙ ap (λ (t : Bool). t || false) new.0,
+              ∙ ap (λ (o : Option (List ℕ)). is_repeated spells earlier x.0 || (option_map_or (λ t. is_same t x.0) o false || false)) says
+              ∙ ap (λ (t : Bool). is_repeated spells earlier x.0 || (t || false)) apart ∙ ap (λ (t : Bool). t || false) new.0,
           new-more earlier l q v xs says p.1 new.1,
         )
 
@@ -130,9 +130,9 @@ module _ (form : Form) where
     AllSilent [] = Unit {0}
     AllSilent (l ∷ ls) = (spells l ≡ None) × AllSilent ls
 
-    none-stand : (ls : List (List ℕ)) (q : List ℕ) → AllSilent ls → stands_in spells ls q ≡ false
+    none-stand : (ls : List (List ℕ)) (q : List ℕ) → AllSilent ls → is_repeated spells ls q ≡ false
     none-stand [] q h = refl
-    none-stand (l ∷ ls) q h = ap (λ (o : Option (List ℕ)). option_map_or (λ t. is_same t q) o false || stands_in spells ls q) h.0 ∙ none-stand ls q h.1
+    none-stand (l ∷ ls) q h = ap (λ (o : Option (List ℕ)). option_map_or (λ t. is_same t q) o false || is_repeated spells ls q) h.0 ∙ none-stand ls q h.1
 
     pub all-new : (ls : List (List ℕ)) (xs : List (List ℕ × X)) → AllSilent ls → AllNew ls xs
     all-new ls [] h = tt

@@ -1,4 +1,4 @@
--- A later token that is spelt says again what it was spelt of.
+-- A later token as it is written is read again as the break that it was written for.
 use Rattle.std.proofs.Common.{◌≡◌, ℕ, suc, ◌-◌, ◌^◌, ◌<◌, Bool, true, false, cond, not, ◌&&◌, ◌||◌, eqb, nat_lt, List, [], ◌∷◌, ◌++◌, length, take, drop, get_or, Option, Some, None, is_some, unwrap_or, refl, sym, ap, ◌∙◌, arith, length-append}
 use Rattle.std.specs.Prelude.{decimal, flat_map, IsUtf8}
 use Rattle.std.specs.Option.{option_map}
@@ -14,9 +14,9 @@ use Rattle.hyphenation_grammar.specs.declared.form.Form.{Form}
 use Rattle.hyphenation_grammar.specs.declared.form.Kind.{Kind}
 use Rattle.hyphenation_grammar.specs.Items.{break_of_token}
 use Rattle.hyphenation_grammar.specs.Judging.{is_good_later_token, is_extended, has_value_at}
-use Rattle.hyphenation_breaks.specs.Invariant.{fits_usize, can_be_said, can_be_said_if_any, stays_within}
+use Rattle.hyphenation_breaks.specs.Invariant.{fits_usize, can_be_written, can_be_written_if_any, stays_within}
 use Rattle.hyphenation_grammar.specs.Lines.{is_number, number, is_same}
-use Rattle.hyphenation_grammar.specs.Tokens.{escaped_bytes_of, text_spelt, parts_within, parts_of, put_byte, has_comma, numerals_of, is_readable, place_of_token, change_of_token, is_whole, bytes_of}
+use Rattle.hyphenation_grammar.specs.Tokens.{escaped_bytes_of, text_spelt, parts_within, parts_of, put_byte, has_comma, numerals_of, is_readable, place_of_token, change_of_token, has_five_parts, bytes_of}
 use Rattle.hyphenation_writer.specs.Canonical.{byte_spelling, text_token, before_comma, break_token}
 use Rattle.hyphenation_grammar.specs.declared.tokens.Escapes.TheVariants.{Plain}
 use Rattle.hyphenation_grammar.specs.declared.tokens.PatternElement.{PatternElement}
@@ -106,7 +106,7 @@ pub record Tells (token : List ℕ) (b : Break) : Type 0 where
   pub numbers : list_all is_number (numerals_of token) ≡ true
   pub listed : break_of_token token ≡ b
   pub comma : has_comma token ≡ is_some b.change
-  pub whole : is_some b.change ≡ true → is_whole token ≡ true
+  pub whole : is_some b.change ≡ true → has_five_parts token ≡ true
   pub utf8 : IsUtf8 token
   pub free : (c : ℕ) → IsGap c → Free c token
 
@@ -174,7 +174,7 @@ below : (n : ℕ) → nat_lt n (2 ^ 64) ≡ true → n < 2 ^ 64
 below n e = grind (arith, nat_tests)
 
 -- each break that can be said
-pub tells : (place : ℕ) (change : Option Change) → fits_usize place ≡ true → can_be_said_if_any change ≡ true → Tells (break_token place change) (record { place = place; change = change })
+pub tells : (place : ℕ) (change : Option Change) → fits_usize place ≡ true → can_be_written_if_any change ≡ true → Tells (break_token place change) (record { place = place; change = change })
 tells place None h w = tells_place place (below place h)
 tells place (Some c) h w =
     let w3 = first_so (fits_usize c.left && fits_usize c.right && fits_usize c.breakpoint) (is_utf8 c.substitution) w in
@@ -195,7 +195,7 @@ module _ (form : Form) (in_pattern : Bool) (marks : List PatternElement) (text :
   pub good : (token : List ℕ) (place : ℕ) (change : Option Change) → Tells token (record { place = place; change = change }) → is_allowed form.kind change ≡ true → stays_within text place change ≡ true
       → (in_pattern ≡ true → (is_some change ≡ true) × (has_value_at marks place ≡ true)) → is_good_later_token form in_pattern marks text token ≡ true
   good token place None tells w stays belongs =
-      ap (λ (t : Bool). cond t (is_extended form.kind && is_whole token && keeps_within text (place_of_token token) (change_of_token token) && (not in_pattern || has_value_at marks (place_of_token token))) (not in_pattern)) tells.comma
+      ap (λ (t : Bool). cond t (is_extended form.kind && has_five_parts token && keeps_within text (place_of_token token) (change_of_token token) && (not in_pattern || has_value_at marks (place_of_token token))) (not in_pattern)) tells.comma
       ∙ off in_pattern (λ e. (belongs e).0)
     where
       off : (t : Bool) → (t ≡ true → false ≡ true) → not t ≡ true
@@ -205,11 +205,11 @@ module _ (form : Form) (in_pattern : Bool) (marks : List PatternElement) (text :
       let at : place_of_token token ≡ place = ap (λ (b : Break). b.place) tells.listed in
       let says : Some (change_of_token token) ≡ Some c = sym (ap (λ (t : Bool). cond {A = Option Change} t (Some (change_of_token token)) None) tells.comma) ∙ ap (λ (b : Break). b.change) tells.listed in
       let is : change_of_token token ≡ c = cc in
-      ap (λ (t : Bool). cond t (is_extended form.kind && is_whole token && keeps_within text (place_of_token token) (change_of_token token) && (not in_pattern || has_value_at marks (place_of_token token))) (not in_pattern)) tells.comma
-      ∙ ap (λ (p : ℕ). is_extended form.kind && is_whole token && keeps_within text p (change_of_token token) && (not in_pattern || has_value_at marks p)) at
-      ∙ ap (λ (ch : Change). is_extended form.kind && is_whole token && keeps_within text place ch && (not in_pattern || has_value_at marks place)) is
-      ∙ all (is_extended form.kind) (is_whole token) (keeps_within text place c) (has_value_at marks place) in_pattern
-      w (tells.whole refl) (second_so (fits_usize place && can_be_said c) (keeps_within text place c) stays) (λ e. (belongs e).1)
+      ap (λ (t : Bool). cond t (is_extended form.kind && has_five_parts token && keeps_within text (place_of_token token) (change_of_token token) && (not in_pattern || has_value_at marks (place_of_token token))) (not in_pattern)) tells.comma
+      ∙ ap (λ (p : ℕ). is_extended form.kind && has_five_parts token && keeps_within text p (change_of_token token) && (not in_pattern || has_value_at marks p)) at
+      ∙ ap (λ (ch : Change). is_extended form.kind && has_five_parts token && keeps_within text place ch && (not in_pattern || has_value_at marks place)) is
+      ∙ all (is_extended form.kind) (has_five_parts token) (keeps_within text place c) (has_value_at marks place) in_pattern
+      w (tells.whole refl) (second_so (fits_usize place && can_be_written c) (keeps_within text place c) stays) (λ e. (belongs e).1)
     where
       all : (a b d h t : Bool) → a ≡ true → b ≡ true → d ≡ true → (t ≡ true → h ≡ true) → (a && b && d && (not t || h)) ≡ true
       all a b d h true x y z v = rw (x, y, z, v refl) refl

@@ -1,4 +1,4 @@
--- A line that is spelt passes its tests, and spells again what it was spelt of.
+-- A line as it is written passes its tests, and spells the pattern or exception that it was written for.
 use Rattle.std.proofs.Common.{◌≡◌, ℕ, suc, ◌+◌, ◌<◌, ◌≤◌, Bool, true, false, cond, not, ◌&&◌, ◌||◌, ◌==◌, eqb, nat_le, nat_lt, List, [], ◌∷◌, ◌++◌, length, drop, map, get_or, Option, Some, None, is_some, is_none, unwrap_or, refl, sym, ap, ◌∙◌, arith}
 use Rattle.std.specs.Prelude.{IsUtf8}
 use Rattle.std.specs.List.{find, list_all, list_any, slice_split, AllByRecursion}
@@ -7,7 +7,7 @@ use Rattle.std.proofs.lemmas.List.{append-nil}
 use Rattle.std.proofs.lemmas.List.Elements.{All-from_recursion}
 use Rattle.std.proofs.lemmas.List.Splits.{slice_split_at, slice_split_none}
 use Rattle.std.proofs.lemmas.Str.{IsUtf8-append, IsUtf8-nil, is_utf8-from_IsUtf8}
-use Rattle.std.proofs.lemmas.Bool.{leb-true, and_from, and_left, and_right, le-leb, ltb-true, not-true, or_left, or_right}
+use Rattle.std.proofs.lemmas.Bool.{leb-true, and_from, and_left, and_right, le-leb, ltb-true, or_left, or_right}
 use Rattle.std.proofs.lemmas.Bool.Decides.{nat_tests}
 use Rattle.hyphenation_breaks.specs.Break.{Break, Change, ascend_on, is_boundary, keeps_within}
 use Rattle.hyphenation_grammar.specs.declared.form.Form.{Form}
@@ -15,7 +15,7 @@ use Rattle.hyphenation_grammar.specs.declared.form.Kind.{Kind}
 use Rattle.hyphenation_grammar.specs.declared.form.Version.{Version}
 use Rattle.hyphenation_grammar.specs.Items.{break_of_token, change_at, pattern_of_line, exception_of_line}
 use Rattle.hyphenation_grammar.specs.Judging.{is_good_later_token, has_value_at, fails, own_cause, is_known}
-use Rattle.hyphenation_breaks.specs.Invariant.{fits_usize, can_be_said, can_be_said_if_any, stays_within, lists_within, is_value, are_entries, are_listed, has_letter}
+use Rattle.hyphenation_breaks.specs.Invariant.{fits_usize, can_be_written, can_be_written_if_any, stays_within, lists_within, is_value, are_entries, are_listed, has_letter}
 use Rattle.hyphenation_grammar.specs.Lines.{is_number}
 use Rattle.hyphenation_grammar.specs.Tokens.{elements_of, pattern_bytes, text_spelt, key_of, values_from, two_values, numerals_of, is_readable, place_of_token}
 use Rattle.hyphenation_writer.specs.Canonical.{elements_for, pattern_token, text_token, break_token, later_tokens, onto_changes, changes_of, pattern_line, exception_line}
@@ -40,17 +40,17 @@ token_of b = break_token b.place b.change
 abbrev pub tokens_for : List Break → List (List ℕ)
 tokens_for bs = map token_of bs
 
--- What a text of that kind can say as a break.
+-- A break that a text of that kind can write.
 abbrev pub is_sayable : Kind → Break → Bool
-is_sayable kind b = fits_usize b.place && can_be_said_if_any b.change && is_allowed kind b.change
+is_sayable kind b = fits_usize b.place && can_be_written_if_any b.change && is_allowed kind b.change
 
 abbrev pub are_allowed : Kind → List Break → Bool
 are_allowed kind bs = list_all (λ b. is_allowed kind b.change) bs
 
--- What is listed for a text can be said.
-said_of : (text : List ℕ) (place : ℕ) (o : Option Change) → stays_within text place o ≡ true → can_be_said_if_any o ≡ true
+-- Breaks that may be listed for a text can be written.
+said_of : (text : List ℕ) (place : ℕ) (o : Option Change) → stays_within text place o ≡ true → can_be_written_if_any o ≡ true
 said_of text place None s = refl
-said_of text place (Some c) s = second_so (fits_usize place) (can_be_said c) (first_so (fits_usize place && can_be_said c) (keeps_within text place c) s)
+said_of text place (Some c) s = second_so (fits_usize place) (can_be_written c) (first_so (fits_usize place && can_be_written c) (keeps_within text place c) s)
 
 abbrev are_within : List ℕ → List Break → Bool
 are_within text bs = list_all (λ b. lists_within text b.place b.change) bs
@@ -60,16 +60,16 @@ listed-sayable kind text [] l w = refl
 listed-sayable kind text (b ∷ bs) l w =
     let here = first_so (lists_within text b.place b.change) (are_within text bs) l in
     and_from (is_sayable kind b) (list_all (is_sayable kind) bs)
-    (and_from (fits_usize b.place && can_be_said_if_any b.change) (is_allowed kind b.change)
-    (and_from (fits_usize b.place) (can_be_said_if_any b.change) (first_so (fits_usize b.place) (stays_within text b.place b.change) here) (said_of text b.place b.change (second_so (fits_usize b.place) (stays_within text b.place b.change) here)))
+    (and_from (fits_usize b.place && can_be_written_if_any b.change) (is_allowed kind b.change)
+    (and_from (fits_usize b.place) (can_be_written_if_any b.change) (first_so (fits_usize b.place) (stays_within text b.place b.change) here) (said_of text b.place b.change (second_so (fits_usize b.place) (stays_within text b.place b.change) here)))
     (first_so (is_allowed kind b.change) (are_allowed kind bs) w))
     (listed-sayable kind text bs (second_so (lists_within text b.place b.change) (are_within text bs) l) (second_so (is_allowed kind b.change) (are_allowed kind bs) w))
 
 module _ (form : Form) where
   tell : (b : Break) → is_sayable form.kind b ≡ true → Tells (token_of b) b
   tell b w =
-      let front = first_so (fits_usize b.place && can_be_said_if_any b.change) (is_allowed form.kind b.change) w in
-      tells b.place b.change (first_so (fits_usize b.place) (can_be_said_if_any b.change) front) (second_so (fits_usize b.place) (can_be_said_if_any b.change) front)
+      let front = first_so (fits_usize b.place && can_be_written_if_any b.change) (is_allowed form.kind b.change) w in
+      tells b.place b.change (first_so (fits_usize b.place) (can_be_written_if_any b.change) front) (second_so (fits_usize b.place) (can_be_written_if_any b.change) front)
 
   first_of : (b : Break) (bs : List Break) → list_all (is_sayable form.kind) (b ∷ bs) ≡ true → is_sayable form.kind b ≡ true
   first_of b bs w = first_so (is_sayable form.kind b) (list_all (is_sayable form.kind) bs) w
@@ -117,7 +117,7 @@ module _ (form : Form) where
   good_each in_pattern marks text [] w l belong = refl
   good_each in_pattern marks text (b ∷ bs) w l belong =
       and_from (is_good_later_token form in_pattern marks text (token_of b)) (list_all (is_good_later_token form in_pattern marks text) (tokens_for bs))
-      (good form in_pattern marks text (token_of b) b.place b.change (tell b (first_of b bs w)) (second_so (fits_usize b.place && can_be_said_if_any b.change) (is_allowed form.kind b.change) (first_of b bs w))
+      (good form in_pattern marks text (token_of b) b.place b.change (tell b (first_of b bs w)) (second_so (fits_usize b.place && can_be_written_if_any b.change) (is_allowed form.kind b.change) (first_of b bs w))
       (second_so (fits_usize b.place) (stays_within text b.place b.change) (first_so (lists_within text b.place b.change) (are_within text bs) l)) (λ e. (belong e).0))
       (good_each in_pattern marks text bs (rest_of b bs w) (second_so (lists_within text b.place b.change) (are_within text bs) l) (λ e. (belong e).1))
 
@@ -288,7 +288,7 @@ changes-within key least (e ∷ es) a = let t = entry_tests key least e es a in 
     by : (p : ℕ) (o : Option Change) → stays_within key p o ≡ true → are_within key (changes_of es) ≡ true → are_within key (onto_changes p o (changes_of es)) ≡ true
     by p None s more = more
     by p (Some c) s more =
-        let short = first_so (fits_usize p) (can_be_said c) (first_so (fits_usize p && can_be_said c) (keeps_within key p c) s) in
+        let short = first_so (fits_usize p) (can_be_written c) (first_so (fits_usize p && can_be_written c) (keeps_within key p c) s) in
         and_from (lists_within key p (Some c)) (are_within key (changes_of es)) (and_from (fits_usize p) (stays_within key p (Some c)) short s) more
 
 -- each of them belongs to a value
@@ -403,7 +403,7 @@ module _ (in_order : EntriesInOrder (Option Change)) (form : Form) (whole : List
             ∙ ap not (and_from (nat_lt 0 (length first) && is_some (pattern_bytes form.version first)) (list_all is_readable (tokens_for the_breaks)) (and_from (nat_lt 0 (length first)) (is_some (pattern_bytes form.version first)) (some_byte form.version first the_marks whole p_marks p_key letter) (signs-again form.version the_marks p_spelt)) (readable_each form the_breaks p_writable));
         value = ap (λ (ts : List (List ℕ)). is_none (elements_of form.version (get_or ts 0 []))) p_toks ∙ ap is_none p_marks;
         pattern = ap (λ (ts : List (List ℕ)). two_values false (read_marks (get_or ts 0 []))) p_toks ∙ ap (λ (o : Option (List PatternElement)). two_values false (unwrap_or o [])) p_marks ∙ no_two 0 whole es;
-        letters = ap (λ (ts : List (List ℕ)). list_all (λ b. b == 46) (key_of (read_marks (get_or ts 0 [])))) p_toks ∙ ap (λ (o : Option (List PatternElement)). list_all (λ b. b == 46) (key_of (unwrap_or o []))) p_marks ∙ ap (list_all (λ b. b == 46)) p_key ∙ not-true (list_all (λ b. b == 46) whole) letter;
+        letters = ap (λ (ts : List (List ℕ)). not (has_letter (key_of (read_marks (get_or ts 0 []))))) p_toks ∙ ap (λ (o : Option (List PatternElement)). not (has_letter (key_of (unwrap_or o [])))) p_marks ∙ ap (λ (k : List ℕ). not (has_letter k)) p_key ∙ ap not letter;
         number = ap (λ (ts : List (List ℕ)). not (list_all (λ token. list_all is_number (numerals_of token)) (drop 1 ts))) p_toks ∙ ap not (numbers_each form the_breaks p_writable);
         place = ap (λ (ts : List (List ℕ)). not (ascend_on (key_of (read_marks (get_or ts 0 []))) 0 (map place_of_token (drop 1 ts)))) p_toks
             ∙ ap (λ (o : Option (List PatternElement)). not (ascend_on (key_of (unwrap_or o [])) 0 (map place_of_token (tokens_for the_breaks)))) p_marks

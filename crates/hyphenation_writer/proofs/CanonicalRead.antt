@@ -18,12 +18,12 @@ use Rattle.hyphenation_breaks.specs.Break.{Break, Change, ascend_on}
 use Rattle.hyphenation_breaks.specs.Dictionary.{Contents}
 use Rattle.hyphenation_grammar.specs.Form.{head_line, head_of, version_by}
 use Rattle.hyphenation_grammar.specs.Items.{key_of_line, word_of_line, key_spelt, word_spelt, pattern_of_line, exception_of_line}
-use Rattle.hyphenation_grammar.specs.Judging.{own_cause, repetition, stands_in, fault_of, fault_after, refusal_of, fails}
+use Rattle.hyphenation_grammar.specs.Judging.{own_cause, repetition, is_repeated, fault_of, fault_after, refusal_of, fails}
 use Rattle.hyphenation_breaks.specs.Invariant.{IsDictionary, IsPattern, IsException, is_value, are_entries, are_listed, stays_within, lists_within}
 use Rattle.hyphenation_breaks.specs.Language.{is_code_byte, IsCode}
-use Rattle.hyphenation_grammar.specs.Lines.{language_of, minima_of, small_of, two_small, lines_of}
+use Rattle.hyphenation_grammar.specs.Lines.{language_of, minima_of, number_to_255, two_minima, lines_of}
 use Rattle.hyphenation_grammar.specs.Reading.{map_of_lines, spelling_as, entry_as, contents_in, contents_of}
-use Rattle.hyphenation_writer.specs.Canonical.{entry_as_said, pattern_line, exception_line, minima_line, language_line, canonical_lines, canonical_text_of, are_digits, version_for}
+use Rattle.hyphenation_writer.specs.Canonical.{entry_as_spelt, pattern_line, exception_line, minima_line, language_line, canonical_lines, canonical_text_of, are_digits, version_for}
 use Rattle.hyphenation_writer.specs.Laws.{HoldsExactly}
 use Rattle.hyphenation_breaks.specs.declared.entry.Entry.{Entry}
 use Rattle.hyphenation_grammar.specs.declared.Cause.{Cause}
@@ -126,7 +126,7 @@ minima_split l r hl hr =
     ∙ ap (λ (ts : List (List ℕ)). decimal l ∷ ts) (slice_split_none (λ b. eqb b 32) (decimal r) (All-from_recursion (λ b. eqb b 32 ≡ false) (decimal r) (digits-free 32 r (omega arith) (wide r hr))))
 
 minima_again : (l r : ℕ) → l ≤ 255 → r ≤ 255 → minima_of (minima_line l r) ≡ Some (l, r)
-minima_again l r hl hr = ap two_small (minima_split l r hl hr) ∙ two (small_of (decimal l)) (small_of (decimal r)) (small-again l hl) (small-again r hr)
+minima_again l r hl hr = ap two_minima (minima_split l r hl hr) ∙ two (number_to_255 (decimal l)) (number_to_255 (decimal r)) (small-again l hl) (small-again r hr)
   where
     two : (a b : Option ℕ) → a ≡ Some l → b ≡ Some r → option_and_then {U = ℕ × ℕ} (λ left. option_map {U = ℕ × ℕ} (λ right. (left, right)) b) a ≡ Some (l, r)
     two a b x y = rw (x, y) refl
@@ -152,21 +152,21 @@ one_allowed Standard o f = ap (is_allowed Standard) (f refl)
 one_allowed Extended None f = refl
 one_allowed Extended (Some c) f = refl
 
-values-small : {C : Type 0} (change_of : C → Option Change) (q : List ℕ) (es : List (Entry C)) → list_all (is_entry change_of q) es ≡ true → are_small Second (map (entry_as_said change_of) es) ≡ true
+values-small : {C : Type 0} (change_of : C → Option Change) (q : List ℕ) (es : List (Entry C)) → list_all (is_entry change_of q) es ≡ true → are_small Second (map (entry_as_spelt change_of) es) ≡ true
 values-small change_of q [] a = refl
 values-small change_of q (e ∷ es) a =
     let value = first_so (is_value e.value) (stays_within q e.place (change_of e.change)) (first_so (is_entry change_of q e) (list_all (is_entry change_of q) es) a) in
-    and_from (nat_le e.value 255) (are_small Second (map (entry_as_said change_of) es)) (second_so (nat_lt 0 e.value) (nat_le e.value 255) value)
+    and_from (nat_le e.value 255) (are_small Second (map (entry_as_spelt change_of) es)) (second_so (nat_lt 0 e.value) (nat_le e.value 255) value)
     (values-small change_of q es (second_so (is_entry change_of q e) (list_all (is_entry change_of q) es) a))
 
-digits-small : {C : Type 0} (change_of : C → Option Change) (es : List (Entry C)) → are_digits es ≡ true → are_small First (map (entry_as_said change_of) es) ≡ true
+digits-small : {C : Type 0} (change_of : C → Option Change) (es : List (Entry C)) → are_digits es ≡ true → are_small First (map (entry_as_spelt change_of) es) ≡ true
 digits-small change_of [] e = refl
-digits-small change_of (x ∷ es) e = and_from (nat_le x.value 9) (are_small First (map (entry_as_said change_of) es)) (first_so (nat_le x.value 9) (are_digits es) e) (digits-small change_of es (second_so (nat_le x.value 9) (are_digits es) e))
+digits-small change_of (x ∷ es) e = and_from (nat_le x.value 9) (are_small First (map (entry_as_spelt change_of) es)) (first_so (nat_le x.value 9) (are_digits es) e) (digits-small change_of es (second_so (nat_le x.value 9) (are_digits es) e))
 
 -- ---- The dictionary.
 
 module _ (in_order : EntriesInOrder (Option Change)) (are_text : CodesAreText) {C B : Type 0} (kind : Kind) (payload_of : Option Change → C) (listing_of : Break → B) (change_of : C → Option Change) (break_of : B → Break)
-    (exact : HoldsExactly kind payload_of listing_of change_of break_of) (contents : Contents C B) (kept : IsDictionary change_of break_of contents) where
+    (exact : HoldsExactly {C = C} {B = B} kind (record { payload_of = payload_of; listing_of = listing_of; change_of = change_of; break_of = break_of })) (contents : Contents C B) (kept : IsDictionary change_of break_of contents) where
   abbrev version : Version
   version = version_for contents
 
@@ -174,7 +174,7 @@ module _ (in_order : EntriesInOrder (Option Change)) (are_text : CodesAreText) {
   form = record { kind = kind; version = version_for contents }
 
   abbrev p_line : List ℕ × List (Entry C) → List ℕ
-  p_line x = pattern_line version x.0 (map (entry_as_said change_of) x.1)
+  p_line x = pattern_line version x.0 (map (entry_as_spelt change_of) x.1)
 
   abbrev e_line : List ℕ × List B → List ℕ
   e_line x = exception_line x.0 (map break_of x.1)
@@ -186,10 +186,10 @@ module _ (in_order : EntriesInOrder (Option Change)) (are_text : CodesAreText) {
   e_lines = map e_line (finite.entries contents.exceptions)
 
   -- what a dictionary holds says what it carries
-  as_entries : (q : List ℕ) (es : List (Entry C)) → are_entries (λ c. c) q (map (entry_as_said change_of) es) ≡ are_entries change_of q es
+  as_entries : (q : List ℕ) (es : List (Entry C)) → are_entries (λ c. c) q (map (entry_as_spelt change_of) es) ≡ are_entries change_of q es
   as_entries q es =
-      let places : map (λ e. e.place) (map (entry_as_said change_of) es) ≡ map (λ e. e.place) es = map-map (λ e. e.place) (entry_as_said change_of) es in
-      let each : list_all (is_entry (λ c. c) q) (map (entry_as_said change_of) es) ≡ list_all (is_entry change_of q) es = list_all-map (is_entry (λ c. c) q) (entry_as_said change_of) es in
+      let places : map (λ e. e.place) (map (entry_as_spelt change_of) es) ≡ map (λ e. e.place) es = map-map (λ e. e.place) (entry_as_spelt change_of) es in
+      let each : list_all (is_entry (λ c. c) q) (map (entry_as_spelt change_of) es) ≡ list_all (is_entry change_of q) es = list_all-map (is_entry (λ c. c) q) (entry_as_spelt change_of) es in
       λ i. ascend_on q 0 (places i) && each i
 
   as_listed : (q : List ℕ) (bs : List B) → are_listed (λ b. b) q (map break_of bs) ≡ are_listed break_of q bs
@@ -198,7 +198,7 @@ module _ (in_order : EntriesInOrder (Option Change)) (are_text : CodesAreText) {
       let within : list_all (λ b. lists_within q b.place b.change) (map break_of bs) ≡ list_all (λ b. lists_within q (break_of b).place (break_of b).change) bs = list_all-map (λ b. lists_within q b.place b.change) break_of bs in
       λ i. ascend_on q 0 (places i) && within i
 
-  entries-back : (es : List (Entry C)) → map (entry_as payload_of) (map (entry_as_said change_of) es) ≡ es
+  entries-back : (es : List (Entry C)) → map (entry_as payload_of) (map (entry_as_spelt change_of) es) ≡ es
   entries-back [] = refl
   entries-back (e ∷ es) = λ i. record { place = e.place; value = e.value; change = exact.changes e.change i } ∷ entries-back es i
 
@@ -207,9 +207,9 @@ module _ (in_order : EntriesInOrder (Option Change)) (are_text : CodesAreText) {
   listed-back (b ∷ bs) = λ i. exact.breaks b i ∷ listed-back bs i
 
   -- a standard dictionary holds no change
-  entries-allowed : (es : List (Entry C)) → have_allowed kind (map (entry_as_said change_of) es) ≡ true
+  entries-allowed : (es : List (Entry C)) → have_allowed kind (map (entry_as_spelt change_of) es) ≡ true
   entries-allowed [] = refl
-  entries-allowed (e ∷ es) = and_from (is_allowed kind (change_of e.change)) (have_allowed kind (map (entry_as_said change_of) es)) (one_allowed kind (change_of e.change) (λ is. exact.no_change is e.change)) (entries-allowed es)
+  entries-allowed (e ∷ es) = and_from (is_allowed kind (change_of e.change)) (have_allowed kind (map (entry_as_spelt change_of) es)) (one_allowed kind (change_of e.change) (λ is. exact.no_change is e.change)) (entries-allowed es)
 
   listed-allowed : (bs : List B) → are_allowed kind (map break_of bs) ≡ true
   listed-allowed [] = refl
@@ -220,7 +220,7 @@ module _ (in_order : EntriesInOrder (Option Change)) (are_text : CodesAreText) {
   keys_kept = all-entries (IsPattern change_of) contents.patterns kept.patterns
 
   abbrev IsSmall : Version → List ℕ → List (Entry C) → Type 0
-  IsSmall v q es = are_small v (map (entry_as_said change_of) es) ≡ true
+  IsSmall v q es = are_small v (map (entry_as_spelt change_of) es) ≡ true
 
   keys_small : AllPairs (IsSmall version) (finite.entries contents.patterns)
   keys_small = by (list_all (λ x. are_digits x.1) (finite.entries contents.patterns)) refl
@@ -234,17 +234,17 @@ module _ (in_order : EntriesInOrder (Option Change)) (are_text : CodesAreText) {
   -- each key_of_line, and each word_of_line
   record KeyLine (q : List ℕ) (es : List (Entry C)) : Type 0 where
     faultless : Faultless form (p_line (q, es))
-    spelt : pattern_of_line version (p_line (q, es)) ≡ Some (q, map (entry_as_said change_of) es)
+    spelt : pattern_of_line version (p_line (q, es)) ≡ Some (q, map (entry_as_spelt change_of) es)
     feed : Free 10 (p_line (q, es))
 
   key_line : (q : List ℕ) (es : List (Entry C)) → IsPattern change_of q es → IsSmall version q es → KeyLine q es
   key_line q es is small =
       let w = entries-allowed es in
-      let a : are_entries (λ c. c) q (map (entry_as_said change_of) es) ≡ true = as_entries q es ∙ is.ascend in
+      let a : are_entries (λ c. c) q (map (entry_as_spelt change_of) es) ≡ true = as_entries q es ∙ is.ascend in
       record {
-        faultless = pattern-faultless in_order form q (map (entry_as_said change_of) es) is.utf8 is.letter small w a;
-        spelt = pattern-spelt in_order form q (map (entry_as_said change_of) es) is.utf8 is.letter small w a;
-        feed = pattern-feed in_order form q (map (entry_as_said change_of) es) is.utf8 is.letter small w a;
+        faultless = pattern-faultless in_order form q (map (entry_as_spelt change_of) es) is.utf8 is.letter small w a;
+        spelt = pattern-spelt in_order form q (map (entry_as_spelt change_of) es) is.utf8 is.letter small w a;
+        feed = pattern-feed in_order form q (map (entry_as_spelt change_of) es) is.utf8 is.letter small w a;
       }
 
   key_lines : AllPairs KeyLine (finite.entries contents.patterns)
@@ -275,7 +275,7 @@ module _ (in_order : EntriesInOrder (Option Change)) (are_text : CodesAreText) {
       record {
         own = λ n big. own-none form n (p_line (q, es)) big k.faultless;
         says = says;
-        alone = λ earlier none. ap (λ (t : List ℕ). cond {A = Option Cause} (stands_in (key_spelt version) earlier t) (Some RepeatedPattern) None) is ∙ ap (λ (b : Bool). cond {A = Option Cause} b (Some RepeatedPattern) None) none;
+        alone = λ earlier none. ap (λ (t : List ℕ). cond {A = Option Cause} (is_repeated (key_spelt version) earlier t) (Some RepeatedPattern) None) is ∙ ap (λ (b : Bool). cond {A = Option Cause} b (Some RepeatedPattern) None) none;
       }
 
   word_fine : (q : List ℕ) (bs : List B) → WordLine q bs → Fine form word_spelt e_line q bs
@@ -285,7 +285,7 @@ module _ (in_order : EntriesInOrder (Option Change)) (are_text : CodesAreText) {
       record {
         own = λ n big. own-none form n (e_line (q, bs)) big k.faultless;
         says = says;
-        alone = λ earlier none. ap (λ (t : List ℕ). cond {A = Option Cause} (stands_in word_spelt earlier t) (Some RepeatedException) None) is ∙ ap (λ (b : Bool). cond {A = Option Cause} b (Some RepeatedException) None) none;
+        alone = λ earlier none. ap (λ (t : List ℕ). cond {A = Option Cause} (is_repeated word_spelt earlier t) (Some RepeatedException) None) is ∙ ap (λ (b : Bool). cond {A = Option Cause} b (Some RepeatedException) None) none;
       }
 
   abbrev the_heads : List (List ℕ)

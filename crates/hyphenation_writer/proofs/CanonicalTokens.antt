@@ -1,4 +1,4 @@
--- What the canonical text spells is read again: escapes, marks, keys and values, lines.
+-- Tokens and lines of the canonical text are read again: escapes, elements, keys and values.
 use Rattle.std.proofs.Common.{◌≡◌, ℕ, ◌+◌, ◌<◌, ◌≤◌, Bool, true, false, cond, not, ◌&&◌, ◌||◌, eqb, nat_le, List, [], ◌∷◌, ◌++◌, length, map, Option, Some, None, is_some, refl, sym, ap, subst, ◌∙◌, append_assoc, arith}
 use Rattle.std.specs.Prelude.{flat_map, decimal}
 use Rattle.std.specs.Option.{option_map, option_and_then}

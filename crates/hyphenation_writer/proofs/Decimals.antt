@@ -6,7 +6,7 @@ use Rattle.std.proofs.lemmas.Fmt.{decimal_by_steps, IsAscii-decimal}
 use Rattle.std.proofs.lemmas.Bool.{and_from, le-leb}
 use Rattle.std.proofs.lemmas.Bool.Decides.{nat_tests}
 use Rattle.std.proofs.lemmas.Str.{IsUtf8-from_ascii}
-use Rattle.hyphenation_grammar.specs.Lines.{is_digit, with_digit, number, has_no_leading_zero, is_number, small_of}
+use Rattle.hyphenation_grammar.specs.Lines.{is_digit, with_digit, number, has_no_leading_zero, is_number, number_to_255}
 use Rattle.hyphenation_grammar.specs.Tokens.{braced_value}
 use Rattle.std.specs.Cmp.{first_so, second_so}
 
@@ -84,7 +84,7 @@ all-digits P each (b ∷ ds) e = (each b (first_so (is_digit b) (list_all is_dig
 pub wide : (n : ℕ) → n ≤ 255 → n < 2 ^ 64
 wide n h = omega arith
 
-pub small-again : (n : ℕ) → n ≤ 255 → small_of (decimal n) ≡ Some n
+pub small-again : (n : ℕ) → n ≤ 255 → number_to_255 (decimal n) ≡ Some n
 small-again n h =
     let d = decimal-number n (wide n h) in
     ap (λ (t : Bool). cond {A = Option ℕ} t (Some (number (decimal n))) None) (and_from (is_number (decimal n)) (nat_le (number (decimal n)) 255) d.0 (ap (λ (k : ℕ). nat_le k 255) d.1 ∙ le-leb n 255 h)) ∙ ap (λ (k : ℕ). Some k) d.1

@@ -1,4 +1,4 @@
--- The canonical text takes the first version where it can say each value.
+-- The canonical text takes the first version if that can write each value.
 use Rattle.std.proofs.Common.{◌≡◌, ℕ, suc, ◌≤◌, Bool, true, false, cond, eqb, nat_le, List, [], ◌∷◌, length, drop, get_or, Option, Some, refl, sym, ap, ◌∙◌, append_assoc, arith}
 use Rattle.std.specs.Prelude.{◌↔◌}
 use Rattle.std.specs.List.{list_all, slice_split, All, AllByRecursion}

@@ -1,4 +1,4 @@
--- What is spelt holds no space, no line feed, and in its numbers no comma.
+-- Tokens as they are written have no space and no line feed, and their numbers no comma.
 use Rattle.std.proofs.Common.{◌≡◌, ℕ, ◌+◌, ◌^◌, ◌<◌, ◌≤◌, Bool, true, false, cond, ◌||◌, eqb, nat_le, List, [], ◌∷◌, ◌++◌, refl, arith}
 use Rattle.std.specs.Prelude.{decimal, flat_map}
 use Rattle.std.specs.List.{AllByRecursion}

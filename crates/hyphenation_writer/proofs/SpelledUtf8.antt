@@ -1,4 +1,4 @@
--- What is spelt of UTF-8 is UTF-8.
+-- Tokens written for UTF-8 are UTF-8.
 use Rattle.std.proofs.Common.{◌≡◌, ℕ, suc, ◌+◌, ◌^◌, ◌<◌, ◌≤◌, Bool, true, false, cond, ◌&&◌, ◌||◌, eqb, nat_le, nat_lt, List, [], ◌∷◌, ◌++◌, length, get_or, Option, refl, sym, ap, subst, ◌∙◌, append_assoc, arith, length-append}
 use Rattle.std.specs.Prelude.{IsUtf8, IsCharBoundary, flat_map, decimal}
 use Rattle.std.proofs.lemmas.Bool.{eqb-true, leb-true}

@@ -1,4 +1,4 @@
--- A map that texts are put into is the finite map of their pairs.
+-- A map into which texts are inserted is the finite map of their pairs.
 use Rattle.std.proofs.Common.{◌≡◌, ℕ, suc, ◌+◌, ◌-◌, ◌<◌, List, [], ◌∷◌, length, drop, get_or, refl, sym, ap, ◌∙◌, Bor, arith, drop-cons, zero}
 use Rattle.std.specs.Ordering.{nat_cmp, match_ordering}
 use Rattle.std.specs.declared.cmp.Ordering.{Ordering}

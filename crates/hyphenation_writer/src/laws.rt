@@ -1,12 +1,13 @@
-//! Laws on the canonical texts of dictionaries, of either kind and in either version. Each function does nothing, and its
-//! contract is a law, which the check proves.
+//! Laws of canonical texts, for both kinds and both versions. Each function does nothing: its contract is a law, which
+//! the check proves.
 
-ghost use Rattle.hyphenation_writer.specs.Laws.{WrittenIsAccepted, WrittenGivesItAgain, CanonicalIsWrittenAgain, EqualTextsAreOfEquals, VersionIsLeast};
+ghost use Rattle.hyphenation_writer.specs.Laws.{WrittenIsAccepted, WrittenGivesItAgain, CanonicalIsWrittenAgain};
+ghost use Rattle.hyphenation_writer.specs.Laws.{EqualTextsAreOfEquals, VersionIsLeast};
 
 use hyphenation_breaks::extended::Subregion;
 use hyphenation_breaks::laws::{codes_are_text, entries_in_order};
 
-/// What was written is read again: the canonical text of a dictionary is accepted, and gives that very dictionary.
+/// The canonical text of a dictionary is accepted, and gives that very dictionary.
 pub fn written_is_read_again<C, B>()
     ensures accepted { WrittenIsAccepted C B }
     ensures equal { WrittenGivesItAgain C B }
@@ -15,7 +16,7 @@ pub fn written_is_read_again<C, B>()
     codes_are_text();
 }
 
-/// A canonical text is written again as it was: what is read of it has that very text.
+/// The dictionary that is read from a canonical text has that very text.
 pub fn canonical_is_written_again<C, B>()
     ensures { CanonicalIsWrittenAgain C B }
 {
@@ -31,7 +32,7 @@ pub fn equal_texts_are_of_equal_dictionaries<C, B>()
     codes_are_text();
 }
 
-/// The canonical text of a dictionary is of the first version exactly where each value is at most 9.
+/// The canonical text of a dictionary is of the first version exactly if each value is at most 9.
 pub fn version_is_least<C, B>()
     ensures { VersionIsLeast C B }
 {}

@@ -1,7 +1,7 @@
 //! The canonical texts of dictionaries.
 //!
-//! [`writer`] writes the one text of a dictionary that is canonical; [`laws`] says what is true of all texts that are
-//! written.
+//! [`writer`] writes the canonical text of a dictionary, from which it is read again; [`laws`] has what is true of all
+//! canonical texts.
 #![tactic(auto)]
 
 pub mod laws;

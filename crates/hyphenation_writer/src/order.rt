@@ -1,4 +1,4 @@
-//! Texts in the order of their bytes.
+//! Texts sorted by their bytes.
 
 ghost use Rattle.std.specs.Prelude.{◌≡◌, IfOk, map};
 ghost use Rattle.std.specs.FinMap as finite;
@@ -8,8 +8,8 @@ ghost use Rattle.hyphenation_writer.specs.Private.Ordered.{in_byte_order};
 use std::alloc::{AllocError, Global};
 use std::collections::BTreeMap;
 
-/// A map of texts, each with what is held of it. Of a text that stands twice the first counts.
-fn by_text<'a, X>(
+// Returns a map of texts with their values. If a text comes twice, its first value counts.
+fn sorted_map<'a, X>(
     alloc: Global,
     pairs: &[(&'a [u8], &'a [X])],
 ) -> Result<BTreeMap<&'a [u8], &'a [X]>, AllocError>
@@ -23,14 +23,14 @@ fn by_text<'a, X>(
     Ok(found)
 }
 
-/// Texts, each with what is held of it, in the order of their bytes. Of a text that stands twice the first counts.
+// Returns texts with their values, sorted by their bytes. If a text comes twice, its first value counts.
 pub(crate) fn in_order<'a, X>(
     alloc: Global,
     pairs: &[(&'a [u8], &'a [X])],
 ) -> Result<Vec<(&'a [u8], &'a [X])>, AllocError>
     ensures { IfOk result (λ found. pair_views found.items ≡ in_byte_order (pair_views pairs.now)) }
 {
-    let found = by_text(alloc, pairs)?;
+    let found = sorted_map(alloc, pairs)?;
     let mut sorted = Vec::with_capacity(alloc, found.len())?;
     for (text, held) in &found {
         sorted.push((*text, *held))?;

@@ -1,17 +1,25 @@
-//! The canonical text of a dictionary, piece by piece. Each function but the last ones appends to a text.
+//! The canonical text of a dictionary, piece by piece. Functions named `push_..` append to a text.
 
-ghost use Rattle.std.specs.Prelude.{◌≡◌, ◌++◌, ◌∷◌, [], None, Some, OnOk, IfOk, IfSome, IfNone, decimal, flat_map, map, nat_le, option_copied};
+ghost use Rattle.std.specs.Prelude.{◌≡◌, ◌++◌, ◌∷◌, [], None, Some, OnOk, IfOk, IfSome, IfNone, decimal, flat_map};
+ghost use Rattle.std.specs.Prelude.{map, nat_le, option_copied};
 ghost use Rattle.std.specs.List.{list_all};
 ghost use Rattle.std.specs.FinMap as finite;
-ghost use Rattle.hyphenation_writer.specs.Canonical.{are_digits, before_comma, break_token, byte_spelling, canonical_text_of, changes_of, with_line_feeds, entry_as_said, exception_line, language_line, later_tokens, element_spelling, minima_line, pattern_line, pattern_token, text_token, standard_text, extended_text};
+ghost use Rattle.hyphenation_breaks.specs.Ascii.{backslash, line_feed};
+ghost use Rattle.hyphenation_writer.specs.Canonical.{are_digits, before_comma, break_token, byte_spelling};
+ghost use Rattle.hyphenation_writer.specs.Canonical.{canonical_text_of, changes_of, with_line_feeds, entry_as_spelt};
+ghost use Rattle.hyphenation_writer.specs.Canonical.{exception_line, language_line, later_tokens, element_spelling};
+ghost use Rattle.hyphenation_writer.specs.Canonical.{minima_line, pattern_line, pattern_token, text_token};
+ghost use Rattle.hyphenation_writer.specs.Canonical.{standard_text, extended_text};
 ghost use Rattle.hyphenation_grammar.specs.Form.{head_line};
-ghost use Rattle.hyphenation_grammar.specs.declared.form.Kind.TheVariants.{Standard as OfStandard, Extended as OfExtended};
+ghost use Rattle.hyphenation_grammar.specs.declared.form.Kind.TheVariants.{Standard as OfStandard};
+ghost use Rattle.hyphenation_grammar.specs.declared.form.Kind.TheVariants.{Extended as OfExtended};
 ghost use Rattle.hyphenation_grammar.specs.Judging.{refusal_of};
 ghost use Rattle.hyphenation_grammar.specs.Reading.{standard_contents, extended_contents};
 ghost use Rattle.hyphenation_dictionary.specs.Parts.{pair_views};
 ghost use Rattle.hyphenation_writer.specs.Private.Ordered.{as_texts};
 ghost use Rattle.hyphenation_trie.specs.Keys.{key_views};
-ghost use Rattle.hyphenation_writer.specs.Private.Writing.{entries_after, key_line, first_value_at, version_of_keys, word_line};
+ghost use Rattle.hyphenation_writer.specs.Private.Writing.{entries_after, text_in_order, key_line, first_value_at, version_of_keys};
+ghost use Rattle.hyphenation_writer.specs.Private.Writing.{word_line};
 ghost use Rattle.hyphenation_grammar.specs.declared.tokens.Escapes.TheVariants.{Plain};
 ghost use Rattle.hyphenation_grammar.specs.declared.tokens.PatternElement.TheVariants.{Value};
 ghost use Rattle.hyphenation_grammar.specs.Tokens.{pattern_escapes};
@@ -29,10 +37,10 @@ use hyphenation_grammar::pattern::pattern_escapes;
 use hyphenation_grammar::tokens::{Escapes, escaped_also};
 use std::alloc::{AllocError, Global};
 
-/// The byte that stands for this one after a backslash, where this one must be escaped.
+// Returns the letter that means a byte after a backslash. `None` if the byte needs no escape.
 fn escape_of(escapes: Escapes, byte: u8) -> Option<u8>
-    ensures some { IfSome result (λ sign. byte_spelling escapes byte ≡ 92 ∷ sign ∷ []) }
-    ensures none { IfNone result (byte_spelling escapes byte ≡ byte ∷ []) }
+    ensures escaped { IfSome result (λ letter. byte_spelling escapes byte ≡ backslash ∷ letter ∷ []) }
+    ensures as_itself { IfNone result (byte_spelling escapes byte ≡ byte ∷ []) }
 {
     match byte {
         b'\\' => Some(b'\\'),
@@ -44,17 +52,17 @@ fn escape_of(escapes: Escapes, byte: u8) -> Option<u8>
     }
 }
 
-/// A byte of a text, escaped where it must be.
+// Appends a byte, with an escape if it needs one.
 fn push_byte(text: &mut Vec<u8>, escapes: Escapes, byte: u8) -> Result<(), AllocError>
     ensures { OnOk result (text.new.items ≡ text.old.items ++ byte_spelling escapes byte) }
 {
     match escape_of(escapes, byte) {
-        Some(sign) => text.extend_from_slice(&[b'\\', sign]),
+        Some(letter) => text.extend_from_slice(&[b'\\', letter]),
         None => text.extend_from_slice(&[byte]),
     }
 }
 
-/// The bytes of a text, escaped where they must be.
+// Appends bytes, with escapes where they need them.
 fn push_bytes(text: &mut Vec<u8>, escapes: Escapes, bytes: &[u8]) -> Result<(), AllocError>
     ensures { OnOk result (text.new.items ≡ text.old.items ++ flat_map (byte_spelling escapes) bytes.now) }
 {
@@ -64,7 +72,7 @@ fn push_bytes(text: &mut Vec<u8>, escapes: Escapes, bytes: &[u8]) -> Result<(), 
     Ok(())
 }
 
-/// A word or a substitution: the empty text is `\e`.
+// Appends a word or a substitution. The empty text is `\e`.
 fn push_text(text: &mut Vec<u8>, said: &[u8]) -> Result<(), AllocError>
     ensures { OnOk result (text.new.items ≡ text.old.items ++ text_token said.now) }
 {
@@ -74,7 +82,7 @@ fn push_text(text: &mut Vec<u8>, said: &[u8]) -> Result<(), AllocError>
     push_bytes(text, Escapes::Plain, said)
 }
 
-/// A number in decimal.
+// Appends a number in decimal.
 fn push_number(text: &mut Vec<u8>, number: usize) -> Result<(), AllocError>
     ensures { OnOk result (text.new.items ≡ text.old.items ++ decimal number) }
 {
@@ -82,7 +90,7 @@ fn push_number(text: &mut Vec<u8>, number: usize) -> Result<(), AllocError>
     text.extend_from_slice(digits.as_bytes())
 }
 
-/// A number and a comma.
+// Appends a number and a comma.
 fn push_part(text: &mut Vec<u8>, number: usize) -> Result<(), AllocError>
     ensures { OnOk result (text.new.items ≡ text.old.items ++ before_comma number []) }
 {
@@ -91,7 +99,7 @@ fn push_part(text: &mut Vec<u8>, number: usize) -> Result<(), AllocError>
     Ok(())
 }
 
-/// A change at a place.
+// Appends a later token: a change at a place.
 fn push_change(text: &mut Vec<u8>, place: usize, change: &Subregion) -> Result<(), AllocError>
     ensures { OnOk result (text.new.items ≡ text.old.items ++ break_token place (Some change.now)) }
 {
@@ -102,7 +110,7 @@ fn push_change(text: &mut Vec<u8>, place: usize, change: &Subregion) -> Result<(
     push_text(text, change.substitution.as_bytes())
 }
 
-/// A later token: a place, or a change at a place.
+// Appends a later token: a place, or a change at a place.
 fn push_break(
     text: &mut Vec<u8>,
     place: usize,
@@ -116,7 +124,7 @@ fn push_break(
     }
 }
 
-/// Listed breaks, each after a space.
+// Appends listed breaks, each after a space.
 fn push_listed<B: Listing>(text: &mut Vec<u8>, listed: &[B]) -> Result<(), AllocError>
     ensures { OnOk result (text.new.items ≡ text.old.items ++ later_tokens (map B.meaning listed.now)) }
 {
@@ -127,7 +135,7 @@ fn push_listed<B: Listing>(text: &mut Vec<u8>, listed: &[B]) -> Result<(), Alloc
     Ok(())
 }
 
-/// The line of a word with the breaks that are listed for it.
+// Appends the line of a word with its listed breaks, without a line feed.
 fn push_exception<B: Listing>(
     text: &mut Vec<u8>,
     word: &[u8],
@@ -140,7 +148,7 @@ fn push_exception<B: Listing>(
     push_listed(text, listed)
 }
 
-/// A value: a digit, or a greater one in braces.
+// Appends a value: a digit up to 9, a number in braces above.
 fn push_value(text: &mut Vec<u8>, version: Version, value: u8) -> Result<(), AllocError>
     ensures { OnOk result (text.new.items ≡ text.old.items ++ element_spelling version (Value value)) }
 {
@@ -153,7 +161,7 @@ fn push_value(text: &mut Vec<u8>, version: Version, value: u8) -> Result<(), All
     Ok(())
 }
 
-/// The value of the first of the entries, if that stands at this place. The entries that are left to be written.
+// Appends the value of the first entry, if that is at this place. Returns the entries not yet written.
 fn push_value_at<'a, C: Payload>(
     text: &mut Vec<u8>,
     version: Version,
@@ -172,7 +180,7 @@ fn push_value_at<'a, C: Payload>(
     }
 }
 
-/// A key with the values of its entries at their places.
+// Appends a key with the values of its entries at their places.
 fn push_key<C: Payload>(
     text: &mut Vec<u8>,
     version: Version,
@@ -180,7 +188,7 @@ fn push_key<C: Payload>(
     entries: &[Entry<C>],
 ) -> Result<(), AllocError>
     ensures { OnOk result (text.new.items ≡ text.old.items ++ pattern_token version key.now
-        (map (entry_as_said C.change_of) entries.now)) }
+        (map (entry_as_spelt C.change_of) entries.now)) }
 {
     let escapes = pattern_escapes(version);
     let mut rest = entries;
@@ -194,10 +202,10 @@ fn push_key<C: Payload>(
     }
 }
 
-/// The changes of entries at their places, each after a space.
+// Appends the changes of entries with their places, each after a space.
 fn push_changes<C: Payload>(text: &mut Vec<u8>, entries: &[Entry<C>]) -> Result<(), AllocError>
     ensures { OnOk result (text.new.items ≡ text.old.items ++ later_tokens
-        (changes_of (map (entry_as_said C.change_of) entries.now))) }
+        (changes_of (map (entry_as_spelt C.change_of) entries.now))) }
 {
     for entry in entries {
         if let Some(change) = entry.change.as_change() {
@@ -208,7 +216,7 @@ fn push_changes<C: Payload>(text: &mut Vec<u8>, entries: &[Entry<C>]) -> Result<
     Ok(())
 }
 
-/// The line of a key with its entries.
+// Appends the line of a key with its entries, without a line feed.
 fn push_pattern<C: Payload>(
     text: &mut Vec<u8>,
     version: Version,
@@ -216,14 +224,14 @@ fn push_pattern<C: Payload>(
     entries: &[Entry<C>],
 ) -> Result<(), AllocError>
     ensures { OnOk result (text.new.items ≡ text.old.items ++ pattern_line version key.now
-        (map (entry_as_said C.change_of) entries.now)) }
+        (map (entry_as_spelt C.change_of) entries.now)) }
 {
     text.extend_from_slice(b"p ")?;
     push_key(text, version, key, entries)?;
     push_changes(text, entries)
 }
 
-/// The lines of keys, in the order that they have here.
+// Appends the lines of keys, in their order here.
 fn push_patterns<C: Payload>(
     text: &mut Vec<u8>,
     version: Version,
@@ -239,7 +247,7 @@ fn push_patterns<C: Payload>(
     Ok(())
 }
 
-/// The lines of words, in the order that they have here.
+// Appends the lines of words, in their order here.
 fn push_exceptions<B: Listing>(
     text: &mut Vec<u8>,
     words: &[(&[u8], &[B])],
@@ -254,18 +262,18 @@ fn push_exceptions<B: Listing>(
     Ok(())
 }
 
-/// Line 1.
+// Appends line 1.
 fn push_head(text: &mut Vec<u8>, form: Form) -> Result<(), AllocError>
-    ensures { OnOk result (text.new.items ≡ text.old.items ++ (head_line form ++ 10 ∷ [])) }
+    ensures { OnOk result (text.new.items ≡ text.old.items ++ (head_line form ++ line_feed ∷ [])) }
 {
     text.extend_from_slice(head_of(form.kind, form.version))?;
     text.push(b'\n')?;
     Ok(())
 }
 
-/// Line 2.
+// Appends line 2.
 fn push_language(text: &mut Vec<u8>, language: Language) -> Result<(), AllocError>
-    ensures { OnOk result (text.new.items ≡ text.old.items ++ (language_line language ++ 10 ∷ [])) }
+    ensures { OnOk result (text.new.items ≡ text.old.items ++ (language_line language ++ line_feed ∷ [])) }
 {
     text.extend_from_slice(b"language ")?;
     text.extend_from_slice(language.code().as_bytes())?;
@@ -273,9 +281,9 @@ fn push_language(text: &mut Vec<u8>, language: Language) -> Result<(), AllocErro
     Ok(())
 }
 
-/// Line 3.
+// Appends line 3.
 fn push_minima(text: &mut Vec<u8>, left: usize, right: usize) -> Result<(), AllocError>
-    ensures { OnOk result (text.new.items ≡ text.old.items ++ (minima_line left right ++ 10 ∷ [])) }
+    ensures { OnOk result (text.new.items ≡ text.old.items ++ (minima_line left right ++ line_feed ∷ [])) }
 {
     text.extend_from_slice(b"minima ")?;
     push_number(text, left)?;
@@ -285,14 +293,14 @@ fn push_minima(text: &mut Vec<u8>, left: usize, right: usize) -> Result<(), Allo
     Ok(())
 }
 
-/// Whether each value is a digit.
+// Whether each value is at most 9.
 fn are_digits<C>(entries: &[Entry<C>]) -> bool
     ensures { result ≡ are_digits entries.now }
 {
     entries.iter().all(|entry| entry.value <= 9)
 }
 
-/// The first version where it can say each value of these keys, else the second.
+// Returns the first version if it can write each value of these keys, else the second.
 fn version_for<C>(keys: &[(&[u8], &[Entry<C>])]) -> Version
     ensures { result ≡ version_of_keys (pair_views keys.now) }
 {
@@ -304,22 +312,22 @@ fn version_for<C>(keys: &[(&[u8], &[Entry<C>])]) -> Version
     Version::First
 }
 
-/// Keys that are held, as they are lent.
-fn lent_keys<'a, X>(
+// Returns keys as slices.
+fn borrowed_keys<'a, X>(
     alloc: Global,
     keys: &'a [(Vec<u8>, &'a [X])],
 ) -> Result<Vec<(&'a [u8], &'a [X])>, AllocError>
-    ensures { IfOk result (λ lent. pair_views lent.items ≡ key_views keys.now) }
+    ensures { IfOk result (λ borrowed. pair_views borrowed.items ≡ key_views keys.now) }
 {
-    let mut lent = Vec::with_capacity(alloc, keys.len())?;
+    let mut borrowed = Vec::with_capacity(alloc, keys.len())?;
     for (key, held) in keys {
-        lent.push((key.as_slice(), *held))?;
+        borrowed.push((key.as_slice(), *held))?;
     }
-    Ok(lent)
+    Ok(borrowed)
 }
 
-/// The three head lines, and after them the lines of keys and of words, in the order that they have here.
-fn whole_text<C: Payload, B: Listing>(
+// Returns the three head lines and the lines of keys and words, in their order here.
+fn assemble_text<C: Payload, B: Listing>(
     alloc: Global,
     form: Form,
     language: Language,
@@ -327,11 +335,8 @@ fn whole_text<C: Payload, B: Listing>(
     keys: &[(&[u8], &[Entry<C>])],
     words: &[(&[u8], &[B])],
 ) -> Result<Vec<u8>, AllocError>
-    ensures { IfOk result (λ text.
-        text.items
-        ≡ with_line_feeds (head_line form ∷ language_line language ∷ minima_line minima.0 minima.1 ∷
-        (map (key_line form.version C.change_of) (pair_views keys.now) ++ map (word_line B.meaning) (pair_views
-        words.now)))) }
+    ensures { IfOk result (λ text. text.items
+        ≡ text_in_order form C.change_of B.meaning language minima (pair_views keys.now) (pair_views words.now)) }
 {
     let mut text = Vec::new(alloc);
     push_head(&mut text, form)?;
@@ -342,11 +347,11 @@ fn whole_text<C: Payload, B: Listing>(
     Ok(text)
 }
 
-/// The canonical text of a dictionary of that kind, which is a text of the format that reading gives the dictionary
-/// back of: keys, and after them words, in the order of their bytes, and no more escapes than are needed. It is of
-/// version 1 where each value is a digit, else of version 2.
+/// Returns the canonical text of a dictionary of that kind, from which the dictionary is read again. Keys come first,
+/// then words, each sorted by their bytes, with no more escapes than needed. It has version 1 if each value is at most
+/// 9, else version 2.
 ///
-/// The kind is to be that of the dictionary. The only error is memory.
+/// The kind must be that of the dictionary. The only error is memory.
 pub fn write_text<C: Payload, B: Listing>(
     alloc: Global,
     kind: Kind,
@@ -355,13 +360,13 @@ pub fn write_text<C: Payload, B: Listing>(
     ensures { IfOk result (λ text. text.items ≡ canonical_text_of kind C.change_of B.meaning dictionary.now) }
 {
     let keys = parts::keys(dictionary, alloc)?;
-    let lent = lent_keys(alloc, &keys)?;
-    let keys = in_order(alloc, &lent)?;
+    let borrowed = borrowed_keys(alloc, &keys)?;
+    let keys = in_order(alloc, &borrowed)?;
     let words = parts::words(dictionary, alloc)?;
     let words = in_order(alloc, &words)?;
     let version = version_for(&keys);
     let form = Form { kind, version };
-    whole_text(
+    assemble_text(
         alloc,
         form,
         dictionary.language(),
@@ -371,26 +376,27 @@ pub fn write_text<C: Payload, B: Listing>(
     )
 }
 
-/// The canonical text of a standard dictionary, as `write_text` has it. It is accepted, and gives that very dictionary.
+/// Returns the canonical text of a standard dictionary, from which that very dictionary is read again. The only error
+/// is memory.
 pub fn write_standard(alloc: Global, dictionary: &Standard) -> Result<Vec<u8>, AllocError>
     ensures text { IfOk result (λ text. text.items ≡ standard_text dictionary.now) }
     ensures accepted { IfOk result (λ text. refusal_of OfStandard text.items ≡ None) }
-    ensures given { IfOk result (λ text. dictionary.now ≡ standard_contents text.items) }
+    ensures read_again { IfOk result (λ text. dictionary.now ≡ standard_contents text.items) }
 {
-    // The law of all texts that are written.
+    // The law of canonical texts.
     written_is_read_again::<(), usize>();
     dictionary.invariant();
     write_text(alloc, Kind::Standard, dictionary)
 }
 
-/// The canonical text of an extended dictionary, as `write_text` has it. It is accepted, and gives that very
-/// dictionary.
+/// Returns the canonical text of an extended dictionary, from which that very dictionary is read again. The only error
+/// is memory.
 pub fn write_extended(alloc: Global, dictionary: &Extended) -> Result<Vec<u8>, AllocError>
     ensures text { IfOk result (λ text. text.items ≡ extended_text dictionary.now) }
     ensures accepted { IfOk result (λ text. refusal_of OfExtended text.items ≡ None) }
-    ensures given { IfOk result (λ text. dictionary.now ≡ extended_contents text.items) }
+    ensures read_again { IfOk result (λ text. dictionary.now ≡ extended_contents text.items) }
 {
-    // The law of all texts that are written.
+    // The law of canonical texts.
     written_is_read_again::<Option<Subregion>, (usize, Option<Subregion>)>();
     dictionary.invariant();
     write_text(alloc, Kind::Extended, dictionary)

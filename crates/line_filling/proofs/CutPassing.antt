@@ -1,4 +1,4 @@
--- What passing one cut more does to the ends that are to come.
+-- The ends to come after one more cut is passed.
 use Rattle.std.proofs.Common.{◌≡◌, ℕ, ◌<◌, nat_lt, Bool, true, false, cond, List, [], ◌∷◌, ◌++◌, IsTrue, refl, sym, ap, ◌∙◌, arith, inl, inr}
 use Rattle.std.specs.List.{list_any}
 use Rattle.std.proofs.lemmas.Bool.{or_cases, or_left, or_right, false≢true, false_from_ne_true, cond-true, cond-false, lt-ltb, le-ltb}
@@ -11,7 +11,7 @@ module _ (fits : ℕ → ℕ → Bool) where
   any_after start c [] cs f = or_left (fits start c) (list_any (fits start) cs) f
   any_after start c (x ∷ xs) cs f = or_right (fits start x) (list_any (fits start) (xs ++ c ∷ cs)) (any_after start c xs cs f)
 
-  -- Cuts before one whose line fits end no line.
+  -- A cut ends no line if the line fits at a later cut.
   ends_skip : (start c : ℕ) (xs cs : List ℕ) → fits start c ≡ true → ends fits start (xs ++ c ∷ cs) ≡ ends fits start (c ∷ cs)
   ends_skip start c [] cs f = refl
   ends_skip start c (x ∷ xs) cs f = cond-true (list_any (fits start) (xs ++ c ∷ cs)) _ _ (any_after start c xs cs f) ∙ ends_skip start c xs cs f
@@ -24,13 +24,13 @@ module _ (fits : ℕ → ℕ → Bool) where
         | false ↦ ends_skip start c xs cs f ∙ sym there
       ]
 
-  -- A cut whose line does not fit, and no later one's does: the line ends at the last cut that was passed.
+  -- The line ends at the last cut that was passed, where it fits neither at the next cut nor at a later one.
   pub coming_ends : (start end c : ℕ) (cs : List ℕ) → start < end → end < c → list_any (fits start) (c ∷ cs) ≡ false → remaining_ends fits start end (c ∷ cs) ≡ end ∷ remaining_ends fits end c cs
   coming_ends start end c cs lt next none =
       cond-true (nat_lt start end) _ _ (lt-ltb start end lt) ∙ cond-false (list_any (fits start) (c ∷ cs)) _ _ none
       ∙ ap (λ es. end ∷ es) (sym (cond-true (nat_lt end c) _ _ (lt-ltb end c next)))
 
-  -- The first cut of all.
+  -- The first cut of a text is passed.
   pub coming_first : (start c : ℕ) (cs : List ℕ) → start < c → remaining_ends fits start start (c ∷ cs) ≡ remaining_ends fits start c cs
   coming_first start c cs lt =
       cond-false (nat_lt start start) _ _ (le-ltb start start (omega arith)) ∙ sym (cond-true (nat_lt start c) _ _ (lt-ltb start c lt))
@@ -43,7 +43,7 @@ module _ (fits : ℕ → ℕ → Bool) where
         | inr later ↦ false≢true (sym (none_after is_cut last start d ds h.3 (λ p lt. none p (omega (arith, h.0)))) ∙ later)
       ])
 
-  -- Where a wider line never fits, and this one does not, none does.
+  -- The line fits at no later cut where it does not fit at this one, since it grows no narrower.
   pub none_fits : (is_cut : ℕ → Bool) (last start c : ℕ) (cs : List ℕ) → AreCutsAfter is_cut last c cs → ((p : ℕ) → c < p → IsTrue (is_cut p) → fits start p ≡ true → fits start c ≡ true) → fits start c ≡ false → list_any (fits start) (c ∷ cs) ≡ false
   none_fits is_cut last start c cs h wider f =
       false_from_ne_true (list_any (fits start) (c ∷ cs)) (λ any. elim (or_cases (fits start c) (list_any (fits start) cs) any) [

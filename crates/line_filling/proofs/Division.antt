@@ -1,10 +1,10 @@
--- The ends are the right ones, and of all divisions that fit they have the fewest lines.
+-- The ends are as defined, and no division that fits has fewer lines.
 use Rattle.std.proofs.Common.{◌≡◌, ℕ, ◌+◌, ◌<◌, ◌≤◌, ◌⊎◌, Bool, true, false, cond, List, [], ◌∷◌, length, IsTrue, refl, sym, ap, subst, ◌∙◌, arith, inl, inr}
 use Rattle.std.specs.List.{list_any}
 use Rattle.std.proofs.lemmas.Bool.{cases_lt, cases_Bool, cases_order, or_cases, or_left, or_right, false≢true}
 use Rattle.line_filling.specs.Ends.{ends, Divides, EachFits, IsGreatest, IsLeast, AreEnds}
 
--- After a place the list has exactly the cuts, in their order, and the last one is the end of all.
+-- A list has exactly the cuts after a place, in ascending order, and the last is the text's end.
 abbrev pub AreCutsAfter : (ℕ → Bool) → ℕ → ℕ → List ℕ → Type 0
 AreCutsAfter is_cut end place [] = place ≡ end
 AreCutsAfter is_cut end place (c ∷ cs) = (place < c) × IsTrue (is_cut c) × ((p : ℕ) → place < p → p < c → ¬ (IsTrue (is_cut p))) × AreCutsAfter is_cut end c cs
@@ -21,7 +21,7 @@ pub record Crosses (is_cut : ℕ → Bool) (fits : ℕ → ℕ → Bool) (end pl
   pub each : EachFits fits to rest
 
 module _ (Starts : ℕ → Type 0) (is_cut : ℕ → Bool) (fits : ℕ → ℕ → Bool) (end : ℕ) where
-  -- Each cut may be a line's start, and from a later start the line to the same cut is no wider.
+  -- A line to the same cut from a later start is no wider.
   pub record Shortens : Type 0 where
     pub starts : (c : ℕ) → IsTrue (is_cut c) → Starts c
     pub shorter : (a b c : ℕ) → Starts a → Starts b → a ≤ b → b < c → IsTrue (is_cut c) → IsTrue (fits a c) → IsTrue (fits b c)
@@ -52,7 +52,7 @@ module _ (Starts : ℕ → Type 0) (is_cut : ℕ → Bool) (fits : ℕ → ℕ �
         | inr (inr after) ↦ or_right (test c) (list_any test cs) (later_fits test c to cs h.3 after le cut t)
       ]
 
-  -- Where no later cut's line fits, this one's does, and the division's line ends no later.
+  -- The line fits at this cut where it fits at no later one, and the division's line ends no later.
   ends_here : (start low c : ℕ) (cs : List ℕ) (count : ℕ) → start ≤ low → AreCutsAfter is_cut end low (c ∷ cs) → (start ≡ low) ⊎ (list_any (fits start) (c ∷ cs) ≡ true) → list_any (fits start) cs ≡ false
       → (r : Crosses is_cut fits end start count) → IsTrue (fits start c) × (r.to ≤ c)
   ends_here start low c cs count le h w none r =
@@ -88,7 +88,7 @@ module _ (Starts : ℕ → Type 0) (is_cut : ℕ → Bool) (fits : ℕ → ℕ �
             (omega (arith, rest.0, r.fewer), (here.0, rest.1))
       ] refl
 
-  -- A cut at which no later line fits is the greatest one whose line fits, or the least one.
+  -- A cut is the greatest at which the line fits, or the least one, where the line fits at no later cut.
   is_end : (start low c : ℕ) (cs : List ℕ) → ((p : ℕ) → IsTrue (is_cut p) → p ≤ end) → start ≤ low → AreCutsAfter is_cut end low (c ∷ cs) → (start ≡ low) ⊎ (list_any (fits start) (c ∷ cs) ≡ true) → list_any (fits start) cs ≡ false
       → IsGreatest is_cut fits start c ⊎ IsLeast is_cut fits start c
   is_end start low c cs within le h w none =

@@ -1,13 +1,13 @@
--- What is passed amounts to the lines of the text.
+-- Passing all cuts in order fills the lines of the text.
 use Rattle.std.proofs.Common.{◌≡◌, ℕ, ◌-◌, ◌<◌, ◌≤◌, ◌||◌, ◌==◌, Bool, true, false, cond, List, [], ◌∷◌, ◌++◌, length, refl, sym, ap, subst, ◌∙◌, arith, inl, inr, append_assoc, slice_index}
 use Rattle.std.specs.List.{list_any}
 use Rattle.std.specs.Str.{IsUtf8, IsCharBoundary}
 use Rattle.std.proofs.lemmas.Bool.{cases_lt, cases_eq, cases_Bool, or_cases, or_left, or_right, eqb-true, eq-eqb, ne_eqb, cond-true, cond-false}
 use Rattle.std.proofs.lemmas.List.{get_or_past}
 use Rattle.std.proofs.lemmas.Str.{IsCharBoundary-end, IsCharBoundary-after_ascii}
-use Rattle.line_filling.specs.Cuts.{is_in, is_plain, is_cut, cuts_after}
+use Rattle.line_filling.specs.Cuts.{is_one_of, is_plain, is_cut, cuts_after}
 use Rattle.line_filling.specs.Lines.{line, fits, lines_to}
-use Rattle.line_filling.specs.Private.Filling.{State, after_cut, remaining_ends, all_lines}
+use Rattle.line_filling.specs.Private.Filling.{FillState, state_after_cut, remaining_ends, all_lines}
 use Rattle.line_filling.proofs.CutPassing.{coming_skip, coming_ends, coming_first, none_fits}
 use Rattle.line_filling.proofs.CutRows.{row, row_to, row_next, row_is}
 use Rattle.line_filling.proofs.Widths.{wider}
@@ -18,22 +18,22 @@ or_from_false x y e f = ap (λ b. b || y) e ∙ f
 index_within : (s : List ℕ) (i : ℕ) → 0 < slice_index s i → i < length s
 index_within s i some = elim (cases_lt i (length s)) [ inl lt ↦ lt | inr past ↦ absurd (omega (arith, get_or_past s i 0 past)) ]
 
--- A text, and breaks that stand between its characters.
+-- A text, and breaks on its character boundaries.
 pub record IsSound (text breaks : List ℕ) : Type 0 where
   pub utf8 : IsUtf8 text
-  pub boundary : (p : ℕ) → is_in p breaks ≡ true → IsCharBoundary text p
+  pub boundary : (p : ℕ) → is_one_of p breaks ≡ true → IsCharBoundary text p
 
--- The start and the last cut stand between characters, in this order.
-pub record IsState (text : List ℕ) (s : State) : Type 0 where
+-- The start and the last cut are character boundaries, in this order.
+pub record IsState (text : List ℕ) (s : FillState) : Type 0 where
   pub order : s.start ≤ s.end
   pub start : IsCharBoundary text s.start
   pub end : IsCharBoundary text s.end
 
-pub passing_end : (text : List ℕ) (columns : ℕ) (s : State) (place : ℕ) → (after_cut text columns s place).end ≡ place
+pub passing_end : (text : List ℕ) (columns : ℕ) (s : FillState) (place : ℕ) → (state_after_cut text columns s place).end ≡ place
 passing_end text columns s place =
-    elim (fits text columns s.start place || s.start == s.end) as (λ b. (let r : State = cond b (record { start = s.start; end = place; done = s.done }) (record { start = s.end; end = place; done = s.done ++ line text s.start s.end ∷ [] }) in r.end) ≡ place) [ true ↦ refl | false ↦ refl ]
+    elim (fits text columns s.start place || s.start == s.end) as (λ b. (let r : FillState = cond b (record { start = s.start; end = place; done = s.done }) (record { start = s.end; end = place; done = s.done ++ line text s.start s.end ∷ [] }) in r.end) ≡ place) [ true ↦ refl | false ↦ refl ]
 
-pub passing_state : (text : List ℕ) (columns : ℕ) (s : State) (place : ℕ) → IsState text s → s.end < place → IsCharBoundary text place → IsState text (after_cut text columns s place)
+pub passing_state : (text : List ℕ) (columns : ℕ) (s : FillState) (place : ℕ) → IsState text s → s.end < place → IsCharBoundary text place → IsState text (state_after_cut text columns s place)
 passing_state text columns s place is lt at =
     elim (fits text columns s.start place || s.start == s.end) as (λ b. IsState text (cond b (record { start = s.start; end = place; done = s.done }) (record { start = s.end; end = place; done = s.done ++ line text s.start s.end ∷ [] }))) [
       | true ↦ record { order = omega (arith, is.order); start = is.start; end = at }
@@ -42,11 +42,11 @@ passing_state text columns s place is lt at =
 
 module _ (text : List ℕ) (columns : ℕ) (breaks : List ℕ) where
   pub end_is_cut : is_cut text breaks (length text) ≡ true
-  end_is_cut = or_left (is_plain text (length text)) (is_in (length text) breaks) (or_right (slice_index text (length text - 1) == 32) (length text == length text) (eq-eqb (length text) (length text) refl))
+  end_is_cut = or_left (is_plain text (length text)) (is_one_of (length text) breaks) (or_right (slice_index text (length text - 1) == 32) (length text == length text) (eq-eqb (length text) (length text) refl))
 
   pub cut_boundary : (p : ℕ) → IsSound text breaks → 0 < p → is_cut text breaks p ≡ true → IsCharBoundary text p
   cut_boundary p sound some cut =
-      elim (or_cases (is_plain text p) (is_in p breaks) cut) [
+      elim (or_cases (is_plain text p) (is_one_of p breaks) cut) [
         | inl plain ↦ elim (or_cases (slice_index text (p - 1) == 32) (p == length text) plain) [
           | inl space ↦
               let byte : slice_index text (p - 1) ≡ 32 = eqb-true (slice_index text (p - 1)) 32 space in
@@ -58,9 +58,9 @@ module _ (text : List ℕ) (columns : ℕ) (breaks : List ℕ) where
       ]
 
   -- A cut is passed, with no other one before it.
-  pub passing_owed : (s : State) (place : ℕ) → IsSound text breaks → IsState text s → s.end < place → is_cut text breaks place ≡ true → ((p : ℕ) → s.end < p → p < place → is_cut text breaks p ≡ true → ⊥)
-      → all_lines text columns breaks (after_cut text columns s place) ≡ all_lines text columns breaks s
-  passing_owed s place sound is lt cut none =
+  pub passing_lines : (s : FillState) (place : ℕ) → IsSound text breaks → IsState text s → s.end < place → is_cut text breaks place ≡ true → ((p : ℕ) → s.end < p → p < place → is_cut text breaks p ≡ true → ⊥)
+      → all_lines text columns breaks (state_after_cut text columns s place) ≡ all_lines text columns breaks s
+  passing_lines s place sound is lt cut none =
       let test = is_cut text breaks in
       let n = length text in
       let at : IsCharBoundary text place = cut_boundary place sound (omega arith) cut in
@@ -92,10 +92,10 @@ module _ (text : List ℕ) (columns : ℕ) (breaks : List ℕ) where
         ]
       ]
 
-  -- A cut is passed whose line fits, whatever stands before it.
-  pub skipping_owed : (s : State) (place : ℕ) → IsState text s → s.end < place → place ≤ length text → is_cut text breaks place ≡ true → fits text columns s.start place ≡ true
+  -- A cut at which the line fits is passed, whatever cuts are before it.
+  pub skipping_lines : (s : FillState) (place : ℕ) → IsState text s → s.end < place → place ≤ length text → is_cut text breaks place ≡ true → fits text columns s.start place ≡ true
       → all_lines text columns breaks (record { start = s.start; end = place; done = s.done }) ≡ all_lines text columns breaks s
-  skipping_owed s place is lt within cut f =
+  skipping_lines s place is lt within cut f =
       let test = is_cut text breaks in
       let n = length text in
       sym (ap (λ xs. s.done ++ lines_to text s.start (remaining_ends (fits text columns) s.start s.end xs)) (row_to test n s.end place lt within cut)

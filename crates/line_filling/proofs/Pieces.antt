@@ -1,4 +1,4 @@
--- The pieces of a text between word bounds stand in it one after the other.
+-- The pieces of a text between word bounds follow one another in it.
 use Rattle.std.proofs.Common.{◌≡◌, ℕ, ◌+◌, ◌-◌, true, false, cond, List, [], ◌∷◌, ◌++◌, map, length, take, drop, slice_range, refl, sym, ap, subst, ◌∙◌, arith, append_assoc, append-nil, take_at, drop_at, length-append}
 use Rattle.std.specs.Prelude.{encode_utf8, encode_utf8_all}
 use Rattle.std.specs.List.{concat}
@@ -7,7 +7,7 @@ use Rattle.std.proofs.lemmas.Str.{encodes-append, encodes-chars, IsUtf8-past_cha
 use Rattle.unicode_segmentation.specs.Segments.{Rule, prepend, cut, segments, with_offsets}
 use Rattle.unicode_segmentation.specs.Word.{is_word_break, word_bounds}
 
--- A piece begins and ends between characters of the text, and is the text between.
+-- A piece is a slice of the text between two character boundaries.
 pub record IsPieceOf (text : List ℕ) (piece : ℕ × List ℕ) : Type 0 where
   pub start : IsCharBoundary text piece.0
   pub end : IsCharBoundary text (piece.0 + length piece.1)
@@ -17,7 +17,7 @@ abbrev pub ArePieces : List ℕ → List (ℕ × List ℕ) → Type 0
 ArePieces text [] = Unit {0}
 ArePieces text (x ∷ xs) = IsPieceOf text x × ArePieces text xs
 
--- The bytes of a part that is put in front, and of what is cut.
+-- The bytes of a part that is put in front, and of a part that is cut off.
 front_bytes : (part : List ℕ) (pieces : List (List ℕ)) → concat (map encode_utf8_all (prepend part pieces)) ≡ encode_utf8_all part ++ concat (map encode_utf8_all pieces)
 front_bytes part [] = refl
 front_bytes part (cs ∷ pieces) = ap (λ xs. xs ++ concat (map encode_utf8_all pieces)) (encodes-append part cs) ∙ append_assoc (encode_utf8_all part) (encode_utf8_all cs) (concat (map encode_utf8_all pieces))
@@ -35,7 +35,7 @@ after_piece : (cs rest : List ℕ) → IsUtf8 (encode_utf8_all cs ++ rest) → I
 after_piece [] rest u = u
 after_piece (c ∷ cs) rest u = after_piece cs rest (IsUtf8-past_char _ _ c u (append_assoc (encode_utf8 c) (encode_utf8_all cs) rest))
 
--- Pieces that make up what is left of the text stand in it.
+-- Pieces that join to the rest of the text are slices of it.
 stand : (text front : List ℕ) (pieces : List (List ℕ)) → text ≡ front ++ concat (map encode_utf8_all pieces) → IsUtf8 (concat (map encode_utf8_all pieces))
     → ArePieces text (with_offsets (length front) (map encode_utf8_all pieces))
 unfolding with_offsets

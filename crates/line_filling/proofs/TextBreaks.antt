@@ -1,4 +1,4 @@
--- A text with the breaks that a dictionary finds in its pieces, from its start to its end.
+-- The breaks that a dictionary finds in the pieces of a text, from its start to its end.
 use Rattle.std.proofs.Common.{◌≡◌, ℕ, zero, suc, ◌+◌, ◌-◌, ◌<◌, ◌≤◌, ◌==◌, nat_lt, Bool, true, false, cond, List, [], ◌∷◌, ◌++◌, length, map, drop, get_or, chars, slice_range, refl, sym, ap, subst, ◌∙◌, arith, inl, inr}
 use Rattle.std.specs.List.{flat_map, All, concat}
 use Rattle.std.specs.Str.{IsUtf8, IsCharBoundary}
@@ -14,11 +14,11 @@ use Rattle.hyphenation_hyphenator.specs.Laws.{FitWhereAscending}
 use Rattle.hyphenation_segments.specs.Fits.{FitsFrom}
 use Rattle.unicode_segmentation.specs.Segments.{with_offsets}
 use Rattle.unicode_segmentation.specs.Word.{word_bounds}
-use Rattle.line_filling.specs.Cuts.{is_in, breaks_in, word_breaks, is_plain, is_cut, cuts_after}
+use Rattle.line_filling.specs.Cuts.{is_one_of, breaks_in, word_breaks, is_plain, is_cut, cuts_after}
 use Rattle.line_filling.specs.Ends.{EachFits, AreEnds}
 use Rattle.line_filling.specs.Lines.{line, width, fits, line_ends, lines_to, parts_to, DividesFitting}
-use Rattle.line_filling.specs.Private.Filling.{State, remaining_ends, all_lines}
-use Rattle.line_filling.specs.Private.WordBreaks.{in_hand, remaining_pieces, Rise, Follow, IsSmall, HasBreaksAfter}
+use Rattle.line_filling.specs.Private.Filling.{FillState, remaining_ends, all_lines}
+use Rattle.line_filling.specs.Private.WordBreaks.{pending_breaks, remaining_pieces, RiseBetween, FollowBetween, FitsUsize, HasBreaksAfter}
 use Rattle.line_filling.specs.declared.word_breaks.WordBreaks.{WordBreaks}
 use Rattle.line_filling.proofs.Division.{Shortens, stays_ahead, are_ends}
 use Rattle.line_filling.proofs.CutRows.{row_end, row_is}
@@ -26,11 +26,11 @@ use Rattle.line_filling.proofs.FillWalk.{IsSound, end_is_cut, cut_boundary}
 use Rattle.line_filling.proofs.Pieces.{IsPieceOf, ArePieces, all_pieces}
 use Rattle.line_filling.proofs.Widths.{shorter}
 
--- Of each word the breaks ascend strictly, on its character boundaries.
+-- The breaks of each word ascend strictly on its character boundaries.
 abbrev pub AreAscending : (List ℕ → List Break) → Type 0
 AreAscending breaks_of = (word : List ℕ) → IsUtf8 word → Ascending word (breaks_of word)
 
--- By the law of the hyphenator: each place is no less than the least one, and a boundary.
+-- Each place is no less than the least one and a character boundary, by a law of the hyphenator.
 abbrev Ascend : List ℕ → ℕ → List ℕ → Type 0
 Ascend text least [] = Unit {0}
 Ascend text least (p ∷ ps) = (least ≤ p) × IsCharBoundary text p × Ascend text (p + 1) ps
@@ -56,15 +56,15 @@ in_piece text x b is at =
 piece_utf8 : (text : List ℕ) (x : ℕ × List ℕ) → IsUtf8 text → IsPieceOf text x → IsUtf8 x.1
 piece_utf8 text x u is = subst IsUtf8 (sym is.bytes) (IsUtf8-between text x.0 (x.0 + length x.1) u (omega arith) is.start is.end)
 
-placed_boundary : (text : List ℕ) (x : ℕ × List ℕ) (least p : ℕ) (bs : List Break) → IsPieceOf text x → Ascend x.1 least (map (λ b. b.place) bs) → is_in p (map (λ b. x.0 + b.place) bs) ≡ true → IsCharBoundary text p
+placed_boundary : (text : List ℕ) (x : ℕ × List ℕ) (least p : ℕ) (bs : List Break) → IsPieceOf text x → Ascend x.1 least (map (λ b. b.place) bs) → is_one_of p (map (λ b. x.0 + b.place) bs) ≡ true → IsCharBoundary text p
 placed_boundary text x least p [] is a i = absurd (false≢true i)
 placed_boundary text x least p (b ∷ bs) is a i =
-    elim (or_cases (p == (x.0 + b.place)) (is_in p (map (λ c. x.0 + c.place) bs)) i) [
+    elim (or_cases (p == (x.0 + b.place)) (is_one_of p (map (λ c. x.0 + c.place) bs)) i) [
       | inl same ↦ subst (IsCharBoundary text) (sym (eqb-true p (x.0 + b.place) same)) (in_piece text x b.place is a.1)
       | inr later ↦ placed_boundary text x (b.place + 1) p bs is a.2 later
     ]
 
-piece_rises : (x : ℕ × List ℕ) (least from : ℕ) (bs : List Break) → from ≤ x.0 + least → from ≤ x.0 + length x.1 → Ascend x.1 least (map (λ b. b.place) bs) → Rise from (x.0 + length x.1) (map (λ b. x.0 + b.place) bs)
+piece_rises : (x : ℕ × List ℕ) (least from : ℕ) (bs : List Break) → from ≤ x.0 + least → from ≤ x.0 + length x.1 → Ascend x.1 least (map (λ b. b.place) bs) → RiseBetween from (x.0 + length x.1) (map (λ b. x.0 + b.place) bs)
 piece_rises x least from [] e top a = top
 piece_rises x least from (b ∷ bs) e top a = (omega (arith, a.0, e), piece_rises x (b.place + 1) (x.0 + b.place) bs (omega arith) (omega (arith, a.1.0)) a.2)
 
@@ -74,7 +74,7 @@ placed offset (b ∷ bs) = ap (λ ps. (offset + b) ∷ ps) (placed offset bs)
 
 -- ---- the pieces of a text
 
-follow : (breaks_of : List ℕ → List Break) (text : List ℕ) (at : ℕ) (ps : List (List ℕ)) → FitWhereAscending → IsUtf8 text → AreAscending breaks_of → at ≤ length text → ArePieces text (with_offsets at ps) → Follow breaks_of at (length text) (with_offsets at ps)
+follow : (breaks_of : List ℕ → List Break) (text : List ℕ) (at : ℕ) (ps : List (List ℕ)) → FitWhereAscending → IsUtf8 text → AreAscending breaks_of → at ≤ length text → ArePieces text (with_offsets at ps) → FollowBetween breaks_of at (length text) (with_offsets at ps)
 unfolding with_offsets
 follow breaks_of text at [] law u ascend within are = within
 follow breaks_of text at (p ∷ ps) law u ascend within are =
@@ -84,12 +84,12 @@ follow breaks_of text at (p ∷ ps) law u ascend within are =
       follow breaks_of text (at + length p) ps law u ascend are.0.end.0 are.1,
     )
 
-in_some_piece : (breaks_of : List ℕ → List Break) (text : List ℕ) (xs : List (ℕ × List ℕ)) (p : ℕ) → FitWhereAscending → IsUtf8 text → AreAscending breaks_of → ArePieces text xs → is_in p (flat_map (breaks_in breaks_of) xs) ≡ true → IsCharBoundary text p
+in_some_piece : (breaks_of : List ℕ → List Break) (text : List ℕ) (xs : List (ℕ × List ℕ)) (p : ℕ) → FitWhereAscending → IsUtf8 text → AreAscending breaks_of → ArePieces text xs → is_one_of p (flat_map (breaks_in breaks_of) xs) ≡ true → IsCharBoundary text p
 in_some_piece breaks_of text [] p law u ascend are i = absurd (false≢true i)
 in_some_piece breaks_of text (x ∷ xs) p law u ascend are i =
     let here = breaks_in breaks_of x in
     let rest = flat_map (breaks_in breaks_of) xs in
-    elim (or_cases (is_in p here) (is_in p rest) (sym (list_any-append (λ b. p == b) here rest) ∙ i)) [
+    elim (or_cases (is_one_of p here) (is_one_of p rest) (sym (list_any-append (λ b. p == b) here rest) ∙ i)) [
       | inl first ↦ placed_boundary text x 0 p (breaks_of x.1) are.0 (ascends x.1 (breaks_of x.1) law (ascend x.1 (piece_utf8 text x u are.0))) first
       | inr later ↦ in_some_piece breaks_of text xs p law u ascend are.1 later
     ]
@@ -98,25 +98,25 @@ pub sound : (breaks_of : List ℕ → List Break) (text : List ℕ) → FitWhere
 sound breaks_of text law u ascend = record { utf8 = u; boundary = λ p i. in_some_piece breaks_of text (with_offsets 0 (word_bounds text)) p law u ascend (all_pieces text u) i }
 
 -- All breaks of a text are to come at its start.
-pub at_start : (breaks_of : List ℕ → List Break) (text : List ℕ) (b : WordBreaks) → FitWhereAscending → IsUtf8 text → AreAscending breaks_of → IsSmall (length text) → in_hand b ≡ [] → remaining_pieces b ≡ with_offsets 0 (word_bounds text) → b.reached ≡ 0 → HasBreaksAfter breaks_of text 0 b
-at_start breaks_of text b law u ascend small hand pieces reached =
+pub at_start : (breaks_of : List ℕ → List Break) (text : List ℕ) (b : WordBreaks) → FitWhereAscending → IsUtf8 text → AreAscending breaks_of → FitsUsize (length text) → pending_breaks b ≡ [] → remaining_pieces b ≡ with_offsets 0 (word_bounds text) → b.reached ≡ 0 → HasBreaksAfter breaks_of text 0 b
+at_start breaks_of text b law u ascend end_fits_usize pending pieces reached =
     record {
       order = record {
         end = length text;
-        small = small;
-        hand = subst (Rise 0 b.reached) (sym hand) (omega arith);
-        pieces = subst (λ at. Follow breaks_of at (length text) (remaining_pieces b)) (sym reached) (subst (Follow breaks_of 0 (length text)) (sym pieces) (follow breaks_of text 0 (word_bounds text) law u ascend (omega arith) (all_pieces text u)));
+        end_fits_usize = end_fits_usize;
+        pending = subst (RiseBetween 0 b.reached) (sym pending) (omega arith);
+        pieces = subst (λ at. FollowBetween breaks_of at (length text) (remaining_pieces b)) (sym reached) (subst (FollowBetween breaks_of 0 (length text)) (sym pieces) (follow breaks_of text 0 (word_bounds text) law u ascend (omega arith) (all_pieces text u)));
       };
-      stay = λ p lt. ap (λ ps. is_in p (ps ++ flat_map (breaks_in breaks_of) (remaining_pieces b))) hand ∙ ap (λ xs. is_in p (flat_map (breaks_in breaks_of) xs)) pieces;
+      stay = λ p lt. ap (λ ps. is_one_of p (ps ++ flat_map (breaks_in breaks_of) (remaining_pieces b))) pending ∙ ap (λ xs. is_one_of p (flat_map (breaks_in breaks_of) xs)) pieces;
     }
 
 pub after_later : (breaks_of : List ℕ → List Break) (text : List ℕ) (from later : ℕ) (b : WordBreaks) → from ≤ later → HasBreaksAfter breaks_of text from b → HasBreaksAfter breaks_of text later b
 after_later breaks_of text from later b le h = record { order = h.order; stay = λ p lt. h.stay p (omega arith) }
 
 pub plain_boundary : (text : List ℕ) (place : ℕ) → IsUtf8 text → 0 < place → is_plain text place ≡ true → IsCharBoundary text place
-plain_boundary text place u some plain_break = cut_boundary text 0 [] place (record { utf8 = u; boundary = λ p i. absurd (false≢true i) }) some (or_left (is_plain text place) (is_in place []) plain_break)
+plain_boundary text place u some plain_break = cut_boundary text 0 [] place (record { utf8 = u; boundary = λ p i. absurd (false≢true i) }) some (or_left (is_plain text place) (is_one_of place []) plain_break)
 
--- Where no byte is a space, no place after it is plain, but the end of the text.
+-- A place after bytes that are no spaces is not plain, but for the text's end.
 pub not_plain : (text : List ℕ) (from n : ℕ) → ((k : ℕ) → k < n → get_or (drop from text) k 0 ≡ 32 → ⊥) → (p : ℕ) → from < p → p < from + n + 1 → p < length text → is_plain text p ≡ false
 not_plain text from n none p l u v =
     let k = p - 1 - from in
@@ -127,9 +127,9 @@ not_plain text from n none p l u v =
       | inr e ↦ omega (arith, eqb-true p (length text) e)
     ])
 
--- At the end of the text the last line is left.
-pub owed_at_end : (text : List ℕ) (columns : ℕ) (breaks : List ℕ) (s : State) → s.end ≡ length text → all_lines text columns breaks s ≡ s.done ++ cond (nat_lt s.start s.end) (line text s.start s.end ∷ []) []
-owed_at_end text columns breaks s e =
+-- The last line is left at the end of the text.
+pub lines_at_end : (text : List ℕ) (columns : ℕ) (breaks : List ℕ) (s : FillState) → s.end ≡ length text → all_lines text columns breaks s ≡ s.done ++ cond (nat_lt s.start s.end) (line text s.start s.end ∷ []) []
+lines_at_end text columns breaks s e =
     ap (λ cs. s.done ++ lines_to text s.start (remaining_ends (fits text columns) s.start s.end cs)) (ap (cuts_after text breaks) e ∙ row_end (is_cut text breaks) (length text))
     ∙ ap (λ xs. s.done ++ xs) (elim (nat_lt s.start s.end) as (λ b. lines_to text s.start (cond b (s.end ∷ []) []) ≡ cond b (line text s.start s.end ∷ []) []) [ true ↦ refl | false ↦ refl ])
 
@@ -172,6 +172,6 @@ parts_join test line_fits text start (e ∷ es) h =
     let after : start ≤ e = elim h.0 [ inl g ↦ omega (arith, g.after) | inr l ↦ omega (arith, l.after) ] in
     ap (λ s. slice_range text start e ++ s) (parts_join test line_fits text e es h.1) ∙ sym (drop_split text start e after)
 
--- Without their marks the lines join to the text.
+-- The lines without their hyphens join to the text.
 pub join_to_text : (text : List ℕ) (columns : ℕ) (breaks : List ℕ) → IsSound text breaks → concat (parts_to text 0 (line_ends text columns breaks)) ≡ text
 join_to_text text columns breaks good = parts_join (is_cut text breaks) (fits text columns) text 0 (line_ends text columns breaks) (right_ends text columns breaks good)

@@ -8,11 +8,11 @@ use Rattle.line_filling.specs.Cuts.{is_plain}
 use Rattle.line_filling.specs.Lines.{mark_at, width, fits}
 use Rattle.line_filling.proofs.Slices.{slice_range_split, length-slice_range}
 
--- How many characters stand between two places.
+-- The number of characters between two places.
 abbrev pub between : List ℕ → ℕ → ℕ → ℕ
 between text a b = length (chars (slice_range text a b))
 
--- How wide the mark is.
+-- The width of the hyphen, where there is one.
 abbrev pub mark_width : List ℕ → ℕ → ℕ
 mark_width text end = cond (is_plain text end) 0 1
 
@@ -58,19 +58,19 @@ width_is text a e u le at et =
 mark_small : (text : List ℕ) (e : ℕ) → mark_width text e ≤ 1
 mark_small text e = elim (is_plain text e) as (λ b. cond b 0 1 ≤ 1) [ true ↦ omega arith | false ↦ omega arith ]
 
--- From a later start the line to the same cut is no wider.
+-- A line to the same cut from a later start is no wider.
 pub shorter : (text : List ℕ) (columns a b c : ℕ) → IsUtf8 text → a ≤ b → b < c → IsCharBoundary text a → IsCharBoundary text b → IsCharBoundary text c → fits text columns a c ≡ true → fits text columns b c ≡ true
 shorter text columns a b c u ab bc at bt ct f =
     le-leb (width text b c) columns
     (omega (arith, leb-true (width text a c) columns f, width_is text a c u (omega arith) at ct, width_is text b c u (omega arith) bt ct, between_split text a b c u ab (omega arith) at bt))
 
--- From one start the line to a later cut is no narrower.
+-- A line from the same start to a later cut is no narrower.
 pub wider : (text : List ℕ) (columns a b c : ℕ) → IsUtf8 text → a ≤ b → b < c → IsCharBoundary text a → IsCharBoundary text b → IsCharBoundary text c → fits text columns a c ≡ true → fits text columns a b ≡ true
 wider text columns a b c u ab bc at bt ct f =
     le-leb (width text a b) columns
     (omega (arith, leb-true (width text a c) columns f, width_is text a c u (omega arith) at ct, width_is text a b u ab at bt, between_split text a b c u ab (omega arith) at bt, some_between text b c u bc bt ct, mark_small text b))
 
--- The two tests of the code.
+-- The code's two tests of whether a line fits.
 pub fits_marked : (text : List ℕ) (columns a e w : ℕ) → IsUtf8 text → a ≤ e → IsCharBoundary text a → IsCharBoundary text e → w ≡ between text a e → is_plain text e ≡ false → nat_lt w columns ≡ fits text columns a e
 fits_marked text columns a e w u le at et is marked =
     let wide : width text a e ≡ w + 1 = width_is text a e u le at et ∙ ap (λ n. n + mark_width text e) (sym is) ∙ ap (λ n. w + n) (cond-false (is_plain text e) 0 1 marked) in

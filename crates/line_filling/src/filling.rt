@@ -1,17 +1,19 @@
-//! Lines are filled.
+//! Filling the lines of a text.
 //!
-//! The text is read from one plain cut to the next. While the line fits up to there, nothing else is looked at: a cut
-//! before one whose line fits ends no line. Only where it does not fit are the words before it broken, and their
+//! The text is read from one plain cut to the next. A cut ends no line if the line still fits at a later cut, so words
+//! are not broken while the line fits. Only where it does not fit are the words before that cut broken, and their
 //! breaks passed one by one.
 
-ghost use Rattle.std.specs.Prelude.{◌≡◌, ℕ, ◌+◌, ◌-◌, ◌<◌, ◌≤◌, ◌==◌, ◌||◌, true, false, List, All, IfOk, length, map, chars, slice_range, slice_index, IsUtf8};
+ghost use Rattle.std.specs.Prelude.{◌≡◌, ℕ, ◌+◌, ◌-◌, ◌<◌, ◌≤◌, ◌==◌, ◌||◌, true, false, List, All, IfOk, IsUtf8};
+ghost use Rattle.std.specs.Prelude.{length, map, chars, slice_range, slice_index};
 ghost use Rattle.std.specs.Str.{IsCharBoundary};
 ghost use Rattle.std.specs.String.{string_bytes};
 ghost use Rattle.hyphenation_hyphenator.specs.Opportunities.{Ascending};
 ghost use Rattle.line_filling.specs.Cuts.{word_breaks, is_plain, is_cut};
-ghost use Rattle.line_filling.specs.Lines.{line, fits, lines_by, IsFittingDivision, EndGreatestOrLeast, JoinToText};
-ghost use Rattle.line_filling.specs.Private.Filling.{after_cut, all_lines};
-ghost use Rattle.line_filling.specs.Private.Open.{IsOpen, state_of};
+ghost use Rattle.line_filling.specs.Lines.{line, fits, lines_by};
+ghost use Rattle.line_filling.specs.Lines.{FitIfPossible, IsFewest, EndGreatestOrLeast, JoinToText};
+ghost use Rattle.line_filling.specs.Private.Filling.{state_after_cut, HasNoCutWithin};
+ghost use Rattle.line_filling.specs.Private.OpenLine.{IsOpenLine, KeepsLines, state_of};
 ghost use Rattle.line_filling.specs.Private.WordBreaks.{HasBreaksAfter};
 
 use crate::word_breaks::WordBreaks;
@@ -19,50 +21,51 @@ use hyphenation_hyphenator::hyphenator::Hyphenator;
 use hyphenation_hyphenator::hyphenator::laws::plain_breaks_fit_where_ascending;
 use std::alloc::{AllocError, Global};
 
-/// The line that is being filled: it begins at `start`, and `end` is the last cut that was passed, at which it will
-/// end unless the next one's line fits too. Before the first cut both are 0.
+// The line that is being filled. Its places are counted in bytes; before the first cut all numbers are 0.
 #[derive(Clone, Copy)]
-struct Open {
+struct OpenLine {
+    // Where the line begins.
     start: usize,
+    // The last cut that was passed. The line ends here, unless it fits at the next cut too.
     end: usize,
-    /// The number of characters between them.
+    // The number of characters from `start` to `end`.
     width: usize,
 }
 
-/// Whether a line that ends there has no mark.
+// Whether a line that ends at a place has no hyphen: after a space, or at the text's end.
 fn is_plain(text: &str, place: usize) -> bool
-    requires some { 0 < place }
+    requires above_zero { 0 < place }
     requires within { place ≤ length text.now }
     ensures { result ≡ is_plain text.now place }
 {
     text.as_bytes()[place - 1] == b' ' || place == text.len()
 }
 
-/// The number of characters between two places.
-fn count(text: &str, start: usize, end: usize) -> usize
-    requires order { start ≤ end }
-    requires start { IsCharBoundary text.now start }
-    requires end { IsCharBoundary text.now end }
+// Counts the characters between two places.
+fn count_characters(text: &str, start: usize, end: usize) -> usize
+    requires in_order { start ≤ end }
+    requires start_at_character { IsCharBoundary text.now start }
+    requires end_at_character { IsCharBoundary text.now end }
     ensures { result ≡ length (chars (slice_range text.now start end)) }
 {
     text[start..end].chars().count()
 }
 
-/// The number of characters from the start of the line to a place after its last cut.
-fn count_to(text: &str, current: Open, place: usize) -> usize
-    requires current { IsOpen text.now current }
-    requires after { current.end < place }
-    requires place { IsCharBoundary text.now place }
+// Counts the characters from the start of the line to a place after its last cut.
+fn count_characters_to(text: &str, current: OpenLine, place: usize) -> usize
+    requires open_line { IsOpenLine text.now current }
+    requires after_last_cut { current.end < place }
+    requires at_character { IsCharBoundary text.now place }
     ensures { result ≡ length (chars (slice_range text.now current.start place)) }
 {
-    current.width + count(text, current.end, place)
+    current.width + count_characters(text, current.end, place)
 }
 
-/// The line between two places.
+// Makes the line between two places, with its hyphen.
 fn line(alloc: Global, text: &str, start: usize, end: usize) -> Result<String, AllocError>
-    requires order { start < end }
-    requires start { IsCharBoundary text.now start }
-    requires end { IsCharBoundary text.now end }
+    requires in_order { start < end }
+    requires start_at_character { IsCharBoundary text.now start }
+    requires end_at_character { IsCharBoundary text.now end }
     ensures { IfOk result (λ made. string_bytes made ≡ line text.now start end) }
 {
     let mut line = String::from_str(alloc, &text[start..end])?;
@@ -72,8 +75,8 @@ fn line(alloc: Global, text: &str, start: usize, end: usize) -> Result<String, A
     Ok(line)
 }
 
-/// Where the first space after a place ends; the text's end where there is none.
-fn next_plain(text: &str, from: usize) -> usize
+// Returns the first plain cut after a place: where the next space ends, or the text's end.
+fn next_plain_cut(text: &str, from: usize) -> usize
     requires { from < length text.now }
     ensures after { from < result }
     ensures within { result ≤ length text.now }
@@ -88,11 +91,11 @@ fn next_plain(text: &str, from: usize) -> usize
     text.len()
 }
 
-/// Whether the line of so many characters fits where it ends at a place.
-fn fits(text: &str, columns: usize, current: Open, place: usize, width: usize) -> bool
-    requires current { IsOpen text.now current }
-    requires after { current.end < place }
-    requires place { IsCharBoundary text.now place }
+// Whether the line fits where it ends at a place, up to which it has `width` characters.
+fn fits(text: &str, columns: usize, current: OpenLine, place: usize, width: usize) -> bool
+    requires open_line { IsOpenLine text.now current }
+    requires after_last_cut { current.end < place }
+    requires at_character { IsCharBoundary text.now place }
     requires width { width ≡ length (chars (slice_range text.now current.start place)) }
     ensures { result ≡ fits text.now columns current.start place }
 {
@@ -103,24 +106,24 @@ fn fits(text: &str, columns: usize, current: Open, place: usize, width: usize) -
     }
 }
 
-/// Passes the next cut: the line goes on to it where it fits, and else ends at the last one.
-fn pass(
+// Passes the next cut: the line goes on to it where it fits, and else ends at the last cut.
+fn pass_cut(
     text: &str,
     columns: usize,
     lines: &mut Vec<String>,
-    current: Open,
+    current: OpenLine,
     place: usize,
-) -> Result<Open, AllocError>
-    requires current { IsOpen text.now current }
-    requires after { current.end < place }
-    requires place { IsCharBoundary text.now place }
+) -> Result<OpenLine, AllocError>
+    requires open_line { IsOpenLine text.now current }
+    requires after_last_cut { current.end < place }
+    requires at_character { IsCharBoundary text.now place }
     ensures state { IfOk result (λ next.
-        state_of next lines.new.items ≡ after_cut text.now columns (state_of current lines.old.items) place) }
-    ensures next { IfOk result (λ next. IsOpen text.now next) }
+        state_of next lines.new.items ≡ state_after_cut text.now columns (state_of current lines.old.items) place) }
+    ensures open_line { IfOk result (λ next. IsOpenLine text.now next) }
 {
-    let width = count_to(text, current, place);
+    let width = count_characters_to(text, current, place);
     if fits(text, columns, current, place, width) || current.start == current.end {
-        return Ok(Open {
+        return Ok(OpenLine {
             start: current.start,
             end: place,
             width,
@@ -128,38 +131,35 @@ fn pass(
     }
     let line = line(*lines.allocator(), text, current.start, current.end)?;
     lines.push(line)?;
-    Ok(Open {
+    Ok(OpenLine {
         start: current.end,
         end: place,
-        width: count(text, current.end, place),
+        width: count_characters(text, current.end, place),
     })
 }
 
-/// Passes the breaks of the text's words between the last cut and a bound, before which no other cut stands.
+// Passes the breaks of words between the last cut and a bound. No plain cut lies between them.
 fn pass_breaks<'h, H: Hyphenator<'h, Opportunity = usize>>(
     dictionary: &'h H,
     text: &str,
     columns: usize,
     breaks: &mut WordBreaks,
     lines: &mut Vec<String>,
-    current: Open,
+    current: OpenLine,
     until: usize,
-) -> Result<Open, AllocError>
+) -> Result<OpenLine, AllocError>
     requires ascend { (word : List ℕ) → IsUtf8 word → Ascending word (H.breaks_of dictionary.now word) }
-    requires current { IsOpen text.now current }
-    requires breaks { HasBreaksAfter (H.breaks_of dictionary.now) text.now current.end breaks.old }
-    requires after { current.end < until }
-    requires none { (p : ℕ) → current.end < p → p < until → is_plain text.now p ≡ false }
-    ensures same { IfOk result (λ next.
-        all_lines text.now columns (word_breaks (H.breaks_of dictionary.now) text.now) (state_of next lines.new.items)
-        ≡ all_lines text.now columns (word_breaks (H.breaks_of dictionary.now) text.now)
-        (state_of current lines.old.items)) }
-    ensures next { IfOk result (λ next. IsOpen text.now next) }
-    ensures breaks { IfOk result (λ next. HasBreaksAfter (H.breaks_of dictionary.now) text.now next.end breaks.new) }
-    ensures before { IfOk result (λ next. next.end < until) }
-    ensures passed { IfOk result (λ next.
-        (p : ℕ) → next.end < p → p < until
-        → is_cut text.now (word_breaks (H.breaks_of dictionary.now) text.now) p ≡ false) }
+    requires open_line { IsOpenLine text.now current }
+    requires breaks_to_come { HasBreaksAfter (H.breaks_of dictionary.now) text.now current.end breaks.old }
+    requires until_after_last_cut { current.end < until }
+    requires no_plain_cut { (p : ℕ) → current.end < p → p < until → is_plain text.now p ≡ false }
+    ensures same_lines { IfOk result (λ next. KeepsLines
+        (H.breaks_of dictionary.now) text.now columns current lines.old.items next lines.new.items) }
+    ensures open_line { IfOk result (λ next. IsOpenLine text.now next) }
+    ensures breaks_to_come { IfOk result
+        (λ next. HasBreaksAfter (H.breaks_of dictionary.now) text.now next.end breaks.new) }
+    ensures ends_before { IfOk result (λ next. next.end < until) }
+    ensures no_cut_left { IfOk result (λ next. HasNoCutWithin (H.breaks_of dictionary.now) text.now next.end until) }
 {
     plain_breaks_fit_where_ascending();
     let mut current = current;
@@ -172,12 +172,12 @@ fn pass_breaks<'h, H: Hyphenator<'h, Opportunity = usize>>(
         if until <= place {
             return Ok(current);
         }
-        current = pass(text, columns, lines, current, place)?;
+        current = pass_cut(text, columns, lines, current, place)?;
     }
     Ok(current)
 }
 
-/// The lines of a text.
+// Fills the lines of a text.
 fn fill_all<'h, H: Hyphenator<'h, Opportunity = usize>>(
     alloc: Global,
     dictionary: &'h H,
@@ -191,16 +191,16 @@ fn fill_all<'h, H: Hyphenator<'h, Opportunity = usize>>(
     plain_breaks_fit_where_ascending();
     let mut lines = Vec::new(alloc);
     let mut breaks = WordBreaks::new(alloc, text);
-    let mut current = Open {
+    let mut current = OpenLine {
         start: 0,
         end: 0,
         width: 0,
     };
     while current.end < text.len() {
-        let next = next_plain(text, current.end);
-        let width = count_to(text, current, next);
+        let next = next_plain_cut(text, current.end);
+        let width = count_characters_to(text, current, next);
         if width <= columns {
-            current = Open {
+            current = OpenLine {
                 start: current.start,
                 end: next,
                 width,
@@ -215,7 +215,7 @@ fn fill_all<'h, H: Hyphenator<'h, Opportunity = usize>>(
                 current,
                 next,
             )?;
-            current = pass(text, columns, &mut lines, passed, next)?;
+            current = pass_cut(text, columns, &mut lines, passed, next)?;
         }
     }
     if current.start < current.end {
@@ -225,12 +225,19 @@ fn fill_all<'h, H: Hyphenator<'h, Opportunity = usize>>(
     Ok(lines)
 }
 
-/// The lines of a text. Each ends at the last cut at which it has at most so many columns, or, where there is none, at
-/// the first one. A column is a character.
+/// Divides a text into lines of at most so many columns, and returns the lines.
 ///
-/// Where the text can be divided into lines of at most so many columns, each line has at most so many, and no such
-/// division has fewer lines. A line that ends at a break of a word, other than after a space or at the text's end, has
-/// a hyphen after it, which is counted; so are spaces at a line's end. `Err` says that memory was refused.
+/// A column is a character. A line ends after a space, at the text's end, or at a break of a word, where a hyphen is
+/// added. The hyphen and spaces at a line's end are counted.
+///
+/// Each line ends at the last place where it fits, or else at the first place where it can end. If the text can be
+/// divided into lines that all fit, then all lines fit, and no such division has fewer.
+///
+/// An error says that memory was refused.
+///
+/// ```text
+/// let lines = fill(alloc, &dictionary, "a hyphenation", 8)?;      // "a hy-", "phena-", "tion"
+/// ```
 pub fn fill<'h, H: Hyphenator<'h, Opportunity = usize>>(
     alloc: Global,
     dictionary: &'h H,
@@ -240,11 +247,9 @@ pub fn fill<'h, H: Hyphenator<'h, Opportunity = usize>>(
     ensures lines { IfOk result (λ filled.
         map string_bytes filled.items ≡ lines_by (H.breaks_of dictionary.now) text.now columns) }
     ensures fits { IfOk result (λ filled.
-        (row : List ℕ) → IsFittingDivision (H.breaks_of dictionary.now) text.now columns row
-        → All (λ line. length (chars line) ≤ columns) (map string_bytes filled.items)) }
+        FitIfPossible (H.breaks_of dictionary.now) text.now columns (map string_bytes filled.items)) }
     ensures fewest { IfOk result (λ filled.
-        (row : List ℕ) → IsFittingDivision (H.breaks_of dictionary.now) text.now columns row
-        → length filled.items ≤ length row) }
+        IsFewest (H.breaks_of dictionary.now) text.now columns (length filled.items)) }
     ensures ends { IfOk result (λ _. EndGreatestOrLeast (H.breaks_of dictionary.now) text.now columns) }
     ensures joins { IfOk result (λ _. JoinToText (H.breaks_of dictionary.now) text.now columns) }
 {

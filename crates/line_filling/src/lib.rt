@@ -1,7 +1,7 @@
-//! Lines of a column width, filled from a text by a dictionary that breaks its words.
+//! Filling lines of a column width from a text, by a dictionary that breaks its words.
 //!
-//! A text may be cut after each space, at its end, and where a dictionary breaks one of its words. Each line ends at
-//! the last cut at which it still fits, so no division of the text into lines that fit has fewer of them.
+//! A line may end after a space, at the text's end, and at a break of a word. Each line ends at the last such cut at
+//! which it fits, so no division of the text into lines that fit has fewer.
 #![tactic(auto)]
 
 mod filling;

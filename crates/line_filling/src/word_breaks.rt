@@ -1,38 +1,40 @@
-//! The breaks of a text's words, one after the other.
+//! The breaks of a text's words, one by one.
 
 ghost use Rattle.std.specs.Prelude.{◌≡◌, ℕ, ◌<◌, [], None, All, IfOk};
 ghost use Rattle.std.specs.Option.{MatchOption};
 ghost use Rattle.unicode_segmentation.specs.Segments.{with_offsets};
 ghost use Rattle.unicode_segmentation.specs.Word.{word_bounds};
-ghost use Rattle.line_filling.specs.Cuts.{is_in};
-ghost use Rattle.line_filling.specs.Private.WordBreaks.{in_hand, remaining_pieces, next_then, remaining_breaks, places_after, first_place, InOrder, NoneWithin, IsFirstAfter, IsSmall};
+ghost use Rattle.line_filling.specs.Cuts.{is_one_of};
+ghost use Rattle.line_filling.specs.Private.WordBreaks.{pending_breaks, remaining_pieces, with_next_piece};
+ghost use Rattle.line_filling.specs.Private.WordBreaks.{remaining_breaks, places_after, first_place};
+ghost use Rattle.line_filling.specs.Private.WordBreaks.{InOrder, FindsFirstAfter, KeepsBreaksAfter, FitsUsize};
 
 use hyphenation_hyphenator::hyphenator::Hyphenator;
 use std::alloc::{AllocError, Global};
 use unicode_segmentation::{UWordBoundIndices, UnicodeSegmentation};
 
-/// The breaks of a text's pieces between word bounds that are still to come.
-///
-/// A piece is broken when its breaks are due, and once: they are kept until they are passed. A piece that ends before
-/// they are due is never broken.
+// The breaks to come of a text, whose pieces between word bounds are broken when they are needed.
+//
+// A piece is broken at most once, and its breaks are held until they are passed. A piece that ends before the place
+// that is searched is never broken.
 #[derive(Drop)]
 pub(crate) struct WordBreaks<'t> {
-    /// Where the piece begins that was broken last.
+    // Where the piece that was broken last begins, in bytes of the text.
     offset: usize,
-    /// Its breaks, counted from there.
+    // The breaks of that piece, in bytes from its beginning.
     breaks: Vec<usize>,
-    /// The number of them that were passed.
+    // The number of those breaks that were passed.
     passed: usize,
-    /// The pieces that were not taken yet.
+    // The pieces that were not taken yet.
     pieces: UWordBoundIndices<'t>,
-    /// Where the first of them begins.
+    // Where the first piece that was not taken begins.
     reached: usize,
 }
 
 impl<'t> WordBreaks<'t> {
-    /// The breaks of all pieces of a text.
+    // Begins with all pieces of a text to come.
     pub(crate) fn new(alloc: Global, text: &'t str) -> WordBreaks<'t>
-        ensures hand { in_hand result ≡ [] }
+        ensures pending { pending_breaks result ≡ [] }
         ensures pieces { remaining_pieces result ≡ with_offsets 0 (word_bounds text.now) }
         ensures reached { result.reached ≡ 0 }
     {
@@ -45,13 +47,13 @@ impl<'t> WordBreaks<'t> {
         }
     }
 
-    /// The first break after a place, of the piece that was broken last. Those before it are passed.
-    fn first_in_hand(&mut self, from: usize) -> Option<usize>
-        requires { All IsSmall (in_hand self.old) }
-        ensures hand { in_hand self.new ≡ places_after from (in_hand self.old) }
+    // Returns the first pending break after a place, and passes those before it.
+    fn first_pending(&mut self, from: usize) -> Option<usize>
+        requires { All FitsUsize (pending_breaks self.old) }
+        ensures pending { pending_breaks self.new ≡ places_after from (pending_breaks self.old) }
         ensures pieces { remaining_pieces self.new ≡ remaining_pieces self.old }
         ensures reached { self.new.reached ≡ self.old.reached }
-        ensures first { result ≡ first_place (in_hand self.new) }
+        ensures first { result ≡ first_place (pending_breaks self.new) }
     {
         while self.passed < self.breaks.len() {
             let place = self.offset + self.breaks[self.passed];
@@ -63,19 +65,20 @@ impl<'t> WordBreaks<'t> {
         None
     }
 
-    /// Takes the next piece, and where it begins.
+    // Takes the next piece, and returns it with the place where it begins.
     fn next_piece(&mut self) -> Option<(usize, &'t str)>
-        ensures hand { in_hand self.new ≡ in_hand self.old }
-        ensures pieces { remaining_pieces self.old ≡ next_then result (remaining_pieces self.new) }
-        ensures end { result ≡ None → remaining_pieces self.new ≡ [] }
+        ensures pending { pending_breaks self.new ≡ pending_breaks self.old }
+        ensures pieces { remaining_pieces self.old ≡ with_next_piece result (remaining_pieces self.new) }
+        ensures no_piece_left { result ≡ None → remaining_pieces self.new ≡ [] }
         ensures reached { self.new.reached ≡ self.old.reached }
     {
         self.pieces.next()
     }
 
-    /// The first break after a place; none, where no piece that begins before a bound has one.
-    ///
-    /// Those after the place stay. After an `Err`, which says that memory was refused, nothing is known of them.
+    // Returns the first break after a place, or `None` where no piece that begins before a bound has one.
+    //
+    // Breaks after the place stay to come. An error says that memory was refused; nothing is promised of the breaks
+    // then.
     pub(crate) fn first_after<'h, H: Hyphenator<'h, Opportunity = usize>>(
         &mut self,
         alloc: Global,
@@ -84,17 +87,14 @@ impl<'t> WordBreaks<'t> {
         until: usize,
     ) -> Result<Option<usize>, AllocError>
         requires { InOrder (H.breaks_of dictionary.now) self.old }
-        ensures order { IfOk result (λ _. InOrder (H.breaks_of dictionary.now) self.new) }
-        ensures stay { IfOk result (λ _.
-            (p : ℕ) → from < p
-            → is_in p (remaining_breaks (H.breaks_of dictionary.now) self.new)
-            ≡ is_in p (remaining_breaks (H.breaks_of dictionary.now) self.old)) }
-        ensures first { IfOk result (λ first.
-            MatchOption first (NoneWithin (remaining_breaks (H.breaks_of dictionary.now) self.new) from until)
-            (IsFirstAfter (remaining_breaks (H.breaks_of dictionary.now) self.new) from)) }
+        ensures in_order { IfOk result (λ _. InOrder (H.breaks_of dictionary.now) self.new) }
+        ensures later_breaks_stay { IfOk result (λ _.
+            KeepsBreaksAfter (H.breaks_of dictionary.now) from self.old self.new) }
+        ensures first { IfOk result
+            (FindsFirstAfter (remaining_breaks (H.breaks_of dictionary.now) self.new) from until) }
     {
         loop {
-            if let Some(place) = self.first_in_hand(from) {
+            if let Some(place) = self.first_pending(from) {
                 return Ok(Some(place));
             }
             if until <= self.reached {

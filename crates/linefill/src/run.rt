@@ -1,14 +1,11 @@
-//! Whole runs, from a dictionary's bytes and a text's to the lines that are written.
+//! Whole runs, from the bytes of a dictionary and a text to the lines that are written.
 
-ghost use Rattle.std.specs.Prelude.{◌≡◌, [], List, ℕ, OnOk, IfOk, IfErr, IfSome, map};
+ghost use Rattle.std.specs.Prelude.{◌≡◌, ◌++◌, [], List, ℕ, OnOk, IfOk, IfErr, map};
 ghost use Rattle.std.specs.String.{string_bytes};
-ghost use Rattle.std.specs.Io.KnownBytes.{Appends};
-ghost use Rattle.hyphenation_breaks.specs.Break.{plain_break};
-ghost use Rattle.hyphenation_grammar.specs.Judging.{refusal_of};
-ghost use Rattle.hyphenation.specs.Engine.{JudgesDictionary, JudgesEdits, JudgesText, BeforeReading, BeforeWriting, HoldsNoWant, IsUnwritten};
-ghost use Rattle.hyphenation_hyphenator.specs.Opportunities.{no_change, rules_of, all_breaks_of};
-ghost use Rattle.line_filling.specs.Lines.{lines_by};
-ghost use Rattle.linefill.specs.Run.{lines_by_bytes};
+ghost use Rattle.hyphenation_load.specs.Load.{AppendsTo};
+ghost use Rattle.hyphenation.specs.Engine.{RunReturns, RunWrites, JudgesDictionary, JudgesEdits, JudgesText};
+ghost use Rattle.hyphenation.specs.Engine.{BeforeReading, BeforeWriting, HidesNoOutOfMemory, IsUnwritten};
+ghost use Rattle.linefill.specs.Run.{filled_text, fill_output};
 ghost use Rattle.hyphenation_writer.specs.Canonical.{with_line_feeds};
 
 use hyphenation::engine::{Kind, RunError, read_input};
@@ -17,34 +14,41 @@ use line_filling::fill;
 use std::alloc::{AllocError, Global};
 use std::io::{Read, Write};
 
-/// The lines as one text, each with a line feed after it.
-fn joined(alloc: Global, lines: &[String]) -> Result<String, AllocError>
-    ensures { IfOk result (λ text. string_bytes text ≡ with_line_feeds (map string_bytes lines.now)) }
+/// Appends lines to a page, each with a line feed after it.
+///
+/// The only error is that memory was refused. Some of the lines may then be appended.
+///
+/// ```text
+/// let lines = fill(alloc, &dictionary, "I know noble accents", 10)?;
+/// push_lines(&mut page, &lines)?;                                   // "I know no-\nble ac-\ncents\n"
+/// ```
+pub fn push_lines(page: &mut String, lines: &[String]) -> Result<(), AllocError>
+    ensures { OnOk result (string_bytes page.new
+        ≡ string_bytes page.old ++ with_line_feeds (map string_bytes lines.now)) }
 {
-    let mut text = String::new(alloc);
     for line in lines {
-        text.push_str(line)?;
-        text.push('\n')?;
+        page.push_str(line)?;
+        page.push('\n')?;
     }
-    Ok(text)
+    Ok(())
 }
 
-/// The lines of a text, each with a line feed after it.
+// The lines of a text, each with a line feed after it.
 fn filled(
     alloc: Global,
     dictionary: &Standard,
     columns: usize,
     text: &str,
 ) -> Result<String, AllocError>
-    ensures { IfOk result (λ filled.
-        string_bytes filled
-        ≡ with_line_feeds (lines_by (all_breaks_of (rules_of no_change plain_break dictionary.now)) text.now columns)) }
+    ensures { IfOk result (λ filled. string_bytes filled ≡ filled_text columns dictionary.now text.now) }
 {
     let lines = fill(alloc, dictionary, text, columns)?;
-    joined(alloc, &lines)
+    let mut page = String::new(alloc);
+    push_lines(&mut page, &lines)?;
+    Ok(page)
 }
 
-/// The lines of the input, each with a line feed after it, by the dictionary of a language that a reader's bytes give.
+// The lines of the input, each with a line feed after it, by the dictionary of a language that a reader's bytes give.
 fn filled_input<D: Read, I: Read>(
     alloc: Global,
     lang: Language,
@@ -52,29 +56,34 @@ fn filled_input<D: Read, I: Read>(
     reader: &mut D,
     input: &mut I,
 ) -> Result<String, RunError>
-    ensures dictionary { IfSome (D.remaining reader.old) (λ bytes.
-        JudgesDictionary (refusal_of Kind.Standard) lang bytes result) }
-    ensures text { IfSome (I.remaining input.old) (λ text. JudgesText text result) }
-    ensures lines { IfOk result (λ filled.
-        IfSome (D.remaining reader.old) (λ bytes.
-        IfSome (I.remaining input.old) (λ text.
-        string_bytes filled ≡ with_line_feeds (lines_by_bytes bytes columns text)))) }
+    ensures dictionary { JudgesDictionary Kind.Standard lang (D.remaining reader.old) result }
+    ensures text { JudgesText (I.remaining input.old) result }
+    ensures lines { RunReturns string_bytes result (fill_output columns)
+        (D.remaining reader.old) (I.remaining input.old) }
     ensures unwritten { IfErr result IsUnwritten }
     ensures unread { BeforeReading result (input.new ≡ input.old) }
-    ensures edits { JudgesEdits Kind.Standard [] result }
-    ensures kind { IfErr result HoldsNoWant }
+    ensures no_edits { JudgesEdits Kind.Standard [] result }
+    ensures not_out_of_memory { IfErr result HidesNoOutOfMemory }
 {
     let dictionary = Standard::from_reader(alloc, lang, reader)?;
     let text = read_input(alloc, input)?;
     Ok(filled(alloc, &dictionary, columns, &text)?)
 }
 
-/// Loads a standard dictionary of a language, and writes the lines of the input, as [`fill`] has them, each with a line
-/// feed after it. The empty text has no lines, and nothing is written of it.
+/// Loads a standard dictionary of a language, and writes the lines of the input, as [`fill`] returns them, each with a
+/// line feed after it.
 ///
-/// In this order: the dictionary is loaded; the whole input is read, and has to be UTF-8; it is filled; the result is
-/// written. Before it is whole nothing is written: only an answer [`RunError::Output`] may have written a beginning.
-/// There are no edits, so [`RunError::Edit`] is never answered.
+/// The steps come in this order. The dictionary is loaded. The input is read to its end, and must be UTF-8. It is
+/// filled. The result is written, once all of it is made. The first step that fails gives the error. After
+/// [`RunError::Output`] a beginning may be written; after any other error nothing is. There are no edits, so
+/// [`RunError::Edit`] is never returned. An empty input has no lines, and nothing is written.
+///
+/// ```text
+/// let mut dictionary = &b"hyphenation 1 standard\nlanguage en-us\nminima 2 3\ne accents 2\ne noble 2\n"[..];
+/// let mut input = &b"I know noble accents"[..];
+/// // "I know no-\nble ac-\ncents\n"
+/// run_fill(alloc, Language::english_us(), 10, &mut dictionary, &mut input, &mut rt.stdout())?;
+/// ```
 pub fn run_fill<D: Read, I: Read, O: Write>(
     alloc: Global,
     lang: Language,
@@ -83,17 +92,15 @@ pub fn run_fill<D: Read, I: Read, O: Write>(
     input: &mut I,
     output: &mut O,
 ) -> Result<(), RunError>
-    ensures dictionary { IfSome (D.remaining dictionary.old) (λ bytes.
-        JudgesDictionary (refusal_of Kind.Standard) lang bytes result) }
-    ensures text { IfSome (I.remaining input.old) (λ text. JudgesText text result) }
-    ensures written { OnOk result (IfSome (D.remaining dictionary.old) (λ bytes. IfSome (I.remaining input.old) (λ text.
-        Appends (O.contents output.old) (O.contents output.new) (with_line_feeds
-        (lines_by_bytes bytes columns text))))) }
-    ensures whole { OnOk result ((text : List ℕ) × Appends (O.contents output.old) (O.contents output.new) text) }
+    ensures dictionary { JudgesDictionary Kind.Standard lang (D.remaining dictionary.old) result }
+    ensures text { JudgesText (I.remaining input.old) result }
+    ensures written { RunWrites result O.contents output.old output.new (fill_output columns)
+        (D.remaining dictionary.old) (I.remaining input.old) }
+    ensures whole { OnOk result ((text : List ℕ) × AppendsTo O.contents output.old output.new text) }
     ensures untouched { BeforeWriting result (output.new ≡ output.old) }
     ensures unread { BeforeReading result (input.new ≡ input.old) }
-    ensures edits { JudgesEdits Kind.Standard [] result }
-    ensures kind { IfErr result HoldsNoWant }
+    ensures no_edits { JudgesEdits Kind.Standard [] result }
+    ensures not_out_of_memory { IfErr result HidesNoOutOfMemory }
 {
     let text = filled_input(alloc, lang, columns, dictionary, input)?;
     output.write_all(text.as_bytes()).map_err(RunError::Output)

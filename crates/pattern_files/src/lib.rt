@@ -1,39 +1,35 @@
-//! Files of hyphenation patterns, as TeX and LibreOffice have them, made into dictionaries.
+//! Files of hyphenation patterns, as TeX and LibreOffice have them, made into dictionaries: the names that users have
+//! for the crates below.
 //!
-//! A TeX file of hyph-utf8 has its patterns in a group after `\patterns`, and its exceptions in one after
-//! `\hyphenation`; the plain files beside it have what stands in one such group:
-//!
-//! ```text
-//! \patterns{                   .fi2      2 after fi, where a word begins with it
-//! .fi2 r5kin 4k1i              r5kin     5 between r and k, wherever rkin stands in a word
-//! }
-//! \hyphenation{as-so-ciate}    associate, with breaks at 2 and 4
-//! ```
-//!
-//! A `.dic` of LibreOffice names its charset in line 1, and then has settings and patterns, some with changes of
-//! letters.
-//!
-//! [`convert::convert`] takes TeX's files and plain ones, [`libreoffice::convert_dic`] takes a `.dic`, and their
-//! contracts say which dictionary these give. The modules, from the bottom up: [`fault`] says why files give nothing,
-//! [`notes`] what there is to tell where they give a dictionary; [`group`] has files, their groups and their words;
-//! [`longest`] tells whether LibreOffice reads patterns otherwise than TeX does; `spelling` reads one word; `parts` gathers what words spell; `tex` reads files into words, and [`laws`] say in the
-//! format's own words which; [`told`] has what TeX's files say of themselves, and what there is to note of them.
+//! [`convert::convert`] takes TeX files and plain ones, which the crate `tex_files` reads, and
+//! [`libreoffice::convert_dic`] takes a `.dic`, which the crate `libreoffice_files` reads. Both return a dictionary, or
+//! an error of [`errors`]; a dictionary may come with the remarks of [`notes`]. [`head_minima`] reads the least numbers
+//! of characters around a break from the head of a TeX file.
 #![tactic(auto)]
 
-mod change;
-pub mod changes;
-mod charset;
-pub mod convert;
-pub mod fault;
-pub mod group;
-pub mod laws;
-mod levels;
-pub mod libreoffice;
-mod lines;
-pub mod longest;
-pub mod notes;
-mod parts;
-mod spelling;
-mod tex;
-pub mod told;
-mod value;
+pub use pattern_results::{errors, notes};
+pub use tex_files::{group, head_minima};
+
+/// Dictionaries of TeX files and plain ones, and dictionaries with remarks.
+pub mod convert {
+    pub use pattern_results::converted::Converted;
+    pub use tex_files::convert::{convert, convert_with_notes};
+}
+
+/// Dictionaries of a `.dic` of LibreOffice, and whether LibreOffice reads its patterns as TeX does.
+pub mod libreoffice {
+    pub use libreoffice_files::carried_changes::{
+        carried_entry, kinds_keep, no_break_loses_its_change,
+    };
+    pub use libreoffice_files::dic::convert_dic;
+    pub use libreoffice_files::longest::{closed_patterns_read_alike, hides_value};
+}
+
+/// Laws on the words of TeX files and plain ones.
+pub mod laws {
+    pub use tex_files::laws::{
+        a_command_without_a_brace_is_skipped, comments_say_nothing, groups_are_read_in_order,
+        nothing_is_read_outside_of_groups, open_groups_are_faulty, plain_files_are_words,
+        the_end_is_the_end,
+    };
+}

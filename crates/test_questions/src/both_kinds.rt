@@ -1,12 +1,16 @@
-//! Questions to dictionaries of both kinds, which have to answer alike.
+//! Questions to dictionaries of both kinds, which must have one answer.
 
-use crate::{Question, asked};
+use crate::{Question, ask};
 use std::alloc::Global;
 use std::test::Fail;
 use test_dictionaries::{extended, standard};
 
-/// The answer of both kinds where they answer alike, and else both answers.
-fn alike(alloc: Global, plain: String, changed: Result<String, Fail>) -> Result<String, Fail> {
+// The answer of both kinds if they agree, and else both answers.
+fn common_answer(
+    alloc: Global,
+    plain: String,
+    changed: Result<String, Fail>,
+) -> Result<String, Fail> {
     let changed = changed?;
     if plain.as_str() == changed.as_str() {
         Ok(plain)
@@ -15,33 +19,43 @@ fn alike(alloc: Global, plain: String, changed: Result<String, Fail>) -> Result<
     }
 }
 
-/// The answer of dictionaries of both kinds, of these minima and these lines.
-fn of_both(
+// The answer of dictionaries of both kinds with these minima and lines.
+fn ask_both(
     alloc: Global,
     minima: &str,
     lines: &str,
     question: Question<'_>,
 ) -> Result<String, Fail> {
-    let plain = asked(alloc, standard(alloc, minima, lines), question)?;
-    alike(
+    let plain = ask(alloc, standard(alloc, minima, lines), question)?;
+    common_answer(
         alloc,
         plain,
-        asked(alloc, extended(alloc, minima, lines), question),
+        ask(alloc, extended(alloc, minima, lines), question),
     )
 }
 
-/// Words as dictionaries of both kinds, of these minima and these lines, break them: each with `=` at its breaks and a
-/// space after it.
-pub fn broken(alloc: Global, minima: &str, lines: &str, words: &str) -> Result<String, Fail> {
-    of_both(alloc, minima, lines, Question::Marked(words))
+/// Words as dictionaries of both kinds with these minima and lines break them. Each has `=` at its breaks and a space
+/// after it.
+pub fn marked_by_both(
+    alloc: Global,
+    minima: &str,
+    lines: &str,
+    words: &str,
+) -> Result<String, Fail> {
+    ask_both(alloc, minima, lines, Question::Marked(words))
 }
 
-/// The values of words by dictionaries of both kinds of these lines, a comma after those of each word.
-pub fn scored(alloc: Global, lines: &str, words: &str) -> Result<String, Fail> {
-    of_both(alloc, "0 0", lines, Question::Values(words))
+/// The values of words by dictionaries of both kinds with these lines, a comma after those of each word.
+pub fn values_by_both(alloc: Global, lines: &str, words: &str) -> Result<String, Fail> {
+    ask_both(alloc, "0 0", lines, Question::Values(words))
 }
 
-/// The places of the breaks of words by dictionaries of both kinds, a comma after those of each word.
-pub fn placed(alloc: Global, minima: &str, lines: &str, words: &str) -> Result<String, Fail> {
-    of_both(alloc, minima, lines, Question::Places(words))
+/// The places of the breaks of words by dictionaries of both kinds, in bytes, a comma after those of each word.
+pub fn places_by_both(
+    alloc: Global,
+    minima: &str,
+    lines: &str,
+    words: &str,
+) -> Result<String, Fail> {
+    ask_both(alloc, minima, lines, Question::Places(words))
 }

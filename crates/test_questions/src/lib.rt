@@ -1,4 +1,4 @@
-//! What dictionaries answer to questions, each answer as one text that a test compares.
+//! Questions to dictionaries, each answered by one text that a test compares.
 #![tactic(auto)]
 
 pub mod both_kinds;
@@ -13,24 +13,24 @@ use hyphenation_segments::iter::{Hyphenating, Texts};
 use std::alloc::{AllocError, Global};
 use std::test::Fail;
 use test_dictionaries::{FIRKIN, dictionary, extended, standard};
-use test_support::gives;
+use test_support::expect_text;
 
-/// Each of these breaks as a dictionary text writes it, with a space after it: `3`, or with a change `2,1,2,2,szsz`; of a
-/// range that would begin before the word `1,out of the word,1,x`.
-fn told<B: Break>(alloc: Global, breaks: &[B]) -> Result<String, AllocError> {
-    let mut told = String::new(alloc);
+// Breaks as a dictionary text writes them, each with a space after it, such as `3` or `2,1,2,2,szsz`. A range that
+// passes an edge is written `out of the word`.
+fn describe_breaks<B: Break>(alloc: Global, breaks: &[B]) -> Result<String, AllocError> {
+    let mut described = String::new(alloc);
     for one in breaks {
         if one.changed() {
-            told.push_str(&changed_break(alloc, one)?)?;
+            described.push_str(&describe_changed_break(alloc, one)?)?;
         } else {
-            told.push_str(&format!(in alloc; "{} ", one.place())?)?;
+            described.push_str(&format!(in alloc; "{} ", one.place())?)?;
         }
     }
-    Ok(told)
+    Ok(described)
 }
 
-/// A break with a change as a dictionary text writes it, with a space after it.
-fn changed_break<B: Break>(alloc: Global, one: &B) -> Result<String, AllocError> {
+// A break with a change as a dictionary text writes it, with a space after it.
+fn describe_changed_break<B: Break>(alloc: Global, one: &B) -> Result<String, AllocError> {
     let (place, at) = (one.place(), one.before().len());
     let (before, after) = (one.before(), one.after());
     match one.range() {
@@ -42,15 +42,18 @@ fn changed_break<B: Break>(alloc: Global, one: &B) -> Result<String, AllocError>
     }
 }
 
-/// The breaks of an exception, or that there is none.
-pub fn told_if<B: Break>(alloc: Global, found: Option<Vec<B>>) -> Result<String, AllocError> {
+/// The breaks of an exception, or `none`.
+pub fn describe_exception<B: Break>(
+    alloc: Global,
+    found: Option<Vec<B>>,
+) -> Result<String, AllocError> {
     match found {
-        Some(breaks) => told(alloc, &breaks),
+        Some(breaks) => describe_breaks(alloc, &breaks),
         None => String::from_str(alloc, "none"),
     }
 }
 
-/// Writes the breaks of a word.
+// Writes the breaks of a word.
 fn push_breaks<'h, H: Hyphenator<'h>>(
     output: &mut String,
     alloc: Global,
@@ -58,12 +61,12 @@ fn push_breaks<'h, H: Hyphenator<'h>>(
     word: &str,
 ) -> Result<(), AllocError> {
     let found = dictionary.hyphenate(alloc, word)?;
-    let breaks = told(alloc, &found.breaks)?;
+    let breaks = describe_breaks(alloc, &found.breaks)?;
     output.push_str(&breaks)
 }
 
-/// The breaks of words that a space parts, with a comma after those of each word.
-pub fn places<'h, H: Hyphenator<'h>>(
+/// The breaks of words, which are separated by spaces, with a comma after those of each word.
+pub fn places_of<'h, H: Hyphenator<'h>>(
     alloc: Global,
     dictionary: &'h H,
     words: &str,
@@ -76,7 +79,7 @@ pub fn places<'h, H: Hyphenator<'h>>(
     Ok(output)
 }
 
-/// Writes a word's items, with the mark `=`.
+// Writes a word's items, with the mark `=`.
 fn push_items<I: Texts>(
     output: &mut String,
     mut items: Hyphenating<'_, I>,
@@ -88,53 +91,40 @@ fn push_items<I: Texts>(
     Ok(())
 }
 
-/// Words that a space parts, each as its items with the mark `=`, and a space after it.
-fn marked(alloc: Global, dictionary: &Standard, words: &str) -> Result<String, AllocError> {
-    let mut output = String::new(alloc);
-    for word in words.split(' ') {
-        push_items(&mut output, dictionary.hyphenate(alloc, word)?.into_iter())?;
-        output.push(' ')?;
-    }
-    Ok(output)
-}
-
-/// The same by an extended dictionary: the items are changed as it says.
-fn changed(alloc: Global, dictionary: &Extended, words: &str) -> Result<String, AllocError> {
-    let mut output = String::new(alloc);
-    for word in words.split(' ') {
-        push_items(&mut output, dictionary.hyphenate(alloc, word)?.into_iter())?;
-        output.push(' ')?;
-    }
-    Ok(output)
-}
-
-/// Writes the values of a word's places, each with a space after it.
-fn push_values(
-    output: &mut String,
+// Words, which are separated by spaces, each as its items with the mark `=` and a space after it.
+fn marked<D: DescribesWords>(
     alloc: Global,
-    dictionary: &Standard,
-    word: &str,
-) -> Result<(), AllocError> {
-    for value in dictionary.score(alloc, word)? {
-        let value = format!(in alloc; "{value} ")?;
-        output.push_str(&value)?;
-    }
-    Ok(())
-}
-
-/// The values of the places of words that a space parts, with a comma after those of each word.
-fn values(alloc: Global, dictionary: &Standard, words: &str) -> Result<String, AllocError> {
+    dictionary: &D,
+    words: &str,
+) -> Result<String, AllocError> {
     let mut output = String::new(alloc);
     for word in words.split(' ') {
-        push_values(&mut output, alloc, dictionary, word)?;
+        dictionary.push_marked(&mut output, alloc, word)?;
+        output.push(' ')?;
+    }
+    Ok(output)
+}
+
+// The values of the places of words, with a comma after those of each word.
+fn values<D: DescribesWords>(
+    alloc: Global,
+    dictionary: &D,
+    words: &str,
+) -> Result<String, AllocError> {
+    let mut output = String::new(alloc);
+    for word in words.split(' ') {
+        dictionary.push_values(&mut output, alloc, word)?;
         output.push(',')?;
     }
     Ok(output)
 }
 
-/// A value with a space after it, and with its change as a dictionary text writes it, but for the place: `1`, or
-/// `1,1,0,1,x`.
-fn winner(alloc: Global, value: u8, change: Option<&Subregion>) -> Result<String, AllocError> {
+// A value with a space after it, with the parts of its change after the place, such as `1` or `1,1,0,1,x`.
+fn describe_value(
+    alloc: Global,
+    value: u8,
+    change: Option<&Subregion>,
+) -> Result<String, AllocError> {
     match change {
         Some(change) => {
             let (left, right, at) = (change.left, change.right, change.breakpoint);
@@ -145,30 +135,7 @@ fn winner(alloc: Global, value: u8, change: Option<&Subregion>) -> Result<String
     }
 }
 
-/// Writes the values of a word's places, each with its change and a space after it.
-fn push_winners(
-    output: &mut String,
-    alloc: Global,
-    dictionary: &Extended,
-    word: &str,
-) -> Result<(), AllocError> {
-    for (value, change) in dictionary.score(alloc, word)? {
-        output.push_str(&winner(alloc, value, change)?)?;
-    }
-    Ok(())
-}
-
-/// The values of the places of words that a space parts, each with its change; a comma after those of each word.
-fn winners(alloc: Global, dictionary: &Extended, words: &str) -> Result<String, AllocError> {
-    let mut output = String::new(alloc);
-    for word in words.split(' ') {
-        push_winners(&mut output, alloc, dictionary, word)?;
-        output.push(',')?;
-    }
-    Ok(output)
-}
-
-/// Writes the number of items that are left, and the next one.
+// Writes the number of remaining items, and the next one.
 fn push_next<I: Texts>(
     output: &mut String,
     alloc: Global,
@@ -184,9 +151,12 @@ fn push_next<I: Texts>(
     output.push(',')
 }
 
-/// A word's items, the second and later ones with the mark `=`, each after the number of those that are left; two more
-/// are asked for than there are.
-fn anew<I: Texts>(alloc: Global, mut items: Hyphenating<'_, I>) -> Result<String, AllocError> {
+// A word's items, each after the number of the remaining ones; after the first the mark is `=`. It asks for two more
+// than there are.
+fn with_new_mark<I: Texts>(
+    alloc: Global,
+    mut items: Hyphenating<'_, I>,
+) -> Result<String, AllocError> {
     let (number, _) = items.size_hint();
     let mut output = String::new(alloc);
     for _ in 0..number.saturating_add(2) {
@@ -196,25 +166,29 @@ fn anew<I: Texts>(alloc: Global, mut items: Hyphenating<'_, I>) -> Result<String
     Ok(output)
 }
 
-/// Lists one place for `firkins`, where it fits; the old list.
-pub fn list(alloc: Global, dictionary: &mut Standard, place: usize) -> Result<String, AllocError> {
+/// Lists one place for `firkins` if it fits, and describes the old list.
+pub fn add_firkins(
+    alloc: Global,
+    dictionary: &mut Standard,
+    place: usize,
+) -> Result<String, AllocError> {
     let word = String::from_str(alloc, "firkins")?;
     let places = vec![in alloc; place; 1]?;
     if Standard::fits(&word, &places) {
-        told_if(alloc, dictionary.add_exception(word, places)?)
+        describe_exception(alloc, dictionary.add_exception(word, places)?)
     } else {
         String::from_str(alloc, "unfit")
     }
 }
 
-/// The dictionary of patterns, with the place 3 listed for `firkins`, which was not listed before.
-pub fn listing(alloc: Global) -> Result<Standard, Fail> {
+/// The dictionary of `firkin`, with the place 3 added for `firkins`.
+pub fn firkin_with_exception(alloc: Global) -> Result<Standard, Fail> {
     let mut firkin = dictionary(alloc, FIRKIN)?;
-    gives(list(alloc, &mut firkin, 3), "none")?;
+    expect_text(add_firkins(alloc, &mut firkin, 3), "none")?;
     Ok(firkin)
 }
 
-/// What a dictionary is asked. Words of a text are parted by a space; bounds and places are numbers of bytes.
+/// A question to a dictionary. Words are separated by spaces; bounds and places are numbers of bytes.
 #[derive(Clone, Copy)]
 pub enum Question<'q> {
     /// The values of the words' places, those of an extended dictionary with their changes.
@@ -223,76 +197,137 @@ pub enum Question<'q> {
     Places(&'q str),
     /// The words' items with the mark `=`.
     Marked(&'q str),
-    /// A word's items, the second and later ones with the mark `=`, each after the number of those that are left; two
-    /// more are asked for than there are.
-    Anew(&'q str),
+    /// A word's items, each after the number of the remaining ones; after the first the mark is `=`. It asks for two
+    /// more than there are.
+    NewMark(&'q str),
     /// The breaks that are listed for a word, within its boundaries.
-    Listed(&'q str),
+    Exception(&'q str),
     /// The breaks that are listed for a word, within bounds.
-    ListedWithin(&'q str, (usize, usize)),
+    ExceptionWithin(&'q str, (usize, usize)),
     /// The breaks that patterns allow in a word in small letters, within bounds.
-    Allowed(&'q str, (usize, usize)),
+    OpportunitiesWithin(&'q str, (usize, usize)),
     /// The breaks of a word in small letters.
     Opportunities(&'q str),
 }
 
-/// A dictionary that answers.
-pub trait Answering: Drop {
+/// A dictionary that writes words with their breaks, and their values.
+pub trait DescribesWords: Drop {
+    /// Writes a word's items, with the mark `=`.
+    fn push_marked(&self, output: &mut String, alloc: Global, word: &str) -> Result<(), AllocError>;
+
+    /// Writes the values of a word's places, each with its change and a space after it.
+    fn push_values(&self, output: &mut String, alloc: Global, word: &str) -> Result<(), AllocError>;
+}
+
+/// A dictionary that answers questions.
+pub trait AnswersQuestions: DescribesWords {
     /// The answer to a question, as one text.
     fn answer(&self, alloc: Global, question: Question<'_>) -> Result<String, AllocError>;
 }
 
-impl Answering for Standard {
+impl DescribesWords for Standard {
+    fn push_marked(
+        &self,
+        output: &mut String,
+        alloc: Global,
+        word: &str,
+    ) -> Result<(), AllocError> {
+        push_items(output, self.hyphenate(alloc, word)?.into_iter())
+    }
+
+    fn push_values(
+        &self,
+        output: &mut String,
+        alloc: Global,
+        word: &str,
+    ) -> Result<(), AllocError> {
+        for value in self.score(alloc, word)? {
+            output.push_str(&describe_value(alloc, value, None)?)?;
+        }
+        Ok(())
+    }
+}
+
+impl AnswersQuestions for Standard {
     fn answer(&self, alloc: Global, question: Question<'_>) -> Result<String, AllocError> {
         match question {
             Question::Values(words) => values(alloc, self, words),
             Question::Marked(words) => marked(alloc, self, words),
-            Question::Anew(word) => anew(alloc, self.hyphenate(alloc, word)?.into_iter()),
-            _ => breaks_asked(alloc, self, question),
+            Question::NewMark(word) => with_new_mark(
+                alloc,
+                self.hyphenate(alloc, word)?.into_iter(),
+            ),
+            _ => answer_about_breaks(alloc, self, question),
         }
     }
 }
 
-impl Answering for Extended {
+impl DescribesWords for Extended {
+    fn push_marked(
+        &self,
+        output: &mut String,
+        alloc: Global,
+        word: &str,
+    ) -> Result<(), AllocError> {
+        push_items(output, self.hyphenate(alloc, word)?.into_iter())
+    }
+
+    fn push_values(
+        &self,
+        output: &mut String,
+        alloc: Global,
+        word: &str,
+    ) -> Result<(), AllocError> {
+        for (value, change) in self.score(alloc, word)? {
+            output.push_str(&describe_value(alloc, value, change)?)?;
+        }
+        Ok(())
+    }
+}
+
+impl AnswersQuestions for Extended {
     fn answer(&self, alloc: Global, question: Question<'_>) -> Result<String, AllocError> {
         match question {
-            Question::Values(words) => winners(alloc, self, words),
-            Question::Marked(words) => changed(alloc, self, words),
-            Question::Anew(word) => anew(alloc, self.hyphenate(alloc, word)?.into_iter()),
-            _ => breaks_asked(alloc, self, question),
+            Question::Values(words) => values(alloc, self, words),
+            Question::Marked(words) => marked(alloc, self, words),
+            Question::NewMark(word) => with_new_mark(
+                alloc,
+                self.hyphenate(alloc, word)?.into_iter(),
+            ),
+            _ => answer_about_breaks(alloc, self, question),
         }
     }
 }
 
-/// The breaks that are asked for; of another question, that it is none of breaks.
-fn breaks_asked<'h, H: Hyphenator<'h>>(
+// The answer to a question about breaks; to any other it says that it is none.
+fn answer_about_breaks<'h, H: Hyphenator<'h>>(
     alloc: Global,
     dictionary: &'h H,
     question: Question<'_>,
 ) -> Result<String, AllocError> {
     match question {
-        Question::Places(words) => places(alloc, dictionary, words),
-        Question::Listed(word) => told_if(alloc, dictionary.exception(alloc, word)?),
-        Question::ListedWithin(word, bounds) => {
-            told_if(alloc, dictionary.exception_within(alloc, word, bounds)?)
+        Question::Places(words) => places_of(alloc, dictionary, words),
+        Question::Exception(word) => describe_exception(alloc, dictionary.exception(alloc, word)?),
+        Question::ExceptionWithin(word, bounds) => {
+            describe_exception(alloc, dictionary.exception_within(alloc, word, bounds)?)
         }
-        Question::Allowed(word, bounds) => {
-            told_if(
+        Question::OpportunitiesWithin(word, bounds) => {
+            describe_exception(
                 alloc,
                 Some(dictionary.opportunities_within(alloc, word, bounds)?),
             )
         }
         Question::Opportunities(word) => {
-            told_if(alloc, Some(dictionary.opportunities(alloc, word)?))
+            describe_exception(alloc, Some(dictionary.opportunities(alloc, word)?))
         }
-        Question::Values(_) | Question::Marked(_) | Question::Anew(_) => {
+        Question::Values(_) | Question::Marked(_) | Question::NewMark(_) => {
             String::from_str(alloc, "no question of breaks")
         }
     }
 }
 
-/// The answer of a dictionary that was loaded, or its refusal.
-pub fn asked<D: Answering, E: Into<Fail>>(
+/// The answer of a loaded dictionary, or the error of loading.
+pub fn ask<D: AnswersQuestions, E: Into<Fail>>(
     alloc: Global,
     dictionary: Result<D, E>,
     question: Question<'_>,
@@ -303,18 +338,18 @@ pub fn asked<D: Answering, E: Into<Fail>>(
     }
 }
 
-/// The values of words by a standard dictionary of these lines.
+/// The values of words by a standard dictionary with these lines.
 pub fn values_by(alloc: Global, lines: &str, words: &str) -> Result<String, Fail> {
-    asked(
+    ask(
         alloc,
         standard(alloc, "0 0", lines),
         Question::Values(words),
     )
 }
 
-/// Words that a space parts, as an extended dictionary of these minima and these lines breaks and changes them.
+/// Words as an extended dictionary with these minima and lines breaks and changes them.
 pub fn changed_by(alloc: Global, minima: &str, lines: &str, words: &str) -> Result<String, Fail> {
-    asked(
+    ask(
         alloc,
         extended(alloc, minima, lines),
         Question::Marked(words),

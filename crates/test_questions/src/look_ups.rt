@@ -1,17 +1,17 @@
-//! How many look-ups a score takes.
+//! The number of look-ups that a score takes.
 
 use hyphenation_score::{LookUps, Score};
 use std::alloc::{AllocError, Global};
 use std::test::Fail;
 use test_dictionaries::standard;
 
-/// What scoring a word by a dictionary of these lines counted.
-pub fn counted(alloc: Global, lines: &str, word: &str) -> Result<LookUps, Fail> {
-    Ok(look_ups(alloc, &standard(alloc, "0 0", lines)?, word)?)
+/// The counts of scoring a word by a standard dictionary with these lines.
+pub fn look_ups_of(alloc: Global, lines: &str, word: &str) -> Result<LookUps, Fail> {
+    Ok(count_look_ups(alloc, &standard(alloc, "0 0", lines)?, word)?)
 }
 
-/// The same of a dictionary of either kind that was loaded.
-pub fn look_ups<'d, D: Score<'d>>(
+/// The counts of scoring a word by a loaded dictionary of either kind.
+pub fn count_look_ups<'d, D: Score<'d>>(
     alloc: Global,
     dictionary: &'d D,
     word: &str,

@@ -1,7 +1,8 @@
-//! What every test ends with, readers and writers that fail, and long texts. Nothing here knows a dictionary.
+//! Assertions of tests, readers and writers that fail, and long texts. Nothing here uses a dictionary.
 #![tactic(auto)]
 
-pub mod faults;
+pub mod files;
+pub mod io_errors;
 pub mod readers;
 pub mod writers;
 
@@ -9,9 +10,9 @@ use std::alloc::{AllocError, Global};
 use std::fmt::{Debug, Display};
 use std::test::Fail;
 
-/// Fails, with both, where what was found is not what is wanted. A test that ends so is proved sooner than one with an
+/// Fails, with both values, unless they are equal. A test that ends with this call is proved sooner than one with an
 /// assertion of the kit's.
-pub fn same<T: PartialEq + Debug>(found: &T, wanted: &T) -> Result<(), Fail> {
+pub fn expect_equal<T: PartialEq + Debug>(found: &T, wanted: &T) -> Result<(), Fail> {
     if found == wanted {
         Ok(())
     } else {
@@ -19,8 +20,8 @@ pub fn same<T: PartialEq + Debug>(found: &T, wanted: &T) -> Result<(), Fail> {
     }
 }
 
-/// The same of one of several cases, which is named.
-pub fn same_in<C: Display + Drop, T: PartialEq + Debug>(
+/// Fails, with the case and both values, unless they are equal.
+pub fn expect_equal_in<C: Display + Drop, T: PartialEq + Debug>(
     case: C,
     found: &T,
     wanted: &T,
@@ -32,8 +33,12 @@ pub fn same_in<C: Display + Drop, T: PartialEq + Debug>(
     }
 }
 
-/// The same of bytes, which are told as text.
-pub fn same_bytes<C: Display + Drop>(case: C, found: &[u8], wanted: &[u8]) -> Result<(), Fail> {
+/// Fails, with the case and both texts, unless the bytes are equal.
+pub fn expect_equal_bytes<C: Display + Drop>(
+    case: C,
+    found: &[u8],
+    wanted: &[u8],
+) -> Result<(), Fail> {
     if found == wanted {
         Ok(())
     } else {
@@ -42,41 +47,41 @@ pub fn same_bytes<C: Display + Drop>(case: C, found: &[u8], wanted: &[u8]) -> Re
     }
 }
 
-/// Fails where a call has failed, or has another answer than is wanted.
-pub fn gives<E: Into<Fail>>(found: Result<String, E>, wanted: &str) -> Result<(), Fail> {
+/// Fails if a call failed or returned another text.
+pub fn expect_text<E: Into<Fail>>(found: Result<String, E>, wanted: &str) -> Result<(), Fail> {
     match found {
-        Ok(found) => same(&found.as_str(), &wanted),
+        Ok(found) => expect_equal(&found.as_str(), &wanted),
         Err(error) => Err(error.into()),
     }
 }
 
-/// The same of one of several cases, which is named where the answer is another.
-pub fn gives_in<C: Display + Drop, E: Into<Fail>>(
+/// Fails, with the case, if a call failed or returned another text.
+pub fn expect_text_in<C: Display + Drop, E: Into<Fail>>(
     case: C,
     found: Result<String, E>,
     wanted: &str,
 ) -> Result<(), Fail> {
     match found {
-        Ok(found) => same_in(case, &found.as_str(), &wanted),
+        Ok(found) => expect_equal_in(case, &found.as_str(), &wanted),
         Err(error) => Err(error.into()),
     }
 }
 
-/// Fails, and names the case, where a run has failed, or has written other bytes than are wanted.
-pub fn wrote<C: Display + Drop, E: Debug>(
+/// Fails, with the case, if a run failed or wrote other bytes.
+pub fn expect_written<C: Display + Drop, E: Debug>(
     case: C,
     end: &Result<(), E>,
     output: &[u8],
     wanted: &[u8],
 ) -> Result<(), Fail> {
     match end {
-        Ok(()) => same_bytes(case, output, wanted),
+        Ok(()) => expect_equal_bytes(case, output, wanted),
         Err(error) => Err(Fail::new(format_args!("{case}: {error:?}"))),
     }
 }
 
-/// Fails, and names the case, where something does not hold.
-pub fn holds<C: Display + Drop>(is_so: bool, case: C) -> Result<(), Fail> {
+/// Fails, with the case, unless a condition holds.
+pub fn expect<C: Display + Drop>(is_so: bool, case: C) -> Result<(), Fail> {
     if is_so {
         Ok(())
     } else {
@@ -84,7 +89,7 @@ pub fn holds<C: Display + Drop>(is_so: bool, case: C) -> Result<(), Fail> {
     }
 }
 
-/// A piece so many times.
+/// A text, repeated.
 pub fn repeated(alloc: Global, piece: &str, times: usize) -> Result<String, AllocError> {
     let mut text = String::new(alloc);
     for _ in 0..times {

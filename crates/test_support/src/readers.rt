@@ -1,64 +1,73 @@
-//! Readers that give few bytes at a time, and readers that fail.
+//! Readers that give few bytes a read, and readers that fail.
 
-use crate::faults::{TORN, fault};
+ghost use Rattle.std.specs.Prelude.{◌≤◌, length};
+
+use crate::io_errors::{CONNECTION_RESET, io_error};
 use std::io;
 use std::io::Read;
 
-/// Gives a text in reads of one byte, up to a fault at the read of a number, counted from 1, and at each later one.
+/// Moves the first of the remaining bytes into a buffer, and returns the number of bytes moved: 0 if there is none, or
+/// no room.
+pub fn take_byte(left: &mut &[u8], buf: &mut [u8]) -> usize
+    ensures { result ≤ length buf.new }
+{
+    match (left.split_first(), buf.first_mut()) {
+        (Some((first, rest)), Some(slot)) => {
+            *slot = *first;
+            *left = rest;
+            1
+        }
+        _ => 0,
+    }
+}
+
+/// Gives one byte a read. The read of a number, counted from 1, and all later ones fail.
 #[derive(Drop)]
-pub struct Faulty<'t> {
+pub struct FailingReader<'t> {
     left: &'t [u8],
     until: usize,
     code: i32,
 }
 
-impl Read for Faulty<'_> {
+impl Read for FailingReader<'_> {
     fn read(&mut self, buf: &mut [u8]) -> io::Result<usize> {
         if self.until <= 1 {
-            return Err(fault(self.code));
+            return Err(io_error(self.code));
         }
         self.until -= 1;
-        let Some((first, rest)) = self.left.split_first() else {
-            return Ok(0);
-        };
-        let Some(slot) = buf.first_mut() else {
-            return Ok(0);
-        };
-        *slot = *first;
-        self.left = rest;
-        Ok(1)
+        Ok(take_byte(&mut self.left, buf))
     }
 }
 
-/// A reader whose read of this number fails with the fault of this code.
-pub fn failing(left: &[u8], until: usize, code: i32) -> Faulty<'_> {
-    Faulty { left, until, code }
+/// A reader of one byte a read. The read of this number and all later ones fail with this code.
+pub fn failing_from(left: &[u8], until: usize, code: i32) -> FailingReader<'_> {
+    FailingReader { left, until, code }
 }
 
-/// A reader whose read of this number fails, since the connection is torn.
-pub fn torn(left: &[u8], until: usize) -> Faulty<'_> {
-    failing(left, until, TORN)
+/// A reader of one byte a read. At the read of this number its connection is reset.
+pub fn resetting_at(left: &[u8], until: usize) -> FailingReader<'_> {
+    failing_from(left, until, CONNECTION_RESET)
 }
 
 /// A reader of one byte a read, which never fails.
-pub fn dripping(left: &[u8]) -> Faulty<'_> {
-    torn(left, usize::MAX)
+pub fn one_byte_reads(left: &[u8]) -> FailingReader<'_> {
+    resetting_at(left, usize::MAX)
 }
 
-/// Gives at most so many bytes a read. The read of a number, counted from 1, fails; the later ones go on.
+/// Gives at most `most` bytes a read. The read of a number, counted from 1, fails; later ones succeed.
 #[derive(Drop)]
-pub struct Pieces<'t> {
+pub struct ShortReader<'t> {
     left: &'t [u8],
     most: usize,
     until: usize,
     code: i32,
 }
 
-impl Read for Pieces<'_> {
+impl Read for ShortReader<'_> {
     fn read(&mut self, buf: &mut [u8]) -> io::Result<usize> {
         if self.until == 1 {
             self.until = 0;
-            return Err(fault(self.code));
+            return Err(io_error(self.code));
         }
         self.until = self.until.saturating_sub(1);
         let room = self.most.min(buf.len());
@@ -71,19 +80,19 @@ impl Read for Pieces<'_> {
     }
 }
 
-/// A reader of at most so many bytes a read, which never fails.
-pub fn in_pieces(left: &[u8], most: usize) -> Pieces<'_> {
-    Pieces {
+/// A reader of at most `most` bytes a read, which never fails.
+pub fn short_reads(left: &[u8], most: usize) -> ShortReader<'_> {
+    ShortReader {
         left,
         most,
         until: 0,
-        code: TORN,
+        code: CONNECTION_RESET,
     }
 }
 
-/// A reader of two bytes a read, of which the read of this number fails with the fault of this code.
-pub fn once(left: &[u8], until: usize, code: i32) -> Pieces<'_> {
-    Pieces {
+/// A reader of two bytes a read, of which the read of this number alone fails, with this code.
+pub fn failing_once(left: &[u8], until: usize, code: i32) -> ShortReader<'_> {
+    ShortReader {
         left,
         most: 2,
         until,

@@ -1,26 +1,25 @@
-//! Writers that take one byte a write, and fail.
+//! Writers that take one byte a write, and fail once.
 
-use crate::faults::{BROKEN_PIPE, INTERRUPTED, fault};
+use crate::io_errors::{BROKEN_PIPE, INTERRUPTED, io_error};
 use std::alloc::Global;
 use std::io;
 use std::io::Write;
 
-/// Takes one byte a write, but for a fault at the write of a number, counted from 1: it fails once, and then takes
-/// bytes again.
+/// Takes one byte a write. The write of a number, counted from 1, fails; later ones succeed.
 #[derive(Drop)]
-pub struct Hiccup {
+pub struct FailingWriter {
     until: usize,
     code: i32,
-    /// What was taken.
+    /// The bytes that were taken.
     pub taken: Vec<u8>,
 }
 
-impl Write for Hiccup {
+impl Write for FailingWriter {
     fn write(&mut self, buf: &[u8]) -> io::Result<usize> {
         self.until = self.until.saturating_sub(1);
         if self.until == 0 {
             self.until = usize::MAX;
-            return Err(fault(self.code));
+            return Err(io_error(self.code));
         }
         match buf.first() {
             Some(first) => {
@@ -36,21 +35,21 @@ impl Write for Hiccup {
     }
 }
 
-/// A writer whose write of this number fails with the fault of this code.
-pub fn failing_at(alloc: Global, until: usize, code: i32) -> Hiccup {
-    Hiccup {
+/// A writer whose write of this number fails with this code.
+pub fn failing_at(alloc: Global, until: usize, code: i32) -> FailingWriter {
+    FailingWriter {
         until,
         code,
         taken: Vec::new(alloc),
     }
 }
 
-/// A writer whose write of this number fails, since the pipe is broken.
-pub fn failing_once(alloc: Global, until: usize) -> Hiccup {
+/// A writer whose write of this number fails, since its pipe is broken.
+pub fn breaking_pipe_at(alloc: Global, until: usize) -> FailingWriter {
     failing_at(alloc, until, BROKEN_PIPE)
 }
 
 /// A writer whose write of this number is interrupted.
-pub fn interrupting(alloc: Global, until: usize) -> Hiccup {
+pub fn interrupting_at(alloc: Global, until: usize) -> FailingWriter {
     failing_at(alloc, until, INTERRUPTED)
 }

@@ -1,6 +1,5 @@
-//! Words scored and hyphenated by the library, beside what a second hand answers over the same dictionaries and words,
-//! which are made by chance.
+//! The library compared with a reference implementation, over random dictionaries and words.
 #![tactic(auto)]
 
 #[cfg(test)]
-mod compared;
+mod comparison;

@@ -1,4 +1,4 @@
-//! How words are broken by extended dictionaries, whose breaks may change the letters around them.
+//! The breaks of words by extended dictionaries, which may change the letters around them.
 
 use hyphenation_breaks::extended::Subregion;
 use hyphenation_dictionary::dictionary::Extended;
@@ -9,15 +9,15 @@ use std::alloc::{AllocError, Global};
 use std::borrow::CowStr;
 use std::test::Fail;
 use test_dictionaries::extended;
-use test_questions::{Question, asked, changed_by, told_if};
-use test_support::{gives, holds};
+use test_questions::{Question, ask, changed_by, describe_exception};
+use test_support::{expect, expect_text};
 
 #[test]
 fn a_change_stands_in_place_of_its_range(rt: HostRuntime) -> Result<(), Fail> {
     let lines =
         "e abcd 2,1,1,1,x\ne bbcd 2,1,1,0,x\ne abcdef 2,1,2,1,x 3,0,1,0,y 5,0,0,0,z\ne bbcdef 2,1,2,1,x 4\ne ßab 3,1,1,1,xy\ne ab 1,1,1,2,a,b\np c1d 1,1,1,2,c,d\ne bb 1,1,1,0,\\e\ne accd 2";
     let words = "abcd bbcd abcdef bbcdef ẞAB ab cd bb accd";
-    gives(
+    expect_text(
         changed_by(rt.alloc(), "1 1", lines, words),
         "ax=d b=xd ax=e=zf bx==ef ẞx=y a,=b c,=d = ac=cd ",
     )
@@ -27,7 +27,7 @@ const DOUBLED: &str = "e asszonnyal 2,1,2,2,szsz 6,1,2,2,nyny\ne esszé 2,1,2,2,
 
 #[test]
 fn doubled_letters_come_back_where_a_word_is_broken(rt: HostRuntime) -> Result<(), Fail> {
-    gives(
+    expect_text(
         changed_by(rt.alloc(), "2 2", DOUBLED, "asszonnyal esszé Esszé"),
         "asz=szony=nyal esz=szé Esz=szé ",
     )
@@ -36,18 +36,18 @@ fn doubled_letters_come_back_where_a_word_is_broken(rt: HostRuntime) -> Result<(
 #[test]
 fn a_letter_comes_in_where_a_word_is_broken(rt: HostRuntime) -> Result<(), Fail> {
     let line = "e asszonnyal 2,1,0,2,sz 6,1,0,2,ny";
-    gives(
+    expect_text(
         changed_by(rt.alloc(), "2 2", line, "asszonnyal"),
         "asz=szony=nyal ",
     )
 }
 
-/// A list with a place within the range of the break before it.
+// A list with a place within the range of the break before it.
 const OVERLAPPING: &str = "e asszonnyal 2,1,2,2,szsz 3 6,1,2,2,nyny";
 
-/// The breaks of words by an extended dictionary of these minima and these lines.
+// The breaks of words by an extended dictionary with these minima and lines.
 fn places_by(alloc: Global, minima: &str, lines: &str, words: &str) -> Result<String, Fail> {
-    asked(
+    ask(
         alloc,
         extended(alloc, minima, lines),
         Question::Places(words),
@@ -56,29 +56,33 @@ fn places_by(alloc: Global, minima: &str, lines: &str, words: &str) -> Result<St
 
 #[test]
 fn a_place_within_a_kept_range_is_left_out(rt: HostRuntime) -> Result<(), Fail> {
-    gives(
+    expect_text(
         places_by(rt.alloc(), "2 2", OVERLAPPING, "asszonnyal"),
         "2,1,2,2,szsz 6,1,2,2,nyny ,",
     )
 }
 
 #[test]
-fn the_breaks_beside_a_place_left_out_are_changed(rt: HostRuntime) -> Result<(), Fail> {
-    gives(
+fn the_breaks_next_to_a_place_left_out_are_changed(rt: HostRuntime) -> Result<(), Fail> {
+    expect_text(
         changed_by(rt.alloc(), "2 2", OVERLAPPING, "asszonnyal"),
         "asz=szony=nyal ",
     )
 }
 
-/// The list of an exception in a dictionary of these lines.
-pub fn exception(alloc: Global, lines: &str, word: &str) -> Result<String, Fail> {
-    asked(alloc, extended(alloc, "2 2", lines), Question::Listed(word))
+/// The list of an exception in a dictionary with these lines.
+pub fn exception_of(alloc: Global, lines: &str, word: &str) -> Result<String, Fail> {
+    ask(
+        alloc,
+        extended(alloc, "2 2", lines),
+        Question::Exception(word),
+    )
 }
 
 #[test]
 fn a_place_within_a_range_is_listed(rt: HostRuntime) -> Result<(), Fail> {
-    gives(
-        exception(rt.alloc(), OVERLAPPING, "asszonnyal"),
+    expect_text(
+        exception_of(rt.alloc(), OVERLAPPING, "asszonnyal"),
         "2,1,2,2,szsz 3 6,1,2,2,nyny ",
     )
 }
@@ -88,7 +92,7 @@ fn a_range_over_a_letter_whose_length_folding_changed_is_left_out(
     rt: HostRuntime,
 ) -> Result<(), Fail> {
     let line = "e aßb 1 3,2,0,2,ss";
-    gives(
+    expect_text(
         changed_by(rt.alloc(), "1 1", line, "aßb AẞB"),
         "a=ss=b A=ẞB ",
     )
@@ -97,7 +101,7 @@ fn a_range_over_a_letter_whose_length_folding_changed_is_left_out(
 #[test]
 fn a_break_left_out_is_no_break_of_the_word(rt: HostRuntime) -> Result<(), Fail> {
     let line = "e aßb 1 3,2,0,2,ss";
-    gives(
+    expect_text(
         places_by(rt.alloc(), "1 1", line, "aßb AẞB"),
         "1 3,2,0,2,ss ,1 ,",
     )
@@ -105,15 +109,15 @@ fn a_break_left_out_is_no_break_of_the_word(rt: HostRuntime) -> Result<(), Fail>
 
 #[test]
 fn a_range_that_passes_an_edge_of_the_word_is_left_out(rt: HostRuntime) -> Result<(), Fail> {
-    gives(
+    expect_text(
         places_by(rt.alloc(), "1 1", "p .a1b 2,2,0,1,x", "abc \u{ad}ab"),
         ",0 ,",
     )
 }
 
-/// The breaks that a dictionary of these lines allows in a word in small letters.
-fn opportunities(alloc: Global, lines: &str, word: &str) -> Result<String, Fail> {
-    asked(
+// The breaks that a dictionary with these lines allows in a word in small letters.
+fn opportunities_of(alloc: Global, lines: &str, word: &str) -> Result<String, Fail> {
+    ask(
         alloc,
         extended(alloc, "1 1", lines),
         Question::Opportunities(word),
@@ -122,13 +126,13 @@ fn opportunities(alloc: Global, lines: &str, word: &str) -> Result<String, Fail>
 
 #[test]
 fn a_range_that_passes_an_edge_of_the_word_is_allowed(rt: HostRuntime) -> Result<(), Fail> {
-    gives(
-        opportunities(rt.alloc(), "p .a1b 2,2,0,1,x", "abc"),
+    expect_text(
+        opportunities_of(rt.alloc(), "p .a1b 2,2,0,1,x", "abc"),
         "1,out of the word,1,x ",
     )
 }
 
-/// The breaks but those at a place.
+// The breaks but those at a place.
 fn without<'d>(
     alloc: Global,
     breaks: &[(usize, Option<&'d Subregion>)],
@@ -143,36 +147,36 @@ fn without<'d>(
     Ok(others)
 }
 
-/// Whether the breaks that are listed for `abcdef`, but those at a place, fit it.
-fn fit_without(alloc: Global, dictionary: &Extended, place: usize) -> Result<bool, Fail> {
+// Whether the breaks that are listed for `abcdef`, but those at a place, fit it.
+fn do_others_fit(alloc: Global, dictionary: &Extended, place: usize) -> Result<bool, Fail> {
     let listed = dictionary.exception_within(alloc, "abcdef", (0, 6))?;
     let others = without(alloc, &listed.ok_or("a list")?, place)?;
     Ok(Word::fits("abcdef", &others))
 }
 
-/// The same by a dictionary whose range at 3 begins in that at 2.
+// Whether they fit in a dictionary where the range at 3 begins within that at 2.
 fn others_fit(alloc: Global, place: usize) -> Result<bool, Fail> {
     let lines = "e abcdef 2,1,2,1,x 3,0,1,0,y 5,0,0,0,z";
-    fit_without(alloc, &extended(alloc, "1 1", lines)?, place)
+    do_others_fit(alloc, &extended(alloc, "1 1", lines)?, place)
 }
 
 #[test]
 fn breaks_fit_where_no_range_begins_before_the_end_of_another(rt: HostRuntime) -> Result<(), Fail> {
-    holds(!others_fit(rt.alloc(), 0)?, "all breaks do not fit")?;
-    holds(others_fit(rt.alloc(), 3)?, "those but 3 fit")
+    expect(!others_fit(rt.alloc(), 0)?, "all breaks do not fit")?;
+    expect(others_fit(rt.alloc(), 3)?, "those but 3 fit")
 }
 
-/// How a word has each of its segments: lent or made.
-fn lent_or_made(
+// Whether each segment of a word is borrowed or owned.
+fn borrowed_or_owned(
     alloc: Global,
     dictionary: Result<Extended, Error>,
     word: &str,
 ) -> Result<String, Fail> {
-    Ok(each_lent_or_made(alloc, &dictionary?, word)?)
+    Ok(each_borrowed_or_owned(alloc, &dictionary?, word)?)
 }
 
-/// The same of a dictionary that was loaded.
-fn each_lent_or_made(
+// Whether each segment of a word is borrowed or owned, by a loaded dictionary.
+fn each_borrowed_or_owned(
     alloc: Global,
     dictionary: &Extended,
     word: &str,
@@ -180,76 +184,86 @@ fn each_lent_or_made(
     let mut output = String::new(alloc);
     for segment in dictionary.hyphenate(alloc, word)?.into_iter().segments() {
         output.push_str(match segment? {
-            CowStr::Borrowed(_) => "lent ",
-            CowStr::Owned(_) => "made ",
+            CowStr::Borrowed(_) => "borrowed ",
+            CowStr::Owned(_) => "owned ",
         })?;
     }
     Ok(output)
 }
 
 #[test]
-fn segments_beside_no_change_are_lent(rt: HostRuntime) -> Result<(), Fail> {
+fn segments_next_to_no_change_are_borrowed(rt: HostRuntime) -> Result<(), Fail> {
     let dictionary = extended(rt.alloc(), "1 1", "e abcdefg 2,1,2,1,x 5 6");
-    gives(
-        lent_or_made(rt.alloc(), dictionary, "abcdefg"),
-        "made made lent lent ",
+    expect_text(
+        borrowed_or_owned(rt.alloc(), dictionary, "abcdefg"),
+        "owned owned borrowed borrowed ",
     )
 }
 
 #[test]
 fn a_new_mark_holds_for_the_changed_segments_to_come(rt: HostRuntime) -> Result<(), Fail> {
     let dictionary = extended(rt.alloc(), "2 2", DOUBLED);
-    gives(
-        asked(rt.alloc(), dictionary, Question::Anew("asszonnyal")),
+    expect_text(
+        ask(rt.alloc(), dictionary, Question::NewMark("asszonnyal")),
         "3 asz-,2 szony=,1 nyal,0 none,0 none,",
     )
 }
 
 #[test]
-fn a_listed_change_is_told(rt: HostRuntime) -> Result<(), Fail> {
-    gives(exception(rt.alloc(), DOUBLED, "esszé"), "2,1,2,2,szsz ")
+fn a_listed_change_is_returned(rt: HostRuntime) -> Result<(), Fail> {
+    expect_text(exception_of(rt.alloc(), DOUBLED, "esszé"), "2,1,2,2,szsz ")
 }
 
 #[test]
 fn a_listed_change_is_no_change_of_a_pattern(rt: HostRuntime) -> Result<(), Fail> {
     let dictionary = extended(rt.alloc(), "2 2", DOUBLED);
-    let question = Question::ListedWithin("esszé", (0, 6));
-    gives(asked(rt.alloc(), dictionary, question), "2,1,2,2,szsz ")?;
+    let question = Question::ExceptionWithin("esszé", (0, 6));
+    expect_text(ask(rt.alloc(), dictionary, question), "2,1,2,2,szsz ")?;
     let dictionary = extended(rt.alloc(), "2 2", DOUBLED);
-    let question = Question::Allowed("esszé", (0, 6));
-    gives(asked(rt.alloc(), dictionary, question), "")
+    let question = Question::OpportunitiesWithin("esszé", (0, 6));
+    expect_text(ask(rt.alloc(), dictionary, question), "")
 }
 
-/// Lists a plain place for `esszé`, where it fits; the old list.
-fn list(alloc: Global, dictionary: &mut Extended, place: usize) -> Result<String, AllocError> {
+// Lists a plain place for `esszé` if it fits, and describes the old list.
+fn list_plain_place(
+    alloc: Global,
+    dictionary: &mut Extended,
+    place: usize,
+) -> Result<String, AllocError> {
     let word = String::from_str(alloc, "esszé")?;
     let plain = vec![in alloc; (place, None)]?;
     if Extended::fits(&word, &plain) {
-        told_if(alloc, dictionary.add_exception(word, plain)?)
+        describe_exception(alloc, dictionary.add_exception(word, plain)?)
     } else {
         String::from_str(alloc, "unfit")
     }
 }
 
-/// An extended dictionary where the place 3 has replaced the list of `esszé`.
-fn replaced(alloc: Global) -> Result<Extended, Error> {
+// An extended dictionary where the place 3 has replaced the list of `esszé`.
+fn with_replaced_list(alloc: Global) -> Result<Extended, Error> {
     let mut dictionary = extended(alloc, "2 2", DOUBLED)?;
-    let _old = list(alloc, &mut dictionary, 3).map_err(Error::Memory)?;
+    let _old = list_plain_place(alloc, &mut dictionary, 3).map_err(Error::Memory)?;
     Ok(dictionary)
 }
 
 #[test]
-fn the_old_list_of_a_change_is_answered(rt: HostRuntime) -> Result<(), Fail> {
+fn the_old_list_of_a_change_is_returned(rt: HostRuntime) -> Result<(), Fail> {
     let mut dictionary = extended(rt.alloc(), "2 2", DOUBLED)?;
-    gives(list(rt.alloc(), &mut dictionary, 3), "2,1,2,2,szsz ")
+    expect_text(
+        list_plain_place(rt.alloc(), &mut dictionary, 3),
+        "2,1,2,2,szsz ",
+    )
 }
 
-/// The new list of `esszé`.
-fn new_list(alloc: Global) -> Result<String, Fail> {
-    asked(alloc, replaced(alloc), Question::Listed("esszé"))
+fn list_after_replacement(alloc: Global) -> Result<String, Fail> {
+    ask(
+        alloc,
+        with_replaced_list(alloc),
+        Question::Exception("esszé"),
+    )
 }
 
 #[test]
 fn a_listed_change_is_replaced(rt: HostRuntime) -> Result<(), Fail> {
-    gives(new_list(rt.alloc()), "3 ")
+    expect_text(list_after_replacement(rt.alloc()), "3 ")
 }

@@ -1,4 +1,4 @@
-//! What no clause says of breaks that change letters, and of long words, keys, lists and dictionaries, by tests.
+//! Tests of breaks that change letters, and of long words, keys, lists and dictionaries. No clause says what they show.
 #![tactic(auto)]
 
 #[cfg(test)]

@@ -1,5 +1,5 @@
-//! What no clause says of lines of a column width: worked examples, runs and their faults, and the number of lines beside
-//! all divisions, by tests.
+//! Tests of lines of a column width: worked examples, runs and their errors, and the number of lines against all
+//! divisions. No clause says what they show.
 #![tactic(auto)]
 
 #[cfg(test)]

@@ -1,51 +1,54 @@
-//! Lines of a column width: worked examples, runs and their faults, and the number of lines beside all divisions.
+//! Lines of a column width: worked examples, runs and their errors, and the number of lines against all divisions.
 
 use hyphenation::engine::RunError;
-use hyphenation::{Language, Load, Standard};
+use hyphenation::{Language, Standard};
 use linefill::{fill, run_fill};
 use std::alloc::{AllocError, Global};
 use std::io::{Read, Write};
 use std::test::Fail;
-use test_dictionaries::is_torn;
-use test_support::faults::{BROKEN_PIPE, TORN, is_fault};
-use test_support::readers::{dripping, torn};
-use test_support::writers::failing_once;
-use test_support::{gives_in, holds, same, wrote};
+use test_dictionaries::{is_connection_reset, load};
+use test_support::io_errors::{BROKEN_PIPE, CONNECTION_RESET, has_code};
+use test_support::readers::{one_byte_reads, resetting_at};
+use test_support::writers::breaking_pipe_at;
+use test_support::{expect, expect_equal, expect_text_in, expect_written};
 
-/// Breaks of a few words.
 const VERSE: &str =
     "hyphenation 1 standard\nlanguage en-us\nminima 2 2\ne noble 2\ne accents 2\ne lucid 2\ne inescapable 2\ne größe 4\n";
 
-/// The lines of a text by a dictionary, with a bar between them.
-fn barred(alloc: Global, dictionary: &str, text: &str, columns: usize) -> Result<String, Fail> {
-    let mut reader = dictionary.as_bytes();
-    let dictionary = Standard::any_from_reader(alloc, &mut reader)?;
+// The lines of a text by a dictionary, with a bar between them.
+fn filled_with_bars(
+    alloc: Global,
+    dictionary: &str,
+    text: &str,
+    columns: usize,
+) -> Result<String, Fail> {
+    let dictionary: Standard = load(alloc, dictionary)?;
     let lines = fill(alloc, &dictionary, text, columns)?;
-    Ok(joined(alloc, &lines)?)
+    Ok(joined_by_bars(alloc, &lines)?)
 }
 
-/// Lines with a bar between them.
-fn joined(alloc: Global, lines: &[String]) -> Result<String, AllocError> {
-    let mut barred = String::new(alloc);
+// Lines with a bar between them.
+fn joined_by_bars(alloc: Global, lines: &[String]) -> Result<String, AllocError> {
+    let mut joined = String::new(alloc);
     for (index, line) in lines.iter().enumerate() {
         if index > 0 {
-            barred.push('|')?;
+            joined.push('|')?;
         }
-        barred.push_str(line)?;
+        joined.push_str(line)?;
     }
-    Ok(barred)
+    Ok(joined)
 }
 
-/// Fails where a text by a dictionary does not have the lines of a case.
-fn each_is_filled(
+// Fails unless each text has the lines of its case.
+fn expect_filled(
     alloc: Global,
     dictionary: &str,
     cases: &[(&str, usize, &str)],
 ) -> Result<(), Fail> {
     for (text, columns, wanted) in cases {
-        gives_in(
+        expect_text_in(
             format_args!("{text:?} in {columns}"),
-            barred(alloc, dictionary, text, *columns),
+            filled_with_bars(alloc, dictionary, text, *columns),
             wanted,
         )?;
     }
@@ -79,10 +82,10 @@ const FILLED: [(&str, usize, &str); 20] = [
 
 #[test]
 fn lines_end_at_the_greatest_cut_that_fits_or_at_the_least(rt: HostRuntime) -> Result<(), Fail> {
-    each_is_filled(rt.alloc(), VERSE, &FILLED)
+    expect_filled(rt.alloc(), VERSE, &FILLED)
 }
 
-/// The same with three letters after the last break of a word.
+// A dictionary whose minima leave three letters after the last break of a word.
 const THREE_LETTERS: &str =
     "hyphenation 1 standard\nlanguage en-us\nminima 2 3\ne noble 2\ne accents 2\ne lucid 2\ne inescapable 2\n";
 
@@ -98,26 +101,25 @@ const EXAMPLES: [(&str, usize, &str); 8] = [
 ];
 
 #[test]
-fn lines_of_the_examples(rt: HostRuntime) -> Result<(), Fail> {
-    each_is_filled(rt.alloc(), THREE_LETTERS, &EXAMPLES)
+fn the_examples_are_filled_as_listed(rt: HostRuntime) -> Result<(), Fail> {
+    expect_filled(rt.alloc(), THREE_LETTERS, &EXAMPLES)
 }
 
-/// The columns of the line between two cuts.
-fn width(text: &str, start: usize, cut: usize) -> Option<usize> {
+// The columns of the line between two ends of lines.
+fn line_width(text: &str, start: usize, cut: usize) -> Option<usize> {
     let line = text.get(start..cut)?;
     let marked = !line.ends_with(' ') && cut != text.len();
     Some(line.chars().count().saturating_add(usize::from(marked)))
 }
 
-/// The number of lines where a text is cut at those of the cuts that the bits of a number choose, and at its end;
-/// `None` where a line is too wide.
+// The number of lines if a text is divided where the bits of `choice` say and at its end. `None` if a line is too wide.
 fn lines_at(text: &str, cuts: &[usize], columns: usize, choice: u32) -> Option<usize> {
     let mut bits = choice;
     let mut start: usize = 0;
     let mut lines: usize = 0;
     for cut in cuts {
         if bits % 2 == 1 || *cut == text.len() {
-            if width(text, start, *cut)? > columns {
+            if line_width(text, start, *cut)? > columns {
                 return None;
             }
             start = *cut;
@@ -128,7 +130,7 @@ fn lines_at(text: &str, cuts: &[usize], columns: usize, choice: u32) -> Option<u
     Some(lines)
 }
 
-/// The least number of lines of all divisions of a text at some of at most twelve cuts; `None` where none fits.
+// The least number of lines of all divisions of a text at some of at most twelve places; `None` if none fits.
 fn fewest(text: &str, cuts: &[usize], columns: usize) -> Option<usize> {
     let mut least: Option<usize> = None;
     for choice in 0..4096_u32 {
@@ -142,7 +144,7 @@ fn fewest(text: &str, cuts: &[usize], columns: usize) -> Option<usize> {
     least
 }
 
-/// Whether a text has as few lines as in the best of its divisions that fit; `None` where none fits.
+// Whether a text has as few lines as the best division that fits; `None` if none fits.
 fn is_fewest(
     alloc: Global,
     dictionary: &Standard,
@@ -154,23 +156,25 @@ fn is_fewest(
     Ok(fewest(text, cuts, columns).map(|least| lines.len() == least))
 }
 
-/// The number of widths at which a text has as few lines as in the best of its divisions; `None` where it has more at
-/// one of them.
-fn compared(alloc: Global, text: &str, cuts: &[usize]) -> Result<Option<usize>, Fail> {
-    let mut reader = VERSE.as_bytes();
-    let dictionary = Standard::any_from_reader(alloc, &mut reader)?;
-    let mut compared: usize = 0;
+// The number of widths at which a text has as few lines as the best division; `None` if it has more at one of them.
+fn widths_with_fewest_lines(
+    alloc: Global,
+    text: &str,
+    cuts: &[usize],
+) -> Result<Option<usize>, Fail> {
+    let dictionary: Standard = load(alloc, VERSE)?;
+    let mut widths: usize = 0;
     for columns in 0..=text.chars().count() {
         match is_fewest(alloc, &dictionary, text, cuts, columns)? {
-            Some(true) => compared = compared.saturating_add(1),
+            Some(true) => widths = widths.saturating_add(1),
             Some(false) => return Ok(None),
             None => {}
         }
     }
-    Ok(Some(compared))
+    Ok(Some(widths))
 }
 
-/// Texts, and the places where a line of each may end.
+// Texts, and the places where a line of each may end.
 const DIVIDED: [(&str, &[usize]); 5] = [
     ("I know noble accents", &[2, 7, 9, 13, 15, 20]),
     ("a  b   noble", &[2, 3, 5, 6, 7, 9, 12]),
@@ -188,14 +192,14 @@ const DIVIDED: [(&str, &[usize]); 5] = [
 #[test]
 fn no_division_that_fits_has_fewer_lines(rt: HostRuntime) -> Result<(), Fail> {
     for (text, cuts) in &DIVIDED {
-        let widths = compared(rt.alloc(), text, cuts)?;
-        holds(matches!(widths, Some(2..)), text)?;
+        let widths = widths_with_fewest_lines(rt.alloc(), text, cuts)?;
+        expect(matches!(widths, Some(2..)), text)?;
     }
     Ok(())
 }
 
-/// A run over a dictionary of American English.
-fn run_in<D: Read, I: Read, O: Write>(
+// Runs with a dictionary of American English.
+pub(crate) fn run_english<D: Read, I: Read, O: Write>(
     alloc: Global,
     columns: usize,
     dictionary: &mut D,
@@ -212,12 +216,12 @@ fn run_in<D: Read, I: Read, O: Write>(
     )
 }
 
-/// Fails where a run over a text does not write these lines of ten columns.
-fn writes(alloc: Global, text: &str, lines: &str) -> Result<(), Fail> {
+// Fails unless a run over a text writes these lines of ten columns.
+fn expect_lines(alloc: Global, text: &str, lines: &str) -> Result<(), Fail> {
     let mut output: Vec<u8> = Vec::new(alloc);
     let mut input = text.as_bytes();
-    let end = run_in(alloc, 10, &mut VERSE.as_bytes(), &mut input, &mut output);
-    wrote(format_args!("{text:?}"), &end, &output, lines.as_bytes())
+    let end = run_english(alloc, 10, &mut VERSE.as_bytes(), &mut input, &mut output);
+    expect_written(format_args!("{text:?}"), &end, &output, lines.as_bytes())
 }
 
 #[test]
@@ -228,100 +232,106 @@ fn lines_are_written_each_with_a_line_feed(rt: HostRuntime) -> Result<(), Fail> 
         ("", ""),
     ];
     for (text, lines) in cases {
-        writes(rt.alloc(), text, lines)?;
+        expect_lines(rt.alloc(), text, lines)?;
     }
     Ok(())
 }
 
-/// How a run ended, and how many bytes its writer took.
+// The result of a run, and how many bytes its writer took.
 #[derive(Drop)]
-struct Ended {
+struct RunEnd {
     end: Result<(), RunError>,
     taken: usize,
 }
 
-/// A run over a dictionary and a text, whose writer fails at its first write.
-fn run_to_end<D: Read, I: Read>(alloc: Global, dictionary: &mut D, input: &mut I) -> Ended {
-    let mut output = failing_once(alloc, 1);
-    let end = run_in(alloc, 10, dictionary, input, &mut output);
-    Ended {
+// Runs over a dictionary and a text, with a writer that fails at its first write.
+fn run_with_failing_writer<D: Read, I: Read>(
+    alloc: Global,
+    dictionary: &mut D,
+    input: &mut I,
+) -> RunEnd {
+    let mut output = breaking_pipe_at(alloc, 1);
+    let end = run_english(alloc, 10, dictionary, input, &mut output);
+    RunEnd {
         end,
         taken: output.taken.len(),
     }
 }
 
 #[test]
-fn a_torn_dictionary_is_answered_before_a_torn_text(rt: HostRuntime) -> Result<(), Fail> {
-    let mut dictionary = torn(VERSE.as_bytes(), 60);
-    let ran = run_to_end(rt.alloc(), &mut dictionary, &mut torn(b"", 1));
-    holds(
-        matches!(&ran.end, Err(RunError::Dictionary(e)) if is_torn(e)),
-        "the dictionary is torn",
+fn a_dictionary_that_fails_is_reported_before_a_text_that_fails(
+    rt: HostRuntime,
+) -> Result<(), Fail> {
+    let mut dictionary = resetting_at(VERSE.as_bytes(), 60);
+    let run_end = run_with_failing_writer(rt.alloc(), &mut dictionary, &mut resetting_at(b"", 1));
+    expect(
+        matches!(&run_end.end, Err(RunError::Dictionary(e)) if is_connection_reset(e)),
+        "the connection of the dictionary was reset",
     )?;
-    same(&ran.taken, &0)
+    expect_equal(&run_end.taken, &0)
 }
 
 #[test]
-fn a_refused_dictionary_is_answered_before_a_torn_text(rt: HostRuntime) -> Result<(), Fail> {
+fn a_refused_dictionary_is_reported_before_a_text_that_fails(rt: HostRuntime) -> Result<(), Fail> {
     let mut dictionary = &b"hyphenation 1 extended\n"[..];
-    let ran = run_to_end(rt.alloc(), &mut dictionary, &mut torn(b"", 1));
-    holds(
-        matches!(&ran.end, Err(RunError::Dictionary(_))),
+    let run_end = run_with_failing_writer(rt.alloc(), &mut dictionary, &mut resetting_at(b"", 1));
+    expect(
+        matches!(&run_end.end, Err(RunError::Dictionary(_))),
         "the dictionary is refused",
     )?;
-    same(&ran.taken, &0)
+    expect_equal(&run_end.taken, &0)
 }
 
 #[test]
-fn a_refused_dictionary_is_answered_before_the_text_is_judged(rt: HostRuntime) -> Result<(), Fail> {
-    let ran = run_to_end(rt.alloc(), &mut &b""[..], &mut &b"\xff"[..]);
-    holds(
-        matches!(&ran.end, Err(RunError::Dictionary(_))),
+fn a_refused_dictionary_is_reported_before_the_text_is_judged(rt: HostRuntime) -> Result<(), Fail> {
+    let run_end = run_with_failing_writer(rt.alloc(), &mut &b""[..], &mut &b"\xff"[..]);
+    expect(
+        matches!(&run_end.end, Err(RunError::Dictionary(_))),
         "the dictionary is refused",
     )?;
-    same(&ran.taken, &0)
+    expect_equal(&run_end.taken, &0)
 }
 
 #[test]
-fn a_torn_text_is_answered_before_its_bytes_are_judged(rt: HostRuntime) -> Result<(), Fail> {
-    let mut input = torn(b"noble \xff", 4);
-    let ran = run_to_end(rt.alloc(), &mut VERSE.as_bytes(), &mut input);
-    holds(
-        matches!(&ran.end, Err(RunError::Input(e)) if is_fault(e, TORN)),
-        "the text is torn",
+fn a_text_that_fails_is_reported_before_its_bytes_are_judged(rt: HostRuntime) -> Result<(), Fail> {
+    let mut input = resetting_at(b"noble \xff", 4);
+    let run_end = run_with_failing_writer(rt.alloc(), &mut VERSE.as_bytes(), &mut input);
+    expect(
+        matches!(&run_end.end, Err(RunError::Input(e)) if has_code(e, CONNECTION_RESET)),
+        "the connection of the text was reset",
     )?;
-    same(&ran.taken, &0)
+    expect_equal(&run_end.taken, &0)
 }
 
 #[test]
 fn a_text_that_is_not_utf_8_is_not_filled(rt: HostRuntime) -> Result<(), Fail> {
     let mut input = &b"noble \xff"[..];
-    let ran = run_to_end(rt.alloc(), &mut VERSE.as_bytes(), &mut input);
-    holds(
-        matches!(&ran.end, Err(RunError::TextNotUtf8)),
+    let run_end = run_with_failing_writer(rt.alloc(), &mut VERSE.as_bytes(), &mut input);
+    expect(
+        matches!(&run_end.end, Err(RunError::TextNotUtf8)),
         "the text is not UTF-8",
     )?;
-    same(&ran.taken, &0)
+    expect_equal(&run_end.taken, &0)
 }
 
 #[test]
-fn of_the_empty_text_nothing_is_written(rt: HostRuntime) -> Result<(), Fail> {
-    let ran = run_to_end(rt.alloc(), &mut VERSE.as_bytes(), &mut &b""[..]);
-    holds(ran.end.is_ok(), "it ends well")?;
-    same(&ran.taken, &0)
+fn nothing_is_written_for_the_empty_text(rt: HostRuntime) -> Result<(), Fail> {
+    let run_end = run_with_failing_writer(rt.alloc(), &mut VERSE.as_bytes(), &mut &b""[..]);
+    expect(run_end.end.is_ok(), "it ends well")?;
+    expect_equal(&run_end.taken, &0)
 }
 
-/// Whether a run whose writer fails at this write ends with its fault, after the bytes of these lines before it.
-fn is_cut(alloc: Global, lines: &[u8], number: usize) -> bool {
-    let mut output = failing_once(alloc, number);
-    let end = run_in(
+// Whether a run whose writer fails at this write returns its error, after the bytes of these lines before it.
+fn stops_at_write(alloc: Global, lines: &[u8], number: usize) -> bool {
+    let mut output = breaking_pipe_at(alloc, number);
+    let end = run_english(
         alloc,
         10,
         &mut VERSE.as_bytes(),
-        &mut dripping(NOBLE.as_bytes()),
+        &mut one_byte_reads(NOBLE.as_bytes()),
         &mut output,
     );
-    matches!(&end, Err(RunError::Output(e)) if is_fault(e, BROKEN_PIPE))
+    matches!(&end, Err(RunError::Output(e)) if has_code(e, BROKEN_PIPE))
         && output.taken.len() + 1 == number
         && lines.starts_with(&output.taken)
 }
@@ -330,7 +340,7 @@ fn is_cut(alloc: Global, lines: &[u8], number: usize) -> bool {
 fn a_writer_that_fails_once_has_a_beginning_of_the_lines(rt: HostRuntime) -> Result<(), Fail> {
     let lines = b"I know no-\nble ac-\ncents\n";
     for number in 1..=lines.len() {
-        holds(is_cut(rt.alloc(), lines, number), number)?;
+        expect(stops_at_write(rt.alloc(), lines, number), number)?;
     }
     Ok(())
 }

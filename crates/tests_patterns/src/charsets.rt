@@ -1,15 +1,15 @@
-//! Each byte of each charset of LibreOffice's files, against what `iconv` makes of it.
+//! Each byte of each charset of LibreOffice's files, compared with `iconv`.
 
 use hyphenation_breaks::language::Language;
 use hyphenation_writer::writer::write_standard;
-use pattern_files::fault::{Cause, Refusal};
+use pattern_files::errors::{ConvertError, FileCause};
 use pattern_files::libreoffice::convert_dic;
 use std::alloc::Global;
 use std::test::Fail;
-use test_support::{same_bytes, same_in};
+use test_support::{expect_equal_bytes, expect_equal_in};
 
-/// The name of each charset in a file, and the characters of its bytes from 128 on, as `iconv` of glibc 2.36 gives
-/// them; NUL where it gives none.
+// The name of each charset in a file, and the characters of its bytes from 128 on, by `iconv` of glibc 2.36. A byte
+// without a character has NUL.
 const UPPER_HALVES: [(&str, &str); 12] = [
     (
         "ISO8859-1",
@@ -61,15 +61,15 @@ const UPPER_HALVES: [(&str, &str); 12] = [
     ),
 ];
 
-/// The text of the dictionary that a file gives, or why it gives none.
-fn text_of(alloc: Global, bytes: &[u8]) -> Result<Result<Vec<u8>, Refusal>, Fail> {
+// The text of the dictionary that a file gives, or why it is refused.
+fn text_of(alloc: Global, bytes: &[u8]) -> Result<Result<Vec<u8>, ConvertError>, Fail> {
     match convert_dic::<(), usize>(alloc, Language::english_us(), Some(2), Some(2), bytes) {
         Ok(converted) => Ok(Ok(write_standard(alloc, &converted.dictionary)?)),
         Err(refusal) => Ok(Err(refusal)),
     }
 }
 
-/// A file of that charset with a pattern for each byte that means a character, and the same file in UTF-8.
+// A file of this charset with a pattern for each byte that means a character, and the same file in UTF-8.
 fn both_files(alloc: Global, name: &str, upper: &str) -> Result<(Vec<u8>, String), Fail> {
     let mut bytes = Vec::from_slice(alloc, name.as_bytes())?;
     let mut text = String::from_str(alloc, "UTF-8")?;
@@ -90,21 +90,21 @@ fn each_byte_means_the_character_of_its_charset(rt: HostRuntime) -> Result<(), F
         let (bytes, text) = both_files(rt.alloc(), name, upper)?;
         let found = text_of(rt.alloc(), &bytes)??;
         let wanted = text_of(rt.alloc(), text.as_bytes())??;
-        same_bytes(name, &found, &wanted)?;
+        expect_equal_bytes(name, &found, &wanted)?;
     }
     Ok(())
 }
 
-/// Fails where a byte that means no character is not refused on its line.
-fn is_refused(alloc: Global, name: &str, byte: u8) -> Result<(), Fail> {
+// Fails unless a byte that means no character is refused on its line.
+fn expect_refused(alloc: Global, name: &str, byte: u8) -> Result<(), Fail> {
     let mut bytes = Vec::from_slice(alloc, name.as_bytes())?;
     bytes.extend_from_slice(&[b'\n', b'a', b'1', b'b', b'\n', byte, b'1', b'a'])?;
-    let wanted = Refusal::Fault {
+    let wanted = ConvertError::Fault {
         file: 0,
         line: 3,
-        cause: Cause::NotInCharset,
+        cause: FileCause::NotInCharset,
     };
-    same_in(name, &text_of(alloc, &bytes)?.err(), &Some(wanted))
+    expect_equal_in(name, &text_of(alloc, &bytes)?.err(), &Some(wanted))
 }
 
 #[test]
@@ -112,7 +112,7 @@ fn a_byte_without_a_character_is_refused(rt: HostRuntime) -> Result<(), Fail> {
     for (name, upper) in UPPER_HALVES {
         for (byte, c) in (128..=255).zip(upper.chars()) {
             if c == '\0' {
-                is_refused(rt.alloc(), name, byte)?;
+                expect_refused(rt.alloc(), name, byte)?;
             }
         }
     }

@@ -1,15 +1,15 @@
-//! Small files of LibreOffice's form, the dictionary texts that they give, and what is noted of them.
+//! Small files of LibreOffice's form, the dictionary texts that they give, and the notes on them.
 
 use hyphenation_breaks::extended::Subregion;
 use hyphenation_breaks::language::Language;
 use hyphenation_writer::writer::{write_extended, write_standard};
 use pattern_files::libreoffice::convert_dic;
-use pattern_files::notes::{Note, What};
+use pattern_files::notes::{Note, NoteKind};
 use std::alloc::Global;
 use std::test::Fail;
-use test_support::{same_bytes, same_in};
+use test_support::{expect_equal_bytes, expect_equal_in};
 
-/// A file, and the patterns of the standard dictionary of minima 2 and 2 that it gives.
+// Files, each with the patterns of the standard dictionary with the minima 2 and 2 that it gives.
 const STANDARD: [(&[u8], &str); 10] = [
     (b"UTF-8\n# x1y\na1b\n", "p a1b\n"),
     (b"UTF-8\nCOMPOUNDRIGHTHYPHENMIN 3\na1b\n", "p a1b\n"),
@@ -23,7 +23,7 @@ const STANDARD: [(&[u8], &str); 10] = [
     (b"UTF-8\na/b1c\n", "p a/b1c\n"),
 ];
 
-/// The same of extended dictionaries.
+// Files, each with the patterns of the extended dictionary with the minima 2 and 2 that it gives.
 const EXTENDED: [(&[u8], &str); 5] = [
     (
         b"UTF-8\nNOHYPHEN qr\nq1r/q=zr,1,2\n",
@@ -44,7 +44,7 @@ fn a_file_gives_a_standard_dictionary(rt: HostRuntime) -> Result<(), Fail> {
         let wanted = format!(in rt.alloc();
             "hyphenation 1 standard\nlanguage en-us\nminima 2 2\n{lines}"
         )?;
-        same_bytes(bytes.escape_ascii(), &text, wanted.as_bytes())?;
+        expect_equal_bytes(bytes.escape_ascii(), &text, wanted.as_bytes())?;
     }
     Ok(())
 }
@@ -63,54 +63,58 @@ fn a_file_gives_an_extended_dictionary(rt: HostRuntime) -> Result<(), Fail> {
         let wanted = format!(in rt.alloc();
             "hyphenation 1 extended\nlanguage en-us\nminima 2 2\n{lines}"
         )?;
-        same_bytes(bytes.escape_ascii(), &text, wanted.as_bytes())?;
+        expect_equal_bytes(bytes.escape_ascii(), &text, wanted.as_bytes())?;
     }
     Ok(())
 }
 
-/// A file, and what is noted of it that no other file of these has: the first line, and how often.
-const NOTED: [(&[u8], What, Option<(usize, u64)>); 12] = [
-    (b"UTF-8\na1b\n", What::NoLevels, Some((1, 1))),
-    (b"UTF-8\na1b\n", What::NoMinima, Some((1, 1))),
+// Files, each with the first line and the number of a note that it has; `None` if it lacks it.
+const NOTED: [(&[u8], NoteKind, Option<(usize, u64)>); 12] = [
+    (b"UTF-8
+a1b
+", NoteKind::NoLevels, Some((1, 1))),
+    (b"UTF-8
+a1b
+", NoteKind::NoMinima, Some((1, 1))),
     (
         b"UTF-8\nRIGHTHYPHENMIN 3\na1b\n",
-        What::NoMinima,
+        NoteKind::NoMinima,
         Some((1, 1)),
     ),
     (
         b"UTF-8\nLEFTHYPHENMIN 1\nRIGHTHYPHENMIN 3\na1b\n",
-        What::NoMinima,
+        NoteKind::NoMinima,
         None,
     ),
     (
         b"UTF-8\na1b\nn1o/n=o,1,1,1\n",
-        What::ChangeParts,
+        NoteKind::ChangeParts,
         Some((3, 1)),
     ),
     (
         b"UTF-8\na1b\nn1o/n=o,1,x\n",
-        What::ChangeNumber,
+        NoteKind::ChangeNumber,
         Some((3, 1)),
     ),
     (
         b"UTF-8\na1b\nn1o/n=o=,1,1\n",
-        What::ChangeWithoutEquals,
+        NoteKind::ChangeWithoutEquals,
         Some((3, 1)),
     ),
-    (b"UTF-8\na12b\nc12d\n", What::TwoValues, Some((2, 2))),
-    (b"UTF-8\na1b\n.1.\n", What::NoLetters, Some((3, 1))),
-    (b"UTF-8\na1b\ncd\n", What::NoValue, Some((3, 1))),
-    (b"UTF-8\na1b\na3b\n", What::Repeated, Some((3, 1))),
+    (b"UTF-8\na12b\nc12d\n", NoteKind::TwoValues, Some((2, 2))),
+    (b"UTF-8\na1b\n.1.\n", NoteKind::NoLetters, Some((3, 1))),
+    (b"UTF-8\na1b\ncd\n", NoteKind::NoValue, Some((3, 1))),
+    (b"UTF-8\na1b\na3b\n", NoteKind::Repeated, Some((3, 1))),
     (
         b"UTF-8\n1k1l/kk=l,1,2\n",
-        What::ChangeOfSeveral,
+        NoteKind::ChangeOfSeveral,
         Some((2, 1)),
     ),
 ];
 
-/// The line and the number of a note, where it is there.
-fn noted_as(notes: &[Note], what: What) -> Option<(usize, u64)> {
-    let note = notes.iter().find(|note| note.what == what)?;
+// The first line and the number of a note, if it is there.
+fn note_of(notes: &[Note], kind: NoteKind) -> Option<(usize, u64)> {
+    let note = notes.iter().find(|note| note.kind == kind)?;
     Some((note.first.line, note.times))
 }
 
@@ -119,9 +123,9 @@ fn what_is_left_out_or_decided_is_noted(rt: HostRuntime) -> Result<(), Fail> {
     for (bytes, what, wanted) in NOTED {
         let language = Language::english_us();
         let converted = convert_dic::<(), usize>(rt.alloc(), language, None, None, bytes)?;
-        same_in(
+        expect_equal_in(
             bytes.escape_ascii(),
-            &noted_as(&converted.notes, what),
+            &note_of(&converted.notes, what),
             &wanted,
         )?;
     }

@@ -1,135 +1,141 @@
-//! The messages of all faults and notes.
+//! The messages of all errors and notes.
 
-use pattern_files::fault::Cause;
-use pattern_files::notes::What;
+use pattern_files::errors::FileCause;
+use pattern_files::notes::NoteKind;
 use std::fmt::Display;
 use std::test::Fail;
-use test_support::same_in;
+use test_support::expect_equal_in;
 
-const FAULTS: [(Cause, &str); 12] = [
+const ERRORS: [(FileCause, &str); 12] = [
     (
-        Cause::Command,
+        FileCause::Command,
         "a TeX command or group within patterns or exceptions",
     ),
     (
-        Cause::EightBit,
+        FileCause::Caret,
         "^, a character of a font's encoding: take the file in UTF-8",
     ),
-    (Cause::Sign, "a sign that stands in no pattern or exception"),
     (
-        Cause::TwoInOnePlace,
+        FileCause::Symbol,
+        "a sign that stands in no pattern or exception",
+    ),
+    (
+        FileCause::TwoInOnePlace,
         "two digits or two hyphens in one place",
     ),
-    (Cause::NoLetters, "a pattern without letters"),
-    (Cause::NotUtf8, "not UTF-8"),
+    (FileCause::NoLetters, "a pattern without letters"),
+    (FileCause::NotUtf8, "not UTF-8"),
     (
-        Cause::Input,
+        FileCause::Input,
         "\\input: give the files that have the patterns themselves",
     ),
     (
-        Cause::Unclosed,
+        FileCause::Unclosed,
         "the group of patterns or exceptions that begins here is not closed",
     ),
-    (Cause::Charset, "no charset that is known here"),
+    (FileCause::Charset, "no charset that is known here"),
     (
-        Cause::NotInCharset,
+        FileCause::NotInCharset,
         "a byte that stands for no character in the charset of line 1",
     ),
     (
-        Cause::Minimum,
+        FileCause::Minimum,
         "not a minimum, which is a number from 0 to 255",
     ),
-    (Cause::Nothing, "no pattern and no exception in the file"),
+    (
+        FileCause::Nothing,
+        "no pattern and no exception in the file",
+    ),
 ];
 
-const NOTES: [(What, &str); 21] = [
+const NOTES: [(NoteKind, &str); 21] = [
     (
-        What::Setting,
+        NoteKind::Setting,
         "a setting that a dictionary text can't say, left out",
     ),
     (
-        What::NoLevels,
+        NoteKind::NoLevels,
         "no NEXTLEVEL: the breaks that LibreOffice itself adds at - and ' are not there",
     ),
     (
-        What::TwoLevels,
+        NoteKind::TwoLevels,
         "two levels, joined: LibreOffice hyphenates parts of compounds apart, so its breaks may differ",
     ),
     (
-        What::NoMinima,
+        NoteKind::NoMinima,
         "no minima in the file: 2 and 2, as LibreOffice takes them",
     ),
     (
-        What::NoHyphen,
+        NoteKind::NoHyphen,
         "NOHYPHEN: said by patterns with the value 8 at both sides",
     ),
     (
-        What::NoCharset,
+        NoteKind::NoCharset,
         "no charset on line 1: read as ISO8859-1, as in LibreOffice, and line 1 as any other",
     ),
     (
-        What::HidesValue,
+        NoteKind::HidesValue,
         "a pattern that hides a shorter one from LibreOffice, so its breaks may differ",
     ),
     (
-        What::ChangeForbidden,
+        NoteKind::ChangeForbidden,
         "a pattern with a change: a standard dictionary forbids that break",
     ),
     (
-        What::ChangeNumber,
+        NoteKind::ChangeNumber,
         "a change with a bad number, left out with its pattern",
     ),
     (
-        What::ChangeParts,
+        NoteKind::ChangeParts,
         "a change with a wrong number of parts, left out with its pattern",
     ),
     (
-        What::ChangeWithoutEquals,
+        NoteKind::ChangeWithoutEquals,
         "a change without exactly one =, left out with its pattern",
     ),
     (
-        What::ChangePastKey,
+        NoteKind::ChangePastKey,
         "a change past the pattern's letters, left out with its pattern",
     ),
     (
-        What::ChangeWithoutValue,
+        NoteKind::ChangeWithoutValue,
         "a change with no odd value in its range, left out with its pattern",
     ),
     (
-        What::ChangeOfSeveral,
+        NoteKind::ChangeOfSeveral,
         "a change with several odd values in its range: it goes to one of them",
     ),
     (
-        What::TwoValues,
+        NoteKind::TwoValues,
         "two values in one place: the last is taken",
     ),
-    (What::NoLetters, "a pattern without letters, left out"),
+    (NoteKind::NoLetters, "a pattern without letters, left out"),
     (
-        What::NoValue,
+        NoteKind::NoValue,
         "a pattern without values, kept; it bears on nothing",
     ),
-    (What::Repeated, "a repeated pattern: the last is taken"),
-    (What::Unfit, "patterns that fit no dictionary, left out"),
+    (NoteKind::Repeated, "a repeated pattern: the last is taken"),
+    (NoteKind::Unfit, "patterns that fit no dictionary, left out"),
     (
-        What::Capital,
+        NoteKind::Capital,
         "a pattern or an exception with capitals: read in small letters",
     ),
     (
-        What::ExceptionRepeated,
+        NoteKind::ExceptionRepeated,
         "a repeated exception: the last is taken",
     ),
 ];
 
-/// Fails where something is told by another text.
-fn tells<T: Display>(rt: &HostRuntime, told: &T, wanted: &str) -> Result<(), Fail> {
-    let text = format!(in rt.alloc(); "{told}")?;
-    same_in(wanted, &text.as_str(), &wanted)
+// Fails unless a value is displayed as this text.
+fn expect_message<T: Display>(rt: &HostRuntime, value: &T, wanted: &str) -> Result<(), Fail> {
+    let text = format!(in rt.alloc(); "{value}")?;
+    expect_equal_in(wanted, &text.as_str(), &wanted)
 }
 
 #[test]
-fn each_fault_has_its_message(rt: HostRuntime) -> Result<(), Fail> {
-    for (cause, wanted) in FAULTS {
-        tells(&rt, &cause, wanted)?;
+fn each_error_has_its_message(rt: HostRuntime) -> Result<(), Fail> {
+    for (cause, wanted) in ERRORS {
+        expect_message(&rt, &cause, wanted)?;
     }
     Ok(())
 }
@@ -137,7 +143,7 @@ fn each_fault_has_its_message(rt: HostRuntime) -> Result<(), Fail> {
 #[test]
 fn each_note_has_its_message(rt: HostRuntime) -> Result<(), Fail> {
     for (what, wanted) in NOTES {
-        tells(&rt, &what, wanted)?;
+        expect_message(&rt, &what, wanted)?;
     }
     Ok(())
 }

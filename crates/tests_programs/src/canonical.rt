@@ -1,6 +1,8 @@
-//! What `hyphenate-canonical` writes and says.
+//! The outputs, messages and statuses of `hyphenate-canonical`.
 
-use canonical_command::{USAGE, answer, report_words};
+use canonical_command;
+use canonical_command::{USAGE, answer};
+use command_line::report_bad_args;
 use std::alloc::{AllocError, Global};
 use std::io;
 use std::io::ErrorKind;
@@ -8,28 +10,28 @@ use std::test::Fail;
 
 const HEAD: &str = "hyphenation 1 standard\nlanguage en-gb\nminima 2 3\n";
 
-/// What is asked, and what is wanted.
+// The arguments and the lines of the input, and the status, the output and the message that are expected.
 #[derive(Clone, Copy)]
 struct Case<'c> {
-    words: &'c [&'c str],
+    args: &'c [&'c str],
     lines: &'c str,
     status: u8,
     ordered: &'c str,
-    fault: &'c str,
+    message: &'c str,
 }
 
-/// Whether the program writes and says this of a text, and ends so.
-fn answers(alloc: Global, case: &Case<'_>, mut input: &[u8], ordered: &[u8]) -> bool {
+// Whether the program has the status, the output and the message of a case.
+fn is_answered(alloc: Global, case: &Case<'_>, mut input: &[u8], ordered: &[u8]) -> bool {
     let mut output: Vec<u8> = Vec::new(alloc);
-    let mut faults: Vec<u8> = Vec::new(alloc);
-    let status = answer(alloc, case.words, &mut input, &mut output, &mut faults);
+    let mut messages: Vec<u8> = Vec::new(alloc);
+    let status = answer(alloc, case.args, &mut input, &mut output, &mut messages);
     status == case.status
         && output.as_slice() == ordered
-        && faults.as_slice() == case.fault.as_bytes()
+        && messages.as_slice() == case.message.as_bytes()
 }
 
-/// The same where both texts begin with three head lines; nothing is written where the status is not 0.
-fn answers_with_head(alloc: Global, case: &Case<'_>) -> Result<bool, AllocError> {
+// Whether it has them if both texts begin with three head lines. Nothing is written if the status is not 0.
+fn is_answered_with_head(alloc: Global, case: &Case<'_>) -> Result<bool, AllocError> {
     let text = format!(in alloc; "{HEAD}{}", case.lines)?;
     let ordered = format!(in alloc; "{HEAD}{}", case.ordered)?;
     let ordered = if case.status == 0 {
@@ -37,103 +39,108 @@ fn answers_with_head(alloc: Global, case: &Case<'_>) -> Result<bool, AllocError>
     } else {
         b""
     };
-    Ok(answers(alloc, case, text.as_bytes(), ordered))
+    Ok(is_answered(alloc, case, text.as_bytes(), ordered))
 }
 
-/// Fails, and names the words and the lines, where one of the cases is answered otherwise.
-fn answers_all(alloc: Global, cases: &[Case<'_>]) -> Result<(), Fail> {
+// Fails, with the arguments and the lines, unless each case has its status, output and message.
+fn expect_answers(alloc: Global, cases: &[Case<'_>]) -> Result<(), Fail> {
     for case in cases {
-        if !answers_with_head(alloc, case)? {
-            let (words, lines) = (case.words, case.lines);
-            return Err(Fail::new(format_args!("it answers otherwise: {words:?} {lines:?}")));
+        if !is_answered_with_head(alloc, case)? {
+            let (args, lines) = (case.args, case.lines);
+            return Err(Fail::new(format_args!("unexpected result: {args:?} {lines:?}")));
         }
     }
     Ok(())
 }
 
 #[test]
-fn a_text_is_put_in_order_or_its_fault_is_told(rt: HostRuntime) -> Result<(), Fail> {
+fn a_text_is_put_in_order_or_its_error_is_written(rt: HostRuntime) -> Result<(), Fail> {
     let cases = [
         Case {
-            words: &["standard"],
+            args: &["standard"],
             lines: "p r5kin\n# old\ne word 2\np .fi2",
             status: 0,
             ordered: "p .fi2\np r5kin\ne word 2\n",
-            fault: "",
+            message: "",
         },
         Case {
-            words: &["standard"],
+            args: &["standard"],
             lines: "p a1b\np a12b",
             status: 3,
             ordered: "",
-            fault: "hyphenate-canonical: line 5: two values in one place\n",
+            message: "hyphenate-canonical: line 5: two values in one place\n",
         },
         Case {
-            words: &["extended"],
+            args: &["extended"],
             lines: "p a1b",
             status: 3,
             ordered: "",
-            fault: "hyphenate-canonical: line 1: not the head of this kind of dictionary\n",
+            message: "hyphenate-canonical: line 1: not the head of this kind of dictionary\n",
         },
         Case {
-            words: &["latin"],
+            args: &["latin"],
             lines: "",
             status: 2,
             ordered: "",
-            fault: USAGE,
+            message: USAGE,
         },
         Case {
-            words: &["standard", "en-gb"],
+            args: &["standard", "en-gb"],
             lines: "",
             status: 2,
             ordered: "",
-            fault: USAGE,
+            message: USAGE,
         },
     ];
-    answers_all(rt.alloc(), &cases)
+    expect_answers(rt.alloc(), &cases)
 }
 
-/// Whether the program writes this for the one argument, from an input that it leaves, and ends with 0.
+// Whether the program writes this for one argument without reading its input, and ends with 0.
 fn writes(alloc: Global, argument: &str, text: &str) -> bool {
     let mut input = HEAD.as_bytes();
     let mut output: Vec<u8> = Vec::new(alloc);
-    let mut faults: Vec<u8> = Vec::new(alloc);
-    let status = answer(alloc, &[argument], &mut input, &mut output, &mut faults);
+    let mut messages: Vec<u8> = Vec::new(alloc);
+    let status = answer(alloc, &[argument], &mut input, &mut output, &mut messages);
     status == 0
         && input.len() == HEAD.len()
         && output.as_slice() == text.as_bytes()
-        && faults.is_empty()
+        && messages.is_empty()
 }
 
 #[test]
-fn the_version_and_the_usage_are_told(rt: HostRuntime) -> Result<(), Fail> {
+fn the_version_and_the_usage_are_written(rt: HostRuntime) -> Result<(), Fail> {
     let version = "hyphenate-canonical 0.1.0\n";
     if !writes(rt.alloc(), "--version", version) {
-        return Err(Fail::from("--version is answered otherwise"));
+        return Err(Fail::from("--version has another result"));
     }
     let usage =
         "usage: hyphenate-canonical KIND\n       hyphenate-canonical --help\n       hyphenate-canonical --version\n";
     if !writes(rt.alloc(), "--help", usage) {
-        return Err(Fail::from("--help is answered otherwise"));
+        return Err(Fail::from("--help has another result"));
     }
     Ok(())
 }
 
-/// Whether words that can't be had for that fault have this status and this message.
-fn tells(alloc: Global, kind: ErrorKind, status: u8, message: &str) -> bool {
-    let mut faults: Vec<u8> = Vec::new(alloc);
-    let found = report_words(&io::Error::from(kind), &mut faults);
-    found == status && faults.as_slice() == message.as_bytes()
+// Whether arguments that cannot be read for this error have this status and this message.
+fn has_message(alloc: Global, kind: ErrorKind, status: u8, message: &str) -> bool {
+    let mut messages: Vec<u8> = Vec::new(alloc);
+    let found = report_bad_args(
+        USAGE,
+        canonical_command::NO_MEMORY,
+        &io::Error::from(kind),
+        &mut messages,
+    );
+    found == status && messages.as_slice() == message.as_bytes()
 }
 
 #[test]
-fn words_that_cannot_be_had_are_told(rt: HostRuntime) -> Result<(), Fail> {
+fn arguments_that_cannot_be_read_have_their_message(rt: HostRuntime) -> Result<(), Fail> {
     let no_memory = "hyphenate-canonical: no memory\n";
-    if !tells(rt.alloc(), ErrorKind::OutOfMemory, 6, no_memory) {
-        return Err(Fail::from("want of memory is told otherwise"));
+    if !has_message(rt.alloc(), ErrorKind::OutOfMemory, 6, no_memory) {
+        return Err(Fail::from("out of memory has another message"));
     }
-    if !tells(rt.alloc(), ErrorKind::InvalidData, 2, USAGE) {
-        return Err(Fail::from("words that are not UTF-8 are told otherwise"));
+    if !has_message(rt.alloc(), ErrorKind::InvalidData, 2, USAGE) {
+        return Err(Fail::from("arguments that are not UTF-8 have another message"));
     }
     Ok(())
 }

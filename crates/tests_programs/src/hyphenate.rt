@@ -1,97 +1,100 @@
-//! What `hyphenate` writes and says.
+//! The outputs, messages and statuses of `hyphenate`.
 
-use hyphenate_command::{answer, report_words};
+use command_line::report_bad_args;
+use hyphenate_command::{NO_MEMORY, USAGE, answer};
 use std::alloc::{AllocError, Global};
 use std::io::{ErrorKind, Read, Write};
 use std::test::Fail;
-use std::{env, fs, io, process};
+use std::{fs, io};
 use test_dictionaries::{DOUBLED, FIRKIN};
-use test_support::holds;
+use test_support::expect;
+use test_support::files::new_file;
 
-/// What the program writes and says for its words, and its status.
+// The output and the messages of the program, and its status.
 #[derive(Drop)]
-pub(crate) struct Answer {
+pub(crate) struct ProgramResult {
     pub(crate) status: u8,
     pub(crate) output: Vec<u8>,
-    pub(crate) faults: Vec<u8>,
+    pub(crate) messages: Vec<u8>,
 }
 
-impl Answer {
-    pub(crate) fn is(&self, status: u8, output: &[u8], faults: &[u8]) -> bool {
+impl ProgramResult {
+    pub(crate) fn is(&self, status: u8, output: &[u8], messages: &[u8]) -> bool {
         self.status == status
             && self.output.as_slice() == output
-            && self.faults.as_slice() == faults
+            && self.messages.as_slice() == messages
     }
 
-    /// What is said after the name of the program and this path; none where another thing is said.
-    pub(crate) fn said_of(&self, path: &str) -> Option<&[u8]> {
-        let named = self.faults.strip_prefix(b"hyphenate: ".as_slice())?;
-        let said = named.strip_prefix(path.as_bytes())?;
-        said.strip_prefix(b": ".as_slice())
+    // The message after the name of the program and this path; `None` if they are not named.
+    pub(crate) fn message_after(&self, path: &str) -> Option<&[u8]> {
+        let named = self.messages.strip_prefix(b"hyphenate: ".as_slice())?;
+        let message = named.strip_prefix(path.as_bytes())?;
+        message.strip_prefix(b": ".as_slice())
     }
 
-    /// The dictionary of this path is at fault and is named, and nothing is written.
+    // Whether the dictionary of this path is named as refused, and nothing is written.
     fn names_the_dictionary(&self, path: &str) -> bool {
-        self.status == 3 && self.output.is_empty() && self.said_of(path).is_some()
+        self.status == 3 && self.output.is_empty() && self.message_after(path).is_some()
     }
 }
 
-pub(crate) fn answer_to(rt: &HostRuntime, words: &[&str]) -> Answer {
-    answer_over(rt, words, b"")
+pub(crate) fn run_hyphenate(rt: &HostRuntime, args: &[&str]) -> ProgramResult {
+    run_hyphenate_on(rt, args, b"")
 }
 
-fn answer_over(rt: &HostRuntime, words: &[&str], text: &[u8]) -> Answer {
+fn run_hyphenate_on(rt: &HostRuntime, args: &[&str], text: &[u8]) -> ProgramResult {
     let mut input = text;
-    answer_by(rt, words, &mut input)
+    run_hyphenate_reading(rt, args, &mut input)
 }
 
-fn answer_by<R: Read>(rt: &HostRuntime, words: &[&str], input: &mut R) -> Answer {
+fn run_hyphenate_reading<R: Read>(rt: &HostRuntime, args: &[&str], input: &mut R) -> ProgramResult {
     let mut output: Vec<u8> = Vec::new(rt.alloc());
-    let mut faults: Vec<u8> = Vec::new(rt.alloc());
-    let status = answer(rt, rt.alloc(), words, input, &mut output, &mut faults);
-    Answer {
+    let mut messages: Vec<u8> = Vec::new(rt.alloc());
+    let status = answer(rt, rt.alloc(), args, input, &mut output, &mut messages);
+    ProgramResult {
         status,
         output,
-        faults,
+        messages,
     }
 }
 
-/// The same with a standard output that takes nothing.
-fn answer_in_vain(rt: &HostRuntime, words: &[&str], text: &[u8]) -> Answer {
+// Runs the program with a standard output that takes nothing.
+fn run_hyphenate_unwritable(rt: &HostRuntime, args: &[&str], text: &[u8]) -> ProgramResult {
     let mut input = text;
-    let mut faults: Vec<u8> = Vec::new(rt.alloc());
-    let status = answer(rt, rt.alloc(), words, &mut input, &mut Full, &mut faults);
-    Answer {
+    let mut messages: Vec<u8> = Vec::new(rt.alloc());
+    let status = answer(
+        rt,
+        rt.alloc(),
+        args,
+        &mut input,
+        &mut FullOutput,
+        &mut messages,
+    );
+    ProgramResult {
         status,
         output: Vec::new(rt.alloc()),
-        faults,
+        messages,
     }
 }
 
-/// A new file of these bytes, by its path.
-pub(crate) fn file(rt: &HostRuntime, name: &str, bytes: &[u8]) -> Result<String, Fail> {
-    let folder = env::temp_dir(rt)?;
-    let id = process::id(rt.process());
-    let path = format!(in rt.alloc(); "{}/hyphenate-test-{id}-{name}", folder.as_path().display())?;
-    fs::write(rt, path.as_str(), bytes)?;
-    Ok(path)
-}
-
-/// Fails where the program does not answer these words so.
-fn answers(
+// Fails unless the program has this status, output and messages for these arguments.
+fn expect_result(
     rt: &HostRuntime,
-    words: &[&str],
+    args: &[&str],
     text: &[u8],
     status: u8,
     output: &[u8],
-    faults: &[u8],
+    messages: &[u8],
 ) -> Result<(), Fail> {
-    let given = answer_over(rt, words, text);
-    holds(given.is(status, output, faults), format_args!("{words:?}"))
+    let result = run_hyphenate_on(rt, args, text);
+    expect(
+        result.is(status, output, messages),
+        format_args!("{args:?}"),
+    )
 }
 
-/// Fails where the program does not write these lines for the scores of words by a dictionary in that file.
-fn writes_scores(
+// Fails unless the program writes these lines for the scores of args by the dictionary of this path.
+fn expect_scores(
     rt: &HostRuntime,
     kind: &str,
     code: &str,
@@ -99,14 +102,14 @@ fn writes_scores(
     cases: &[(&str, &str)],
 ) -> Result<(), Fail> {
     for (word, line) in cases {
-        let words = ["score", kind, code, path, *word];
-        answers(rt, &words, b"", 0, line.as_bytes(), b"")?;
+        let args = ["score", kind, code, path, *word];
+        expect_result(rt, &args, b"", 0, line.as_bytes(), b"")?;
     }
     Ok(())
 }
 
-/// The same by a dictionary of this text, in a new file of that name, which goes then.
-fn writes_scores_by(
+// Fails unless the program writes these lines for the scores of args by a dictionary in a new file, which is removed.
+fn expect_scores_by(
     rt: &HostRuntime,
     name: &str,
     kind: &str,
@@ -114,13 +117,13 @@ fn writes_scores_by(
     text: &str,
     cases: &[(&str, &str)],
 ) -> Result<(), Fail> {
-    let path = file(rt, name, text.as_bytes())?;
-    writes_scores(rt, kind, code, &path, cases)?;
+    let path = new_file(rt, name, text.as_bytes())?;
+    expect_scores(rt, kind, code, &path, cases)?;
     fs::remove_file(rt, path.as_str())?;
     Ok(())
 }
 
-/// Whether a dictionary of these bytes is refused with that message after its path.
+// Whether a dictionary of these bytes is refused with this message after its path.
 fn is_refused(
     rt: &HostRuntime,
     kind: &str,
@@ -129,11 +132,11 @@ fn is_refused(
     bytes: &[u8],
     message: &str,
 ) -> Result<bool, Fail> {
-    let path = file(rt, name, bytes)?;
-    let given = answer_to(rt, &["score", kind, code, path.as_str(), "firkin"]);
+    let path = new_file(rt, name, bytes)?;
+    let result = run_hyphenate(rt, &["score", kind, code, path.as_str(), "firkin"]);
     let expected = format!(in rt.alloc(); "hyphenate: {path}: {message}")?;
     fs::remove_file(rt, path.as_str())?;
-    Ok(given.is(3, b"", expected.as_bytes()))
+    Ok(result.is(3, b"", expected.as_bytes()))
 }
 
 #[test]
@@ -144,7 +147,7 @@ fn a_score_is_written(rt: HostRuntime) -> Result<(), Fail> {
         ("", "\n"),
         ("score", "0 0 0 0\n"),
     ];
-    writes_scores_by(&rt, "scores", "standard", "en-gb", FIRKIN, &cases)
+    expect_scores_by(&rt, "scores", "standard", "en-gb", FIRKIN, &cases)
 }
 
 const CHANGES: &str = "hyphenation 1 extended\nlanguage hu\nminima 1 1\np a1b\np ca1bd 2,1,0,1,x\n";
@@ -152,26 +155,24 @@ const CHANGES: &str = "hyphenation 1 extended\nlanguage hu\nminima 1 1\np a1b\np
 #[test]
 fn a_score_by_an_extended_dictionary_is_written(rt: HostRuntime) -> Result<(), Fail> {
     let cases = [("cabd", "0 1 0\n"), ("abd", "1 0\n"), ("", "\n")];
-    writes_scores_by(&rt, "changed-scores", "extended", "hu", CHANGES, &cases)
+    expect_scores_by(&rt, "changed-scores", "extended", "hu", CHANGES, &cases)
 }
 
-/// Fails where a dictionary of these bytes is not refused with that message, for each case: a name, bytes, a message.
-fn refuses(
+// Fails unless each dictionary is refused with its message. A case is a name, bytes and a message.
+fn expect_refused(
     rt: &HostRuntime,
     kind: &str,
     code: &str,
     cases: &[(&str, &[u8], &str)],
 ) -> Result<(), Fail> {
     for (name, bytes, message) in cases {
-        holds(is_refused(rt, kind, code, name, bytes, message)?, *name)?;
+        expect(is_refused(rt, kind, code, name, bytes, message)?, *name)?;
     }
     Ok(())
 }
 
 #[test]
-fn an_extended_dictionary_that_is_refused_is_named_with_its_fault(
-    rt: HostRuntime,
-) -> Result<(), Fail> {
+fn a_refused_extended_dictionary_is_named_with_the_reason(rt: HostRuntime) -> Result<(), Fail> {
     let cases: [(&str, &[u8], &str); 3] = [
         (
             "no-change",
@@ -189,23 +190,23 @@ fn an_extended_dictionary_that_is_refused_is_named_with_its_fault(
             "Language mismatch: attempted to load a dictionary for `hu`, but found\na dictionary for `de` instead.\n",
         ),
     ];
-    refuses(&rt, "extended", "hu", &cases)
+    expect_refused(&rt, "extended", "hu", &cases)
 }
 
-/// What the program says of words that have no form.
-const WORDS_TOLD: &[u8] =
+// The message about bad arguments.
+const USAGE_BYTES: &[u8] =
     b"usage: hyphenate KIND CODE PATH MARK [EDIT..]\n       hyphenate score KIND CODE PATH WORD\n       hyphenate fill CODE PATH COLUMNS\n";
 
-/// Fails where the program does not answer by its usage, for each of these.
-fn answers_by_usage(rt: &HostRuntime, cases: &[&[&str]]) -> Result<(), Fail> {
-    for words in cases {
-        answers(rt, words, b"", 2, b"", WORDS_TOLD)?;
+// Fails unless the program writes its usage for each of these arguments.
+fn expect_usage(rt: &HostRuntime, cases: &[&[&str]]) -> Result<(), Fail> {
+    for args in cases {
+        expect_result(rt, args, b"", 2, b"", USAGE_BYTES)?;
     }
     Ok(())
 }
 
 #[test]
-fn other_words_are_answered_by_the_usage(rt: HostRuntime) -> Result<(), Fail> {
+fn bad_arguments_get_the_usage(rt: HostRuntime) -> Result<(), Fail> {
     let cases: [&[&str]; 23] = [
         &[],
         &["fill"],
@@ -231,11 +232,11 @@ fn other_words_are_answered_by_the_usage(rt: HostRuntime) -> Result<(), Fail> {
         &["standard", "en gb", "firkin.txt", "-"],
         &["--help"],
     ];
-    answers_by_usage(&rt, &cases)
+    expect_usage(&rt, &cases)
 }
 
 #[test]
-fn a_dictionary_that_is_refused_is_named_with_its_fault(rt: HostRuntime) -> Result<(), Fail> {
+fn a_refused_dictionary_is_named_with_the_reason(rt: HostRuntime) -> Result<(), Fail> {
     let cases: [(&str, &[u8], &str); 6] = [
         (
             "empty",
@@ -264,85 +265,82 @@ fn a_dictionary_that_is_refused_is_named_with_its_fault(rt: HostRuntime) -> Resu
             "line 3: not a minima line\n",
         ),
     ];
-    refuses(&rt, "standard", "en-gb", &cases)
+    expect_refused(&rt, "standard", "en-gb", &cases)
 }
 
-/// Fails where the program does not name this path's dictionary, whatever it is asked.
+// Fails unless the dictionary of this path is named, for each form of the arguments.
 fn names_the_dictionary(rt: &HostRuntime, path: &str) -> Result<(), Fail> {
-    let given = answer_to(rt, &["score", "standard", "en-gb", path, "firkin"]);
-    holds(
-        given.names_the_dictionary(path),
+    let result = run_hyphenate(rt, &["score", "standard", "en-gb", path, "firkin"]);
+    expect(
+        result.names_the_dictionary(path),
         format_args!("score: {path:?} is named"),
     )?;
-    let given = answer_over(rt, &["standard", "en-gb", path, "-", "*"], b"\xff");
-    holds(
-        given.names_the_dictionary(path),
+    let result = run_hyphenate_on(rt, &["standard", "en-gb", path, "-", "*"], b"\xff");
+    expect(
+        result.names_the_dictionary(path),
         format_args!("standard: {path:?} is named"),
     )?;
-    let given = answer_over(rt, &["fill", "en-gb", path, "72"], b"\xff");
-    holds(
-        given.names_the_dictionary(path),
+    let result = run_hyphenate_on(rt, &["fill", "en-gb", path, "72"], b"\xff");
+    expect(
+        result.names_the_dictionary(path),
         format_args!("fill: {path:?} is named"),
     )
 }
 
 #[test]
-fn a_path_that_is_missing_or_a_folder_is_a_fault_of_the_dictionary(
-    rt: HostRuntime,
-) -> Result<(), Fail> {
+fn a_missing_path_or_a_folder_is_named_as_the_dictionary(rt: HostRuntime) -> Result<(), Fail> {
     names_the_dictionary(&rt, "no/such/dictionary.txt")?;
     names_the_dictionary(&rt, ".")?;
     names_the_dictionary(&rt, "")?;
     names_the_dictionary(&rt, "/")
 }
 
-/// The words of a run over the dictionary in a file: those before its path, the path, and those after it.
-fn words_of<'w>(
+// The arguments of a run: those before the dictionary's path, the path, and those after it.
+fn args_around<'w>(
     alloc: Global,
     before: &[&'w str],
     path: &'w str,
     after: &[&'w str],
 ) -> Result<Vec<&'w str>, AllocError> {
-    let mut words: Vec<&str> = Vec::new(alloc);
-    for word in before {
-        words.push(*word)?;
+    let mut args: Vec<&str> = Vec::new(alloc);
+    for arg in before {
+        args.push(*arg)?;
     }
-    words.push(path)?;
-    for word in after {
-        words.push(*word)?;
+    args.push(path)?;
+    for arg in after {
+        args.push(*arg)?;
     }
-    Ok(words)
+    Ok(args)
 }
 
-/// A case: the words after a dictionary's path, the text, and the status, the output and the faults that are wanted.
+// The arguments after a dictionary's path, the text, and the status, the output and the messages that are expected.
 type Case<'c> = (&'c [&'c str], &'c [u8], u8, &'c str, &'c str);
 
-/// Fails where the program does not answer a case so, over a dictionary in that file.
-fn answers_case(rt: &HostRuntime, head: &[&str], path: &str, case: &Case<'_>) -> Result<(), Fail> {
-    let (rest, text, status, output, faults) = *case;
-    let words = words_of(rt.alloc(), head, path, rest)?;
-    answers(
+// Fails unless the program has the result of a case, over the dictionary of this path.
+fn expect_case(rt: &HostRuntime, head: &[&str], path: &str, case: &Case<'_>) -> Result<(), Fail> {
+    let (rest, text, status, output, messages) = *case;
+    let args = args_around(rt.alloc(), head, path, rest)?;
+    expect_result(
         rt,
-        &words,
+        &args,
         text,
         status,
         output.as_bytes(),
-        faults.as_bytes(),
+        messages.as_bytes(),
     )
 }
 
-/// Fails where the program does not answer each case so, over a dictionary of this text, in a new file, which goes
-/// then.
-fn answers_cases(
+// Fails unless the program has the result of each case, over a dictionary in a new file, which is removed.
+fn expect_cases(
     rt: &HostRuntime,
     name: &str,
     head: &[&str],
     dictionary: &str,
     cases: &[Case<'_>],
 ) -> Result<(), Fail> {
-    let path = file(rt, name, dictionary.as_bytes())?;
+    let path = new_file(rt, name, dictionary.as_bytes())?;
     for case in cases {
-        answers_case(rt, head, &path, case)?;
+        expect_case(rt, head, &path, case)?;
     }
     fs::remove_file(rt, path.as_str())?;
     Ok(())
@@ -371,11 +369,11 @@ fn a_text_is_hyphenated_after_edits(rt: HostRuntime) -> Result<(), Fail> {
             "",
         ),
     ];
-    answers_cases(&rt, "text", &["standard", "en-gb"], FIRKIN, &cases)
+    expect_cases(&rt, "text", &["standard", "en-gb"], FIRKIN, &cases)
 }
 
 #[test]
-fn a_text_that_is_refused_is_told_with_its_status(rt: HostRuntime) -> Result<(), Fail> {
+fn a_refused_text_or_edit_has_its_message_and_status(rt: HostRuntime) -> Result<(), Fail> {
     let cases: [Case<'_>; 3] = [
         (
             &["-", "-firkin", "firkins"],
@@ -399,47 +397,51 @@ fn a_text_that_is_refused_is_told_with_its_status(rt: HostRuntime) -> Result<(),
             "hyphenate: edit 1 is refused\n",
         ),
     ];
-    answers_cases(&rt, "refused", &["standard", "en-gb"], FIRKIN, &cases)
+    expect_cases(&rt, "refused", &["standard", "en-gb"], FIRKIN, &cases)
 }
 
 #[test]
-fn another_language_is_told_before_the_edits(rt: HostRuntime) -> Result<(), Fail> {
-    let path = file(&rt, "mismatch", FIRKIN.as_bytes())?;
-    let given = answer_over(&rt, &["standard", "hu", path.as_str(), "-", "*"], b"\xff");
-    let is_named = given.names_the_dictionary(&path);
-    holds(is_named, "the dictionary is named")?;
+fn another_language_is_reported_before_the_edits(rt: HostRuntime) -> Result<(), Fail> {
+    let path = new_file(&rt, "mismatch", FIRKIN.as_bytes())?;
+    let result = run_hyphenate_on(&rt, &["standard", "hu", path.as_str(), "-", "*"], b"\xff");
+    let is_named = result.names_the_dictionary(&path);
+    expect(is_named, "the dictionary is named")?;
     fs::remove_file(&rt, path.as_str())?;
     Ok(())
 }
 
-/// Gives nothing but a fault.
+// Fails at each read.
 #[derive(Drop)]
-struct Torn(ErrorKind);
+struct FailingInput(ErrorKind);
 
-impl Read for Torn {
+impl Read for FailingInput {
     fn read(&mut self, _buf: &mut [u8]) -> io::Result<usize> {
         Err(io::Error::from(self.0))
     }
 }
 
-/// Fails where the fault of an input is not told so, by a dictionary in that file.
-fn tells_the_input(
+// Fails unless an error of the input has this status and message, over the dictionary of this path.
+fn expect_input_error(
     rt: &HostRuntime,
     path: &str,
     kind: ErrorKind,
     status: u8,
     message: &str,
 ) -> Result<(), Fail> {
-    let given = answer_by(rt, &["standard", "en-gb", path, "-"], &mut Torn(kind));
-    holds(given.is(status, b"", message.as_bytes()), message)
+    let result = run_hyphenate_reading(
+        rt,
+        &["standard", "en-gb", path, "-"],
+        &mut FailingInput(kind),
+    );
+    expect(result.is(status, b"", message.as_bytes()), message)
 }
 
 #[test]
-fn an_input_that_cannot_be_read_is_told(rt: HostRuntime) -> Result<(), Fail> {
-    let path = file(&rt, "torn", FIRKIN.as_bytes())?;
+fn an_input_that_cannot_be_read_has_its_message(rt: HostRuntime) -> Result<(), Fail> {
+    let path = new_file(&rt, "torn", FIRKIN.as_bytes())?;
     let unread = "hyphenate: the text can't be read\n";
-    tells_the_input(&rt, &path, ErrorKind::ConnectionReset, 5, unread)?;
-    tells_the_input(
+    expect_input_error(&rt, &path, ErrorKind::ConnectionReset, 5, unread)?;
+    expect_input_error(
         &rt,
         &path,
         ErrorKind::OutOfMemory,
@@ -450,22 +452,21 @@ fn an_input_that_cannot_be_read_is_told(rt: HostRuntime) -> Result<(), Fail> {
     Ok(())
 }
 
-/// Whether the program tells that its result can't be written, over the dictionary in a file whose path stands between
-/// these words.
-fn is_output_told(
+// Whether the program says that its result cannot be written. The dictionary's path stands between these arguments.
+fn reports_output_error(
     rt: &HostRuntime,
     before: &[&str],
     path: &str,
     after: &[&str],
     text: &[u8],
 ) -> Result<bool, AllocError> {
-    let words = words_of(rt.alloc(), before, path, after)?;
-    let given = answer_in_vain(rt, &words, text);
-    Ok(given.is(5, b"", b"hyphenate: the result can't be written\n"))
+    let args = args_around(rt.alloc(), before, path, after)?;
+    let result = run_hyphenate_unwritable(rt, &args, text);
+    Ok(result.is(5, b"", b"hyphenate: the result can't be written\n"))
 }
 
-/// Fails where the program does not tell so, over a dictionary of this text, in a new file, which goes then.
-fn tells_the_output(
+// Fails unless the program says that its result cannot be written, over a dictionary in a new file, which is removed.
+fn expect_output_error(
     rt: &HostRuntime,
     name: &str,
     dictionary: &str,
@@ -473,19 +474,19 @@ fn tells_the_output(
     after: &[&str],
     text: &[u8],
 ) -> Result<(), Fail> {
-    let path = file(rt, name, dictionary.as_bytes())?;
-    let is_told = is_output_told(rt, before, &path, after, text)?;
+    let path = new_file(rt, name, dictionary.as_bytes())?;
+    let is_reported = reports_output_error(rt, before, &path, after, text)?;
     fs::remove_file(rt, path.as_str())?;
-    holds(
-        is_told,
+    expect(
+        is_reported,
         format_args!("{before:?}: the result can't be written"),
     )
 }
 
 #[test]
-fn a_text_that_cannot_be_written_is_told(rt: HostRuntime) -> Result<(), Fail> {
+fn a_text_that_cannot_be_written_has_its_message(rt: HostRuntime) -> Result<(), Fail> {
     let before = ["standard", "en-gb"];
-    tells_the_output(&rt, "unwritten", FIRKIN, &before, &["-"], b"firkin")
+    expect_output_error(&rt, "unwritten", FIRKIN, &before, &["-"], b"firkin")
 }
 
 #[test]
@@ -502,14 +503,14 @@ fn a_text_is_hyphenated_by_an_extended_dictionary(rt: HostRuntime) -> Result<(),
         ),
         (&["", "-asszonnyal"], text, 0, "Az asszonnyal.\r\n", ""),
     ];
-    answers_cases(&rt, "doubled", &["extended", "hu"], DOUBLED, &cases)
+    expect_cases(&rt, "doubled", &["extended", "hu"], DOUBLED, &cases)
 }
 
-/// Takes nothing.
+// Takes no byte.
 #[derive(Drop)]
-pub(crate) struct Full;
+pub(crate) struct FullOutput;
 
-impl Write for Full {
+impl Write for FullOutput {
     fn write(&mut self, _buf: &[u8]) -> io::Result<usize> {
         Err(io::Error::from(ErrorKind::StorageFull))
     }
@@ -520,28 +521,35 @@ impl Write for Full {
 }
 
 #[test]
-fn a_score_that_cannot_be_written_is_told(rt: HostRuntime) -> Result<(), Fail> {
+fn a_score_that_cannot_be_written_has_its_message(rt: HostRuntime) -> Result<(), Fail> {
     let before = ["score", "standard", "en-gb"];
-    tells_the_output(&rt, "output", FIRKIN, &before, &["firkin"], b"")
+    expect_output_error(&rt, "output", FIRKIN, &before, &["firkin"], b"")
 }
 
-/// The status where neither a result nor a message can be written.
-fn status_in_silence(rt: &HostRuntime, words: &[&str]) -> u8 {
+// The status if neither a result nor a message can be written.
+fn status_without_outputs(rt: &HostRuntime, args: &[&str]) -> u8 {
     let mut input: &[u8] = b"";
-    answer(rt, rt.alloc(), words, &mut input, &mut Full, &mut Full)
+    answer(
+        rt,
+        rt.alloc(),
+        args,
+        &mut input,
+        &mut FullOutput,
+        &mut FullOutput,
+    )
 }
 
 #[test]
 fn a_message_that_cannot_be_written_leaves_the_status(rt: HostRuntime) -> Result<(), Fail> {
-    let path = file(&rt, "message", FIRKIN.as_bytes())?;
-    let words = ["score", "standard", "en-gb", path.as_str(), "firkin"];
-    holds(
-        status_in_silence(&rt, &words) == 5,
+    let path = new_file(&rt, "message", FIRKIN.as_bytes())?;
+    let args = ["score", "standard", "en-gb", path.as_str(), "firkin"];
+    expect(
+        status_without_outputs(&rt, &args) == 5,
         "a score ends with the status 5",
     )?;
-    holds(
-        status_in_silence(&rt, &["score"]) == 2,
-        "other words end with the status 2",
+    expect(
+        status_without_outputs(&rt, &["score"]) == 2,
+        "bad arguments end with the status 2",
     )?;
     fs::remove_file(&rt, path.as_str())?;
     Ok(())
@@ -569,21 +577,21 @@ fn a_text_is_filled(rt: HostRuntime) -> Result<(), Fail> {
         ),
         (&["72"], b"", 0, "", ""),
     ];
-    answers_cases(&rt, "verse", &["fill", "en-gb"], VERSE, &cases)
+    expect_cases(&rt, "verse", &["fill", "en-gb"], VERSE, &cases)
 }
 
 #[test]
-fn a_text_that_cannot_be_filled_is_told_with_its_status(rt: HostRuntime) -> Result<(), Fail> {
-    let path = file(&rt, "unfilled", VERSE.as_bytes())?;
-    let words = ["fill", "en-gb", path.as_str(), "72"];
-    let given = answer_over(&rt, &words, b"noble \xff");
-    holds(
-        given.is(4, b"", b"hyphenate: the text is not UTF-8\n"),
+fn a_text_that_cannot_be_filled_has_its_message_and_status(rt: HostRuntime) -> Result<(), Fail> {
+    let path = new_file(&rt, "unfilled", VERSE.as_bytes())?;
+    let args = ["fill", "en-gb", path.as_str(), "72"];
+    let result = run_hyphenate_on(&rt, &args, b"noble \xff");
+    expect(
+        result.is(4, b"", b"hyphenate: the text is not UTF-8\n"),
         "hyphenate: the text is not UTF-8",
     )?;
-    let given = answer_by(&rt, &words, &mut Torn(ErrorKind::ConnectionReset));
-    holds(
-        given.is(5, b"", b"hyphenate: the text can't be read\n"),
+    let result = run_hyphenate_reading(&rt, &args, &mut FailingInput(ErrorKind::ConnectionReset));
+    expect(
+        result.is(5, b"", b"hyphenate: the text can't be read\n"),
         "hyphenate: the text can't be read",
     )?;
     fs::remove_file(&rt, path.as_str())?;
@@ -591,35 +599,35 @@ fn a_text_that_cannot_be_filled_is_told_with_its_status(rt: HostRuntime) -> Resu
 }
 
 #[test]
-fn lines_that_cannot_be_written_are_told(rt: HostRuntime) -> Result<(), Fail> {
+fn lines_that_cannot_be_written_have_their_message(rt: HostRuntime) -> Result<(), Fail> {
     let before = ["fill", "en-gb"];
-    tells_the_output(&rt, "full", VERSE, &before, &["72"], b"noble")
+    expect_output_error(&rt, "full", VERSE, &before, &["72"], b"noble")
 }
 
 #[test]
 fn a_text_is_not_filled_by_another_language(rt: HostRuntime) -> Result<(), Fail> {
-    let path = file(&rt, "other-language", VERSE.as_bytes())?;
-    let given = answer_over(&rt, &["fill", "en-us", path.as_str(), "72"], b"\xff");
-    let is_named = given.names_the_dictionary(&path);
-    holds(is_named, "the dictionary is named")?;
+    let path = new_file(&rt, "other-language", VERSE.as_bytes())?;
+    let result = run_hyphenate_on(&rt, &["fill", "en-us", path.as_str(), "72"], b"\xff");
+    let is_named = result.names_the_dictionary(&path);
+    expect(is_named, "the dictionary is named")?;
     fs::remove_file(&rt, path.as_str())?;
     Ok(())
 }
 
-/// The status of words that can't be had for that fault.
-fn status_of_words(alloc: Global, kind: ErrorKind) -> u8 {
-    let mut faults: Vec<u8> = Vec::new(alloc);
-    report_words(&io::Error::from(kind), &mut faults)
+// The status of arguments that cannot be read for this error.
+fn status_of_unread_args(alloc: Global, kind: ErrorKind) -> u8 {
+    let mut messages: Vec<u8> = Vec::new(alloc);
+    report_bad_args(USAGE, NO_MEMORY, &io::Error::from(kind), &mut messages)
 }
 
 #[test]
-fn words_that_cannot_be_had_have_their_status(rt: HostRuntime) -> Result<(), Fail> {
-    holds(
-        status_of_words(rt.alloc(), ErrorKind::OutOfMemory) == 6,
-        "words that want memory have the status 6",
+fn arguments_that_cannot_be_read_have_their_status(rt: HostRuntime) -> Result<(), Fail> {
+    expect(
+        status_of_unread_args(rt.alloc(), ErrorKind::OutOfMemory) == 6,
+        "arguments without memory have the status 6",
     )?;
-    holds(
-        status_of_words(rt.alloc(), ErrorKind::InvalidData) == 2,
-        "words that are not UTF-8 have the status 2",
+    expect(
+        status_of_unread_args(rt.alloc(), ErrorKind::InvalidData) == 2,
+        "arguments that are not UTF-8 have the status 2",
     )
 }

@@ -1,15 +1,15 @@
-//! What no clause says of the three programs, by tests of their commands; and what the callers in `callers` answer.
+//! Tests of the commands of the three programs, and of the callers in `callers`. No clause says what they show.
 #![tactic(auto)]
 
+#[cfg(test)]
+mod caller_examples;
 #[cfg(test)]
 mod canonical;
 #[cfg(test)]
 mod convert;
 #[cfg(test)]
-mod dictionary_faults;
+mod dictionary_errors;
 #[cfg(test)]
 mod hyphenate;
 #[cfg(test)]
-mod of_callers;
-#[cfg(test)]
-mod shelf;
+mod memory_files;

@@ -1,5 +1,5 @@
-//! What no clause says of whole runs: what a run writes and why it writes nothing, and faults of its readers and of its
-//! writer; and the names that users have, each called once by its path in `hyphenation`, by tests.
+//! Tests of whole runs: their results, and errors of their readers and their writer. Each name of `hyphenation` that
+//! users have is called once. No clause says what they show.
 #![tactic(auto)]
 
 #[cfg(test)]
@@ -9,7 +9,7 @@ mod readers;
 #[cfg(test)]
 mod readme;
 #[cfg(test)]
-mod run_faults;
+mod run_errors;
 #[cfg(test)]
 mod runs;
 #[cfg(test)]

@@ -1,15 +1,15 @@
-//! Whole texts: what a run writes, and why it writes nothing.
+//! Whole texts: the output of a run, and why it writes nothing.
 
 use hyphenation::engine::{Kind, RunError, run};
-use hyphenation::load::{Cause, Error, Load};
+use hyphenation::load::{Cause, Error};
 use hyphenation::{Language, Standard, hyphenate_text};
 use std::alloc::{AllocError, Global};
 use std::fmt::Display;
 use std::test::Fail;
-use test_dictionaries::{AMERICAN, DOUBLED};
-use test_support::{gives, holds, repeated, same, wrote};
+use test_dictionaries::{AMERICAN, DOUBLED, dictionary};
+use test_support::{expect, expect_equal, expect_text, expect_written, repeated};
 
-/// What a run wrote, and how it ended.
+// The output and the result of a run.
 #[derive(Drop)]
 struct Run {
     end: Result<(), RunError>,
@@ -17,18 +17,18 @@ struct Run {
 }
 
 impl Run {
-    /// Fails, and names the case, where the run has failed or has not written this text.
-    fn has_written<C: Display + Drop>(self, case: C, text: &str) -> Result<(), Fail> {
-        wrote(case, &self.end, &self.output, text.as_bytes())
+    // Fails, with the case, unless the run succeeded and wrote this text.
+    fn expect_written_text<C: Display + Drop>(self, case: C, text: &str) -> Result<(), Fail> {
+        expect_written(case, &self.end, &self.output, text.as_bytes())
     }
 
-    /// Whether the edit of this number is refused, and nothing is written.
+    // Whether the edit of this number is refused, and nothing is written.
     fn is_refused_at(self, number: usize) -> bool {
         matches!(self.end, Err(RunError::Edit(k)) if k == number) && self.output.is_empty()
     }
 }
 
-/// A run by a dictionary: a standard one of American English, or an extended one of Hungarian.
+// Runs with a standard dictionary of American English, or with an extended one of Hungarian.
 fn run_by(
     alloc: Global,
     kind: Kind,
@@ -57,7 +57,7 @@ fn run_by(
     Run { end, output }
 }
 
-/// A run after edits: by a standard dictionary over `Firkin, firkins.`, or by an extended one over `Az asszonnyal.`.
+// Runs after edits: a standard dictionary over `Firkin, firkins.`, or an extended one over `Az asszonnyal.`.
 fn run_after(alloc: Global, kind: Kind, edits: &[&str]) -> Run {
     let (dictionary, text) = match kind {
         Kind::Standard => (AMERICAN, "Firkin, firkins."),
@@ -66,18 +66,18 @@ fn run_after(alloc: Global, kind: Kind, edits: &[&str]) -> Run {
     run_by(alloc, kind, dictionary, edits, "-", text.as_bytes())
 }
 
-/// Fails where a run after edits does not write this text, for each case.
-fn writes_after(alloc: Global, kind: Kind, cases: &[(&[&str], &str)]) -> Result<(), Fail> {
+// Fails unless a run after the edits of each case writes its text.
+fn expect_written_after(alloc: Global, kind: Kind, cases: &[(&[&str], &str)]) -> Result<(), Fail> {
     for (edits, text) in cases {
-        run_after(alloc, kind, edits).has_written(format_args!("{edits:?}"), text)?;
+        run_after(alloc, kind, edits).expect_written_text(format_args!("{edits:?}"), text)?;
     }
     Ok(())
 }
 
-/// Fails where a run after edits is not refused at the edit of this number, for each case.
-fn refuses_after(alloc: Global, kind: Kind, cases: &[(&[&str], usize)]) -> Result<(), Fail> {
+// Fails unless a run after the edits of each case is refused at the edit of its number.
+fn expect_refused_after(alloc: Global, kind: Kind, cases: &[(&[&str], usize)]) -> Result<(), Fail> {
     for (edits, number) in cases {
-        holds(
+        expect(
             run_after(alloc, kind, edits).is_refused_at(*number),
             format_args!("{edits:?}: edit {number} is refused"),
         )?;
@@ -91,8 +91,8 @@ const VERSE: &str =
 const LAKE: &str =
     "hyphenation 1 standard\nlanguage en-us\nminima 2 3\ne burning 4\ne sulphur 3\ne unconsumed 2 5\n";
 
-/// A dictionary, a mark, a text, and what is written.
-const PIECES: [(&str, &str, &str, &str); 8] = [
+// A dictionary, a mark, a text, and the output.
+const HYPHENATED: [(&str, &str, &str, &str); 8] = [
     (
         VERSE,
         "-",
@@ -130,8 +130,8 @@ const PIECES: [(&str, &str, &str, &str); 8] = [
 
 #[test]
 fn each_piece_between_word_bounds_is_hyphenated(rt: HostRuntime) -> Result<(), Fail> {
-    for (dictionary, mark, text, wanted) in &PIECES {
-        let ran = run_by(
+    for (dictionary, mark, text, wanted) in &HYPHENATED {
+        let finished = run_by(
             rt.alloc(),
             Kind::Standard,
             dictionary,
@@ -139,12 +139,12 @@ fn each_piece_between_word_bounds_is_hyphenated(rt: HostRuntime) -> Result<(), F
             mark,
             text.as_bytes(),
         );
-        ran.has_written(format_args!("{text:?} with {mark:?}"), wanted)?;
+        finished.expect_written_text(format_args!("{text:?} with {mark:?}"), wanted)?;
     }
     Ok(())
 }
 
-const DONE: [(&[&str], &str); 7] = [
+const EDITED: [(&[&str], &str); 7] = [
     (&[], "Fir-kin, fir-k-ins."),
     (&["+firkins 3"], "Fir-kin, fir-kins."),
     (&["+firkins 3", "-firkins"], "Fir-kin, fir-k-ins."),
@@ -159,7 +159,7 @@ const DONE: [(&[&str], &str); 7] = [
 
 #[test]
 fn edits_are_done_from_first_to_last(rt: HostRuntime) -> Result<(), Fail> {
-    writes_after(rt.alloc(), Kind::Standard, &DONE)
+    expect_written_after(rt.alloc(), Kind::Standard, &EDITED)
 }
 
 const REFUSED: [(&[&str], usize); 20] = [
@@ -186,16 +186,16 @@ const REFUSED: [(&[&str], usize); 20] = [
 ];
 
 #[test]
-fn the_first_edit_that_is_refused_is_told(rt: HostRuntime) -> Result<(), Fail> {
-    refuses_after(rt.alloc(), Kind::Standard, &REFUSED)?;
+fn the_first_refused_edit_is_reported(rt: HostRuntime) -> Result<(), Fail> {
+    expect_refused_after(rt.alloc(), Kind::Standard, &REFUSED)?;
     let edits = ["-\\e", "+a\\sb 1"];
-    let ran = run_by(rt.alloc(), Kind::Standard, AMERICAN, &edits, "-", b"");
-    ran.has_written(format_args!("{edits:?}"), "")
+    let finished = run_by(rt.alloc(), Kind::Standard, AMERICAN, &edits, "-", b"");
+    finished.expect_written_text(format_args!("{edits:?}"), "")
 }
 
 #[test]
 fn a_dictionary_is_judged_before_edits_and_text(rt: HostRuntime) -> Result<(), Fail> {
-    let ran = run_by(
+    let finished = run_by(
         rt.alloc(),
         Kind::Standard,
         "",
@@ -203,18 +203,18 @@ fn a_dictionary_is_judged_before_edits_and_text(rt: HostRuntime) -> Result<(), F
         "-",
         b"\xff",
     );
-    holds(
+    expect(
         matches!(
-            ran.end,
+            finished.end,
             Err(RunError::Dictionary(Error::Deserialization {
                 line: 1,
                 cause: Cause::Header
             }))
         ),
-        "a fault of the head is told",
+        "the head is refused",
     )?;
     let other = "hyphenation 1 standard\nlanguage hu\nminima 2 3\n";
-    let ran = run_by(
+    let finished = run_by(
         rt.alloc(),
         Kind::Standard,
         other,
@@ -222,18 +222,18 @@ fn a_dictionary_is_judged_before_edits_and_text(rt: HostRuntime) -> Result<(), F
         "-",
         b"\xff",
     );
-    holds(
+    expect(
         matches!(
-            ran.end,
+            finished.end,
             Err(RunError::Dictionary(Error::LanguageMismatch { .. }))
         ),
-        "another language is told",
+        "another language is reported",
     )
 }
 
 #[test]
 fn edits_are_judged_before_the_text(rt: HostRuntime) -> Result<(), Fail> {
-    let ran = run_by(
+    let finished = run_by(
         rt.alloc(),
         Kind::Standard,
         AMERICAN,
@@ -241,12 +241,12 @@ fn edits_are_judged_before_the_text(rt: HostRuntime) -> Result<(), Fail> {
         "-",
         b"\xff",
     );
-    holds(ran.is_refused_at(1), "edit 1 is refused")
+    expect(finished.is_refused_at(1), "edit 1 is refused")
 }
 
 #[test]
 fn a_text_that_is_not_utf_8_is_refused(rt: HostRuntime) -> Result<(), Fail> {
-    let ran = run_by(
+    let finished = run_by(
         rt.alloc(),
         Kind::Standard,
         AMERICAN,
@@ -254,11 +254,11 @@ fn a_text_that_is_not_utf_8_is_refused(rt: HostRuntime) -> Result<(), Fail> {
         "-",
         b"firkin \xff",
     );
-    holds(
-        matches!(ran.end, Err(RunError::TextNotUtf8)),
+    expect(
+        matches!(finished.end, Err(RunError::TextNotUtf8)),
         "the text is not UTF-8",
     )?;
-    same(&ran.output.len(), &0)
+    expect_equal(&finished.output.len(), &0)
 }
 
 const CHANGED: [(&[&str], &str); 5] = [
@@ -274,10 +274,10 @@ const CHANGED: [(&[&str], &str); 5] = [
 
 #[test]
 fn letters_are_changed_where_a_text_is_broken(rt: HostRuntime) -> Result<(), Fail> {
-    writes_after(rt.alloc(), Kind::Extended, &CHANGED)
+    expect_written_after(rt.alloc(), Kind::Extended, &CHANGED)
 }
 
-const REFUSED_OF_CHANGES: [(&[&str], usize); 4] = [
+const REFUSED_CHANGES: [(&[&str], usize); 4] = [
     (&["+asszonnyal 2,1,2,9,szsz"], 1),
     (&["+asszonnyal 2,3,2,2,szsz"], 1),
     (&["-asszonnyal 2"], 1),
@@ -286,10 +286,10 @@ const REFUSED_OF_CHANGES: [(&[&str], usize); 4] = [
 
 #[test]
 fn edits_of_an_extended_dictionary_are_judged_by_its_kind(rt: HostRuntime) -> Result<(), Fail> {
-    refuses_after(rt.alloc(), Kind::Extended, &REFUSED_OF_CHANGES)
+    expect_refused_after(rt.alloc(), Kind::Extended, &REFUSED_CHANGES)
 }
 
-/// Three texts after another, hyphenated by a dictionary.
+// A text that three hyphenated ones are appended to.
 fn appended(alloc: Global, dictionary: &Standard) -> Result<String, AllocError> {
     let mut page = String::from_str(alloc, "Ale: ")?;
     hyphenate_text(alloc, &mut page, dictionary, "Firkin, firkins.", "-")?;
@@ -300,16 +300,15 @@ fn appended(alloc: Global, dictionary: &Standard) -> Result<String, AllocError> 
 
 #[test]
 fn a_text_is_appended_by_a_loaded_dictionary(rt: HostRuntime) -> Result<(), Fail> {
-    let mut reader = AMERICAN.as_bytes();
-    let dictionary = Standard::any_from_reader(rt.alloc(), &mut reader)?;
-    gives(
+    let dictionary = dictionary(rt.alloc(), AMERICAN)?;
+    expect_text(
         appended(rt.alloc(), &dictionary),
         "Ale: Fir-kin, fir-k-ins. Firkin",
     )
 }
 
-/// Whether a run over a piece, repeated to more than 1,000,000 bytes, writes it broken so each time.
-fn is_run(
+// Whether a run over a text, repeated to more than 1,000,000 bytes, writes it broken in the same way each time.
+fn is_long_text_marked(
     alloc: Global,
     kind: Kind,
     text: &str,
@@ -319,41 +318,25 @@ fn is_run(
     let times = 1_000_000 / piece.len().max(1) + 1;
     let input = repeated(alloc, piece, times)?;
     let wanted = repeated(alloc, wanted, times)?;
-    let language = match kind {
-        Kind::Standard => Language::english_us(),
-        Kind::Extended => Language::hungarian(),
-    };
-    let mut dictionary = text.as_bytes();
-    let mut reader = input.as_bytes();
-    let mut output: Vec<u8> = Vec::new(alloc);
-    let end = run(
-        alloc,
-        kind,
-        language,
-        &[],
-        "-",
-        &mut dictionary,
-        &mut reader,
-        &mut output,
-    );
+    let finished = run_by(alloc, kind, text, &[], "-", input.as_bytes());
     let is_long = input.len() > 1_000_000;
-    Ok(end.is_ok() && is_long && output.as_slice() == wanted.as_bytes())
+    Ok(finished.end.is_ok() && is_long && finished.output.as_slice() == wanted.as_bytes())
 }
 
 #[test]
-fn a_text_of_a_million_bytes_is_run(rt: HostRuntime) -> Result<(), Fail> {
+fn a_text_of_a_million_bytes_is_hyphenated(rt: HostRuntime) -> Result<(), Fail> {
     let (piece, wanted) = ("Firkin, firkins. ", "Fir-kin, fir-k-ins. ");
-    holds(
-        is_run(rt.alloc(), Kind::Standard, AMERICAN, piece, wanted)?,
+    expect(
+        is_long_text_marked(rt.alloc(), Kind::Standard, AMERICAN, piece, wanted)?,
         "it is run",
     )
 }
 
 #[test]
-fn a_text_of_a_million_bytes_is_run_and_changed(rt: HostRuntime) -> Result<(), Fail> {
+fn a_text_of_a_million_bytes_is_hyphenated_with_changes(rt: HostRuntime) -> Result<(), Fail> {
     let (piece, wanted) = ("Az asszonnyal. ", "Az asz-szony-nyal. ");
-    holds(
-        is_run(rt.alloc(), Kind::Extended, DOUBLED, piece, wanted)?,
+    expect(
+        is_long_text_marked(rt.alloc(), Kind::Extended, DOUBLED, piece, wanted)?,
         "it is run",
     )
 }

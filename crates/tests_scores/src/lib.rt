@@ -1,5 +1,5 @@
-//! What no clause says of the values of words, by dictionaries of both kinds that are read from texts, and how many
-//! look-ups they take, by tests.
+//! Tests of the values of words by dictionaries of both kinds, and of the look-ups that they take. No clause says what
+//! they show.
 #![tactic(auto)]
 
 #[cfg(test)]

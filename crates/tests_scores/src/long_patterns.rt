@@ -7,12 +7,12 @@ use hyphenation_reader::reader::{Refusal, read_extended};
 use hyphenation_score::Score;
 use std::alloc::{AllocError, Global};
 use std::test::Fail;
-use test_support::{holds, repeated, same};
+use test_support::{expect, expect_equal, repeated};
 
-/// So many letters the key has.
+// The number of the key's letters.
 const LETTERS: usize = 20_000;
 
-/// Adds a letter and the value after it for each letter of the key.
+// Adds a letter and the value after it for each letter of the key.
 fn push_letters(text: &mut String) -> Result<(), AllocError> {
     for _ in 0..LETTERS {
         text.push_str("a1")?;
@@ -20,7 +20,7 @@ fn push_letters(text: &mut String) -> Result<(), AllocError> {
     Ok(())
 }
 
-/// Adds a change at the place of each value.
+// Adds a change at the place of each value.
 fn push_changes(alloc: Global, text: &mut String) -> Result<(), AllocError> {
     for place in 0..LETTERS + 1 {
         let token = format!(in alloc; " {place},0,0,1,b")?;
@@ -29,7 +29,7 @@ fn push_changes(alloc: Global, text: &mut String) -> Result<(), AllocError> {
     Ok(())
 }
 
-/// An extended text of one long pattern, whose key ends so, and whose line ends so.
+// An extended text of one long pattern, whose key ends with these letters, and whose line has this ending.
 fn text_of(alloc: Global, letters: &str, ending: &str) -> Result<String, AllocError> {
     let mut text = String::from_str(
         alloc,
@@ -60,8 +60,8 @@ fn many_values_take_their_changes(rt: HostRuntime) -> Result<(), Fail> {
     let dictionary = dictionary(rt.alloc())?;
     let word = repeated(rt.alloc(), "a", LETTERS)?;
     let values = dictionary.score(rt.alloc(), &word)?;
-    same(&values.len(), &(LETTERS - 1))?;
-    holds(
+    expect_equal(&values.len(), &(LETTERS - 1))?;
+    expect(
         values.iter().all(|found| is_changed(found)),
         "each value is 1 with a change",
     )
@@ -78,5 +78,5 @@ fn fault_of(alloc: Global, text: &str) -> Result<Option<(usize, Cause)>, AllocEr
 #[test]
 fn a_change_after_many_values_has_none(rt: HostRuntime) -> Result<(), Fail> {
     let text = text_of(rt.alloc(), "a", " 20001,0,0,1,b\n")?;
-    same(&fault_of(rt.alloc(), &text)?, &Some((4, Cause::Change)))
+    expect_equal(&fault_of(rt.alloc(), &text)?, &Some((4, Cause::Change)))
 }

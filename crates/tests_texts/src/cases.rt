@@ -1,27 +1,35 @@
-//! Texts of a head and further lines, and how loading them ends.
+//! Texts of a head and further lines, and the outcomes of loading them.
 
 use hyphenation_load::Load;
 use std::alloc::{AllocError, Global};
 use std::test::Fail;
-use test_dictionaries::text_ends;
-use test_support::gives_in;
+use test_dictionaries::text_outcome;
+use test_support::expect_text_in;
 
-/// Lines, and how loading a text that ends with them ends: `loaded`, or its line and cause.
+/// Lines, and the outcome of loading a text that ends with them: `loaded`, or a line and a cause.
 pub type Case = (&'static [u8], &'static str);
 
-/// How loading a text of this head and these lines ends.
-fn end_of<D: Load + Drop>(alloc: Global, head: &str, lines: &[u8]) -> Result<String, AllocError> {
+// The outcome of loading a text with this head and these lines.
+fn outcome_of<D: Load + Drop>(
+    alloc: Global,
+    head: &str,
+    lines: &[u8],
+) -> Result<String, AllocError> {
     let mut text = Vec::from_slice(alloc, head.as_bytes())?;
     text.extend_from_slice(lines)?;
-    text_ends::<D>(alloc, &text)
+    text_outcome::<D>(alloc, &text)
 }
 
-/// Fails where loading a text of this head and a case's lines, read whole and a byte at a time, does not end so.
-pub fn each_ends<D: Load + Drop>(alloc: Global, head: &str, cases: &[Case]) -> Result<(), Fail> {
+/// Fails unless loading each case's lines after this head, read whole and one byte a read, has the outcome of the case.
+pub fn expect_outcomes<D: Load + Drop>(
+    alloc: Global,
+    head: &str,
+    cases: &[Case],
+) -> Result<(), Fail> {
     for (lines, wanted) in cases {
-        gives_in(
+        expect_text_in(
             lines.escape_ascii(),
-            end_of::<D>(alloc, head, lines),
+            outcome_of::<D>(alloc, head, lines),
             wanted,
         )?;
     }

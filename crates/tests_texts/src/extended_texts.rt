@@ -1,16 +1,16 @@
-//! Which extended texts are refused, with which line and cause, and which are accepted.
+//! Extended texts that are refused, with line and cause, and texts that are accepted.
 
-use crate::cases::{Case, each_ends};
+use crate::cases::{Case, expect_outcomes};
 use hyphenation_breaks::language::Language;
 use hyphenation_dictionary::dictionary::{Extended, Standard};
 use hyphenation_load::Load;
 use std::test::Fail;
-use test_dictionaries::ends;
+use test_dictionaries::expect_outcome;
 
-/// Three complete head lines.
+// Three complete head lines.
 const HEAD: &str = "hyphenation 1 extended\nlanguage hu\nminima 2 2\n";
 
-const FAULTY: [Case; 16] = [
+const REFUSED: [Case; 16] = [
     (b"p a1b 1", "4 Change"),
     (b"p a1b 0,0,0,0,\\e", "4 Change"),
     (b"p a1b 1,2,0,0,\\e", "4 Change"),
@@ -31,7 +31,7 @@ const FAULTY: [Case; 16] = [
 
 #[test]
 fn changes_that_do_not_fit_are_refused(rt: HostRuntime) -> Result<(), Fail> {
-    each_ends::<Extended>(rt.alloc(), HEAD, &FAULTY)
+    expect_outcomes::<Extended>(rt.alloc(), HEAD, &REFUSED)
 }
 
 const ACCEPTED: [Case; 10] = [
@@ -49,29 +49,29 @@ const ACCEPTED: [Case; 10] = [
 
 #[test]
 fn changes_that_fit_are_accepted(rt: HostRuntime) -> Result<(), Fail> {
-    each_ends::<Extended>(rt.alloc(), HEAD, &ACCEPTED)
+    expect_outcomes::<Extended>(rt.alloc(), HEAD, &ACCEPTED)
 }
 
-/// Three head lines and an exception.
+// Three head lines and an exception.
 const EXTENDED: &[u8] = b"hyphenation 1 extended\nlanguage hu\nminima 2 2\ne ab 1\n";
 
 #[test]
 fn a_text_of_the_other_kind_is_refused_at_its_head(rt: HostRuntime) -> Result<(), Fail> {
-    each_ends::<Standard>(rt.alloc(), HEAD, &[(b"e ab 1\n", "1 Header")])?;
+    expect_outcomes::<Standard>(rt.alloc(), HEAD, &[(b"e ab 1\n", "1 Header")])?;
     let standard = "hyphenation 1 standard\nlanguage hu\nminima 2 2\n";
-    each_ends::<Extended>(rt.alloc(), standard, &[(b"e ab 1\n", "1 Header")])
+    expect_outcomes::<Extended>(rt.alloc(), standard, &[(b"e ab 1\n", "1 Header")])
 }
 
 #[test]
 fn another_language_is_a_mismatch_for_an_extended_text(rt: HostRuntime) -> Result<(), Fail> {
     let mut reader = EXTENDED;
     let turkish = Extended::from_reader(rt.alloc(), Language::turkish(), &mut reader);
-    ends(
+    expect_outcome(
         rt.alloc(),
         turkish,
         "Language mismatch: attempted to load a dictionary for `tr`, but found\na dictionary for `hu` instead.",
     )?;
     let mut reader = EXTENDED;
     let hungarian = Extended::from_reader(rt.alloc(), Language::hungarian(), &mut reader);
-    ends(rt.alloc(), hungarian, "loaded")
+    expect_outcome(rt.alloc(), hungarian, "loaded")
 }

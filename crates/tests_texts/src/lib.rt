@@ -1,5 +1,5 @@
-//! What no clause says of the texts of dictionaries: which are refused, with which line and cause, which are accepted,
-//! what is said of each refusal, and loading from readers that fail, by tests.
+//! Tests of the texts of dictionaries: refusals with their line, cause and message, accepted texts, and loading from
+//! readers that fail. No clause says what they show.
 #![tactic(auto)]
 
 #[cfg(test)]

@@ -1,4 +1,4 @@
-//! What is said of each refusal, of a language and of patterns.
+//! The messages of refusals, and how a language and patterns are displayed.
 
 use hyphenation_breaks::language::Language;
 use hyphenation_dictionary::dictionary::Standard;
@@ -7,9 +7,9 @@ use hyphenation_load::{Cause, Error, Load};
 use std::alloc::{AllocError, Global};
 use std::fmt::{Debug, Display};
 use std::test::Fail;
-use test_dictionaries::LEAST;
-use test_support::faults::{TORN, fault};
-use test_support::{gives, gives_in};
+use test_dictionaries::SMALLEST;
+use test_support::io_errors::{CONNECTION_RESET, io_error};
+use test_support::{expect_text, expect_text_in};
 
 const CAUSES: [(Cause, &str); 14] = [
     (Cause::NotUtf8, "not UTF-8"),
@@ -28,84 +28,88 @@ const CAUSES: [(Cause, &str); 14] = [
     (Cause::RepeatedException, "repeated exception"),
 ];
 
-/// A value as it is displayed.
-fn said<T: Display>(alloc: Global, value: &T) -> Result<String, AllocError> {
+fn displayed<T: Display>(alloc: Global, value: &T) -> Result<String, AllocError> {
     format!(in alloc; "{value}")
 }
 
 #[test]
-fn each_cause_is_said(rt: HostRuntime) -> Result<(), Fail> {
+fn each_cause_has_its_message(rt: HostRuntime) -> Result<(), Fail> {
     for (cause, wanted) in &CAUSES {
-        gives_in(wanted, said(rt.alloc(), cause), wanted)?;
+        expect_text_in(wanted, displayed(rt.alloc(), cause), wanted)?;
     }
     Ok(())
 }
 
 #[test]
-fn a_refusal_says_its_line_and_cause(rt: HostRuntime) -> Result<(), Fail> {
+fn a_refusal_names_its_line_and_cause(rt: HostRuntime) -> Result<(), Fail> {
     let refusal = Error::Deserialization {
         line: 4,
         cause: Cause::Pattern,
     };
-    gives(
-        said(rt.alloc(), &refusal),
+    expect_text(
+        displayed(rt.alloc(), &refusal),
         "line 4: two values in one place",
     )
 }
 
 #[test]
-fn refused_memory_and_a_fault_of_reading_are_said(rt: HostRuntime) -> Result<(), Fail> {
-    gives(said(rt.alloc(), &Error::Memory(AllocError)), "no memory")?;
-    gives(
-        said(rt.alloc(), &Error::IO(fault(TORN))),
+fn refused_memory_and_an_io_error_have_their_messages(rt: HostRuntime) -> Result<(), Fail> {
+    expect_text(
+        displayed(rt.alloc(), &Error::Memory(AllocError)),
+        "no memory",
+    )?;
+    expect_text(
+        displayed(rt.alloc(), &Error::IO(io_error(CONNECTION_RESET))),
         "Connection reset by peer (os error 104)",
     )
 }
 
-/// The longest code, of 32 bytes.
+// The longest code, of 32 bytes.
 const LONGEST: &str = "abcdefghijklmnopqrstuvwxyz-12345";
 
 #[test]
-fn the_longest_code_of_a_language_is_said(rt: HostRuntime) -> Result<(), Fail> {
+fn the_longest_code_of_a_language_is_displayed(rt: HostRuntime) -> Result<(), Fail> {
     let language = Language::from_code(LONGEST).ok_or("a code")?;
-    gives(said(rt.alloc(), &language), LONGEST)
+    expect_text(displayed(rt.alloc(), &language), LONGEST)
 }
 
 #[test]
-fn another_language_is_said_with_both_codes(rt: HostRuntime) -> Result<(), Fail> {
+fn another_language_is_named_with_both_codes(rt: HostRuntime) -> Result<(), Fail> {
     let mismatch = Error::LanguageMismatch {
         expected: Language::english_us(),
         found: Language::hungarian(),
     };
-    gives(
-        said(rt.alloc(), &mismatch),
+    expect_text(
+        displayed(rt.alloc(), &mismatch),
         "Language mismatch: attempted to load a dictionary for `en-us`, but found\na dictionary for `hu` instead.",
     )
 }
 
-/// A value as who debugs sees it.
-fn shown<T: Debug>(alloc: Global, value: &T) -> Result<String, AllocError> {
+fn debugged<T: Debug>(alloc: Global, value: &T) -> Result<String, AllocError> {
     format!(in alloc; "{value:?}")
 }
 
 #[test]
-fn a_language_is_shown_by_its_code(rt: HostRuntime) -> Result<(), Fail> {
+fn a_language_is_debugged_by_its_code(rt: HostRuntime) -> Result<(), Fail> {
     let language = Language::from_code(LONGEST).ok_or("a code")?;
-    gives(
-        shown(rt.alloc(), &language),
+    expect_text(
+        debugged(rt.alloc(), &language),
         "Language(\"abcdefghijklmnopqrstuvwxyz-12345\")",
     )
 }
 
-/// The patterns of a text's dictionary as who debugs sees them.
-fn patterns_shown(alloc: Global, text: &[u8]) -> Result<String, Error> {
+// The patterns of a text's dictionary as `Debug` shows them.
+fn patterns_debugged(alloc: Global, text: &[u8]) -> Result<String, Error> {
     let mut reader = text;
     let dictionary = Standard::any_from_reader(alloc, &mut reader)?;
-    shown(alloc, automaton_of(&dictionary)).map_err(Error::Memory)
+    debugged(alloc, automaton_of(&dictionary)).map_err(Error::Memory)
 }
 
-/// The root, `a` and `ab`.
+// The nodes are the root, `a` and `ab`.
 #[test]
-fn patterns_are_shown_by_the_number_of_their_nodes(rt: HostRuntime) -> Result<(), Fail> {
-    gives(patterns_shown(rt.alloc(), LEAST), "Automaton { nodes: 3 }")
+fn patterns_are_debugged_by_the_number_of_their_nodes(rt: HostRuntime) -> Result<(), Fail> {
+    expect_text(
+        patterns_debugged(rt.alloc(), SMALLEST),
+        "Automaton { nodes: 3 }",
+    )
 }

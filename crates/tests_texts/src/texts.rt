@@ -1,17 +1,17 @@
-//! Which texts are refused, with which line and cause, and which are accepted.
+//! Texts that are refused, with line and cause, and texts that are accepted.
 
-use crate::cases::{Case, each_ends};
+use crate::cases::{Case, expect_outcomes};
 use hyphenation_dictionary::dictionary::Standard;
 use hyphenation_load::{Error, Load};
 use std::alloc::Global;
 use std::test::Fail;
-use test_dictionaries::{LEAST, text_ends};
-use test_support::{gives, gives_in};
+use test_dictionaries::{SMALLEST, text_outcome};
+use test_support::{expect_text, expect_text_in};
 
-/// Three complete head lines.
+// Three complete head lines.
 const HEAD: &str = "hyphenation 1 standard\nlanguage en-us\nminima 2 3\n";
 
-const FAULTY_HEADS: [Case; 13] = [
+const REFUSED_HEADS: [Case; 13] = [
     (b"", "1 Header"),
     (b"\n", "1 Header"),
     (
@@ -55,11 +55,11 @@ const FAULTY_HEADS: [Case; 13] = [
 ];
 
 #[test]
-fn faulty_heads_are_refused_with_line_and_cause(rt: HostRuntime) -> Result<(), Fail> {
-    each_ends::<Standard>(rt.alloc(), "", &FAULTY_HEADS)
+fn bad_heads_are_refused_with_line_and_cause(rt: HostRuntime) -> Result<(), Fail> {
+    expect_outcomes::<Standard>(rt.alloc(), "", &REFUSED_HEADS)
 }
 
-const FAULTY_LINES: [Case; 32] = [
+const REFUSED_LINES: [Case; 32] = [
     (b"x", "4 UnknownLine"),
     (b"p", "4 UnknownLine"),
     (b"e", "4 UnknownLine"),
@@ -95,8 +95,8 @@ const FAULTY_LINES: [Case; 32] = [
 ];
 
 #[test]
-fn faulty_lines_are_refused_with_line_and_cause(rt: HostRuntime) -> Result<(), Fail> {
-    each_ends::<Standard>(rt.alloc(), HEAD, &FAULTY_LINES)
+fn bad_lines_are_refused_with_line_and_cause(rt: HostRuntime) -> Result<(), Fail> {
+    expect_outcomes::<Standard>(rt.alloc(), HEAD, &REFUSED_LINES)
 }
 
 const CHANGES: [Case; 5] = [
@@ -109,7 +109,7 @@ const CHANGES: [Case; 5] = [
 
 #[test]
 fn changes_are_refused_in_a_standard_text(rt: HostRuntime) -> Result<(), Fail> {
-    each_ends::<Standard>(rt.alloc(), HEAD, &CHANGES)
+    expect_outcomes::<Standard>(rt.alloc(), HEAD, &CHANGES)
 }
 
 const REPEATED: [Case; 5] = [
@@ -122,7 +122,7 @@ const REPEATED: [Case; 5] = [
 
 #[test]
 fn repeated_items_are_refused_at_the_later_line(rt: HostRuntime) -> Result<(), Fail> {
-    each_ends::<Standard>(rt.alloc(), HEAD, &REPEATED)
+    expect_outcomes::<Standard>(rt.alloc(), HEAD, &REPEATED)
 }
 
 const ACCEPTED: [Case; 16] = [
@@ -145,11 +145,11 @@ const ACCEPTED: [Case; 16] = [
 ];
 
 #[test]
-fn these_lines_are_accepted(rt: HostRuntime) -> Result<(), Fail> {
-    each_ends::<Standard>(rt.alloc(), HEAD, &ACCEPTED)
+fn well_formed_lines_are_accepted(rt: HostRuntime) -> Result<(), Fail> {
+    expect_outcomes::<Standard>(rt.alloc(), HEAD, &ACCEPTED)
 }
 
-/// The language and the minima of a text.
+// The language and the minima of a text.
 fn head_of(alloc: Global, text: &[u8]) -> Result<String, Error> {
     let mut reader = text;
     let dictionary = Standard::any_from_reader(alloc, &mut reader)?;
@@ -161,13 +161,13 @@ fn head_of(alloc: Global, text: &[u8]) -> Result<String, Error> {
 #[test]
 fn a_last_line_feed_changes_nothing(rt: HostRuntime) -> Result<(), Fail> {
     let with = b"hyphenation 1 standard\nlanguage de-1996\nminima 0 255\np a1b\n";
-    gives(head_of(rt.alloc(), with), "de-1996 0 255")?;
+    expect_text(head_of(rt.alloc(), with), "de-1996 0 255")?;
     let without = b"hyphenation 1 standard\nlanguage de-1996\nminima 0 255\np a1b";
-    gives(head_of(rt.alloc(), without), "de-1996 0 255")
+    expect_text(head_of(rt.alloc(), without), "de-1996 0 255")
 }
 
-/// How loading the first so many bytes of the least text ends.
-fn end_of_beginning(length: usize) -> &'static str {
+// The outcome of loading the first bytes of the shortest text.
+fn outcome_of_beginning(length: usize) -> &'static str {
     match length {
         0..=21 => "1 Header",
         22..=32 => "2 Language",
@@ -180,12 +180,12 @@ fn end_of_beginning(length: usize) -> &'static str {
 
 #[test]
 fn each_beginning_of_a_text_is_refused_where_it_ends(rt: HostRuntime) -> Result<(), Fail> {
-    for length in 0..=LEAST.len() {
-        let (beginning, _) = LEAST.split_at(length.min(LEAST.len()));
-        gives_in(
+    for length in 0..=SMALLEST.len() {
+        let (beginning, _) = SMALLEST.split_at(length.min(SMALLEST.len()));
+        expect_text_in(
             length,
-            text_ends::<Standard>(rt.alloc(), beginning),
-            end_of_beginning(length),
+            text_outcome::<Standard>(rt.alloc(), beginning),
+            outcome_of_beginning(length),
         )?;
     }
     Ok(())
@@ -194,9 +194,9 @@ fn each_beginning_of_a_text_is_refused_where_it_ends(rt: HostRuntime) -> Result<
 #[test]
 fn a_text_of_one_byte_is_refused_at_its_first_line(rt: HostRuntime) -> Result<(), Fail> {
     for byte in 0..=255u8 {
-        gives_in(
+        expect_text_in(
             byte,
-            text_ends::<Standard>(rt.alloc(), &[byte]),
+            text_outcome::<Standard>(rt.alloc(), &[byte]),
             if byte < 128 { "1 Header" } else { "1 NotUtf8" },
         )?;
     }

@@ -1,10 +1,10 @@
-//! Texts of version 2, in which values from 10 to 255 stand in braces, and what version 1 says to braces.
+//! Texts of version 2, in which values from 10 to 255 stand in braces, and texts of version 1 with braces.
 
-use crate::cases::{Case, each_ends};
+use crate::cases::{Case, expect_outcomes};
 use hyphenation_dictionary::dictionary::{Extended, Standard};
 use std::test::Fail;
 
-const FAULTY: [Case; 15] = [
+const REFUSED: [Case; 15] = [
     (b"p a{9}b", "4 Value"),
     (b"p a{010}b", "4 Value"),
     (b"p a{256}b", "4 Value"),
@@ -23,9 +23,9 @@ const FAULTY: [Case; 15] = [
 ];
 
 #[test]
-fn braces_that_write_no_value_are_told(rt: HostRuntime) -> Result<(), Fail> {
+fn braces_around_no_value_are_refused(rt: HostRuntime) -> Result<(), Fail> {
     let head = "hyphenation 2 standard\nlanguage en-us\nminima 1 1\n";
-    each_ends::<Standard>(rt.alloc(), head, &FAULTY)
+    expect_outcomes::<Standard>(rt.alloc(), head, &REFUSED)
 }
 
 const VERSIONS: [Case; 5] = [
@@ -53,12 +53,12 @@ const VERSIONS: [Case; 5] = [
 
 #[test]
 fn in_version_1_braces_are_letters(rt: HostRuntime) -> Result<(), Fail> {
-    each_ends::<Standard>(rt.alloc(), "", &VERSIONS)
+    expect_outcomes::<Standard>(rt.alloc(), "", &VERSIONS)
 }
 
 #[test]
 fn an_extended_text_has_a_key_once(rt: HostRuntime) -> Result<(), Fail> {
     let head = "hyphenation 2 extended\nlanguage en-us\nminima 1 1\n";
     let case: Case = (b"p a{11}b\n\np a5b\n", "6 RepeatedPattern");
-    each_ends::<Extended>(rt.alloc(), head, &[case])
+    expect_outcomes::<Extended>(rt.alloc(), head, &[case])
 }

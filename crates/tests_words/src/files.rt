@@ -3,111 +3,105 @@
 use hyphenation_breaks::language::Language;
 use hyphenation_dictionary::dictionary::{Extended, Standard};
 use hyphenation_load::{Error, Load};
+use std::fs;
 use std::test::Fail;
-use std::{env, fs, process};
-use test_dictionaries::{AMERICAN, DOUBLED, FIRKIN, ends};
-use test_questions::{Question, asked};
-use test_support::gives;
+use test_dictionaries::{AMERICAN, DOUBLED, FIRKIN, expect_outcome};
+use test_questions::{Question, ask};
+use test_support::expect_text;
+use test_support::files::new_path;
 
-/// A path of no file, in the folder for such files.
-fn path_of(rt: &HostRuntime, name: &str) -> Result<String, Fail> {
-    let folder = env::temp_dir(rt)?;
-    let id = process::id(rt.process());
-    let path = format!(in rt.alloc();
-        "{}/dictionary-test-{id}-{name}",
-        folder.as_path().display()
-    )?;
-    Ok(path)
-}
-
-/// The standard dictionary of a new file, which is taken away again.
-fn standard_of(
+// Loads a standard dictionary from a new file, which is then removed.
+fn load_standard(
     rt: &HostRuntime,
     path: &str,
-    asked: Language,
+    language: Language,
 ) -> Result<Result<Standard, Error>, Fail> {
     fs::write(rt, path, AMERICAN.as_bytes())?;
-    let answer = Standard::from_path(rt, rt.alloc(), asked, path);
+    let result = Standard::from_path(rt, rt.alloc(), language, path);
     fs::remove_file(rt, path)?;
-    Ok(answer)
+    Ok(result)
 }
 
 #[test]
 fn a_standard_dictionary_is_loaded_from_a_file(rt: HostRuntime) -> Result<(), Fail> {
-    let path = path_of(&rt, "standard")?;
-    let dictionary = standard_of(&rt, &path, Language::english_us())?;
-    gives(
-        asked(rt.alloc(), dictionary, Question::Places("firkin")),
+    let path = new_path(&rt, "standard")?;
+    let dictionary = load_standard(&rt, &path, Language::english_us())?;
+    expect_text(
+        ask(rt.alloc(), dictionary, Question::Places("firkin")),
         "3 ,",
     )
 }
 
 #[test]
 fn a_file_of_another_language_is_a_mismatch(rt: HostRuntime) -> Result<(), Fail> {
-    let path = path_of(&rt, "other")?;
-    let answer = standard_of(&rt, &path, Language::turkish())?;
-    ends(
+    let path = new_path(&rt, "other")?;
+    let result = load_standard(&rt, &path, Language::turkish())?;
+    expect_outcome(
         rt.alloc(),
-        answer,
+        result,
         "Language mismatch: attempted to load a dictionary for `tr`, but found\na dictionary for `en-us` instead.",
     )
 }
 
-/// Fails where a path of no file, or of none that can be read, is not answered so.
-fn answers(rt: &HostRuntime, path: &str, wanted: &str) -> Result<(), Fail> {
+// Fails unless loading a dictionary of each kind from this path has this outcome.
+fn expect_both_outcomes(rt: &HostRuntime, path: &str, wanted: &str) -> Result<(), Fail> {
     let standard = Standard::from_path(rt, rt.alloc(), Language::english_us(), path);
-    ends(rt.alloc(), standard, wanted)?;
+    expect_outcome(rt.alloc(), standard, wanted)?;
     let extended = Extended::from_path(rt, rt.alloc(), Language::hungarian(), path);
-    ends(rt.alloc(), extended, wanted)
+    expect_outcome(rt.alloc(), extended, wanted)
 }
 
 #[test]
-fn a_missing_file_is_a_fault_of_opening(rt: HostRuntime) -> Result<(), Fail> {
-    let path = path_of(&rt, "missing")?;
-    answers(&rt, &path, "No such file or directory (os error 2)")
+fn a_missing_file_is_an_io_error(rt: HostRuntime) -> Result<(), Fail> {
+    let path = new_path(&rt, "missing")?;
+    expect_both_outcomes(&rt, &path, "No such file or directory (os error 2)")
 }
 
 #[test]
 fn a_folder_is_no_dictionary(rt: HostRuntime) -> Result<(), Fail> {
-    answers(&rt, ".", "Is a directory (os error 21)")
+    expect_both_outcomes(&rt, ".", "Is a directory (os error 21)")
 }
 
-/// Fails where of two new files, whose names differ by a space at the end, each is not the one that is loaded; both are
-/// taken away again.
-fn each_is_loaded(rt: &HostRuntime, british: &str, american: &str) -> Result<(), Fail> {
+// Writes two files whose names differ by a space at the end, and removes them. Fails unless each path loads its own
+// file.
+fn expect_own_file_loaded(rt: &HostRuntime, british: &str, american: &str) -> Result<(), Fail> {
     fs::write(rt, british, FIRKIN.as_bytes())?;
     fs::write(rt, american, AMERICAN.as_bytes())?;
     let other = Standard::from_path(rt, rt.alloc(), Language::english_us(), british);
     let found = Standard::from_path(rt, rt.alloc(), Language::english_us(), american);
     fs::remove_file(rt, british)?;
     fs::remove_file(rt, american)?;
-    ends(
+    expect_outcome(
         rt.alloc(),
         other,
         "Language mismatch: attempted to load a dictionary for `en-us`, but found\na dictionary for `en-gb` instead.",
     )?;
-    ends(rt.alloc(), found, "loaded")
+    expect_outcome(rt.alloc(), found, "loaded")
 }
 
 #[test]
-fn a_space_at_the_end_of_a_path_belongs_to_it(rt: HostRuntime) -> Result<(), Fail> {
-    let without = path_of(&rt, "a")?;
-    let with = path_of(&rt, "a ")?;
-    each_is_loaded(&rt, &without, &with)
+fn a_space_at_the_end_of_a_path_is_part_of_it(rt: HostRuntime) -> Result<(), Fail> {
+    let without = new_path(&rt, "a")?;
+    let with = new_path(&rt, "a ")?;
+    expect_own_file_loaded(&rt, &without, &with)
 }
 
-/// The extended dictionary of a new file, which is taken away again.
-fn extended_of(rt: &HostRuntime, path: &str, text: &str) -> Result<Result<Extended, Error>, Fail> {
+// Loads an extended dictionary from a new file, which is then removed.
+fn load_extended(
+    rt: &HostRuntime,
+    path: &str,
+    text: &str,
+) -> Result<Result<Extended, Error>, Fail> {
     fs::write(rt, path, text.as_bytes())?;
-    let answer = Extended::from_path(rt, rt.alloc(), Language::hungarian(), path);
+    let result = Extended::from_path(rt, rt.alloc(), Language::hungarian(), path);
     fs::remove_file(rt, path)?;
-    Ok(answer)
+    Ok(result)
 }
 
 #[test]
 fn an_extended_dictionary_is_loaded_from_a_file(rt: HostRuntime) -> Result<(), Fail> {
-    let path = path_of(&rt, "extended")?;
-    let dictionary = extended_of(&rt, &path, DOUBLED)?;
+    let path = new_path(&rt, "extended")?;
+    let dictionary = load_extended(&rt, &path, DOUBLED)?;
     let question = Question::Marked("asszonnyal");
-    gives(asked(rt.alloc(), dictionary, question), "asz=szony=nyal ")
+    expect_text(ask(rt.alloc(), dictionary, question), "asz=szony=nyal ")
 }

@@ -1,5 +1,5 @@
-//! What no clause says of words by dictionaries that are read from texts: exceptions, capitals, soft hyphens, texts of both
-//! versions, and dictionaries in files, by tests.
+//! Tests of words by dictionaries that are read from texts: exceptions, capitals, soft hyphens, texts of both versions,
+//! and dictionaries in files. No clause says what they show.
 #![tactic(auto)]
 
 #[cfg(test)]

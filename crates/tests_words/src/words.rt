@@ -1,13 +1,14 @@
-//! How words are broken by dictionaries that are read from texts.
+//! The breaks of words by dictionaries that are read from texts.
 
 use hyphenation_dictionary::dictionary::Standard;
 use hyphenation_hyphenator::hyphenator::Hyphenator;
-use hyphenation_segments::iter::Iter;
+use hyphenation_segments::Word;
+use hyphenation_segments::iter::{Breaks, Hyphenating, Iter, Segments, Texts};
 use std::alloc::{AllocError, Global};
 use std::test::Fail;
 use test_dictionaries::{FIRKIN, dictionary};
-use test_questions::{Question, asked};
-use test_support::{gives, holds};
+use test_questions::{Question, ask};
+use test_support::{expect, expect_text};
 
 const WORDS: &str =
     "hyphenation 1 standard\nlanguage en-us\nminima 2 3\ne anfractuous 2 6 8\ne hyphenation 2 6 7\ne anisotropic 2 5 9\ne capital 3 4\ne mucilaginous 2 8\ne micro 2\ne idiom 2\ne bevies\ne hypha 2\n";
@@ -19,17 +20,17 @@ const SHORT: &str = "hyphenation 1 standard\nlanguage x\nminima 1 1\ne ißab 3\n
 
 const PATTERNS: &str = "hyphenation 1 standard\nlanguage x\nminima 1 1\np i1l\np ß1a\np ⱥa1b\n";
 
-/// A pattern, and two letters before and after each break.
+// A pattern, with minima that leave two letters before and after each break.
 const TWO_LETTERS: &str = "hyphenation 1 standard\nlanguage en-us\nminima 2 2\np i1l\n";
 
-/// The breaks of words by the dictionary of a text.
+// The breaks of words by the dictionary of a text.
 fn places_by(alloc: Global, text: &str, words: &str) -> Result<String, Fail> {
-    asked(alloc, dictionary(alloc, text), Question::Places(words))
+    ask(alloc, dictionary(alloc, text), Question::Places(words))
 }
 
 #[test]
 fn words_break_at_patterns(rt: HostRuntime) -> Result<(), Fail> {
-    gives(
+    expect_text(
         places_by(rt.alloc(), FIRKIN, "firkin firkins FIRKINS "),
         "3 ,3 4 ,3 4 ,,",
     )
@@ -38,7 +39,7 @@ fn words_break_at_patterns(rt: HostRuntime) -> Result<(), Fail> {
 #[test]
 fn words_break_at_exceptions_alone(rt: HostRuntime) -> Result<(), Fail> {
     let words = "anfractuous hyphenation anisotropic bevies hypha";
-    gives(
+    expect_text(
         places_by(rt.alloc(), WORDS, words),
         "2 6 8 ,2 6 7 ,2 5 ,,2 ,",
     )
@@ -46,11 +47,11 @@ fn words_break_at_exceptions_alone(rt: HostRuntime) -> Result<(), Fail> {
 
 #[test]
 fn capitals_break_where_their_small_letters_do(rt: HostRuntime) -> Result<(), Fail> {
-    gives(
+    expect_text(
         places_by(rt.alloc(), WORDS, "CAPITAL MİCRO İDİOM MUCİLAGİNOUS"),
         "3 4 ,3 ,3 ,2 10 ,",
     )?;
-    gives(
+    expect_text(
         places_by(rt.alloc(), NAMES, "İbrahim İLGİNÇ \u{212a}ilim"),
         "3 5 ,3 ,4 ,",
     )
@@ -58,89 +59,116 @@ fn capitals_break_where_their_small_letters_do(rt: HostRuntime) -> Result<(), Fa
 
 #[test]
 fn places_after_letters_of_another_length_are_carried_back(rt: HostRuntime) -> Result<(), Fail> {
-    gives(places_by(rt.alloc(), SHORT, "İẞab ȺAB"), "5 ,3 ,")?;
-    gives(
+    expect_text(places_by(rt.alloc(), SHORT, "İẞab ȺAB"), "5 ,3 ,")?;
+    expect_text(
         places_by(rt.alloc(), PATTERNS, "\u{212a}ilim İẞab ȺAB"),
         "4 ,5 ,3 ,",
     )?;
-    gives(places_by(rt.alloc(), TWO_LETTERS, "\u{212a}ilim"), "4 ,")
+    expect_text(places_by(rt.alloc(), TWO_LETTERS, "\u{212a}ilim"), "4 ,")
 }
 
 #[test]
 fn soft_hyphens_alone_break_their_word(rt: HostRuntime) -> Result<(), Fail> {
     let words = "\u{ad}ab fir\u{ad}kin ri\u{ad}bo\u{ad}nu\u{ad}cle\u{ad}ase";
-    gives(places_by(rt.alloc(), FIRKIN, words), "0 ,3 ,2 6 10 15 ,")?;
-    gives(
+    expect_text(places_by(rt.alloc(), FIRKIN, words), "0 ,3 ,2 6 10 15 ,")?;
+    expect_text(
         marked_words(rt.alloc(), words),
         "=\u{ad}ab fir=\u{ad}kin ri=\u{ad}bo=\u{ad}nu=\u{ad}cle=\u{ad}ase ",
     )
 }
 
-/// Words with marks at their breaks, by the dictionary of exceptions.
+// Words with marks at their breaks, by the dictionary of exceptions.
 fn marked_words(alloc: Global, words: &str) -> Result<String, Fail> {
-    asked(alloc, dictionary(alloc, WORDS), Question::Marked(words))
+    ask(alloc, dictionary(alloc, WORDS), Question::Marked(words))
 }
 
 #[test]
 fn marks_stand_at_the_breaks(rt: HostRuntime) -> Result<(), Fail> {
     let words = "anfractuous hyphenation CAPITAL MUCİLAGİNOUS bevies \u{ad}ab  Hypha";
     let broken = "an=frac=tu=ous hy=phen=a=tion CAP=I=TAL MU=CİLAGİ=NOUS bevies =\u{ad}ab  Hy=pha ";
-    gives(marked_words(rt.alloc(), words), broken)
+    expect_text(marked_words(rt.alloc(), words), broken)
 }
 
-/// The items of a word, joined; at first the mark is `-`.
+fn push_items<I: Texts>(output: &mut String, items: Hyphenating<'_, I>) -> Result<(), AllocError> {
+    for item in items {
+        output.push_str(item?.as_str())?;
+    }
+    Ok(())
+}
+
+// The joined items of a word, whose first mark is `-`.
 fn joined_items(alloc: Global, dictionary: &Standard, word: &str) -> Result<String, AllocError> {
     let mut joined = String::new(alloc);
-    for item in dictionary.hyphenate(alloc, word)? {
-        joined.push_str(item?.as_str())?;
-    }
+    push_items(&mut joined, dictionary.hyphenate(alloc, word)?.into_iter())?;
     Ok(joined)
 }
 
 #[test]
 fn the_first_mark_is_a_hyphen(rt: HostRuntime) -> Result<(), Fail> {
     let dictionary = dictionary(rt.alloc(), WORDS)?;
-    gives(
+    expect_text(
         joined_items(rt.alloc(), &dictionary, "Hyphenation"),
         "Hy-phen-a-tion",
     )
 }
 
-/// Whether the segments of a word join to it, and are one more than its breaks.
-fn is_joined(alloc: Global, dictionary: &Standard, word: &str) -> Result<bool, AllocError> {
-    let found = dictionary.hyphenate(alloc, word)?;
-    let mut joined = String::new(alloc);
-    for segment in found.iter().segments() {
-        joined.push_str(segment)?;
-    }
-    let number = found.breaks.len().saturating_add(1);
-    Ok(joined.as_str() == word && found.iter().len() == number)
-}
-
-#[test]
-fn the_parts_of_a_long_word_join_to_it(rt: HostRuntime) -> Result<(), Fail> {
-    let dictionary = dictionary(rt.alloc(), WORDS)?;
-    for word in "hyphenation anfractuous unknown İDİOM a\u{ad}b".split(' ') {
-        holds(is_joined(rt.alloc(), &dictionary, word)?, word)?;
+fn push_segments<B: Breaks<Item = usize>>(
+    output: &mut String,
+    segments: Segments<'_, B>,
+) -> Result<(), AllocError> {
+    for segment in segments {
+        output.push_str(segment)?;
     }
     Ok(())
 }
 
-/// The hints of a word's segments, before the first one and after each.
-fn hints(alloc: Global, dictionary: &Standard, word: &str) -> Result<String, AllocError> {
+fn joined_segments(alloc: Global, word: &Word<'_, usize>) -> Result<String, AllocError> {
+    let mut joined = String::new(alloc);
+    push_segments(&mut joined, word.iter().segments())?;
+    Ok(joined)
+}
+
+// Whether the segments of a word join to it, and are one more than its breaks.
+fn segments_join(alloc: Global, dictionary: &Standard, word: &str) -> Result<bool, AllocError> {
+    let found = dictionary.hyphenate(alloc, word)?;
+    let number = found.breaks.len().saturating_add(1);
+    Ok(joined_segments(alloc, &found)?.as_str() == word && found.iter().len() == number)
+}
+
+#[test]
+fn the_segments_of_a_word_join_to_it(rt: HostRuntime) -> Result<(), Fail> {
+    let dictionary = dictionary(rt.alloc(), WORDS)?;
+    for word in "hyphenation anfractuous unknown İDİOM a\u{ad}b".split(' ') {
+        expect(segments_join(rt.alloc(), &dictionary, word)?, word)?;
+    }
+    Ok(())
+}
+
+// Writes the size hints of segments, before each of this many calls.
+fn push_size_hints<B: Breaks<Item = usize>>(
+    hints: &mut String,
+    alloc: Global,
+    segments: &mut Segments<'_, B>,
+    calls: usize,
+) -> Result<(), AllocError> {
+    for _ in 0..calls {
+        push_size_hint(hints, alloc, segments.size_hint())?;
+        let _segment = segments.next();
+    }
+    Ok(())
+}
+
+// The size hints of a word's segments, before the first one and after each.
+fn size_hints(alloc: Global, dictionary: &Standard, word: &str) -> Result<String, AllocError> {
     let found = dictionary.hyphenate(alloc, word)?;
     let mut segments = found.iter().segments();
     let mut hints = String::new(alloc);
-    for _ in 0..=found.breaks.len() {
-        push_hint(&mut hints, alloc, segments.size_hint())?;
-        let _segment = segments.next();
-    }
-    push_hint(&mut hints, alloc, segments.size_hint())?;
+    let calls = found.breaks.len().saturating_add(2);
+    push_size_hints(&mut hints, alloc, &mut segments, calls)?;
     Ok(hints)
 }
 
-/// Writes a hint.
-fn push_hint(
+fn push_size_hint(
     hints: &mut String,
     alloc: Global,
     hint: (usize, Option<usize>),
@@ -150,14 +178,14 @@ fn push_hint(
 }
 
 #[test]
-fn hints_count_the_segments_to_come(rt: HostRuntime) -> Result<(), Fail> {
+fn size_hints_count_the_segments_to_come(rt: HostRuntime) -> Result<(), Fail> {
     let dictionary = dictionary(rt.alloc(), WORDS)?;
-    gives(
-        hints(rt.alloc(), &dictionary, "bevies"),
+    expect_text(
+        size_hints(rt.alloc(), &dictionary, "bevies"),
         "(1, Some(1)) (0, Some(0)) ",
     )?;
-    gives(
-        hints(rt.alloc(), &dictionary, "hypha"),
+    expect_text(
+        size_hints(rt.alloc(), &dictionary, "hypha"),
         "(2, Some(2)) (1, Some(1)) (0, Some(0)) ",
     )
 }

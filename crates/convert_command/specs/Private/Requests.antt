@@ -1,11 +1,11 @@
--- What a request of `hyphenate-convert` asks for: no public contract cites it.
+-- How a request in code stands for parsed arguments.
 use Rattle.std.specs.Prelude.{map}
-use Rattle.convert_command.specs.Words.{Asked}
+use Rattle.convert_command.specs.Arguments.{ParsedArgs}
 use Rattle.convert_command.specs.declared.request.Request.{Request}
 
--- What a request asks for.
-abbrev pub meaning : Request → Asked
-meaning request = record {
+-- The parsed arguments of a request.
+abbrev pub parsed_request : Request → ParsedArgs
+parsed_request request = record {
   kind = request.kind;
   code = request.language;
   left = request.left;

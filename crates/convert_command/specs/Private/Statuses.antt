@@ -1,8 +1,8 @@
--- The statuses that `hyphenate-convert` ends with, by what went wrong: no public contract cites them.
-use Rattle.std.specs.Prelude.{◌≡◌, ◌≢◌, ◌⊎◌, ℕ, Option, None}
+-- The statuses that `hyphenate-convert` ends with, by what failed.
+use Rattle.std.specs.Prelude.{◌≡◌, ◌≢◌, ◌⊎◌, ℕ, Option, None, ⊤}
 use Rattle.std.specs.IoError.{error_kind}
 use Rattle.std.specs.declared.io.ErrorKind.TheVariants.{OutOfMemory}
-use Rattle.pattern_files.specs.declared.fault.Refusal.TheVariants.{Memory as NoMemory, Fault}
+use Rattle.pattern_results.specs.declared.errors.ConvertError.TheVariants.{Memory as NoMemory, Fault}
 use Rattle.convert_command.specs.declared.Failure.{Failure}
 use Rattle.convert_command.specs.declared.Failure.TheVariants.{Reading, Refused, Minima, Writing, Memory}
 
@@ -16,7 +16,7 @@ IsStatusOf Minima status = status ≡ 2
 IsStatusOf Writing status = status ≡ 5
 IsStatusOf Memory status = status ≡ 6
 
--- Minima are missed only where one of the two was not given.
+-- Minima are missed only if one of the two was not given.
 abbrev pub MissesMinima : Option ℕ → Option ℕ → Failure → Type 0
 MissesMinima left right Minima = (left ≡ None) ⊎ (right ≡ None)
-MissesMinima left right _ = Unit {0}
+MissesMinima left right _ = ⊤

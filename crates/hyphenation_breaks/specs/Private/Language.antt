@@ -1,9 +1,9 @@
--- The code of a language. Source: this project's own rule: what private functions and proofs need of it beside, and no public contract cites.
+-- How a code is padded to 32 bytes.
 use Rattle.std.specs.Prelude.{◌≡◌, ℕ, ◌-◌, ◌≤◌, List, ◌++◌, length, take, drop, replicate}
 use Rattle.std.proofs.Common.{sym, ap, ◌∙◌, length-take-le, take-append-drop}
 use Rattle.hyphenation_breaks.specs.Language.{IsCode}
 
--- A code and the zeros after it are the bytes that hold it.
+-- The padded bytes are the code and the zeros after it.
 pub padded-take : (n : ℕ) (bytes : List ℕ) → n ≤ length bytes → drop n bytes ≡ replicate (32 - n) 0
     → (take n bytes ++ replicate (32 - length (take n bytes)) 0 ≡ bytes) × (length (take n bytes) ≡ n)
 padded-take n bytes le zeros =
@@ -13,7 +13,7 @@ padded-take n bytes le zeros =
       len,
     )
 
--- How a code is held: the code, and zeros up to 32 bytes.
+-- The bytes hold a code of this length, and zeros up to 32 bytes.
 pub record IsPadded (len : ℕ) (bytes : List ℕ) : Type 0 where
   pub within : len ≤ length bytes
   pub whole : length bytes ≡ 32

@@ -1,30 +1,37 @@
-//! The bounds within which a word may be broken.
+//! The first and the last place at which the minima allow a break.
 
 ghost use Rattle.std.specs.Prelude.{◌≡◌, ◌≤◌, ◌<◌, ◌-◌, IfSome, IfNone, length, chars};
 ghost use Rattle.std.specs.Str.{IsAscii, IsCharBoundary};
 ghost use Rattle.hyphenation_hyphenator.specs.Boundaries.{boundaries};
 ghost use Rattle.hyphenation_hyphenator.specs.Places.{place_of_character};
 
-/// The first and the last place at which minima let a word be broken, in bytes of the word: for the minima `(l, r)`,
-/// in characters, and a word of `c` characters the places of the characters number `l` and `c - max(r, 1)`, counted
-/// from 0. It is `None` where the word has fewer than `l + r` characters, or no more than `l`.
+/// Returns the first and the last place at which minima allow a break of a word, in bytes.
+///
+/// The minima `(l, r)` count characters. For a word of `c` characters the boundaries are the places of the characters
+/// number `l` and `c - max(r, 1)`, counted from 0. The result is `None` where the word has fewer than `l + r`
+/// characters, or no more than `l`.
+///
+/// ```text
+/// boundaries_of((2, 3), "hyphenation")      // Some((2, 8))
+/// boundaries_of((2, 3), "hyph")             // None
+/// ```
 pub fn boundaries_of(minima: (usize, usize), word: &str) -> Option<(usize, usize)>
     ensures value { result ≡ boundaries minima.0 minima.1 word.now }
     ensures ordered { IfSome result (λ bounds. bounds.0 ≤ bounds.1) }
-    ensures left { IfSome result (λ bounds. IsCharBoundary word.now bounds.0) }
-    ensures right { IfSome result (λ bounds. IsCharBoundary word.now bounds.1) }
+    ensures first_at_character { IfSome result (λ bounds. IsCharBoundary word.now bounds.0) }
+    ensures last_at_character { IfSome result (λ bounds. IsCharBoundary word.now bounds.1) }
 {
     // Only the characters outside of the bounds are read: those before the first, and those after the last.
     let (left, right) = minima;
-    let last = place_from_end(word, right.max(1))?;
-    let first = place_of(word, left);
+    let last = place_of_character_from_end(word, right.max(1))?;
+    let first = place_of_character(word, left);
     if last < first {
         return None;
     }
     Some((first, last))
 }
 
-/// The same for a word of ASCII, whose characters are its bytes.
+// Returns the boundaries of a word of ASCII, whose characters are its bytes.
 pub(super) fn boundaries_of_ascii(minima: (usize, usize), word: &str) -> Option<(usize, usize)>
     requires { IsAscii word.now }
     ensures { result ≡ boundaries minima.0 minima.1 word.now }
@@ -37,8 +44,8 @@ pub(super) fn boundaries_of_ascii(minima: (usize, usize), word: &str) -> Option<
     Some((left, bytes - right.max(1)))
 }
 
-/// The place of a character by its number from 0, and the text's end where there are not so many.
-fn place_of(text: &str, number: usize) -> usize
+// Returns the place of a character by its number from 0, or the text's end where there are not so many.
+fn place_of_character(text: &str, number: usize) -> usize
     ensures value { result ≡ place_of_character text.now number }
     ensures boundary { IsCharBoundary text.now result }
 {
@@ -48,8 +55,8 @@ fn place_of(text: &str, number: usize) -> usize
     }
 }
 
-/// The place from which on the text has so many characters; `None` where it has fewer.
-fn place_from_end(text: &str, number: usize) -> Option<usize>
+// Returns the place from which on the text has so many characters, or `None` where it has fewer.
+fn place_of_character_from_end(text: &str, number: usize) -> Option<usize>
     ensures enough { IfSome result (λ place. number ≤ length (chars text.now)) }
     ensures value { IfSome result (λ place. place ≡ place_of_character text.now (length (chars text.now) - number)) }
     ensures boundary { IfSome result (λ place. IsCharBoundary text.now place) }

@@ -1,4 +1,4 @@
-//! How an extended dictionary hyphenates.
+//! Hyphenation by an extended dictionary.
 
 ghost use Rattle.std.specs.Prelude.{◌≡◌, ◌≤◌, ℕ, List, IsTrue, Option, Some, None, IfSome, IfOk, OnOk, OnErr, map};
 ghost use Rattle.std.specs.Str.{IsCharBoundary, IsUtf8};
@@ -8,7 +8,8 @@ ghost use Rattle.std.specs.String.{string_bytes};
 ghost use Rattle.hyphenation_breaks.specs.Invariant.{are_listed};
 ghost use Rattle.hyphenation_segments.specs.Fits.{Fits};
 ghost use Rattle.hyphenation_hyphenator.specs.Fitting.{fitted_breaks_of};
-ghost use Rattle.hyphenation_hyphenator.specs.Opportunities.{own_break, rules_of, boundaries_by, Ascending, ListsAnew};
+ghost use Rattle.hyphenation_hyphenator.specs.Opportunities.{own_break, rules_of, extended_rules, boundaries_by};
+ghost use Rattle.hyphenation_hyphenator.specs.Opportunities.{HasBreaksIfAny, Ascending, ListsOnly};
 ghost use Rattle.hyphenation_score.specs.Scoring.{own_change};
 
 use super::word_paths::{breaks, exception, exception_within, opportunities, opportunities_within};
@@ -20,22 +21,22 @@ use std::alloc::{AllocError, Global};
 
 impl<'h> Hyphenator<'h> for Extended {
     ghost use Rattle.hyphenation_hyphenator.specs.Fitting.{fitted_breaks_of};
-    ghost use Rattle.hyphenation_hyphenator.specs.Opportunities.{own_break, rules_of};
+    ghost use Rattle.hyphenation_hyphenator.specs.Opportunities.{extended_rules};
     ghost use Rattle.hyphenation_score.specs.Scoring.{own_change};
 
     type Opportunity = (usize, Option<&'h Subregion>);
 
     type Exact = (usize, Option<Subregion>);
 
-    ghost rules = { rules_of own_change own_break };
+    ghost rules = { extended_rules };
 
-    ghost breaks_of = { λ dictionary word. fitted_breaks_of (rules_of own_change own_break dictionary) word };
+    ghost breaks_of = { λ dictionary word. fitted_breaks_of (extended_rules dictionary) word };
 
     fn breaks_fit(&self)
         ensures fit { (word : List ℕ) → IsUtf8 word
-            → Fits word (fitted_breaks_of (rules_of own_change own_break self.now) word) }
+            → Fits word (fitted_breaks_of (extended_rules self.now) word) }
         ensures ascend { (word : List ℕ) → IsUtf8 word
-            → Ascending word (fitted_breaks_of (rules_of own_change own_break self.now) word) }
+            → Ascending word (fitted_breaks_of (extended_rules self.now) word) }
     {
         self.invariant();
         value_is_borne::<Option<Subregion>>();
@@ -43,16 +44,16 @@ impl<'h> Hyphenator<'h> for Extended {
     }
 
     fn unbreakable_chars(&self) -> (usize, usize)
-        ensures { result ≡ (rules_of own_change own_break self.now).minima }
+        ensures { result ≡ (extended_rules self.now).minima }
     {
         self.minima()
     }
 
     fn boundaries(&self, word: &str) -> Option<(usize, usize)>
-        ensures value { result ≡ boundaries_by (rules_of own_change own_break self.now) word.now }
+        ensures value { result ≡ boundaries_by (extended_rules self.now) word.now }
         ensures ordered { IfSome result (λ bounds. bounds.0 ≤ bounds.1) }
-        ensures left { IfSome result (λ bounds. IsCharBoundary word.now bounds.0) }
-        ensures right { IfSome result (λ bounds. IsCharBoundary word.now bounds.1) }
+        ensures first_at_character { IfSome result (λ bounds. IsCharBoundary word.now bounds.0) }
+        ensures last_at_character { IfSome result (λ bounds. IsCharBoundary word.now bounds.1) }
     {
         boundaries_of(self.minima(), word)
     }
@@ -97,12 +98,11 @@ impl<'h> Hyphenator<'h> for Extended {
         ops: Vec<(usize, Option<Subregion>)>,
     ) -> Result<Option<Vec<(usize, Option<Subregion>)>>, AllocError>
         requires { IsTrue (are_listed own_break (string_bytes lowercase_word) ops.items) }
-        ensures lists { OnOk result (ListsAnew (rules_of own_change own_break self.old)
-            (rules_of own_change own_break self.new) (string_bytes lowercase_word) (Some (map own_break ops.items))) }
-        ensures old { IfOk result (λ old.
-            option_map (λ v. map own_break v.items) old
-            ≡ (rules_of own_change own_break self.old).listed (string_bytes lowercase_word)) }
-        ensures err { OnErr result (self.new ≡ self.old) }
+        ensures lists { OnOk result (ListsOnly (extended_rules self.old)
+            (extended_rules self.new) (string_bytes lowercase_word) (Some (map own_break ops.items))) }
+        ensures returns_old { HasBreaksIfAny own_break result
+            ((extended_rules self.old).listed (string_bytes lowercase_word)) }
+        ensures unchanged_on_error { OnErr result (self.new ≡ self.old) }
         ensures contents { OnOk result (self.new ≡ record self.old
             { exceptions = finite.insert self.old.exceptions (string_bytes lowercase_word) ops.items }) }
     {
@@ -110,11 +110,11 @@ impl<'h> Hyphenator<'h> for Extended {
     }
 
     fn remove_exception(&mut self, word: &str) -> Option<Vec<(usize, Option<Subregion>)>>
-        ensures lists { ListsAnew (rules_of own_change own_break self.old)
-            (rules_of own_change own_break self.new) word.now
+        ensures unlists { ListsOnly (extended_rules self.old)
+            (extended_rules self.new) word.now
             None }
-        ensures old { option_map (λ v. map own_break v.items) result
-            ≡ (rules_of own_change own_break self.old).listed word.now }
+        ensures returns_old { option_map (λ v. map own_break v.items) result
+            ≡ (extended_rules self.old).listed word.now }
         ensures contents { self.new ≡ record self.old { exceptions = finite.remove self.old.exceptions word.now } }
     {
         self.remove_exception(word)

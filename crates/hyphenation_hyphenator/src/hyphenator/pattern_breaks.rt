@@ -1,14 +1,19 @@
-//! Where patterns allow a break: at the places of odd values. In an extended dictionary the entries that win the places
-//! are found, since they may carry changes; in a standard one the values alone.
+//! Finding the breaks that patterns allow, at the places of odd values.
+//!
+//! A standard dictionary needs the values alone. An extended one needs the winners of the places, whose entries may
+//! carry changes.
 
-ghost use Rattle.std.specs.Prelude.{◌≡◌, ◌≢◌, ◌%◌, ◌+◌, ◌-◌, ◌<◌, ◌≤◌, ◌&&◌, ℕ, IfOk, length, map, filter, slice_index, option_copied, Option, None};
+ghost use Rattle.std.specs.Prelude.{◌≡◌, ◌≢◌, ◌%◌, ◌+◌, ◌-◌, ◌<◌, ◌≤◌, ◌&&◌, ℕ, length, map, filter, slice_index};
+ghost use Rattle.std.specs.Prelude.{IfOk, option_copied, Option, None};
 ghost use Rattle.std.specs.List.{range_with_len, slice_index_or};
 ghost use Rattle.std.specs.Option.{option_map};
 ghost use Rattle.hyphenation_breaks.specs.Break.{plain_break};
 ghost use Rattle.hyphenation_trie.specs.Trie.{entries_of_key, EachBeginsKey};
 ghost use Rattle.hyphenation_score.specs.Scoring.{own_change};
-ghost use Rattle.hyphenation_hyphenator.specs.Opportunities.{is_odd, no_change, within, breaks_within, breaks_at_odd_values};
-ghost use Rattle.hyphenation_hyphenator.specs.Private.Opportunities.{lent_break, won_at, won_within};
+ghost use Rattle.hyphenation_hyphenator.specs.Opportunities.{is_odd, no_change, within, breaks_within};
+ghost use Rattle.hyphenation_hyphenator.specs.Opportunities.{breaks_at_odd_values, HasBreaks};
+ghost use Rattle.hyphenation_hyphenator.specs.Private.Opportunities.{borrowed_break, break_at_winner};
+ghost use Rattle.hyphenation_hyphenator.specs.Private.Opportunities.{breaks_at_winners, breaks_by_keys, odd_places};
 
 use hyphenation_breaks::entry::Entry;
 use hyphenation_breaks::extended::Subregion;
@@ -17,20 +22,20 @@ use hyphenation_score::{LookUps, compete_all, raise_all};
 use hyphenation_trie::Automaton;
 use std::alloc::{AllocError, Global};
 
-/// Whether a place is within bounds, both included.
+// Whether a place is within bounds, both included.
 pub(super) fn is_within(bounds: (usize, usize), place: usize) -> bool
     ensures { result ≡ within bounds place }
 {
     bounds.0 <= place && place <= bounds.1
 }
 
-/// The break at a place that is won, if its value is odd and the place within bounds.
-fn won_at<'h>(
+// Returns the break at a place by its winner, if the winner's value is odd and the place within bounds.
+fn break_at_winner<'h>(
     place: usize,
     winner: Option<&'h Entry<Option<Subregion>>>,
     bounds: (usize, usize),
 ) -> Option<(usize, Option<&'h Subregion>)>
-    ensures { option_map lent_break result ≡ won_at own_change place (option_copied winner.entry) bounds }
+    ensures { option_map borrowed_break result ≡ break_at_winner own_change place (option_copied winner.entry) bounds }
 {
     let entry = winner?;
     if entry.value % 2 == 1 && is_within(bounds, place) {
@@ -40,48 +45,46 @@ fn won_at<'h>(
     }
 }
 
-/// The breaks within bounds, where the entries are those that win the places from place 1 on.
-fn won_within<'h>(
+// Returns the breaks within bounds by the winners of the places from place 1 on.
+fn breaks_at_winners<'h>(
     alloc: Global,
     winners: &[Option<&'h Entry<Option<Subregion>>>],
     bounds: (usize, usize),
 ) -> Result<Vec<(usize, Option<&'h Subregion>)>, AllocError>
-    ensures { IfOk result (λ v.
-        map lent_break v.items ≡ won_within own_change (map option_copied winners.now) bounds) }
+    ensures { HasBreaks borrowed_break result (breaks_at_winners own_change (map option_copied winners.now) bounds) }
 {
-    // Room for a few breaks is taken at once.
+    // Most words have a few breaks, which take memory once.
     let mut breaks = Vec::with_capacity(alloc, winners.len().min(8))?;
     for (index, winner) in winners.iter().enumerate() {
-        if let Some(b) = won_at(index + 1, *winner, bounds) {
+        if let Some(b) = break_at_winner(index + 1, *winner, bounds) {
             breaks.push(b)?;
         }
     }
     Ok(breaks)
 }
 
-/// The breaks within bounds that patterns allow, found in a list of no entries.
+// Finds the breaks within bounds that patterns allow. The buffer has a winner for each place, all `None` at first.
 #[inline(always)]
-fn won_from<'h>(
+fn winning_breaks_with_buffer<'h>(
     alloc: Global,
     patterns: &'h Automaton<Entry<Option<Subregion>>>,
     word: &str,
-    bests: &mut [Option<&'h Entry<Option<Subregion>>>],
+    winners: &mut [Option<&'h Entry<Option<Subregion>>>],
     bounds: (usize, usize),
 ) -> Result<Vec<(usize, Option<&'h Subregion>)>, AllocError>
-    requires begins { EachBeginsKey patterns.now }
-    requires places { length bests.old ≡ length word.now - 1 }
-    requires none { (i : ℕ) → i < length bests.old → slice_index_or bests.old i None ≡ None }
-    ensures { IfOk result (λ v.
-        map lent_break v.items
-        ≡ breaks_within (breaks_at_odd_values own_change (entries_of_key patterns.now) word.now) bounds) }
+    requires each_begins_key { EachBeginsKey patterns.now }
+    requires one_for_each_place { length winners.old ≡ length word.now - 1 }
+    requires none_at_first { (i : ℕ) → i < length winners.old → slice_index_or winners.old i None ≡ None }
+    ensures { HasBreaks borrowed_break result
+        (breaks_by_keys own_change (entries_of_key patterns.now) word.now bounds) }
 {
     winner_has_value::<Option<Subregion>>();
     let mut count = LookUps::new();
-    compete_all(patterns, word.as_bytes(), bests, &mut count);
-    won_within(alloc, bests, bounds)
+    compete_all(patterns, word.as_bytes(), winners, &mut count);
+    breaks_at_winners(alloc, winners, bounds)
 }
 
-/// The breaks within bounds that the patterns of an extended dictionary allow, with the changes of the entries that win.
+// Finds the breaks within bounds that the patterns of an extended dictionary allow, with the changes of the winners.
 #[inline(always)]
 pub(super) fn winning_breaks<'h>(
     alloc: Global,
@@ -90,29 +93,27 @@ pub(super) fn winning_breaks<'h>(
     bounds: (usize, usize),
 ) -> Result<Vec<(usize, Option<&'h Subregion>)>, AllocError>
     requires { EachBeginsKey patterns.now }
-    ensures { IfOk result (λ v.
-        map lent_break v.items
-        ≡ breaks_within (breaks_at_odd_values own_change (entries_of_key patterns.now) word.now) bounds) }
+    ensures { HasBreaks borrowed_break result
+        (breaks_by_keys own_change (entries_of_key patterns.now) word.now bounds) }
 {
     let places = word.len().saturating_sub(1);
     if places <= 32 {
-        // The winners of most words take no memory.
-        let mut bests: [Option<&'h Entry<Option<Subregion>>>; 32] = [None; 32];
-        return won_from(alloc, patterns, word, &mut bests[..places], bounds);
+        // The winners of most words stand on the stack.
+        let mut winners: [Option<&'h Entry<Option<Subregion>>>; 32] = [None; 32];
+        return winning_breaks_with_buffer(alloc, patterns, word, &mut winners[..places], bounds);
     }
-    let mut bests: Vec<Option<&'h Entry<Option<Subregion>>>> = vec![in alloc; None; places]?;
-    won_from(alloc, patterns, word, &mut bests, bounds)
+    let mut winners: Vec<Option<&'h Entry<Option<Subregion>>>> = vec![in alloc; None; places]?;
+    winning_breaks_with_buffer(alloc, patterns, word, &mut winners, bounds)
 }
 
-/// The first place from one on, and no greater than an end, that has an odd value; the place after the end where none
-/// has.
+// Returns the first place from `first` to `end` that has an odd value, or a place after `end` where none has.
 #[inline(always)]
-fn first_odd(values: &[u8], first: usize, end: usize) -> usize
-    requires first { 1 ≤ first }
-    requires end { end ≤ length values.now }
-    ensures low { first ≤ result }
-    ensures high { first ≤ end + 1 → result ≤ end + 1 }
-    ensures even { (p : ℕ) → first ≤ p → p < result → slice_index values.now (p - 1) % 2 ≢ 1 }
+fn first_odd_place(values: &[u8], first: usize, end: usize) -> usize
+    requires first_above_zero { 1 ≤ first }
+    requires end_within { end ≤ length values.now }
+    ensures from_first { first ≤ result }
+    ensures to_after_end { first ≤ end + 1 → result ≤ end + 1 }
+    ensures even_before { (p : ℕ) → first ≤ p → p < result → slice_index values.now (p - 1) % 2 ≢ 1 }
 {
     for place in first..end + 1 {
         if values[place - 1] % 2 == 1 {
@@ -122,25 +123,23 @@ fn first_odd(values: &[u8], first: usize, end: usize) -> usize
     first.max(end + 1)
 }
 
-/// The places within bounds that have an odd value, where the values begin with that of place 1.
+// Returns the places within bounds that have an odd value. The values begin with that of place 1.
 #[inline(always)]
 fn odd_places(
     alloc: Global,
     values: &[u8],
     bounds: (usize, usize),
 ) -> Result<Vec<usize>, AllocError>
-    ensures { IfOk result (λ v.
-        v.items ≡ filter (λ place. is_odd (slice_index values.now (place - 1)) && within bounds place)
-        (range_with_len 1 (length values.now))) }
+    ensures { IfOk result (λ v. v.items ≡ odd_places values.now bounds) }
 {
-    // No place before the first bound or after the second is looked at.
+    // Places outside of the bounds are not read.
     let first = bounds.0.max(1);
     let end = values.len().min(bounds.1);
-    let least = first_odd(values, first, end);
+    let least = first_odd_place(values, first, end);
     if end < least {
         return Ok(Vec::new(alloc));
     }
-    // Room for a few places is taken at once.
+    // Most words have a few breaks, which take memory once.
     let mut places = Vec::with_capacity(alloc, (end + 1 - least).min(8))?;
     for place in least..end + 1 {
         if values[place - 1] % 2 == 1 {
@@ -150,28 +149,26 @@ fn odd_places(
     Ok(places)
 }
 
-/// The places within bounds that patterns allow, found in room for the values, all 0.
+// Finds the places within bounds that patterns allow. The buffer has a value for each place, all 0 at first.
 #[inline(always)]
-fn odd_from(
+fn plain_breaks_with_buffer(
     alloc: Global,
     patterns: &Automaton<Entry<()>>,
     word: &str,
-    room: &mut [u8],
+    values: &mut [u8],
     bounds: (usize, usize),
 ) -> Result<Vec<usize>, AllocError>
-    requires begins { EachBeginsKey patterns.now }
-    requires places { length room.old ≡ length word.now - 1 }
-    requires zeros { (i : ℕ) → i < length room.old → slice_index room.old i ≡ 0 }
-    ensures { IfOk result (λ v.
-        map plain_break v.items
-        ≡ breaks_within (breaks_at_odd_values no_change (entries_of_key patterns.now) word.now) bounds) }
+    requires each_begins_key { EachBeginsKey patterns.now }
+    requires one_for_each_place { length values.old ≡ length word.now - 1 }
+    requires zeros_at_first { (i : ℕ) → i < length values.old → slice_index values.old i ≡ 0 }
+    ensures { HasBreaks plain_break result (breaks_by_keys no_change (entries_of_key patterns.now) word.now bounds) }
 {
     let mut count = LookUps::new();
-    raise_all(patterns, word.as_bytes(), room, &mut count);
-    odd_places(alloc, room, bounds)
+    raise_all(patterns, word.as_bytes(), values, &mut count);
+    odd_places(alloc, values, bounds)
 }
 
-/// The places within bounds that the patterns of a standard dictionary allow.
+// Finds the places within bounds that the patterns of a standard dictionary allow.
 #[inline(always)]
 pub(super) fn plain_breaks(
     alloc: Global,
@@ -180,16 +177,14 @@ pub(super) fn plain_breaks(
     bounds: (usize, usize),
 ) -> Result<Vec<usize>, AllocError>
     requires { EachBeginsKey patterns.now }
-    ensures { IfOk result (λ v.
-        map plain_break v.items
-        ≡ breaks_within (breaks_at_odd_values no_change (entries_of_key patterns.now) word.now) bounds) }
+    ensures { HasBreaks plain_break result (breaks_by_keys no_change (entries_of_key patterns.now) word.now bounds) }
 {
     let places = word.len().saturating_sub(1);
     if places <= 64 {
-        // The values of most words take no memory.
+        // The values of most words stand on the stack.
         let mut values = [0u8; 64];
-        return odd_from(alloc, patterns, word, &mut values[..places], bounds);
+        return plain_breaks_with_buffer(alloc, patterns, word, &mut values[..places], bounds);
     }
     let mut values = vec![in alloc; 0u8; places]?;
-    odd_from(alloc, patterns, word, &mut values, bounds)
+    plain_breaks_with_buffer(alloc, patterns, word, &mut values, bounds)
 }

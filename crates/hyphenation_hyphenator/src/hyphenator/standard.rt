@@ -1,4 +1,4 @@
-//! How a standard dictionary hyphenates.
+//! Hyphenation by a standard dictionary.
 
 ghost use Rattle.std.specs.Prelude.{◌≡◌, IsTrue, Some, None, IfOk, OnOk, OnErr, map};
 ghost use Rattle.std.specs.Option.{option_map};
@@ -6,7 +6,8 @@ ghost use Rattle.std.specs.String.{string_bytes};
 ghost use Rattle.std.specs.FinMap as finite;
 ghost use Rattle.hyphenation_breaks.specs.Break.{plain_break};
 ghost use Rattle.hyphenation_breaks.specs.Invariant.{are_listed};
-ghost use Rattle.hyphenation_hyphenator.specs.Opportunities.{no_change, rules_of, ListsAnew};
+ghost use Rattle.hyphenation_hyphenator.specs.Opportunities.{no_change, rules_of, standard_rules};
+ghost use Rattle.hyphenation_hyphenator.specs.Opportunities.{HasBreaksIfAny, ListsOnly};
 
 use super::word_paths::{breaks, exception, exception_within, opportunities, opportunities_within};
 use super::{Hyphenator, boundaries_of};
@@ -16,15 +17,15 @@ use std::alloc::{AllocError, Global};
 
 impl<'h> Hyphenator<'h> for Standard {
     ghost use Rattle.hyphenation_breaks.specs.Break.{plain_break};
-    ghost use Rattle.hyphenation_hyphenator.specs.Opportunities.{no_change, rules_of, all_breaks_of};
+    ghost use Rattle.hyphenation_hyphenator.specs.Opportunities.{standard_rules, all_breaks_of};
 
     type Opportunity = usize;
 
     type Exact = usize;
 
-    ghost rules = { rules_of no_change plain_break };
+    ghost rules = { standard_rules };
 
-    ghost breaks_of = { λ dictionary word. all_breaks_of (rules_of no_change plain_break dictionary) word };
+    ghost breaks_of = { λ dictionary word. all_breaks_of (standard_rules dictionary) word };
 
     fn breaks_fit(&self) {
         self.invariant();
@@ -80,13 +81,12 @@ impl<'h> Hyphenator<'h> for Standard {
         ops: Vec<usize>,
     ) -> Result<Option<Vec<usize>>, AllocError>
         requires { IsTrue (are_listed plain_break (string_bytes lowercase_word) ops.items) }
-        ensures lists { OnOk result (ListsAnew (rules_of no_change plain_break self.old)
-            (rules_of no_change plain_break self.new)
+        ensures lists { OnOk result (ListsOnly (standard_rules self.old)
+            (standard_rules self.new)
             (string_bytes lowercase_word) (Some (map plain_break ops.items))) }
-        ensures old { IfOk result (λ old.
-            option_map (λ v. map plain_break v.items) old
-            ≡ (rules_of no_change plain_break self.old).listed (string_bytes lowercase_word)) }
-        ensures err { OnErr result (self.new ≡ self.old) }
+        ensures returns_old { HasBreaksIfAny plain_break result
+            ((standard_rules self.old).listed (string_bytes lowercase_word)) }
+        ensures unchanged_on_error { OnErr result (self.new ≡ self.old) }
         ensures contents { OnOk result (self.new ≡ record self.old
             { exceptions = finite.insert self.old.exceptions (string_bytes lowercase_word) ops.items }) }
     {
@@ -94,10 +94,10 @@ impl<'h> Hyphenator<'h> for Standard {
     }
 
     fn remove_exception(&mut self, word: &str) -> Option<Vec<usize>>
-        ensures lists { ListsAnew (rules_of no_change plain_break self.old)
-            (rules_of no_change plain_break self.new) word.now None }
-        ensures old { option_map (λ v. map plain_break v.items) result
-            ≡ (rules_of no_change plain_break self.old).listed word.now }
+        ensures unlists { ListsOnly (standard_rules self.old)
+            (standard_rules self.new) word.now None }
+        ensures returns_old { option_map (λ v. map plain_break v.items) result
+            ≡ (standard_rules self.old).listed word.now }
         ensures contents { self.new ≡ record self.old { exceptions = finite.remove self.old.exceptions word.now } }
     {
         self.remove_exception(word)

@@ -1,27 +1,27 @@
--- What loading a dictionary from bytes answers: what private functions and proofs need of it beside, and no public contract cites.
-use Rattle.std.specs.Prelude.{◌≡◌, ◌≢◌, ℕ, List, Result, Ok, Err, alloc_error}
+-- How a refused text, a language and an error of reading become results of loading.
+use Rattle.std.specs.Prelude.{◌≡◌, ◌≢◌, ℕ, List, Result, Ok, Err, alloc_error, ⊤}
 use Rattle.std.specs.IoError.{error_kind}
 use Rattle.std.specs.declared.io.ErrorKind.TheVariants.{OutOfMemory}
 use Rattle.hyphenation_breaks.specs.Dictionary.{Contents}
 use Rattle.hyphenation_grammar.specs.declared.Error.{Error}
 use Rattle.hyphenation_grammar.specs.declared.Error.TheVariants.{Deserialization, IO, LanguageMismatch, Memory}
 use Rattle.hyphenation_reader.specs.declared.reader.Refusal.{Refusal}
-use Rattle.hyphenation_reader.specs.declared.reader.Refusal.TheVariants.{Memory as Wanting, Fault}
+use Rattle.hyphenation_reader.specs.declared.reader.Refusal.TheVariants.{Memory as NoMemory, Fault}
 
 -- The dictionary, exactly where its language is the asked one; else the asked and the found code.
-abbrev pub IsOfLanguage : {C B : Type 0} → List ℕ → Contents C B → Result (Contents C B) Error → Type 0
-IsOfLanguage asked dictionary (Ok given) = (given ≡ dictionary) × (dictionary.language ≡ asked)
-IsOfLanguage asked dictionary (Err (LanguageMismatch expected found)) =
+abbrev pub ChecksLanguage : {C B : Type 0} → List ℕ → Contents C B → Result (Contents C B) Error → Type 0
+ChecksLanguage asked dictionary (Ok given) = (given ≡ dictionary) × (dictionary.language ≡ asked)
+ChecksLanguage asked dictionary (Err (LanguageMismatch expected found)) =
     (expected ≡ asked) × (found ≡ dictionary.language) × (found ≢ asked)
-IsOfLanguage asked dictionary (Err _) = ⊥
+ChecksLanguage asked dictionary (Err _) = ⊥
 
 -- The refusal of a text as an error of loading.
 abbrev pub error_of : Refusal → Error
-error_of Wanting = Memory alloc_error
+error_of NoMemory = Memory alloc_error
 error_of (Fault line cause) = Deserialization line cause
 
--- A fault of reading as an error of loading: want of memory, or the fault.
-abbrev pub IsOfReading : Error → Type 0
-IsOfReading (IO e) = error_kind e ≢ OutOfMemory
-IsOfReading (Memory e) = Unit {0}
-IsOfReading _ = ⊥
+-- An error of reading as one of loading: memory was refused, or an I/O error of another kind.
+abbrev pub IsReadError : Error → Type 0
+IsReadError (IO e) = error_kind e ≢ OutOfMemory
+IsReadError (Memory e) = ⊤
+IsReadError _ = ⊥

@@ -1,5 +1,5 @@
--- What a reader holds of the lines so far.
--- Private functions of the reader cite this, and no public contract does: it follows their steps, and they are proved equal to Items and Judging.
+-- The items that a reader holds while it reads lines, and the head before them.
+-- It follows the steps of private functions, which are proved equal to Items and Judging. No public contract cites it.
 use Rattle.std.specs.Prelude.{◌≡◌, ◌+◌, ◌<◌, ◌≤◌, IsUtf8, Bool, true, not, ℕ, List, [], length, take, drop, slice_index_or, if◌then◌else◌, Option, Some, None}
 use Rattle.std.specs.FinMap as finite
 use Rattle.std.specs.String.{string_bytes}
@@ -19,11 +19,11 @@ use Rattle.hyphenation_reader.specs.declared.reader.Builder.{Builder}
 abbrev pub items_held : {C B : Type 0} → Builder C B → SpeltItems C B
 items_held builder = record { patterns = patterns_of builder.patterns; exceptions = builder.exceptions }
 
--- Before any line.
+-- No items, as before the first line.
 abbrev pub no_items : {C B : Type 0} → SpeltItems C B
 no_items = record { patterns = finite.from_entries []; exceptions = finite.from_entries [] }
 
--- An item more.
+-- The items with one more.
 abbrev pub with_item : {C B : Type 0} → SpeltItems C B → Item C B → SpeltItems C B
 with_item s Nothing = s
 with_item s (Pattern key entries) =
@@ -31,26 +31,26 @@ with_item s (Pattern key entries) =
 with_item s (Exception word listed) =
     record { patterns = s.patterns; exceptions = finite.insert s.exceptions (string_bytes word) listed.items }
 
--- The cause for which an item repeats what is held.
+-- The cause if an item repeats one that is held.
 abbrev pub repeated_by : {C B : Type 0} → SpeltItems C B → Item C B → Option Cause
 repeated_by s Nothing = None
 repeated_by s (Pattern key entries) = if finite.contains_key s.patterns key.items then Some RepeatedPattern else None
 repeated_by s (Exception word listed) =
     if finite.contains_key s.exceptions (string_bytes word) then Some RepeatedException else None
 
--- The lines spell no item.
-abbrev pub are_idle : List (List ℕ) → Bool
-are_idle lines = list_all (λ line. not (is_item_line line)) lines
+-- Lines that spell no item.
+abbrev pub spell_nothing : List (List ℕ) → Bool
+spell_nothing lines = list_all (λ line. not (is_item_line line)) lines
 
--- The lines begin with three good head lines, which spell no item; the second and the third say these.
+-- Lines begin with three good head lines, which spell no item. The second and the third have this language and minima.
 pub record HasHead (form : Form) (lines : List (List ℕ)) (language : List ℕ) (minima : ℕ × ℕ) : Type 0 where
-  pub long : 2 < length lines
+  pub three_lines : 2 < length lines
   pub second : language_of (slice_index_or lines 1 []) ≡ Some language
   pub third : minima_of (slice_index_or lines 2 []) ≡ Some minima
   pub goes_on : fault_after form [] lines ≡ fault_after form (take 3 lines) (drop 3 lines)
-  pub idle : are_idle (take 3 lines) ≡ true
+  pub spells_nothing : spell_nothing (take 3 lines) ≡ true
 
--- This is what stands after the three head lines of the text.
+-- The rest of a text after its three head lines.
 pub record IsAfterHead (bytes rest : List ℕ) : Type 0 where
   pub lines : drop 3 (lines_of bytes) ≡ lines_of rest
   pub utf8 : IsUtf8 bytes → IsUtf8 rest

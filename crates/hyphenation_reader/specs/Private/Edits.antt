@@ -1,4 +1,4 @@
--- Edits of the exceptions: which are good, and what they do: what private functions and proofs need of it beside, and no public contract cites.
+-- How the exception of an edit is read.
 use Rattle.std.specs.Prelude.{◌≡◌, ℕ, true, false, List, Option, Some, None}
 use Rattle.std.specs.String.{string_bytes}
 use Rattle.std.specs.declared.string.String.{String}
@@ -9,7 +9,7 @@ use Rattle.hyphenation_grammar.specs.Reading.{spelling_as}
 use Rattle.hyphenation_grammar.specs.declared.form.Kind.{Kind}
 use Rattle.hyphenation_reader.specs.Edits.{is_sound_line}
 
--- The word and its listed breaks, exactly where the line of it is sound.
+-- The word and its listed breaks, exactly if the line is sound.
 abbrev pub ReadsException : {B Y Z : Type 0} → Kind → (Break → B) → Option (String Y × Vec B Z) → List ℕ → Type 0
 ReadsException kind listing_of None line = is_sound_line kind line ≡ false
 ReadsException kind listing_of (Some x) line =

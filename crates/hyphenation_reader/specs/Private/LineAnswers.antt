@@ -1,5 +1,5 @@
--- What reading one line answers.
--- Private functions of the reader cite this, and no public contract does: it follows their steps, and they are proved equal to Items and Judging.
+-- The results of reading one line, and the tests that it fails.
+-- It follows the steps of private functions, which are proved equal to Items and Judging. No public contract cites it.
 use Rattle.std.specs.Prelude.{◌≡◌, ℕ, ◌==◌, ◌&&◌, Bool, true, false, not, if◌then◌else◌, List, [], ◌∷◌, map, find, Option, Some, None, Result, MatchResult}
 use Rattle.std.specs.Option.{option_or}
 use Rattle.std.specs.List.{list_all, list_any}
@@ -7,6 +7,7 @@ use Rattle.std.specs.String.{string_bytes}
 use Rattle.std.specs.declared.string.String.{String}
 use Rattle.std.specs.declared.vec.Vec.{Vec}
 use Rattle.hyphenation_breaks.specs.Break.{Break, Change as Changed, break_at, ascend_on, keeps_within}
+use Rattle.hyphenation_breaks.specs.Invariant.{has_letter}
 use Rattle.hyphenation_grammar.specs.Items.{pattern_of_line, exception_of_line, change_at}
 use Rattle.hyphenation_grammar.specs.Judging.{fails, is_extended}
 use Rattle.hyphenation_grammar.specs.Parsed.{ReadPattern, is_bad}
@@ -17,12 +18,10 @@ use Rattle.hyphenation_grammar.specs.declared.Cause.{Cause}
 use Rattle.hyphenation_grammar.specs.declared.Cause.TheVariants.{Token, Value as BadValue, Pattern as TwoValues, NoLetters, Number, Place, Change}
 use Rattle.hyphenation_grammar.specs.declared.form.Form.{Form}
 use Rattle.hyphenation_grammar.specs.declared.form.Version.{Version}
-use Rattle.hyphenation_reader.specs.declared.items.Fault.{Fault}
-use Rattle.hyphenation_reader.specs.declared.items.Fault.TheVariants.{Memory, Fails}
 use Rattle.hyphenation_reader.specs.declared.items.Item.{Item}
 use Rattle.hyphenation_reader.specs.declared.items.Item.TheVariants.{Nothing, Pattern, Exception}
 
--- The item is what the line spells in a dictionary that holds changes and listed breaks so.
+-- The item is what the line spells, in a dictionary that holds changes and listed breaks by these functions.
 abbrev pub IsItemOf : {C B : Type 0} → Version → (Option Changed → C) → (Break → B) → Item C B → List ℕ → Type 0
 IsItemOf version payload_of listing_of Nothing line =
     (pattern_of_line version line ≡ None) × (exception_of_line line ≡ None)
@@ -33,33 +32,28 @@ IsItemOf version payload_of listing_of (Exception word listed) line =
     (pattern_of_line version line ≡ None)
     × (spelling_as listing_of exception_of_line line ≡ Some (string_bytes word, listed.items))
 
--- Want of memory, or that very test.
-abbrev pub IsFault : Fault → Option Cause → Type 0
-IsFault Memory cause = Unit {0}
-IsFault (Fails c) cause = cause ≡ Some c
-
 -- The first test from Token on that a `p` or `e` line fails.
 abbrev pub item_cause : Form → List ℕ → Option Cause
 item_cause form line =
     find (fails form 4 line) (Token ∷ BadValue ∷ TwoValues ∷ NoLetters ∷ Number ∷ Place ∷ Change ∷ [])
 
--- What is answered of a `p` or `e` line: what it says, or the first of these tests that it fails, or want of memory.
-abbrev pub Answers : {C B : Type 0} → Form → (Option Changed → C) → (Break → B) → List ℕ → Result (Item C B) Fault
+-- The result of reading a `p` or `e` line: the item that it spells, or the first of these tests that it fails.
+abbrev pub ReturnsItem : {C B : Type 0} → Form → (Option Changed → C) → (Break → B) → List ℕ → Result (Item C B) Cause
     → Type 0
-Answers form payload_of listing_of line result =
-    MatchResult result (λ item. (item_cause form line ≡ None) × IsItemOf form.version payload_of listing_of item line)
-    (λ fault. IsFault fault (item_cause form line))
+ReturnsItem form payload_of listing_of line found =
+    MatchResult found (λ item. (item_cause form line ≡ None) × IsItemOf form.version payload_of listing_of item line)
+    (λ cause. item_cause form line ≡ Some cause)
 
--- The same of an `e` line: its word and its listed breaks.
-abbrev pub AnswersException : {B Y Z : Type 0} → Form → (Break → B) → List ℕ → Result (String Y × Vec B Z) Fault
+-- The result of reading an `e` line: its word and its listed breaks, or the first of these tests that it fails.
+abbrev pub ReturnsException : {B Y Z : Type 0} → Form → (Break → B) → List ℕ → Result (String Y × Vec B Z) Cause
     → Type 0
-AnswersException form listing_of line result =
-    MatchResult result (λ x. (item_cause form line ≡ None) ×
+ReturnsException form listing_of line found =
+    MatchResult found (λ x. (item_cause form line ≡ None) ×
     ((pattern_of_line form.version line ≡ None)
     × (spelling_as listing_of exception_of_line line ≡ Some (string_bytes x.0, x.1.items))))
-    (λ fault. IsFault fault (item_cause form line))
+    (λ cause. item_cause form line ≡ Some cause)
 
--- The first of Number and Place that later tokens fail, whose places count in the text.
+-- The first of the tests Number and Place that later tokens fail. Their places are bytes of the text.
 abbrev pub places_cause : List ℕ → ReadLater → Option Cause
 places_cause text later =
     if not later.are_numbers then Some Number
@@ -69,22 +63,22 @@ places_cause text later =
 abbrev pub suits_form : Form → List ℕ → ℕ → Changed → Bool
 suits_form form text place change = is_extended form.kind && keeps_within text place change
 
--- In a `p` line stand changes alone, each of a value.
+-- A `p` line lists changes alone, each at the place of a value.
 abbrev pub suits_key : Form → List ℕ → List (ℕ × ℕ) → ℕ × Option Changed → Bool
 suits_key form key values (place, None) = false
 suits_key form key values (place, Some change) = suits_form form key place change && list_any (λ v. v.0 == place) values
 
--- In an `e` line stand places, with a change or none.
+-- An `e` line lists places, with a change or none.
 abbrev pub suits_word : Form → List ℕ → ℕ × Option Changed → Bool
 suits_word form word (place, None) = true
 suits_word form word (place, Some change) = suits_form form word place change
 
--- The first test after Token that a `p` line fails, where so is tested what its later tokens list.
+-- The first test after Token that a `p` line fails, if its listed changes are tested by `fits`.
 abbrev pub cause_by : (ℕ × Option Changed → Bool) → ReadPattern → ReadLater → Option Cause
 cause_by fits pattern later =
     if is_bad pattern then Some BadValue
     else (if pattern.has_two_values then Some TwoValues
-    else (if list_all (λ b. b == 46) pattern.key then Some NoLetters
+    else (if not (has_letter pattern.key) then Some NoLetters
     else option_or (places_cause pattern.key later)
     (if not (later.are_sound && list_all fits later.listed) then Some Change else None)))
 
@@ -92,7 +86,7 @@ cause_by fits pattern later =
 abbrev pub pattern_cause : Form → ReadPattern → ReadLater → Option Cause
 pattern_cause form pattern later = cause_by (suits_key form pattern.key pattern.values) pattern later
 
--- The first that an `e` line fails.
+-- The first test after Token that an `e` line fails.
 abbrev pub exception_cause : Form → List ℕ → ReadLater → Option Cause
 exception_cause form word later =
     option_or (places_cause word later)

@@ -6,7 +6,7 @@ ghost use Rattle.std.specs.Iterator.SizeHint.{IsWithinCount};
 ghost use Rattle.std.specs.String.{string_bytes};
 ghost use Rattle.hyphenation_breaks.specs.Break.{plain_break};
 ghost use Rattle.hyphenation_segments.specs.Segments.{marked_segments, mark_if_more, segments};
-ghost use Rattle.hyphenation_segments.specs.Remaining.{GivesMarked};
+ghost use Rattle.hyphenation_segments.specs.Remaining.{YieldsMarked};
 ghost use Rattle.hyphenation_segments.specs.ChangedSegments.{made_segments};
 
 use crate::iter::{SegmentText, Segments, SegmentsExt, Texts};
@@ -17,8 +17,9 @@ use std::iter::Copied;
 use std::marker::Model;
 use std::{slice, vec};
 
-/// The texts of an iterator, each but the last with a mark after it: the mark that is set when the text is taken. To
-/// contracts it is the iterator and the mark.
+/// An iterator over the texts of another iterator, each but the last with a mark after it.
+///
+/// A text gets the mark that is set when it is taken. Contracts see this iterator as the one inside and the mark.
 #[derive(Drop)]
 pub struct Hyphenating<'m, I> {
     alloc: Global,
@@ -35,7 +36,12 @@ impl<'m, I> Model for Hyphenating<'m, I> {
 }
 
 impl<'m, I: Texts> Hyphenating<'m, I> {
-    /// The texts of an iterator with the mark `-`.
+    /// Makes the iterator over the texts of another one, with the mark `-`.
+    ///
+    /// ```text
+    /// let segments = Segments::new("hyphenation", breaks.into_iter());      // breaks: 2, 6, 7
+    /// let marked = Hyphenating::new(alloc, segments);                       // hy-  phen-  a-  tion
+    /// ```
     pub fn new(alloc: Global, iter: I) -> Hyphenating<'m, I>
         ensures { result ≡ (iter, codes "-") }
     {
@@ -46,7 +52,7 @@ impl<'m, I: Texts> Hyphenating<'m, I> {
         }
     }
 
-    /// The iterator inside as it stands, which gives the texts to come without marks.
+    /// Returns the iterator inside, which has the texts to come without marks.
     pub fn segments(self) -> I
         ensures { result ≡ self.entry.0 }
     {
@@ -58,7 +64,12 @@ impl<'m, I: Texts> Hyphenating<'m, I> {
         inner
     }
 
-    /// Sets the mark for the texts that are still to come.
+    /// Sets the mark for the texts to come.
+    ///
+    /// ```text
+    /// let mut segments = word.into_iter();      // word: hyphenation, breaks: 2, 6, 7
+    /// segments.mark_with("\u{ad}\n");           // each segment but the last ends with a soft hyphen and a line feed
+    /// ```
     pub fn mark_with(&mut self, mark: &'m str)
         ensures { self.new ≡ (self.old.0, mark.now) }
     {
@@ -66,14 +77,14 @@ impl<'m, I: Texts> Hyphenating<'m, I> {
     }
 }
 
-/// The mark, where more texts are to come.
+// Returns the mark where more texts are to come, and an empty text after the last one.
 fn mark_after<'m, I: Texts>(texts: &I, mark: &'m str) -> &'m str
     ensures { result.now ≡ mark_if_more mark.now (I.texts texts.now) }
 {
-    if texts.left() > 0 { mark } else { "" }
+    if texts.remaining_len() > 0 { mark } else { "" }
 }
 
-/// A text with its mark.
+// Joins a text and its mark.
 fn with_mark(alloc: Global, text: &str, mark: &str) -> Result<String, AllocError>
     ensures { IfOk result (λ item. string_bytes item ≡ text.now ++ mark.now) }
 {
@@ -86,16 +97,17 @@ impl<'m, I: Texts> Iterator for Hyphenating<'m, I> {
     type Item = Result<String, AllocError>;
 
     ghost next_gives = { λ s item t.
-        GivesMarked (marked_segments s.1 (I.texts s.0)) item (marked_segments t.1 (I.texts t.0)) × (t.1 ≡ s.1) };
+        YieldsMarked (marked_segments s.1 (I.texts s.0)) item (marked_segments t.1 (I.texts t.0)) × (t.1 ≡ s.1) };
 
     ghost remaining = { item_count (λ s. I.texts s.0) };
 
-    /// The next text with its mark, or an error in its place where the memory for it is refused, here or by the
-    /// iterator inside; the later ones are what they would have been. After the last one it gives `None`, as often as
-    /// it is asked, and takes nothing more from the iterator inside.
+    /// Returns the next text with its mark, or `None` at each call after the last text.
+    ///
+    /// An error in place of a text says that memory for it was refused, here or by the iterator inside; later texts
+    /// are not affected. After the last text it takes nothing more from the iterator inside.
     fn next(&mut self) -> Option<Result<String, AllocError>> {
         let alloc = self.alloc;
-        if self.inner.left() == 0 {
+        if self.inner.remaining_len() == 0 {
             return None;
         }
         let segment = self.inner.pull()?;
@@ -106,7 +118,7 @@ impl<'m, I: Texts> Iterator for Hyphenating<'m, I> {
         }
     }
 
-    /// The number of texts to come, as both bounds.
+    /// Returns the number of texts to come, as both bounds.
     fn size_hint(&self) -> (usize, Option<usize>)
         ensures lower { IsWithinCount result.0 (at_most (length (I.texts self.now.0))) }
         ensures upper { IfSome result.1 (UpTo (at_most (length (I.texts self.now.0)))) }
@@ -118,9 +130,9 @@ impl<'m, I: Texts> Iterator for Hyphenating<'m, I> {
 }
 
 impl<'m, I: Texts> ExactSizeIterator for Hyphenating<'m, I> {
-    /// The number of texts to come.
+    /// Returns the number of texts to come.
     fn len(&self) -> usize {
-        self.inner.left()
+        self.inner.remaining_len()
     }
 }
 
@@ -129,7 +141,7 @@ impl<'m, 't> Clone for Hyphenating<'m, Segments<'t, Copied<slice::Iter<'t, usize
 
     ghost is_infallible = { λ _. ⊤ };
 
-    /// The same texts to come, with the same mark.
+    /// Copies the iterator, with the same texts to come and the same mark.
     fn clone(&self) -> Result<Self, AllocError> {
         Ok(Hyphenating {
             alloc: self.alloc,
@@ -139,14 +151,20 @@ impl<'m, 't> Clone for Hyphenating<'m, Segments<'t, Copied<slice::Iter<'t, usize
     }
 }
 
-/// A word whose segments can be gone through while it is borrowed.
+/// A word whose segments can be read while it is borrowed.
 pub trait Iter<'t> {
     type Iter;
 
     /// The segments of the word, and the mark.
     ghost iter_gives: { Self → Self.Iter × List ℕ → Type 0 };
 
-    /// The segments of the word, each but the last with a mark after it, at first `-`.
+    /// Returns an iterator over the segments of the word, each but the last with the mark `-` after it.
+    ///
+    /// ```text
+    /// for segment in word.iter() {      // word: hyphenation, breaks: 2, 6, 7
+    ///     line.push_str(segment?.as_str())?;      // hy-  phen-  a-  tion
+    /// }
+    /// ```
     fn iter(&'t self) -> Hyphenating<'t, Self::Iter>
         ensures { iter_gives self.now result };
 }
@@ -154,7 +172,8 @@ pub trait Iter<'t> {
 impl<'t> Iter<'t> for Word<'t, usize> {
     type Iter = Segments<'t, Copied<slice::Iter<'t, usize>>>;
 
-    ghost iter_gives = { λ word result. result ≡ (segments word.text.now (map plain_break word.breaks.items), codes "-") };
+    ghost iter_gives = { λ word result. result ≡
+        (segments word.text.now (map plain_break word.breaks.items), codes "-") };
 
     fn iter(&'t self) -> Hyphenating<'t, Self::Iter> {
         let alloc = *self.breaks.allocator();
@@ -170,7 +189,7 @@ impl<'t> IntoIterator for Word<'t, usize> {
     ghost into_iter_gives = { λ word result.
         result ≡ (segments word.text.now (map plain_break word.breaks.items), codes "-") };
 
-    /// The segments of the word, each but the last with a mark after it, at first `-`.
+    /// Returns an iterator over the segments of the word, each but the last with the mark `-` after it.
     fn into_iter(self) -> Self::IntoIter {
         let Word { text, breaks } = self;
         let alloc = *breaks.allocator();
@@ -190,7 +209,7 @@ impl<'t> IntoIterator for Word<'t, (usize, Option<&'t Subregion>)> {
         result
         ≡ (made_segments word.text.now (map (λ b. break_at b.0 (option_copied b.1)) word.breaks.items), codes "-") };
 
-    /// The segments of the word, each but the last with a mark after it, at first `-`.
+    /// Returns an iterator over the segments of the word, each but the last with the mark `-` after it.
     fn into_iter(self) -> Self::IntoIter {
         let Word { text, breaks } = self;
         let alloc = *breaks.allocator();

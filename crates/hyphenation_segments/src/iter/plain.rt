@@ -13,29 +13,39 @@ use std::iter::Copied;
 use std::marker::Model;
 use std::slice;
 
-/// The segments of a text at plain breaks, each borrowed from the text. To contracts it is the list of the segments to
-/// come.
+/// An iterator over the segments of a text at plain breaks, each borrowed from the text.
+///
+/// Contracts see it as the list of the segments to come.
 #[derive(Drop)]
 pub struct Segments<'t, I: Breaks<Item = usize>> {
     text: &'t str,
     breaks: I,
-    // The place of the last break, 0 before the first one, and nothing after the last segment.
+    // The place of the last break, 0 before the first break, and `None` after the last segment.
     start: Option<usize>,
 }
 
 impl<'t, I: Breaks<Item = usize>> Model for Segments<'t, I> {
     ghost use Rattle.std.specs.Prelude.{List, ℕ};
-    ghost use Rattle.hyphenation_segments.specs.Private.Remaining.{segments_from, FitsAfter};
+    ghost use Rattle.hyphenation_segments.specs.Private.Remaining.{segments_from, FitsAfterStart};
 
     ghost Value = { List (List ℕ) };
 
     ghost view = { λ s. segments_from s.text.now s.start (I.to_come s.breaks) };
 
-    ghost invariant = { λ s. FitsAfter s.text.now s.start (I.to_come s.breaks) };
+    ghost invariant = { λ s. FitsAfterStart s.text.now s.start (I.to_come s.breaks) };
 }
 
 impl<'t, I: Breaks<Item = usize>> Segments<'t, I> {
-    /// All segments of the text, at breaks that fit it as `Word::fits` says.
+    /// Makes the iterator over all segments of a text.
+    ///
+    /// The breaks must fit the text, as `Word::fits` tests.
+    ///
+    /// ```text
+    /// let places = [2usize, 6, 7];
+    /// if Word::fits("hyphenation", &places) {
+    ///     let segments = Segments::new("hyphenation", places.iter().copied());      // hy  phen  a  tion
+    /// }
+    /// ```
     pub fn new(text: &'t str, breaks: I) -> Segments<'t, I>
         requires { Fits text.now (I.to_come breaks) }
         ensures { result ≡ segments text.now (I.to_come breaks) }
@@ -55,12 +65,13 @@ impl<'t, I: Breaks<Item = usize>> Iterator for Segments<'t, I> {
 
     ghost remaining = { item_count (λ s. s) };
 
-    /// The next segment; after the last one `None`, as often as it is asked. The breaks are asked for one only while
-    /// some are left.
+    /// Returns the next segment, or `None` at each call after the last segment.
+    ///
+    /// It takes a break only while some are to come.
     fn next(&mut self) -> Option<&'t str> {
         let start = self.start?;
         let text = self.text;
-        if self.breaks.left() == 0 {
+        if self.breaks.remaining_len() == 0 {
             self.start = None;
             return Some(&text[start..]);
         }
@@ -69,7 +80,7 @@ impl<'t, I: Breaks<Item = usize>> Iterator for Segments<'t, I> {
         Some(&text[start..place])
     }
 
-    /// The number of segments to come, as both bounds.
+    /// Returns the number of segments to come, as both bounds.
     fn size_hint(&self) -> (usize, Option<usize>)
         ensures lower { IsWithinCount result.0 (at_most (length self.now)) }
         ensures upper { IfSome result.1 (UpTo (at_most (length self.now))) }
@@ -81,14 +92,14 @@ impl<'t, I: Breaks<Item = usize>> Iterator for Segments<'t, I> {
 }
 
 impl<'t, I: Breaks<Item = usize>> ExactSizeIterator for Segments<'t, I> {
-    /// The number of segments to come.
+    /// Returns the number of segments to come.
     fn len(&self) -> usize {
         match self.start {
             None => 0,
             Some(_) => {
-                // Breaks that fit are no more than the text's places, so that the sum stays in range.
+                // A text has no more places than bytes, so the sum stays in range.
                 let _text_len = self.text.len();
-                self.breaks.left() + 1
+                self.breaks.remaining_len() + 1
             }
         }
     }
@@ -99,16 +110,16 @@ impl<'t, I: Breaks<Item = usize>> Texts for Segments<'t, I> {
 
     ghost texts = { λ s. s };
 
-    /// What `next` gives.
+    /// Returns the next segment, as `next` does.
     fn pull(&mut self) -> Option<&'t str>
-        ensures first { TakesFirstOrRefuses (λ text. Some text.now) (λ s. s) self.old result self.new }
+        ensures takes_first { TakesFirstOrRefuses (λ text. Some text.now) (λ s. s) self.old result self.new }
         ensures as_next { YieldsFirstRef (λ s. s) self.old result self.new }
     {
         self.next()
     }
 
-    /// What `len` gives.
-    fn left(&self) -> usize {
+    /// Returns the number of segments to come, as `len` does.
+    fn remaining_len(&self) -> usize {
         self.len()
     }
 }
@@ -118,7 +129,7 @@ impl<'t> Clone for Segments<'t, Copied<slice::Iter<'t, usize>>> {
 
     ghost is_infallible = { λ _. ⊤ };
 
-    /// The same segments to come.
+    /// Copies the iterator, with the same segments to come.
     fn clone(&self) -> Result<Self, AllocError> {
         Ok(Segments {
             text: self.text,

@@ -1,10 +1,11 @@
--- A trie that grows: how its nodes are held, and how a child is sought.
+-- A growing trie: how its nodes are held, and how a child is found.
 use Rattle.std.specs.Prelude.{◌≡◌, ◌≢◌, ℕ, ◌<◌, List, [], length, map, Option, Some, None, slice_get, slice_index, slice_index_or}
 use Rattle.hyphenation_trie.specs.Private.Chains.{IsChained}
 use Rattle.hyphenation_trie.specs.Private.Links.{parent_of}
 use Rattle.hyphenation_trie.specs.Private.Trie.{texts_of, AreApart, HasFroms}
 
--- The first node is the root, each other is after an earlier one, no two have one text, and the children of each are chained.
+-- The first node is the root, and each other node has an earlier parent. No two nodes have the same text. The children of
+-- each node are chained.
 pub record IsGrowing (froms : List (Option (ℕ × ℕ))) (lasts befores : List ℕ) : Type 0 where
   pub root : slice_get (texts_of froms) 0 ≡ Some []
   pub apart : AreApart (texts_of froms)
@@ -12,7 +13,8 @@ pub record IsGrowing (froms : List (Option (ℕ × ℕ))) (lasts befores : List 
   pub nodes : length lasts ≡ length froms
   pub chained : IsChained (map parent_of froms) lasts befores
 
--- Where the child of a node at a byte is sought along a chain: the node at hand, if there is one, is a child of that node, and no later node is the one sought.
+-- A child of a node at a byte is sought along a chain. The member at hand, if any, is a child of the node, and no later
+-- node is the child sought.
 pub record IsSought (froms : List (Option (ℕ × ℕ))) (node byte child : ℕ) : Type 0 where
   pub here : 0 < child → (child < length froms) × (slice_index (map parent_of froms) child ≡ node)
   pub above : (k : ℕ) → child < k → k < length froms → slice_index_or froms k None ≢ Some (node, byte)

@@ -1,15 +1,15 @@
--- Links between the nodes of a trie: from a node to one whose text ends the node's: what private functions and proofs need of it beside, and no public contract cites.
+-- Depths and parents of nodes, and rows that show the edges of a trie.
 use Rattle.std.specs.Prelude.{◌≡◌, ◌≢◌, ℕ, ◌+◌, ◌<◌, ◌≤◌, List, [], ◌∷◌, ◌++◌, length, slice_index, slice_index_or, Option, Some, None}
 use Rattle.hyphenation_trie.specs.Trie.{Tree, node_text, IsTrie}
 use Rattle.hyphenation_trie.specs.declared.rows.Cell.{Cell}
 use Rattle.hyphenation_trie.specs.Private.Rows.{edge_in}
 
--- How long the text of each node is.
+-- The depth of each node is the length of its text.
 pub record HasDepths (texts : List (List ℕ)) (depths : List ℕ) : Type 0 where
   pub lengths : length depths ≡ length texts
   pub each : (j : ℕ) → j < length texts → slice_index depths j ≡ length (slice_index_or texts j [])
 
--- The parent of each node but the root stands before it, and its text is the parent's with one byte more.
+-- The parent of each node but the root comes before it, and the node's text is the parent's with one more byte.
 pub record HasParents (texts : List (List ℕ)) (parents bytes : List ℕ) : Type 0 where
   pub nodes : length parents ≡ length texts
   pub bytes_of : length bytes ≡ length texts
@@ -17,7 +17,7 @@ pub record HasParents (texts : List (List ℕ)) (parents bytes : List ℕ) : Typ
       → (slice_index parents j < j)
       × (slice_index_or texts j [] ≡ slice_index_or texts (slice_index parents j) [] ++ slice_index bytes j ∷ [])
 
--- The number of a parent, and the byte after it; 0 for the root, which has neither.
+-- The parent of a node, and the byte that leads from the parent; 0 for the root, which has neither.
 abbrev pub parent_of : Option (ℕ × ℕ) → ℕ
 parent_of None = 0
 parent_of (Some from) = from.0
@@ -34,11 +34,12 @@ pub record IsDepths (parents depths : List ℕ) : Type 0 where
       → slice_index depths j ≡ slice_index depths (slice_index parents j) + 1
   pub low : (j : ℕ) → j < length parents → slice_index depths j ≤ j
 
--- No node's text is that of a node with a byte more.
+-- No node is the child of a node at a byte.
 abbrev pub HasNoChild : {E : Type 0} → Tree E → ℕ → ℕ → Type 0
 HasNoChild tree node b = (j : ℕ) → j < length tree.texts → node_text tree j ≢ node_text tree node ++ b ∷ []
 
--- The rows show the edges of the trie: the child of a node at a byte is the node of the text with that byte more. Where the root has no child, its edge leads back to it.
+-- The rows show the edges of the trie: the child of a node at a byte is the node whose text has one more byte. Where the
+-- root has no child, its edge leads back to the root.
 pub record IsFrozen {E : Type 0} (tree : Tree E) (bases : List ℕ) (cells : List Cell) : Type 0 where
   pub trie : IsTrie tree
   pub lengths : length bases ≡ length tree.texts

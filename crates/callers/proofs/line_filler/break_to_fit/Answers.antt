@@ -14,7 +14,7 @@ returns-in-Some g c =
     let word = c.in_ok-word.word in
     let columns = c.args.columns in
     let places = c.deref.ensures.value ∙ sym (places_back word.breaks.items) ∙ ap places_of c.in_ok-word.ensures.breaks in
-    let found = c.in-Some.ensures.last ∙ ap (λ t. last_room t columns c.deref.result.now) c.in_ok-word.ensures.text ∙ ap (last_room c.args.word.now columns) places in
+    let found = c.in-Some.ensures.last_room ∙ ap (λ t. last_room t columns c.deref.result.now) c.in_ok-word.ensures.text ∙ ap (last_room c.args.word.now columns) places in
     rw (c.split_at.ensures.front, c.split_at.ensures.back, c.in_ok-word.ensures.text) (ap (option_map (word_parts c.args.word.now)) found)
 
 pub returns : goal.returns
@@ -22,5 +22,5 @@ returns g c =
     let word = c.in_ok-word.word in
     let columns = c.args.columns in
     let places = c.deref.ensures.value ∙ sym (places_back word.breaks.items) ∙ ap places_of c.in_ok-word.ensures.breaks in
-    let found = c.in-None.ensures.last ∙ ap (λ t. last_room t columns c.deref.result.now) c.in_ok-word.ensures.text ∙ ap (last_room c.args.word.now columns) places in
+    let found = c.in-None.ensures.last_room ∙ ap (λ t. last_room t columns c.deref.result.now) c.in_ok-word.ensures.text ∙ ap (last_room c.args.word.now columns) places in
     ap (option_map (word_parts c.args.word.now)) found

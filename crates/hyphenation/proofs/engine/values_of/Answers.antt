@@ -1,10 +1,8 @@
-use Rattle.std.proofs.Common.{◌∙◌, ap, map}
-use Rattle.hyphenation_breaks.specs.Dictionary.{entries_of_keys}
-use Rattle.hyphenation_score.specs.Scoring.{own_change}
+use Rattle.std.proofs.Common.{◌∙◌, ap}
+use Rattle.std.proofs.lemmas.Option.{IfSome_then}
 use Rattle.hyphenation.proofs.engine.values_of.Goals as goal
 
-pub returns : goal.returns
-returns c =
-    let pairs = ap (map (λ score. score.0)) c.deref.ensures.value in
-    let found = c.scores_have_values.ensures own_change (entries_of_keys c.args.dictionary.now) c.args.word.now c.in_ok-scores.scores.items c.in_ok-scores.ensures.scores in
-    c.in_ok-found.ensures ∙ pairs ∙ found
+pub returns-clause-values : goal.returns-clause-values
+returns-clause-values g c =
+    IfSome_then (g.D.Read.remaining c.args.reader.now) c.in_ok-dictionary.ensures.loaded
+    (λ bytes loaded. c.in_ok-values.ensures ∙ ap (λ d. g.K.RunDictionary.values_of d c.args.word.now) loaded.1)

@@ -9,5 +9,5 @@ returns-then-entry-eq0 g c = no_value c.args.entry.now.value (is_boundary c.args
 
 pub returns : goal.returns
 returns g c =
-    entry_told c.stands_in.result c.args.key.now c.args.entry.now.place c.args.entry.now.value (g.C.Payload.change_of c.args.entry.now.change) (omega arith) (omega arith) c.if-entry-eq0.false
-    (rw c.as_change.ensures at c.stands_in.ensures)
+    entry_told c.lies_in.result c.args.key.now c.args.entry.now.place c.args.entry.now.value (g.C.Payload.change_of c.args.entry.now.change) (omega arith) (omega arith) c.if-entry-eq0.false
+    (rw c.as_change.ensures at c.lies_in.ensures)

@@ -6,8 +6,8 @@ use Rattle.hyphenation_dictionary.proofs.MakerInvariant.{keys_hold, words_hold}
 use Rattle.hyphenation_dictionary.proofs.TextMaps.{Holds}
 use Rattle.hyphenation_dictionary.proofs.maker.make.Goals as goal
 
-pub dictionary_of-requires-clause-kept : goal.dictionary_of-requires-clause-kept
-dictionary_of-requires-clause-kept g c =
+pub dictionary_of-requires-clause-invariant : goal.dictionary_of-requires-clause-invariant
+dictionary_of-requires-clause-invariant g c =
     let keys : patterns_of c.in_ok-trie.trie ≡ map_of_pairs (map pair_of c.args.patterns.items) = rw c.in_ok-trie.ensures c.in_ok-trie_of.ensures.keys in
     record {
       code = c.invariant.ensures;

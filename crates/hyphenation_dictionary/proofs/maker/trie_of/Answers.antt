@@ -8,7 +8,7 @@ use Rattle.hyphenation_dictionary.proofs.maker.trie_of.Goals as goal
 
 pub loop-key-preserved : goal.loop-key-preserved
 loop-key-preserved g c =
-    let inserted = patterns_of-insert _ c.loop-key.trie c.insert.new.self c.as_bytes.result.now c.in-Some.entries.items c.invariant.ensures c.invariant-in-loop-key.ensures c.in_ok-insert.ensures.ok in
+    let inserted = patterns_of-insert _ c.loop-key.trie c.insert.new.self c.as_bytes.result.now c.in-Some.entries.items c.invariant.ensures c.invariant-in-loop-key.ensures c.in_ok-insert.ensures.key_set in
     record {
       keys = one_more (patterns_of c.loop-key.trie) (patterns_of c.insert.new.self) (c.in-Some.key, c.in-Some.entries) _ _ _
           (inserted ∙ ap (λ k. finite.insert (patterns_of c.loop-key.trie) k c.in-Some.entries.items) c.as_bytes.ensures.value) c.in-Some.ensures.steps.0 c.loop-key.invariant.keys;

@@ -2,22 +2,30 @@ use Rattle.std.proofs.Common.{refl}
 use Rattle.std.specs.Str.{is_utf8, chars}
 use Rattle.hyphenation_grammar.proofs.examples.braces.Goals as goal
 
-pub returns-clause-bad : goal.returns-clause-bad
+pub returns-clause-bad_values : goal.returns-clause-bad_values
 unfolding is_utf8 chars lib.Utf8.encode
-returns-clause-bad c = refl
+returns-clause-bad_values c = refl
 
-pub returns-clause-other : goal.returns-clause-other
+pub returns-clause-two_values : goal.returns-clause-two_values
 unfolding is_utf8 chars lib.Utf8.encode
-returns-clause-other c = refl
+returns-clause-two_values c = refl
+
+pub returns-clause-no_letters : goal.returns-clause-no_letters
+unfolding is_utf8 chars lib.Utf8.encode
+returns-clause-no_letters c = refl
+
+pub returns-clause-bad_token : goal.returns-clause-bad_token
+unfolding is_utf8 chars lib.Utf8.encode
+returns-clause-bad_token c = refl
 
 pub returns-clause-accepted : goal.returns-clause-accepted
 unfolding is_utf8 chars lib.Utf8.encode
 returns-clause-accepted c = refl
 
-pub returns-clause-first : goal.returns-clause-first
+pub returns-clause-version_1 : goal.returns-clause-version_1
 unfolding is_utf8 chars lib.Utf8.encode
-returns-clause-first c = refl
+returns-clause-version_1 c = refl
 
-pub returns-clause-third : goal.returns-clause-third
+pub returns-clause-no_version_3 : goal.returns-clause-no_version_3
 unfolding is_utf8 chars lib.Utf8.encode
-returns-clause-third c = refl
+returns-clause-no_version_3 c = refl

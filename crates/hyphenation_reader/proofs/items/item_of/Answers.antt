@@ -1,3 +1,4 @@
+use Rattle.std.proofs.lemmas.Result.{IfOk-weaker}
 use Rattle.hyphenation_reader.proofs.JudgingLine.{early, exception-utf8, pattern-utf8, refused_late}
 use Rattle.hyphenation_reader.proofs.items.item_of.Goals as goal
 
@@ -11,7 +12,9 @@ pub exception_item-requires : goal.exception_item-requires
 exception_item-requires g c = exception-utf8 c.args.form 4 c.args.line.now c.in-Some-strip_prefix-2.text.now c.early_cause.result c.in_default.not-Some c.early_cause.ensures c.in-Some-strip_prefix-2.ensures
 
 pub returns-in-Some-strip_prefix-clause-refused : goal.returns-in-Some-strip_prefix-clause-refused
-returns-in-Some-strip_prefix-clause-refused g c = refused_late c.args.form 4 c.args.line.now c.early_cause.result c.in_default.not-Some c.early_cause.ensures _ c.pattern_item.result (c.pattern_item.ensures c.args.line.now c.in-Some-strip_prefix.ensures)
+returns-in-Some-strip_prefix-clause-refused g c =
+    IfOk-weaker c.pattern_item.result _ _ (λ found is. refused_late c.args.form 4 c.args.line.now c.early_cause.result c.in_default.not-Some c.early_cause.ensures _ found (is c.args.line.now c.in-Some-strip_prefix.ensures)) c.pattern_item.ensures
 
 pub returns-in-Some-strip_prefix-2-clause-refused : goal.returns-in-Some-strip_prefix-2-clause-refused
-returns-in-Some-strip_prefix-2-clause-refused g c = refused_late c.args.form 4 c.args.line.now c.early_cause.result c.in_default.not-Some c.early_cause.ensures _ c.exception_item.result (c.exception_item.ensures c.args.line.now c.in-Some-strip_prefix-2.ensures)
+returns-in-Some-strip_prefix-2-clause-refused g c =
+    IfOk-weaker c.exception_item.result _ _ (λ found is. refused_late c.args.form 4 c.args.line.now c.early_cause.result c.in_default.not-Some c.early_cause.ensures _ found (is c.args.line.now c.in-Some-strip_prefix-2.ensures)) c.exception_item.ensures

@@ -21,8 +21,8 @@ returns-in-Some-pattern_cause g c = λ line start.
     pattern_caused c.args.form line c.args.text.now start (pattern_view c.pattern_parts.new.pattern) (later_view c.in-Some.later) (sym c.in_ok-later.ensures ∙ ap (option_map (views c.pattern_parts.new.pattern)) c.in-Some.is)
     ∙ before_match c.args.form (pattern_view c.pattern_parts.new.pattern) (later_view c.in-Some.later) c.in-Some-pattern_cause.cause (sym c.in-Some-pattern_cause.ensures)
 
-pub matched-requires : goal.matched-requires
-matched-requires g c =
+pub entries_with_changes-requires : goal.entries_with_changes-requires
+entries_with_changes-requires g c =
     let pattern = c.pattern_parts.new.pattern in
     let none = sym c.pattern_cause.ensures ∙ not_found c.pattern_cause.result c.in_default-pattern_cause.not-Some in
     let read = sym c.in_ok-later.ensures ∙ ap (option_map (views pattern)) c.in-Some.is in
@@ -34,7 +34,7 @@ returns-then-not-branch g c = λ line start.
     let pattern = c.pattern_parts.new.pattern in
     let none = sym c.pattern_cause.ensures ∙ not_found c.pattern_cause.result c.in_default-pattern_cause.not-Some in
     let read = sym c.in_ok-later.ensures ∙ ap (option_map (views pattern)) c.in-Some.is in
-    let missing = told_of c.deref.result.now pattern.values.items c.in-Some.later.listed.items c.in_ok-matched.field-0 false c.deref.ensures.value c.in_ok-matched.ensures.known c.if-not-branch.true in
+    let missing = told_of c.deref.result.now pattern.values.items c.in-Some.later.listed.items c.in_ok-entries_with_changes.field-0 false c.deref.ensures.value c.in_ok-entries_with_changes.ensures.each_has_value c.if-not-branch.true in
     pattern_caused c.args.form line c.args.text.now start (pattern_view pattern) (later_view c.in-Some.later) read
     ∙ at_match c.args.form (pattern_view pattern) (later_view c.in-Some.later) false none missing
 
@@ -43,10 +43,10 @@ returns g c = λ line start.
     let pattern = c.pattern_parts.new.pattern in
     let none = sym c.pattern_cause.ensures ∙ not_found c.pattern_cause.result c.in_default-pattern_cause.not-Some in
     let read = sym c.in_ok-later.ensures ∙ ap (option_map (views pattern)) c.in-Some.is in
-    let all = told_of c.deref.result.now pattern.values.items c.in-Some.later.listed.items c.in_ok-matched.field-0 true c.deref.ensures.value c.in_ok-matched.ensures.known c.if-not-branch.false in
+    let all = told_of c.deref.result.now pattern.values.items c.in-Some.later.listed.items c.in_ok-entries_with_changes.field-0 true c.deref.ensures.value c.in_ok-entries_with_changes.ensures.each_has_value c.if-not-branch.false in
     let passes = at_match c.args.form (pattern_view pattern) (later_view c.in-Some.later) true none all in
     let says = pattern_says c.args.form line c.args.text.now start g.C.Payload.payload_of (pattern_view pattern) (later_view c.in-Some.later) read passes in
-    let made = (λ i. (c.replace-2.ensures.value i).items) ∙ c.in_ok-matched.ensures.entries c.if-not-branch.false ∙ (λ i. entries_of g.C.Payload.payload_of (c.deref.ensures.value i) c.in-Some.later.listed.items) in (
+    let made = (λ i. (c.replace-2.ensures.value i).items) ∙ c.in_ok-entries_with_changes.ensures.entries c.if-not-branch.false ∙ (λ i. entries_of g.C.Payload.payload_of (c.deref.ensures.value i) c.in-Some.later.listed.items) in (
       pattern_caused c.args.form line c.args.text.now start (pattern_view pattern) (later_view c.in-Some.later) read ∙ passes,
       (says.0 ∙ (λ i. Some ((sym c.replace.ensures.value i).items, sym made i)), says.1),
     )

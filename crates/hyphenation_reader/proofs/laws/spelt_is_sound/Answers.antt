@@ -5,7 +5,7 @@ pub returns : goal.returns
 returns c =
     let laws : TextLaws = record {
       pieces = c.parts_are_text.ensures.pieces;
-      parts = c.parts_are_text.ensures.token;
+      parts = c.parts_are_text.ensures.token_parts;
       spelt = c.spelt_is_text.ensures.text;
       keys = c.spelt_is_text.ensures.key;
       boundary = c.boundary_is_of_chars.ensures;

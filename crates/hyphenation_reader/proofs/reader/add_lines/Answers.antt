@@ -2,7 +2,7 @@ use Rattle.std.proofs.Common.{◌∙◌, sym, ap, take, arith}
 use Rattle.std.proofs.lemmas.Str.{IsUtf8-from_is_utf8}
 use Rattle.hyphenation_grammar.specs.Lines.{lines_of}
 use Rattle.hyphenation_grammar.specs.Reading.{items_of_lines}
-use Rattle.hyphenation_reader.proofs.JudgingHead.{idle-spelt}
+use Rattle.hyphenation_reader.proofs.JudgingHead.{spells_nothing-spelt}
 use Rattle.hyphenation_reader.proofs.ReadingLines.{own-fault, repeated-fault, goes-on, spells-more, no_cause, refused, rest_is, reaches, ended, ended-fault}
 use Rattle.hyphenation_reader.proofs.reader.add_lines.Goals as goal
 
@@ -38,10 +38,10 @@ pub loop-line-init : goal.loop-line-init
 loop-line-init g c = record {
   room = c.requires.rest.shorter;
   past = omega arith;
-  within = c.requires.long;
+  within = c.requires.three_lines;
   rest = c.requires.rest.lines;
   fault = sym c.requires.head;
-  spelt = c.requires.empty ∙ sym (idle-spelt c.args.form.version g.C.Payload.payload_of g.B.Listing.listing_of (take 3 (lines_of c.args.bytes.now)) c.requires.idle);
+  spelt = c.requires.empty ∙ sym (spells_nothing-spelt c.args.form.version g.C.Payload.payload_of g.B.Listing.listing_of (take 3 (lines_of c.args.bytes.now)) c.requires.spells_nothing);
   utf8 = λ known. c.requires.rest.utf8 (IsUtf8-from_is_utf8 c.args.bytes.now (sym c.is_utf8-known.ensures ∙ known));
   begins = c.requires.begins;
 }
@@ -57,4 +57,4 @@ returns-clause-spelt g c =
     c.loop-line.invariant.spelt ∙ ap (items_of_lines c.args.form.version g.C.Payload.payload_of g.B.Listing.listing_of) (ended (lines_of c.args.bytes.now) c.loop-line.count c.loop-line.invariant.within none)
 
 pub item_at-requires : goal.item_at-requires
-item_at-requires g c = record { utf8 = λ known. (c.in-Some.ensures.utf8 (c.loop-line.invariant.utf8 known)).0; late = omega (arith, c.loop-line.invariant.past) }
+item_at-requires g c = record { utf8 = λ known. (c.in-Some.ensures.utf8 (c.loop-line.invariant.utf8 known)).0; past_head = omega (arith, c.loop-line.invariant.past) }

@@ -5,11 +5,11 @@ use Rattle.hyphenation_grammar.specs.Lines.{lines_of}
 use Rattle.hyphenation_reader.proofs.ReadingInvariant.{parts-make, contents-kept}
 use Rattle.hyphenation_reader.proofs.reader.dictionary_of.Goals as goal
 
-pub dictionary_of-requires-clause-kept : goal.dictionary_of-requires-clause-kept
-dictionary_of-requires-clause-kept g c =
+pub dictionary_of-requires-clause-invariant : goal.dictionary_of-requires-clause-invariant
+dictionary_of-requires-clause-invariant g c =
     rw (c.in_ok-patterns.ensures, c.into_parts-patterns.ensures.patterns, c.into_parts-patterns.ensures.exceptions) (subst (IsDictionary g.C.Payload.change_of g.B.Break.meaning)
     (sym (parts-make c.args.form.version g.C.Payload.payload_of g.B.Listing.listing_of (lines_of c.args.bytes.now) c.args.head.language (c.args.head.left, c.args.head.right) (items_held c.args.builder) c.requires.head.second c.requires.head.third c.requires.spelt))
-    (contents-kept c.spelt_is_sound.ensures g.C.Payload.payload_of g.B.Listing.listing_of g.C.Payload.change_of g.B.Break.meaning g.met.C.Payload.kept g.met.B.Listing.kept c.args.form (lines_of c.args.bytes.now) c.requires.accepted))
+    (contents-kept c.spelt_is_sound.ensures g.C.Payload.payload_of g.B.Listing.listing_of g.C.Payload.change_of g.B.Break.meaning g.met.C.Payload.carried_or_none g.met.B.Listing.listed_or_plain c.args.form (lines_of c.args.bytes.now) c.requires.accepted))
 
 pub returns : goal.returns
 returns g c =

@@ -10,14 +10,14 @@ index-requires c = grind (arith, common_steps)
 pub returns-then-index-eq0-clause-longer : goal.returns-then-index-eq0-clause-longer
 returns-then-index-eq0-clause-longer c = grind (arith, common_steps)
 
-pub returns-then-index-eq0-clause-others : goal.returns-then-index-eq0-clause-others
-returns-then-index-eq0-clause-others c = grind (arith, common_steps)
+pub returns-then-index-eq0-clause-other_owners_stay : goal.returns-then-index-eq0-clause-other_owners_stay
+returns-then-index-eq0-clause-other_owners_stay c = grind (arith, common_steps)
 
-pub make_place-requires-clause-children : goal.make_place-requires-clause-children
-make_place-requires-clause-children c = grind (arith, common_steps)
+pub find_or_add_place-requires-clause-children : goal.find_or_add_place-requires-clause-children
+find_or_add_place-requires-clause-children c = grind (arith, common_steps)
 
-pub make_place-requires-clause-node : goal.make_place-requires-clause-node
-make_place-requires-clause-node c = grind (arith, common_steps)
+pub find_or_add_place-requires-clause-node : goal.find_or_add_place-requires-clause-node
+find_or_add_place-requires-clause-node c = grind (arith, common_steps)
 
 pub returns-in_err-place-clause-row : goal.returns-in_err-place-clause-row
 returns-in_err-place-clause-row c = grind (arith, common_steps)
@@ -25,8 +25,8 @@ returns-in_err-place-clause-row c = grind (arith, common_steps)
 pub returns-in_err-place-clause-longer : goal.returns-in_err-place-clause-longer
 returns-in_err-place-clause-longer c = grind (arith, common_steps)
 
-pub returns-in_err-place-clause-others : goal.returns-in_err-place-clause-others
-returns-in_err-place-clause-others c = grind (arith, common_steps)
+pub returns-in_err-place-clause-other_owners_stay : goal.returns-in_err-place-clause-other_owners_stay
+returns-in_err-place-clause-other_owners_stay c = grind (arith, common_steps)
 
 pub returns-in_err-base-clause-row : goal.returns-in_err-base-clause-row
 returns-in_err-base-clause-row c = grind (arith, common_steps)
@@ -34,8 +34,8 @@ returns-in_err-base-clause-row c = grind (arith, common_steps)
 pub returns-in_err-base-clause-longer : goal.returns-in_err-base-clause-longer
 returns-in_err-base-clause-longer c = grind (arith, common_steps)
 
-pub returns-in_err-base-clause-others : goal.returns-in_err-base-clause-others
-returns-in_err-base-clause-others c = grind (arith, common_steps)
+pub returns-in_err-base-clause-other_owners_stay : goal.returns-in_err-base-clause-other_owners_stay
+returns-in_err-base-clause-other_owners_stay c = grind (arith, common_steps)
 
 pub write_row-requires-clause-children : goal.write_row-requires-clause-children
 write_row-requires-clause-children c = grind (arith, common_steps)
@@ -50,13 +50,13 @@ pub write_row-requires-clause-fits : goal.write_row-requires-clause-fits
 write_row-requires-clause-fits c = grind (arith, common_steps)
 
 pub returns-clause-row : goal.returns-clause-row
-returns-clause-row c = rw c.in_ok-base.ensures.held (grind (arith, common_steps))
+returns-clause-row c = rw c.in_ok-base.ensures.same_number (grind (arith, common_steps))
 
 pub returns-clause-longer : goal.returns-clause-longer
 returns-clause-longer c = grind (arith, common_steps)
 
-pub returns-clause-others : goal.returns-clause-others
-returns-clause-others c = grind (arith, common_steps)
+pub returns-clause-other_owners_stay : goal.returns-clause-other_owners_stay
+returns-clause-other_owners_stay c = grind (arith, common_steps)
 
 pub returns-then-index-eq0-clause-row : goal.returns-then-index-eq0-clause-row
 returns-then-index-eq0-clause-row c =
@@ -69,4 +69,4 @@ returns-then-index-eq0-clause-row c =
 
 pub write_row-requires-clause-none : goal.write_row-requires-clause-none
 write_row-requires-clause-none c = λ at j is.
-    c.requires.none at j (sym (c.make_place.ensures.same c.args.node at c.requires.free) ∙ ap (λ xs. child_in xs c.args.node at) (sym c.deref_mut.ensures.value) ∙ is)
+    c.requires.none at j (sym (c.find_or_add_place.ensures.other_owners_stay c.args.node at c.requires.free) ∙ ap (λ xs. child_in xs c.args.node at) (sym c.deref_mut.ensures.value) ∙ is)

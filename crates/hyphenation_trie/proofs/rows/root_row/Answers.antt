@@ -8,8 +8,8 @@ returns-in_err-cells-clause-row c = grind (arith, common_steps)
 pub returns-in_err-cells-clause-full : goal.returns-in_err-cells-clause-full
 returns-in_err-cells-clause-full c = grind (arith, common_steps)
 
-pub returns-in_err-cells-clause-others : goal.returns-in_err-cells-clause-others
-returns-in_err-cells-clause-others c = grind (arith, common_steps)
+pub returns-in_err-cells-clause-other_owners_stay : goal.returns-in_err-cells-clause-other_owners_stay
+returns-in_err-cells-clause-other_owners_stay c = grind (arith, common_steps)
 
 pub returns-in_err-base-clause-row : goal.returns-in_err-base-clause-row
 returns-in_err-base-clause-row c = grind (arith, common_steps)
@@ -17,8 +17,8 @@ returns-in_err-base-clause-row c = grind (arith, common_steps)
 pub returns-in_err-base-clause-full : goal.returns-in_err-base-clause-full
 returns-in_err-base-clause-full c = grind (arith, common_steps)
 
-pub returns-in_err-base-clause-others : goal.returns-in_err-base-clause-others
-returns-in_err-base-clause-others c = grind (arith, common_steps)
+pub returns-in_err-base-clause-other_owners_stay : goal.returns-in_err-base-clause-other_owners_stay
+returns-in_err-base-clause-other_owners_stay c = grind (arith, common_steps)
 
 pub write_row-requires-clause-children : goal.write_row-requires-clause-children
 write_row-requires-clause-children c = grind (arith, common_steps)
@@ -41,5 +41,5 @@ returns-clause-row c = grind (arith, common_steps)
 pub returns-clause-full : goal.returns-clause-full
 returns-clause-full c = grind (arith, common_steps)
 
-pub returns-clause-others : goal.returns-clause-others
-returns-clause-others c = grind (arith, common_steps)
+pub returns-clause-other_owners_stay : goal.returns-clause-other_owners_stay
+returns-clause-other_owners_stay c = grind (arith, common_steps)

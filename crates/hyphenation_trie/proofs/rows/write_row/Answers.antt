@@ -20,7 +20,7 @@ loop-child-preserved c =
     let child : ℕ = c.loop-child.child in
     let inv = c.loop-child.invariant in
     let asked = c.requires.children in
-    let new = c.put.new.cells in
+    let new = c.write_cell.new.cells in
     let here = inv.within (omega arith) in
     let next : ℕ = c.index-child-in-loop-child.result.now in
     let read : next ≡ slice_index before child = c.index-child-in-loop-child.ensures ∙ get_or_default before child next 0 (omega (arith, here.0, asked.chained.lengths)) in
@@ -34,36 +34,36 @@ loop-child-preserved c =
       within = λ pos. let w = chain.within pos in (omega (arith, w.0, here.0), w.1);
       mine = λ j low lj is. elim (cases_eq j child) [
         | inl same ↦
-            ap (λ (x : ℕ). child_in new node (base + slice_index bytes x)) same ∙ ap (λ (x : ℕ). child_in new node x) (sym at_is) ∙ c.put.ensures.mine ∙ ap (λ (x : ℕ). Some x) (sym same)
+            ap (λ (x : ℕ). child_in new node (base + slice_index bytes x)) same ∙ ap (λ (x : ℕ). child_in new node x) (sym at_is) ∙ c.write_cell.ensures.child_written ∙ ap (λ (x : ℕ). Some x) (sym same)
         | inr other ↦ elim (cases_lt child j) [
           | inl above ↦
               let differ = asked.apart child j (omega arith) above lj (here.1 ∙ sym is) in
-              c.put.ensures.rest node (base + slice_index bytes j) (λ e. differ (omega (arith, e, at_is))) ∙ inv.mine j above lj is
+              c.write_cell.ensures.other_cells_stay node (base + slice_index bytes j) (λ e. differ (omega (arith, e, at_is))) ∙ inv.mine j above lj is
           | inr below ↦ absurd (chain.none j low (omega arith) is)
         ]
       ];
       only = λ c' j is pos. elim (cases_eq c' at) [
         | inl same ↦
-            let e : Some child ≡ Some j = sym c.put.ensures.mine ∙ ap (λ (x : ℕ). child_in new node x) (sym same) ∙ is in
+            let e : Some child ≡ Some j = sym c.write_cell.ensures.child_written ∙ ap (λ (x : ℕ). child_in new node x) (sym same) ∙ is in
             let cj : child ≡ j = same_some child j e in
             (omega arith, omega (arith, here.0), ap (λ (x : ℕ). slice_index parents x) (sym cj) ∙ here.1, same ∙ at_is ∙ ap (λ (x : ℕ). base + slice_index bytes x) cj)
         | inr other ↦
-            let was = inv.only c' j (sym (c.put.ensures.rest node c' other) ∙ is) pos in
+            let was = inv.only c' j (sym (c.write_cell.ensures.other_cells_stay node c' other) ∙ is) pos in
             (omega (arith, was.0), was.1, was.2, was.3)
       ];
       kept = λ c' had e. elim (cases_eq c' at) [
         | inl same ↦
-            let bad : None ≡ Some child = sym e ∙ ap (λ (x : ℕ). child_in new node x) same ∙ c.put.ensures.mine in
+            let bad : None ≡ Some child = sym e ∙ ap (λ (x : ℕ). child_in new node x) same ∙ c.write_cell.ensures.child_written in
             absurd cc
-        | inr other ↦ absurd (inv.kept c' had (sym (c.put.ensures.rest node c' other) ∙ e))
+        | inr other ↦ absurd (inv.kept c' had (sym (c.write_cell.ensures.other_cells_stay node c' other) ∙ e))
       ];
       others = λ i c' nf nn. elim (cases_eq c' at) [
-        | inl same ↦ ap (λ (x : ℕ). child_in new i x) same ∙ c.put.ensures.apart i nf nn ∙ ap (λ (x : ℕ). child_in c.loop-child.cells i x) (sym same) ∙ inv.others i c' nf nn
-        | inr other ↦ c.put.ensures.rest i c' other ∙ inv.others i c' nf nn
+        | inl same ↦ ap (λ (x : ℕ). child_in new i x) same ∙ c.write_cell.ensures.other_owners_stay i nf nn ∙ ap (λ (x : ℕ). child_in c.loop-child.cells i x) (sym same) ∙ inv.others i c' nf nn
+        | inr other ↦ c.write_cell.ensures.other_cells_stay i c' other ∙ inv.others i c' nf nn
       ];
       free = λ j pos le is e.
           let differ = asked.apart j child pos (omega arith) here.0 (is ∙ sym here.1) in
-          inv.free j pos (omega arith) is (sym (c.put.ensures.rest c.args.free (base + slice_index bytes j) (λ e. differ (omega (arith, e, at_is)))) ∙ e);
+          inv.free j pos (omega arith) is (sym (c.write_cell.ensures.other_cells_stay c.args.free (base + slice_index bytes j) (λ e. differ (omega (arith, e, at_is)))) ∙ e);
     }
 
 pub returns-clause-row : goal.returns-clause-row
@@ -84,11 +84,11 @@ index-requires c = grind (arith, common_steps)
 pub overflow_add-at : goal.overflow_add-at
 overflow_add-at c = omega arith
 
-pub put-requires-clause-at : goal.put-requires-clause-at
-put-requires-clause-at c = grind (arith, common_steps)
+pub write_cell-requires-clause-at : goal.write_cell-requires-clause-at
+write_cell-requires-clause-at c = grind (arith, common_steps)
 
-pub put-requires-clause-free : goal.put-requires-clause-free
-put-requires-clause-free c = grind (arith, common_steps)
+pub write_cell-requires-clause-free : goal.write_cell-requires-clause-free
+write_cell-requires-clause-free c = grind (arith, common_steps)
 
 pub index-child-requires-in-loop-child : goal.index-child-requires-in-loop-child
 index-child-requires-in-loop-child c = grind (arith, common_steps)
@@ -96,11 +96,11 @@ index-child-requires-in-loop-child c = grind (arith, common_steps)
 pub loop-child-smaller : goal.loop-child-smaller
 loop-child-smaller c = grind (arith, common_steps)
 
-pub returns-clause-kept : goal.returns-clause-kept
-returns-clause-kept c = grind (arith, common_steps)
+pub returns-clause-own_cells_stay : goal.returns-clause-own_cells_stay
+returns-clause-own_cells_stay c = grind (arith, common_steps)
 
-pub returns-clause-others : goal.returns-clause-others
-returns-clause-others c = grind (arith, common_steps)
+pub returns-clause-other_owners_stay : goal.returns-clause-other_owners_stay
+returns-clause-other_owners_stay c = grind (arith, common_steps)
 
 pub loop-child-init : goal.loop-child-init
 loop-child-init c =

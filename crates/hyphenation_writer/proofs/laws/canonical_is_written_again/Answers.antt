@@ -4,5 +4,5 @@ use Rattle.hyphenation_writer.proofs.CanonicalRead.{canonical-contents}
 use Rattle.hyphenation_writer.proofs.laws.canonical_is_written_again.Goals as goal
 
 pub returns : goal.returns
-returns g c = λ kind payload_of listing_of change_of break_of contents exact kept.
-    ap (canonical_text_of kind change_of break_of) (canonical-contents c.entries_in_order.ensures c.codes_are_text.ensures kind payload_of listing_of change_of break_of exact contents kept)
+returns g c = λ kind held contents exact kept.
+    ap (canonical_text_of kind held.change_of held.break_of) (canonical-contents c.entries_in_order.ensures c.codes_are_text.ensures kind held.payload_of held.listing_of held.change_of held.break_of exact contents kept)

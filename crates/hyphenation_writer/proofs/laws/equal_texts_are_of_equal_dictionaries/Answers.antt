@@ -5,7 +5,7 @@ use Rattle.hyphenation_writer.proofs.CanonicalRead.{canonical-contents}
 use Rattle.hyphenation_writer.proofs.laws.equal_texts_are_of_equal_dictionaries.Goals as goal
 
 pub returns : goal.returns
-returns g c = λ kind payload_of listing_of change_of break_of contents others exact kept other same.
-    sym (canonical-contents c.entries_in_order.ensures c.codes_are_text.ensures kind payload_of listing_of change_of break_of exact contents kept)
-    ∙ ap (λ text. contents_of kind payload_of listing_of (lines_of text)) same
-    ∙ canonical-contents c.entries_in_order.ensures c.codes_are_text.ensures kind payload_of listing_of change_of break_of exact others other
+returns g c = λ kind held contents others exact kept other same.
+    sym (canonical-contents c.entries_in_order.ensures c.codes_are_text.ensures kind held.payload_of held.listing_of held.change_of held.break_of exact contents kept)
+    ∙ ap (λ text. contents_of kind held.payload_of held.listing_of (lines_of text)) same
+    ∙ canonical-contents c.entries_in_order.ensures c.codes_are_text.ensures kind held.payload_of held.listing_of held.change_of held.break_of exact others other

@@ -1,7 +1,7 @@
 use Rattle.std.proofs.Common.{◌≡◌, ◌-◌, length}
 use Rattle.line_filling.specs.Cuts.{word_breaks}
 use Rattle.line_filling.specs.Lines.{lines}
-use Rattle.line_filling.specs.Private.Open.{IsOpen, state_of}
+use Rattle.line_filling.specs.Private.OpenLine.{IsOpenLine, state_of}
 use Rattle.line_filling.specs.Private.Filling.{all_lines}
 use Rattle.line_filling.specs.Private.WordBreaks.{HasBreaksAfter}
 use Rattle.line_filling.proofs.filling.fill_all.Given as goal
@@ -12,7 +12,7 @@ invariant-loop-current g l =
     let breaks_of = g.H.Hyphenator.breaks_of l.dictionary in
     record {
       all : all_lines l.text l.columns (word_breaks breaks_of l.text) (state_of l.current l.lines.items) ≡ lines l.text l.columns (word_breaks breaks_of l.text);
-      line : IsOpen l.text l.current;
+      line : IsOpenLine l.text l.current;
       breaks : HasBreaksAfter breaks_of l.text l.current.end l.breaks;
     }
 

@@ -1,18 +1,18 @@
 use Rattle.std.proofs.Common.{◌≡◌, ◌-◌, ◌<◌, ◌≤◌}
 use Rattle.line_filling.specs.Cuts.{word_breaks}
 use Rattle.line_filling.specs.Private.Filling.{all_lines}
-use Rattle.line_filling.specs.Private.Open.{IsOpen, state_of}
+use Rattle.line_filling.specs.Private.OpenLine.{IsOpenLine, state_of}
 use Rattle.line_filling.specs.Private.WordBreaks.{HasBreaksAfter}
 use Rattle.line_filling.proofs.filling.pass_breaks.Given as goal
 
--- What is owed stays the same while the line goes on.
+-- All lines stay the same while the line goes on.
 abbrev pub invariant-loop-place : goal.invariant-loop-place
 invariant-loop-place g l =
     let breaks_of = g.H.Hyphenator.breaks_of l.dictionary in
     let breaks = word_breaks breaks_of l.text in
     record {
       same : all_lines l.text l.columns breaks (state_of l.current l.lines.items) ≡ all_lines l.text l.columns breaks (state_of l.fn.current l.initial.lines.items);
-      line : IsOpen l.text l.current;
+      line : IsOpenLine l.text l.current;
       breaks : HasBreaksAfter breaks_of l.text l.current.end l.breaks;
       onward : l.fn.current.end ≤ l.current.end;
       before : l.current.end < l.until;

@@ -12,8 +12,8 @@ returns-then-place-least g c =
     let below = subst (λ (n : ℕ). n < c.loop-b.least) (c.place.ensures ∙ ap (λ x. (g.B.Break.meaning x).place) c.b-item.is) c.if-place-least.true in
     never _ (sym c.loop-b.invariant ∙ before_least g.B.Break.meaning c.args.word.now c.loop-b.least c.args.listed.now c.loop-b.b-index c.b-item.result c.loop-b-test.true below)
 
-pub returns-then-not-stands_in : goal.returns-then-not-stands_in
-returns-then-not-stands_in g c =
-    let off = off_by _ c.stands_in.result c.stands_in.ensures c.if-not-stands_in.true in
+pub returns-then-not-lies_in : goal.returns-then-not-lies_in
+returns-then-not-lies_in g c =
+    let off = off_by _ c.lies_in.result c.lies_in.ensures c.if-not-lies_in.true in
     let there = ap (λ x. is_boundary c.args.word.now (g.B.Break.meaning x).place && lists_within c.args.word.now (g.B.Break.meaning x).place (g.B.Break.meaning x).change) c.b-item.is in
     never _ (sym c.loop-b.invariant ∙ out_of_word g.B.Break.meaning c.args.word.now c.loop-b.least c.args.listed.now c.loop-b.b-index c.b-item.result c.loop-b-test.true (sym there ∙ off))

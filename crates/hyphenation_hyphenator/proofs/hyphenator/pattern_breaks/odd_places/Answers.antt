@@ -1,10 +1,10 @@
-use Rattle.std.proofs.Common.{◌-◌, length, refl, ◌∙◌, arith}
+use Rattle.std.proofs.Common.{length, ◌∙◌, arith}
 use Rattle.hyphenation_hyphenator.proofs.OddPlaces.{within_alone, outside, next_odd, next_even, even_none, test_of}
 use Rattle.hyphenation_hyphenator.proofs.hyphenator.pattern_breaks.odd_places.Goals as goal
 use Rattle.hyphenation_hyphenator.proofs.hyphenator.pattern_breaks.odd_places.Goals.{then-values-place-eq1+in_ok-push, else-values-place-eq1}
 
 pub loop-place-init : goal.loop-place-init
-loop-place-init c = c.in_ok-places.ensures.items ∙ even_none c.args.values.now c.args.bounds c.max-first.result c.first_odd-least.result c.first_odd-least.ensures.even
+loop-place-init c = c.in_ok-places.ensures.items ∙ even_none c.args.values.now c.args.bounds c.max-first.result c.first_odd_place-least.result c.first_odd_place-least.ensures.even_before
 
 pub loop-place-preserved : goal.loop-place-preserved
 loop-place-preserved c =
@@ -26,7 +26,7 @@ returns c =
     let first = c.max-first.result in
     let end = c.min-end.result in
     c.loop-place.invariant
-    ∙ within_alone (test_of values c.args.bounds) first end c.loop-place.place (length values) (omega arith) (omega arith) (omega arith) (omega arith) (λ le. let high = c.first_odd-least.ensures.high le in c.loop-place.auto.place-end high)
+    ∙ within_alone (test_of values c.args.bounds) first end c.loop-place.place (length values) (omega arith) (omega arith) (omega arith) (omega arith) (λ le. let high = c.first_odd_place-least.ensures.to_after_end le in c.loop-place.auto.place-end high)
     (λ p one out. outside values c.args.bounds first end p c.max-first.ensures c.min-end.ensures one out)
 
 pub returns-then-end-least : goal.returns-then-end-least
@@ -34,8 +34,8 @@ returns-then-end-least c =
     let values = c.args.values.now in
     let first = c.max-first.result in
     let end = c.min-end.result in
-    let least = c.first_odd-least.result in
+    let least = c.first_odd_place-least.result in
     c.new.ensures.items
-    ∙ even_none values c.args.bounds first least c.first_odd-least.ensures.even
-    ∙ within_alone (test_of values c.args.bounds) first end least (length values) (omega arith) (omega arith) (omega arith) (omega arith) c.first_odd-least.ensures.high
+    ∙ even_none values c.args.bounds first least c.first_odd_place-least.ensures.even_before
+    ∙ within_alone (test_of values c.args.bounds) first end least (length values) (omega arith) (omega arith) (omega arith) (omega arith) c.first_odd_place-least.ensures.to_after_end
     (λ p one out. outside values c.args.bounds first end p c.max-first.ensures c.min-end.ensures one out)

@@ -2,8 +2,8 @@ use Rattle.std.proofs.Common.{ℕ, ◌∙◌, arith, replicate}
 use Rattle.std.proofs.lemmas.List.{length-take, get_or-take, get_or-replicate}
 use Rattle.hyphenation_hyphenator.proofs.hyphenator.pattern_breaks.plain_breaks.Goals as goal
 
-pub odd_from-requires-clause-zeros : goal.odd_from-requires-clause-zeros
-odd_from-requires-clause-zeros c = λ i lt.
+pub plain_breaks_with_buffer-requires-clause-zeros_at_first : goal.plain_breaks_with_buffer-requires-clause-zeros_at_first
+plain_breaks_with_buffer-requires-clause-zeros_at_first c = λ i lt.
     let places = c.saturating_sub-places.result in
     let short = length-take {A = ℕ} places (replicate 64 0) in
     get_or-take {A = ℕ} places (replicate 64 0) i 0 (omega (arith, lt, short)) ∙ get_or-replicate {A = ℕ} 64 i 0 0 (omega (arith, lt, short))

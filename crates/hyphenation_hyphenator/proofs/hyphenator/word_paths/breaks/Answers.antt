@@ -8,7 +8,7 @@ pub returns-clause-fits : goal.returns-clause-fits
 returns-clause-fits g c =
     let word = c.args.word.now in
     let fit = breaks_fit g.F.Payload.Payload.change_of g.F.Listing.Break.meaning c.args.dictionary.now word c.value_is_borne.ensures c.winner_is_first.ensures c.invariant.ensures c.utf8.word in
-    IfOk-weaker c.breaks_by_letters.result _ _ (λ v is. subst (Fits word) (sym is) fit) c.breaks_by_letters.ensures
+    IfOk-weaker c.breaks_by_path.result _ _ (λ v is. subst (Fits word) (sym is) fit) c.breaks_by_path.ensures
 
 pub returns-clause-ranges : goal.returns-clause-ranges
 returns-clause-ranges g c =

@@ -2,7 +2,7 @@ use Rattle.std.proofs.Common.{map, length, refl, ap, ◌∙◌, arith}
 use Rattle.std.proofs.lemmas.Result.{IfOk-weaker}
 use Rattle.hyphenation_breaks.specs.Break.{plain_break}
 use Rattle.hyphenation_hyphenator.specs.Fitting.{kept_breaks}
-use Rattle.hyphenation_hyphenator.specs.Private.Fitting.{is_steady_by}
+use Rattle.hyphenation_hyphenator.specs.Private.Fitting.{range_holds_no_shift}
 use Rattle.hyphenation_hyphenator.specs.Opportunities.{rules_of, opportunities}
 use Rattle.hyphenation_hyphenator.specs.SoftHyphens.{soft_hyphens}
 use Rattle.hyphenation_hyphenator.proofs.FittedBreaks.{breaks_are, soft_breaks_are}
@@ -16,11 +16,11 @@ pub returns-in-Some : goal.returns-in-Some
 returns-in-Some g c =
     let m = g.F.Break.meaning in
     let word = c.args.word.now in
-    let found = rw c.in-Some.is at c.in_ok-places.ensures.found in
-    let some = rw c.in-Some.is at c.in_ok-places.ensures.some in
-    IfOk-weaker c.unchanged.result _ _
+    let found = rw c.in-Some.is at c.in_ok-places.ensures.places in
+    let some = rw c.in-Some.is at c.in_ok-places.ensures.some_if_any in
+    IfOk-weaker c.from_places.result _ _
     (λ v h. soft_breaks_are (rules_of g.F.Payload.Payload.change_of g.F.Listing.Break.meaning c.args.dictionary.now) word (map m v.items) (some.0 refl) (h ∙ ap (map plain_break) found))
-    c.unchanged.ensures
+    c.from_places.ensures
 
 -- Any other word.
 
@@ -36,8 +36,8 @@ returns g c =
     let size = length text in
     let shifts = c.deref-shifts.result.now in
     let found = opportunities rules text in
-    let kept = kept_breaks (is_steady_by size shifts) found in
-    let none = no_soft_hyphens (soft_hyphens word) (λ some. none_is_not_some c.in_ok-places.field-0 c.in_default.is (c.in_ok-places.ensures.some.1 some)) in
+    let kept = kept_breaks (range_holds_no_shift size shifts) found in
+    let none = no_soft_hyphens (soft_hyphens word) (λ some. none_is_not_some c.in_ok-places.field-0 c.in_default.is (c.in_ok-places.ensures.some_if_any.1 some)) in
     let sound = opportunities_ascend rules text (rules_are_sound change_of break_of contents text c.value_is_borne.ensures c.invariant.ensures c.as_str-text.utf8) in
     IfOk-weaker c.breaks_of_folded.result _ _
     (λ v is. breaks_are rules word text size shifts found kept (map m v.items) c.utf8.word (omega arith) none (record {

@@ -26,8 +26,8 @@ unwrap-text-requires g c =
     let utf8 : IsUtf8 c.make_ascii_lowercase.new.self = subst IsUtf8 (sym (small word _ _ _ c.requires.ascii c.make_ascii_lowercase.ensures.after c.copy_from_slice.ensures.after c.as_bytes.ensures.value)) (fold_is_utf8 word c.utf8.word) in
     reads c.from_utf8.result _ _ (λ e h. h.0 utf8) c.from_utf8.ensures.cases
 
-pub unmoved_breaks-requires : goal.unmoved_breaks-requires
-unmoved_breaks-requires g c κs =
+pub breaks_of_folded_ascii-requires : goal.breaks_of_folded_ascii-requires
+breaks_of_folded_ascii-requires g c κs =
     let word = c.args.word.now in
     let text = (read_is c.from_utf8.result _ _ c.unwrap-text.result c.unwrap-text.ensures c.from_utf8.ensures.cases).0 in
     ((refl, tt), subst IsAscii (sym (text ∙ small word _ _ _ c.requires.ascii c.make_ascii_lowercase.ensures.after c.copy_from_slice.ensures.after c.as_bytes.ensures.value)) (fold_is_ascii word c.requires.ascii))
@@ -40,4 +40,4 @@ returns g c =
     let rules = rules_of change_of break_of c.args.dictionary.now in
     let text = (read_is c.from_utf8.result _ _ c.unwrap-text.result c.unwrap-text.ensures c.from_utf8.ensures.cases).0 in
     let ascend = opportunities_ascend rules (fold_case word) (rules_are_sound change_of break_of c.args.dictionary.now (fold_case word) c.value_is_borne.ensures c.invariant.ensures (fold_is_utf8 word c.utf8.word)) in
-    IfOk-weaker c.unmoved_breaks.result _ _ (λ v is. ascii_breaks rules word c.unwrap-text.result.now (map g.F.Break.meaning v.items) c.requires.ascii (text ∙ small word _ _ _ c.requires.ascii c.make_ascii_lowercase.ensures.after c.copy_from_slice.ensures.after c.as_bytes.ensures.value) ascend is) c.unmoved_breaks.ensures
+    IfOk-weaker c.breaks_of_folded_ascii.result _ _ (λ v is. ascii_breaks rules word c.unwrap-text.result.now (map g.F.Break.meaning v.items) c.requires.ascii (text ∙ small word _ _ _ c.requires.ascii c.make_ascii_lowercase.ensures.after c.copy_from_slice.ensures.after c.as_bytes.ensures.value) ascend is) c.breaks_of_folded_ascii.ensures

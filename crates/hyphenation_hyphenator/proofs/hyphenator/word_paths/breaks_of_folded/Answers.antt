@@ -1,6 +1,6 @@
 use Rattle.std.proofs.Common.{map, length, ap, ◌∙◌}
 use Rattle.hyphenation_hyphenator.specs.Fitting.{kept_breaks}
-use Rattle.hyphenation_hyphenator.specs.Private.Fitting.{is_steady_by}
+use Rattle.hyphenation_hyphenator.specs.Private.Fitting.{range_holds_no_shift}
 use Rattle.hyphenation_hyphenator.specs.Private.Opportunities.{realigned_break}
 use Rattle.hyphenation_hyphenator.proofs.FittedBreaks.{whole_written}
 use Rattle.hyphenation_hyphenator.proofs.hyphenator.word_paths.breaks_of_folded.Goals as goal
@@ -12,4 +12,4 @@ returns g c =
     let size = length c.args.folded.now in
     let written = whole_written c.in_ok-breaks.breaks.len c.realign_all.new.breaks c.in_ok-breaks.breaks.items (c.realign_all.auto.breaks ∙ c.deref_mut.ensures.len) in
     ap (map m) written ∙ c.realign_all.ensures
-    ∙ ap (map (realigned_break shifts)) (ap (map m) c.deref_mut.ensures.value ∙ c.in_ok-breaks.ensures ∙ ap (kept_breaks (is_steady_by size shifts)) c.in_ok-found.ensures.breaks)
+    ∙ ap (map (realigned_break shifts)) (ap (map m) c.deref_mut.ensures.value ∙ c.in_ok-breaks.ensures ∙ ap (kept_breaks (range_holds_no_shift size shifts)) c.in_ok-found.ensures.breaks)

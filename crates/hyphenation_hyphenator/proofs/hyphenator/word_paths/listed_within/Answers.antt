@@ -19,7 +19,7 @@ loop-b-preserved g c =
     elim c.if-is_within.branch [
       | then-is_within+in_ok-push w ↦
           let yes : within c.args.bounds b.place ≡ true = asked ∙ w.if-is_within.true in
-          rw (w.breaks-is, w.in_ok-push.ensures.items) (map-append m c.loop-b.breaks.items (w.listed.result ∷ []) ∙ ap (λ x. before ++ x ∷ []) w.listed.ensures ∙ sym (more ∙ ap (λ t. before ++ cond t (b ∷ []) []) yes))
+          rw (w.breaks-is, w.in_ok-push.ensures.items) (map-append m c.loop-b.breaks.items (w.from_listed.result ∷ []) ∙ ap (λ x. before ++ x ∷ []) w.from_listed.ensures ∙ sym (more ∙ ap (λ t. before ++ cond t (b ∷ []) []) yes))
       | else-is_within w ↦
           let no : within c.args.bounds b.place ≡ false = asked ∙ w.if-is_within.false in
           rw w.breaks-is (sym (more ∙ ap (λ t. before ++ cond t (b ∷ []) []) no ∙ append-nil before))

@@ -6,6 +6,6 @@ use Rattle.hyphenation_hyphenator.proofs.hyphenator.word_paths.opportunities_in.
 pub returns-in-Some-clause-ascend : goal.returns-in-Some-clause-ascend
 returns-in-Some-clause-ascend g c =
     IfOk-weaker c.listed_within.result _ _
-    (λ v is. listed_ascend g.F.Payload.Payload.change_of g.F.Listing.Break.meaning c.args.dictionary.now c.args.lowercase_word.now c.in-Some.listed.now c.args.bounds (map g.F.Break.meaning v.items) c.invariant.ensures
+    (λ v is. listed_ascend g.F.Payload.Payload.change_of g.F.Listing.Break.meaning c.args.dictionary.now c.args.word.now c.in-Some.listed.now c.args.bounds (map g.F.Break.meaning v.items) c.invariant.ensures
     (sym c.listed.ensures ∙ ap option_copied c.in-Some.is) is)
     c.listed_within.ensures

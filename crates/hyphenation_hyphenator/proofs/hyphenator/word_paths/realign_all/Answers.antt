@@ -18,8 +18,8 @@ loop-b-preserved g c =
     let all = map m c.args.breaks.now in
     let in_all : i < length all = omega (arith, length-map c.args.breaks.now m) in
     let in_items : i < length items = omega arith in
-    written_more (realigned_break shifts) m all items i x c.moved.result in_all in_items c.loop-b.invariant (get_or_default items i c.b-item.result x in_items)
-    (c.moved.ensures ∙ ap (λ p. break_at p (m x).change) (c.realign_in_order.ensures ∙ ap (λ p. saturate_unsigned w64 (pos p -ℤ delta_below shifts p)) c.place.ensures))
+    written_more (realigned_break shifts) m all items i x c.at_place.result in_all in_items c.loop-b.invariant (get_or_default items i c.b-item.result x in_items)
+    (c.at_place.ensures ∙ ap (λ p. break_at p (m x).change) (c.realign_sorted.ensures ∙ ap (λ p. saturate_unsigned w64 (pos p -ℤ delta_below shifts p)) c.place.ensures))
 
 pub returns : goal.returns
 returns g c =

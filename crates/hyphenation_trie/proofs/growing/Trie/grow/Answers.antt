@@ -23,10 +23,10 @@ invariant_of-self-2 g c =
     let new_states = rw (c.unwrap.ensures, c.reserve.ensures.items) at c.push.ensures.items in
     let grown = held-grow (froms_by parents bytes) c.self.inside.children.last.items before (length before) c.args.node c.args.byte count held.growing asked.node asked.absent in
     rw (new_states, added.parents, added.bytes, added.last, added.before)
-    (held_more parents bytes states _ _ _ _ (length c.self.inside.entries.items) c.args.node c.args.byte c.bare.result held grown c.bare.ensures)
+    (held_more parents bytes states _ _ _ _ (length c.self.inside.entries.items) c.args.node c.args.byte c.of_no_key.result held grown c.of_no_key.ensures)
 
-pub returns-clause-ok : goal.returns-clause-ok
-returns-clause-ok g c =
+pub returns-clause-child_added : goal.returns-clause-child_added
+returns-clause-child_added g c =
     let held = c.self.invariant in
     let parents = c.self.inside.children.parents.items in
     let bytes = c.self.inside.children.bytes.items in
@@ -36,4 +36,4 @@ returns-clause-ok g c =
     let count = count_is parents bytes states _ _ _ (length states) held refl in
     let new_states = rw (c.unwrap.ensures, c.reserve.ensures.items) at c.push.ensures.items in
     rw (← c.self.view_is, new_states, added.parents, added.bytes)
-    (added.child ∙ sym count.1 ∙ count.0 ∙ sym (length-texts_of (froms_by parents bytes)), tree_more parents bytes states es c.args.node c.args.byte c.bare.result held c.bare.ensures)
+    (added.child ∙ sym count.1 ∙ count.0 ∙ sym (length-texts_of (froms_by parents bytes)), tree_more parents bytes states es c.args.node c.args.byte c.of_no_key.result held c.of_no_key.ensures)

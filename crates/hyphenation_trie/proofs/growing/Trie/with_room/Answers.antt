@@ -7,13 +7,13 @@ use Rattle.hyphenation_trie.proofs.growing.Trie.with_room.Goals as goal
 pub invariant_of-result : goal.invariant_of-result
 invariant_of-result g c =
     let made = c.in_ok-children.ensures in
-    rw (made.0, made.1, made.2, made.3, c.in_ok-states.ensures, c.in_ok-entries.ensures.items) (record {
+    rw (made.nodes.0, made.nodes.1, made.chains.0, made.chains.1, c.in_ok-states.ensures, c.in_ok-entries.ensures.items) (record {
       parents_from = refl;
       bytes_from = refl;
       bytes_of = refl;
       states_of = refl;
       growing = held-new;
-      within = (subst (IsWithin 0) (sym c.bare.ensures) tt, tt);
+      within = (subst (IsWithin 0) (sym c.of_no_key.ensures) tt, tt);
     })
 
 pub returns : goal.returns

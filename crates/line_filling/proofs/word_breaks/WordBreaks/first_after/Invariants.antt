@@ -1,5 +1,5 @@
 use Rattle.std.proofs.Common.{◌≡◌, ℕ, ◌<◌, length}
-use Rattle.line_filling.specs.Cuts.{is_in}
+use Rattle.line_filling.specs.Cuts.{is_one_of}
 use Rattle.line_filling.specs.Private.WordBreaks.{remaining_pieces, remaining_breaks, InOrder}
 use Rattle.line_filling.proofs.word_breaks.WordBreaks.first_after.Given as goal
 
@@ -9,7 +9,7 @@ invariant-loop-place g l =
     let breaks_of = g.H.Hyphenator.breaks_of l.dictionary in
     record {
       order : InOrder breaks_of l.self;
-      stay : (p : ℕ) → l.from < p → is_in p (remaining_breaks breaks_of l.self) ≡ is_in p (remaining_breaks breaks_of l.initial.self);
+      stay : (p : ℕ) → l.from < p → is_one_of p (remaining_breaks breaks_of l.self) ≡ is_one_of p (remaining_breaks breaks_of l.initial.self);
     }
 
 abbrev pub decreases-loop-place : goal.decreases-loop-place

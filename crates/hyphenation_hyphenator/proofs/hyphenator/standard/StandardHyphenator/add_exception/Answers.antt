@@ -6,4 +6,4 @@ use Rattle.hyphenation_hyphenator.proofs.hyphenator.standard.StandardHyphenator.
 
 pub returns-clause-lists : goal.returns-clause-lists
 returns-clause-lists c =
-    on_ok_then c.insert_exception.result _ _ (λ same. rw same (lists_inserted no_change plain_break c.args.self.now (string_bytes c.args.lowercase_word) c.args.ops.items)) c.insert_exception.ensures.ok
+    on_ok_then c.insert_exception.result _ _ (λ same. rw same (lists_inserted no_change plain_break c.args.self.now (string_bytes c.args.lowercase_word) c.args.ops.items)) c.insert_exception.ensures.listed

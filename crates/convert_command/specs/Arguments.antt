@@ -1,0 +1,27 @@
+-- How the program `hyphenate-convert` reads its arguments.
+use Rattle.std.specs.Prelude.{◌≡◌, ℕ, List, [], ◌∷◌, codes, map, Option, Some, None}
+use Rattle.std.specs.Borrow.{Bor}
+use Rattle.std.specs.Str.Parse.{digits_value, without_leading_plus}
+use Rattle.hyphenation_grammar.specs.Form.{kind_of_name}
+use Rattle.hyphenation_grammar.specs.declared.form.Kind.{Kind}
+
+-- Arguments: the kind of the dictionary, the code of its language, the minima that are given, and the paths of files.
+pub record ParsedArgs : Type 0 where
+  pub kind : Kind
+  pub code : List ℕ
+  pub left : Option ℕ
+  pub right : Option ℕ
+  pub paths : List (List ℕ)
+
+-- A minimum as an argument has it: `-` if none is given, else its digits.
+abbrev pub ParsesAsMinimum : List ℕ → Option ℕ → Type 0
+ParsesAsMinimum text None = text ≡ codes "-"
+ParsesAsMinimum text (Some minimum) = digits_value 10 (without_leading_plus text) ≡ minimum
+
+-- Arguments `KIND CODE LEFT RIGHT FILE..` are parsed so.
+abbrev pub ParsesAs : List (Bor (List ℕ)) → ParsedArgs → Type 0
+ParsesAs (kind ∷ code ∷ left ∷ right ∷ paths) parsed =
+    (kind_of_name kind.now ≡ Some parsed.kind) × (parsed.code ≡ code.now)
+    × ParsesAsMinimum left.now parsed.left × ParsesAsMinimum right.now parsed.right
+    × (parsed.paths ≡ map (λ path. path.now) paths)
+ParsesAs _ parsed = ⊥

@@ -1,0 +1,10 @@
+use Rattle.std.proofs.Common.{◌∙◌, ap, map}
+use Rattle.hyphenation_breaks.specs.Dictionary.{entries_of_keys}
+use Rattle.hyphenation_score.specs.Scoring.{own_change}
+use Rattle.hyphenation.proofs.engine.run_dictionary.extended_values.Goals as goal
+
+pub returns : goal.returns
+returns c =
+    let pairs = ap (map (λ score. score.0)) c.deref.ensures.value in
+    let found = c.scores_have_values.ensures own_change (entries_of_keys c.args.dictionary.now) c.args.word.now c.in_ok-scores.scores.items c.in_ok-scores.ensures.scores in
+    c.in_ok-found.ensures ∙ pairs ∙ found

@@ -1,9 +1,0 @@
-use Rattle.std.proofs.Common.{◌≡◌, ◌++◌, drop}
-use Rattle.hyphenation_reader.specs.Private.Matched.{matched_entries, unmatched_changes, from_next}
-use Rattle.hyphenation_reader.proofs.items.matched.Given as goal
-
-abbrev pub invariant-loop-value : goal.invariant-loop-value
-invariant-loop-value g l = record {
-  made : l.entries.items ++ matched_entries g.C.Payload.payload_of (drop l.value-index l.values) (from_next l.next l.rest.rest.items) ≡ matched_entries g.C.Payload.payload_of l.values l.fn.listed.items;
-  left : unmatched_changes (drop l.value-index l.values) (from_next l.next l.rest.rest.items) ≡ unmatched_changes l.values l.fn.listed.items;
-}

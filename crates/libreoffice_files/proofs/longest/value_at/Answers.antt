@@ -1,0 +1,15 @@
+use Rattle.std.proofs.Common.{arith}
+use Rattle.std.proofs.lemmas.Grind.{common_steps}
+use Rattle.libreoffice_files.proofs.longest.value_at.Goals as goal
+
+pub loop-entry-init : goal.loop-entry-init
+loop-entry-init g c = grind (arith, common_steps)
+
+pub offset_bounds-entries-entry-index : goal.offset_bounds-entries-entry-index
+offset_bounds-entries-entry-index g c = grind (arith, common_steps)
+
+pub loop-entry-preserved : goal.loop-entry-preserved
+loop-entry-preserved g c = grind (arith, common_steps)
+
+pub returns : goal.returns
+returns g c = grind (arith, common_steps)

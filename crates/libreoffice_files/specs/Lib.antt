@@ -1,0 +1,7 @@
+pub mod Charsets
+pub mod LibreOfficeLines
+pub mod LibreOfficePatterns
+pub mod LibreOffice
+pub mod Longest
+pub mod Changes
+pub mod Private

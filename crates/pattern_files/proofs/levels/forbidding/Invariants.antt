@@ -1,7 +1,0 @@
-use Rattle.std.proofs.Common.{◌≡◌, ◌∷◌, ◌++◌, filter, drop}
-use Rattle.pattern_files.specs.LibreOfficePatterns.{is_within}
-use Rattle.pattern_files.proofs.levels.forbidding.Given as goal
-
-abbrev pub invariant-loop-value : goal.invariant-loop-value
-invariant-loop-value l =
-    l.values.items ++ filter (is_within l.len) (drop l.value-index l.old) ≡ record { place = 0; value = 8 } ∷ filter (is_within l.len) l.old

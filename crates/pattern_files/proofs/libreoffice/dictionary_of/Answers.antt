@@ -1,7 +1,0 @@
-use Rattle.pattern_files.proofs.Making.{dictionary_made}
-use Rattle.pattern_files.proofs.libreoffice.dictionary_of.Goals as goal
-
-pub returns : goal.returns
-returns g c =
-    dictionary_made g.C.Payload.change_of g.C.Payload.payload_of c.args.language c.args.left c.args.right c.in_ok-make.field-0 c.put_patterns.new.parts c.new-parts.result c.deref.result.now c.args.told.now.patterns.items c.in_ok-make.ensures
-    c.in_ok-put_patterns.ensures c.new-parts.ensures c.deref.ensures.value

@@ -1,6 +1,0 @@
-use Rattle.std.proofs.Common.{◌∙◌}
-use Rattle.pattern_files.proofs.Texts.{parsed}
-use Rattle.pattern_files.proofs.lines.small_number.Goals as goal
-
-pub returns : goal.returns
-returns c = c.ok.ensures.value ∙ parsed 8 c.args.text.now c.parse.result c.parse.ensures.value.0

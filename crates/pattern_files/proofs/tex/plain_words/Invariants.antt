@@ -1,7 +1,0 @@
-use Rattle.std.proofs.Common.{◌≡◌, fold, drop, map, []}
-use Rattle.pattern_files.specs.Groups.{with_plain}
-use Rattle.pattern_files.specs.Private.Read.{piece_view, word_view}
-use Rattle.pattern_files.proofs.tex.plain_words.Given as goal
-
-abbrev pub invariant-loop-piece : goal.invariant-loop-piece
-invariant-loop-piece l = fold (with_plain l.group) (map word_view l.words.items) (map piece_view (drop l.piece-index l.pieces)) ≡ fold (with_plain l.group) [] (map piece_view l.pieces)

@@ -1,0 +1,6 @@
+pub mod Gathering
+pub mod Letters
+pub mod Lexing
+pub mod Grouping
+pub mod Between
+pub mod Skipping

@@ -1,0 +1,5 @@
+pub mod Spelling
+pub mod Groups
+pub mod Converting
+pub mod TexFiles
+pub mod Private

@@ -1,0 +1,2 @@
+-- Definitions of private functions and proofs. No contract of a public call cites them, so they are not for signing.
+pub mod Views
