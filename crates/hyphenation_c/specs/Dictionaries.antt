@@ -4,7 +4,7 @@ use mathlib.Core.Logic.{inl, inr}
 use Rattle.std.specs.List.{flat_map}
 use Rattle.std.specs.Option.{option_map}
 use Rattle.std.specs.Arc.{arc_value}
-use Rattle.hyphenation_breaks.specs.Break.{Break, Change, plain_break, begin_of, end_of, before_of, after_of}
+use Rattle.hyphenation_breaks.specs.Break.{Break, Change, begin_of, end_of, before_of, after_of}
 use Rattle.hyphenation_breaks.specs.Dictionary.{Contents, entries_of_keys}
 use Rattle.hyphenation_writer.specs.Canonical.{standard_text, extended_text}
 use Rattle.hyphenation_reader.specs.Edits.{after_edit}
@@ -12,7 +12,7 @@ use Rattle.hyphenation_grammar.specs.Reading.{place_as_listing, break_as_listing
 use Rattle.hyphenation_grammar.specs.declared.form.Kind.{Kind}
 use Rattle.hyphenation_grammar.specs.declared.form.Kind.TheVariants.{Standard, Extended}
 use Rattle.hyphenation_hyphenator.specs.Fitting.{fitted_breaks_of}
-use Rattle.hyphenation_hyphenator.specs.Opportunities.{no_change, own_break, rules_of, all_breaks_of}
+use Rattle.hyphenation_hyphenator.specs.Opportunities.{standard_rules, extended_rules, all_breaks_of}
 use Rattle.hyphenation_score.specs.Scoring.{own_change, values, scores}
 use Rattle.hyphenation_c.specs.declared.changes.BreakChange.{BreakChange}
 use Rattle.hyphenation_c.specs.declared.loaded.Loaded.{Loaded}
@@ -44,8 +44,8 @@ minima_of (inr extended) = (extended.left, extended.right)
 
 -- The breaks of a word as written.
 abbrev pub breaks_by : Dictionary → List ℕ → List Break
-breaks_by (inl standard) = all_breaks_of (rules_of no_change plain_break standard)
-breaks_by (inr extended) = fitted_breaks_of (rules_of own_change own_break extended)
+breaks_by (inl standard) = all_breaks_of (standard_rules standard)
+breaks_by (inr extended) = fitted_breaks_of (extended_rules extended)
 
 -- The places of a word's breaks, in bytes.
 abbrev pub places_by : Dictionary → List ℕ → List ℕ

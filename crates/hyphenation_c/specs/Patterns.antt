@@ -5,11 +5,11 @@ use Rattle.std.specs.Str.{IsUtf8}
 use Rattle.hyphenation_breaks.specs.Language.{IsCode}
 use Rattle.hyphenation_grammar.specs.declared.form.Kind.{Kind}
 use Rattle.hyphenation_grammar.specs.declared.form.Kind.TheVariants.{Standard, Extended}
-use Rattle.pattern_files.specs.LibreOffice.{contents_of_dic, dic_fault}
-use Rattle.pattern_files.specs.declared.fault.Cause.{Cause}
-use Rattle.pattern_files.specs.declared.fault.Cause.TheVariants as causes
-use Rattle.pattern_files.specs.declared.fault.Refusal.{Refusal}
-use Rattle.pattern_files.specs.declared.fault.Refusal.TheVariants as refusals
+use Rattle.libreoffice_files.specs.LibreOffice.{contents_of_dic, dic_fault}
+use Rattle.pattern_results.specs.declared.errors.FileCause.{FileCause}
+use Rattle.pattern_results.specs.declared.errors.FileCause.TheVariants as causes
+use Rattle.pattern_results.specs.declared.errors.ConvertError.{ConvertError}
+use Rattle.pattern_results.specs.declared.errors.ConvertError.TheVariants as refusals
 use Rattle.hyphenation_c.specs.declared.patterns.Failure.{Failure}
 use Rattle.hyphenation_c.specs.declared.patterns.Failure.TheVariants.{Memory, NotUtf8, NotCode, Fault}
 use Rattle.hyphenation_c.specs.Dictionaries.{Dictionary}
@@ -20,10 +20,10 @@ abbrev pub minimum_given : ℕ → Option ℕ
 minimum_given number = if nat_le number 255 then Some number else None
 
 -- The causes for which files are refused, from 21 on.
-abbrev pub pattern_cause_number : Cause → ℕ
+abbrev pub pattern_cause_number : FileCause → ℕ
 pattern_cause_number causes.Command = 21
-pattern_cause_number causes.EightBit = 22
-pattern_cause_number causes.Sign = 23
+pattern_cause_number causes.Caret = 22
+pattern_cause_number causes.Symbol = 23
 pattern_cause_number causes.TwoInOnePlace = 24
 pattern_cause_number causes.NoLetters = 25
 pattern_cause_number causes.NotUtf8 = 26
@@ -41,7 +41,7 @@ dic_given Extended language left right bytes =
     inr (contents_of_dic (λ change. change) (λ change. change) language left right bytes)
 
 -- The file is refused at this line, for the cause of this number.
-abbrev pub IsFaultAt : Option (ℕ × Cause) → ℕ × ℕ → Type 0
+abbrev pub IsFaultAt : Option (ℕ × FileCause) → ℕ × ℕ → Type 0
 IsFaultAt (Some (line, cause)) place = place ≡ (line, pattern_cause_number cause)
 IsFaultAt None place = ⊥
 
@@ -49,7 +49,7 @@ IsFaultAt None place = ⊥
 -- memory. 4: the language is not UTF-8. 5: the file has its first fault at the line and of the cause that are written.
 -- 7: the language is no code. No other status comes. From 1 on the handle is unchanged, and the line and the cause are
 -- written with status 5 alone.
-abbrev pub MakesAs : List ℕ → Option (ℕ × Cause) → Dictionary → Loading → ℕ → Type 0
+abbrev pub MakesAs : List ℕ → Option (ℕ × FileCause) → Dictionary → Loading → ℕ → Type 0
 MakesAs language fault given loading zero =
     IsCode language × (fault ≡ None) × (loading.new ≡ Some given) × (loading.after ≡ loading.before)
 MakesAs language fault given loading (suc (suc zero)) = (loading.new ≡ loading.old) × (loading.after ≡ loading.before)
@@ -69,13 +69,13 @@ LoadsDic (Some kind) language left right bytes loading status =
     MakesAs language (dic_fault bytes) (dic_given kind language left right bytes) loading status
 
 -- Each failure, and why it comes: the language, or the first fault of the file.
-abbrev pub IsFailure : Failure → List ℕ → Option (ℕ × Cause) → Type 0
+abbrev pub IsFailure : Failure → List ℕ → Option (ℕ × FileCause) → Type 0
 IsFailure Memory language fault = Unit {0}
 IsFailure NotUtf8 language fault = ¬ IsUtf8 language
 IsFailure NotCode language fault = ¬ IsCode language
 IsFailure (Fault line cause) language fault = fault ≡ Some (line, cause)
 
--- The failure that a refusal of a file is.
-abbrev pub failure_of : Refusal → Failure
+-- The failure that an error of converting is.
+abbrev pub failure_of : ConvertError → Failure
 failure_of refusals.Memory = Memory
 failure_of (refusals.Fault file line cause) = Fault line cause

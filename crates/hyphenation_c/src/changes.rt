@@ -1,7 +1,7 @@
 //! Breaks with the changes that they make, as C reads them.
 
 ghost use Rattle.std.specs.Prelude.{◌≡◌, IfOk, map};
-ghost use Rattle.hyphenation_segments.specs.Fits.{Stands};
+ghost use Rattle.hyphenation_segments.specs.Fits.{BreakFitsAfter};
 ghost use Rattle.hyphenation_c.specs.Dictionaries.{as_change, texts_of};
 
 use hyphenation_breaks::breaks::Break;
@@ -27,7 +27,7 @@ pub struct BreakChange {
 
 // A break that stands in a word.
 fn as_change<B: Break>(_word: &str, b: &B) -> BreakChange
-    requires { Stands _word.now 0 0 (B.meaning b.now) }
+    requires { BreakFitsAfter _word.now 0 0 (B.meaning b.now) }
     ensures { result ≡ as_change (B.meaning b.now) }
 {
     let (begin, end) = b.range().unwrap();

@@ -3,8 +3,8 @@
 ghost use Rattle.std.specs.Prelude.{◌≡◌, None, IfOk, IfErr, OnOk, option_map};
 ghost use Rattle.std.specs.Str.{IsUtf8};
 ghost use Rattle.hyphenation_breaks.specs.Language.{IsCode};
-ghost use Rattle.pattern_files.specs.Converting.{IsRefusalOf};
-ghost use Rattle.pattern_files.specs.LibreOffice.{contents_of_dic, dic_fault};
+ghost use Rattle.pattern_results.specs.Errors.{IsConvertError};
+ghost use Rattle.libreoffice_files.specs.LibreOffice.{contents_of_dic, dic_fault};
 ghost use Rattle.hyphenation_c.specs.Dictionaries.{dictionary_of};
 ghost use Rattle.hyphenation_c.specs.Patterns.{dic_given, minimum_given, failure_of, pattern_cause_number, IsFailure};
 
@@ -14,9 +14,9 @@ use hyphenation_breaks::extended::Subregion;
 use hyphenation_breaks::language::Language;
 use hyphenation_dictionary::dictionary::Dictionary;
 use hyphenation_grammar::form::Kind;
-use pattern_files::convert::Converted;
-use pattern_files::fault::{Cause, Refusal};
-use pattern_files::libreoffice::convert_dic;
+use libreoffice_files::dic::convert_dic;
+use pattern_results::converted::Converted;
+use pattern_results::errors::{ConvertError, FileCause};
 use std::alloc::Global;
 use std::sync::Arc;
 
@@ -30,26 +30,26 @@ pub enum Failure {
     /// The language is no code.
     NotCode,
     /// The first fault of the file: its line, counted from 1, and the cause.
-    Fault(usize, Cause),
+    Fault(usize, FileCause),
 }
 
 /// The number of a cause, from 21 on.
-pub fn pattern_cause_number(cause: Cause) -> u32
+pub fn pattern_cause_number(cause: FileCause) -> u32
     ensures { result ≡ pattern_cause_number cause }
 {
     match cause {
-        Cause::Command => 21,
-        Cause::EightBit => 22,
-        Cause::Sign => 23,
-        Cause::TwoInOnePlace => 24,
-        Cause::NoLetters => 25,
-        Cause::NotUtf8 => 26,
-        Cause::Input => 27,
-        Cause::Unclosed => 28,
-        Cause::Charset => 29,
-        Cause::NotInCharset => 30,
-        Cause::Minimum => 31,
-        Cause::Nothing => 32,
+        FileCause::Command => 21,
+        FileCause::Caret => 22,
+        FileCause::Symbol => 23,
+        FileCause::TwoInOnePlace => 24,
+        FileCause::NoLetters => 25,
+        FileCause::NotUtf8 => 26,
+        FileCause::Input => 27,
+        FileCause::Unclosed => 28,
+        FileCause::Charset => 29,
+        FileCause::NotInCharset => 30,
+        FileCause::Minimum => 31,
+        FileCause::Nothing => 32,
     }
 }
 
@@ -67,11 +67,11 @@ fn from_dic<C: Payload, B: Listing>(
     left: Option<u8>,
     right: Option<u8>,
     bytes: &[u8],
-) -> Result<Dictionary<C, B>, Refusal>
+) -> Result<Dictionary<C, B>, ConvertError>
     ensures good { OnOk result (dic_fault bytes.now ≡ None) }
     ensures contents { IfOk result (λ d. d ≡ contents_of_dic C.change_of C.payload_of language left right bytes.now) }
-    ensures refused { IfErr result (λ refusal.
-        IsRefusalOf refusal (option_map (λ fault. (0, fault)) (dic_fault bytes.now))) }
+    ensures refused { IfErr result (λ error.
+        IsConvertError error (option_map (λ fault. (0, fault)) (dic_fault bytes.now))) }
 {
     let Converted { dictionary, .. } = convert_dic(alloc, language, left, right, bytes)?;
     Ok(dictionary)
@@ -85,18 +85,18 @@ fn loaded_from_dic(
     left: Option<u8>,
     right: Option<u8>,
     bytes: &[u8],
-) -> Result<Loaded, Refusal>
+) -> Result<Loaded, ConvertError>
     ensures good { OnOk result (dic_fault bytes.now ≡ None) }
     ensures given { IfOk result (λ loaded. dictionary_of loaded ≡ dic_given kind language left right bytes.now) }
-    ensures refused { IfErr result (λ refusal.
-        IsRefusalOf refusal (option_map (λ fault. (0, fault)) (dic_fault bytes.now))) }
+    ensures refused { IfErr result (λ error.
+        IsConvertError error (option_map (λ fault. (0, fault)) (dic_fault bytes.now))) }
 {
     match kind {
         Kind::Standard => {
             let dictionary = from_dic::<(), usize>(alloc, language, left, right, bytes)?;
             match Arc::new(alloc, dictionary) {
                 Ok(counted) => Ok(Loaded::Standard(counted)),
-                Err(_) => Err(Refusal::Memory),
+                Err(_) => Err(ConvertError::Memory),
             }
         }
         Kind::Extended => {
@@ -105,19 +105,19 @@ fn loaded_from_dic(
             )?;
             match Arc::new(alloc, dictionary) {
                 Ok(counted) => Ok(Loaded::Extended(counted)),
-                Err(_) => Err(Refusal::Memory),
+                Err(_) => Err(ConvertError::Memory),
             }
         }
     }
 }
 
-// The failure that a refusal of a file is.
-fn failure_of(refusal: Refusal) -> Failure
-    ensures { result ≡ failure_of refusal }
+// The failure that an error of converting is.
+fn failure_of(error: ConvertError) -> Failure
+    ensures { result ≡ failure_of error }
 {
-    match refusal {
-        Refusal::Memory => Failure::Memory,
-        Refusal::Fault {
+    match error {
+        ConvertError::Memory => Failure::Memory,
+        ConvertError::Fault {
             file: _,
             line,
             cause,
@@ -152,6 +152,6 @@ pub fn load_dic(
             Ok(boxed) => Ok(boxed),
             Err(_) => Err(Failure::Memory),
         },
-        Err(refusal) => Err(failure_of(refusal)),
+        Err(error) => Err(failure_of(error)),
     }
 }
