@@ -15,6 +15,7 @@ use Rattle.hyphenation_hyphenator.specs.Fitting.{fitted_breaks_of}
 use Rattle.hyphenation_hyphenator.specs.Opportunities.{standard_rules, extended_rules, all_breaks_of}
 use Rattle.hyphenation_score.specs.Scoring.{own_change, values, scores}
 use Rattle.hyphenation_c.specs.declared.changes.BreakChange.{BreakChange}
+use Rattle.hyphenation_c.specs.declared.handle.Handle.{Handle}
 use Rattle.hyphenation_c.specs.declared.loaded.Loaded.{Loaded}
 use Rattle.hyphenation_c.specs.declared.loaded.Loaded.TheVariants as of
 
@@ -86,6 +87,10 @@ abbrev pub dictionary_of : Loaded → Dictionary
 dictionary_of (of.Standard standard) = inl (arc_value standard)
 dictionary_of (of.Extended extended) = inr (arc_value extended)
 
--- The dictionary that a handle holds, or none.
+-- The dictionary that a slot keeps, or none.
 abbrev pub held : Option Loaded → Option Dictionary
 held kept = option_map dictionary_of kept
+
+-- The dictionary that a handle holds, or none.
+abbrev pub holds : Handle → Option Dictionary
+holds handle = held handle.slot.kept

@@ -13,7 +13,7 @@ use Rattle.pattern_results.specs.declared.errors.ConvertError.TheVariants as ref
 use Rattle.hyphenation_c.specs.declared.patterns.Failure.{Failure}
 use Rattle.hyphenation_c.specs.declared.patterns.Failure.TheVariants.{Memory, NotUtf8, NotCode, Fault}
 use Rattle.hyphenation_c.specs.Dictionaries.{Dictionary}
-use Rattle.hyphenation_c.specs.Statuses.{Loading}
+use Rattle.hyphenation_c.specs.Statuses.{Loading, kind_numbered}
 
 -- A number up to 255 is a minimum; each greater one leaves the minimum to the file.
 abbrev pub minimum_given : ℕ → Option ℕ
@@ -61,12 +61,17 @@ MakesAs language fault given loading (suc (suc (suc (suc (suc (suc (suc zero))))
     ¬ IsCode language × (loading.new ≡ loading.old) × (loading.after ≡ loading.before)
 MakesAs language fault given loading _ = ⊥
 
--- The call of a `.dic`. 6: no kind has that number, and all is unchanged. A kind has the statuses above.
-abbrev pub LoadsDic : Option Kind → List ℕ → Option ℕ → Option ℕ → List ℕ → Loading → ℕ → Type 0
-LoadsDic None language left right bytes loading status =
+-- The statuses of a kind, with the minima that are given. 6: no kind has the number, and all is unchanged.
+abbrev pub LoadsDicOf : Option Kind → Option ℕ → Option ℕ → List ℕ → List ℕ → Loading → ℕ → Type 0
+LoadsDicOf None left right language bytes loading status =
     (status ≡ 6) × (loading.new ≡ loading.old) × (loading.after ≡ loading.before)
-LoadsDic (Some kind) language left right bytes loading status =
+LoadsDicOf (Some kind) left right language bytes loading status =
     MakesAs language (dic_fault bytes) (dic_given kind language left right bytes) loading status
+
+-- The call of a `.dic`, by the numbers of the kind and of the minima.
+abbrev pub LoadsDic : ℕ → ℕ → ℕ → List ℕ → List ℕ → Loading → ℕ → Type 0
+LoadsDic kind left right language bytes loading status =
+    LoadsDicOf (kind_numbered kind) (minimum_given left) (minimum_given right) language bytes loading status
 
 -- Each failure, and why it comes: the language, or the first fault of the file.
 abbrev pub IsFailure : Failure → List ℕ → Option (ℕ × FileCause) → Type 0

@@ -139,28 +139,31 @@ pub record Buffer (T : Type 0) : Type 0 where
   pub before : ℕ
   pub after : ℕ
 
+abbrev pub into : {T : Type 0} → List T → List T → ℕ → ℕ → Buffer T
+into old new before after = record { old = old; new = new; before = before; after = after }
+
 abbrev pub IsBufferUnchanged : {T : Type 0} → Buffer T → Type 0
 IsBufferUnchanged b = IsUnchanged b.old b.new b.before b.after
 
 -- 0: both buffers are filled. 1: one of them is too short, both counts are the lengths found, and both buffers are
 -- unchanged. 2: out of memory. 4: the word is not UTF-8. No other status comes, and from 2 on all is unchanged.
-abbrev pub FindsChanges : Dictionary → List ℕ → Buffer BreakChange → Buffer ℕ → ℕ → Type 0
-FindsChanges dictionary word changes texts zero =
+abbrev pub FindChanges : Dictionary → List ℕ → Buffer BreakChange → Buffer ℕ → ℕ → Type 0
+FindChanges dictionary word changes texts zero =
     IsUtf8 word × Fills (map as_change (breaks_by dictionary word)) changes.old changes.new changes.after 0
     × Fills (texts_of (breaks_by dictionary word)) texts.old texts.new texts.after 0
-FindsChanges dictionary word changes texts (suc zero) =
+FindChanges dictionary word changes texts (suc zero) =
     IsUtf8 word × (changes.after ≡ length (breaks_by dictionary word))
     × (texts.after ≡ length (texts_of (breaks_by dictionary word)))
     × ((length changes.old < changes.after) ⊎ (length texts.old < texts.after)) × (changes.new ≡ changes.old)
     × (texts.new ≡ texts.old)
-FindsChanges dictionary word changes texts (suc (suc zero)) = IsBufferUnchanged changes × IsBufferUnchanged texts
-FindsChanges dictionary word changes texts (suc (suc (suc (suc zero)))) =
+FindChanges dictionary word changes texts (suc (suc zero)) = IsBufferUnchanged changes × IsBufferUnchanged texts
+FindChanges dictionary word changes texts (suc (suc (suc (suc zero)))) =
     ¬ IsUtf8 word × IsBufferUnchanged changes × IsBufferUnchanged texts
-FindsChanges dictionary word changes texts _ = ⊥
+FindChanges dictionary word changes texts _ = ⊥
 
-abbrev pub WritesChanges : Option Dictionary → List ℕ → Buffer BreakChange → Buffer ℕ → ℕ → Type 0
-WritesChanges None word changes texts status = (status ≡ 3) × IsBufferUnchanged changes × IsBufferUnchanged texts
-WritesChanges (Some dictionary) word changes texts status = FindsChanges dictionary word changes texts status
+abbrev pub Changes : Option Dictionary → List ℕ → Buffer BreakChange → Buffer ℕ → ℕ → Type 0
+Changes None word changes texts status = (status ≡ 3) × IsBufferUnchanged changes × IsBufferUnchanged texts
+Changes (Some dictionary) word changes texts status = FindChanges dictionary word changes texts status
 
 -- ---- Loading, sharing and editing.
 
@@ -176,21 +179,24 @@ pub record Loading : Type 0 where
   pub before : ℕ × ℕ
   pub after : ℕ × ℕ
 
+abbrev pub loading : Option Dictionary → Option Dictionary → ℕ × ℕ → ℕ × ℕ → Loading
+loading old new before after = record { old = old; new = new; before = before; after = after }
+
 -- 0: the text is accepted, and the handle holds the dictionary that it gives. 2: out of memory. 5: the text is refused
 -- at the line and for the cause that are written. No other status comes. From 1 on the handle is unchanged, and the
 -- line and the cause are written with status 5 alone.
 abbrev pub LoadsAs : Kind → List ℕ → Loading → ℕ → Type 0
-LoadsAs kind bytes loading zero =
-    (refusal_of kind bytes ≡ None) × (loading.new ≡ Some (given kind bytes)) × (loading.after ≡ loading.before)
-LoadsAs kind bytes loading (suc (suc zero)) = (loading.new ≡ loading.old) × (loading.after ≡ loading.before)
-LoadsAs kind bytes loading (suc (suc (suc (suc (suc zero))))) =
-    IsRefusedAt (refusal_of kind bytes) loading.after × (loading.new ≡ loading.old)
-LoadsAs kind bytes loading _ = ⊥
+LoadsAs kind bytes l zero =
+    (refusal_of kind bytes ≡ None) × (l.new ≡ Some (given kind bytes)) × (l.after ≡ l.before)
+LoadsAs kind bytes l (suc (suc zero)) = (l.new ≡ l.old) × (l.after ≡ l.before)
+LoadsAs kind bytes l (suc (suc (suc (suc (suc zero))))) =
+    IsRefusedAt (refusal_of kind bytes) l.after × (l.new ≡ l.old)
+LoadsAs kind bytes l _ = ⊥
 
 -- 6: no kind has that number, and all is unchanged. A kind has the statuses above.
 abbrev pub Loads : Option Kind → List ℕ → Loading → ℕ → Type 0
-Loads None bytes loading status = (status ≡ 6) × (loading.new ≡ loading.old) × (loading.after ≡ loading.before)
-Loads (Some kind) bytes loading status = LoadsAs kind bytes loading status
+Loads None bytes l status = (status ≡ 6) × (l.new ≡ l.old) × (l.after ≡ l.before)
+Loads (Some kind) bytes l status = LoadsAs kind bytes l status
 
 -- 0: the other handle holds this handle's dictionary. 2: out of memory. 3: this handle holds no dictionary. No other
 -- status comes, and from 1 on the other handle is unchanged.

@@ -15,7 +15,7 @@ ghost use Rattle.hyphenation_score.specs.Scoring.{own_change};
 ghost use Rattle.line_filling.specs.Lines.{lines_by};
 ghost use Rattle.hyphenation_c.specs.Dictionaries.{given, language_of, minima_of, breaks_by, places_by};
 ghost use Rattle.hyphenation_c.specs.Dictionaries.{as_change, texts_of, text_of, dictionary_of};
-ghost use Rattle.hyphenation_c.specs.Statuses.{Finds, FindsBreaks, FindsMarkedText, FindsLines, FindsChanges};
+ghost use Rattle.hyphenation_c.specs.Statuses.{Finds, FindsBreaks, FindsMarkedText, FindsLines, FindChanges, into};
 
 use crate::buffers::fill_buffer;
 use crate::changes;
@@ -71,7 +71,7 @@ pub fn load(alloc: Global, kind: Kind, bytes: &[u8]) -> Result<Box<Loaded>, Refu
     }
 }
 
-// The same dictionary once more: nothing of it is copied.
+// A dictionary once more: nothing of it is copied.
 fn again(loaded: &Loaded) -> Result<Loaded, AllocError>
     ensures { IfOk result (λ other. dictionary_of other ≡ dictionary_of loaded.now) }
 {
@@ -81,7 +81,7 @@ fn again(loaded: &Loaded) -> Result<Loaded, AllocError>
     }
 }
 
-/// The same dictionary for another handle: nothing of it is copied. None if memory was refused.
+/// A dictionary for another handle: nothing of it is copied. None if memory was refused.
 pub fn share(alloc: Global, loaded: &Loaded) -> Option<Box<Loaded>>
     ensures { IfSome result (λ other. dictionary_of other.value ≡ dictionary_of loaded.now) }
 {
@@ -227,12 +227,11 @@ pub fn write_changes(
     word: &[u8],
     changes: &mut [BreakChange],
     count: &mut usize,
-    texts: &mut [u8],
-    length: &mut usize,
+    text: &mut [u8],
+    size: &mut usize,
 ) -> u32
-    ensures { FindsChanges (dictionary_of loaded.now) word.now
-        (record { old = changes.old; new = changes.new; before = count.old; after = count.new })
-        (record { old = texts.old; new = texts.new; before = length.old; after = length.new }) result }
+    ensures { FindChanges (dictionary_of loaded.now) word.now (into changes.old changes.new count.old count.new)
+        (into text.old text.new size.old size.new) result }
 {
     let Ok(word) = std::str::from_utf8(word) else {
         return NOT_UTF8;
@@ -241,12 +240,12 @@ pub fn write_changes(
         return OUT_OF_MEMORY;
     };
     *count = found.len();
-    *length = said.len();
-    if *count > changes.len() || *length > texts.len() {
+    *size = said.len();
+    if *count > changes.len() || *size > text.len() {
         return NO_ROOM;
     }
     fill_buffer(&found, changes, count);
-    fill_buffer(&said, texts, length)
+    fill_buffer(&said, text, size)
 }
 
 // A text with the mark at each break of its words, by a dictionary of either kind.
@@ -315,7 +314,7 @@ fn lines_by(
     text: &str,
     columns: usize,
 ) -> Result<String, AllocError>
-    ensures { IfOk result (λ page. string_bytes page ≡ with_line_feeds
+    ensures { IfOk result (λ p. string_bytes p ≡ with_line_feeds
         (lines_by (all_breaks_of (rules_of no_change plain_break dictionary.now)) text.now columns)) }
 {
     let lines = fill(alloc, dictionary, text, columns)?;

@@ -7,10 +7,10 @@
 #![tactic(auto)]
 
 ghost use Rattle.std.specs.Prelude.{◌≡◌, None};
-ghost use Rattle.hyphenation_c.specs.Dictionaries.{held};
-ghost use Rattle.hyphenation_c.specs.Patterns.{minimum_given, LoadsDic};
+ghost use Rattle.hyphenation_c.specs.Dictionaries.{holds};
+ghost use Rattle.hyphenation_c.specs.Patterns.{LoadsDic};
 ghost use Rattle.hyphenation_c.specs.Statuses.{kind_numbered, Loads, Shares, Edits, WritesLanguage, WritesMinima};
-ghost use Rattle.hyphenation_c.specs.Statuses.{WritesBreaks, WritesValues, WritesChanges, WritesMarkedText};
+ghost use Rattle.hyphenation_c.specs.Statuses.{WritesBreaks, WritesValues, Changes, WritesMarkedText, into, loading};
 ghost use Rattle.hyphenation_c.specs.Statuses.{WritesLines, WritesCanonicalText};
 
 pub mod buffers;
@@ -47,12 +47,7 @@ pub extern "C" fn hyphenation_load(
     cause: &mut u32,
 ) -> u32
     ensures loads { Loads (kind_numbered kind) bytes.now
-        (record {
-          old = held handle.old.slot.kept;
-          new = held handle.new.slot.kept;
-          before = (line.old, cause.old);
-          after = (line.new, cause.new);
-        }) result }
+        (loading (holds handle.old) (holds handle.new) (line.old, cause.old) (line.new, cause.new)) result }
 {
     let Some(kind) = numbers::kind_numbered(kind) else {
         return OTHER_KIND;
@@ -85,7 +80,7 @@ pub extern "C" fn hyphenation_load(
 pub extern "C" fn hyphenation_load_dic(
     alloc: Global,
     kind: u32,
-    language: &[u8],
+    code: &[u8],
     left: u32,
     right: u32,
     bytes: &[u8],
@@ -93,20 +88,15 @@ pub extern "C" fn hyphenation_load_dic(
     line: &mut usize,
     cause: &mut u32,
 ) -> u32
-    ensures loads { LoadsDic (kind_numbered kind) language.now (minimum_given left) (minimum_given right) bytes.now
-        (record {
-          old = held handle.old.slot.kept;
-          new = held handle.new.slot.kept;
-          before = (line.old, cause.old);
-          after = (line.new, cause.new);
-        }) result }
+    ensures loads { LoadsDic kind left right code.now bytes.now
+        (loading (holds handle.old) (holds handle.new) (line.old, cause.old) (line.new, cause.new)) result }
 {
     let Some(kind) = numbers::kind_numbered(kind) else {
         return OTHER_KIND;
     };
     let left = patterns::minimum_given(left);
     let right = patterns::minimum_given(right);
-    match patterns::load_dic(alloc, kind, language, left, right, bytes) {
+    match patterns::load_dic(alloc, kind, code, left, right, bytes) {
         Ok(loaded) => {
             handle.put(alloc, loaded);
             DONE
@@ -125,7 +115,7 @@ pub extern "C" fn hyphenation_load_dic(
 /// Frees the dictionary that the handle holds, if it holds one. The handle holds none afterwards.
 #[unsafe(no_mangle)]
 pub extern "C" fn hyphenation_free(alloc: Global, handle: &mut Handle)
-    ensures empty { held handle.new.slot.kept ≡ None }
+    ensures empty { holds handle.new ≡ None }
 {
     drop(handle.take(alloc));
 }
@@ -136,8 +126,8 @@ pub extern "C" fn hyphenation_free(alloc: Global, handle: &mut Handle)
 /// unchanged; this one is so always.
 #[unsafe(no_mangle)]
 pub extern "C" fn hyphenation_share(alloc: Global, handle: &mut Handle, other: &mut Handle) -> u32
-    ensures unchanged { held handle.new.slot.kept ≡ held handle.old.slot.kept }
-    ensures shares { Shares (held handle.old.slot.kept) (held other.old.slot.kept) (held other.new.slot.kept) result }
+    ensures unchanged { holds handle.new ≡ holds handle.old }
+    ensures shares { Shares (holds handle.old) (holds other.old) (holds other.new) result }
 {
     let Some(loaded) = handle.take(alloc) else {
         return NO_DICTIONARY;
@@ -159,7 +149,7 @@ pub extern "C" fn hyphenation_share(alloc: Global, handle: &mut Handle, other: &
 /// A faulty edit is `REFUSED`. With each status but `DONE` the dictionary is unchanged.
 #[unsafe(no_mangle)]
 pub extern "C" fn hyphenation_edit(alloc: Global, handle: &mut Handle, edit: &[u8]) -> u32
-    ensures edits { Edits (held handle.old.slot.kept) (held handle.new.slot.kept) edit.now result }
+    ensures edits { Edits (holds handle.old) (holds handle.new) edit.now result }
 {
     let Some(mut loaded) = handle.take(alloc) else {
         return NO_DICTIONARY;
@@ -178,7 +168,7 @@ pub extern "C" fn hyphenation_language(
     count: &mut usize,
 ) -> u32
     ensures unchanged { handle.new.slot.kept ≡ handle.old.slot.kept }
-    ensures language { WritesLanguage (held handle.old.slot.kept) code.old code.new count.old count.new result }
+    ensures language { WritesLanguage (holds handle.old) code.old code.new count.old count.new result }
 {
     let Some(loaded) = handle.take(alloc) else {
         return NO_DICTIONARY;
@@ -197,7 +187,7 @@ pub extern "C" fn hyphenation_minima(
     right: &mut usize,
 ) -> u32
     ensures unchanged { handle.new.slot.kept ≡ handle.old.slot.kept }
-    ensures minima { WritesMinima (held handle.old.slot.kept) (left.old, right.old) (left.new, right.new) result }
+    ensures minima { WritesMinima (holds handle.old) (left.old, right.old) (left.new, right.new) result }
 {
     let Some(loaded) = handle.take(alloc) else {
         return NO_DICTIONARY;
@@ -219,7 +209,7 @@ pub extern "C" fn hyphenation_breaks(
     count: &mut usize,
 ) -> u32
     ensures unchanged { handle.new.slot.kept ≡ handle.old.slot.kept }
-    ensures breaks { WritesBreaks (held handle.old.slot.kept) word.now places.old places.new count.old count.new
+    ensures breaks { WritesBreaks (holds handle.old) word.now places.old places.new count.old count.new
         result }
 {
     let Some(loaded) = handle.take(alloc) else {
@@ -243,7 +233,7 @@ pub extern "C" fn hyphenation_values(
     count: &mut usize,
 ) -> u32
     ensures unchanged { handle.new.slot.kept ≡ handle.old.slot.kept }
-    ensures values { WritesValues (held handle.old.slot.kept) word.now values.old values.new count.old count.new
+    ensures values { WritesValues (holds handle.old) word.now values.old values.new count.old count.new
         result }
 {
     let Some(loaded) = handle.take(alloc) else {
@@ -263,18 +253,17 @@ pub extern "C" fn hyphenation_changes(
     word: &[u8],
     changes: &mut [BreakChange],
     count: &mut usize,
-    texts: &mut [u8],
-    length: &mut usize,
+    text: &mut [u8],
+    size: &mut usize,
 ) -> u32
     ensures unchanged { handle.new.slot.kept ≡ handle.old.slot.kept }
-    ensures changes { WritesChanges (held handle.old.slot.kept) word.now
-        (record { old = changes.old; new = changes.new; before = count.old; after = count.new })
-        (record { old = texts.old; new = texts.new; before = length.old; after = length.new }) result }
+    ensures changes { Changes (holds handle.old) word.now (into changes.old changes.new count.old count.new)
+        (into text.old text.new size.old size.new) result }
 {
     let Some(loaded) = handle.take(alloc) else {
         return NO_DICTIONARY;
     };
-    let status = calls::write_changes(&loaded, alloc, word, changes, count, texts, length);
+    let status = calls::write_changes(&loaded, alloc, word, changes, count, text, size);
     *handle = Handle::of(loaded);
     status
 }
@@ -290,7 +279,7 @@ pub extern "C" fn hyphenation_text(
     count: &mut usize,
 ) -> u32
     ensures unchanged { handle.new.slot.kept ≡ handle.old.slot.kept }
-    ensures text { WritesMarkedText (held handle.old.slot.kept) text.now mark.now buffer.old buffer.new count.old
+    ensures text { WritesMarkedText (holds handle.old) text.now mark.now buffer.old buffer.new count.old
         count.new result }
 {
     let Some(loaded) = handle.take(alloc) else {
@@ -314,7 +303,7 @@ pub extern "C" fn hyphenation_fill(
     count: &mut usize,
 ) -> u32
     ensures unchanged { handle.new.slot.kept ≡ handle.old.slot.kept }
-    ensures lines { WritesLines (held handle.old.slot.kept) text.now columns buffer.old buffer.new count.old count.new
+    ensures lines { WritesLines (holds handle.old) text.now columns buffer.old buffer.new count.old count.new
         result }
 {
     let Some(loaded) = handle.take(alloc) else {
@@ -334,7 +323,7 @@ pub extern "C" fn hyphenation_write(
     count: &mut usize,
 ) -> u32
     ensures unchanged { handle.new.slot.kept ≡ handle.old.slot.kept }
-    ensures canonical { WritesCanonicalText (held handle.old.slot.kept) buffer.old buffer.new count.old count.new
+    ensures canonical { WritesCanonicalText (holds handle.old) buffer.old buffer.new count.old count.new
         result }
 {
     let Some(loaded) = handle.take(alloc) else {
