@@ -45,7 +45,7 @@ fn make_call<G: Read, O: Write>(
         Some(("write", which)) => dictionary_texts::write(alloc, which, gate, output),
         Some(("run", which)) => runs::run_call(alloc, which, gate, output),
         Some(("lines", which)) => runs::lines(alloc, which, gate, output),
-        _ => memory_free::without_memory(alloc, gate, output),
+        _ => memory_free::call_each(alloc, gate, output),
     }
 }
 

@@ -1,11 +1,10 @@
 -- Laws of values and winners, in terms of single keys.
-use Rattle.std.specs.Prelude.{◌≡◌, ℕ, ◌+◌, ◌-◌, ◌<◌, ◌≤◌, ◌⊎◌, ◌↔◌, false, List, length, map, slice_get, Option, Some, None}
+use Rattle.std.specs.Prelude.{◌≡◌, ℕ, ◌+◌, ◌-◌, ◌<◌, ◌≤◌, ◌⊎◌, ◌↔◌, List, length, map, slice_get, Option, Some, None}
 use Rattle.std.specs.Borrow.{Bor}
-use Rattle.std.specs.Option.{option_and_then}
 use Rattle.hyphenation_breaks.specs.Break.{Change}
 use Rattle.hyphenation_breaks.specs.Dictionary.{Patterns}
 use Rattle.hyphenation_breaks.specs.declared.entry.Entry.{Entry}
-use Rattle.hyphenation_score.specs.Scoring.{frame, bearers, value_at, values, value_of, winner_at, winners, scored_pair, scores}
+use Rattle.hyphenation_score.specs.Scoring.{frame, value_at, values, value_of, winner_at, winners, scored_pair, scores}
 use Rattle.hyphenation_score.specs.Winners.{BestSoFar, IsPair, IsBestOf, Bears, Wins}
 
 -- A place's value is at least each value that bears on it.

@@ -1,9 +1,7 @@
 -- Occurrences of keys, counted by their ends.
-use Rattle.std.specs.Prelude.{ℕ, Bool, List, length, slice_range, Option, is_some, count_by}
-use Rattle.std.specs.List.{list_any, range_with_len, sum_by}
-use Rattle.hyphenation_breaks.specs.Break.{Change}
+use Rattle.std.specs.Prelude.{ℕ, List, length, slice_range, is_some, count_by}
+use Rattle.std.specs.List.{range_with_len, sum_by}
 use Rattle.hyphenation_breaks.specs.Dictionary.{Patterns}
-use Rattle.hyphenation_breaks.specs.declared.entry.Entry.{Entry}
 
 -- The number of keys, other than the empty one, that occur up to an end in the frame.
 abbrev pub keys_ending : {C : Type 0} → Patterns C → List ℕ → ℕ → ℕ

@@ -1,8 +1,8 @@
 //! The entries that win the places of a word, found in one pass over its frame.
 //!
-//! The pass meets keys by their ends, but of equal values the one whose key starts first must win. If two entries bear on a
-//! place, the one with more of its key before the place starts first. Of two keys that start at one byte the pass meets
-//! the shorter one first.
+//! The pass meets keys by their ends, but of equal values the one whose key starts first must win. If two entries bear on
+//! a place, the one with more of its key before the place starts first. The pass meets the shorter of two keys with the
+//! same start first.
 
 ghost use Rattle.std.specs.Prelude.{◌≡◌, ◌+◌, ◌-◌, ◌*◌, ◌<◌, ◌≤◌, ◌^◌, ◌==◌, ◌++◌, ◌∷◌, [], if◌then◌else◌, ℕ, None, Some, length, filter, map, take};
 ghost use Rattle.std.specs.Prelude.{option_copied, IfOk, IsOk};

@@ -84,15 +84,14 @@ fn scores_agree<K: Kind>(
     Ok(is_same)
 }
 
-// Whether a dictionary breaks the word as the reference does.
-fn breaks_agree<'h, H: Hyphenator<'h>>(
+// Whether these are the word's breaks by the reference.
+fn are_reference_breaks<B: Break>(
     alloc: Global,
-    dictionary: &'h H,
+    found: &[B],
     reference: &ReferenceDictionary,
     word: &str,
 ) -> Result<bool, AllocError> {
-    let found = dictionary.hyphenate(alloc, word)?;
-    Ok(are_expected(&found.breaks, &reference.breaks(alloc, word)?))
+    Ok(are_expected(found, &reference.breaks(alloc, word)?))
 }
 
 // Counts of what was compared. `removed` counts exceptions that stood in the dictionary, and a long word has 62 to 67
@@ -199,7 +198,8 @@ impl Kind for Standard {
         reference: &ReferenceDictionary,
         word: &str,
     ) -> Result<bool, AllocError> {
-        breaks_agree(alloc, self, reference, word)
+        let found = self.hyphenate(alloc, word)?;
+        are_reference_breaks(alloc, &found.breaks, reference, word)
     }
 
     fn scores(
@@ -266,7 +266,8 @@ impl Kind for Extended {
         reference: &ReferenceDictionary,
         word: &str,
     ) -> Result<bool, AllocError> {
-        breaks_agree(alloc, self, reference, word)
+        let found = self.hyphenate(alloc, word)?;
+        are_reference_breaks(alloc, &found.breaks, reference, word)
     }
 
     fn scores(

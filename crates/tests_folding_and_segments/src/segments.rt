@@ -38,7 +38,7 @@ fn number_of_segments(text: &str, breaks: Vec<usize>) -> usize
     requires { Fits text.now (map plain_break breaks.items) }
     ensures { result ≡ vec_len breaks + 1 }
 {
-    laws::segments_are_one_more();
+    laws::segments_are_one_more_than_breaks();
     Segments::new(text, breaks.into_iter()).len()
 }
 
@@ -83,7 +83,7 @@ fn marked_word<'t>(
 fn number_of_marked_segments(word: &Word<'_, usize>) -> usize
     ensures { result ≡ vec_len word.now.breaks + 1 }
 {
-    laws::segments_are_one_more();
+    laws::segments_are_one_more_than_breaks();
     word.iter().len()
 }
 

@@ -199,14 +199,36 @@ passed before ps h =
 
 -- ---- The end of a piece.
 
+space_step : (c s e k : Bool) (line : ℕ) (last : List ℕ) (b : ℕ) (rest : ℕ → Bool → List ℕ → List Piece) → c ≡ false → s ≡ true → lexed false c s e k line false last b rest ≡ piece line last ∷ rest line false []
+space_step false true e k line last b rest p q = refl
+space_step true s e k line last b rest p q = absurd (clash p)
+space_step false false e k line last b rest p q = absurd (clash (sym q))
+
+brace_step : (f c s e k : Bool) (line : ℕ) (last : List ℕ) (b : ℕ) (rest : ℕ → Bool → List ℕ → List Piece) → f ≡ false → c ≡ false → s ≡ false → e ≡ true
+    → lexed f c s e k line false last b rest ≡ piece line last ∷ piece line (b ∷ []) ∷ rest line false []
+brace_step false false false true k line last b rest p q r t = refl
+brace_step true c s e k line last b rest p q r t = absurd (clash p)
+brace_step false true s e k line last b rest p q r t = absurd (clash q)
+brace_step false false true e k line last b rest p q r t = absurd (clash r)
+brace_step false false false false k line last b rest p q r t = absurd (clash (sym t))
+
+backslash_step : (f c s e k : Bool) (line : ℕ) (last : List ℕ) (b : ℕ) (rest : ℕ → Bool → List ℕ → List Piece) → f ≡ false → c ≡ false → s ≡ false → e ≡ false → k ≡ true
+    → lexed f c s e k line false last b rest ≡ piece line last ∷ rest line false (b ∷ [])
+backslash_step false false false false true line last b rest p q r t u = refl
+backslash_step true c s e k line last b rest p q r t u = absurd (clash p)
+backslash_step false true s e k line last b rest p q r t u = absurd (clash q)
+backslash_step false false true e k line last b rest p q r t u = absurd (clash r)
+backslash_step false false false true k line last b rest p q r t u = absurd (clash t)
+backslash_step false false false false false line last b rest p q r t u = absurd (clash (sym u))
+
 pub blank_step : (line : ℕ) (last : List ℕ) (b : ℕ) (bs : List ℕ) → is_blank b ≡ true → lex line false last (b ∷ bs) ≡ piece line last ∷ lex (line_after line (b ∷ [])) false [] bs
 blank_step line last b bs h = by (b == 10) refl (is_space b) refl h
   where
     by : (f : Bool) → (b == 10) ≡ f → (s : Bool) → is_space b ≡ s → (f || s) ≡ true
-        → lexed f (false || b == 37) s (is_brace b) (b == 92) line false last b (λ l i t. lex l i t bs) ≡ piece line last ∷ lex (if f then line + 1 else line) false [] bs
+        → lexed f (b == 37) s (is_brace b) (b == 92) line false last b (λ l i t. lex l i t bs) ≡ piece line last ∷ lex (if f then line + 1 else line) false [] bs
     by true e s d k = refl
-    by false e true d k = rw (not_byte is_space 37 b d refl) refl
-    by false e false d k = absurd cc
+    by false e true d k = space_step (b == 37) true (is_brace b) (b == 92) line last b (λ l i t. lex l i t bs) (not_byte is_space 37 b d refl) refl
+    by false e false d k = absurd (clash (sym k))
 
 pub ends_piece : (rest : List ℕ) → EndsCommand rest → (tail : ℕ → List Piece) × ((line : ℕ) (last : List ℕ) → lex line false last rest ≡ piece line last ∷ tail line)
 ends_piece [] h = ((λ line. []), (λ line last. refl))
@@ -215,11 +237,17 @@ ends_piece (b ∷ bs) h = by (is_blank b) refl (is_brace b) refl (b == 92) refl 
     by : (w : Bool) → is_blank b ≡ w → (e : Bool) → is_brace b ≡ e → (k : Bool) → (b == 92) ≡ k → (w || (e || k)) ≡ true
         → (tail : ℕ → List Piece) × ((line : ℕ) (last : List ℕ) → lex line false last (b ∷ bs) ≡ piece line last ∷ tail line)
     by true p e q k r g = ((λ line. lex (line_after line (b ∷ [])) false [] bs), (λ line last. blank_step line last b bs p))
-    by false p true q k r g =
-        ((λ line. piece line (b ∷ []) ∷ lex line false [] bs), (λ line last. rw (brace_fails feed b q refl refl, brace_fails is_percent b q refl refl, brace_fails is_space b q refl refl, q) refl))
-    by false p false q true r g =
-        ((λ line. lex line false (b ∷ []) bs), (λ line last. rw (fails_as feed 92 b r refl, fails_as is_percent 92 b r refl, fails_as is_space 92 b r refl, q, r) refl))
-    by false p false q false r g = absurd cc
+    by false p true q k r g = (
+      (λ line. piece line (b ∷ []) ∷ lex line false [] bs),
+      (λ line last.
+      brace_step (b == 10) (b == 37) (is_space b) (is_brace b) (b == 92) line last b (λ l i t. lex l i t bs) (brace_fails feed b q refl refl) (brace_fails is_percent b q refl refl) (brace_fails is_space b q refl refl) q),
+    )
+    by false p false q true r g = (
+      (λ line. lex line false (b ∷ []) bs),
+      (λ line last.
+      backslash_step (b == 10) (b == 37) (is_space b) (is_brace b) (b == 92) line last b (λ l i t. lex l i t bs) (fails_as feed 92 b r refl) (fails_as is_percent 92 b r refl) (fails_as is_space 92 b r refl) q r),
+    )
+    by false p false q false r g = absurd (clash (sym g))
 
 -- ---- A group.
 

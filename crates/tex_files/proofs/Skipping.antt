@@ -91,11 +91,16 @@ alike group (p ∷ ps) h = by (λ k. alike group ps k) (length p.text == 0) h
         (fold_stays with_piece (record (found_at [] (Before group)) { at_end = true }) (λ q. refl) ps) (fold_stays with_piece (record (found_at [] Outside) { at_end = true }) (λ q. refl) ps) (refl, refl)
     by_command false false = (refl, refl)
 
+    by_brace : (u : Bool) → u ≡ false
+        → at_place (fold with_piece (if u then record (found_at [] (Before group)) { place = Within group p.line } else with_piece_outside (found_at [] (Before group)) p) ps) (fold with_piece (with_piece_outside (found_at [] Outside) p) ps)
+    by_brace true e = absurd (clash e)
+    by_brace false e = by_command (is_same p.text (codes "\\input")) (is_same p.text (codes "\\endinput"))
+
     by : (opens ps ≡ false → at_place (fold with_piece (found_at [] (Before group)) ps) (fold with_piece (found_at [] Outside) ps)) → (t : Bool) → (if t then opens ps else is_same p.text (codes "{")) ≡ false
         → at_place (fold with_piece (if t then found_at [] (Before group) else (if is_same p.text (codes "{") then record (found_at [] (Before group)) { place = Within group p.line } else with_piece_outside (found_at [] (Before group)) p)) ps)
         (fold with_piece (if t then found_at [] Outside else with_piece_outside (found_at [] Outside) p) ps)
     by more true k = more k
-    by more false k = rw k (by_command (is_same p.text (codes "\\input")) (is_same p.text (codes "\\endinput")))
+    by more false k = by_brace (is_same p.text (codes "{")) k
 
 -- ---- The rest of a file.
 

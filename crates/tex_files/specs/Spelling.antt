@@ -12,6 +12,7 @@ use Rattle.hyphenation_breaks.specs.Break.{Break, Change, plain_break}
 use Rattle.hyphenation_grammar.specs.Lines.{is_digit}
 use Rattle.hyphenation_breaks.specs.Invariant.{has_letter, are_entries, are_listed}
 use Rattle.hyphenation_breaks.specs.declared.entry.Entry.{Entry}
+use Rattle.pattern_results.specs.Texts.{letters}
 use Rattle.pattern_results.specs.declared.errors.FileCause.{FileCause}
 use Rattle.pattern_results.specs.declared.errors.FileCause.TheVariants.{Command, Caret, Symbol, TwoInOnePlace, NoLetters, NotUtf8}
 use Rattle.tex_files.specs.declared.group.Group.{Group}

@@ -1,6 +1,6 @@
-use Rattle.std.proofs.Common.{◌≡◌, ℕ, ◌-◌, List, length, map, sym, ap, ◌∙◌}
+use Rattle.std.proofs.Common.{◌≡◌, ℕ, ◌-◌, length, map, sym, ap, ◌∙◌}
 use Rattle.std.proofs.lemmas.List.{length-map}
-use Rattle.hyphenation_breaks.specs.Break.{Break, break_at}
+use Rattle.hyphenation_breaks.specs.Break.{break_at}
 use Rattle.hyphenation_breaks.specs.Dictionary.{entries_of_keys, longest_key}
 use Rattle.hyphenation_trie.specs.Trie.{entries_of_key}
 use Rattle.hyphenation_score.specs.OnePass.{occurrences}

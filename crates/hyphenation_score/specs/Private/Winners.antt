@@ -47,7 +47,7 @@ abbrev pub AreBestUpTo : {C : Type 0} → Patterns C → List ℕ → ℕ → �
 AreBestUpTo keys framed end count bests =
     (i : ℕ) → i < count → IsBestOf keys framed (i + 1) (IsPairBefore framed end 0) (best_of bests i)
 
--- At each index the best so far is the old one, or the entry of a key that starts there, if it bears on the place.
+-- At each index the best so far is the old one after the entry of a key that starts there, if it bears on the place.
 abbrev pub AreBestAfterEntry : {C : Type 0} → List (Option (Bor (Entry C))) → ℕ → Entry C → List (Option (Bor (Entry C)))
     → Type 0
 AreBestAfterEntry old start entry new =

@@ -1,11 +1,10 @@
-use Rattle.std.proofs.Common.{◌≡◌, ℕ, ◌+◌, ◌<◌, List, ◌∷◌, [], ◌++◌, length, take, slice_index, refl, ap, sym, subst, ◌∙◌, arith}
+use Rattle.std.proofs.Common.{◌≡◌, ℕ, ◌+◌, List, ◌∷◌, [], ◌++◌, length, take, slice_index, refl, sym, subst, ◌∙◌, arith}
 use Rattle.hyphenation_breaks.specs.declared.entry.Entry.{Entry}
 use Rattle.hyphenation_trie.specs.Trie.{Tree, node_text, entries_of_key, IsTrie}
 use Rattle.hyphenation_trie.specs.Links.{IsLongest}
 use Rattle.hyphenation_score.specs.Scoring.{frame}
 use Rattle.hyphenation_score.specs.Winners.{IsBestOf}
 use Rattle.hyphenation_score.specs.Private.Winners.{best_of, IsPairBefore}
-use Rattle.hyphenation_score.proofs.OnePass.{length-frame}
 use Rattle.hyphenation_score.proofs.OnePassInvariant.{Passed, passed_none, passed_goes_on, passed_more, passed_short, passed_room, passed_last, word_byte, last_byte}
 use Rattle.hyphenation_score.proofs.Counting.{counts_passed}
 use Rattle.hyphenation_score.proofs.WinnerVisits.{held_none, winners_met}

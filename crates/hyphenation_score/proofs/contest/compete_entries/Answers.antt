@@ -1,4 +1,4 @@
-use Rattle.std.proofs.Common.{◌≡◌, ◌+◌, ◌==◌, filter, take, None, refl, ap, ◌∙◌, arith, Bool}
+use Rattle.std.proofs.Common.{◌+◌, ◌==◌, filter, refl, ap, ◌∙◌, arith, Bool}
 use Rattle.std.proofs.lemmas.List.{take_all}
 use Rattle.hyphenation_breaks.specs.declared.entry.Entry.{Entry}
 use Rattle.hyphenation_score.specs.Scoring.{first_greatest}

@@ -1,6 +1,6 @@
-use Rattle.std.proofs.Common.{◌≡◌, ◌+◌, ◌<◌, ◌∷◌, [], ℕ, List, false, max, length, take, slice_index, refl, sym, subst, ◌∙◌, arith}
+use Rattle.std.proofs.Common.{◌≡◌, ◌+◌, ◌<◌, ℕ, max, length, slice_index, refl, sym, subst, ◌∙◌, arith}
 use Rattle.hyphenation_trie.specs.Trie.{node_text, entries_of_key}
-use Rattle.hyphenation_score.specs.Scoring.{frame, greatest_value}
+use Rattle.hyphenation_score.specs.Scoring.{greatest_value}
 use Rattle.hyphenation_score.specs.Private.OnePass.{entries_of_ends}
 use Rattle.hyphenation_score.proofs.OnePassInvariant.{Passed, passed_none, passed_more, passed_short, passed_room, passed_values, word_byte, last_byte}
 use Rattle.hyphenation_score.proofs.Counting.{counts_passed}

@@ -1,4 +1,4 @@
-use Rattle.std.proofs.Common.{◌≡◌, ◌+◌, false, length}
+use Rattle.std.proofs.Common.{◌≡◌, ◌+◌, length}
 use Rattle.hyphenation_score.proofs.OnePassInvariant.{Passed}
 use Rattle.hyphenation_score.proofs.greatest.raise_all.Given as goal
 

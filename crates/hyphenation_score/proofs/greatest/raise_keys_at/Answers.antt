@@ -1,6 +1,5 @@
 use Rattle.std.proofs.Common.{◌≡◌, ◌+◌, ◌-◌, ◌<◌, max, ℕ, Some, length, drop, ap, refl, sym, arith, ◌∙◌, slice_index}
 use Rattle.std.specs.List.{flat_map, range_with_len}
-use Rattle.std.proofs.lemmas.Bool.{or_parts}
 use Rattle.std.proofs.lemmas.List.{length-drop}
 use Rattle.hyphenation_trie.specs.Trie.{node_text, entries_of_key}
 use Rattle.hyphenation_trie.specs.Links.{keys_in}

@@ -1,4 +1,4 @@
-use Rattle.std.proofs.Common.{◌≡◌, ◌-◌, ℕ, length, sym, ap, ◌∙◌}
+use Rattle.std.proofs.Common.{◌≡◌, ◌-◌, length, sym, ap, ◌∙◌}
 use Rattle.hyphenation_breaks.specs.Dictionary.{entries_of_keys, longest_key}
 use Rattle.hyphenation_trie.specs.Trie.{entries_of_key}
 use Rattle.hyphenation_score.specs.Scoring.{frame, values}

@@ -1,0 +1,53 @@
+/* A target of libFuzzer: byte 1 chooses the kind and the call that loads, the bytes up to the first zero are loaded, and
+ * the rest is the word and the text that the dictionary is asked for. tests/fuzz builds and runs it. */
+#include "hyphenation.h"
+#include <stdlib.h>
+
+#define ROOM 4096
+
+static void need(int good) {
+  if (!good) abort();
+}
+
+/* Whether a status is one of those that a loaded dictionary returns. */
+static int is_known(uint32_t status) {
+  return status == HYPHENATION_DONE || status == HYPHENATION_NO_ROOM || status == HYPHENATION_NOT_UTF8 ||
+         status == HYPHENATION_OTHER_KIND || status == HYPHENATION_OUT_OF_MEMORY;
+}
+
+int LLVMFuzzerTestOneInput(const uint8_t *data, size_t size) {
+  static uint8_t page[ROOM], again[ROOM];
+  static size_t places[ROOM];
+  static hyphenation_change changes[ROOM];
+  if (size < 2) return 0;
+  uint32_t kind = data[0] & 1, cause = 0, status;
+  const uint8_t *text = data + 1, *word = memchr(text, 0, size - 1);
+  size_t length = word ? (size_t)(word - text) : size - 1, rest = word ? size - 2 - length : 0;
+  word = word ? word + 1 : text;
+  hyphenation h = HYPHENATION_NONE, o = HYPHENATION_NONE;
+  size_t line = 0, count, texts;
+  if (data[0] & 2)
+    status = hyphenation_load_dic(kind, (const uint8_t *)"und", 3, 256, 256, text, length, &h, &line, &cause);
+  else
+    status = hyphenation_load(kind, text, length, &h, &line, &cause);
+  if (status == HYPHENATION_REFUSED) need(line > 0 && *hyphenation_message(cause) && !h.held);
+  if (status != HYPHENATION_DONE) return 0;
+  status = hyphenation_breaks(&h, word, rest, places, ROOM, &count);
+  need(is_known(status));
+  for (size_t i = 0; status == HYPHENATION_DONE && i < count; i++) need(places[i] <= rest && (!i || places[i - 1] < places[i]));
+  need(is_known(hyphenation_values(&h, word, rest, page, ROOM, &count)));
+  need(is_known(hyphenation_changes(&h, word, rest, changes, ROOM, &count, page, ROOM, &texts)));
+  need(is_known(hyphenation_text(&h, word, rest, (const uint8_t *)"-", 1, page, ROOM, &count)));
+  need(is_known(hyphenation_fill(&h, word, rest, 8, page, ROOM, &count)));
+  need(hyphenation_share(&h, &o) == HYPHENATION_DONE);
+  status = hyphenation_edit(&o, word, rest);
+  need(status == HYPHENATION_REFUSED || is_known(status));
+  /* The canonical text is accepted, and is its own canonical text. */
+  if (hyphenation_write(&h, page, ROOM, &count) == HYPHENATION_DONE) {
+    need(hyphenation_load(kind, page, count, &o, &line, &cause) == HYPHENATION_DONE);
+    need(hyphenation_write(&o, again, ROOM, &texts) == HYPHENATION_DONE && texts == count && !memcmp(page, again, count));
+  }
+  hyphenation_free(&h);
+  hyphenation_free(&o);
+  return 0;
+}

@@ -1,0 +1,63 @@
+/* The calls of libhyphen, on a file in UTF-8, one in another charset, and a dictionary text. */
+#include "hyphen.h"
+#include <assert.h>
+#include <stdlib.h>
+#include <string.h>
+#undef NDEBUG
+
+static HyphenDict *load(const char *text) {
+  FILE *file = tmpfile();
+  assert(file && fwrite(text, 1, strlen(text), file) == strlen(text));
+  rewind(file);
+  HyphenDict *dict = hnj_hyphen_load_file(file);
+  fclose(file);
+  return dict;
+}
+
+static void check(HyphenDict *dict, const char *word, const char *hyphens, const char *marked) {
+  char found[64], page[128], **rep = NULL;
+  int *pos = NULL, *cut = NULL, size = (int)strlen(word);
+  assert(hnj_hyphen_hyphenate2(dict, word, size, found, page, &rep, &pos, &cut) == 0);
+  assert(strcmp(found, hyphens) == 0);
+  assert(strcmp(page, marked) == 0);
+  for (int i = 0; rep && i < size; i++) free(rep[i]);
+  free(rep);
+  free(pos);
+  free(cut);
+}
+
+int main(void) {
+  HyphenDict *dict = load("UTF-8\nLEFTHYPHENMIN 2\nRIGHTHYPHENMIN 2\n.as1szo/sz=sz,2,3\non1nya/ny=ny,2,3\n\xc3\xa9s1z\n");
+  assert(dict && dict->utf8 && dict->lhmin == 2 && dict->rhmin == 2 && strcmp(dict->cset, "UTF-8") == 0);
+  check(dict, "asszonnyal", "0100010000", "asz=szony=nyal");
+  check(dict, "k\xc3\xa9szlet", "0010000", "k\xc3\xa9s=zlet");
+  char found[64], **rep = NULL;
+  int *pos = NULL, *cut = NULL;
+  assert(hnj_hyphen_hyphenate2(dict, "asszonnyal", 10, found, NULL, &rep, &pos, &cut) == 0);
+  assert(strcmp(rep[1], "sz=sz") == 0 && pos[1] == 1 && cut[1] == 3);
+  assert(strcmp(rep[5], "ny=ny") == 0 && pos[5] == 1 && cut[5] == 3 && !rep[0]);
+  free(rep[1]);
+  free(rep[5]);
+  free(rep);
+  free(pos);
+  free(cut);
+  rep = NULL, pos = NULL, cut = NULL;
+  assert(hnj_hyphen_hyphenate3(dict, "k\xc3\xa9szlet", 8, found, NULL, &rep, &pos, &cut, 4, 2, 0, 0) == 0);
+  assert(strcmp(found, "0000000") == 0 && !rep);
+  assert(hnj_hyphen_hyphenate2(dict, "\xff", 1, found, NULL, &rep, &pos, &cut) == 1);
+  hnj_hyphen_free(dict);
+
+  dict = load("ISO8859-2\n\xe9s1z\non1nya/ny=ny,2,3\n");
+  assert(dict && !dict->utf8 && strcmp(dict->cset, "ISO8859-2") == 0 && dict->lhmin == 0);
+  check(dict, "k\xe9szonnya", "001001000", "k\xe9s=zony=nya");
+  hnj_hyphen_free(dict);
+
+  dict = load("hyphenation 1 standard\nlanguage en-us\nminima 2 3\ne hyphenation 2 6 7\n");
+  assert(dict && dict->utf8);
+  check(dict, "Hyphenation", "01000110000", "Hy=phen=a=tion");
+  hnj_hyphen_free(dict);
+  assert(!load("EBCDIC\n") && !hnj_hyphen_load("/no/such/file"));
+  hnj_hyphen_free(NULL);
+  puts("the calls of libhyphen return what they should");
+  return 0;
+}
