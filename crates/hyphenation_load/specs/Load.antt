@@ -29,8 +29,8 @@ Loads refusal contents result =
 abbrev pub IsAcceptedIn : Option (ℕ × Cause) → List ℕ → List ℕ → Type 0
 IsAcceptedIn refusal asked language = (refusal ≡ None) × (language ≡ asked)
 
--- The error is the one that a text of this language gives if another one is asked for: its first faulty line with the
--- cause; or, if it is accepted, both codes, which differ.
+-- The error is the one that a text of this language gives where one is asked for. A refused text gives its first faulty
+-- line with the cause. An accepted one gives both codes, if they differ.
 abbrev pub IsLoadErrorIn : Option (ℕ × Cause) → List ℕ → List ℕ → Error → Type 0
 IsLoadErrorIn refusal asked language (Deserialization line cause) = refusal ≡ Some (line, cause)
 IsLoadErrorIn refusal asked language (LanguageMismatch expected found) =
