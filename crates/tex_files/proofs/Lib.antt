@@ -3,4 +3,3 @@ pub mod Letters
 pub mod Lexing
 pub mod Grouping
 pub mod Between
-pub mod Skipping
