@@ -28,7 +28,8 @@ pub mod libreoffice {
 /// Laws on the words of TeX files and plain ones.
 pub mod laws {
     pub use tex_files::laws::{
-        comments_say_nothing, groups_are_read_in_order, nothing_is_read_outside_of_groups,
-        open_groups_are_faulty, plain_files_are_words, the_end_is_the_end,
+        a_command_without_a_brace_is_skipped, comments_say_nothing, groups_are_read_in_order,
+        nothing_is_read_outside_of_groups, open_groups_are_faulty, plain_files_are_words,
+        the_end_is_the_end,
     };
 }

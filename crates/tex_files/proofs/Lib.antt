@@ -3,3 +3,4 @@ pub mod Letters
 pub mod Lexing
 pub mod Grouping
 pub mod Between
+pub mod Skipping

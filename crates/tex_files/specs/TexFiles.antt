@@ -1,8 +1,8 @@
--- Laws on TeX files and plain ones, in the format's own words. They say the words of texts without comments, and they
--- say that comments mean nothing.
-use Rattle.std.specs.Prelude.{◌≡◌, ◌≢◌, ℕ, ◌+◌, ◌==◌, ◌||◌, Bool, true, not, if◌then◌else◌, All, List, [], ◌∷◌, ◌++◌, map, length, filter, codes, Option, Some, None, option_map}
+-- Laws on TeX files and plain ones, in the format's own words. They say the words of every text without comments, and
+-- they say that comments mean nothing.
+use Rattle.std.specs.Prelude.{◌≡◌, ◌≢◌, ℕ, ◌+◌, ◌==◌, ◌||◌, Bool, true, false, not, if◌then◌else◌, All, List, [], ◌∷◌, ◌++◌, map, length, filter, codes, Option, Some, None, option_map}
 use Rattle.std.specs.List.{slice_split}
-use Rattle.hyphenation_breaks.specs.Ascii.{line_feed, space, backslash}
+use Rattle.hyphenation_breaks.specs.Ascii.{line_feed, space, backslash, open_brace}
 use Rattle.hyphenation_grammar.specs.Tokens.{is_brace}
 use Rattle.pattern_results.specs.Texts.{line_feeds}
 use Rattle.tex_files.specs.Converting.{words_of, group_fault}
@@ -91,6 +91,11 @@ abbrev pub EndsCommand : List ℕ → Type 0
 EndsCommand [] = Unit {0}
 EndsCommand (b ∷ bs) = (is_blank b || (is_brace b || b == backslash)) ≡ true
 
+-- The first byte of a text that is neither white space nor a line feed is an opening brace.
+abbrev pub begins_group : List ℕ → Bool
+begins_group [] = false
+begins_group (b ∷ bs) = if is_blank b then begins_group bs else b == open_brace
+
 -- ---- Laws.
 
 -- A reading is the same without a comment, from its percent sign to the line's end.
@@ -128,6 +133,13 @@ abbrev pub HasFaultOfOpenGroup : Type 0
 HasFaultOfOpenGroup = (group : Group) (before gap inside : List ℕ) → IsOutside before → IsBlank gap → IsInside inside
     → group_fault Tex (before ++ command group ++ gap ++ codes "{" ++ inside)
     ≡ Some (1 + (line_feeds before + line_feeds gap), Unclosed)
+
+-- Without a brace, a command that opens groups means nothing: the file is read from the text after it.
+abbrev pub SkipsCommandWithoutBrace : Type 0
+SkipsCommandWithoutBrace = (group : Group) (before rest : List ℕ) → IsOutside before → HasNo (codes "%") rest
+    → EndsCommand rest → begins_group rest ≡ false
+    → (words_of Tex (before ++ command group ++ rest) ≡ words_later (line_feeds before) (words_of Tex rest))
+    × (group_fault Tex (before ++ command group ++ rest) ≡ fault_later (line_feeds before) (group_fault Tex rest))
 
 -- Nothing is read after `\endinput`.
 abbrev pub HasNothingAfterItsEnd : Type 0

@@ -1,15 +1,15 @@
 //! Laws on the groups of TeX files and on plain files, in the format's own words.
 //!
-//! They let a reader check the definition in specs/Groups.antt. The first law leaves the comments out. A text without
-//! comments is outside of groups up to its first command that means something. Each of the other laws says what follows
-//! such a command; a command that opens groups and has no brace after it is left to the definition.
+//! They say the words of every file, so that nobody needs to read the definition in specs/Groups.antt. The first law
+//! leaves the comments out. A text without comments is outside of groups up to its first command that means something.
+//! Each of the other laws says what follows such a command.
 
 ghost use Rattle.std.specs.Prelude.{◌≡◌, List, ℕ, [], None};
 ghost use Rattle.tex_files.specs.Converting.{words_of, group_fault};
 ghost use Rattle.tex_files.specs.declared.group.Form.{Form};
 ghost use Rattle.tex_files.specs.declared.group.Form.TheVariants.{Tex};
 ghost use Rattle.tex_files.specs.TexFiles.{IsOutside, IgnoresComments, IgnoresLastComment, HasWordsOfFirstGroupAndRest, HasFaultOfRest};
-ghost use Rattle.tex_files.specs.TexFiles.{HasWordsOfOpenGroup, HasFaultOfOpenGroup, HasNothingAfterItsEnd};
+ghost use Rattle.tex_files.specs.TexFiles.{HasWordsOfOpenGroup, HasFaultOfOpenGroup, SkipsCommandWithoutBrace, HasNothingAfterItsEnd};
 ghost use Rattle.tex_files.specs.TexFiles.{HasFaultOfInput, HasWordsBetween};
 
 /// Comments say nothing: with them and without them, a file has equal words on equal lines, and an equal fault.
@@ -37,6 +37,11 @@ pub fn nothing_is_read_outside_of_groups()
 pub fn open_groups_are_faulty()
     ensures words { HasWordsOfOpenGroup }
     ensures fault { HasFaultOfOpenGroup }
+{}
+
+/// A TeX file is read from the text after `\patterns` or `\hyphenation`, if no brace follows that command.
+pub fn a_command_without_a_brace_is_skipped()
+    ensures rest { SkipsCommandWithoutBrace }
 {}
 
 /// A TeX file ends at `\endinput` outside of groups; `\input` there is a fault.
