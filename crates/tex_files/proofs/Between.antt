@@ -240,12 +240,12 @@ ends_piece (b ∷ bs) h = by (is_blank b) refl (is_brace b) refl (b == 92) refl 
     by false p true q k r g = (
       (λ line. piece line (b ∷ []) ∷ lex line false [] bs),
       (λ line last.
-      brace_step (b == 10) (b == 37) (is_space b) (is_brace b) (b == 92) line last b (λ l i t. lex l i t bs) (brace_fails feed b q refl refl) (brace_fails is_percent b q refl refl) (brace_fails is_space b q refl refl) q),
+          brace_step (b == 10) (b == 37) (is_space b) (is_brace b) (b == 92) line last b (λ l i t. lex l i t bs) (brace_fails feed b q refl refl) (brace_fails is_percent b q refl refl) (brace_fails is_space b q refl refl) q),
     )
     by false p false q true r g = (
       (λ line. lex line false (b ∷ []) bs),
       (λ line last.
-      backslash_step (b == 10) (b == 37) (is_space b) (is_brace b) (b == 92) line last b (λ l i t. lex l i t bs) (fails_as feed 92 b r refl) (fails_as is_percent 92 b r refl) (fails_as is_space 92 b r refl) q r),
+          backslash_step (b == 10) (b == 37) (is_space b) (is_brace b) (b == 92) line last b (λ l i t. lex l i t bs) (fails_as feed 92 b r refl) (fails_as is_percent 92 b r refl) (fails_as is_space 92 b r refl) q r),
     )
     by false p false q false r g = absurd (clash (sym g))
 

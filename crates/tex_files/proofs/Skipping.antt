@@ -32,15 +32,30 @@ no_brace b last h = other (b ∷ last) (codes "{") (λ e. absurd (by (b == 123) 
     by true e is = clash (sym e ∙ h)
     by false e is = clash (sym (ap (λ (n : ℕ). n == 123) is) ∙ e)
 
+filled : (b : ℕ) (last : List ℕ) → (length (b ∷ last) == 0) ≡ false
+filled b last = by (length (b ∷ last) == 0) refl
+  where
+    by : (t : Bool) → (length (b ∷ last) == 0) ≡ t → (length (b ∷ last) == 0) ≡ false
+    by true e = absurd (let is : length (b ∷ last) ≡ 0 = grind (arith, e) in cc)
+    by false e = e
+
+-- so the first piece is no brace
+first_other : (b : ℕ) (last : List ℕ) (ps : List Piece) → (b == 123) ≡ false → (if length (b ∷ last) == 0 then opens ps else is_same (b ∷ last) (codes "{")) ≡ false
+first_other b last ps h = by (length (b ∷ last) == 0) (filled b last)
+  where
+    by : (t : Bool) → t ≡ false → (if t then opens ps else is_same (b ∷ last) (codes "{")) ≡ false
+    by true e = absurd (clash e)
+    by false e = no_brace b last h
+
 begun_other : (line b : ℕ) (last bs : List ℕ) → (b == 123) ≡ false → HasNo (codes "%") bs → opens (lex line false (b ∷ last) bs) ≡ false
-begun_other line b last [] h c = no_brace b last h
+begun_other line b last [] h c = first_other b last [] h
 begun_other line b last (x ∷ bs) h c = rw (other_byte 37 x bs c) (by (begun_other line b (last ++ x ∷ []) bs h (rest_free (codes "%") (x ∷ []) bs c)) (x == 10) (is_space x) (is_brace x) (x == 92))
   where
     by : opens (lex line false (b ∷ (last ++ x ∷ [])) bs) ≡ false → (f s e k : Bool) → opens (lexed f false s e k line false (b ∷ last) x (λ l i t. lex l i t bs)) ≡ false
-    by more true s e k = no_brace b last h
-    by more false true e k = no_brace b last h
-    by more false false true k = no_brace b last h
-    by more false false false true = no_brace b last h
+    by more true s e k = first_other b last (lex (line + 1) false [] bs) h
+    by more false true e k = first_other b last (lex line false [] bs) h
+    by more false false true k = first_other b last (piece line (x ∷ []) ∷ lex line false [] bs) h
+    by more false false false true = first_other b last (lex line false (x ∷ []) bs) h
     by more false false false false = more
 
 opens_as : (line : ℕ) (rest : List ℕ) → HasNo (codes "%") rest → opens (lex line false [] rest) ≡ begins_group rest
