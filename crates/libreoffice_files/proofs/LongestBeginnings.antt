@@ -268,7 +268,7 @@ borne_by_longest {C} patterns word p start end entry closed bears some =
             found.0,
             long.2,
             record {
-              some = long.2.nonempty;
+              not_empty = long.2.nonempty;
               within = bears.within;
               entries = found.1.entries;
               key = found.1.key;
