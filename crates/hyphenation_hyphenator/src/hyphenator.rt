@@ -162,8 +162,8 @@ pub trait Hyphenator<'h> {
     /// ```
     fn remove_exception(&mut self, word: &str) -> Option<Vec<Self::Exact>>
         ensures unlists { ListsOnly (rules self.old) (rules self.new) word.now None }
-        ensures returns_old { option_map (λ v. map Self.Exact.meaning v.items) result ≡
-            (rules self.old).listed word.now };
+        ensures returns_old { option_map (λ v. map Self.Exact.meaning v.items) result
+            ≡ (rules self.old).listed word.now };
 
     /// Returns the breaks of a word as written, which are those of [`hyphenate`](Hyphenator::hyphenate).
     fn breaks(&'h self, alloc: Global, word: &str) -> Result<Vec<Self::Opportunity>, AllocError>

@@ -172,8 +172,8 @@ pub trait Iter<'t> {
 impl<'t> Iter<'t> for Word<'t, usize> {
     type Iter = Segments<'t, Copied<slice::Iter<'t, usize>>>;
 
-    ghost iter_gives = { λ word result. result ≡
-        (segments word.text.now (map plain_break word.breaks.items), codes "-") };
+    ghost iter_gives = { λ word result. result
+        ≡ (segments word.text.now (map plain_break word.breaks.items), codes "-") };
 
     fn iter(&'t self) -> Hyphenating<'t, Self::Iter> {
         let alloc = *self.breaks.allocator();

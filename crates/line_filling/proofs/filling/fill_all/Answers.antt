@@ -55,15 +55,15 @@ loop-current-preserved g c =
     let next = c.next_plain_cut-next.result in
     let before = c.loop-current.invariant in
     let passed = c.in_ok-passed in
-    let line = passed.ensures.next in
+    let line = passed.ensures.open_line in
     let t = state_of passed.passed c.pass_breaks.new.lines.items in
     let is : IsState text t = record { order = line.order; start = line.start; end = line.end } in
     let cut : is_cut text breaks next ≡ true = or_left (is_plain text next) (is_one_of next breaks) c.next_plain_cut-next.ensures.plain in
     let then : state_of c.in_ok-current.current c.pass_cut.new.lines.items ≡ state_after_cut text columns t next = c.in_ok-current.ensures.state in
     let reached : c.in_ok-current.current.end ≡ next = ap (λ (v : FillState). v.end) then ∙ passing_end text columns t next in
-    let goes = passing_lines text columns breaks t next (sound breaks_of text c.plain_breaks_fit_where_ascending.ensures c.utf8.text c.requires.ascend) is passed.ensures.before cut (λ p l u h. false≢true (sym (passed.ensures.passed p l u) ∙ h)) in
+    let goes = passing_lines text columns breaks t next (sound breaks_of text c.plain_breaks_fit_where_ascending.ensures c.utf8.text c.requires.ascend) is passed.ensures.ends_before cut (λ p l u h. false≢true (sym (passed.ensures.no_cut_left p l u) ∙ h)) in
     record {
-      all = ap (all_lines text columns breaks) then ∙ goes ∙ passed.ensures.same ∙ before.all;
+      all = ap (all_lines text columns breaks) then ∙ goes ∙ passed.ensures.same_lines ∙ before.all;
       line = c.in_ok-current.ensures.open_line;
-      breaks = subst (λ p. HasBreaksAfter breaks_of text p c.pass_breaks.new.breaks) (sym reached) (after_later breaks_of text passed.passed.end next c.pass_breaks.new.breaks (omega (arith, passed.ensures.before)) passed.ensures.breaks);
+      breaks = subst (λ p. HasBreaksAfter breaks_of text p c.pass_breaks.new.breaks) (sym reached) (after_later breaks_of text passed.passed.end next c.pass_breaks.new.breaks (omega (arith, passed.ensures.ends_before)) passed.ensures.breaks_to_come);
     }
