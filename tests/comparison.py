@@ -60,7 +60,7 @@ def spelling_charset(affixes):
 
 
 def listed_words(path):
-    """The lines of a list of words. Of a hunspell dictionary (.dic next to an .aff) only the part before the / counts."""
+    """The lines of a list of words. In a hunspell dictionary (.dic next to an .aff) only the part before the / counts."""
     with open(path, "rb") as file:
         bytes_ = file.read()
     affixes = path[: -len(".dic")] + ".aff"
