@@ -10,7 +10,9 @@ ghost use Rattle.std.specs.IoError.{error_kind};
 ghost use Rattle.hyphenation_grammar.specs.declared.Cause.{Cause};
 ghost use Rattle.hyphenation_load.specs.Load.{Loads, LoadsIn, LoadsSomeFile, RespectsLanguage, HasNoMismatch};
 ghost use Rattle.hyphenation_load.specs.Load.{IsNotIo, IsNotOutOfMemory, AppendsTo, IfMemory, IsWriteError};
-ghost use Rattle.hyphenation_load.specs.Private.Load.{error_of, ChecksLanguage, IsReadError};
+ghost use Rattle.hyphenation_load.specs.Load.{IsLoadError};
+ghost use Rattle.hyphenation_load.specs.Private.Load.{ChecksLanguage, IsReadError, IsRefusalError};
+ghost use Rattle.hyphenation_reader.specs.Refusals.{IsRefusal};
 
 use hyphenation_breaks::breaks::Break;
 use hyphenation_breaks::entry::Payload;
@@ -177,7 +179,8 @@ fn of_language<C: Payload, B: Break>(
 
 // The refusal of a text as an error of loading.
 fn error_of(refusal: Refusal) -> Error
-    ensures { result ≡ error_of refusal }
+    ensures load_error { (refused : Option (ℕ × Cause)) → IsRefusal refusal refused → IsLoadError refused result }
+    ensures no_io_error { IsRefusalError result }
 {
     match refusal {
         Refusal::Memory => Error::Memory(AllocError),
@@ -212,8 +215,13 @@ impl Load for Standard {
     ghost canonical = { standard_text };
 
     fn from_read(alloc: Global, read: io::Result<Vec<u8>>) -> Result<Standard> {
-        let bytes = read.map_err(error_of_reading)?;
-        read_standard(alloc, &bytes).map_err(error_of)
+        match read {
+            Ok(bytes) => match read_standard(alloc, &bytes) {
+                Ok(dictionary) => Ok(dictionary),
+                Err(refusal) => Err(error_of(refusal)),
+            },
+            Err(e) => Err(error_of_reading(e)),
+        }
     }
 
     fn from_reader<R: Read>(alloc: Global, lang: Language, reader: &mut R) -> Result<Standard> {
@@ -240,8 +248,13 @@ impl Load for Extended {
     ghost canonical = { extended_text };
 
     fn from_read(alloc: Global, read: io::Result<Vec<u8>>) -> Result<Extended> {
-        let bytes = read.map_err(error_of_reading)?;
-        read_extended(alloc, &bytes).map_err(error_of)
+        match read {
+            Ok(bytes) => match read_extended(alloc, &bytes) {
+                Ok(dictionary) => Ok(dictionary),
+                Err(refusal) => Err(error_of(refusal)),
+            },
+            Err(e) => Err(error_of_reading(e)),
+        }
     }
 
     fn from_reader<R: Read>(alloc: Global, lang: Language, reader: &mut R) -> Result<Extended> {

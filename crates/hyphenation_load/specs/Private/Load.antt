@@ -1,12 +1,10 @@
--- How a refused text, a language and an error of reading become results of loading.
+-- Which results of loading a refused text, a language and an error of reading give.
 use Rattle.std.specs.Prelude.{◌≡◌, ◌≢◌, ℕ, List, Result, Ok, Err, alloc_error, ⊤}
 use Rattle.std.specs.IoError.{error_kind}
 use Rattle.std.specs.declared.io.ErrorKind.TheVariants.{OutOfMemory}
 use Rattle.hyphenation_breaks.specs.Dictionary.{Contents}
 use Rattle.hyphenation_grammar.specs.declared.Error.{Error}
 use Rattle.hyphenation_grammar.specs.declared.Error.TheVariants.{Deserialization, IO, LanguageMismatch, Memory}
-use Rattle.hyphenation_reader.specs.declared.reader.Refusal.{Refusal}
-use Rattle.hyphenation_reader.specs.declared.reader.Refusal.TheVariants.{Memory as NoMemory, Fault}
 
 -- The dictionary, exactly where its language is the asked one; else the asked and the found code.
 abbrev pub ChecksLanguage : {C B : Type 0} → List ℕ → Contents C B → Result (Contents C B) Error → Type 0
@@ -15,10 +13,11 @@ ChecksLanguage asked dictionary (Err (LanguageMismatch expected found)) =
     (expected ≡ asked) × (found ≡ dictionary.language) × (found ≢ asked)
 ChecksLanguage asked dictionary (Err _) = ⊥
 
--- The refusal of a text as an error of loading.
-abbrev pub error_of : Refusal → Error
-error_of NoMemory = Memory alloc_error
-error_of (Fault line cause) = Deserialization line cause
+-- An error of loading that a refused text gives: its fault, or memory was refused.
+abbrev pub IsRefusalError : Error → Type 0
+IsRefusalError (IO e) = ⊥
+IsRefusalError (LanguageMismatch expected found) = ⊥
+IsRefusalError _ = ⊤
 
 -- An error of reading as one of loading: memory was refused, or an I/O error of another kind.
 abbrev pub IsReadError : Error → Type 0
