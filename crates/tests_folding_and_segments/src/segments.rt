@@ -95,8 +95,8 @@ fn all_items<'t>(
 }
 
 fn all_marked(alloc: Global, word: Word<'_, usize>) -> Result<Vec<String>, AllocError>
-    ensures { IfOk result (λ list.
-        map string_bytes list.items
+    ensures { IfOk result (λ v.
+        map string_bytes v.items
         ≡ marked_segments (codes "-") (segments word.entry.text.now (map plain_break word.entry.breaks.items))) }
 {
     let mut list = Vec::new(alloc);
