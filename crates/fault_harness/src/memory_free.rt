@@ -154,7 +154,9 @@ fn check_changed_segments<G: Read>(
         }
         tally.note(borrowed.len() == 2 && borrowed.remaining_len() == 2);
         let mut places = breaks.iter().copied();
-        tally.note(places.remaining_len() == 3 && places.pull() == Some(2) && places.remaining_len() == 2);
+        tally.note(
+            places.remaining_len() == 3 && places.pull() == Some(2) && places.remaining_len() == 2,
+        );
         let segments = Segments::new("hyphenation", breaks.iter().copied());
         let rest = Hyphenating::new(alloc, segments);
         tally.note(rest.len() == 4);
@@ -171,7 +173,9 @@ fn check_owned_breaks<G: Read>(tally: &mut Tally, alloc: Global, gate: &mut G) -
     let word = dictionary.hyphenate(alloc, "asszonnyal")?;
     pass_gate(gate);
     let mut places = breaks.into_iter();
-    tally.note(places.remaining_len() == 3 && places.pull() == Some(2) && places.remaining_len() == 2);
+    tally.note(
+        places.remaining_len() == 3 && places.pull() == Some(2) && places.remaining_len() == 2,
+    );
     let items = word.into_iter();
     tally.note(items.len() == 3 && items.size_hint() == (3, Some(3)));
     pass_gate(gate);

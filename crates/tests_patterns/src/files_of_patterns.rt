@@ -133,12 +133,22 @@ fn a_language_may_have_no_exceptions(rt: HostRuntime) -> Result<(), Fail> {
 #[test]
 fn the_first_error_is_returned(rt: HostRuntime) -> Result<(), Fail> {
     let cases: [(Form, &[u8], usize, FileCause); 13] = [
-        (Form::Tex, b"\\patterns{
+        (
+            Form::Tex,
+            b"\\patterns{
 a1b
-", 1, FileCause::Unclosed),
-        (Form::Tex, b"
+",
+            1,
+            FileCause::Unclosed,
+        ),
+        (
+            Form::Tex,
+            b"
 \\input other.tex
-", 2, FileCause::Input),
+",
+            2,
+            FileCause::Input,
+        ),
         (
             Form::Tex,
             b"\\patterns\n\\input other.tex\n",
@@ -370,7 +380,9 @@ fn a_pattern_that_hides_a_value_from_libreoffice_is_noted(rt: HostRuntime) -> Re
         let mut bytes = Vec::from_slice(rt.alloc(), b"UTF-8\n")?;
         bytes.extend_from_slice(patterns)?;
         let (_, notes) = standard_of_dic(rt.alloc(), &bytes)?;
-        let hides = notes.iter().find(|note| matches!(note.0, NoteKind::HidesValue));
+        let hides = notes
+            .iter()
+            .find(|note| matches!(note.0, NoteKind::HidesValue));
         let hides = hides.map(|note| (note.1, note.2));
         expect_equal_in(patterns.escape_ascii(), &hides, &wanted)?;
     }
@@ -386,7 +398,9 @@ fn two_levels_are_noted_where_both_have_patterns(rt: HostRuntime) -> Result<(), 
     ];
     for (bytes, wanted) in cases {
         let (_, notes) = standard_of_dic(rt.alloc(), bytes)?;
-        let levels = notes.iter().find(|note| matches!(note.0, NoteKind::TwoLevels));
+        let levels = notes
+            .iter()
+            .find(|note| matches!(note.0, NoteKind::TwoLevels));
         expect_equal_in(bytes.escape_ascii(), &levels.map(|note| note.1), &wanted)?;
     }
     Ok(())
@@ -397,7 +411,9 @@ fn a_dic_without_a_charset_line_is_read_in_latin_1(rt: HostRuntime) -> Result<()
     let (text, notes) = standard_of_dic(rt.alloc(), b"a1\xe4\nLEFTHYPHENMIN 1\n.b2\n")?;
     let wanted = format!(in rt.alloc(); "{HEAD}p .b2\np a1ä\n")?;
     expect_equal_bytes("a standard text", &text, wanted.as_bytes())?;
-    let charset = notes.iter().find(|note| matches!(note.0, NoteKind::NoCharset));
+    let charset = notes
+        .iter()
+        .find(|note| matches!(note.0, NoteKind::NoCharset));
     expect_equal(&charset.copied(), &Some((NoteKind::NoCharset, 1, 1)))
 }
 

@@ -70,12 +70,20 @@ fn a_file_gives_an_extended_dictionary(rt: HostRuntime) -> Result<(), Fail> {
 
 // Files, each with the first line and the number of a note that it has; `None` if it lacks it.
 const NOTED: [(&[u8], NoteKind, Option<(usize, u64)>); 12] = [
-    (b"UTF-8
+    (
+        b"UTF-8
 a1b
-", NoteKind::NoLevels, Some((1, 1))),
-    (b"UTF-8
+",
+        NoteKind::NoLevels,
+        Some((1, 1)),
+    ),
+    (
+        b"UTF-8
 a1b
-", NoteKind::NoMinima, Some((1, 1))),
+",
+        NoteKind::NoMinima,
+        Some((1, 1)),
+    ),
     (
         b"UTF-8\nRIGHTHYPHENMIN 3\na1b\n",
         NoteKind::NoMinima,
