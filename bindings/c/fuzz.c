@@ -17,7 +17,7 @@ static int is_known(uint32_t status) {
 
 int LLVMFuzzerTestOneInput(const uint8_t *data, size_t size) {
   static uint8_t page[ROOM], again[ROOM];
-  static size_t places[ROOM];
+  static size_t places[ROOM], list[2 * ROOM];
   static hyphenation_change changes[ROOM];
   if (size < 2) return 0;
   uint32_t kind = data[0] & 1, cause = 0, status;
@@ -26,7 +26,12 @@ int LLVMFuzzerTestOneInput(const uint8_t *data, size_t size) {
   word = word ? word + 1 : text;
   hyphenation h = HYPHENATION_NONE, o = HYPHENATION_NONE;
   size_t line = 0, count, texts;
-  if (data[0] & 2)
+  if (data[0] & 4) {
+    size_t file = 0;
+    status = hyphenation_load_patterns(kind, data[0] >> 1 & 1, (const uint8_t *)"und", 3, 2, 256 - (data[0] >> 3 & 1), text,
+                                       length, word ? word : text, word ? rest : 0, &h, &file, &line, &cause);
+    need(status != HYPHENATION_REFUSED || file < 2);
+  } else if (data[0] & 2)
     status = hyphenation_load_dic(kind, (const uint8_t *)"und", 3, 256, 256, text, length, &h, &line, &cause);
   else
     status = hyphenation_load(kind, text, length, &h, &line, &cause);
@@ -35,6 +40,15 @@ int LLVMFuzzerTestOneInput(const uint8_t *data, size_t size) {
   status = hyphenation_breaks(&h, word, rest, places, ROOM, &count);
   need(is_known(status));
   for (size_t i = 0; status == HYPHENATION_DONE && i < count; i++) need(places[i] <= rest && (!i || places[i - 1] < places[i]));
+  /* A list of the word and an empty one has the word's breaks. A third word that ends before it begins is refused. */
+  size_t ends[3] = {rest, rest, 0}, found_ends[3], found;
+  uint32_t listed = hyphenation_breaks_of_words(&h, word, rest, ends, 2, list, 2 * ROOM, &found, found_ends, 3, &texts);
+  need(listed == (status == HYPHENATION_NO_ROOM ? HYPHENATION_DONE : status));
+  if (listed == HYPHENATION_DONE)
+    need(texts == 2 && found == count && found_ends[0] == count && found_ends[1] == count);
+  if (status == HYPHENATION_DONE) need(!memcmp(list, places, count * sizeof *list));
+  listed = hyphenation_breaks_of_words(&h, word, rest, ends, 3, list, 2 * ROOM, &found, found_ends, 3, &texts);
+  need(listed == (!rest ? HYPHENATION_DONE : status == HYPHENATION_NOT_UTF8 ? status : HYPHENATION_BAD_ENDS));
   need(is_known(hyphenation_values(&h, word, rest, page, ROOM, &count)));
   need(is_known(hyphenation_changes(&h, word, rest, changes, ROOM, &count, page, ROOM, &texts)));
   need(is_known(hyphenation_text(&h, word, rest, (const uint8_t *)"-", 1, page, ROOM, &count)));

@@ -12,7 +12,7 @@ NAME, VERSION = "hyphenation_verified", "0.1.0"
 METADATA = """Metadata-Version: 2.1
 Name: hyphenation-verified
 Version: {}
-Summary: Hyphenation of words, texts and lines, by a library in which each call is proved
+Summary: Hyphenation of words, texts and lines, over a library whose calls for C are proved
 License: MIT OR Apache-2.0
 Requires-Python: >=3.8
 """.format(VERSION)

@@ -30,6 +30,11 @@ impl Extended {
         self.language
     }
 
+    /// The places of the breaks of each of the words, in one call, without the changes that the breaks make.
+    pub fn breaks_of_words(&self, words: &[&str]) -> Vec<Vec<usize>> {
+        done(self.handle.breaks_of_words(words))
+    }
+
     /// The values of a word's places, from place 1 on: an odd one allows a break.
     ///
     /// They are those of the patterns alone, for the word as it is written.

@@ -36,6 +36,12 @@ const NOT_UTF8: u32 = 4;
 const REFUSED: u32 = 5;
 const OTHER_KIND: u32 = 6;
 const NO_LANGUAGE: u32 = 7;
+const BAD_ENDS: u32 = 8;
+const NO_MINIMA: u32 = 9;
+
+/// The form of TeX files of patterns, and that of plain ones.
+pub const TEX: u32 = 0;
+pub const PLAIN: u32 = 1;
 
 extern "C" {
     fn hyphenation_load(
@@ -55,6 +61,22 @@ extern "C" {
         bytes: *const u8,
         length: usize,
         handle: *mut Raw,
+        line: *mut usize,
+        cause: *mut u32,
+    ) -> u32;
+    fn hyphenation_load_patterns(
+        kind: u32,
+        form: u32,
+        language: *const u8,
+        language_length: usize,
+        left: u32,
+        right: u32,
+        patterns: *const u8,
+        patterns_length: usize,
+        exceptions: *const u8,
+        exceptions_length: usize,
+        handle: *mut Raw,
+        file: *mut usize,
         line: *mut usize,
         cause: *mut u32,
     ) -> u32;
@@ -83,6 +105,19 @@ extern "C" {
         places: *mut usize,
         capacity: usize,
         count: *mut usize,
+    ) -> u32;
+    fn hyphenation_breaks_of_words(
+        handle: *mut Raw,
+        text: *const u8,
+        length: usize,
+        ends: *const usize,
+        words: usize,
+        places: *mut usize,
+        capacity: usize,
+        count: *mut usize,
+        place_ends: *mut usize,
+        place_ends_capacity: usize,
+        place_ends_count: *mut usize,
     ) -> u32;
     fn hyphenation_changes(
         handle: *mut Raw,
@@ -133,6 +168,10 @@ pub enum Failure {
     OtherKind,
     /// The language is no code.
     NoLanguage,
+    /// The file of exceptions is faulty, on that line, by the cause of that number.
+    RefusedExceptions { line: usize, cause: u32 },
+    /// A minimum is neither given nor in the head of the file.
+    NoMinima,
 }
 
 /// The break of a word, with its range and the two texts that take the range's place.
@@ -160,7 +199,8 @@ fn checked(status: u32, line: usize, cause: u32) -> Result<(), Failure> {
         REFUSED => Err(Failure::Refused { line, cause }),
         OTHER_KIND => Err(Failure::OtherKind),
         NO_LANGUAGE => Err(Failure::NoLanguage),
-        NO_ROOM | NO_DICTIONARY | NOT_UTF8 => unreachable!("the calls of this file never see status {status}"),
+        NO_MINIMA => Err(Failure::NoMinima),
+        NO_ROOM | NO_DICTIONARY | NOT_UTF8 | BAD_ENDS => unreachable!("the calls of this file never see status {status}"),
         _ => unreachable!("status {status}"),
     }
 }
@@ -202,6 +242,44 @@ impl Handle {
             )
         };
         checked(status, line, cause).map(|()| Handle::of(raw))
+    }
+
+    /// Makes a dictionary of a kind of a file of patterns of a form, and of a plain file of exceptions. A minimum above
+    /// 255 is the one in the head of a TeX file.
+    pub fn load_patterns(
+        kind: u32,
+        form: u32,
+        language: &str,
+        minima: (u32, u32),
+        patterns: &[u8],
+        exceptions: &[u8],
+    ) -> Result<Handle, Failure> {
+        let mut raw = Raw::NONE;
+        let (mut file, mut line, mut cause) = (0, 0, 0);
+        let status = unsafe {
+            hyphenation_load_patterns(
+                kind,
+                form,
+                language.as_ptr(),
+                language.len(),
+                minima.0,
+                minima.1,
+                patterns.as_ptr(),
+                patterns.len(),
+                exceptions.as_ptr(),
+                exceptions.len(),
+                &mut raw,
+                &mut file,
+                &mut line,
+                &mut cause,
+            )
+        };
+        match checked(status, line, cause) {
+            Err(Failure::Refused { line, cause }) if file == 1 => {
+                Err(Failure::RefusedExceptions { line, cause })
+            }
+            result => result.map(|()| Handle::of(raw)),
+        }
     }
 
     /// The same dictionary in another handle; nothing of it is copied.
@@ -246,6 +324,50 @@ impl Handle {
             unsafe { places.set_len(count) };
             return Ok(places);
         }
+    }
+
+    /// The places of the breaks of each of the words, in one call.
+    pub fn breaks_of_words(&self, words: &[&str]) -> Result<Vec<Vec<usize>>, Failure> {
+        let text = words.concat();
+        let mut end = 0;
+        let ends: Vec<usize> = words
+            .iter()
+            .map(|word| {
+                end += word.len();
+                end
+            })
+            .collect();
+        let mut places: Vec<usize> = Vec::with_capacity(text.len() / 4 + 16);
+        let mut place_ends = vec![0; words.len()];
+        let mut raw = self.lock();
+        loop {
+            let (mut count, mut size) = (0, 0);
+            let status = unsafe {
+                hyphenation_breaks_of_words(
+                    &mut *raw,
+                    text.as_ptr(),
+                    text.len(),
+                    ends.as_ptr(),
+                    ends.len(),
+                    places.as_mut_ptr(),
+                    places.capacity(),
+                    &mut count,
+                    place_ends.as_mut_ptr(),
+                    place_ends.len(),
+                    &mut size,
+                )
+            };
+            if status == NO_ROOM {
+                places.reserve(count);
+                continue;
+            }
+            checked(status, 0, 0)?;
+            // so many places were written
+            unsafe { places.set_len(count) };
+            break;
+        }
+        let mut begin = 0;
+        Ok(place_ends.iter().map(|end| places[std::mem::replace(&mut begin, *end)..*end].to_vec()).collect())
     }
 
     /// The values of a word's places, from place 1 on.

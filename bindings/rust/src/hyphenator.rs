@@ -52,7 +52,7 @@ pub trait Hyphenator<'h> {
     }
 }
 
-// The result of a call that fails for want of memory alone.
+// The result of a call that fails only if memory was refused.
 pub(crate) fn done<T>(result: Result<T, Failure>) -> T {
     match result {
         Ok(value) => value,

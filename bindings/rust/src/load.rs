@@ -1,7 +1,7 @@
-//! Loading dictionaries from their texts, and from LibreOffice's `.dic`.
+//! Loading dictionaries from their texts, from LibreOffice's `.dic`, from TeX files and from plain ones.
 
 use crate::extended::Extended;
-use crate::handle::{Failure, Handle};
+use crate::handle::{Failure, Handle, PLAIN, TEX};
 use crate::language::Language;
 use crate::standard::Standard;
 use std::fs::File;
@@ -16,6 +16,10 @@ pub type Result<T> = result::Result<T, Error>;
 pub enum Error {
     /// The text is faulty: its first faulty line, counted from 1, and the first test that the line fails.
     Deserialization { line: usize, cause: &'static str },
+    /// The file of exceptions is faulty: its first faulty line, and the first test that the line fails.
+    Exceptions { line: usize, cause: &'static str },
+    /// A minimum is neither given nor in the head of the TeX file.
+    NoMinima,
     /// The file or the reader can't be read.
     IO(io::Error),
     /// The text is of another language.
@@ -28,6 +32,8 @@ impl fmt::Display for Error {
     fn fmt(&self, f: &mut fmt::Formatter<'_>) -> fmt::Result {
         match self {
             Error::Deserialization { line, cause } => write!(f, "line {line}: {cause}"),
+            Error::Exceptions { line, cause } => write!(f, "exceptions, line {line}: {cause}"),
+            Error::NoMinima => f.write_str("the file names no minima"),
             Error::IO(error) => error.fmt(f),
             Error::LanguageMismatch { expected, found } => write!(
                 f,
@@ -57,6 +63,8 @@ impl From<Failure> for Error {
     fn from(failure: Failure) -> Error {
         match failure {
             Failure::Refused { line, cause } => Error::Deserialization { line, cause: message(cause) },
+            Failure::RefusedExceptions { line, cause } => Error::Exceptions { line, cause: message(cause) },
+            Failure::NoMinima => Error::NoMinima,
             Failure::Memory => Error::Memory,
             other => unreachable!("{other:?}"),
         }
@@ -78,6 +86,12 @@ pub trait Load: Sized {
 
     /// The dictionary of a `.dic` of LibreOffice, with these minima, or else those of the file, or 2.
     fn from_dic(lang: Language, minima: (Option<u8>, Option<u8>), dic: &[u8]) -> Result<Self>;
+
+    /// The dictionary of a TeX file of patterns, with these minima, or else those in the head of the file.
+    fn from_tex(lang: Language, minima: (Option<u8>, Option<u8>), tex: &[u8]) -> Result<Self>;
+
+    /// The dictionary of a plain file of patterns, and of a plain file of exceptions, which may be empty.
+    fn from_patterns(lang: Language, minima: (u8, u8), patterns: &[u8], exceptions: &[u8]) -> Result<Self>;
 }
 
 macro_rules! load {
@@ -101,12 +115,28 @@ macro_rules! load {
             }
 
             fn from_dic(lang: Language, minima: (Option<u8>, Option<u8>), dic: &[u8]) -> Result<Self> {
-                let number = |minimum: Option<u8>| minimum.map_or(256, u32::from);
                 let handle = Handle::load_dic($number, lang.code(), (number(minima.0), number(minima.1)), dic)?;
+                Ok($kind { handle, language: lang })
+            }
+
+            fn from_tex(lang: Language, minima: (Option<u8>, Option<u8>), tex: &[u8]) -> Result<Self> {
+                let minima = (number(minima.0), number(minima.1));
+                let handle = Handle::load_patterns($number, TEX, lang.code(), minima, tex, b"")?;
+                Ok($kind { handle, language: lang })
+            }
+
+            fn from_patterns(lang: Language, minima: (u8, u8), patterns: &[u8], exceptions: &[u8]) -> Result<Self> {
+                let minima = (minima.0.into(), minima.1.into());
+                let handle = Handle::load_patterns($number, PLAIN, lang.code(), minima, patterns, exceptions)?;
                 Ok($kind { handle, language: lang })
             }
         }
     };
+}
+
+// A minimum as the library takes it: a number above 255 leaves it to the file.
+fn number(minimum: Option<u8>) -> u32 {
+    minimum.map_or(256, u32::from)
 }
 
 load!(Standard, 0);

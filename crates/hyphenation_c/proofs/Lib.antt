@@ -1,6 +1,9 @@
+pub mod AsciiTexts
 pub mod Boxes
 pub mod Faults
 pub mod Finding
 pub mod Found
+pub mod OfFiles
 pub mod Slots
 pub mod Stands
+pub mod WordLists

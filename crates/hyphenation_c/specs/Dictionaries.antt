@@ -24,41 +24,41 @@ abbrev pub Dictionary : Type 0
 Dictionary = Contents (Unit {0}) ℕ ⊎ Contents (Option Change) (ℕ × Option Change)
 
 -- A dictionary's kind.
-abbrev pub kind_of : Dictionary → Kind
+unfoldable pub kind_of : Dictionary → Kind
 kind_of (inl standard) = Standard
 kind_of (inr extended) = Extended
 
 -- The dictionary of a kind that an accepted text gives.
-abbrev pub given : Kind → List ℕ → Dictionary
+unfoldable pub given : Kind → List ℕ → Dictionary
 given Standard bytes = inl (standard_contents bytes)
 given Extended bytes = inr (extended_contents bytes)
 
 -- The code of a dictionary's language.
-abbrev pub language_of : Dictionary → List ℕ
+unfoldable pub language_of : Dictionary → List ℕ
 language_of (inl standard) = standard.language
 language_of (inr extended) = extended.language
 
 -- The least numbers of characters of a word before its first break and after its last one.
-abbrev pub minima_of : Dictionary → ℕ × ℕ
+unfoldable pub minima_of : Dictionary → ℕ × ℕ
 minima_of (inl standard) = (standard.left, standard.right)
 minima_of (inr extended) = (extended.left, extended.right)
 
 -- The breaks of a word as written.
-abbrev pub breaks_by : Dictionary → List ℕ → List Break
+unfoldable pub breaks_by : Dictionary → List ℕ → List Break
 breaks_by (inl standard) = all_breaks_of (standard_rules standard)
 breaks_by (inr extended) = fitted_breaks_of (extended_rules extended)
 
 -- The places of a word's breaks, in bytes.
-abbrev pub places_by : Dictionary → List ℕ → List ℕ
+unfoldable pub places_by : Dictionary → List ℕ → List ℕ
 places_by dictionary word = map (λ b. b.place) (breaks_by dictionary word)
 
 -- The values of a word's places by the patterns alone, from place 1 on. A word in capitals has those of its capitals.
-abbrev pub values_by : Dictionary → List ℕ → List ℕ
+unfoldable pub values_by : Dictionary → List ℕ → List ℕ
 values_by (inl standard) word = values (entries_of_keys standard) word
 values_by (inr extended) word = map (λ s. s.value) (scores own_change (entries_of_keys extended) word)
 
 -- A break as C reads it: its place, the range that it changes, and how long the two texts are that stand there.
-abbrev pub as_change : Break → BreakChange
+unfoldable pub as_change : Break → BreakChange
 as_change b =
     record {
       place = b.place;
@@ -69,16 +69,16 @@ as_change b =
     }
 
 -- The two texts of each break, one after the other.
-abbrev pub texts_of : List Break → List ℕ
+unfoldable pub texts_of : List Break → List ℕ
 texts_of breaks = flat_map (λ b. before_of b.change ++ after_of b.change) breaks
 
 -- The dictionary after an edit of its exceptions.
-abbrev pub edited : Dictionary → List ℕ → Dictionary
+unfoldable pub edited : Dictionary → List ℕ → Dictionary
 edited (inl standard) edit = inl (after_edit place_as_listing standard edit)
 edited (inr extended) edit = inr (after_edit break_as_listing extended edit)
 
 -- The canonical text of a dictionary.
-abbrev pub text_of : Dictionary → List ℕ
+unfoldable pub text_of : Dictionary → List ℕ
 text_of (inl standard) = standard_text standard
 text_of (inr extended) = extended_text extended
 

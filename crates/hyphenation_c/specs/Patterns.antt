@@ -35,7 +35,7 @@ pattern_cause_number causes.Minimum = 31
 pattern_cause_number causes.Nothing = 32
 
 -- The dictionary of a kind that a `.dic` gives.
-abbrev pub dic_given : Kind → List ℕ → Option ℕ → Option ℕ → List ℕ → Dictionary
+unfoldable pub dic_given : Kind → List ℕ → Option ℕ → Option ℕ → List ℕ → Dictionary
 dic_given Standard language left right bytes = inl (contents_of_dic (λ _. None) (λ _. tt) language left right bytes)
 dic_given Extended language left right bytes =
     inr (contents_of_dic (λ change. change) (λ change. change) language left right bytes)

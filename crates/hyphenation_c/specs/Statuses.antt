@@ -130,7 +130,7 @@ abbrev pub WritesMinima : Option Dictionary → ℕ × ℕ → ℕ × ℕ → �
 WritesMinima None old new status = (status ≡ 3) × (new ≡ old)
 WritesMinima (Some dictionary) old new status = (status ≡ 0) × (new ≡ minima_of dictionary)
 
--- ---- The changes of a word's breaks, in two buffers.
+-- ---- Calls that write into two buffers.
 
 -- A buffer and a count, before and after a call.
 pub record Buffer (T : Type 0) : Type 0 where
@@ -142,27 +142,36 @@ pub record Buffer (T : Type 0) : Type 0 where
 abbrev pub into : {T : Type 0} → List T → List T → ℕ → ℕ → Buffer T
 into old new before after = record { old = old; new = new; before = before; after = after }
 
-abbrev pub IsBufferUnchanged : {T : Type 0} → Buffer T → Type 0
-IsBufferUnchanged b = IsUnchanged b.old b.new b.before b.after
+-- Two buffers and their counts are unchanged.
+abbrev pub AreUnchanged : {T U : Type 0} → Buffer T → Buffer U → Type 0
+AreUnchanged b c = IsUnchanged b.old b.new b.before b.after × IsUnchanged c.old c.new c.before c.after
 
 -- 0: both buffers are filled. 1: one of them is too short, both counts are the lengths found, and both buffers are
--- unchanged. 2: out of memory. 4: the word is not UTF-8. No other status comes, and from 2 on all is unchanged.
+-- unchanged.
+abbrev pub FillsBoth : {T U : Type 0} → List T → List U → Buffer T → Buffer U → ℕ → Type 0
+FillsBoth found more b c zero = Fills found b.old b.new b.after 0 × Fills more c.old c.new c.after 0
+FillsBoth found more b c (suc zero) =
+    (b.after ≡ length found) × (c.after ≡ length more) × ((length b.old < b.after) ⊎ (length c.old < c.after))
+    × (b.new ≡ b.old) × (c.new ≡ c.old)
+FillsBoth found more b c _ = ⊥
+
+-- ---- The changes of a word's breaks.
+
+-- 0 and 1: the word is UTF-8, and both buffers are filled, or one is too short. 2: out of memory. 4: the word is not
+-- UTF-8. No other status comes, and from 2 on all is unchanged.
 abbrev pub FindChanges : Dictionary → List ℕ → Buffer BreakChange → Buffer ℕ → ℕ → Type 0
 FindChanges dictionary word changes texts zero =
-    IsUtf8 word × Fills (map as_change (breaks_by dictionary word)) changes.old changes.new changes.after 0
-    × Fills (texts_of (breaks_by dictionary word)) texts.old texts.new texts.after 0
+    IsUtf8 word
+    × FillsBoth (map as_change (breaks_by dictionary word)) (texts_of (breaks_by dictionary word)) changes texts 0
 FindChanges dictionary word changes texts (suc zero) =
-    IsUtf8 word × (changes.after ≡ length (breaks_by dictionary word))
-    × (texts.after ≡ length (texts_of (breaks_by dictionary word)))
-    × ((length changes.old < changes.after) ⊎ (length texts.old < texts.after)) × (changes.new ≡ changes.old)
-    × (texts.new ≡ texts.old)
-FindChanges dictionary word changes texts (suc (suc zero)) = IsBufferUnchanged changes × IsBufferUnchanged texts
-FindChanges dictionary word changes texts (suc (suc (suc (suc zero)))) =
-    ¬ IsUtf8 word × IsBufferUnchanged changes × IsBufferUnchanged texts
+    IsUtf8 word
+    × FillsBoth (map as_change (breaks_by dictionary word)) (texts_of (breaks_by dictionary word)) changes texts 1
+FindChanges dictionary word changes texts (suc (suc zero)) = AreUnchanged changes texts
+FindChanges dictionary word changes texts (suc (suc (suc (suc zero)))) = ¬ IsUtf8 word × AreUnchanged changes texts
 FindChanges dictionary word changes texts _ = ⊥
 
 abbrev pub Changes : Option Dictionary → List ℕ → Buffer BreakChange → Buffer ℕ → ℕ → Type 0
-Changes None word changes texts status = (status ≡ 3) × IsBufferUnchanged changes × IsBufferUnchanged texts
+Changes None word changes texts status = (status ≡ 3) × AreUnchanged changes texts
 Changes (Some dictionary) word changes texts status = FindChanges dictionary word changes texts status
 
 -- ---- Loading, sharing and editing.

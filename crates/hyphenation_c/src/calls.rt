@@ -17,11 +17,12 @@ ghost use Rattle.hyphenation_c.specs.Dictionaries.{given, language_of, minima_of
 ghost use Rattle.hyphenation_c.specs.Dictionaries.{as_change, texts_of, text_of, dictionary_of};
 ghost use Rattle.hyphenation_c.specs.Statuses.{Finds, FindsBreaks, FindsMarkedText, FindsLines, FindChanges, into};
 
-use crate::buffers::fill_buffer;
+use crate::buffers::{fill_buffer, fill_buffers};
 use crate::changes;
 use crate::changes::BreakChange;
 use crate::loaded::Loaded;
-use crate::statuses::{NO_ROOM, NOT_UTF8, OTHER_KIND, OUT_OF_MEMORY};
+use crate::statuses::{NOT_UTF8, OTHER_KIND, OUT_OF_MEMORY};
+use crate::utf8::word_of;
 use hyphenation_breaks::breaks::Break;
 use hyphenation_breaks::language::Language;
 use hyphenation_dictionary::dictionary::{Extended, Standard};
@@ -35,9 +36,10 @@ use std::alloc::{AllocError, Global};
 use std::sync::Arc;
 
 // Reads a dictionary of a kind.
+#[tactic(auto, unfolding(crate::specs::Dictionaries::given))]
 fn read(alloc: Global, kind: Kind, bytes: &[u8]) -> Result<Loaded, Refusal>
     ensures accepted { OnOk result (refusal_of kind bytes.now ≡ None) }
-    ensures given { IfOk result (λ loaded. dictionary_of loaded ≡ given kind bytes.now) }
+    ensures contents { IfOk result (λ loaded. dictionary_of loaded ≡ given kind bytes.now) }
     ensures refused { IfErr result (λ refusal. IsRefusal refusal (refusal_of kind bytes.now)) }
 {
     match kind {
@@ -61,7 +63,7 @@ fn read(alloc: Global, kind: Kind, bytes: &[u8]) -> Result<Loaded, Refusal>
 /// Reads a dictionary of a kind into a box. The error is a refusal of the text, or that memory was refused.
 pub fn load(alloc: Global, kind: Kind, bytes: &[u8]) -> Result<Box<Loaded>, Refusal>
     ensures accepted { OnOk result (refusal_of kind bytes.now ≡ None) }
-    ensures given { IfOk result (λ loaded. dictionary_of loaded.value ≡ given kind bytes.now) }
+    ensures contents { IfOk result (λ loaded. dictionary_of loaded.value ≡ given kind bytes.now) }
     ensures refused { IfErr result (λ refusal. IsRefusal refusal (refusal_of kind bytes.now)) }
 {
     let loaded = read(alloc, kind, bytes)?;
@@ -88,10 +90,14 @@ pub fn share(alloc: Global, loaded: &Loaded) -> Option<Box<Loaded>>
     let Ok(shared) = again(loaded) else {
         return None;
     };
-    Box::new(alloc, shared).ok()
+    match Box::new(alloc, shared) {
+        Ok(boxed) => Some(boxed),
+        Err(_) => None,
+    }
 }
 
 // The dictionary's language.
+#[tactic(auto, unfolding(crate::specs::Dictionaries::language_of))]
 fn language_in(loaded: &Loaded) -> Language
     ensures { result ≡ language_of (dictionary_of loaded.now) }
 {
@@ -102,6 +108,7 @@ fn language_in(loaded: &Loaded) -> Language
 }
 
 /// The least numbers of characters of a word before its first break and after its last one.
+#[tactic(auto, unfolding(crate::specs::Dictionaries::minima_of))]
 pub fn minima_in(loaded: &Loaded) -> (usize, usize)
     ensures { result ≡ minima_of (dictionary_of loaded.now) }
 {
@@ -121,7 +128,6 @@ pub fn write_language(loaded: &Loaded, code: &mut [u8], count: &mut usize) -> u3
 }
 
 // The places of the breaks that a standard dictionary finds.
-#[tactic(auto, using(crate::proofs::Found::found_places))]
 fn standard_places(
     dictionary: &Standard,
     alloc: Global,
@@ -159,8 +165,9 @@ fn extended_places(
     Ok(places)
 }
 
-// The places of a word's breaks.
-fn places_in(loaded: &Loaded, alloc: Global, word: &str) -> Result<Vec<usize>, AllocError>
+/// The places of a word's breaks.
+#[inline(always)]
+pub fn places_in(loaded: &Loaded, alloc: Global, word: &str) -> Result<Vec<usize>, AllocError>
     ensures { IfOk result (λ v. v.items ≡ places_by (dictionary_of loaded.now) word.now) }
 {
     match loaded {
@@ -180,7 +187,7 @@ pub fn write_breaks(
 ) -> u32
     ensures { FindsBreaks (dictionary_of loaded.now) word.now places.old places.new count.old count.new result }
 {
-    let Ok(word) = std::str::from_utf8(word) else {
+    let Some(word) = word_of(word) else {
         return NOT_UTF8;
     };
     let Ok(found) = places_in(loaded, alloc, word) else {
@@ -221,6 +228,7 @@ fn changes_in(loaded: &Loaded, alloc: Global, word: &str) -> Result<Changes, All
 
 /// Writes a word's breaks with their changes to the front of one buffer, their texts to the front of another one, and
 /// returns the status. If one of them is too short, both are unchanged.
+#[tactic(auto, using(crate::proofs::Finding::finds_changes))]
 pub fn write_changes(
     loaded: &Loaded,
     alloc: Global,
@@ -239,13 +247,7 @@ pub fn write_changes(
     let Ok((found, said)) = changes_in(loaded, alloc, word) else {
         return OUT_OF_MEMORY;
     };
-    *count = found.len();
-    *size = said.len();
-    if *count > changes.len() || *size > text.len() {
-        return NO_ROOM;
-    }
-    fill_buffer(&found, changes, count);
-    fill_buffer(&said, text, size)
+    fill_buffers(&found, changes, count, &said, text, size)
 }
 
 // A text with the mark at each break of its words, by a dictionary of either kind.
@@ -347,6 +349,7 @@ pub fn write_lines(
 }
 
 // The dictionary's canonical text.
+#[tactic(auto, unfolding(crate::specs::Dictionaries::text_of))]
 fn text_of(loaded: &Loaded, alloc: Global) -> Result<Vec<u8>, AllocError>
     ensures { IfOk result (λ text. text.items ≡ text_of (dictionary_of loaded.now)) }
 {

@@ -11,7 +11,7 @@ use std::alloc::{AllocError, Global};
 /// A break: its place, the range of the word that it changes, and the lengths of the two texts that take the range's
 /// place, before the break and after it. All are numbers of bytes.
 #[repr(C)]
-#[derive(Clone, Copy, Debug, PartialEq, Eq)]
+#[derive(Clone, Copy)]
 pub struct BreakChange {
     /// The number of bytes of the word before the break.
     pub place: usize,
@@ -26,6 +26,7 @@ pub struct BreakChange {
 }
 
 // A break that stands in a word.
+#[tactic(auto, unfolding(crate::specs::Dictionaries::as_change))]
 fn as_change<B: Break>(_word: &str, b: &B) -> BreakChange
     requires { BreakFitsAfter _word.now 0 0 (B.meaning b.now) }
     ensures { result ≡ as_change (B.meaning b.now) }
@@ -55,6 +56,7 @@ pub fn changes_of<'t, B: Break>(
 }
 
 /// The texts of a word's breaks, one after the other: of each break the text before it, then the text after it.
+#[tactic(auto, unfolding(crate::specs::Dictionaries::texts_of))]
 pub fn texts_of<'t, B: Break>(alloc: Global, word: &Word<'t, B>) -> Result<Vec<u8>, AllocError>
     ensures { IfOk result (λ v. v.items ≡ texts_of (map B.meaning word.now.breaks.items)) }
 {

@@ -45,7 +45,7 @@ fn edit_standard(counted: &mut Arc<Standard>, alloc: Global, edit: &str) -> Resu
     ensures done { IfOk result (λ good. IsTrue good
         → arc_value counted.new ≡ after_edit place_as_listing (arc_value counted.old) edit.now) }
     ensures refused { IfOk result (λ good. IsTrue (not good) → arc_value counted.new ≡ arc_value counted.old) }
-    ensures err { OnErr result (arc_value counted.new ≡ arc_value counted.old) }
+    ensures unchanged_on_error { OnErr result (arc_value counted.new ≡ arc_value counted.old) }
 {
     if let Some(dictionary) = Arc::get_mut(counted) {
         return apply_edit(alloc, Kind::Standard, dictionary, edit);
@@ -67,7 +67,7 @@ fn edit_extended(counted: &mut Arc<Extended>, alloc: Global, edit: &str) -> Resu
     ensures done { IfOk result (λ good. IsTrue good
         → arc_value counted.new ≡ after_edit break_as_listing (arc_value counted.old) edit.now) }
     ensures refused { IfOk result (λ good. IsTrue (not good) → arc_value counted.new ≡ arc_value counted.old) }
-    ensures err { OnErr result (arc_value counted.new ≡ arc_value counted.old) }
+    ensures unchanged_on_error { OnErr result (arc_value counted.new ≡ arc_value counted.old) }
 {
     if let Some(dictionary) = Arc::get_mut(counted) {
         return apply_edit(alloc, Kind::Extended, dictionary, edit);
@@ -84,12 +84,13 @@ fn edit_extended(counted: &mut Arc<Extended>, alloc: Global, edit: &str) -> Resu
 }
 
 // Edits a dictionary of either kind. Whether the edit is good.
+#[tactic(auto, unfolding(crate::specs::Dictionaries::kind_of, crate::specs::Dictionaries::edited))]
 fn apply(loaded: &mut Loaded, alloc: Global, edit: &str) -> Result<bool, AllocError>
     ensures good { IfOk result (λ good. good ≡ is_good_edit (kind_of (dictionary_of loaded.old)) edit.now) }
     ensures done { IfOk result (λ good. IsTrue good
         → dictionary_of loaded.new ≡ edited (dictionary_of loaded.old) edit.now) }
     ensures refused { IfOk result (λ good. IsTrue (not good) → dictionary_of loaded.new ≡ dictionary_of loaded.old) }
-    ensures err { OnErr result (dictionary_of loaded.new ≡ dictionary_of loaded.old) }
+    ensures unchanged_on_error { OnErr result (dictionary_of loaded.new ≡ dictionary_of loaded.old) }
 {
     match loaded {
         Loaded::Standard(standard) => edit_standard(standard, alloc, edit),

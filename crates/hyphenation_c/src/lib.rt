@@ -8,30 +8,38 @@
 
 ghost use Rattle.std.specs.Prelude.{◌≡◌, None};
 ghost use Rattle.hyphenation_c.specs.Dictionaries.{holds};
+ghost use Rattle.hyphenation_c.specs.Lists.{WritesLists};
 ghost use Rattle.hyphenation_c.specs.Patterns.{LoadsDic};
 ghost use Rattle.hyphenation_c.specs.Statuses.{kind_numbered, Loads, Shares, Edits, WritesLanguage, WritesMinima};
-ghost use Rattle.hyphenation_c.specs.Statuses.{WritesBreaks, WritesValues, Changes, WritesMarkedText, into, loading};
-ghost use Rattle.hyphenation_c.specs.Statuses.{WritesLines, WritesCanonicalText};
+ghost use Rattle.hyphenation_c.specs.Statuses.{WritesBreaks, WritesValues, Changes, into, loading};
+ghost use Rattle.hyphenation_c.specs.Statuses.{WritesMarkedText, WritesLines, WritesCanonicalText};
+ghost use Rattle.hyphenation_c.specs.TexFiles.{LoadsPatterns, PlacesFault};
 
 pub mod buffers;
 pub mod calls;
 pub mod changes;
 pub mod edits;
 pub mod handle;
+pub mod lists;
 pub mod loaded;
 pub mod numbers;
 pub mod patterns;
 pub mod statuses;
 #[cfg(test)]
 mod tests;
+pub mod tex;
+pub mod utf8;
 pub mod values;
 
 use changes::BreakChange;
 use handle::Handle;
 use hyphenation_reader::reader::Refusal;
 use patterns::Failure;
-use statuses::{DONE, NO_DICTIONARY, NO_LANGUAGE, NOT_UTF8, OTHER_KIND, OUT_OF_MEMORY, REFUSED};
+use statuses::{
+    DONE, NO_DICTIONARY, NO_LANGUAGE, NO_MINIMA, NOT_UTF8, OTHER_KIND, OUT_OF_MEMORY, REFUSED,
+};
 use std::alloc::Global;
+use tex::NoDictionary;
 
 /// Loads a dictionary of a kind from its text. It takes the place of the dictionary that the handle held.
 ///
@@ -109,6 +117,58 @@ pub extern "C" fn hyphenation_load_dic(
         Err(Failure::Memory) => OUT_OF_MEMORY,
         Err(Failure::NotUtf8) => NOT_UTF8,
         Err(Failure::NotCode) => NO_LANGUAGE,
+    }
+}
+
+/// Makes a dictionary of a kind of a TeX file of patterns, or of a plain one, and of a plain file of exceptions.
+///
+/// The form is 0 for a TeX file, and 1 for a plain one. The file of exceptions may be empty. A minimum above 255 is the
+/// one in the head of the TeX file, as those of hyph-utf8 have it; `NO_MINIMA` if none is there. For a refused file
+/// (`REFUSED`) its number is written, which is 0 or 1, with the line of its first fault, counted from 1, and the number
+/// of the cause, from 21 on. With each status but `DONE` the handle is unchanged.
+#[unsafe(no_mangle)]
+pub extern "C" fn hyphenation_load_patterns(
+    alloc: Global,
+    kind: u32,
+    form: u32,
+    code: &[u8],
+    left: u32,
+    right: u32,
+    bytes: &[u8],
+    exceptions: &[u8],
+    handle: &mut Handle,
+    file: &mut usize,
+    line: &mut usize,
+    cause: &mut u32,
+) -> u32
+    ensures loads { LoadsPatterns (kind, form) (left, right) code.now bytes.entry exceptions.entry
+        (holds handle.old) (holds handle.new) result }
+    ensures fault { PlacesFault form bytes.entry exceptions.entry (file.old, (line.old, cause.old))
+        (file.new, (line.new, cause.new)) result }
+{
+    let Some(kind) = numbers::kind_numbered(kind) else {
+        return OTHER_KIND;
+    };
+    let Some(form) = tex::form_numbered(form) else {
+        return OTHER_KIND;
+    };
+    let left = patterns::minimum_given(left);
+    let right = patterns::minimum_given(right);
+    match tex::load_patterns(alloc, kind, code, left, right, form, bytes, exceptions) {
+        Ok(loaded) => {
+            handle.put(alloc, loaded);
+            DONE
+        }
+        Err(NoDictionary::Fault(number, at, why)) => {
+            *file = number;
+            *line = at;
+            *cause = patterns::pattern_cause_number(why);
+            REFUSED
+        }
+        Err(NoDictionary::Memory) => OUT_OF_MEMORY,
+        Err(NoDictionary::NotUtf8) => NOT_UTF8,
+        Err(NoDictionary::NotCode) => NO_LANGUAGE,
+        Err(NoDictionary::NoMinima) => NO_MINIMA,
     }
 }
 
@@ -216,6 +276,35 @@ pub extern "C" fn hyphenation_breaks(
         return NO_DICTIONARY;
     };
     let status = calls::write_breaks(&loaded, alloc, word, places, count);
+    *handle = Handle::of(loaded);
+    status
+}
+
+/// Writes the places of the breaks of a list of words to the front of one buffer, and the ends of the words' places to
+/// the front of another one.
+///
+/// The words stand one after the other in a text, and each has its end in it. Places are counted from the begin of their
+/// word, in bytes. The places of a word end where those of the next one begin. A word that ends before it begins, or
+/// after the text, is `BAD_ENDS`.
+#[unsafe(no_mangle)]
+pub extern "C" fn hyphenation_breaks_of_words(
+    alloc: Global,
+    handle: &mut Handle,
+    text: &[u8],
+    ends: &[usize],
+    list: &mut [usize],
+    count: &mut usize,
+    last: &mut [usize],
+    size: &mut usize,
+) -> u32
+    ensures unchanged { handle.new.slot.kept ≡ handle.old.slot.kept }
+    ensures list { WritesLists (holds handle.old) text.now ends.now (into list.old list.new count.old count.new)
+        (into last.old last.new size.old size.new) result }
+{
+    let Some(loaded) = handle.take(alloc) else {
+        return NO_DICTIONARY;
+    };
+    let status = lists::write_breaks_of_words(&loaded, alloc, text, ends, list, count, last, size);
     *handle = Handle::of(loaded);
     status
 }

@@ -78,6 +78,7 @@ fn from_dic<C: Payload, B: Listing>(
 }
 
 // The dictionary of a kind of a `.dic`.
+#[tactic(auto, unfolding(crate::specs::Patterns::dic_given))]
 fn loaded_from_dic(
     alloc: Global,
     kind: Kind,
@@ -87,7 +88,7 @@ fn loaded_from_dic(
     bytes: &[u8],
 ) -> Result<Loaded, ConvertError>
     ensures good { OnOk result (dic_fault bytes.now ≡ None) }
-    ensures given { IfOk result (λ loaded. dictionary_of loaded ≡ dic_given kind language left right bytes.now) }
+    ensures contents { IfOk result (λ loaded. dictionary_of loaded ≡ dic_given kind language left right bytes.now) }
     ensures refused { IfErr result (λ error.
         IsConvertError error (option_map (λ fault. (0, fault)) (dic_fault bytes.now))) }
 {
@@ -137,7 +138,7 @@ pub fn load_dic(
 ) -> Result<Box<Loaded>, Failure>
     ensures code { OnOk result (IsCode language.now) }
     ensures good { OnOk result (dic_fault bytes.now ≡ None) }
-    ensures given { IfOk result (λ loaded.
+    ensures contents { IfOk result (λ loaded.
         dictionary_of loaded.value ≡ dic_given kind language.now left right bytes.now) }
     ensures failed { IfErr result (λ failure. IsFailure failure language.now (dic_fault bytes.now)) }
 {

@@ -3,9 +3,10 @@
 use crate::changes::BreakChange;
 use crate::handle::Handle;
 use crate::{
-    hyphenation_breaks, hyphenation_changes, hyphenation_edit, hyphenation_fill, hyphenation_free,
-    hyphenation_language, hyphenation_load, hyphenation_load_dic, hyphenation_minima,
-    hyphenation_share, hyphenation_text, hyphenation_values, hyphenation_write,
+    hyphenation_breaks, hyphenation_breaks_of_words, hyphenation_changes, hyphenation_edit,
+    hyphenation_fill, hyphenation_free, hyphenation_language, hyphenation_load,
+    hyphenation_load_dic, hyphenation_load_patterns, hyphenation_minima, hyphenation_share,
+    hyphenation_text, hyphenation_values, hyphenation_write,
 };
 use std::alloc::Global;
 use std::test::Fail;
@@ -72,6 +73,17 @@ fn values_and_minima_are_written(rt: HostRuntime) -> Result<(), Fail> {
     Ok(())
 }
 
+// The numbers of a break with its change.
+fn numbers_of(change: BreakChange) -> [usize; 5] {
+    [
+        change.place,
+        change.begin,
+        change.end,
+        change.before,
+        change.after,
+    ]
+}
+
 #[test]
 fn letters_are_changed(rt: HostRuntime) -> Result<(), Fail> {
     let mut handle = load(rt.alloc(), 1, HUNGARIAN)?;
@@ -94,21 +106,9 @@ fn letters_are_changed(rt: HostRuntime) -> Result<(), Fail> {
         &mut length,
     );
     assert_eq!(rt; (status, count, length), (0, 2, 8));
-    let first = BreakChange {
-        place: 2,
-        begin: 1,
-        end: 4,
-        before: 2,
-        after: 2,
-    };
-    let second = BreakChange {
-        place: 6,
-        begin: 5,
-        end: 8,
-        before: 2,
-        after: 2,
-    };
-    assert_eq!(rt; changes, [first, second, nothing]);
+    assert_eq!(rt; numbers_of(changes[0]), [2, 1, 4, 2, 2]);
+    assert_eq!(rt; numbers_of(changes[1]), [6, 5, 8, 2, 2]);
+    assert_eq!(rt; numbers_of(changes[2]), [0; 5]);
     assert_eq!(rt; texts, *b"szsznyny.");
     let (mut page, mut wanted) = ([b'.'; 16], 0usize);
     let text = b"Az asszonnyal.".as_slice();
@@ -245,6 +245,59 @@ fn a_dic_makes_a_dictionary(rt: HostRuntime) -> Result<(), Fail> {
         &mut cause,
     );
     assert_eq!(rt; (code, utf8, kind), (7, 4, 6));
+    hyphenation_free(rt.alloc(), &mut handle);
+    Ok(())
+}
+
+#[test]
+fn a_list_of_words_is_broken(rt: HostRuntime) -> Result<(), Fail> {
+    let mut handle = load(rt.alloc(), 0, ENGLISH)?;
+    let (mut places, mut count) = ([9usize; 7], 9usize);
+    let (mut ends, mut size) = ([9usize; 4], 9usize);
+    let text = b"hyphenationHyphenation".as_slice();
+    let of_words = [11usize, 11, 22];
+    let status = hyphenation_breaks_of_words(
+        rt.alloc(),
+        &mut handle,
+        text,
+        &of_words,
+        &mut places,
+        &mut count,
+        &mut ends,
+        &mut size,
+    );
+    assert_eq!(rt; (status, count, size), (0, 6, 3));
+    assert_eq!(rt; places, [2, 6, 7, 2, 6, 7, 9]);
+    assert_eq!(rt; ends, [3, 3, 6, 9]);
+    hyphenation_free(rt.alloc(), &mut handle);
+    Ok(())
+}
+
+#[test]
+fn files_of_tex_make_a_dictionary(rt: HostRuntime) -> Result<(), Fail> {
+    let mut handle = Handle::empty();
+    let (mut file, mut line, mut cause) = (9usize, 9usize, 9u32);
+    let tex = b"\\patterns{r5kin k1in}\\hyphenation{pre-sent}".as_slice();
+    let made = hyphenation_load_patterns(
+        rt.alloc(),
+        0,
+        0,
+        b"en-gb",
+        2,
+        3,
+        tex,
+        b"as-so-ciate",
+        &mut handle,
+        &mut file,
+        &mut line,
+        &mut cause,
+    );
+    assert_eq!(rt; (made, file, line, cause), (0, 9, 9, 9));
+    let (mut page, mut count) = ([b'.'; 32], 0usize);
+    let text = b"firkin present associate".as_slice();
+    let marked = hyphenation_text(rt.alloc(), &mut handle, text, b"-", &mut page, &mut count);
+    assert_eq!(rt; (marked, count), (0, 28));
+    assert_eq!(rt; page, *b"fir-kin pre-sent as-so-ciate....");
     hyphenation_free(rt.alloc(), &mut handle);
     Ok(())
 }

@@ -3,16 +3,18 @@ use Rattle.hyphenation_breaks.specs.Break.{plain_break}
 use Rattle.hyphenation_hyphenator.specs.Fitting.{fitted_breaks_of}
 use Rattle.hyphenation_hyphenator.specs.Opportunities.{no_change, own_break, rules_of, all_breaks_of}
 use Rattle.hyphenation_score.specs.Scoring.{own_change}
-use Rattle.hyphenation_c.specs.Dictionaries.{places_by, dictionary_of}
+use Rattle.hyphenation_c.specs.Dictionaries.{places_by, breaks_by, dictionary_of}
 use Rattle.hyphenation_c.proofs.calls.places_in.Goals as goal
 
 pub returns-in-Standard : goal.returns-in-Standard
+unfolding places_by breaks_by
 returns-in-Standard c =
     subst (λ l. IfOk c.standard_places.result (λ v. v.items ≡ places_by (dictionary_of l) c.args.word.now)) (sym c.in-Standard.is)
     (subst (λ d. IfOk c.standard_places.result (λ v. v.items ≡ map (λ b. b.place) (all_breaks_of (rules_of no_change plain_break d) c.args.word.now)))
     c.deref.ensures c.standard_places.ensures)
 
 pub returns-in-Extended : goal.returns-in-Extended
+unfolding places_by breaks_by
 returns-in-Extended c =
     subst (λ l. IfOk c.extended_places.result (λ v. v.items ≡ places_by (dictionary_of l) c.args.word.now)) (sym c.in-Extended.is)
     (subst (λ d. IfOk c.extended_places.result (λ v. v.items ≡ map (λ b. b.place) (fitted_breaks_of (rules_of own_change own_break d) c.args.word.now)))

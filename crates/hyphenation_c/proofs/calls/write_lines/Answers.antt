@@ -7,7 +7,7 @@ use Rattle.hyphenation_breaks.specs.Dictionary.{Contents}
 use Rattle.hyphenation_writer.specs.Canonical.{with_line_feeds}
 use Rattle.hyphenation_hyphenator.specs.Opportunities.{no_change, rules_of, all_breaks_of}
 use Rattle.line_filling.specs.Lines.{lines_by}
-use Rattle.hyphenation_c.specs.Dictionaries.{dictionary_of}
+use Rattle.hyphenation_c.specs.Dictionaries.{breaks_by, dictionary_of}
 use Rattle.hyphenation_c.specs.Statuses.{Fills, FindsLines}
 use Rattle.hyphenation_c.proofs.Finding.{finds}
 use Rattle.hyphenation_c.proofs.calls.write_lines.Goals as goal
@@ -16,6 +16,7 @@ abbrev lines_of : ℕ → Contents (Unit {0}) ℕ → List ℕ → List ℕ
 lines_of columns d text = with_line_feeds (lines_by (all_breaks_of (rules_of no_change plain_break d)) text columns)
 
 pub returns : goal.returns
+unfolding breaks_by
 returns c =
     let page = subst (λ d. string_bytes c.in-Ok-lines_by.page ≡ lines_of c.args.columns d c.in-Ok.text.now) c.deref.ensures c.in-Ok-lines_by.ensures in
     let found = c.as_bytes.ensures.value ∙ page ∙ ap (lines_of c.args.columns (arc_value c.in-Standard.standard)) c.in-Ok.ensures.cases.0 in
