@@ -1,0 +1,4 @@
+pub mod Private
+pub mod Arguments
+pub mod Dictionaries
+pub mod Written

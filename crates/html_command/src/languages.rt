@@ -1,0 +1,99 @@
+//! The languages for which dictionaries are searched: those that a page may name.
+//!
+//! `hyphenation_html` decides of which language a text of the page is. Here each `lang=` counts, wherever it stands. So
+//! a few more dictionaries may be loaded than the page needs.
+
+ghost use Rattle.std.specs.Prelude.{◌<◌, IfSome, length};
+
+use std::alloc::{AllocError, Global};
+use std::collections::BTreeSet;
+
+// No tag of a language has more bytes. More of a value is not looked at, so that long values take linear time.
+const LONGEST_TAG: usize = 64;
+
+// Whether a byte ends the value of an attribute: a quote, white space, or the end of the tag.
+fn ends_value(byte: u8) -> bool {
+    matches!(byte, b'"' | b'\'' | b'>') || byte.is_ascii_whitespace()
+}
+
+// The value that a text begins with.
+fn value_front(text: &[u8]) -> &[u8] {
+    let text = &text[..text.len().min(LONGEST_TAG)];
+    match text.iter().position(|byte| ends_value(*byte)) {
+        Some(end) => &text[..end],
+        None => text,
+    }
+}
+
+// The value of an attribute, if a text begins with `=` and one, in quotes or not.
+fn value_after_name(text: &[u8]) -> Option<&[u8]> {
+    let value = text.trim_ascii_start().strip_prefix(b"=".as_slice())?;
+    match value.trim_ascii_start() {
+        [b'"' | b'\'', value @ ..] => Some(value_front(value.trim_ascii_start())),
+        value => Some(value_front(value)),
+    }
+}
+
+// Whether the name of an attribute may begin after a byte: it is none of a name, but the colon of `xml:lang`.
+fn ends_name(byte: u8) -> bool {
+    !byte.is_ascii_alphanumeric() && byte != b'-' && byte != b'_'
+}
+
+// The value of `lang=`, if a text begins so, in letters of either case.
+fn language_at(text: &[u8]) -> Option<&[u8]> {
+    match text {
+        [
+            b'l' | b'L',
+            b'a' | b'A',
+            b'n' | b'N',
+            b'g' | b'G',
+            rest @ ..,
+        ] => value_after_name(rest),
+        _ => None,
+    }
+}
+
+// Adds a language to those that were found, if it is text.
+fn add(languages: &mut BTreeSet<String>, alloc: Global, language: &[u8]) -> Result<(), AllocError> {
+    if let Ok(language) = std::str::from_utf8(language) {
+        if !languages.contains(language) {
+            languages.insert(String::from_str(alloc, language)?)?;
+        }
+    }
+    Ok(())
+}
+
+/// Returns the languages that a page may name, each once: what follows `lang=`, at most 64 bytes of it. The error says
+/// that memory was refused.
+///
+/// ```text
+/// languages_of(alloc, "<p lang=de>Wort <i LANG='fr-CA'>mot</i>")?      // de, fr-CA
+/// ```
+pub fn languages_of(alloc: Global, page: &str) -> Result<BTreeSet<String>, AllocError> {
+    let mut languages = BTreeSet::new(alloc);
+    let page = page.as_bytes();
+    let mut may_begin = true;
+    for at in 0..page.len() {
+        if may_begin {
+            if let Some(language) = language_at(&page[at..]) {
+                add(&mut languages, alloc, language)?;
+            }
+        }
+        may_begin = ends_name(page[at]);
+    }
+    Ok(languages)
+}
+
+/// Returns the tag of a language without its last part, or `None` if it has one part alone.
+///
+/// ```text
+/// without_last_part("de-ch-1996")      // Some("de-ch")
+/// ```
+pub fn without_last_part(tag: &str) -> Option<&str>
+    ensures { IfSome result (λ front. length front.now < length tag.now) }
+{
+    match tag.rsplit_once('-') {
+        Some((front, _)) => Some(front),
+        None => None,
+    }
+}

@@ -1,0 +1,187 @@
+//! The program `hyphenate-html` without its `main`: its arguments, messages and statuses.
+//!
+//! It writes a page with a mark where the words of its text may be broken, and leaves all else as it is.
+#![tactic(auto)]
+
+ghost use Rattle.std.specs.Prelude.{◌≡◌, ◌⊎◌, ◌+◌, ◌<◌, ◌==◌, IfErr, IfOk, IfSome, None, OnOk, Some, count_by, length, take};
+ghost use Rattle.command_line.specs.About.{WritesHelp};
+ghost use Rattle.command_line.specs.Statuses.{BeforeOutput};
+ghost use Rattle.html_command.specs.Arguments.{parsed_args};
+ghost use Rattle.hyphenation_breaks.specs.Ascii.{line_feed};
+ghost use Rattle.html_command.specs.Written.{asked_text, WritesPage, EndsFor};
+ghost use Rattle.html_command.specs.Private.Requests.{parsed_request};
+ghost use Rattle.html_command.specs.Private.Statuses.{IsReadingFailure, IsWritingFailure, JudgesPage};
+
+pub mod dictionaries;
+mod failure;
+pub mod folders;
+mod languages;
+mod request;
+
+use command_line::{VERSION, write_help_or_version};
+use dictionaries::load_for_page;
+pub use failure::NO_MEMORY;
+use failure::{Failure, report};
+use hyphenation_html::hyphenate_html;
+use hyphenation_load::{is_out_of_memory, read_all};
+use request::Request;
+use std::alloc::Global;
+use std::fs::Files;
+use std::io::{Read, Write};
+
+/// The name of the program.
+pub const NAME: &str = "hyphenate-html";
+
+/// The usage, for `--help` and for arguments of no form.
+pub const USAGE: &str = "\
+usage: hyphenate-html [OPTION..] < PAGE
+       hyphenate-html --help
+       hyphenate-html --version
+Writes an HTML or XHTML page with soft hyphens in the words of its text.
+  --lang CODE=PATH       the dictionary of a language, once for each. Without it,
+                         those that languages/make made
+  --dictionaries FOLDER  the folder in which these are
+  --language CODE        the language of text for which the page names none
+  --mark MARK            in place of the soft hyphen
+  --class CLASS          elements of this class are left alone, in place of
+                         those of the class donthyphenate
+  --min-word N           shorter words are left alone; N counts characters
+  --skip-capitals        words that begin with a capital are left alone
+Of an extended dictionary the breaks that change no letter are used.
+";
+
+// The note if there is no dictionary for the page.
+const NO_DICTIONARY: &str =
+    "hyphenate-html: note: no dictionary for a language that the page names, so nothing is changed\n";
+
+// All bytes of the page.
+fn read_page<I: Read>(alloc: Global, input: &mut I) -> Result<Vec<u8>, Failure>
+    ensures read { IfOk result (λ bytes. IfSome (I.remaining input.old) (λ page. bytes.items ≡ page)) }
+    ensures failure { IfErr result IsReadingFailure }
+{
+    match read_all(alloc, input) {
+        Ok(bytes) => Ok(bytes),
+        Err(e) => {
+            if is_out_of_memory(&e) {
+                return Err(Failure::Memory);
+            }
+            Err(Failure::Reading)
+        }
+    }
+}
+
+// The failure of a page that is UTF-8 up to so many bytes, and not beyond.
+fn not_utf8(page: &[u8], valid: usize) -> Failure
+    requires { valid < length page.now }
+    ensures { result ≡ Failure.NotUtf8 valid (count_by (λ byte. byte == line_feed) (take valid page.now) + 1) }
+{
+    let ended = page[..valid].iter().filter(|byte| **byte == b'\n').count();
+    Failure::NotUtf8 {
+        valid,
+        line: ended + 1,
+    }
+}
+
+// Writes the text of a page with marks.
+fn write_page<F: Files, O: Write>(
+    rt: &F,
+    alloc: Global,
+    request: &Request<'_>,
+    folders: &[&str],
+    page: &str,
+    output: &mut O,
+) -> Result<usize, Failure>
+    ensures written { OnOk result (WritesPage (parsed_request request.now) page.now O.contents output.old output.new) }
+    ensures untouched { IfErr result (λ failure. (failure ≡ Failure.Writing) ⊎ (output.new ≡ output.old)) }
+    ensures failure { IfErr result IsWritingFailure }
+{
+    let dictionaries = load_for_page(rt, alloc, request, folders, page)?;
+    let text = hyphenate_html(
+        alloc,
+        &dictionaries,
+        request.language,
+        &request.settings,
+        page,
+    )?;
+    match output.write_all(text.as_bytes()) {
+        Ok(()) => Ok(dictionaries.len()),
+        Err(_) => Err(Failure::Writing),
+    }
+}
+
+// Reads a page, and writes it with marks. Returns how many dictionaries there were for it.
+fn run<F: Files, I: Read, O: Write>(
+    rt: &F,
+    alloc: Global,
+    request: &Request<'_>,
+    folders: &[&str],
+    input: &mut I,
+    output: &mut O,
+) -> Result<usize, Failure>
+    ensures judged { IfSome (I.remaining input.old) (λ page. JudgesPage page result) }
+    ensures written { OnOk result (IfSome (I.remaining input.old)
+        (λ page. WritesPage (parsed_request request.now) page O.contents output.old output.new)) }
+    ensures untouched { IfErr result (λ failure. (failure ≡ Failure.Writing) ⊎ (output.new ≡ output.old)) }
+{
+    let bytes = read_page(alloc, input)?;
+    match std::str::from_utf8(&bytes) {
+        Ok(page) => write_page(rt, alloc, request, folders, page, output),
+        Err(e) => Err(not_utf8(&bytes, e.valid_up_to())),
+    }
+}
+
+/// Does what the arguments ask for, and returns the status to end with.
+///
+/// | Status | When |
+/// |---|---|
+/// | 0 | it is done |
+/// | 2 | the arguments have no form of the usage |
+/// | 3 | a dictionary can't be opened, read or accepted |
+/// | 4 | the page is not UTF-8 |
+/// | 5 | the page can't be read, or the result can't be written |
+/// | 6 | memory was refused |
+///
+/// A message for any status but 0 is written to `errors`, except if the text of `--help` or `--version` can't be
+/// written. With status 0 `errors` gets a note if there was no dictionary for the page. Dictionaries that the arguments
+/// don't give are searched in `folders`. The output is as it was unless the status is 0 or 5.
+///
+/// ```text
+/// let args = ["--lang", "en=en-us.txt"];
+/// answer(&rt, rt.alloc(), &args, &[], &mut rt.stdin(), &mut rt.stdout(), &mut rt.stderr())
+/// ```
+pub fn answer<F: Files, I: Read, O: Write, E: Write>(
+    rt: &F,
+    alloc: Global,
+    args: &[&str],
+    folders: &[&str],
+    input: &mut I,
+    output: &mut O,
+    errors: &mut E,
+) -> u8
+    ensures help { WritesHelp NAME.now VERSION.now USAGE.now args.now (Some result) O.contents output.old output.new }
+    ensures unread { asked_text args.now ≡ None → parsed_args args.now ≡ None → input.new ≡ input.old }
+    ensures ended { asked_text args.now ≡ None →
+        EndsFor (parsed_args args.now) result (I.remaining input.old) O.contents output.old output.new }
+    ensures untouched { BeforeOutput result (output.new ≡ output.old) }
+{
+    if let Some(status) = write_help_or_version(NAME, USAGE, args, output) {
+        return status;
+    }
+    let request = match Request::from_args(alloc, args) {
+        Ok(Some(request)) => request,
+        Ok(None) => {
+            let _ = errors.write_all(USAGE.as_bytes());
+            return 2;
+        }
+        Err(_) => return report(alloc, &Failure::Memory, errors),
+    };
+    match run(rt, alloc, &request, folders, input, output) {
+        Ok(dictionaries) => {
+            if dictionaries == 0 {
+                let _ = errors.write_all(NO_DICTIONARY.as_bytes());
+            }
+            0
+        }
+        Err(failure) => report(alloc, &failure, errors),
+    }
+}

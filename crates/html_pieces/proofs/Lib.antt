@@ -1,0 +1,9 @@
+pub mod NamesEqual
+pub mod Slices
+pub mod PieceSteps
+pub mod WordSteps
+pub mod AttributeSteps
+pub mod WholePages
+pub mod Limits
+pub mod OtherTexts
+pub mod QuietBytes

@@ -1,0 +1,20 @@
+-- The search through the open elements at its limit.
+use Rattle.std.proofs.Common.{◌≡◌, ℕ, List, [], ◌∷◌, false, refl, ap, ◌∙◌, None, if◌then◌else◌}
+use Rattle.std.specs.Option.{unwrap_or}
+use Rattle.html_pieces.specs.Groups.{is_root}
+use Rattle.html_pieces.specs.Elements.{Element, kept_open, around_first, closed_as, depth_limit}
+use Rattle.html_pieces.specs.declared.bytes.Form.{Form}
+use Rattle.html_pieces.specs.declared.groups.Group.{Group}
+
+pub kept_at_limit : (new : Group) (left : ℕ) (kept es : List Element) → left ≡ 0 → kept_open new left kept es ≡ kept
+kept_at_limit new left kept [] h = refl
+kept_at_limit new left kept (e ∷ es) h = rw h
+
+pub none_at_limit : (form : Form) (name : List ℕ) (tag : Group) (left : ℕ) (es : List Element) → left ≡ 0 → around_first form name tag left es ≡ None
+none_at_limit form name tag left [] h = refl
+none_at_limit form name tag left (e ∷ es) h = rw h
+
+pub closed_passes : (form : Form) (name : List ℕ) (tag : Group) (es : List Element) → is_root tag ≡ false → around_first form name tag depth_limit es ≡ None
+    → closed_as form name tag es ≡ es
+closed_passes form name tag es r none =
+    ap (λ b. if b then es else unwrap_or (around_first form name tag depth_limit es) es) r ∙ ap (λ o. unwrap_or o es) none

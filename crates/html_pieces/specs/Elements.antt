@@ -1,0 +1,205 @@
+-- Which elements are open at a text, its language, and whether it is left alone.
+-- Source: HTML Living Standard, 3.2.6.2 (lang and xml:lang), 3.2.6.3 (translate), 13.1.2.4 (optional tags), 13.2.4.2 (the
+-- stack of open elements), 13.2.6 (tree construction). Simpler than the standard: an end tag of a formatting element, as
+-- `b`, closes all in that element too, and none is opened anew in the next paragraph.
+use Rattle.std.specs.Prelude.{ℕ, ◌-◌, ◌==◌, ◌||◌, ◌&&◌, Bool, true, false, not, List, [], ◌∷◌, ◌++◌, map, reverse, codes, nat_eq, Option, Some, None, if◌then◌else◌}
+use Rattle.std.specs.Option.{unwrap_or, option_map_or}
+use Rattle.std.specs.Cmp.Lexicographic.{pointwise}
+use Rattle.html_pieces.specs.Bytes.{is_white_space, is_same_name, is_same_in, is_xml}
+use Rattle.html_pieces.specs.Names.{name_of, is_foreign_root}
+use Rattle.html_pieces.specs.Pieces.{Piece}
+use Rattle.html_pieces.specs.Groups.{is_one_of, group_of, is_void, ends, stops, bounds, is_root, is_heading}
+use Rattle.html_pieces.specs.Tags.{Attribute, attributes_of, value_of}
+use Rattle.html_pieces.specs.declared.bytes.Form.{Form}
+use Rattle.html_pieces.specs.declared.groups.Group.{Group}
+use Rattle.html_pieces.specs.declared.groups.Group.TheVariants.{Ordinary, Root}
+use Rattle.html_pieces.specs.declared.elements.Element as declared
+use Rattle.html_pieces.specs.declared.tokenizer.Kind.TheVariants.{StartTag, EmptyTag, EndTag}
+use Rattle.html_pieces.specs.declared.tokenizer.Kind.{Kind}
+
+-- An open element: its name and group, the language of its text, and whether its text is left alone. It is apart by its
+-- name or class or those of an element around, and translated by the attribute `translate`. Its content may be foreign,
+-- that is, SVG or MathML.
+pub record Element : Type 0 where
+  pub name : List ℕ
+  pub group : Group
+  pub language : List ℕ
+  pub is_apart : Bool
+  pub is_translated : Bool
+  pub is_foreign : Bool
+  pub is_left_alone : Bool
+
+-- The same of an element as the code holds it.
+abbrev pub as_element : declared.Element → Element
+as_element held = record {
+  name = held.name.now;
+  group = held.group;
+  language = held.language.now;
+  is_apart = held.is_apart;
+  is_translated = held.is_translated;
+  is_foreign = held.is_foreign;
+  is_left_alone = held.is_left_alone;
+}
+
+-- ---- what a start tag says
+
+-- Elements whose text is left alone: code and the like, drawings and formulas, and texts that forms send or windows show.
+abbrev pub left_alone_names : List (List ℕ)
+left_alone_names =
+    codes "code" ∷ codes "iframe" ∷ codes "kbd" ∷ codes "listing" ∷ codes "math" ∷ codes "noembed" ∷ codes "noframes"
+    ∷ codes "option" ∷ codes "plaintext" ∷ codes "pre" ∷ codes "samp" ∷ codes "script" ∷ codes "style" ∷ codes "svg"
+    ∷ codes "textarea" ∷ codes "title" ∷ codes "tt" ∷ codes "var" ∷ codes "xmp" ∷ []
+
+-- Elements of SVG and MathML whose content is HTML: the integration points.
+abbrev pub integration_names : List (List ℕ)
+integration_names =
+    codes "desc" ∷ codes "foreignObject" ∷ codes "mi" ∷ codes "mn" ∷ codes "mo" ∷ codes "ms" ∷ codes "mtext" ∷ codes "title" ∷ []
+
+-- A word stands among words that are set apart by white space; `front` is what is read of one.
+abbrev pub has_word_from : List ℕ → List ℕ → List ℕ → Bool
+has_word_from word front [] = pointwise nat_eq front word
+has_word_from word front (b ∷ bs) =
+    if is_white_space b then pointwise nat_eq front word || has_word_from word [] bs
+    else has_word_from word (front ++ b ∷ []) bs
+
+-- A word stands among the words of a text.
+abbrev pub has_word : List ℕ → List ℕ → Bool
+has_word word text = has_word_from word [] text
+
+-- A class of this name is given.
+abbrev pub has_class : Form → List ℕ → List Attribute → Bool
+has_class form class attributes = option_map_or (has_word class) (value_of form (codes "class") attributes) false
+
+-- By the value "no" a text may not be translated, by "yes" or nothing it may, and else as around.
+abbrev pub translated_by : Bool → List ℕ → Bool
+translated_by around value =
+    if is_same_name value (codes "no") then false
+    else if is_same_name value (codes "yes") || is_same_name value [] then true
+    else around
+
+-- The text may be translated, by the attribute `translate`; where that is not there, as around.
+abbrev pub is_translated : Form → List Attribute → Bool → Bool
+is_translated form attributes around = option_map_or (translated_by around) (value_of form (codes "translate") attributes) around
+
+-- The value of the first of two names that an attribute has, or else another one.
+abbrev pub value_of_either : Form → List ℕ → List ℕ → List Attribute → List ℕ → List ℕ
+value_of_either form name other attributes around =
+    unwrap_or (value_of form name attributes) (unwrap_or (value_of form other attributes) around)
+
+-- The language by xml:lang in XML, by lang in HTML. Where that is not there, the other one serves.
+abbrev pub language_of : Form → List Attribute → List ℕ → List ℕ
+language_of form attributes around =
+    if is_xml form then value_of_either form (codes "xml:lang") (codes "lang") attributes around
+    else value_of_either form (codes "lang") (codes "xml:lang") attributes around
+
+-- The group of an element that begins. Groups are for HTML alone.
+abbrev pub group_in : Form → Bool → List ℕ → Group
+group_in form foreign name = if is_xml form || foreign then Ordinary else group_of name
+
+-- The content of an element is SVG or MathML.
+abbrev pub holds_foreign : Bool → List ℕ → Bool
+holds_foreign foreign name = (foreign || is_foreign_root name) && not (is_one_of integration_names name)
+
+-- The element that a start tag opens within another one.
+unfoldable pub opened : Form → List ℕ → Element → List ℕ → Element
+opened form class around tag =
+    record {
+      name = name_of tag;
+      group = group_in form around.is_foreign (name_of tag);
+      language = language_of form (attributes_of form tag) around.language;
+      is_apart = around.is_apart || is_one_of left_alone_names (name_of tag) || has_class form class (attributes_of form tag);
+      is_translated = is_translated form (attributes_of form tag) around.is_translated;
+      is_foreign = holds_foreign around.is_foreign (name_of tag);
+      is_left_alone =
+          around.is_apart || is_one_of left_alone_names (name_of tag) || has_class form class (attributes_of form tag)
+          || not (is_translated form (attributes_of form tag) around.is_translated);
+    }
+
+-- ---- the open elements, the innermost one first
+
+-- The element that a text stands in; outside of all elements, the page.
+abbrev pub innermost : Element → List Element → Element
+innermost page [] = page
+innermost page (e ∷ es) = e
+
+-- So many open elements are looked at, the innermost ones. The standard lets readers set such limits.
+abbrev pub depth_limit : ℕ
+depth_limit = 512
+
+-- The elements that stay open where one of a group begins, by the `left` next ones: those around the outermost one that it
+-- ends. As far as it has looked, `kept` stay.
+abbrev pub kept_open : Group → ℕ → List Element → List Element → List Element
+kept_open new left kept [] = kept
+kept_open new left kept (e ∷ es) =
+    if left == 0 then kept
+    else if ends new e.group then kept_open new (left - 1) es es
+    else if stops new e.group then kept
+    else kept_open new (left - 1) kept es
+
+-- The elements that stay open where one of a group begins.
+abbrev pub before_new : Group → List Element → List Element
+before_new new elements = kept_open new depth_limit elements elements
+
+-- The elements around the first one of this name, among the `left` next ones and within its scope; none where there is no
+-- such element. The end tag of a heading closes any heading.
+abbrev pub around_first : Form → List ℕ → Group → ℕ → List Element → Option (List Element)
+around_first form name tag left [] = None
+around_first form name tag left (e ∷ es) =
+    if left == 0 then None
+    else if is_same_in form e.name name || is_heading tag && is_heading e.group then Some es
+    else if bounds tag e.group then None
+    else around_first form name tag (left - 1) es
+
+-- The open elements after an end tag: it closes the nearest one of its name with those in it; where none is open, it is
+-- passed by.
+abbrev pub closed_as : Form → List ℕ → Group → List Element → List Element
+closed_as form name tag elements =
+    if is_root tag then elements else unwrap_or (around_first form name tag depth_limit elements) elements
+
+-- The same by the name of the end tag alone.
+abbrev pub closed : Form → Element → List ℕ → List Element → List Element
+closed form page name elements = closed_as form name (group_in form (innermost page elements).is_foreign name) elements
+
+-- The open elements after a start tag whose element is of a group.
+abbrev pub begun_as : Form → List ℕ → Element → Group → List ℕ → List Element → List Element
+begun_as form class page new tag elements =
+    if is_void new then before_new new elements
+    else opened form class (innermost page (before_new new elements)) tag ∷ before_new new elements
+
+-- The open elements after a start tag.
+abbrev pub begun : Form → List ℕ → Element → List ℕ → List Element → List Element
+begun form class page tag elements =
+    begun_as form class page (group_in form (innermost page elements).is_foreign (name_of tag)) tag elements
+
+-- A tag with "/>" opens no element in XML, nor of SVG and MathML. HTML ignores the slash of its own elements.
+abbrev pub is_closed_by_slash : Form → Bool → List ℕ → Bool
+is_closed_by_slash form foreign name = is_xml form || foreign || is_foreign_root name
+
+-- The open elements after a piece of a kind. `class` is the class whose elements are left alone.
+abbrev pub elements_by : Form → List ℕ → Kind → List ℕ → Element → List Element → List Element
+elements_by form class StartTag tag page elements = begun form class page tag elements
+elements_by form class EmptyTag tag page elements =
+    if is_closed_by_slash form (innermost page elements).is_foreign (name_of tag) then elements
+    else begun form class page tag elements
+elements_by form class EndTag tag page elements = closed form page (name_of tag) elements
+elements_by form class _ tag page elements = elements
+
+-- The open elements after a piece.
+abbrev pub elements_after : Form → List ℕ → Element → List Element → Piece → List Element
+elements_after form class page elements p = elements_by form class p.kind p.bytes page elements
+
+-- The same of elements as the code holds them, the innermost one last.
+abbrev pub as_elements : List declared.Element → List Element
+as_elements held = reverse (map as_element held)
+
+-- The page as what is around all its elements.
+abbrev pub page_element : List ℕ → Element
+page_element language = record {
+  name = [];
+  group = Root;
+  language = language;
+  is_apart = false;
+  is_translated = true;
+  is_foreign = false;
+  is_left_alone = false;
+}

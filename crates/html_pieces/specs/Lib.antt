@@ -1,0 +1,9 @@
+pub mod Bytes
+pub mod Names
+pub mod Pieces
+pub mod Tags
+pub mod Groups
+pub mod Elements
+pub mod Forms
+pub mod Laws
+pub mod Private

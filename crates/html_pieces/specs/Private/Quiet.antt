@@ -1,0 +1,17 @@
+-- Bytes that leave a state as it is.
+use Rattle.std.specs.Prelude.{ℕ, ◌==◌, Bool, false, not}
+use Rattle.html_pieces.specs.Bytes.{is_alphanumeric}
+use Rattle.html_pieces.specs.Laws.{ends_text}
+use Rattle.html_pieces.specs.declared.tokenizer.State.{State}
+use Rattle.html_pieces.specs.declared.tokenizer.State.TheVariants.{Data, TagName, AttributeName, DoubleQuotedValue, SingleQuotedValue, Comment, Raw}
+
+-- The state after the byte is the same, by a test that is quick. It may be so after other bytes too.
+abbrev pub is_quiet : State → ℕ → Bool
+is_quiet Data b = not (ends_text b)
+is_quiet TagName b = is_alphanumeric b
+is_quiet AttributeName b = is_alphanumeric b
+is_quiet DoubleQuotedValue b = not (b == 34)
+is_quiet SingleQuotedValue b = not (b == 39)
+is_quiet Comment b = not (b == 45)
+is_quiet (Raw element) b = is_alphanumeric b
+is_quiet _ b = false

@@ -1,0 +1,86 @@
+//! The form of a page, kinds of bytes, and names.
+
+ghost use Rattle.std.specs.Prelude.{◌≡◌};
+ghost use Rattle.html_pieces.specs.Bytes.{is_white_space, is_alpha, is_alphanumeric, is_continuation, ends_name};
+ghost use Rattle.html_pieces.specs.Bytes.{is_same_name, is_xml, is_name_start, is_same_in};
+
+/// The form of a page.
+#[derive(Clone, Copy, Debug, PartialEq, Eq)]
+pub enum Form {
+    /// HTML, as browsers read it: names of elements say how they are read, and end tags may be left out.
+    Html,
+    /// XML, as in XHTML and e-books: each element has an end tag or ends with `/>`, and case tells names apart.
+    Xml,
+}
+
+impl Form {
+    /// Whether the page is XML.
+    pub const fn is_xml(self) -> bool
+        ensures { result ≡ is_xml self }
+    {
+        matches!(self, Form::Xml)
+    }
+}
+
+/// ASCII whitespace, as HTML has it.
+pub const fn is_white_space(byte: u8) -> bool
+    ensures { result ≡ is_white_space byte }
+{
+    byte == b'\t' || byte == b'\n' || byte == b'\x0c' || byte == b'\r' || byte == b' '
+}
+
+/// An ASCII letter.
+pub const fn is_alpha(byte: u8) -> bool
+    ensures { result ≡ is_alpha byte }
+{
+    b'A' <= byte && byte <= b'Z' || b'a' <= byte && byte <= b'z'
+}
+
+/// An ASCII letter or digit.
+pub const fn is_alphanumeric(byte: u8) -> bool
+    ensures { result ≡ is_alphanumeric byte }
+{
+    is_alpha(byte) || b'0' <= byte && byte <= b'9'
+}
+
+/// A byte of UTF-8 that is not the first of its character.
+pub const fn is_continuation(byte: u8) -> bool
+    ensures { result ≡ is_continuation byte }
+{
+    128 <= byte && byte < 192
+}
+
+/// Whether a byte ends the name of a tag.
+pub const fn ends_name(byte: u8) -> bool
+    ensures { result ≡ ends_name byte }
+{
+    is_white_space(byte) || byte == b'/' || byte == b'>'
+}
+
+/// Whether two names are one, where ASCII capitals and small letters are alike.
+pub fn is_same_name(a: &[u8], b: &[u8]) -> bool
+    ensures { result ≡ is_same_name a.now b.now }
+{
+    a.eq_ignore_ascii_case(b)
+}
+
+/// Whether a byte begins the name of a tag.
+pub const fn is_name_start(form: Form, byte: u8) -> bool
+    ensures { result ≡ is_name_start form byte }
+{
+    match form {
+        Form::Html => is_alpha(byte),
+        Form::Xml => is_alpha(byte) || byte == b':' || byte == b'_' || 195 <= byte,
+    }
+}
+
+/// Whether two names are one in a form of pages.
+#[tactic(auto, unfolding(crate::specs::Bytes::is_same_in))]
+pub fn is_same_in(form: Form, a: &[u8], b: &[u8]) -> bool
+    ensures { result ≡ is_same_in form a.now b.now }
+{
+    match form {
+        Form::Html => is_same_name(a, b),
+        Form::Xml => a == b,
+    }
+}

@@ -1,0 +1,350 @@
+//! The elements that are open at a text.
+
+ghost use Rattle.std.specs.Prelude.{◌≡◌, ◌≤◌, map, take, length, IfOk, OnOk};
+ghost use Rattle.html_pieces.specs.Pieces.{as_piece};
+ghost use Rattle.html_pieces.specs.Groups.{is_one_of};
+ghost use Rattle.html_pieces.specs.Tags.{as_attribute};
+ghost use Rattle.html_pieces.specs.Elements.{as_element, as_elements, left_alone_names, integration_names};
+ghost use Rattle.html_pieces.specs.Elements.{has_word, has_class, is_translated, value_of_either, language_of};
+ghost use Rattle.html_pieces.specs.Elements.{group_in, holds_foreign, opened, innermost, before_new, closed_as};
+ghost use Rattle.html_pieces.specs.Elements.{closed, begun_as, begun, is_closed_by_slash, elements_after};
+ghost use Rattle.html_pieces.specs.Elements.{page_element};
+
+use crate::bytes::{Form, is_same_in, is_same_name, is_white_space};
+use crate::groups::{Group, bounds, ends, group_of, is_heading, is_root, is_void, stops};
+use crate::tags::{Attribute, attributes, value_of};
+use crate::tokenizer::{Kind, Piece, is_foreign_root, name_of};
+use std::alloc::{AllocError, Global};
+
+/// An open element.
+#[derive(Clone, Copy, Debug)]
+pub struct Element<'t> {
+    pub name: &'t [u8],
+    pub group: Group,
+    /// The language of its text.
+    pub language: &'t [u8],
+    /// Whether it or an element around it is one whose text is left as it is.
+    pub is_apart: bool,
+    /// Whether its text may be translated.
+    pub is_translated: bool,
+    /// Whether its content is SVG or MathML.
+    pub is_foreign: bool,
+    /// Whether its text is left as it is.
+    pub is_left_alone: bool,
+}
+
+/// So many open elements are looked at, the innermost ones.
+const DEPTH_LIMIT: usize = 512;
+
+/// Whether an element of this name is one whose text is left as it is.
+fn is_left_alone(name: &[u8]) -> bool
+    ensures { result ≡ is_one_of left_alone_names name.now }
+{
+    is_same_name(name, b"code")
+        || is_same_name(name, b"iframe")
+        || is_same_name(name, b"kbd")
+        || is_same_name(name, b"listing")
+        || is_same_name(name, b"math")
+        || is_same_name(name, b"noembed")
+        || is_same_name(name, b"noframes")
+        || is_same_name(name, b"option")
+        || is_same_name(name, b"plaintext")
+        || is_same_name(name, b"pre")
+        || is_same_name(name, b"samp")
+        || is_same_name(name, b"script")
+        || is_same_name(name, b"style")
+        || is_same_name(name, b"svg")
+        || is_same_name(name, b"textarea")
+        || is_same_name(name, b"title")
+        || is_same_name(name, b"tt")
+        || is_same_name(name, b"var")
+        || is_same_name(name, b"xmp")
+}
+
+fn is_integration_point(name: &[u8]) -> bool
+    ensures { result ≡ is_one_of integration_names name.now }
+{
+    is_same_name(name, b"desc")
+        || is_same_name(name, b"foreignObject")
+        || is_same_name(name, b"mi")
+        || is_same_name(name, b"mn")
+        || is_same_name(name, b"mo")
+        || is_same_name(name, b"ms")
+        || is_same_name(name, b"mtext")
+        || is_same_name(name, b"title")
+}
+
+/// Whether a word is among words that are set apart by white space.
+fn has_word(word: &[u8], text: &[u8]) -> bool
+    ensures { result ≡ has_word word.now text.now }
+{
+    let mut start = 0;
+    for (i, byte) in text.iter().enumerate() {
+        if is_white_space(*byte) {
+            if &text[start..i] == word {
+                return true;
+            }
+            start = i + 1;
+        }
+    }
+    &text[start..] == word
+}
+
+/// Whether attributes give a class of this name.
+fn has_class(form: Form, class: &[u8], attributes: &[Attribute<'_>]) -> bool
+    ensures { result ≡ has_class form class.now (map as_attribute attributes.now) }
+{
+    match value_of(form, attributes, b"class") {
+        Some(value) => has_word(class, value),
+        None => false,
+    }
+}
+
+/// Whether text may be translated by attributes, or else by those around.
+fn is_translated(form: Form, attributes: &[Attribute<'_>], around: bool) -> bool
+    ensures { result ≡ is_translated form (map as_attribute attributes.now) around }
+{
+    match value_of(form, attributes, b"translate") {
+        Some(value) => {
+            if is_same_name(value, b"no") {
+                false
+            } else if is_same_name(value, b"yes") || is_same_name(value, b"") {
+                true
+            } else {
+                around
+            }
+        }
+        None => around,
+    }
+}
+
+/// The value of the first of two names that an attribute has, or else another one.
+fn value_of_either<'t>(
+    form: Form,
+    name: &[u8],
+    other: &[u8],
+    attributes: &[Attribute<'t>],
+    around: &'t [u8],
+) -> &'t [u8]
+    ensures { result.now ≡ value_of_either form name.now other.now (map as_attribute attributes.now) around.now }
+{
+    match value_of(form, attributes, name) {
+        Some(value) => value,
+        None => match value_of(form, attributes, other) {
+            Some(value) => value,
+            None => around,
+        },
+    }
+}
+
+/// The language that attributes name, or else the one around.
+fn language_of<'t>(form: Form, attributes: &[Attribute<'t>], around: &'t [u8]) -> &'t [u8]
+    ensures { result.now ≡ language_of form (map as_attribute attributes.now) around.now }
+{
+    if form.is_xml() {
+        value_of_either(form, b"xml:lang", b"lang", attributes, around)
+    } else {
+        value_of_either(form, b"lang", b"xml:lang", attributes, around)
+    }
+}
+
+/// The group of an element that begins or ends.
+fn group_in(form: Form, foreign: bool, name: &[u8]) -> Group
+    ensures { result ≡ group_in form foreign name.now }
+{
+    if form.is_xml() || foreign {
+        Group::Ordinary
+    } else {
+        group_of(name)
+    }
+}
+
+/// Whether the content of an element is SVG or MathML.
+fn holds_foreign(foreign: bool, name: &[u8]) -> bool
+    ensures { result ≡ holds_foreign foreign name.now }
+{
+    (foreign || is_foreign_root(name)) && !is_integration_point(name)
+}
+
+/// The element that a start tag opens.
+#[tactic(auto, unfolding(crate::specs::Elements::opened))]
+fn opened<'t>(
+    alloc: Global,
+    form: Form,
+    class: &[u8],
+    around: Element<'t>,
+    tag: &'t [u8],
+) -> Result<Element<'t>, AllocError>
+    ensures { IfOk result (λ element. as_element element ≡ opened form class.now (as_element around.entry) tag.now) }
+{
+    let attributes = attributes(alloc, form, tag)?;
+    let name = name_of(tag);
+    let is_apart = around.is_apart || is_left_alone(name) || has_class(form, class, &attributes);
+    let is_translated = is_translated(form, &attributes, around.is_translated);
+    Ok(Element {
+        name,
+        group: group_in(form, around.is_foreign, name),
+        language: language_of(form, &attributes, around.language),
+        is_apart,
+        is_translated,
+        is_foreign: holds_foreign(around.is_foreign, name),
+        is_left_alone: is_apart || !is_translated,
+    })
+}
+
+/// The number of elements that stay open where one of a group begins.
+#[tactic(auto, using(crate::proofs::Limits::kept_at_limit))]
+fn before_new(elements: &[Element<'_>], new: Group) -> usize
+    ensures kept { as_elements (take result elements.now) ≡ before_new new (as_elements elements.now) }
+    ensures within { result ≤ length elements.now }
+{
+    let mut kept = elements.len();
+    let mut left = DEPTH_LIMIT;
+    let mut i = elements.len();
+    while i > 0 {
+        if left == 0 {
+            return kept;
+        }
+        i -= 1;
+        left -= 1;
+        if ends(new, elements[i].group) {
+            kept = i;
+        } else if stops(new, elements[i].group) {
+            return kept;
+        }
+    }
+    kept
+}
+
+/// The number of elements that stay open after an end tag.
+fn around_first(form: Form, elements: &[Element<'_>], name: &[u8], tag: Group) -> usize
+    ensures kept { as_elements (take result elements.now) ≡ closed_as form name.now tag (as_elements elements.now) }
+    ensures within { result ≤ length elements.now }
+{
+    if is_root(tag) {
+        return elements.len();
+    }
+    let mut left = DEPTH_LIMIT;
+    let mut i = elements.len();
+    while i > 0 {
+        if left == 0 {
+            return elements.len();
+        }
+        i -= 1;
+        left -= 1;
+        let other = elements[i].group;
+        if is_same_in(form, elements[i].name, name) || is_heading(tag) && is_heading(other) {
+            return i;
+        }
+        if bounds(tag, other) {
+            return elements.len();
+        }
+    }
+    elements.len()
+}
+
+/// The element that a text stands in.
+pub fn innermost<'t>(page: Element<'t>, elements: &[Element<'t>]) -> Element<'t>
+    ensures { as_element result ≡ innermost (as_element page.entry) (as_elements elements.now) }
+{
+    match elements.last() {
+        Some(element) => *element,
+        None => page,
+    }
+}
+
+/// Opens the element of a start tag, and closes those that it ends.
+fn begin<'t>(
+    nest: &mut Vec<Element<'t>>,
+    alloc: Global,
+    form: Form,
+    class: &[u8],
+    page: Element<'t>,
+    new: Group,
+    tag: &'t [u8],
+) -> Result<(), AllocError>
+    ensures { OnOk result (as_elements nest.new.items
+        ≡ begun_as form class.now (as_element page.entry) new tag.now (as_elements nest.old.items)) }
+{
+    let kept = before_new(nest, new);
+    nest.truncate(kept);
+    if !is_void(new) {
+        let element = opened(alloc, form, class, innermost(page, nest), tag)?;
+        nest.push(element)?;
+    }
+    Ok(())
+}
+
+/// Whether a tag with `/>` opens no element.
+fn is_closed_by_slash(form: Form, foreign: bool, name: &[u8]) -> bool
+    ensures { result ≡ is_closed_by_slash form foreign name.now }
+{
+    form.is_xml() || foreign || is_foreign_root(name)
+}
+
+/// Opens and closes nest, as a piece says.
+///
+/// The text of elements with the class `class` is left as it is. The only error is that memory was refused.
+pub fn pass<'t>(
+    nest: &mut Vec<Element<'t>>,
+    alloc: Global,
+    form: Form,
+    class: &[u8],
+    page: Element<'t>,
+    piece: Piece<'t>,
+) -> Result<(), AllocError>
+    ensures { OnOk result (as_elements nest.new.items
+        ≡ elements_after form class.now (as_element page.entry) (as_elements nest.old.items)
+        (as_piece piece.entry)) }
+{
+    let tag = piece.text.as_bytes();
+    let foreign = innermost(page, nest).is_foreign;
+    match piece.kind {
+        Kind::StartTag => begin(
+            nest,
+            alloc,
+            form,
+            class,
+            page,
+            group_in(form, foreign, name_of(tag)),
+            tag,
+        ),
+        Kind::EmptyTag => {
+            if is_closed_by_slash(form, foreign, name_of(tag)) {
+                Ok(())
+            } else {
+                begin(
+                    nest,
+                    alloc,
+                    form,
+                    class,
+                    page,
+                    group_in(form, foreign, name_of(tag)),
+                    tag,
+                )
+            }
+        }
+        Kind::EndTag => {
+            let name = name_of(tag);
+            let kept = around_first(form, nest, name, group_in(form, foreign, name));
+            nest.truncate(kept);
+            Ok(())
+        }
+        _ => Ok(()),
+    }
+}
+
+/// The page as what is around all its elements.
+pub fn page_element(language: &[u8]) -> Element<'_>
+    ensures { as_element result ≡ page_element language.now }
+{
+    Element {
+        name: b"",
+        group: Group::Root,
+        language,
+        is_apart: false,
+        is_translated: true,
+        is_foreign: false,
+        is_left_alone: false,
+    }
+}

@@ -1,0 +1,160 @@
+//! The attributes of tags.
+
+ghost use Rattle.std.specs.Prelude.{◌≡◌, ◌++◌, ◌∷◌, [], ◌<◌, false, IsTrue, length, slice_index, map, IfOk, OnOk};
+ghost use Rattle.std.specs.Option.{option_map, unwrap_or};
+ghost use Rattle.html_pieces.specs.Pieces.{next};
+ghost use Rattle.html_pieces.specs.declared.tokenizer.State.TheVariants.{TagEnd};
+ghost use Rattle.html_pieces.specs.Tags.{as_attribute, attributes_of, is_name, is_unquoted, is_value, name_on};
+ghost use Rattle.html_pieces.specs.Tags.{value_on, read, ended, value_of};
+ghost use Rattle.html_pieces.specs.Private.Parts.{EndsAt};
+
+use crate::bytes::{Form, is_same_in};
+use crate::tokenizer::{State, is_quiet, next};
+use std::alloc::{AllocError, Global};
+
+/// An attribute of a tag, as it is written.
+#[derive(Clone, Copy, Debug, PartialEq, Eq)]
+pub struct Attribute<'t> {
+    pub name: &'t [u8],
+    pub value: &'t [u8],
+}
+
+const fn is_name(state: State) -> bool
+    ensures { result ≡ is_name state }
+{
+    matches!(state, State::AttributeName)
+}
+
+const fn is_unquoted(state: State) -> bool
+    ensures { result ≡ is_unquoted state }
+{
+    matches!(state, State::UnquotedValue)
+}
+
+const fn is_value(state: State) -> bool
+    ensures { result ≡ is_value state }
+{
+    matches!(
+        state,
+        State::DoubleQuotedValue | State::SingleQuotedValue | State::UnquotedValue
+    )
+}
+
+/// A part of a tag that ends at a place, with the byte that stands there.
+fn grown<'t>(tag: &'t [u8], part: &[u8], i: usize) -> &'t [u8]
+    requires within { i < length tag.now }
+    requires part { EndsAt tag.now part.now i }
+    ensures { result.now ≡ part.now ++ slice_index tag.now i ∷ [] }
+{
+    &tag[i - part.len()..i + 1]
+}
+
+/// The name of the attribute that is being read, after a byte.
+fn name_on<'t>(tag: &'t [u8], i: usize, state: State, after: State, name: &'t [u8]) -> &'t [u8]
+    requires within { i < length tag.now }
+    requires part { IsTrue (is_name state) → EndsAt tag.now name.now i }
+    ensures { result.now ≡ name_on state after name.entry.now (slice_index tag.now i) }
+{
+    if !is_name(after) {
+        name
+    } else if is_name(state) {
+        grown(tag, name, i)
+    } else {
+        &tag[i..i + 1]
+    }
+}
+
+/// Its value, after a byte.
+fn value_on<'t>(tag: &'t [u8], i: usize, state: State, after: State, value: &'t [u8]) -> &'t [u8]
+    requires within { i < length tag.now }
+    requires part { IsTrue (is_value state) → EndsAt tag.now value.now i }
+    ensures { result.now ≡ value_on state after value.entry.now (slice_index tag.now i) }
+{
+    if is_name(after) {
+        &[]
+    } else if !is_value(after) {
+        value
+    } else if is_value(state) {
+        grown(tag, value, i)
+    } else if is_unquoted(after) {
+        &tag[i..i + 1]
+    } else {
+        &[]
+    }
+}
+
+/// Appends the attribute that has been read, if one has begun.
+fn push_read<'t>(
+    attributes: &mut Vec<Attribute<'t>>,
+    name: &'t [u8],
+    value: &'t [u8],
+) -> Result<(), AllocError>
+    ensures { OnOk result (map as_attribute attributes.new.items
+        ≡ map as_attribute attributes.old.items ++ read name.entry.now value.entry.now) }
+{
+    if !name.is_empty() {
+        attributes.push(Attribute { name, value })?;
+    }
+    Ok(())
+}
+
+/// Appends the attribute that ends where another one begins.
+fn push_ended<'t>(
+    attributes: &mut Vec<Attribute<'t>>,
+    state: State,
+    after: State,
+    name: &'t [u8],
+    value: &'t [u8],
+) -> Result<(), AllocError>
+    ensures { OnOk result (map as_attribute attributes.new.items
+        ≡ map as_attribute attributes.old.items ++ ended state after name.entry.now value.entry.now) }
+{
+    if is_name(after) && !is_name(state) {
+        push_read(attributes, name, value)?;
+    }
+    Ok(())
+}
+
+/// The state after a byte of a tag; at its end, that of a tag that ended.
+fn next_in_tag(form: Form, state: State, byte: u8) -> State
+    ensures { result ≡ unwrap_or (next form false state [] byte) TagEnd }
+{
+    if is_quiet(state, byte) {
+        state
+    } else {
+        next(form, false, state, &[], byte).unwrap_or(State::TagEnd)
+    }
+}
+
+/// The attributes of a tag, in order, as they are written.
+///
+/// The only error is that memory was refused.
+pub fn attributes(alloc: Global, form: Form, tag: &[u8]) -> Result<Vec<Attribute<'_>>, AllocError>
+    ensures { IfOk result (λ attributes. map as_attribute attributes.items ≡ attributes_of form tag.now) }
+{
+    let mut attributes = Vec::new(alloc);
+    let mut state = State::TagOpen;
+    let mut name: &[u8] = &[];
+    let mut value: &[u8] = &[];
+    for i in 1..tag.len() {
+        let after = next_in_tag(form, state, tag[i]);
+        push_ended(&mut attributes, state, after, name, value)?;
+        name = name_on(tag, i, state, after, name);
+        value = value_on(tag, i, state, after, value);
+        state = after;
+    }
+    push_read(&mut attributes, name, value)?;
+    Ok(attributes)
+}
+
+/// The value of the first attribute of a name.
+pub fn value_of<'t>(form: Form, attributes: &[Attribute<'t>], name: &[u8]) -> Option<&'t [u8]>
+    ensures { option_map (λ value. value.now) result ≡ value_of form name.now (map as_attribute attributes.now) }
+{
+    for attribute in attributes {
+        if is_same_in(form, attribute.name, name) {
+            return Some(attribute.value);
+        }
+    }
+    None
+}

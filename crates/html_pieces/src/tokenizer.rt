@@ -1,0 +1,662 @@
+//! A page, cut into pieces.
+
+ghost use Rattle.std.specs.Prelude.{◌≡◌, ◌+◌, ◌<◌, ◌^◌, map, take_while, not, IfOk};
+ghost use Rattle.html_pieces.specs.Bytes.{ends_name};
+ghost use Rattle.html_pieces.specs.Names.{is_end_tag, name_of, raw_end_tag, raw_element, is_foreign_root};
+ghost use Rattle.html_pieces.specs.Pieces.{in_tag, in_attribute, before_value, in_unquoted_value, ends_tag, in_raw};
+ghost use Rattle.html_pieces.specs.Pieces.{in_escaped, in_double_escaped, next, state_after, kind_of, content_of};
+ghost use Rattle.html_pieces.specs.Pieces.{content_after_tag, content_after, depth_after, begin, pieces_of};
+ghost use Rattle.html_pieces.specs.Pieces.{as_piece};
+ghost use Rattle.html_pieces.specs.Private.Quiet.{is_quiet};
+
+use crate::bytes::{
+    Form, ends_name, is_alphanumeric, is_continuation, is_name_start, is_same_name, is_white_space,
+};
+use std::alloc::{AllocError, Global};
+
+/// An element whose content is no markup.
+#[derive(Clone, Copy, Debug, PartialEq, Eq)]
+pub enum RawElement {
+    Script,
+    Style,
+    Textarea,
+    Title,
+    Xmp,
+    Iframe,
+    Noembed,
+    Noframes,
+}
+
+/// The kinds of pieces.
+#[derive(Clone, Copy, Debug, PartialEq, Eq)]
+pub enum Kind {
+    Text,
+    Reference,
+    StartTag,
+    /// A start tag that ends with `/>`.
+    EmptyTag,
+    EndTag,
+    /// A comment, a declaration, a processing instruction, CDATA, text of a script or the like, a `<` that begins
+    /// nothing, and a tag that is cut off.
+    Other,
+}
+
+/// A state of the tokenizer.
+#[derive(Clone, Copy, Debug, PartialEq, Eq)]
+pub enum State {
+    Data,
+    CharacterReference,
+    ReferenceName,
+    ReferenceEnd,
+    TagOpen,
+    EndTagOpen,
+    TagName,
+    BeforeAttributeName,
+    AttributeName,
+    AfterAttributeName,
+    BeforeAttributeValue,
+    DoubleQuotedValue,
+    SingleQuotedValue,
+    UnquotedValue,
+    AfterQuotedValue,
+    SelfClosingTag,
+    TagEnd,
+    EmptyTagEnd,
+    MarkupDeclarationOpen,
+    MarkupDeclarationDash,
+    BogusComment,
+    DoctypeSubset,
+    DoctypeSubsetEnd,
+    ProcessingInstruction,
+    ProcessingInstructionMark,
+    CommentStart,
+    CommentStartDash,
+    Comment,
+    CommentEndDash,
+    CommentEnd,
+    CommentEndBang,
+    CdataSection,
+    CdataSectionBracket,
+    CdataSectionEnd,
+    MarkupEnd,
+    Raw(RawElement),
+    ScriptEscaped,
+    ScriptDoubleEscaped,
+    Plaintext,
+}
+
+/// A piece of a page: its kind and its text.
+#[derive(Clone, Copy, Debug, PartialEq, Eq)]
+pub struct Piece<'t> {
+    pub kind: Kind,
+    pub text: &'t str,
+}
+
+impl RawElement {
+    /// The element's end tag, as far as its name.
+    const fn end_tag(self) -> &'static [u8]
+        ensures { result.now ≡ raw_end_tag self }
+    {
+        match self {
+            RawElement::Script => b"</script",
+            RawElement::Style => b"</style",
+            RawElement::Textarea => b"</textarea",
+            RawElement::Title => b"</title",
+            RawElement::Xmp => b"</xmp",
+            RawElement::Iframe => b"</iframe",
+            RawElement::Noembed => b"</noembed",
+            RawElement::Noframes => b"</noframes",
+        }
+    }
+}
+
+fn in_tag(byte: u8, other: State) -> State
+    ensures { result ≡ in_tag byte other }
+{
+    if is_white_space(byte) {
+        State::BeforeAttributeName
+    } else if byte == b'/' {
+        State::SelfClosingTag
+    } else if byte == b'>' {
+        State::TagEnd
+    } else {
+        other
+    }
+}
+
+fn in_attribute(byte: u8) -> State
+    ensures { result ≡ in_attribute byte }
+{
+    if is_white_space(byte) {
+        State::AfterAttributeName
+    } else if byte == b'/' {
+        State::SelfClosingTag
+    } else if byte == b'>' {
+        State::TagEnd
+    } else if byte == b'=' {
+        State::BeforeAttributeValue
+    } else {
+        State::AttributeName
+    }
+}
+
+fn before_value(byte: u8) -> State
+    ensures { result ≡ before_value byte }
+{
+    if is_white_space(byte) {
+        State::BeforeAttributeValue
+    } else if byte == b'"' {
+        State::DoubleQuotedValue
+    } else if byte == b'\'' {
+        State::SingleQuotedValue
+    } else if byte == b'>' {
+        State::TagEnd
+    } else {
+        State::UnquotedValue
+    }
+}
+
+fn in_unquoted_value(byte: u8) -> State
+    ensures { result ≡ in_unquoted_value byte }
+{
+    if is_white_space(byte) {
+        State::BeforeAttributeName
+    } else if byte == b'>' {
+        State::TagEnd
+    } else {
+        State::UnquotedValue
+    }
+}
+
+/// Whether the byte ends the name of this tag, of which the front of the piece is the rest.
+fn ends_tag(tag: &[u8], front: &[u8], byte: u8) -> bool
+    ensures { result ≡ ends_tag tag.now front.now byte }
+{
+    ends_name(byte) && is_same_name(front, tag)
+}
+
+/// Within a script or the like.
+#[tactic(auto, unfolding(crate::specs::Pieces::in_raw))]
+fn in_raw(element: RawElement, front: &[u8], byte: u8) -> Option<State>
+    ensures { result ≡ in_raw element front.now byte }
+{
+    if byte == b'<' {
+        None
+    } else if ends_tag(element.end_tag(), front, byte) {
+        Some(in_tag(byte, State::TagName))
+    } else if byte == b'-' && is_same_name(front, b"<!-") && element == RawElement::Script {
+        Some(State::ScriptEscaped)
+    } else {
+        Some(State::Raw(element))
+    }
+}
+
+/// Within a script, after `<!--`.
+#[tactic(auto, unfolding(crate::specs::Pieces::in_escaped))]
+fn in_escaped(front: &[u8], byte: u8) -> Option<State>
+    ensures { result ≡ in_escaped front.now byte }
+{
+    if byte == b'<' {
+        None
+    } else if ends_tag(b"</script", front, byte) {
+        Some(in_tag(byte, State::TagName))
+    } else if ends_tag(b"<script", front, byte) {
+        Some(State::ScriptDoubleEscaped)
+    } else if byte == b'>' && front.ends_with(b"--") {
+        Some(State::Raw(RawElement::Script))
+    } else {
+        Some(State::ScriptEscaped)
+    }
+}
+
+/// Within a script, after `<!--` and `<script>`.
+#[tactic(auto, unfolding(crate::specs::Pieces::in_double_escaped))]
+fn in_double_escaped(front: &[u8], byte: u8) -> Option<State>
+    ensures { result ≡ in_double_escaped front.now byte }
+{
+    if byte == b'<' {
+        None
+    } else if ends_tag(b"</script", front, byte) {
+        Some(State::ScriptEscaped)
+    } else if byte == b'>' && front.ends_with(b"--") {
+        Some(State::Raw(RawElement::Script))
+    } else {
+        Some(State::ScriptDoubleEscaped)
+    }
+}
+
+/// The state after a byte, where `front` is what the piece has before it; none where the piece ended before the byte.
+///
+/// `foreign` says that the piece stands in SVG or MathML.
+#[tactic(auto, unfolding(crate::specs::Pieces::next))]
+pub fn next(form: Form, foreign: bool, state: State, front: &[u8], byte: u8) -> Option<State>
+    ensures { result ≡ next form foreign state front.now byte }
+{
+    match state {
+        State::Data => if byte == b'<' || byte == b'&' {
+            None
+        } else {
+            Some(State::Data)
+        },
+        State::CharacterReference => {
+            if is_alphanumeric(byte) || byte == b'#' {
+                Some(State::ReferenceName)
+            } else {
+                None
+            }
+        }
+        State::ReferenceName => {
+            if is_alphanumeric(byte) {
+                Some(State::ReferenceName)
+            } else if byte == b';' {
+                Some(State::ReferenceEnd)
+            } else {
+                None
+            }
+        }
+        State::TagOpen => {
+            if is_name_start(form, byte) {
+                Some(State::TagName)
+            } else if byte == b'/' {
+                Some(State::EndTagOpen)
+            } else if byte == b'!' {
+                Some(State::MarkupDeclarationOpen)
+            } else if byte == b'?' {
+                Some(if form.is_xml() {
+                    State::ProcessingInstruction
+                } else {
+                    State::BogusComment
+                })
+            } else {
+                None
+            }
+        }
+        State::EndTagOpen => {
+            if is_name_start(form, byte) {
+                Some(State::TagName)
+            } else if byte == b'>' {
+                Some(State::MarkupEnd)
+            } else {
+                Some(State::BogusComment)
+            }
+        }
+        State::TagName => Some(in_tag(byte, State::TagName)),
+        State::BeforeAttributeName => Some(in_tag(byte, State::AttributeName)),
+        State::AttributeName => Some(in_attribute(byte)),
+        State::AfterAttributeName => Some(in_attribute(byte)),
+        State::BeforeAttributeValue => Some(before_value(byte)),
+        State::DoubleQuotedValue => {
+            Some(if byte == b'"' {
+                State::AfterQuotedValue
+            } else {
+                State::DoubleQuotedValue
+            })
+        }
+        State::SingleQuotedValue => {
+            Some(if byte == b'\'' {
+                State::AfterQuotedValue
+            } else {
+                State::SingleQuotedValue
+            })
+        }
+        State::UnquotedValue => Some(in_unquoted_value(byte)),
+        State::AfterQuotedValue => Some(in_tag(byte, State::AttributeName)),
+        State::SelfClosingTag => {
+            if byte == b'>' {
+                Some(State::EmptyTagEnd)
+            } else {
+                Some(in_tag(byte, State::AttributeName))
+            }
+        }
+        State::MarkupDeclarationOpen => Some(match byte {
+            b'-' => State::MarkupDeclarationDash,
+            b'>' => State::MarkupEnd,
+            _ => State::BogusComment,
+        }),
+        State::MarkupDeclarationDash => Some(match byte {
+            b'-' => State::CommentStart,
+            b'>' => State::MarkupEnd,
+            _ => State::BogusComment,
+        }),
+        State::BogusComment => {
+            if byte == b'>' {
+                Some(State::MarkupEnd)
+            } else if byte == b'['
+                && (form.is_xml() || foreign)
+                && front == b"<![CDATA".as_slice()
+            {
+                Some(State::CdataSection)
+            } else if byte == b'[' && form.is_xml() {
+                Some(State::DoctypeSubset)
+            } else {
+                Some(State::BogusComment)
+            }
+        }
+        State::DoctypeSubset => Some(if byte == b']' {
+            State::DoctypeSubsetEnd
+        } else {
+            State::DoctypeSubset
+        }),
+        State::DoctypeSubsetEnd => {
+            if byte == b'>' {
+                Some(State::MarkupEnd)
+            } else if byte == b']' || is_white_space(byte) {
+                Some(State::DoctypeSubsetEnd)
+            } else {
+                Some(State::DoctypeSubset)
+            }
+        }
+        State::ProcessingInstruction => Some(if byte == b'?' {
+            State::ProcessingInstructionMark
+        } else {
+            State::ProcessingInstruction
+        }),
+        State::ProcessingInstructionMark => Some(match byte {
+            b'>' => State::MarkupEnd,
+            b'?' => State::ProcessingInstructionMark,
+            _ => State::ProcessingInstruction,
+        }),
+        State::CommentStart => Some(if byte == b'-' {
+            State::CommentStartDash
+        } else if byte == b'>' && !form.is_xml() {
+            State::MarkupEnd
+        } else {
+            State::Comment
+        }),
+        State::CommentStartDash => Some(if byte == b'-' {
+            State::CommentEnd
+        } else if byte == b'>' && !form.is_xml() {
+            State::MarkupEnd
+        } else {
+            State::Comment
+        }),
+        State::Comment => Some(if byte == b'-' {
+            State::CommentEndDash
+        } else {
+            State::Comment
+        }),
+        State::CommentEndDash => Some(if byte == b'-' {
+            State::CommentEnd
+        } else {
+            State::Comment
+        }),
+        State::CommentEnd => Some(if byte == b'>' {
+            State::MarkupEnd
+        } else if byte == b'!' && !form.is_xml() {
+            State::CommentEndBang
+        } else if byte == b'-' {
+            State::CommentEnd
+        } else {
+            State::Comment
+        }),
+        State::CommentEndBang => Some(match byte {
+            b'-' => State::CommentEndDash,
+            b'>' => State::MarkupEnd,
+            _ => State::Comment,
+        }),
+        State::CdataSection => {
+            Some(if byte == b']' {
+                State::CdataSectionBracket
+            } else {
+                State::CdataSection
+            })
+        }
+        State::CdataSectionBracket => {
+            Some(if byte == b']' {
+                State::CdataSectionEnd
+            } else {
+                State::CdataSection
+            })
+        }
+        State::CdataSectionEnd => Some(match byte {
+            b']' => State::CdataSectionEnd,
+            b'>' => State::MarkupEnd,
+            _ => State::CdataSection,
+        }),
+        State::Raw(element) => in_raw(element, front, byte),
+        State::ScriptEscaped => in_escaped(front, byte),
+        State::ScriptDoubleEscaped => in_double_escaped(front, byte),
+        State::Plaintext => Some(State::Plaintext),
+        State::ReferenceEnd | State::TagEnd | State::EmptyTagEnd | State::MarkupEnd => None,
+    }
+}
+
+/// Whether a tag is an end tag.
+pub fn is_end_tag(tag: &[u8]) -> bool
+    ensures { result ≡ is_end_tag tag.now }
+{
+    tag.len() > 1 && tag[1] == b'/'
+}
+
+/// The bytes before the first one that ends a name.
+fn before_name_end(bytes: &[u8]) -> &[u8]
+    ensures { result.now ≡ take_while (λ b. not (ends_name b)) bytes.now }
+{
+    for (i, byte) in bytes.iter().enumerate() {
+        if ends_name(*byte) {
+            return &bytes[..i];
+        }
+    }
+    bytes
+}
+
+/// The name of a tag.
+#[tactic(auto, unfolding(crate::specs::Names::name_of))]
+pub fn name_of(tag: &[u8]) -> &[u8]
+    ensures { result.now ≡ name_of tag.now }
+{
+    if is_end_tag(tag) {
+        before_name_end(&tag[2..])
+    } else if tag.is_empty() {
+        tag
+    } else {
+        before_name_end(&tag[1..])
+    }
+}
+
+/// The element of this name, if its content is no markup.
+#[tactic(auto, unfolding(crate::specs::Names::raw_element))]
+fn raw_element(name: &[u8]) -> Option<RawElement>
+    ensures { result ≡ raw_element name.now }
+{
+    if is_same_name(name, b"script") {
+        Some(RawElement::Script)
+    } else if is_same_name(name, b"style") {
+        Some(RawElement::Style)
+    } else if is_same_name(name, b"textarea") {
+        Some(RawElement::Textarea)
+    } else if is_same_name(name, b"title") {
+        Some(RawElement::Title)
+    } else if is_same_name(name, b"xmp") {
+        Some(RawElement::Xmp)
+    } else if is_same_name(name, b"iframe") {
+        Some(RawElement::Iframe)
+    } else if is_same_name(name, b"noembed") {
+        Some(RawElement::Noembed)
+    } else if is_same_name(name, b"noframes") {
+        Some(RawElement::Noframes)
+    } else {
+        None
+    }
+}
+
+/// The kind of a piece, by the state at its end.
+#[tactic(auto, unfolding(crate::specs::Pieces::kind_of))]
+fn kind_of(state: State, front: &[u8]) -> Kind
+    ensures { result ≡ kind_of state front.now }
+{
+    match state {
+        State::Data => Kind::Text,
+        State::CharacterReference | State::ReferenceName | State::ReferenceEnd => Kind::Reference,
+        State::TagEnd => if is_end_tag(front) {
+            Kind::EndTag
+        } else {
+            Kind::StartTag
+        },
+        State::EmptyTagEnd => if is_end_tag(front) {
+            Kind::EndTag
+        } else {
+            Kind::EmptyTag
+        },
+        _ => Kind::Other,
+    }
+}
+
+/// Whether an element of this name holds SVG or MathML.
+#[tactic(auto, unfolding(crate::specs::Names::is_foreign_root))]
+pub fn is_foreign_root(name: &[u8]) -> bool
+    ensures { result ≡ is_foreign_root name.now }
+{
+    is_same_name(name, b"svg") || is_same_name(name, b"math")
+}
+
+/// The state in which the content of an element begins in HTML.
+fn content_of(name: &[u8]) -> State
+    ensures { result ≡ content_of name.now }
+{
+    if is_same_name(name, b"plaintext") {
+        return State::Plaintext;
+    }
+    match raw_element(name) {
+        Some(element) => State::Raw(element),
+        None => State::Data,
+    }
+}
+
+/// The state after a tag.
+fn content_after_tag(form: Form, foreign: bool, tag: &[u8]) -> State
+    ensures { result ≡ content_after_tag form foreign tag.now }
+{
+    if form.is_xml() || foreign || is_end_tag(tag) {
+        State::Data
+    } else {
+        content_of(name_of(tag))
+    }
+}
+
+/// The state in which the piece after this one begins.
+#[tactic(auto, unfolding(crate::specs::Pieces::content_after))]
+fn content_after(form: Form, foreign: bool, state: State, front: &[u8]) -> State
+    ensures { result ≡ content_after form foreign state front.now }
+{
+    match state {
+        State::TagEnd | State::EmptyTagEnd => content_after_tag(form, foreign, front),
+        State::Raw(element) => State::Raw(element),
+        State::ScriptEscaped => State::ScriptEscaped,
+        State::ScriptDoubleEscaped => State::ScriptDoubleEscaped,
+        State::Plaintext => State::Plaintext,
+        _ => State::Data,
+    }
+}
+
+/// How many elements `svg` and `math` are open after a piece, where `depth` are open before it.
+#[tactic(auto, unfolding(crate::specs::Pieces::depth_after))]
+fn depth_after(depth: usize, state: State, front: &[u8]) -> usize
+    requires room { depth + 1 < 2 ^ 64 }
+    ensures { result ≡ depth_after depth state front.now }
+{
+    match state {
+        State::TagEnd => {
+            if !is_foreign_root(name_of(front)) {
+                depth
+            } else if is_end_tag(front) {
+                depth.saturating_sub(1)
+            } else {
+                depth + 1
+            }
+        }
+        State::EmptyTagEnd => {
+            if is_foreign_root(name_of(front)) && is_end_tag(front) {
+                depth.saturating_sub(1)
+            } else {
+                depth
+            }
+        }
+        _ => depth,
+    }
+}
+
+/// The state after the first byte of a piece.
+#[tactic(auto, unfolding(crate::specs::Pieces::begin))]
+fn begin(content: State, byte: u8) -> State
+    ensures { result ≡ begin content byte }
+{
+    match content {
+        State::Data => {
+            if byte == b'<' {
+                State::TagOpen
+            } else if byte == b'&' {
+                State::CharacterReference
+            } else {
+                State::Data
+            }
+        }
+        _ => content,
+    }
+}
+
+/// Whether a byte leaves a state as it is, by a quick test of the most common bytes.
+pub(crate) fn is_quiet(state: State, byte: u8) -> bool
+    ensures { result ≡ is_quiet state byte }
+{
+    match state {
+        State::Data => byte != b'<' && byte != b'&',
+        State::TagName | State::AttributeName | State::Raw(_) => is_alphanumeric(byte),
+        State::DoubleQuotedValue => byte != b'"',
+        State::SingleQuotedValue => byte != b'\'',
+        State::Comment => byte != b'-',
+        _ => false,
+    }
+}
+
+/// The state after a byte, which stays within a character.
+fn state_after(form: Form, foreign: bool, state: State, front: &[u8], byte: u8) -> Option<State>
+    ensures { result ≡ state_after form foreign state front.now byte }
+{
+    if is_quiet(state, byte) {
+        Some(state)
+    } else if is_continuation(byte) {
+        Some(state)
+    } else {
+        next(form, foreign, state, front, byte)
+    }
+}
+
+/// The pieces of a page, in order.
+///
+/// The only error is that memory was refused.
+pub fn pieces(alloc: Global, form: Form, page: &str) -> Result<Vec<Piece<'_>>, AllocError>
+    ensures { IfOk result (λ pieces. map as_piece pieces.items ≡ pieces_of form page.now) }
+{
+    let mut pieces = Vec::new(alloc);
+    let bytes = page.as_bytes();
+    if bytes.is_empty() {
+        return Ok(pieces);
+    }
+    let mut state = begin(State::Data, bytes[0]);
+    let mut depth = 0;
+    let mut start = 0;
+    for i in 1..bytes.len() {
+        let byte = bytes[i];
+        let front = &bytes[start..i];
+        match state_after(form, 0 < depth, state, front, byte) {
+            Some(after) => state = after,
+            None => {
+                pieces.push(Piece {
+                    kind: kind_of(state, front),
+                    text: &page[start..i],
+                })?;
+                let content = content_after(form, 0 < depth, state, front);
+                depth = depth_after(depth, state, front);
+                state = begin(content, byte);
+                start = i;
+            }
+        }
+    }
+    let front = &bytes[start..];
+    pieces.push(Piece {
+        kind: kind_of(state, front),
+        text: &page[start..],
+    })?;
+    Ok(pieces)
+}

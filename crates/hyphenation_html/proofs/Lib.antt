@@ -1,0 +1,15 @@
+pub mod Boundaries
+pub mod Slices
+pub mod TextSteps
+pub mod PlainPlaces
+pub mod Limits
+pub mod BestLanguages
+pub mod WordMarks
+pub mod PageSteps
+pub mod Marks
+pub mod MarkedTexts
+pub mod MarkedPages
+pub mod MarksInText
+pub mod WordEdges
+pub mod SecondRun
+pub mod SecondPages

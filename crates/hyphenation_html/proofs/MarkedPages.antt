@@ -1,0 +1,91 @@
+-- A page that is written piece by piece is the page with marks at its places.
+use Rattle.std.proofs.Common.{◌≡◌, ℕ, ◌&&◌, Bool, true, false, List, [], ◌∷◌, ◌++◌, map, length, refl, ap, ◌∙◌, subst, Option, Some, None, if◌then◌else◌}
+use Rattle.std.specs.Option.{option_map_or}
+use Rattle.std.specs.Str.{IsUtf8}
+use Rattle.html_pieces.specs.declared.bytes.Form.{Form}
+use Rattle.html_pieces.specs.Pieces.{Piece, pieces_of}
+use Rattle.html_pieces.specs.Elements.{Element, innermost, elements_after, page_element}
+use Rattle.html_pieces.specs.Laws.{joined_pieces, AreUtf8}
+use Rattle.html_pieces.specs.declared.tokenizer.Kind.{Kind}
+use Rattle.html_pieces.specs.declared.tokenizer.Kind.TheVariants.{Text, Reference, StartTag, EmptyTag, EndTag, Other}
+use Rattle.hyphenation_html.specs.Languages.{Language, best_of, best_from, better, serves}
+use Rattle.hyphenation_html.specs.Places.{shifted, text_places, places_in, piece_places, pieces_places, places_of}
+use Rattle.hyphenation_html.specs.Touching.{touched_after, touched_before}
+use Rattle.hyphenation_html.specs.Private.Fit.{AllAscend, AllFit}
+use Rattle.hyphenation_html.specs.Private.Marked.{marked_text, marked_in, marked_piece, marked_pieces}
+use Rattle.hyphenation_html.proofs.MarkedTexts.{Laws, unless, tokens_marked}
+use Rattle.hyphenation_html.proofs.Marks.{IsMarked, joined, unmarked}
+
+-- ---- languages
+
+abbrev pub IfChosen : Option Language → Type 0
+IfChosen None = Unit {0}
+IfChosen (Some language) = AllAscend language.1
+
+chosen_either : (c : Bool) (language : Language) (best : Option Language) → AllAscend language.1 → IfChosen best → IfChosen (if c then Some language else best)
+chosen_either true language best a i = a
+chosen_either false language best a i = i
+
+pub chosen : (tag : List ℕ) (best : Option Language) (languages : List Language) → IfChosen best → AllFit languages → IfChosen (best_from tag best languages)
+chosen tag best [] i f = i
+chosen tag best (language ∷ languages) i f =
+    chosen tag (better tag best language) languages (chosen_either (serves language.0 tag && _) language best f.0 i) f.1
+
+by_language : (laws : Laws) (mark : List ℕ) (before after : Bool) (text : List ℕ) (o : Option Language) → IfChosen o → IsUtf8 text
+    → IsMarked mark text (option_map_or (λ language. text_places language.1 before after text) o []) (option_map_or (λ language. marked_text language.1 mark before after text) o text)
+by_language laws mark before after text None i u = unmarked mark text
+by_language laws mark before after text (Some language) i u = tokens_marked laws language.1 mark before after [] text i u
+
+-- ---- pieces
+
+in_marked : (laws : Laws) (languages : List Language) (mark : List ℕ) (element : Element) (before after : Bool) (text : List ℕ) → AllFit languages → IsUtf8 text
+    → IsMarked mark text (places_in languages element before after text) (marked_in languages mark element before after text)
+in_marked laws languages mark element before after text f u =
+    unless element.is_left_alone (by_language laws mark before after text (best_of element.language languages) (chosen element.language None languages tt f) u)
+
+pub piece_marked : (laws : Laws) (languages : List Language) (mark : List ℕ) (element : Element) (before after : Bool) (kind : Kind) (text : List ℕ) → AllFit languages → IsUtf8 text
+    → IsMarked mark text (piece_places languages element before after kind text) (marked_piece languages mark element before after kind text)
+piece_marked laws languages mark element before after Text text f u = in_marked laws languages mark element before after text f u
+piece_marked laws languages mark element before after Reference text f u = unmarked mark text
+piece_marked laws languages mark element before after StartTag text f u = unmarked mark text
+piece_marked laws languages mark element before after EmptyTag text f u = unmarked mark text
+piece_marked laws languages mark element before after EndTag text f u = unmarked mark text
+piece_marked laws languages mark element before after Other text f u = unmarked mark text
+
+pub pieces_marked : (laws : Laws) (languages : List Language) (mark : List ℕ) (form : Form) (class : List ℕ) (page : Element) (elements : List Element) (before : Bool) (ps : List Piece) → AllFit languages → AreUtf8 ps
+    → IsMarked mark (joined_pieces ps) (pieces_places languages form class page elements before ps) (marked_pieces languages mark form class page elements before ps)
+unfolding marked_pieces
+pieces_marked laws languages mark form class page elements before [] f u = unmarked mark []
+pieces_marked laws languages mark form class page elements before (p ∷ ps) f u =
+    joined (piece_marked laws languages mark (innermost page elements) before (touched_after ps) p.kind p.bytes f u.0)
+    (pieces_marked laws languages mark form class page (elements_after form class page elements p) (touched_before before p.kind p.bytes) ps f u.1)
+
+-- A page is written with marks at its places, where its pieces join to it and are UTF-8.
+pub page_marked : (laws : Laws) (languages : List Language) (form : Form) (class language mark page : List ℕ) → AllFit languages → joined_pieces (pieces_of form page) ≡ page → AreUtf8 (pieces_of form page)
+    → IsMarked mark page (places_of languages form class language page) (marked_pieces languages mark form class (page_element language) [] false (pieces_of form page))
+page_marked laws languages form class language mark page f join u =
+    subst (λ t. IsMarked mark t (places_of languages form class language page) (marked_pieces languages mark form class (page_element language) [] false (pieces_of form page))) join
+    (pieces_marked laws languages mark form class (page_element language) [] false (pieces_of form page) f u)
+
+-- ---- without dictionaries
+
+none_either : (c : Bool) → (if◌then◌else◌ {A = List ℕ} c [] []) ≡ []
+none_either true = refl
+none_either false = refl
+
+piece_without : (element : Element) (before after : Bool) (kind : Kind) (text : List ℕ) → piece_places [] element before after kind text ≡ []
+piece_without element before after Text text = none_either element.is_left_alone
+piece_without element before after Reference text = refl
+piece_without element before after StartTag text = refl
+piece_without element before after EmptyTag text = refl
+piece_without element before after EndTag text = refl
+piece_without element before after Other text = refl
+
+pieces_without : (form : Form) (class : List ℕ) (page : Element) (elements : List Element) (before : Bool) (ps : List Piece) → pieces_places [] form class page elements before ps ≡ []
+pieces_without form class page elements before [] = refl
+pieces_without form class page elements before (p ∷ ps) =
+    ap (λ xs. xs ++ shifted (length p.bytes) (pieces_places [] form class page (elements_after form class page elements p) (touched_before before p.kind p.bytes) ps)) (piece_without (innermost page elements) before (touched_after ps) p.kind p.bytes)
+    ∙ ap (shifted (length p.bytes)) (pieces_without form class page (elements_after form class page elements p) (touched_before before p.kind p.bytes) ps)
+
+pub page_without : (languages : List Language) (form : Form) (class language page : List ℕ) → languages ≡ [] → places_of languages form class language page ≡ []
+page_without languages form class language page e = ap (λ ls. places_of ls form class language page) e ∙ pieces_without form class (page_element language) [] false (pieces_of form page)

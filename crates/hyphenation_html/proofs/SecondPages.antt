@@ -1,0 +1,213 @@
+-- A page that has its marks has no places left, where it is cut as it was without them.
+use Rattle.std.proofs.Common.{◌≡◌, ℕ, ◌==◌, Bool, true, false, List, [], ◌∷◌, ◌++◌, length, take, drop, suc, zero, arith, refl, ap, sym, ◌∙◌, subst, Option, Some, None, if◌then◌else◌}
+use Rattle.std.specs.Option.{option_map_or}
+use Rattle.std.proofs.lemmas.Bool.Decides.{nat_tests}
+use Rattle.std.specs.Str.{IsUtf8}
+use Rattle.html_pieces.specs.declared.bytes.Form.{Form}
+use Rattle.html_pieces.specs.Pieces.{Piece, pieces_of}
+use Rattle.html_pieces.specs.Elements.{Element, innermost, elements_after, page_element}
+use Rattle.html_pieces.specs.Laws.{joined_pieces, AreUtf8, IsPlain, begins_alike, IsOtherText, HaveOtherTexts}
+use Rattle.html_pieces.specs.declared.tokenizer.Kind.{Kind}
+use Rattle.html_pieces.specs.declared.tokenizer.Kind.TheVariants.{Text, Reference, StartTag, EmptyTag, EndTag, Other}
+use Rattle.hyphenation_segments.specs.Laws.{with_marks}
+use Rattle.hyphenation_html.specs.Languages.{Language, best_of}
+use Rattle.hyphenation_html.specs.Laws.{soft_hyphen}
+use Rattle.hyphenation_html.specs.Places.{shifted, text_places, places_in, piece_places, pieces_places, places_of}
+use Rattle.hyphenation_html.specs.Touching.{goes_on_over, begins_touching, ends_touching, touched_after, touched_before}
+use Rattle.hyphenation_html.specs.Private.Fit.{AllFit}
+use Rattle.hyphenation_html.specs.Private.Marked.{marked_text, marked_in, marked_piece, marked_pieces}
+use Rattle.hyphenation_html.proofs.MarkedPages.{IfChosen, chosen, piece_marked}
+use Rattle.hyphenation_html.proofs.MarkedTexts.{Laws}
+use Rattle.hyphenation_html.proofs.SecondRun.{Implies, or_left, or_right, none_left}
+use Rattle.hyphenation_html.proofs.WordEdges.{still_begins, still_ends}
+
+-- The pieces of a page, each with its marks.
+abbrev pub marked_list : List Language → Form → List ℕ → Element → List Element → Bool → List Piece → List Piece
+marked_list languages form class page elements before [] = []
+marked_list languages form class page elements before (p ∷ ps) =
+    record { kind = p.kind; bytes = marked_piece languages soft_hyphen (innermost page elements) before (touched_after ps) p.kind p.bytes }
+    ∷ marked_list languages form class page (elements_after form class page elements p) (touched_before before p.kind p.bytes) ps
+
+pub marked_list-joins : (languages : List Language) (form : Form) (class : List ℕ) (page : Element) (elements : List Element) (before : Bool) (ps : List Piece)
+    → joined_pieces (marked_list languages form class page elements before ps) ≡ marked_pieces languages soft_hyphen form class page elements before ps
+unfolding marked_pieces
+marked_list-joins languages form class page elements before [] = refl
+marked_list-joins languages form class page elements before (p ∷ ps) =
+    ap (λ xs. marked_piece languages soft_hyphen (innermost page elements) before (touched_after ps) p.kind p.bytes ++ xs)
+    (marked_list-joins languages form class page (elements_after form class page elements p) (touched_before before p.kind p.bytes) ps)
+
+-- ---- a piece
+
+none_by_language : (laws : Laws) (before after before' after' : Bool) (text : List ℕ) (o : Option Language) → IfChosen o → Implies before before' → Implies after after' → IsUtf8 text
+    → option_map_or (λ language. text_places language.1 before' after' (option_map_or (λ l. marked_text l.1 soft_hyphen before after text) o text)) o [] ≡ []
+none_by_language laws before after before' after' text None f i j u = refl
+none_by_language laws before after before' after' text (Some language) f i j u = none_left laws language.1 before after before' after' [] text i j f u tt
+
+none_in_cases : (c : Bool) (o : Option Language) (before after before' after' : Bool) (text : List ℕ)
+    → option_map_or (λ language. text_places language.1 before' after' (option_map_or (λ l. marked_text l.1 soft_hyphen before after text) o text)) o [] ≡ []
+    → (if c then [] else option_map_or (λ language. text_places language.1 before' after' (if c then text else option_map_or (λ l. marked_text l.1 soft_hyphen before after text) o text)) o []) ≡ []
+none_in_cases true o before after before' after' text e = refl
+none_in_cases false o before after before' after' text e = e
+
+none_in : (laws : Laws) (languages : List Language) (element : Element) (before after before' after' : Bool) (text : List ℕ) → AllFit languages → Implies before before' → Implies after after' → IsUtf8 text
+    → places_in languages element before' after' (marked_in languages soft_hyphen element before after text) ≡ []
+none_in laws languages element before after before' after' text f i j u =
+    none_in_cases element.is_left_alone (best_of element.language languages) before after before' after' text
+    (none_by_language laws before after before' after' text (best_of element.language languages) (chosen element.language None languages tt f) i j u)
+
+piece_done : (laws : Laws) (languages : List Language) (element : Element) (before after before' after' : Bool) (kind : Kind) (bytes : List ℕ) → AllFit languages → Implies before before' → Implies after after' → IsUtf8 bytes
+    → piece_places languages element before' after' kind (marked_piece languages soft_hyphen element before after kind bytes) ≡ []
+piece_done laws languages element before after before' after' Text bytes f i j u = none_in laws languages element before after before' after' bytes f i j u
+piece_done laws languages element before after before' after' Reference bytes f i j u = refl
+piece_done laws languages element before after before' after' StartTag bytes f i j u = refl
+piece_done laws languages element before after before' after' EmptyTag bytes f i j u = refl
+piece_done laws languages element before after before' after' EndTag bytes f i j u = refl
+piece_done laws languages element before after before' after' Other bytes f i j u = refl
+
+-- ---- what touches a piece
+
+same_over : (languages : List Language) (element : Element) (before after : Bool) (kind : Kind) (bytes : List ℕ)
+    → goes_on_over kind (marked_piece languages soft_hyphen element before after kind bytes) ≡ goes_on_over kind bytes
+unfolding goes_on_over
+same_over languages element before after Text bytes = refl
+same_over languages element before after Reference bytes = refl
+same_over languages element before after StartTag bytes = refl
+same_over languages element before after EmptyTag bytes = refl
+same_over languages element before after EndTag bytes = refl
+same_over languages element before after Other bytes = refl
+
+still_begins_touching : (laws : Laws) (languages : List Language) (element : Element) (before after : Bool) (kind : Kind) (bytes : List ℕ) → AllFit languages → IsUtf8 bytes
+    → Implies (begins_touching kind bytes) (begins_touching kind (marked_piece languages soft_hyphen element before after kind bytes))
+still_begins_touching laws languages element before after Text bytes f u = λ e.
+    let m = piece_marked laws languages soft_hyphen element before after Text bytes f u in
+    ap (begins_touching Text) m.is ∙ still_begins bytes (places_in languages element before after bytes) e
+still_begins_touching laws languages element before after Reference bytes f u = λ e. e
+still_begins_touching laws languages element before after StartTag bytes f u = λ e. e
+still_begins_touching laws languages element before after EmptyTag bytes f u = λ e. e
+still_begins_touching laws languages element before after EndTag bytes f u = λ e. e
+still_begins_touching laws languages element before after Other bytes f u = λ e. e
+
+still_ends_touching : (laws : Laws) (languages : List Language) (element : Element) (before after : Bool) (kind : Kind) (bytes : List ℕ) → AllFit languages → IsUtf8 bytes
+    → Implies (ends_touching kind bytes) (ends_touching kind (marked_piece languages soft_hyphen element before after kind bytes))
+still_ends_touching laws languages element before after Text bytes f u = λ e.
+    let m = piece_marked laws languages soft_hyphen element before after Text bytes f u in
+    ap (ends_touching Text) m.is ∙ still_ends bytes (places_in languages element before after bytes) e
+still_ends_touching laws languages element before after Reference bytes f u = λ e. e
+still_ends_touching laws languages element before after StartTag bytes f u = λ e. e
+still_ends_touching laws languages element before after EmptyTag bytes f u = λ e. e
+still_ends_touching laws languages element before after EndTag bytes f u = λ e. e
+still_ends_touching laws languages element before after Other bytes f u = λ e. e
+
+either_implies : (c : Bool) (a a' b b' : Bool) → Implies a a' → Implies b b' → Implies (if c then a else b) (if c then a' else b')
+either_implies true a a' b b' i j = i
+either_implies false a a' b b' i j = j
+
+still_after : (laws : Laws) (languages : List Language) (form : Form) (class : List ℕ) (page : Element) (elements : List Element) (before : Bool) (ps : List Piece) → AllFit languages → AreUtf8 ps
+    → Implies (touched_after ps) (touched_after (marked_list languages form class page elements before ps))
+still_after laws languages form class page elements before [] f u = λ e. e
+still_after laws languages form class page elements before (p ∷ ps) f u =
+    let element = innermost page elements in
+    let bytes = marked_piece languages soft_hyphen element before (touched_after ps) p.kind p.bytes in
+    let rest = marked_list languages form class page (elements_after form class page elements p) (touched_before before p.kind p.bytes) ps in
+    let here = either_implies (goes_on_over p.kind p.bytes) (touched_after ps) (touched_after rest) (begins_touching p.kind p.bytes) (begins_touching p.kind bytes)
+    (still_after laws languages form class page (elements_after form class page elements p) (touched_before before p.kind p.bytes) ps f u.1)
+    (still_begins_touching laws languages element before (touched_after ps) p.kind p.bytes f u.0) in
+    λ e. ap (λ c. if c then touched_after rest else begins_touching p.kind bytes) (same_over languages element before (touched_after ps) p.kind p.bytes) ∙ here e
+
+still_before : (laws : Laws) (languages : List Language) (element : Element) (before before' after : Bool) (kind : Kind) (bytes : List ℕ) → AllFit languages → IsUtf8 bytes → Implies before before'
+    → Implies (touched_before before kind bytes) (touched_before before' kind (marked_piece languages soft_hyphen element before after kind bytes))
+still_before laws languages element before before' after kind bytes f u i =
+    let marked = marked_piece languages soft_hyphen element before after kind bytes in
+    let here = either_implies (goes_on_over kind bytes) before before' (ends_touching kind bytes) (ends_touching kind marked) i (still_ends_touching laws languages element before after kind bytes f u) in
+    λ e. ap (λ c. if c then before' else ends_touching kind marked) (same_over languages element before after kind bytes) ∙ here e
+
+-- ---- pieces
+
+same_elements : (languages : List Language) (form : Form) (class : List ℕ) (page : Element) (elements : List Element) (before after : Bool) (kind : Kind) (bytes : List ℕ)
+    → elements_after form class page elements (record { kind = kind; bytes = marked_piece languages soft_hyphen (innermost page elements) before after kind bytes }) ≡ elements_after form class page elements (record { kind = kind; bytes = bytes })
+same_elements languages form class page elements before after Text bytes = refl
+same_elements languages form class page elements before after Reference bytes = refl
+same_elements languages form class page elements before after StartTag bytes = refl
+same_elements languages form class page elements before after EmptyTag bytes = refl
+same_elements languages form class page elements before after EndTag bytes = refl
+same_elements languages form class page elements before after Other bytes = refl
+
+pieces_done : (laws : Laws) (languages : List Language) (form : Form) (class : List ℕ) (page : Element) (elements : List Element) (before before' : Bool) (ps : List Piece) → AllFit languages → AreUtf8 ps → Implies before before'
+    → pieces_places languages form class page elements before' (marked_list languages form class page elements before ps) ≡ []
+pieces_done laws languages form class page elements before before' [] f u i = refl
+pieces_done laws languages form class page elements before before' (p ∷ ps) f u i =
+    let element = innermost page elements in
+    let bytes = marked_piece languages soft_hyphen element before (touched_after ps) p.kind p.bytes in
+    let later = elements_after form class page elements p in
+    let next = touched_before before p.kind p.bytes in
+    let rest = marked_list languages form class page later next ps in
+    ap (λ xs. xs ++ shifted (length bytes) (pieces_places languages form class page (elements_after form class page elements (record { kind = p.kind; bytes = bytes })) (touched_before before' p.kind bytes) rest))
+    (piece_done laws languages element before (touched_after ps) before' (touched_after rest) p.kind p.bytes f i (still_after laws languages form class page later next ps f u.1) u.0)
+    ∙ ap (λ es. shifted (length bytes) (pieces_places languages form class page es (touched_before before' p.kind bytes) rest)) (same_elements languages form class page elements before (touched_after ps) p.kind p.bytes)
+    ∙ ap (shifted (length bytes)) (pieces_done laws languages form class page later next (touched_before before' p.kind bytes) ps f u.1
+    (still_before laws languages element before before' (touched_after ps) p.kind p.bytes f u.0 i))
+
+-- ---- the page is cut as it was
+
+plain-append : (xs ys : List ℕ) → IsPlain xs → IsPlain ys → IsPlain (xs ++ ys)
+plain-append [] ys v w = w
+plain-append (x ∷ xs) ys v w = (v.0, plain-append xs ys v.1 w)
+
+plain-take : (n : ℕ) (xs : List ℕ) → IsPlain xs → IsPlain (take n xs)
+plain-take zero xs w = tt
+plain-take (suc n) [] w = tt
+plain-take (suc n) (x ∷ xs) w = (w.0, plain-take n xs w.1)
+
+plain-drop : (n : ℕ) (xs : List ℕ) → IsPlain xs → IsPlain (drop n xs)
+plain-drop zero xs w = w
+plain-drop (suc n) [] w = tt
+plain-drop (suc n) (x ∷ xs) w = plain-drop n xs w.1
+
+plain-marks : (text places : List ℕ) → IsPlain text → IsPlain (with_marks soft_hyphen text places)
+plain-marks text [] w = w
+plain-marks text (p ∷ ps) w =
+    plain-append (take p text ++ soft_hyphen) (drop p (with_marks soft_hyphen text ps))
+    (plain-append (take p text) soft_hyphen (plain-take p text w) (refl, (refl, tt)))
+    (plain-drop p (with_marks soft_hyphen text ps) (plain-marks text ps w))
+
+same_number : (b : ℕ) → b == b ≡ true
+same_number b = grind (arith, nat_tests)
+
+marks_begin_alike : (text places : List ℕ) → begins_alike text (with_marks soft_hyphen text places) ≡ true
+marks_begin_alike [] places = refl
+marks_begin_alike (b ∷ bs) [] = or_left (b == b) (b == 0xC2) (same_number b)
+marks_begin_alike (b ∷ bs) (zero ∷ ps) = or_right (0xC2 == b) (0xC2 == 0xC2) refl
+marks_begin_alike (b ∷ bs) (suc p ∷ ps) = or_left (b == b) (b == 0xC2) (same_number b)
+
+other_text : (laws : Laws) (languages : List Language) (element : Element) (before after : Bool) (kind : Kind) (bytes : List ℕ) → AllFit languages → IsUtf8 bytes
+    → IsOtherText kind bytes (marked_piece languages soft_hyphen element before after kind bytes)
+other_text laws languages element before after Text bytes f u =
+    let m = piece_marked laws languages soft_hyphen element before after Text bytes f u in
+    let places = places_in languages element before after bytes in
+    (λ plain. subst IsPlain (sym m.is) (plain-marks bytes places plain), ap (begins_alike bytes) m.is ∙ marks_begin_alike bytes places)
+other_text laws languages element before after Reference bytes f u = refl
+other_text laws languages element before after StartTag bytes f u = refl
+other_text laws languages element before after EmptyTag bytes f u = refl
+other_text laws languages element before after EndTag bytes f u = refl
+other_text laws languages element before after Other bytes f u = refl
+
+other_texts : (laws : Laws) (languages : List Language) (form : Form) (class : List ℕ) (page : Element) (elements : List Element) (before : Bool) (ps : List Piece) → AllFit languages → AreUtf8 ps
+    → HaveOtherTexts ps (marked_list languages form class page elements before ps)
+other_texts laws languages form class page elements before [] f u = tt
+other_texts laws languages form class page elements before (p ∷ ps) f u = (
+  record { kind = refl; bytes = other_text laws languages (innermost page elements) before (touched_after ps) p.kind p.bytes f u.0 },
+  other_texts laws languages form class page (elements_after form class page elements p) (touched_before before p.kind p.bytes) ps f u.1,
+)
+
+-- A page that was written with soft hyphens has no places left.
+pub page_done : (laws : Laws) (languages : List Language) (form : Form) (class language page output : List ℕ) → AllFit languages → AreUtf8 (pieces_of form page)
+    → ((others : List Piece) → HaveOtherTexts (pieces_of form page) others → pieces_of form (joined_pieces others) ≡ others)
+    → output ≡ marked_pieces languages soft_hyphen form class (page_element language) [] false (pieces_of form page)
+    → places_of languages form class language output ≡ []
+page_done laws languages form class language page output f u cut e =
+    let around = page_element language in
+    let others = marked_list languages form class around [] false (pieces_of form page) in
+    let joined : output ≡ joined_pieces others = e ∙ sym (marked_list-joins languages form class around [] false (pieces_of form page)) in
+    ap (places_of languages form class language) joined
+    ∙ ap (pieces_places languages form class around [] false) (cut others (other_texts laws languages form class around [] false (pieces_of form page) f u))
+    ∙ pieces_done laws languages form class around [] false false (pieces_of form page) f u (λ h. h)

@@ -1,0 +1,7 @@
+use Rattle.std.proofs.Common.{◌≡◌, ◌++◌, map, drop}
+use Rattle.hyphenation_html.specs.Dictionaries.{plain_places}
+use Rattle.hyphenation_html.proofs.dictionary.plain_places.Given as goal
+
+abbrev pub invariant-loop-b : goal.invariant-loop-b
+invariant-loop-b g l =
+    l.places.items ++ plain_places (map g.B.Break.meaning (drop l.b-index l.breaks)) ≡ plain_places (map g.B.Break.meaning l.breaks)

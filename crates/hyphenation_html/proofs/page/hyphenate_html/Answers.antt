@@ -1,0 +1,49 @@
+use Rattle.std.proofs.Common.{◌∙◌, ap, sym, [], false}
+use Rattle.std.specs.String.{string_bytes}
+use Rattle.html_pieces.specs.Forms.{form_of}
+use Rattle.html_pieces.specs.Elements.{page_element}
+use Rattle.html_pieces.specs.Pieces.{pieces_of}
+use Rattle.std.proofs.lemmas.Result.{IfOk-weaker}
+use Rattle.hyphenation_segments.specs.Laws.{with_marks}
+use Rattle.hyphenation_html.specs.Languages.{languages_by}
+use Rattle.hyphenation_html.proofs.MarkedTexts.{Laws}
+use Rattle.hyphenation_html.proofs.MarkedPages.{page_marked, page_without}
+use Rattle.hyphenation_html.proofs.SecondPages.{page_done}
+use Rattle.hyphenation_html.specs.Private.Marked.{marked_pieces}
+use Rattle.hyphenation_html.proofs.MarksInText.{page_in_text}
+use Rattle.hyphenation_html.proofs.page.hyphenate_html.Goals as goal
+
+pub returns-clause-marked : goal.returns-clause-marked
+returns-clause-marked c =
+    let laws : Laws = record { join = c.segments_join.ensures; joins = c.marked_segments_join.ensures; fit = c.plain_breaks_fit_where_ascending.ensures } in
+    let marked = page_marked laws _ (form_of c.args.page.now) c.args.settings.now.class.now c.args.language.now c.args.settings.now.mark.now c.args.page.now c.all_fit.ensures (c.pieces_join.ensures (form_of c.args.page.now) c.args.page.now) (c.pieces_are_utf8.ensures (form_of c.args.page.now) c.args.page.now c.utf8.page) in
+    IfOk-weaker c.written.result _ _ (λ output e. e ∙ marked.is) c.written.ensures
+
+pub returns-clause-kept : goal.returns-clause-kept
+returns-clause-kept c =
+    let laws : Laws = record { join = c.segments_join.ensures; joins = c.marked_segments_join.ensures; fit = c.plain_breaks_fit_where_ascending.ensures } in
+    let marked = page_marked laws _ (form_of c.args.page.now) c.args.settings.now.class.now c.args.language.now c.args.settings.now.mark.now c.args.page.now c.all_fit.ensures (c.pieces_join.ensures (form_of c.args.page.now) c.args.page.now) (c.pieces_are_utf8.ensures (form_of c.args.page.now) c.args.page.now c.utf8.page) in
+    IfOk-weaker c.written.result _ _ (λ output e. (marked.parts.0, marked.parts.1, marked.parts.2 ∙ sym e)) c.written.ensures
+
+pub returns-clause-in_text : goal.returns-clause-in_text
+returns-clause-in_text c =
+    let laws : Laws = record { join = c.segments_join.ensures; joins = c.marked_segments_join.ensures; fit = c.plain_breaks_fit_where_ascending.ensures } in
+    page_in_text laws _ (form_of c.args.page.now) c.args.settings.now.class.now c.args.language.now c.args.page.now c.all_fit.ensures (c.pieces_are_utf8.ensures (form_of c.args.page.now) c.args.page.now c.utf8.page)
+
+pub returns-clause-without : goal.returns-clause-without
+returns-clause-without c = λ e.
+    let laws : Laws = record { join = c.segments_join.ensures; joins = c.marked_segments_join.ensures; fit = c.plain_breaks_fit_where_ascending.ensures } in
+    let marked = page_marked laws _ (form_of c.args.page.now) c.args.settings.now.class.now c.args.language.now c.args.settings.now.mark.now c.args.page.now c.all_fit.ensures (c.pieces_join.ensures (form_of c.args.page.now) c.args.page.now) (c.pieces_are_utf8.ensures (form_of c.args.page.now) c.args.page.now c.utf8.page) in
+    let none = page_without _ (form_of c.args.page.now) c.args.settings.now.class.now c.args.language.now c.args.page.now (ap (languages_by c.args.settings.now) e) in
+    IfOk-weaker c.written.result _ _ (λ output is. is ∙ marked.is ∙ ap (with_marks c.args.settings.now.mark.now c.args.page.now) none) c.written.ensures
+
+pub returns-clause-twice : goal.returns-clause-twice
+returns-clause-twice c = λ e.
+    let laws : Laws = record { join = c.segments_join.ensures; joins = c.marked_segments_join.ensures; fit = c.plain_breaks_fit_where_ascending.ensures } in
+    let settings = c.args.settings.now in
+    let pieces = pieces_of (form_of c.args.page.now) c.args.page.now in
+    let around = page_element c.args.language.now in
+    IfOk-weaker c.written.result _ _
+    (λ output is. page_done laws _ (form_of c.args.page.now) settings.class.now c.args.language.now c.args.page.now (string_bytes output) c.all_fit.ensures
+    (c.pieces_are_utf8.ensures (form_of c.args.page.now) c.args.page.now c.utf8.page) (c.other_texts_are_cut_alike.ensures (form_of c.args.page.now) c.args.page.now)
+    (is ∙ ap (λ m. marked_pieces (languages_by settings c.args.languages.now) m (form_of c.args.page.now) settings.class.now around [] false pieces) e)) c.written.ensures

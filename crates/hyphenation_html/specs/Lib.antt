@@ -1,0 +1,7 @@
+pub mod Dictionaries
+pub mod Words
+pub mod Touching
+pub mod Languages
+pub mod Places
+pub mod Laws
+pub mod Private

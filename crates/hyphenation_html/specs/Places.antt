@@ -1,0 +1,91 @@
+-- Where marks are put into a page. Places are byte offsets.
+-- Source of words: UAX #29, Unicode Text Segmentation, as the kit's crate `unicode_segmentation` states it.
+use Rattle.std.specs.Prelude.{◌≡◌, ℕ, ◌+◌, ◌||◌, Bool, false, List, [], ◌∷◌, ◌++◌, map, length, if◌then◌else◌}
+use Rattle.std.specs.Option.{option_map_or}
+use Rattle.unicode_segmentation.specs.Word.{word_bounds}
+use Rattle.html_pieces.specs.Bytes.{is_white_space}
+use Rattle.html_pieces.specs.declared.bytes.Form.{Form}
+use Rattle.html_pieces.specs.Forms.{form_of}
+use Rattle.html_pieces.specs.Pieces.{Piece, pieces_of}
+use Rattle.html_pieces.specs.Elements.{Element, innermost, elements_after, page_element}
+use Rattle.html_pieces.specs.declared.tokenizer.Kind.{Kind}
+use Rattle.html_pieces.specs.declared.tokenizer.Kind.TheVariants.{Text}
+use Rattle.hyphenation_segments.specs.Laws.{with_marks}
+use Rattle.hyphenation_html.specs.Dictionaries.{Breaks}
+use Rattle.hyphenation_html.specs.Languages.{Language, languages_by, best_of}
+use Rattle.hyphenation_html.specs.Touching.{touched_after, touched_before}
+use Rattle.hyphenation_html.specs.Words.{is_left_whole}
+use Rattle.hyphenation_html.specs.declared.languages.LanguageDictionary.{LanguageDictionary}
+use Rattle.hyphenation_html.specs.declared.settings.Settings.{Settings}
+
+-- Places that stand n bytes further on.
+abbrev pub shifted : ℕ → List ℕ → List ℕ
+shifted n places = map (λ p. n + p) places
+
+-- The breaks of words that follow one another.
+abbrev pub words_places : Breaks → List (List ℕ) → List ℕ
+words_places breaks [] = []
+words_places breaks (word ∷ words) = breaks word ++ shifted (length word) (words_places breaks words)
+
+-- The breaks of the words of a token, which stands between white space; none where it is left whole.
+unfoldable pub token_places : Breaks → List ℕ → List ℕ
+token_places breaks token = if is_left_whole token then [] else words_places breaks (word_bounds token)
+
+-- The breaks of a text from a token on, whose bytes so far are `front`. A token whose word goes on outside of the text
+-- has none: the first one where something touches the text from before, and the last one where it does from after.
+abbrev pub tokens_places : Breaks → Bool → Bool → List ℕ → List ℕ → List ℕ
+tokens_places breaks before after front [] = if before || after then [] else token_places breaks front
+tokens_places breaks before after front (b ∷ bs) =
+    if is_white_space b
+    then (if before then [] else token_places breaks front)
+    ++ shifted (length front) (shifted 1 (tokens_places breaks false after [] bs))
+    else tokens_places breaks before after (front ++ b ∷ []) bs
+
+-- The breaks of a text.
+abbrev pub text_places : Breaks → Bool → Bool → List ℕ → List ℕ
+text_places breaks before after text = tokens_places breaks before after [] text
+
+-- The breaks of a text in an element: by the dictionary of its language, if there is one and the text is not left alone.
+abbrev pub places_in : List Language → Element → Bool → Bool → List ℕ → List ℕ
+places_in languages element before after text =
+    if element.is_left_alone then []
+    else option_map_or (λ language. text_places language.1 before after text) (best_of element.language languages) []
+
+-- The breaks of a piece: none but of text.
+abbrev pub piece_places : List Language → Element → Bool → Bool → Kind → List ℕ → List ℕ
+piece_places languages element before after Text text = places_in languages element before after text
+piece_places languages element before after _ text = []
+
+-- The breaks of pieces, within open elements, where something may touch the first piece from before. `class` is the class
+-- whose elements are left alone.
+abbrev pub pieces_places : List Language → Form → List ℕ → Element → List Element → Bool → List Piece → List ℕ
+pieces_places languages form class page elements before [] = []
+pieces_places languages form class page elements before (p ∷ ps) =
+    piece_places languages (innermost page elements) before (touched_after ps) p.kind p.bytes
+    ++ shifted (length p.bytes)
+    (pieces_places languages form class page (elements_after form class page elements p)
+    (touched_before before p.kind p.bytes) ps)
+
+-- The breaks of a page, in a language that holds where the page names none.
+abbrev pub places_of : List Language → Form → List ℕ → List ℕ → List ℕ → List ℕ
+places_of languages form class language page =
+    pieces_places languages form class (page_element language) [] false (pieces_of form page)
+
+-- The breaks of a page that is read in a form, by dictionaries and settings.
+abbrev pub places_in_form : Settings → List LanguageDictionary → Form → List ℕ → List ℕ → List ℕ
+places_in_form settings languages form language page =
+    places_of (languages_by settings languages) form settings.class.now language page
+
+-- The breaks of a page, which is read in its own form.
+abbrev pub page_places : Settings → List LanguageDictionary → List ℕ → List ℕ → List ℕ
+page_places settings languages language page = places_in_form settings languages (form_of page) language page
+
+-- A page with the mark at each of its breaks.
+abbrev pub marked_page : Settings → List LanguageDictionary → List ℕ → List ℕ → List ℕ
+marked_page settings languages language page =
+    with_marks settings.mark.now page (page_places settings languages language page)
+
+-- A result of a page is done: read in the form of the page, it has no break left.
+abbrev pub IsDone : Settings → List LanguageDictionary → List ℕ → List ℕ → List ℕ → Type 0
+IsDone settings languages language page output =
+    places_in_form settings languages (form_of page) language output ≡ []

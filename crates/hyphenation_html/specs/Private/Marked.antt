@@ -1,0 +1,109 @@
+-- A page with marks, piece by piece, as it is written.
+use Rattle.std.specs.Prelude.{ℕ, ◌||◌, Bool, true, false, List, [], ◌∷◌, ◌++◌, map, if◌then◌else◌}
+use Rattle.std.specs.Option.{option_map_or}
+use Rattle.std.specs.List.{flat_map}
+use Rattle.unicode_segmentation.specs.Word.{word_bounds}
+use Rattle.html_pieces.specs.Bytes.{is_white_space}
+use Rattle.html_pieces.specs.declared.bytes.Form.{Form}
+use Rattle.html_pieces.specs.Forms.{form_of}
+use Rattle.html_pieces.specs.Pieces.{Piece, as_piece, pieces_of}
+use Rattle.html_pieces.specs.Elements.{Element, as_element, innermost, elements_after, page_element}
+use Rattle.html_pieces.specs.declared.elements.Element as held
+use Rattle.html_pieces.specs.declared.tokenizer.Piece as cut
+use Rattle.html_pieces.specs.declared.tokenizer.Kind.{Kind}
+use Rattle.html_pieces.specs.declared.tokenizer.Kind.TheVariants.{Text}
+use Rattle.hyphenation_segments.specs.Laws.{with_marks}
+use Rattle.hyphenation_html.specs.Dictionaries.{Breaks}
+use Rattle.hyphenation_html.specs.Languages.{Language, best_of, breaks_under, languages_by}
+use Rattle.hyphenation_html.specs.Touching.{touched_after, touched_before}
+use Rattle.hyphenation_html.specs.Words.{is_left_whole}
+use Rattle.hyphenation_html.specs.declared.dictionary.AnyDictionary.{AnyDictionary}
+use Rattle.hyphenation_html.specs.declared.languages.LanguageDictionary.{LanguageDictionary}
+use Rattle.hyphenation_html.specs.declared.settings.Settings.{Settings}
+
+-- A word with the mark at its breaks.
+abbrev pub marked_word : Breaks → List ℕ → List ℕ → List ℕ
+marked_word breaks mark word = with_marks mark word (breaks word)
+
+-- A token with the mark at the breaks of its words, or as it is where it is left whole.
+unfoldable pub marked_token : Breaks → List ℕ → List ℕ → List ℕ
+marked_token breaks mark token =
+    if is_left_whole token then token else flat_map (marked_word breaks mark) (word_bounds token)
+
+-- A text with its marks, from a token on, whose bytes so far are `front`.
+abbrev pub marked_tokens : Breaks → List ℕ → Bool → Bool → List ℕ → List ℕ → List ℕ
+marked_tokens breaks mark before after front [] = if before || after then front else marked_token breaks mark front
+marked_tokens breaks mark before after front (b ∷ bs) =
+    if is_white_space b
+    then (if before then front else marked_token breaks mark front) ++ b ∷ marked_tokens breaks mark false after [] bs
+    else marked_tokens breaks mark before after (front ++ b ∷ []) bs
+
+-- A text with its marks.
+abbrev pub marked_text : Breaks → List ℕ → Bool → Bool → List ℕ → List ℕ
+marked_text breaks mark before after text = marked_tokens breaks mark before after [] text
+
+-- A text of an element with its marks.
+abbrev pub marked_in : List Language → List ℕ → Element → Bool → Bool → List ℕ → List ℕ
+marked_in languages mark element before after text =
+    if element.is_left_alone then text
+    else option_map_or (λ language. marked_text language.1 mark before after text) (best_of element.language languages) text
+
+-- A piece is text.
+abbrev pub is_text : Kind → Bool
+is_text Text = true
+is_text _ = false
+
+-- A piece with its marks.
+abbrev pub marked_piece : List Language → List ℕ → Element → Bool → Bool → Kind → List ℕ → List ℕ
+marked_piece languages mark element before after Text text = marked_in languages mark element before after text
+marked_piece languages mark element before after _ text = text
+
+-- Pieces with their marks, within open elements.
+unfoldable pub marked_pieces : List Language → List ℕ → Form → List ℕ → Element → List Element → Bool → List Piece → List ℕ
+marked_pieces languages mark form class page elements before [] = []
+marked_pieces languages mark form class page elements before (p ∷ ps) =
+    marked_piece languages mark (innermost page elements) before (touched_after ps) p.kind p.bytes
+    ++ marked_pieces languages mark form class page (elements_after form class page elements p)
+    (touched_before before p.kind p.bytes) ps
+
+-- ---- the same by the settings and dictionaries of a call
+
+-- A word with its marks.
+abbrev pub marked_word_by : Settings → AnyDictionary → List ℕ → List ℕ
+marked_word_by settings dictionary word = marked_word (breaks_under settings dictionary) settings.mark.now word
+
+-- A token with its marks.
+abbrev pub marked_token_by : Settings → AnyDictionary → List ℕ → List ℕ
+marked_token_by settings dictionary token = marked_token (breaks_under settings dictionary) settings.mark.now token
+
+-- A token with its marks, or as it is where its word goes on outside of the text.
+abbrev pub token_unless : Bool → Settings → AnyDictionary → List ℕ → List ℕ
+token_unless touches settings dictionary token = if touches then token else marked_token_by settings dictionary token
+
+-- A text with its marks.
+abbrev pub marked_text_by : Settings → AnyDictionary → Bool → Bool → List ℕ → List ℕ
+marked_text_by settings dictionary before after text =
+    marked_text (breaks_under settings dictionary) settings.mark.now before after text
+
+-- A text of an element with its marks.
+abbrev pub marked_in_by : Settings → List LanguageDictionary → held.Element → Bool → Bool → List ℕ → List ℕ
+marked_in_by settings languages element before after text =
+    marked_in (languages_by settings languages) settings.mark.now (as_element element) before after text
+
+-- A piece with its marks.
+abbrev pub marked_piece_by : Settings → List LanguageDictionary → held.Element → Bool → Bool → cut.Piece → List ℕ
+marked_piece_by settings languages element before after piece =
+    marked_piece (languages_by settings languages) settings.mark.now (as_element element) before after piece.kind
+    piece.text.now
+
+-- All pieces of a page with their marks.
+abbrev pub marked_pieces_by : Settings → List LanguageDictionary → Form → held.Element → List cut.Piece → List ℕ
+marked_pieces_by settings languages form page pieces =
+    marked_pieces (languages_by settings languages) settings.mark.now form settings.class.now (as_element page) [] false
+    (map as_piece pieces)
+
+-- A page with its marks.
+abbrev pub marked_page_by : Settings → List LanguageDictionary → List ℕ → List ℕ → List ℕ
+marked_page_by settings languages language page =
+    marked_pieces (languages_by settings languages) settings.mark.now (form_of page) settings.class.now
+    (page_element language) [] false (pieces_of (form_of page) page)

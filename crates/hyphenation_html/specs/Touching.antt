@@ -1,0 +1,66 @@
+-- Words that go on beyond a text: over a tag within a line, or in a character reference.
+use Rattle.std.specs.Prelude.{ℕ, ◌-◌, ◌||◌, Bool, true, false, List, [], ◌∷◌, codes, length, slice_get, if◌then◌else◌}
+use Rattle.std.specs.Option.{option_map_or}
+use Rattle.html_pieces.specs.Names.{name_of}
+use Rattle.html_pieces.specs.Groups.{is_one_of}
+use Rattle.html_pieces.specs.Pieces.{Piece}
+use Rattle.html_pieces.specs.declared.tokenizer.Kind.{Kind}
+use Rattle.html_pieces.specs.declared.tokenizer.Kind.TheVariants.{Text, Reference, StartTag, EmptyTag, EndTag, Other}
+use Rattle.hyphenation_html.specs.Words.{is_of_word}
+
+-- Elements that stand within a line by what they mean, so that a word may begin in one and end outside of it.
+abbrev pub phrase_names : List (List ℕ)
+phrase_names =
+    codes "a" ∷ codes "abbr" ∷ codes "acronym" ∷ codes "bdi" ∷ codes "bdo" ∷ codes "cite" ∷ codes "data"
+    ∷ codes "del" ∷ codes "dfn" ∷ codes "em" ∷ codes "ins" ∷ codes "mark" ∷ codes "q" ∷ codes "strong"
+    ∷ codes "time" ∷ codes "wbr" ∷ []
+
+-- Elements that stand within a line by how they look.
+abbrev pub style_names : List (List ℕ)
+style_names =
+    codes "b" ∷ codes "big" ∷ codes "code" ∷ codes "font" ∷ codes "i" ∷ codes "kbd" ∷ codes "nobr" ∷ codes "s"
+    ∷ codes "samp" ∷ codes "small" ∷ codes "span" ∷ codes "strike" ∷ codes "sub" ∷ codes "sup" ∷ codes "tt"
+    ∷ codes "u" ∷ codes "var" ∷ []
+
+-- An element stands within a line.
+abbrev pub is_inline : List ℕ → Bool
+is_inline name = is_one_of phrase_names name || is_one_of style_names name
+
+-- A word goes on over a piece: over a tag of such an element, and over comments and the like.
+unfoldable pub goes_on_over : Kind → List ℕ → Bool
+goes_on_over StartTag tag = is_inline (name_of tag)
+goes_on_over EmptyTag tag = is_inline (name_of tag)
+goes_on_over EndTag tag = is_inline (name_of tag)
+goes_on_over Other bytes = true
+goes_on_over Text text = false
+goes_on_over Reference bytes = false
+
+-- A text begins with a byte of a word.
+abbrev pub begins_in_word : List ℕ → Bool
+begins_in_word [] = false
+begins_in_word (b ∷ bs) = is_of_word b
+
+-- A text ends with a byte of a word.
+abbrev pub ends_in_word : List ℕ → Bool
+ends_in_word text = option_map_or is_of_word (slice_get text (length text - 1)) false
+
+-- A piece begins with a byte of a word, or is a character reference.
+abbrev pub begins_touching : Kind → List ℕ → Bool
+begins_touching Text text = begins_in_word text
+begins_touching Reference bytes = true
+begins_touching _ bytes = false
+
+-- A piece ends with a byte of a word, or is a character reference.
+abbrev pub ends_touching : Kind → List ℕ → Bool
+ends_touching Text text = ends_in_word text
+ends_touching Reference bytes = true
+ends_touching _ bytes = false
+
+-- The rest of a word, or a character reference, is the first of some pieces that no word goes on over.
+abbrev pub touched_after : List Piece → Bool
+touched_after [] = false
+touched_after (p ∷ ps) = if goes_on_over p.kind p.bytes then touched_after ps else begins_touching p.kind p.bytes
+
+-- The same of what is before a piece, after one more piece.
+abbrev pub touched_before : Bool → Kind → List ℕ → Bool
+touched_before before kind bytes = if goes_on_over kind bytes then before else ends_touching kind bytes

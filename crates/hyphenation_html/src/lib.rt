@@ -1,0 +1,19 @@
+//! Soft hyphens for the text of HTML and XHTML pages.
+//!
+//! [`hyphenate_html`] puts a mark where the words of a page's text may be broken, each by the dictionary of its language
+//! ([`LanguageDictionary`]). Nothing else of the page changes. The crate `html_pieces` tells text from markup.
+#![tactic(auto)]
+
+mod dictionary;
+mod languages;
+pub mod laws;
+mod page;
+mod settings;
+mod text;
+mod touching;
+mod words;
+
+pub use dictionary::AnyDictionary;
+pub use languages::LanguageDictionary;
+pub use page::hyphenate_html;
+pub use settings::Settings;

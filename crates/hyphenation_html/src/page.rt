@@ -1,0 +1,221 @@
+//! Whole pages.
+
+ghost use Rattle.std.specs.Prelude.{◌≡◌, ◌++◌, ◌<◌, ◌&&◌, [], All, Some, map, length, slice_get, IfOk, OnOk};
+ghost use Rattle.std.specs.String.{string_bytes};
+ghost use Rattle.html_pieces.specs.Pieces.{as_piece, pieces_of};
+ghost use Rattle.html_pieces.specs.Forms.{form_of};
+ghost use Rattle.html_pieces.specs.Elements.{as_element};
+ghost use Rattle.hyphenation_html.specs.Languages.{languages_by};
+ghost use Rattle.hyphenation_html.specs.Places.{page_places, marked_page, IsDone};
+ghost use Rattle.hyphenation_html.specs.Touching.{touched_after};
+ghost use Rattle.hyphenation_html.specs.Laws.{IsPageWithMarks, IsInText, soft_hyphen};
+ghost use Rattle.hyphenation_html.specs.Private.Fit.{AllFit};
+ghost use Rattle.hyphenation_html.specs.Private.Marked.{is_text, marked_in_by, marked_piece_by, marked_pieces_by, marked_page_by};
+
+use crate::dictionary::limited_breaks_fit;
+use crate::languages::{LanguageDictionary, best_of};
+use crate::settings::Settings;
+use crate::text::push_text;
+use crate::touching::{touched_after, touched_before};
+use html_pieces::bytes::Form;
+use html_pieces::elements::{Element, innermost, page_element, pass};
+use html_pieces::forms::cut;
+use html_pieces::laws::{other_texts_are_cut_alike, pieces_are_utf8, pieces_join};
+use html_pieces::tokenizer::{Kind, Piece};
+use hyphenation_hyphenator::hyphenator::laws::plain_breaks_fit_where_ascending;
+use hyphenation_segments::iter::laws::{marked_segments_join, segments_join};
+use std::alloc::{AllocError, Global};
+
+// Appends a text as it is.
+fn push_unmarked(output: &mut String, text: &str) -> Result<(), AllocError>
+    ensures { OnOk result (string_bytes output.new ≡ string_bytes output.old ++ text.now) }
+{
+    output.push_str(text)
+}
+
+// Appends a text of an element, with the mark at the breaks of its words by the dictionary of its language.
+fn push_in(
+    output: &mut String,
+    alloc: Global,
+    languages: &[LanguageDictionary],
+    settings: &Settings<'_>,
+    element: Element<'_>,
+    text: &str,
+    before: bool,
+    after: bool,
+) -> Result<(), AllocError>
+    ensures { OnOk result (string_bytes output.new ≡ string_bytes output.old
+        ++ marked_in_by settings.now languages.now element.entry before after text.now) }
+{
+    if element.is_left_alone {
+        return output.push_str(text);
+    }
+    match best_of(languages, element.language) {
+        Some(language) => push_text(
+            output,
+            alloc,
+            &language.dictionary,
+            settings,
+            text,
+            before,
+            after,
+        ),
+        None => push_unmarked(output, text),
+    }
+}
+
+// Appends a piece of an element; the mark comes into text alone.
+fn push_piece(
+    output: &mut String,
+    alloc: Global,
+    languages: &[LanguageDictionary],
+    settings: &Settings<'_>,
+    element: Element<'_>,
+    piece: Piece<'_>,
+    before: bool,
+    after: bool,
+) -> Result<(), AllocError>
+    ensures { OnOk result (string_bytes output.new ≡ string_bytes output.old
+        ++ marked_piece_by settings.now languages.now element.entry before after piece.entry) }
+{
+    match piece.kind {
+        Kind::Text => push_in(
+            output, alloc, languages, settings, element, piece.text, before, after,
+        ),
+        _ => output.push_str(piece.text),
+    }
+}
+
+// Returns the piece of a number.
+fn piece_at<'t>(pieces: &[Piece<'t>], i: usize) -> Piece<'t>
+    requires { i < length pieces.now }
+    ensures { slice_get pieces.now i ≡ Some result }
+{
+    pieces[i]
+}
+
+// Whether a piece is text.
+const fn is_text(kind: Kind) -> bool
+    ensures { result ≡ is_text kind }
+{
+    matches!(kind, Kind::Text)
+}
+
+// Whether something touches a text from after. It is asked of text alone, so that each piece is passed once.
+fn text_touched_after(kind: Kind, rest: &[Piece<'_>]) -> bool
+    ensures { result ≡ (is_text kind && touched_after (map as_piece rest.now)) }
+{
+    is_text(kind) && touched_after(rest)
+}
+
+// Appends the pieces of a page, each in the elements that are open there.
+fn push_pieces<'t>(
+    output: &mut String,
+    alloc: Global,
+    languages: &[LanguageDictionary],
+    settings: &Settings<'_>,
+    form: Form,
+    around: Element<'t>,
+    pieces: &[Piece<'t>],
+) -> Result<(), AllocError>
+    ensures { OnOk result (string_bytes output.new ≡ string_bytes output.old
+        ++ marked_pieces_by settings.now languages.now form around.entry pieces.now) }
+{
+    let mut elements = Vec::new(alloc);
+    let mut before = false;
+    for i in 0..pieces.len() {
+        let piece = piece_at(pieces, i);
+        let after = text_touched_after(piece.kind, &pieces[i + 1..]);
+        let element = innermost(around, &elements);
+        push_piece(
+            output, alloc, languages, settings, element, piece, before, after,
+        )?;
+        pass(
+            &mut elements,
+            alloc,
+            form,
+            settings.class.as_bytes(),
+            around,
+            piece,
+        )?;
+        before = touched_before(before, piece);
+    }
+    Ok(())
+}
+
+// A page with its marks, written piece by piece.
+fn written(
+    alloc: Global,
+    languages: &[LanguageDictionary],
+    language: &str,
+    settings: &Settings<'_>,
+    page: &str,
+) -> Result<String, AllocError>
+    ensures { IfOk result (λ output.
+        string_bytes output ≡ marked_page_by settings.now languages.now language.now page.now) }
+{
+    let cut = cut(alloc, page)?;
+    let mut output = String::with_capacity(alloc, page.len())?;
+    let around = page_element(language.as_bytes());
+    push_pieces(
+        &mut output,
+        alloc,
+        languages,
+        settings,
+        cut.form,
+        around,
+        &cut.pieces,
+    )?;
+    Ok(output)
+}
+
+// Gives proofs that the breaks of each word, by each of some dictionaries, ascend on it.
+fn all_fit(languages: &[LanguageDictionary], settings: &Settings<'_>)
+    ensures { AllFit (languages_by settings.now languages.now) }
+{
+    for language in languages {
+        limited_breaks_fit(&language.dictionary, settings);
+    }
+}
+
+/// Returns an HTML or XHTML page with the mark at each break of the words of its text.
+///
+/// Each word is broken by the dictionary of the language that `lang` or `xml:lang` names for it, and by that of
+/// `language` where the page names none. A code serves each language that begins with it and a hyphen, and the longest
+/// such code counts. A text whose language has no dictionary is left as it is.
+///
+/// All that is not text stays as it is, byte for byte: tags, comments, scripts, character references. So do the texts of
+/// elements as `pre` and `code`, of those with `translate="no"`, and of those that have the class of the settings. A
+/// part of a text between white space is left whole if it has a soft hyphen, is an address, or goes on in a character
+/// reference or over a tag within a line, as that of `b`.
+///
+/// An error says that memory was refused.
+///
+/// ```text
+/// hyphenate_html(alloc, &languages, "en", &Settings::new(), "<p>Firkin <code>firkin</code></p>")?;
+/// ```
+pub fn hyphenate_html(
+    alloc: Global,
+    languages: &[LanguageDictionary],
+    language: &str,
+    settings: &Settings<'_>,
+    page: &str,
+) -> Result<String, AllocError>
+    ensures marked { IfOk result (λ output.
+        string_bytes output ≡ marked_page settings.now languages.now language.now page.now) }
+    ensures kept { IfOk result (λ output. IsPageWithMarks settings.now.mark.now page.now (string_bytes output)) }
+    ensures in_text { All (IsInText (pieces_of (form_of page.now) page.now))
+        (page_places settings.now languages.now language.now page.now) }
+    ensures twice { settings.now.mark.now ≡ soft_hyphen → IfOk result (λ output.
+        IsDone settings.now languages.now language.now page.now (string_bytes output)) }
+    ensures without { languages.now ≡ [] → IfOk result (λ output. string_bytes output ≡ page.now) }
+{
+    plain_breaks_fit_where_ascending();
+    segments_join();
+    marked_segments_join();
+    pieces_join();
+    pieces_are_utf8();
+    other_texts_are_cut_alike();
+    all_fit(languages, settings);
+    written(alloc, languages, language, settings, page)
+}
