@@ -1,0 +1,6 @@
+use Rattle.line_division.specs.Private.Best.{AreBest}
+use Rattle.line_division.proofs.even.best_lines.Given as goal
+
+-- The lines that begin from here on are the best ones.
+abbrev pub invariant-loop-start : goal.invariant-loop-start
+invariant-loop-start l = AreBest l.stretches l.columns l.last_columns l.choices.items l.start

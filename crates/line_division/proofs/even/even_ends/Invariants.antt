@@ -1,0 +1,13 @@
+use Rattle.std.proofs.Common.{◌-◌, ◌≤◌, length}
+use Rattle.line_division.proofs.Least.{GoesOn}
+use Rattle.line_division.proofs.even.even_ends.Given as goal
+
+-- The ends so far, followed by any that cost the least from here on, cost the least.
+abbrev pub invariant-loop-start : goal.invariant-loop-start
+invariant-loop-start l = record {
+  within : l.start ≤ length l.stretches;
+  goes : GoesOn l.stretches l.columns l.last_columns l.choices.items l.start l.ends.items;
+}
+
+abbrev pub decreases-loop-start : goal.decreases-loop-start
+decreases-loop-start l = length l.stretches - l.start

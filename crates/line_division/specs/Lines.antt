@@ -1,0 +1,41 @@
+-- A line of stretches, its width and its cost. Starts and ends are numbers of stretches before them.
+use Rattle.std.specs.Prelude.{ℕ, ◌+◌, ◌-◌, ◌*◌, ◌==◌, if◌then◌else◌, List, length, sum_by, slice_range}
+use Rattle.std.specs.List.{slice_index_or}
+use Rattle.line_division.specs.declared.stretch.Stretch.{Stretch}
+use Rattle.line_division.specs.declared.cost.Cost.{Cost}
+
+-- A stretch without columns, and without a price.
+abbrev pub no_stretch : Stretch
+no_stretch = record { opening = 0; width = 0; joint = 0; closing = 0; price = 0 }
+
+-- The stretch after so many.
+abbrev pub stretch_at : List Stretch → ℕ → Stretch
+stretch_at stretches place = slice_index_or stretches place no_stretch
+
+-- The columns of a stretch that is not the last one of its line.
+abbrev pub joined_width : Stretch → ℕ
+joined_width stretch = stretch.width + stretch.joint
+
+-- The columns of the line from a start to an end after it: the opening of its first stretch, all but the last one with
+-- their joints, and the last one with its closing.
+abbrev pub line_width : List Stretch → ℕ → ℕ → ℕ
+line_width stretches start end =
+    (stretch_at stretches start).opening + sum_by joined_width (slice_range stretches start (end - 1))
+    + (stretch_at stretches (end - 1)).width + (stretch_at stretches (end - 1)).closing
+
+-- The columns that a line should have at least; the last line has its own number of them.
+abbrev pub wanted_columns : List Stretch → ℕ → ℕ → ℕ → ℕ
+wanted_columns stretches columns last_columns end = if end == length stretches then last_columns else columns
+
+-- The square of the columns that a line lacks.
+abbrev pub raggedness : List Stretch → ℕ → ℕ → ℕ → ℕ → ℕ
+raggedness stretches columns last_columns start end =
+    (wanted_columns stretches columns last_columns end - line_width stretches start end)
+    * (wanted_columns stretches columns last_columns end - line_width stretches start end)
+
+-- The cost of a line: the columns that it has too many; the square of those that it lacks, and the price of its end.
+abbrev pub line_cost : List Stretch → ℕ → ℕ → ℕ → ℕ → Cost
+line_cost stretches columns last_columns start end = record {
+  excess = line_width stretches start end - columns;
+  spent = raggedness stretches columns last_columns start end + (stretch_at stretches (end - 1)).price;
+}

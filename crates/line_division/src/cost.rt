@@ -1,0 +1,45 @@
+//! The cost of lines.
+
+ghost use Rattle.std.specs.Prelude.{◌≡◌, ◌+◌, ◌<◌, ◌^◌, MatchBool};
+
+/// The cost of lines. The excess counts first, and where it is the same, what is spent.
+#[derive(Clone, Copy, Debug)]
+pub struct Cost {
+    /// The columns by which lines are too wide.
+    pub excess: u64,
+    /// The squares of the columns that lines lack, and the prices of their ends.
+    pub spent: u64,
+}
+
+impl Cost {
+    ghost use Rattle.line_division.specs.Cost.{together, CostsNoMore};
+
+    // The cost of no lines.
+    pub(crate) const NONE: Cost = Cost {
+        excess: 0,
+        spent: 0,
+    };
+
+    // The cost of both together.
+    pub(crate) fn plus(self, other: Cost) -> Cost
+        requires excess { self.excess + other.excess < 2 ^ 64 }
+        requires spent { self.spent + other.spent < 2 ^ 64 }
+        ensures { result ≡ together self other }
+    {
+        Cost {
+            excess: self.excess + other.excess,
+            spent: self.spent + other.spent,
+        }
+    }
+
+    // Tests whether it is less than another.
+    pub(crate) fn is_less(self, other: Cost) -> bool
+        ensures { MatchBool result (CostsNoMore self other) (CostsNoMore other self) }
+    {
+        if self.excess == other.excess {
+            self.spent < other.spent
+        } else {
+            self.excess < other.excess
+        }
+    }
+}

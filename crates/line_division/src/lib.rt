@@ -1,0 +1,17 @@
+//! Dividing a paragraph into lines, by the columns of its stretches.
+//!
+//! A [`Stretch`] stands between two neighbouring places at which a line may end. A line holds stretches that stand
+//! beside one another. [`even_ends`] returns the division that costs the least: the squares of the columns that lines
+//! lack, and a price for each line that ends at a break of a word. [`greedy_ends`] returns the one whose lines hold as
+//! much as fits; no division into lines that fit has fewer of them.
+#![tactic(auto)]
+
+mod cost;
+mod even;
+mod greedy;
+mod stretch;
+
+pub use cost::Cost;
+pub use even::even_ends;
+pub use greedy::greedy_ends;
+pub use stretch::Stretch;

@@ -1,0 +1,3 @@
+pub mod PlainBreaks
+pub mod Pages
+pub mod OptionsTaken

@@ -1,0 +1,17 @@
+use Rattle.std.proofs.Common.{◌≡◌, ◌++◌, List, map, drop}
+use Rattle.std.specs.Str.{IsCharBoundary}
+use Rattle.hyphenation_breaks.specs.Break.{Break}
+use Rattle.paragraphs.specs.Words.{set_off}
+use Rattle.paragraphs.specs.Styles.{style_of}
+use Rattle.paragraphs.specs.Private.Open.{settings_with}
+use Rattle.paragraphs.proofs.word.pass_piece.Given as goal
+
+-- The parts that are made, with those that the breaks to come give, stay the same.
+abbrev pub invariant-loop-b : goal.invariant-loop-b
+invariant-loop-b g l =
+    let meaning = g.H.Opportunity.Break.meaning in
+    record {
+      goes : (others : List Break) → settings_with (style_of l.style) l.word l.parts.items l.current (map (set_off l.offset) (map meaning (drop l.b-index l.b-items)) ++ others)
+          ≡ settings_with (style_of l.style) l.word l.initial.parts.items l.initial.current (map (set_off l.offset) (map meaning l.b-items) ++ others);
+      from : IsCharBoundary l.word l.current.from;
+    }

@@ -1,0 +1,6 @@
+pub mod Settings
+pub mod Aims
+pub mod Words
+pub mod Styles
+pub mod Pages
+pub mod Private

@@ -1,0 +1,28 @@
+//! The parts of which the lines of a paragraph are made.
+
+// A text between two neighbouring places at which a line may end.
+//
+// ```text
+//     indent after | text | before hyphen     where a line holds it alone
+//                    text | joint | ..        where the line goes on after it
+// ```
+//
+// The last part of a word has a space for its joint. Any other has a hyphen. Where its break changes letters, the joint
+// has those letters, `before` the first half of the change, and `after` of the next part the second half.
+#[derive(Debug, Drop)]
+pub struct Part<'t> {
+    // The indent of a line that begins with it.
+    pub indent: &'t str,
+    // The second half of the change before it.
+    pub after: String,
+    // Its own text, with soft hyphens.
+    pub text: &'t str,
+    // The text between it and the next part of the same line, with soft hyphens.
+    pub joint: &'t str,
+    // The first half of the change after it.
+    pub before: String,
+    // The hyphen of a line that ends with it, if it needs one.
+    pub hyphen: &'t str,
+    // The cost of a line's end after it.
+    pub price: u32,
+}

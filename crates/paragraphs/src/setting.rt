@@ -1,0 +1,184 @@
+//! Lines of parts.
+
+ghost use Rattle.std.specs.Prelude.{◌≡◌, ℕ, ◌+◌, ◌*◌, ◌-◌, ◌^◌, ◌<◌, ◌≤◌, ◌++◌, List, IfOk, OnOk, All, length, map};
+ghost use Rattle.std.specs.String.{string_bytes};
+ghost use Rattle.paragraphs.specs.Aims.{IsAimedAt, IsSet};
+ghost use Rattle.paragraphs.specs.Private.Ends.{Rise};
+ghost use Rattle.paragraphs.specs.Private.PartSettings.{setting_of, settings_of, IsShort};
+ghost use Rattle.paragraphs.specs.Settings.{columns_of, shown, stretch_of, shown_text, last_text, line_text, lines_to};
+
+use crate::part::Part;
+use crate::shown::{has_soft_hyphen, push_shown, shown};
+use line_division::{Stretch, even_ends, greedy_ends};
+use std::alloc::{AllocError, Global};
+use unicode_width::UnicodeWidthStr;
+
+/// The division into lines that is wanted.
+#[derive(Clone, Copy, Debug)]
+pub enum Aim {
+    /// Each line holds as much as fits.
+    Full,
+    /// The sum of the costs of all lines is least.
+    ///
+    /// A line costs the square of the columns that it lacks, and its price where it ends at a break of a word. The last
+    /// line lacks columns only where it has fewer than `last_columns`.
+    Even { last_columns: u16 },
+}
+
+// Returns the columns of a text in a terminal.
+fn columns_of(text: &str) -> u32
+    requires { length text.now < 2 ^ 31 }
+    ensures { result ≡ columns_of text.now }
+{
+    text.width() as u32
+}
+
+// Returns the columns of a text without its soft hyphens.
+fn columns_shown(alloc: Global, text: &str) -> Result<u32, AllocError>
+    requires { length text.now < 2 ^ 31 }
+    ensures { IfOk result (λ columns. columns ≡ columns_of (shown text.now)) }
+{
+    if has_soft_hyphen(text) {
+        let shown = shown(alloc, text)?;
+        return Ok(columns_of(&shown));
+    }
+    Ok(columns_of(text))
+}
+
+// Returns the columns of a text with another one after it.
+fn columns_of_both(alloc: Global, first: &str, second: &str) -> Result<u32, AllocError>
+    requires { length first.now + length second.now < 2 ^ 31 }
+    ensures { IfOk result (λ columns. columns ≡ columns_of (first.now ++ second.now)) }
+{
+    if first.is_empty() {
+        return Ok(columns_of(second));
+    }
+    if second.is_empty() {
+        return Ok(columns_of(first));
+    }
+    let mut both = String::from_str(alloc, first)?;
+    both.push_str(second)?;
+    Ok(columns_of(&both))
+}
+
+// Returns the columns of a part.
+fn stretch(alloc: Global, part: &Part) -> Result<Stretch, AllocError>
+    requires { IsShort part.now }
+    ensures { IfOk result (λ stretch. stretch ≡ stretch_of (setting_of part.now)) }
+{
+    Ok(Stretch {
+        opening: columns_of_both(alloc, part.indent, &part.after)?,
+        width: columns_shown(alloc, part.text)?,
+        joint: columns_shown(alloc, part.joint)?,
+        closing: columns_of_both(alloc, &part.before, part.hyphen)?,
+        price: part.price,
+    })
+}
+
+// Returns the columns of all parts.
+fn stretches(alloc: Global, parts: &[Part]) -> Result<Vec<Stretch>, AllocError>
+    requires { All IsShort parts.now }
+    ensures { IfOk result (λ v. v.items ≡ map stretch_of (settings_of parts.now)) }
+{
+    let mut all = Vec::with_capacity(alloc, parts.len())?;
+    for part in parts {
+        all.push(stretch(alloc, part)?)?;
+    }
+    Ok(all)
+}
+
+// Returns the text before a line that begins with a part.
+fn opening(alloc: Global, part: &Part) -> Result<String, AllocError>
+    ensures { IfOk result (λ opening. string_bytes opening ≡ (setting_of part.now).opening) }
+{
+    let mut opening = String::from_str(alloc, part.indent)?;
+    opening.push_str(&part.after)?;
+    Ok(opening)
+}
+
+// Appends a part that is not the last one of its line.
+fn push_joined(line: &mut String, part: &Part) -> Result<(), AllocError>
+    ensures { OnOk result (string_bytes line.new ≡ string_bytes line.old ++ shown_text (setting_of part.now)) }
+{
+    push_shown(line, part.text)?;
+    push_shown(line, part.joint)?;
+    Ok(())
+}
+
+// Appends the last part of a line.
+fn push_last(line: &mut String, part: &Part) -> Result<(), AllocError>
+    ensures { OnOk result (string_bytes line.new ≡ string_bytes line.old ++ last_text (setting_of part.now)) }
+{
+    push_shown(line, part.text)?;
+    line.push_str(&part.before)?;
+    line.push_str(part.hyphen)?;
+    Ok(())
+}
+
+// Returns the line from a start to an end.
+fn line(alloc: Global, parts: &[Part], start: usize, end: usize) -> Result<String, AllocError>
+    requires order { start < end }
+    requires within { end ≤ length parts.now }
+    ensures { IfOk result (λ line. string_bytes line ≡ line_text (settings_of parts.now) start end) }
+{
+    let mut line = opening(alloc, &parts[start])?;
+    for part in &parts[start..end - 1] {
+        push_joined(&mut line, part)?;
+    }
+    let last = &parts[end - 1];
+    push_last(&mut line, last)?;
+    Ok(line)
+}
+
+// Returns the lines to a row of ends.
+fn lines(alloc: Global, parts: &[Part], ends: &[usize]) -> Result<Vec<String>, AllocError>
+    requires { Rise 0 (length parts.now) ends.now }
+    ensures { IfOk result (λ lines. map string_bytes lines.items ≡ lines_to (settings_of parts.now) 0 ends.now) }
+{
+    let mut lines = Vec::new(alloc);
+    let mut start = 0;
+    for end in ends {
+        lines.push(line(alloc, parts, start, *end)?)?;
+        start = *end;
+    }
+    Ok(lines)
+}
+
+// Returns the ends of the lines of such stretches.
+fn ends(
+    alloc: Global,
+    stretches: &[Stretch],
+    columns: u16,
+    aim: Aim,
+) -> Result<Vec<usize>, AllocError>
+    requires count { length stretches.now < 2 ^ 30 }
+    ensures { IfOk result (λ ends. IsAimedAt aim stretches.now columns ends.items) }
+{
+    match aim {
+        Aim::Full => {
+            let ends = greedy_ends(alloc, stretches, columns)?;
+            Ok(ends)
+        }
+        Aim::Even { last_columns } => {
+            let ends = even_ends(alloc, stretches, columns, last_columns)?;
+            Ok(ends)
+        }
+    }
+}
+
+// Returns the lines of a paragraph that is made of such parts.
+pub(crate) fn set(
+    alloc: Global,
+    parts: &[Part],
+    columns: u16,
+    aim: Aim,
+) -> Result<Vec<String>, AllocError>
+    requires count { length parts.now < 2 ^ 30 }
+    requires short { All IsShort parts.now }
+    ensures { IfOk result (λ lines. IsSet aim (settings_of parts.now) columns (map string_bytes lines.items)) }
+{
+    let stretches = stretches(alloc, parts)?;
+    let row = ends(alloc, &stretches, columns, aim)?;
+    let lines = lines(alloc, parts, &row)?;
+    Ok(lines)
+}

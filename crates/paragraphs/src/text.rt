@@ -1,0 +1,136 @@
+//! The parts of a paragraph, and its lines.
+
+ghost use Rattle.std.specs.Prelude.{◌≡◌, IfOk, IfErr, OnOk, map};
+ghost use Rattle.std.specs.List.{list_all};
+ghost use Rattle.std.specs.String.{string_bytes};
+ghost use Rattle.paragraphs.specs.Pages.{IsFilled};
+ghost use Rattle.paragraphs.specs.Private.Open.{AddsParts};
+ghost use Rattle.paragraphs.specs.Private.PartSettings.{settings_of, is_short_part};
+ghost use Rattle.paragraphs.specs.Settings.{IsTooLong};
+ghost use Rattle.paragraphs.specs.Styles.{style_of};
+ghost use Rattle.paragraphs.specs.Words.{other_parts, parts_of};
+ghost use Rattle.text_paragraphs.specs.Words.{words};
+
+use crate::part::Part;
+use crate::setting::{Aim, set};
+use crate::style::Style;
+use crate::word::push_word;
+use hyphenation_hyphenator::hyphenator::Hyphenator;
+use std::alloc::{AllocError, Global};
+use text_paragraphs::split_word;
+
+// Adds the parts of all words of a text, none of which is the first one of its paragraph.
+fn push_others<'t, 'h, H: Hyphenator<'h>>(
+    alloc: Global,
+    dictionary: &'h H,
+    style: &Style<'t>,
+    text: &'t str,
+    parts: &mut Vec<Part<'t>>,
+) -> Result<(), AllocError>
+    ensures { OnOk result (AddsParts parts.old.items parts.new.items
+        (other_parts (H.breaks_of dictionary.now) (style_of style.now) (words text.now))) }
+{
+    let mut rest = text;
+    while let Some((word, after)) = split_word(rest) {
+        push_word(alloc, dictionary, style, style.indent, word, parts)?;
+        rest = after;
+    }
+    Ok(())
+}
+
+// Returns the parts of a paragraph.
+fn parts_of<'t, 'h, H: Hyphenator<'h>>(
+    alloc: Global,
+    dictionary: &'h H,
+    style: &Style<'t>,
+    text: &'t str,
+) -> Result<Vec<Part<'t>>, AllocError>
+    ensures { IfOk result (λ parts.
+        settings_of parts.items ≡ parts_of (H.breaks_of dictionary.now) (style_of style.now) (words text.now)) }
+{
+    let mut parts = Vec::new(alloc);
+    let Some((first, rest)) = split_word(text) else {
+        return Ok(parts);
+    };
+    push_word(alloc, dictionary, style, style.first, first, &mut parts)?;
+    push_others(alloc, dictionary, style, rest, &mut parts)?;
+    Ok(parts)
+}
+
+/// Why there are no lines.
+#[derive(Debug, Drop)]
+pub enum FillError {
+    /// Memory was refused.
+    Memory,
+    /// A paragraph has 2^30 parts, or a text of one of them has 2^31 bytes.
+    TooLong,
+}
+
+impl From<AllocError> for FillError {
+    ghost use Rattle.std.specs.Prelude.{◌≡◌};
+    ghost use Rattle.paragraphs.specs.declared.text.FillError.TheVariants.{Memory};
+
+    ghost from_gives = { λ _ result. result ≡ Memory };
+
+    fn from(_error: AllocError) -> FillError {
+        FillError::Memory
+    }
+}
+
+// Tests whether no text of a part is too long to be measured.
+fn is_short(part: &Part) -> bool
+    ensures { result ≡ is_short_part part.now }
+{
+    part.indent.len() + part.after.len() < 1 << 31
+        && part.text.len() < 1 << 31
+        && part.joint.len() < 1 << 31
+        && part.before.len() + part.hyphen.len() < 1 << 31
+}
+
+// Tests whether all parts are short.
+fn are_short(parts: &[Part]) -> bool
+    ensures { result ≡ list_all is_short_part parts.now }
+{
+    for part in parts {
+        if !is_short(part) {
+            return false;
+        }
+    }
+    true
+}
+
+/// Returns the lines of a paragraph: its words with one space between them, broken where a line ends.
+///
+/// A word is what stands between gaps. It may be broken where the dictionary breaks one of its pieces between Unicode's
+/// word bounds, if some of the word is on either side. A soft hyphen is shown only as the hyphen of a line that ends
+/// there. A line has at most so many columns of a terminal, or it holds one part, which can't be divided.
+///
+/// The error says that memory was refused, or that the paragraph is too long.
+///
+/// ```text
+/// let style = Style { first: "", indent: "", price: 0 };
+/// fill(alloc, &dictionary, &style, "on  hyphenation", 8, Aim::Full)?      // "on hy-", "phena-", "tion"
+/// ```
+pub fn fill<'h, H: Hyphenator<'h>>(
+    alloc: Global,
+    dictionary: &'h H,
+    style: &Style,
+    text: &str,
+    columns: u16,
+    aim: Aim,
+) -> Result<Vec<String>, FillError>
+    ensures lines { IfOk result (λ lines. IsFilled aim (H.breaks_of dictionary.now) (style_of style.now) columns text.now
+        (map string_bytes lines.items)) }
+    ensures too_long { IfErr result (λ e. e ≡ FillError.TooLong →
+        IsTooLong (parts_of (H.breaks_of dictionary.now) (style_of style.now) (words text.now))) }
+{
+    let parts = parts_of(alloc, dictionary, style, text)?;
+    if parts.len() >= 1 << 30 {
+        return Err(FillError::TooLong);
+    }
+    if !are_short(&parts) {
+        return Err(FillError::TooLong);
+    }
+    let lines = set(alloc, &parts, columns, aim)?;
+    Ok(lines)
+}

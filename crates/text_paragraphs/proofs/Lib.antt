@@ -1,0 +1,3 @@
+pub mod WordLists
+pub mod LinePieces
+pub mod GatheredWords
