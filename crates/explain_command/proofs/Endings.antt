@@ -1,0 +1,34 @@
+-- How runs end, by the words that are given.
+use Rattle.std.proofs.Common.{◌≡◌, ℕ, ◌<◌, List, [], ◌∷◌, length, map, refl, sym, ap, subst, arith}
+use Rattle.std.specs.Prelude.{Option, None, Some, Result, Ok, Err, IfErr, IfOk, IsUtf8}
+use Rattle.std.specs.Borrow.{Bor}
+use Rattle.hyphenation.specs.Engine.{JudgesText, BeforeReading, IsTextError, texts_now}
+use Rattle.hyphenation.specs.declared.engine.RunError.{RunError}
+use Rattle.hyphenation.specs.declared.engine.RunError.TheVariants.{Dictionary, Edit, TextNotUtf8, Input, Output, Memory}
+use Rattle.explain_command.specs.Explained.{AreExplained, ExplainsWords}
+use Rattle.explain_command.specs.Statuses.{HasNoEdit, EndsFor}
+
+-- An input that was judged as a text.
+pub ends_of_input : {X : Type 0} (input : Option (List ℕ)) (unread : Type 0) (r : Result X RunError) → JudgesText input r → IfErr r IsTextError → EndsFor [] input unread r
+ends_of_input input unread (Ok x) j e = (tt, j, tt)
+ends_of_input input unread (Err (Dictionary x)) j e = absurd e
+ends_of_input input unread (Err (Edit n)) j e = absurd e
+ends_of_input input unread (Err TextNotUtf8) j e = (tt, j, tt)
+ends_of_input input unread (Err (Input x)) j e = (tt, j, tt)
+ends_of_input input unread (Err (Output x)) j e = absurd e
+ends_of_input input unread (Err Memory) j e = (tt, j, tt)
+
+-- No word was given.
+pub no_words : (words : List (Bor (List ℕ))) → length words ≡ 0 → texts_now words ≡ []
+no_words [] e = refl
+no_words (w ∷ ws) e = absurd (omega arith)
+
+-- With words the input is as it was.
+pub ends_unread : {X : Type 0} (words : List (Bor (List ℕ))) (input : Option (List ℕ)) (unread : Type 0) (r : Result X RunError) → 0 < length words → HasNoEdit r → unread → EndsFor (texts_now words) input unread r
+ends_unread [] input unread r some kept u = absurd (omega arith)
+ends_unread (w ∷ ws) input unread r some kept u = (kept, u)
+
+-- The words that are given are explained.
+pub explains_given : (explains : List ℕ → List ℕ → Type 0) (words : List (List ℕ)) (text : List ℕ) → AreExplained explains words text → ExplainsWords explains words text
+explains_given explains [] text h = ([], h)
+explains_given explains (w ∷ ws) text h = h

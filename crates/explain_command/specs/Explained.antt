@@ -1,0 +1,41 @@
+-- The texts that explain words, joined, and the text of a run.
+use Rattle.std.specs.Prelude.{◌≡◌, ℕ, List, [], ◌∷◌, Option, IfSome}
+use Rattle.std.specs.List.{AllZip, join_with_byte}
+use Rattle.hyphenation_breaks.specs.Ascii.{line_feed}
+use Rattle.hyphenation_breaks.specs.Break.{plain_break}
+use Rattle.hyphenation_grammar.specs.Reading.{standard_contents, extended_contents}
+use Rattle.hyphenation_grammar.specs.declared.form.Kind.{Kind}
+use Rattle.hyphenation_grammar.specs.declared.form.Kind.TheVariants.{Standard, Extended}
+use Rattle.hyphenation_hyphenator.specs.Fitting.{fitted_breaks_of}
+use Rattle.hyphenation_hyphenator.specs.Opportunities.{no_change, own_break, standard_rules, extended_rules, all_breaks_of}
+use Rattle.hyphenation_load.specs.Load.{AppendsTo}
+use Rattle.hyphenation_score.specs.Scoring.{own_change}
+use Rattle.explanations.specs.Texts.{Explains}
+use Rattle.explanations.specs.declared.style.Style.{Style}
+
+-- The text has a text for each word, which explains it, in the order of the words, and an empty line between two.
+abbrev pub AreExplained : (List ℕ → List ℕ → Type 0) → List (List ℕ) → List ℕ → Type 0
+AreExplained explains words text =
+    (texts : List (List ℕ)) × AllZip explains words texts × (text ≡ join_with_byte line_feed texts)
+
+-- The text explains the given words or, without any, some words.
+abbrev pub ExplainsWords : (List ℕ → List ℕ → Type 0) → List (List ℕ) → List ℕ → Type 0
+ExplainsWords explains [] text = (words : List (List ℕ)) × AreExplained explains words text
+ExplainsWords explains (word ∷ words) text = AreExplained explains (word ∷ words) text
+
+-- The text explains a word by the dictionary of that kind that bytes give.
+abbrev pub explains_by : Kind → List ℕ → Style → List ℕ → List ℕ → Type 0
+explains_by Standard bytes style word text = Explains no_change plain_break (standard_contents bytes) style word
+    (all_breaks_of (standard_rules (standard_contents bytes)) word) text
+explains_by Extended bytes style word text = Explains own_change own_break (extended_contents bytes) style word
+    (fitted_breaks_of (extended_rules (extended_contents bytes)) word) text
+
+-- If the bytes of a dictionary of that kind are known, the text explains the given words by it or, without any, some words.
+abbrev pub ExplainsBy : Kind → Style → List (List ℕ) → Option (List ℕ) → List ℕ → Type 0
+ExplainsBy kind style words known text = IfSome known (λ bytes. ExplainsWords (explains_by kind bytes style) words text)
+
+-- Such a text was appended to the contents of a writer.
+abbrev pub WritesExplained : {W : Type 0} → Kind → Style → List (List ℕ) → Option (List ℕ) → (W → Option (List ℕ)) → W → W
+    → Type 0
+WritesExplained kind style words known contents old new =
+    (text : List ℕ) × ExplainsBy kind style words known text × AppendsTo contents old new text

@@ -1,0 +1,4 @@
+pub mod Private
+pub mod Arguments
+pub mod Explained
+pub mod Statuses

@@ -1,0 +1,39 @@
+-- How a run of the program `hyphenate-explain` ends, and the status of each end.
+use Rattle.std.specs.Prelude.{◌≡◌, ℕ, List, [], ◌∷◌, Result, Ok, Err, Option, IfSome, ⊤}
+use Rattle.std.specs.Borrow.{Bor}
+use Rattle.explain_command.specs.Arguments.{parsed_args}
+use Rattle.hyphenation.specs.Engine.{JudgesText, BeforeReading}
+use Rattle.hyphenation.specs.declared.engine.RunError.{RunError}
+use Rattle.hyphenation.specs.declared.engine.RunError.TheVariants.{Dictionary, Edit, TextNotUtf8, Input, Output, Memory}
+
+-- The status of a run.
+-- 0: done. 3: the dictionary can't be opened, read or accepted, or is of another language. 4: the text is not UTF-8.
+-- 5: the text can't be read, or the result can't be written. 6: memory was refused. There are no edits.
+abbrev pub status_of : Result (Unit {0}) RunError → ℕ
+status_of (Ok done) = 0
+status_of (Err (Edit number)) = 2
+status_of (Err (Dictionary e)) = 3
+status_of (Err TextNotUtf8) = 4
+status_of (Err (Input e)) = 5
+status_of (Err (Output e)) = 5
+status_of (Err Memory) = 6
+
+-- A run has no edits, so none is refused.
+abbrev pub HasNoEdit : {X : Type 0} → Result X RunError → Type 0
+HasNoEdit (Err (Edit number)) = ⊥
+HasNoEdit _ = ⊤
+
+-- A run with these words ended so, with an input of those bytes, if they are known. With words the input is as it was.
+-- Without any it is judged as a text, and it is as it was if the dictionary was refused.
+abbrev pub EndsFor : {X : Type 0} → List (List ℕ) → Option (List ℕ) → Type 0 → Result X RunError → Type 0
+EndsFor [] input unread ended = HasNoEdit ended × JudgesText input ended × BeforeReading ended unread
+EndsFor (word ∷ words) input unread ended = HasNoEdit ended × unread
+
+-- The status is that of an end which a run with these words may have.
+abbrev pub EndsWith : List (List ℕ) → Option (List ℕ) → Type 0 → ℕ → Type 0
+EndsWith words input unread status =
+    (ended : Result (Unit {0}) RunError) × (status ≡ status_of ended) × EndsFor words input unread ended
+
+-- For arguments that have the form, the status is that of an end which a run with their words may have.
+abbrev pub EndsForArgs : List (Bor (List ℕ)) → Option (List ℕ) → Type 0 → ℕ → Type 0
+EndsForArgs args input unread status = IfSome (parsed_args args) (λ parsed. EndsWith parsed.words input unread status)

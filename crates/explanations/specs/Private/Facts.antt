@@ -1,0 +1,36 @@
+-- The facts of an explanation.
+use Rattle.std.specs.Prelude.{ℕ, List, map, Option, option_map, option_copied}
+use Rattle.std.specs.String.{string_bytes}
+use Rattle.hyphenation_breaks.specs.Break.{Break, Change}
+use Rattle.explanations.specs.Private.Drawing.{scores_by}
+use Rattle.explanations.specs.Rows.{row_of}
+use Rattle.explanations.specs.Texts.{Facts, lines_of, picture_of}
+use Rattle.explanations.specs.declared.explanation.Explanation.{Explanation}
+
+-- The facts that an explanation holds, with the minima, the word as written and its breaks.
+abbrev pub facts_of : {C B : Type 0} → (C → Option Change) → (B → Break) → Explanation C B → ℕ × ℕ → List ℕ → List Break
+    → Facts C
+facts_of change_of break_of e minima word breaks = record {
+  word = word;
+  folded = string_bytes e.folded;
+  rows = map row_of e.rows.items;
+  scores = scores_by change_of e.winners.items;
+  minima = minima;
+  bounds = e.bounds;
+  soft_hyphens = e.soft_hyphens.items;
+  listed = option_map (map break_of) (option_copied e.listed);
+  decision = e.decision;
+  breaks = breaks;
+}
+
+-- The lines for programs of an explanation.
+abbrev pub lines_by : {C B : Type 0} → (C → Option Change) → (B → Break) → Explanation C B → ℕ × ℕ → List ℕ → List Break
+    → List ℕ
+lines_by change_of break_of e minima word breaks =
+    lines_of change_of (facts_of change_of break_of e minima word breaks)
+
+-- The picture of an explanation.
+abbrev pub picture_by : {C B : Type 0} → (C → Option Change) → (B → Break) → Explanation C B → ℕ × ℕ → List ℕ → List Break
+    → List ℕ
+picture_by change_of break_of e minima word breaks =
+    picture_of change_of (facts_of change_of break_of e minima word breaks)

@@ -1,0 +1,271 @@
+"""Compares hyphenate-explain with an implementation of its own, over random dictionaries and words. tests/explain runs it.
+
+Usage: explanations.py PROGRAM FOLDER. The last line is `N passed, M failed`.
+
+Each dictionary is asked about many words at once, as lines for programs and as pictures. The lines must be exactly those
+of this script, which looks each text between two places up among the keys. Each letter of a picture must be below the same
+letter of the frame. Without spaces a picture must have the texts of this script.
+"""
+
+import pathlib
+import random
+import subprocess
+import sys
+
+DICTIONARIES = 60
+WORDS = 40
+# Capitals whose folding takes as many bytes, fewer and more.
+FOLDED = {"A": "a", "B": "b", "É": "é", "İ": "i", "ẞ": "ß", "Ⱥ": "ⱥ"}
+LETTERS = "aabbciéßⱥ"
+SOFT_HYPHEN = "\u00ad"
+
+
+def size(text):
+    return len(text.encode())
+
+
+def fold(word):
+    return "".join(FOLDED.get(c, c) for c in word)
+
+
+def random_text(random_of, letters, least, most):
+    return "".join(random_of.choice(letters) for _ in range(random_of.randint(least, most)))
+
+
+def places_of(text):
+    """The places before each character, and the end."""
+    places = [0]
+    for c in text:
+        places.append(places[-1] + size(c))
+    return places
+
+
+class Dictionary:
+    """A random dictionary of either kind."""
+
+    def __init__(self, random_of, kind):
+        self.kind = kind
+        self.minima = (random_of.randint(0, 3), random_of.randint(0, 3))
+        self.patterns = {}
+        self.exceptions = {}
+        for _ in range(random_of.randint(1, 40)):
+            key = random_text(random_of, LETTERS, 1, 4)
+            key = random_of.choice(["", "", ".", "."]) + key + random_of.choice(["", "", "", "."])
+            places = [place for place in places_of(key) if random_of.random() < 0.4]
+            entries = [(place, random_of.choice([1, 1, 2, 3, 4, 5, 9, 10, 255]), self.change(random_of, key, place)) for place in places]
+            self.patterns[key.encode()] = entries
+        for _ in range(random_of.randint(0, 6)):
+            word = random_text(random_of, LETTERS, 1, 7)
+            places = [place for place in places_of(word) if random_of.random() < 0.4]
+            self.exceptions[word] = [(place, self.change(random_of, word, place)) for place in places]
+
+    def change(self, random_of, text, place):
+        if self.kind == "standard" or random_of.random() < 0.6:
+            return None
+        places = places_of(text)
+        begin = random_of.choice([p for p in places if p <= place])
+        end = random_of.choice([p for p in places if p >= place])
+        substitution = random_text(random_of, LETTERS, 1, 3)
+        return (place - begin, end - place, random_of.choice(places_of(substitution)), substitution)
+
+    def text(self):
+        lines = [f"hyphenation 2 {self.kind}", "language x", "minima %d %d" % self.minima]
+        for key, entries in self.patterns.items():
+            values = {place: value for place, value, _ in entries}
+            written, place = "", 0
+            for c in [*key.decode(), ""]:
+                value = values.get(place)
+                written += "" if value is None else str(value) if value < 10 else "{%d}" % value
+                written += c
+                place += size(c)
+            changes = "".join(" %d,%d,%d,%d,%s" % (p, *change) for p, _, change in entries if change)
+            lines.append(f"p {written}{changes}")
+        for word, listed in self.exceptions.items():
+            tokens = "".join(" %d,%d,%d,%d,%s" % (p, *change) if change else f" {p}" for p, change in listed)
+            lines.append(f"e {word}{tokens}")
+        return "\n".join(lines) + "\n"
+
+
+def change_text(change):
+    return "" if change is None else ":%d,%d,%d,%s" % change
+
+
+class Facts:
+    """The facts about a word's breaks, found by looking each text between two places up."""
+
+    def __init__(self, dictionary, word):
+        self.minima = dictionary.minima
+        self.word = word
+        self.folded = fold(word)
+        self.framed = f".{self.folded}.".encode()
+        ends = range(len(self.framed) + 1)
+        self.rows = [(start, end, dictionary.patterns[self.framed[start:end]])
+                     for start in ends for end in ends if start < end and self.framed[start:end] in dictionary.patterns]
+        length = size(self.folded)
+        self.scores = [(0, None)] * max(length - 1, 0)
+        for start, _, entries in self.rows:
+            for place, value, change in entries:
+                at = start + place - 2
+                if 0 <= at < len(self.scores) and self.scores[at][0] < value:
+                    self.scores[at] = (value, change)
+        left, right = self.minima
+        characters = len(self.folded)
+        places = places_of(self.folded)
+        self.bounds = None
+        if left + right <= characters and left < characters:
+            self.bounds = (places[left], places[characters - max(right, 1)])
+        self.soft_hyphens = [place for place, c in zip(places_of(word), word) if c == SOFT_HYPHEN]
+        self.listed = dictionary.exceptions.get(self.folded)
+        self.decide()
+
+    def decide(self):
+        if self.soft_hyphens:
+            self.decision = "soft-hyphens"
+            self.breaks = [(place, None) for place in self.soft_hyphens]
+            return
+        if self.bounds is None:
+            self.decision, found = "minima", []
+        elif self.listed is not None:
+            self.decision, found = "exception", self.listed
+        else:
+            self.decision = "patterns"
+            found = [(index + 1, change) for index, (value, change) in enumerate(self.scores) if value % 2 == 1]
+        found = [b for b in found if self.bounds[0] <= b[0] <= self.bounds[1]]
+        self.breaks = []
+        folded_places, places = places_of(self.folded), places_of(self.word)
+        moved = [place for place, c, d in zip(folded_places, self.folded, self.word) if size(c) != size(d)]
+        last = 0
+        for place, change in found:
+            begin, end = (place - change[0], place + change[1]) if change else (place, place)
+            if begin < 0 or end > size(self.folded) or any(begin <= at < end for at in moved) or begin < last:
+                continue
+            last = end
+            self.breaks.append((places[folded_places.index(place)], change))
+
+    def hyphenated(self):
+        text, start, made = self.word.encode(), 0, b""
+        for place, change in self.breaks:
+            left, right, breakpoint, substitution = change or (0, 0, 0, "")
+            substitution = substitution.encode()
+            made += text[start:place - left] + substitution[:breakpoint] + b"-" + substitution[breakpoint:]
+            start = place + right
+        return (made + text[start:]).decode()
+
+    def lines(self):
+        yield "word", self.word
+        yield "folded", self.folded
+        for start, end, entries in self.rows:
+            values = ["%d:%d%s" % (place, value, change_text(change)) for place, value, change in entries]
+            yield "pattern", start, end - start, self.framed[start:end].decode(), *values
+        yield "score", *("%d:%d%s" % (i + 1, value, change_text(change)) for i, (value, change) in enumerate(self.scores))
+        yield "minima", *self.minima
+        yield "bounds", *(self.bounds or ())
+        yield "soft-hyphens", *self.soft_hyphens
+        if self.listed is not None:
+            yield "exception", *("%d%s" % (place, change_text(change)) for place, change in self.listed)
+        yield "decided-by", self.decision
+        yield "breaks", *(place for place, _ in self.breaks)
+        yield "hyphenated", self.hyphenated()
+
+    def plain(self):
+        return "".join("\t".join(str(field) for field in line) + "\n" for line in self.lines())
+
+    def note(self, value, change):
+        if change is None:
+            return ""
+        left, right, breakpoint, substitution = change
+        substitution = substitution.encode()
+        halves = substitution[:breakpoint].decode() + "-" + substitution[breakpoint:].decode()
+        return f"  {value}: {halves} for {left}+{right} bytes"
+
+    def letters(self, text, values):
+        made, place = "", 0
+        for c in [*text, ""]:
+            made += str(values.get(place, "")) + c
+            place += size(c)
+        return made
+
+    def picture(self):
+        made = self.framed.decode() + "\n"
+        for start, end, entries in self.rows:
+            made += self.letters(self.framed[start:end].decode(), {place: value for place, value, _ in entries})
+            made += "".join(self.note(value, change) for _, value, change in entries) + "\n"
+        made += self.letters(self.folded, {i + 1: value for i, (value, _) in enumerate(self.scores) if i + 1 in places_of(self.folded)})
+        made += "  the greatest value of each place" + "".join(self.note(*score) for score in self.scores) + "\n"
+        minima = "%d and %d" % self.minima
+        made += self.hyphenated() + "  " + {
+            "soft-hyphens": "its own soft hyphens, whatever patterns and minima say",
+            "minima": f"too few characters for the minima {minima}",
+            "exception": f"the breaks of an exception within the minima {minima}",
+            "patterns": f"odd values within the minima {minima}",
+        }[self.decision] + "\n"
+        return made
+
+
+def in_columns(line):
+    """The letters of a line, each with the column in which it begins. A soft hyphen takes none."""
+    column = 0
+    for c in line:
+        if c != " ":
+            yield column, c
+        column += c != SOFT_HYPHEN
+
+
+def misplaced(facts, picture):
+    """The rows of a picture with a letter that is not below itself. Digits are values; the words have none."""
+    lines = picture.split("\n")
+    frame = lines[0]
+    columns = [column for column, _ in in_columns(frame)]
+    first = {place: column for place, column in zip(places_of(facts.framed.decode()), columns)}
+    for (start, end, _), line in zip(facts.rows, lines[1:]):
+        place = start
+        letters = [(column, c) for column, c in in_columns(line) if not c.isdigit()]
+        for (column, c), wanted in zip(letters, facts.framed[start:end].decode()):
+            if c != wanted or column != first[place]:
+                yield line
+                break
+            place += size(c)
+
+
+def main():
+    program, folder = sys.argv[1], pathlib.Path(sys.argv[2])
+    passed = failed = 0
+
+    def check(fine, *said):
+        nonlocal passed, failed
+        passed, failed = passed + fine, failed + (not fine)
+        if not fine:
+            print("WRONG:", *said)
+
+    for number in range(DICTIONARIES):
+        random_of = random.Random(number)
+        dictionary = Dictionary(random_of, random_of.choice(["standard", "extended"]))
+        path = folder / f"{number}.txt"
+        path.write_text(dictionary.text())
+        letters = LETTERS + "".join(FOLDED)
+        words = [random_text(random_of, letters, 0, 9) for _ in range(WORDS)]
+        words += [random_text(random_of, letters + SOFT_HYPHEN, 1, 9) for _ in range(4)]
+        words += list(dictionary.exceptions)
+        all_facts = [Facts(dictionary, word) for word in words]
+
+        def run(*options):
+            found = subprocess.run([program, *options, dictionary.kind, "x", path, *words], capture_output=True, check=False)
+            check(found.returncode == 0, number, options, found.returncode, found.stderr.decode())
+            return found.stdout.decode()
+
+        plain = run("--plain")
+        wanted = "\n".join(facts.plain() for facts in all_facts)
+        check(plain == wanted, number, "lines:", *(pair for pair in zip(plain.split("\n"), wanted.split("\n")) if pair[0] != pair[1]))
+        pictures = run().split("\n\n")
+        check(len(pictures) == len(words), number, len(pictures), "pictures, and not", len(words))
+        for facts, picture in zip(all_facts, pictures):
+            spaceless = picture.strip("\n").replace(" ", "")
+            check(spaceless == facts.picture().strip("\n").replace(" ", ""), number, repr(picture), "and not", repr(facts.picture()))
+            for line in misplaced(facts, picture):
+                check(False, number, facts.word, "a letter is not below itself:", line)
+    check(passed > DICTIONARIES * WORDS, "too few checks")
+    print(f"{passed} passed, {failed} failed")
+    sys.exit(1 if failed else 0)
+
+
+main()
