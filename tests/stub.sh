@@ -3,7 +3,8 @@
 # shellcheck shell=bash disable=SC2154
 
 # The commands that the scripts use; no other is found there, and no `rt` but the one that is made here.
-tools=(basename bash cat chmod cp dirname env find iconv ln mkdir mktemp mv readlink rm rmdir sed tail tee touch wc)
+tools=(basename bash cat chmod cp cut dirname env find iconv ln mkdir mktemp mv nice readlink rm rmdir sed sleep sort tail tee
+  touch wc)
 
 # make_copy: makes the copy, in `copy`, and the folders of commands: `plain` without `rt`, and `stub` with it.
 #
@@ -16,8 +17,8 @@ make_copy() {
   copy=$scratch/copy plain=$scratch/plain stub=$scratch/stub
   export STUB_COPY=$copy
   mkdir "$copy" "$plain" "$stub"
-  tar -C "$root" --exclude=out -cf - hyphenate hyphenate-canonical hyphenate-convert install tools proof-times \
-    man LICENSE-APACHE LICENSE-MIT examples crates.txt HANDLES crates | tar -C "$copy" -xf -
+  tar -C "$root" --exclude=out -cf - "${programs[@]}" install tools proof-times man LICENSE-APACHE LICENSE-MIT \
+    examples crates.txt HANDLES VERSION bindings/c crates | tar -C "$copy" -xf -
   find "$copy" -type f -exec touch -d '2 hours ago' {} +
   for it in "${tools[@]}"; do
     # The launcher works without iconv if there is none.

@@ -1,4 +1,4 @@
-"""Where the scripts in Python find the three programs."""
+"""Where the scripts in Python find the programs."""
 
 import os
 import subprocess
@@ -17,5 +17,7 @@ def prove(called, *names):
     if os.environ.get("HYPHENATE_BIN"):
         return
     script = 'root=$1 called=$2; shift 2; . "$root/tools/programs.sh"; prove "$@"'
-    if subprocess.run(["bash", "-euc", script, "bash", ROOT, called, *names], check=False).returncode:
+    # (with -c in place of a file, bash forgets jobs that end while it does not wait for them)
+    words = ["bash", "-eu", "/dev/stdin", ROOT, called, *names]
+    if subprocess.run(words, input=script, text=True, check=False).returncode:
         sys.exit(1)

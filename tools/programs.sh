@@ -2,27 +2,53 @@
 # A script that reads this has set `root`, the folder of the repository, and `called`, its own name.
 # shellcheck shell=bash disable=SC2154
 
-# crate_of PROGRAM: the crate of a program, in `crate`.
+# The programs, in `programs`: a line for each, and each is a link to the launcher too. The words after its name, in `forms`,
+# are for trial runs:
+# - FIRST:COUNT:INPUT:PATHS is a form of its arguments. Where they begin with FIRST (* is any) and are COUNT many (4+ is four
+#   or more), INPUT says whether the program reads standard input (`input`), and PATHS which of them are paths (5+ is the
+#   fifth and all after it).
+# - --NAME is an option, --NAME=VALUE one whose value is the next argument: a path where VALUE is PATH, a code, = and a path
+#   where it is CODE=PATH. Options are not counted. Without such a word the program has no options but --help and --version.
+# - up-to=N is how many bytes of standard input a trial run takes, if not 1 MiB. It takes at most 64 MiB.
+programs=()
+declare -A forms=()
+while read -r left right; do
+  programs+=("$left")
+  forms[$left]=$right
+done <<'LIST'
+hyphenate           standard:4+:input:3 extended:4+:input:3 score:5:-:4 fill:4:input:3
+hyphenate-canonical up-to=67108864 standard:1:input:- extended:1:input:-
+hyphenate-convert   *:5+:-:5+
+hyphenate-explain   --plain up-to=8192 standard:3:input:3 extended:3:input:3 standard:4+:-:3 extended:4+:-:3
+hyphenate-html      --lang=CODE=PATH --dictionaries=PATH --language=CODE --mark=MARK --class=CLASS --min-word=N *:0:input:-
+hyphenate-lines     --width=N --price=P --last=N --indent=TEXT --first=TEXT *:2:input:2
+LIST
+
+# crate_of NAME: the crate of a program, in `crate`; libhyphenation is the static library for C.
 crate_of() {
   case $1 in
     hyphenate) crate=hyphenate_program ;;
+    libhyphenation) crate=hyphenation_c ;;
     *) crate=${1//-/_} ;;
   esac
 }
 
-# file_of PROGRAM: the file of a program, in `file`. It is there once the program is built.
+# file_of NAME: the file of a program or of the static library, in `file`. It is there once that is built.
 file_of() {
   crate_of "$1"
   file=$root/crates/$crate/out/$crate
+  [ "$1" != libhyphenation ] || file=$root/crates/$crate/out/lib$crate.a
 }
 
-# The crates that each crate uses, by crates.txt. Those of the toolchain have no line there.
-declare -A uses=()
+# The crates that each crate uses, by crates.txt. Those of the toolchain have no line there. A static library has
+# ` staticlib` in `kind`.
+declare -A uses=() kind=()
 while IFS=: read -r left right; do
   case $left in
-    '' | '#'*) ;;
-    *) uses[$left]=$right ;;
+    '' | '#'*) continue ;;
+    *' staticlib') kind[${left% *}]=' staticlib' ;;
   esac
+  uses[${left%% *}]=$right
 done <"$root/crates.txt"
 
 # order_of CRATE..: adds the crates and all that they use to the list `order`, each after those that it uses.
@@ -36,12 +62,12 @@ order_of() {
   done
 }
 
-# is_current PROGRAM: whether the program is built, and no source of it is newer.
+# is_current NAME: whether the program or the static library is built, and no source of it is newer.
 is_current() {
   local -a order=()
   local newer
   file_of "$1"
-  [ -x "$file" ] || return 1
+  [ -f "$file" ] || return 1
   order_of "$crate"
   newer=$(find "$root/crates.txt" "${order[@]/#/$root/crates/}" -name out -prune -o \
     -type f \( -name '*.rt' -o -name '*.antt' -o -name crates.txt \) -newer "$file" -print -quit)
@@ -55,8 +81,8 @@ has_toolchain() {
   return 1
 }
 
-# prove PROGRAM..: proves and builds the programs that are not current, and all that they use, with a line on standard error
-# for each crate. It returns 1 where one is not proved and built, and says why. Crates that do not stand on one another are
+# prove NAME..: proves and builds the programs that are not current, and all that they use, with a line on standard error
+# for each crate; libhyphenation may be among the names. It returns 1 where one is not proved and built, and says why. Crates that do not stand on one another are
 # proved side by side: at most `at_once`, or else as many as the processors and the memory allow.
 prove() {
   local -a order=() missing=()
@@ -97,7 +123,8 @@ prove() {
 # script reaches it at once.
 prove_all() {
   declare -A state=() crate_by=()
-  local it below ended status log done=0
+  local it below ended status log done=0 next=0
+  put_longest_chain_first
   # with job control each crate has a process group of its own, which ends as a whole
   set -m
   top=$(mktemp -d "$root/.proving.XXXXXX") || exit 1
@@ -109,7 +136,8 @@ prove_all() {
     for it in "${crate_by[@]}"; do
       put_back "$it"
     done
-    rm -rf "$top"
+    # a process of a group that was ended may still write a last file
+    rm -rf "$top" 2>/dev/null || { sleep 1 && rm -rf "$top"; }
   }
   trap end_all EXIT
   trap 'exit 143' TERM
@@ -122,6 +150,10 @@ prove_all() {
         [[ ! -v "uses[$below]" || ${state[$below]-} = proved ]] || continue 2
       done
       echo "$called: proving $it" >&2
+      while [ "${state[${order[next]}]-}" = proved ]; do next=$((next + 1)); done
+      # a crate beside the longest chain gives way to it
+      giving_way=()
+      [ "$it" = "${order[next]}" ] || giving_way=(nice -n 10)
       (lay_out "$it" && prove_crate "$it") >"$top/$it.log" 2>&1 </dev/null &
       state[$it]=begun
       crate_by[$!]=$it
@@ -146,6 +178,24 @@ prove_all() {
   done
 }
 
+# put_longest_chain_first: sorts the list `order` by how long the longest chain of crates from each one is, since the longest
+# of all decides how long everything takes. The bytes of a crate's sources stand for its time. A crate stays after those
+# that it uses, whose chains are longer.
+put_longest_chain_first() {
+  declare -A chain=()
+  local it below at size
+  for ((at = ${#order[@]} - 1; at >= 0; at--)); do
+    it=${order[at]}
+    size=$(find "$root/crates/$it" -name out -prune -o -type f \( -name '*.rt' -o -name '*.antt' \) -exec cat {} + | wc -c)
+    chain[$it]=$((${chain[$it]-0} + size + 1))
+    for below in ${uses[$it]}; do
+      [[ -v "uses[$below]" ]] || continue
+      [ "${chain[$below]-0}" -ge "${chain[$it]}" ] || chain[$below]=${chain[$it]}
+    done
+  done
+  mapfile -t order < <(for it in "${order[@]}"; do echo "${chain[$it]} $it"; done | sort -s -k 1,1nr | cut -d ' ' -f 2)
+}
+
 # lay_out CRATE: lays out a folder in which one crate can be proved next to others, since a call of rt locks the folders of
 # all crates that it reads: copies of the sources, the libraries that the crate uses, and what is kept of it in out/.
 lay_out() {
@@ -155,7 +205,7 @@ lay_out() {
   mkdir "$here"
   cp "$root/HANDLES" "$here"
   for it in "${order[@]}"; do
-    echo "$it:${uses[$it]}" >>"$here/crates.txt"
+    echo "$it${kind[$it]-}:${uses[$it]}" >>"$here/crates.txt"
     mkdir -p "$here/crates/$it"
     for part in src specs proofs; do
       [ ! -d "$root/crates/$it/$part" ] || cp -R "$root/crates/$it/$part" "$here/crates/$it/$part"
@@ -182,12 +232,12 @@ put_back() {
 prove_crate() {
   cd "$top/$1/crates/$1" || return 1
   if [ -e src/lib.rt ]; then
-    rt lib "${jobs[@]}"
+    "${giving_way[@]}" rt lib "${jobs[@]}"
     return
   fi
   rm -f "out/$1"
   # a run without arguments ends with the usage, so its status says nothing; the program is there if it was proved
-  rt run || true
+  "${giving_way[@]}" rt run || true
   [ -x "out/$1" ]
 }
 

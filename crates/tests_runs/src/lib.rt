@@ -3,11 +3,11 @@
 #![tactic(auto)]
 
 #[cfg(test)]
+mod first_example;
+#[cfg(test)]
 mod names;
 #[cfg(test)]
 mod readers;
-#[cfg(test)]
-mod readme;
 #[cfg(test)]
 mod run_errors;
 #[cfg(test)]

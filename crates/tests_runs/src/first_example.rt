@@ -1,4 +1,4 @@
-//! The library's example in the README, to the letter.
+//! The first example of docs/CALLING.md, to the letter.
 
 use hyphenation::{Hyphenator, Load, Standard};
 use std::test::Fail;
