@@ -1,0 +1,5 @@
+//! Tests of the pieces of a text between word bounds.
+#![tactic(auto)]
+
+#[cfg(test)]
+mod cuttings;

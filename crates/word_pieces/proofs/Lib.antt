@@ -1,0 +1,6 @@
+mod EveryValue
+mod Tables
+mod Verdicts
+mod LetterRuns
+mod PlainWalks
+mod Bounds

@@ -1,0 +1,133 @@
+//! The first piece of a text, where bytes of ASCII decide it.
+
+ghost use Rattle.std.specs.Prelude.{◌≡◌, ℕ, ◌+◌, ◌-◌, ◌<◌, ◌≤◌, IsTrue, true, false, Some, length, slice_index};
+ghost use Rattle.std.specs.Option.{ForSome};
+ghost use Rattle.std.specs.Str.{IsCharBoundary};
+ghost use Rattle.word_pieces.specs.declared.kinds.Kind.TheVariants.{Letter, Space};
+ghost use Rattle.word_pieces.specs.Private.Kinds.{kind_of_byte, is_near, verdict, letter_may_begin};
+ghost use Rattle.word_pieces.specs.Private.Walks.{IsPlainEnd, IsBoundBetween};
+
+use crate::kinds::Kind::{Beyond, Letter, Middle, Space};
+use crate::kinds::{Kind, kind_of, may_be_letter, verdict};
+
+// Returns where the piece that begins at an offset ends, or `None` where more than a few bytes of ASCII decide it.
+#[inline(always)]
+pub(crate) fn plain_end(text: &str, start: usize) -> Option<usize>
+    requires some { start < length text.now }
+    requires start { IsCharBoundary text.now start }
+    ensures { ForSome result (IsPlainEnd text.now start) }
+{
+    let bytes = text.as_bytes();
+    match kind_of(bytes[start]) {
+        Letter => end_of_run(text, start, Letter),
+        Space => end_of_run(text, start, Space),
+        Beyond => None,
+        first => end_of_others(text, start, first),
+    }
+}
+
+// Does so for a piece that begins with a kind that joins with itself.
+#[inline(always)]
+fn end_of_run(text: &str, start: usize, kind: Kind) -> Option<usize>
+    requires some { start < length text.now }
+    requires start { IsCharBoundary text.now start }
+    requires first { kind_of_byte (slice_index text.now start) ≡ kind }
+    requires joins { verdict kind kind ≡ Some false }
+    ensures { ForSome result (IsPlainEnd text.now start) }
+{
+    let bytes = text.as_bytes();
+    let at = past_run(bytes, start + 1, kind);
+    if at == bytes.len() {
+        return Some(at);
+    }
+    let next = kind_of(bytes[at]);
+    match verdict(kind, next) {
+        Some(true) => Some(at),
+        Some(false) => None,
+        None => {
+            if kind == Letter && next == Middle && !letter_may_follow(bytes, at) {
+                return Some(at);
+            }
+            None
+        }
+    }
+}
+
+// Does so for a piece that begins with one of the other kinds.
+#[inline(always)]
+fn end_of_others(text: &str, start: usize, first: Kind) -> Option<usize>
+    requires some { start < length text.now }
+    requires start { IsCharBoundary text.now start }
+    requires first { kind_of_byte (slice_index text.now start) ≡ first }
+    requires near { is_near first ≡ true }
+    ensures { ForSome result (IsPlainEnd text.now start) }
+{
+    let bytes = text.as_bytes();
+    let mut last = first;
+    let mut at = start + 1;
+    'bytes: while at < bytes.len() {
+        let next = kind_of(bytes[at]);
+        match verdict(last, next) {
+            Some(true) => return Some(at),
+            Some(false) => {
+                last = next;
+                at += 1;
+            }
+            None => return None,
+        }
+    }
+    Some(at)
+}
+
+// Passes bytes of a kind from an offset on.
+#[inline(always)]
+fn past_run(bytes: &[u8], from: usize, kind: Kind) -> usize
+    requires { from ≤ length bytes.now }
+    ensures within { (from ≤ result) × (result ≤ length bytes.now) }
+    ensures all { (k : ℕ) → from ≤ k → k < result → kind_of_byte (slice_index bytes.now k) ≡ kind }
+{
+    let mut at = from;
+    'bytes: while at < bytes.len() && kind_of(bytes[at]) == kind {
+        at += 1;
+    }
+    at
+}
+
+// Whether a letter or a number may follow the byte at an offset.
+#[inline(always)]
+fn letter_may_follow(bytes: &[u8], at: usize) -> bool
+    requires { at < length bytes.now }
+    ensures { result ≡ letter_may_begin bytes.now (at + 1) }
+{
+    let next = at + 1;
+    next < bytes.len() && may_be_letter(kind_of(bytes[next]))
+}
+
+// Returns the last bound between a space and a letter that is after one offset and not after another, or `None` where
+// there is none.
+pub(crate) fn bound_before_letter(text: &str, from: usize, to: usize) -> Option<usize>
+    ensures { ForSome result (IsBoundBetween text.now from to) }
+{
+    let bytes = text.as_bytes();
+    if bytes.len() < 2 {
+        return None;
+    }
+    let mut at = to.min(bytes.len() - 1);
+    'bytes: while from < at {
+        if is_space_then_letter(bytes, at) {
+            return Some(at);
+        }
+        at -= 1;
+    }
+    None
+}
+
+// Whether a letter begins at an offset, after a space.
+#[inline(always)]
+fn is_space_then_letter(bytes: &[u8], at: usize) -> bool
+    requires after_a_byte { 0 < at }
+    requires within { at < length bytes.now }
+    ensures { IsTrue result → (kind_of_byte (slice_index bytes.now (at - 1)) ≡ Space) × (kind_of_byte (slice_index bytes.now at) ≡ Letter) }
+{
+    kind_of(bytes[at - 1]) == Space && kind_of(bytes[at]) == Letter
+}

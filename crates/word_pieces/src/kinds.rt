@@ -1,0 +1,77 @@
+//! Kinds of bytes, by the word bounds around them.
+
+ghost use Rattle.std.specs.Prelude.{◌≡◌};
+ghost use Rattle.word_pieces.specs.Private.Kinds.{kind_of_byte, verdict, may_be_letter};
+
+use Kind::*;
+
+// The kinds of bytes that differ in the bounds around them.
+#[derive(Clone, Copy, PartialEq)]
+pub(crate) enum Kind {
+    // Letters, digits and the underscore, which join with one another.
+    Letter,
+    // `'`, `.`, `:`, `,` and `;`, some of which join between two letters, and some between two digits.
+    Middle,
+    Space,
+    // CR.
+    Return,
+    // LF.
+    Feed,
+    // All others of ASCII, which join with no other.
+    Alone,
+    // Bytes of characters beyond ASCII.
+    Beyond,
+}
+
+static KINDS: [Kind; 256] = [
+    Alone, Alone, Alone, Alone, Alone, Alone, Alone, Alone, Alone, Alone, Feed, Alone, Alone,
+    Return, Alone, Alone, Alone, Alone, Alone, Alone, Alone, Alone, Alone, Alone, Alone, Alone,
+    Alone, Alone, Alone, Alone, Alone, Alone, Space, Alone, Alone, Alone, Alone, Alone, Alone,
+    Middle, Alone, Alone, Alone, Alone, Middle, Alone, Middle, Alone, Letter, Letter, Letter,
+    Letter, Letter, Letter, Letter, Letter, Letter, Letter, Middle, Middle, Alone, Alone, Alone,
+    Alone, Alone, Letter, Letter, Letter, Letter, Letter, Letter, Letter, Letter, Letter, Letter,
+    Letter, Letter, Letter, Letter, Letter, Letter, Letter, Letter, Letter, Letter, Letter, Letter,
+    Letter, Letter, Letter, Letter, Alone, Alone, Alone, Alone, Letter, Alone, Letter, Letter,
+    Letter, Letter, Letter, Letter, Letter, Letter, Letter, Letter, Letter, Letter, Letter, Letter,
+    Letter, Letter, Letter, Letter, Letter, Letter, Letter, Letter, Letter, Letter, Letter, Letter,
+    Alone, Alone, Alone, Alone, Alone, Beyond, Beyond, Beyond, Beyond, Beyond, Beyond, Beyond,
+    Beyond, Beyond, Beyond, Beyond, Beyond, Beyond, Beyond, Beyond, Beyond, Beyond, Beyond, Beyond,
+    Beyond, Beyond, Beyond, Beyond, Beyond, Beyond, Beyond, Beyond, Beyond, Beyond, Beyond, Beyond,
+    Beyond, Beyond, Beyond, Beyond, Beyond, Beyond, Beyond, Beyond, Beyond, Beyond, Beyond, Beyond,
+    Beyond, Beyond, Beyond, Beyond, Beyond, Beyond, Beyond, Beyond, Beyond, Beyond, Beyond, Beyond,
+    Beyond, Beyond, Beyond, Beyond, Beyond, Beyond, Beyond, Beyond, Beyond, Beyond, Beyond, Beyond,
+    Beyond, Beyond, Beyond, Beyond, Beyond, Beyond, Beyond, Beyond, Beyond, Beyond, Beyond, Beyond,
+    Beyond, Beyond, Beyond, Beyond, Beyond, Beyond, Beyond, Beyond, Beyond, Beyond, Beyond, Beyond,
+    Beyond, Beyond, Beyond, Beyond, Beyond, Beyond, Beyond, Beyond, Beyond, Beyond, Beyond, Beyond,
+    Beyond, Beyond, Beyond, Beyond, Beyond, Beyond, Beyond, Beyond, Beyond, Beyond, Beyond, Beyond,
+    Beyond, Beyond, Beyond, Beyond, Beyond, Beyond, Beyond, Beyond, Beyond, Beyond, Beyond, Beyond,
+    Beyond,
+];
+
+// Returns the kind of a byte.
+#[inline(always)]
+pub(crate) fn kind_of(byte: u8) -> Kind
+    ensures { result ≡ kind_of_byte byte }
+{
+    KINDS[byte as usize]
+}
+
+// Whether there is a bound between characters of two kinds, or `None` where these alone don't decide it.
+#[inline(always)]
+pub(crate) fn verdict(last: Kind, next: Kind) -> Option<bool>
+    ensures { result ≡ verdict last next }
+{
+    match (last, next) {
+        (Beyond, _) | (_, Beyond) | (Letter, Middle) | (Middle, Letter) => None,
+        (Letter, Letter) | (Space, Space) | (Return, Feed) => Some(false),
+        _ => Some(true),
+    }
+}
+
+// Whether a character of a kind may be a letter or a number.
+#[inline(always)]
+pub(crate) fn may_be_letter(kind: Kind) -> bool
+    ensures { result ≡ may_be_letter kind }
+{
+    matches!(kind, Letter | Beyond)
+}

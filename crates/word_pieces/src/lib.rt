@@ -1,0 +1,12 @@
+//! The pieces of a text between Unicode's word bounds, as the kit's `unicode_segmentation` has them, sooner where a text
+//! is ASCII.
+#![tactic(auto)]
+
+mod ascii;
+mod characters;
+mod kinds;
+mod pieces;
+mod rules;
+mod values;
+
+pub use pieces::{WordPieceIndices, WordPieces};
