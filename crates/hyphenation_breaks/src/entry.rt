@@ -1,6 +1,6 @@
 //! Values and listed breaks as a dictionary of either kind holds them: alone, or with changes.
 
-ghost use Rattle.std.specs.Prelude.{◌≡◌, option_copied};
+ghost use Rattle.std.specs.Prelude.{◌≡◌, ◌↔◌, IsTrue, option_copied};
 ghost use Rattle.hyphenation_breaks.specs.Break.{Break};
 ghost use Rattle.hyphenation_breaks.specs.Invariant.{has_letter};
 
@@ -18,9 +18,22 @@ pub struct Entry<C> {
     pub change: C,
 }
 
+impl<C: Payload> Entry<C> {
+    /// Tests whether an entry equals another one.
+    ///
+    /// ```text
+    /// entry.is_same(&Entry { place: 2, value: 3, change: () })    // true for the value 3 at the place 2
+    /// ```
+    pub fn is_same(&self, other: &Entry<C>) -> bool
+        ensures { IsTrue result ↔ (self.now ≡ other.now) }
+    {
+        self.place == other.place && self.value == other.value && self.change.is_same(&other.change)
+    }
+}
+
 /// The payload of a value: nothing in a standard dictionary, a change or none in an extended one.
 pub trait Payload: Drop {
-    ghost use Rattle.std.specs.Prelude.{◌≡◌, ◌⊎◌, Option, None, option_copied};
+    ghost use Rattle.std.specs.Prelude.{◌≡◌, ◌⊎◌, ◌↔◌, Option, None, option_copied, IsTrue};
     ghost use Rattle.hyphenation_breaks.specs.Break.{Change};
 
     /// The change that a payload carries, if any.
@@ -36,6 +49,10 @@ pub trait Payload: Drop {
     /// Returns the change that is carried, if any.
     fn as_change(&self) -> Option<&Subregion>
         ensures { option_copied result ≡ change_of self.now };
+
+    /// Tests whether a payload equals another one.
+    fn is_same(&self, other: &Self) -> bool
+        ensures { IsTrue result ↔ (self.now ≡ other.now) };
 
     /// A payload made of a change carries that change, or none.
     ghost carried_or_none: { (c : Option Change)
@@ -58,6 +75,10 @@ impl Payload for () {
     fn as_change(&self) -> Option<&Subregion> {
         None
     }
+
+    fn is_same(&self, _other: &()) -> bool {
+        true
+    }
 }
 
 /// The payload of an extended dictionary is the change itself.
@@ -77,6 +98,14 @@ impl Payload for Option<Subregion> {
 
     fn as_change(&self) -> Option<&Subregion> {
         self.as_ref()
+    }
+
+    fn is_same(&self, other: &Option<Subregion>) -> bool {
+        match (self, other) {
+            (None, None) => true,
+            (Some(change), Some(other)) => change.is_same(other),
+            _ => false,
+        }
     }
 }
 

@@ -93,6 +93,16 @@ impl Subregion {
         let (_left, _right, _breakpoint) = (self.left, self.right, self.breakpoint);
     }
 
+    // Tests whether a change equals another one.
+    pub(crate) fn is_same(&self, other: &Subregion) -> bool
+        ensures { IsTrue result ↔ (self.now ≡ other.now) }
+    {
+        self.breakpoint == other.breakpoint
+            && self.left == other.left
+            && self.right == other.right
+            && self.substitution == other.substitution
+    }
+
     // Returns the two halves of the substitution.
     fn halves(&self) -> (&str, &str)
         ensures before { result.0.now ≡ take self.now.breakpoint self.now.substitution }

@@ -10,9 +10,7 @@ ghost use Rattle.std.specs.IoError.{error_kind};
 ghost use Rattle.hyphenation_grammar.specs.declared.Cause.{Cause};
 ghost use Rattle.hyphenation_load.specs.Load.{Loads, LoadsIn, LoadsSomeFile, RespectsLanguage, HasNoMismatch};
 ghost use Rattle.hyphenation_load.specs.Load.{IsNotIo, IsNotOutOfMemory, AppendsTo, IfMemory, IsWriteError};
-ghost use Rattle.hyphenation_load.specs.Load.{IsLoadError};
-ghost use Rattle.hyphenation_load.specs.Private.Load.{ChecksLanguage, IsReadError, IsRefusalError};
-ghost use Rattle.hyphenation_reader.specs.Refusals.{IsRefusal};
+ghost use Rattle.hyphenation_load.specs.Private.Load.{error_of, ChecksLanguage, IsReadError};
 
 use hyphenation_breaks::breaks::Break;
 use hyphenation_breaks::entry::Payload;
@@ -179,8 +177,7 @@ fn of_language<C: Payload, B: Break>(
 
 // The refusal of a text as an error of loading.
 fn error_of(refusal: Refusal) -> Error
-    ensures load_error { (refused : Option (ℕ × Cause)) → IsRefusal refusal refused → IsLoadError refused result }
-    ensures no_io_error { IsRefusalError result }
+    ensures { result ≡ error_of refusal }
 {
     match refusal {
         Refusal::Memory => Error::Memory(AllocError),

@@ -83,22 +83,22 @@ first_refused kind edits = first_refused_from kind 1 edits
 -- ---- the dictionary after edits; listing_of says how it lists a break
 
 -- The dictionary with the breaks of a line listed for its word.
-abbrev pub with_exception : {C B : Type 0} → (Break → B) → Contents C B → List ℕ → Contents C B
-with_exception listing_of contents line =
+abbrev pub after_addition : {C B : Type 0} → (Break → B) → Contents C B → List ℕ → Contents C B
+after_addition listing_of contents line =
     record contents {
       exceptions = finite.insert contents.exceptions (word_of_line line)
           (map listing_of (breaks_of_line line));
     }
 
 -- The dictionary without the word of a line among its exceptions.
-abbrev pub without_exception : {C B : Type 0} → Contents C B → List ℕ → Contents C B
-without_exception contents line = record contents { exceptions = finite.remove contents.exceptions (word_of_line line) }
+abbrev pub after_removal : {C B : Type 0} → Contents C B → List ℕ → Contents C B
+after_removal contents line = record contents { exceptions = finite.remove contents.exceptions (word_of_line line) }
 
 -- The dictionary after an edit: an addition lists its word; any other edit removes it (only good edits are applied).
 abbrev pub after_edit : {C B : Type 0} → (Break → B) → Contents C B → List ℕ → Contents C B
 after_edit listing_of contents edit =
-    if is_addition edit then with_exception listing_of contents (edit_line edit)
-    else without_exception contents (edit_line edit)
+    if is_addition edit then after_addition listing_of contents (edit_line edit)
+    else after_removal contents (edit_line edit)
 
 -- The dictionary after edits, from first to last.
 abbrev pub after_edits : {C B : Type 0} → (Break → B) → Contents C B → List (List ℕ) → Contents C B

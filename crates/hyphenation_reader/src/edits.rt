@@ -14,7 +14,7 @@ ghost use Rattle.std.specs.Prelude.{◌≡◌, IfOk, IsTrue, IsUtf8, OnErr, not}
 ghost use Rattle.hyphenation_reader.specs.Laws.{FourTests, LastDecides, VersionsAgree};
 ghost use Rattle.hyphenation_reader.specs.Private.Edits.{ReadsException};
 ghost use Rattle.hyphenation_reader.specs.Edits.{as_line, after_edit, has_line_feed, is_good_edit, is_sound_line};
-ghost use Rattle.hyphenation_reader.specs.Edits.{is_word_alone, with_exception, without_exception};
+ghost use Rattle.hyphenation_reader.specs.Edits.{is_word_alone, after_addition, after_removal};
 
 use crate::items::exception_of;
 use crate::laws::spelt_is_sound;
@@ -67,7 +67,7 @@ fn add<C: Payload, B: Listing>(
     requires { IsUtf8 exception.now }
     ensures good { IfOk result (λ good. good ≡ is_sound_line kind (as_line exception.now)) }
     ensures applied { IfOk result (λ good.
-        IsTrue good → dictionary.new ≡ with_exception B.listing_of dictionary.old (as_line exception.now)) }
+        IsTrue good → dictionary.new ≡ after_addition B.listing_of dictionary.old (as_line exception.now)) }
     ensures unchanged_if_refused { IfOk result (λ good. IsTrue (not good) → dictionary.new ≡ dictionary.old) }
     ensures unchanged_on_error { OnErr result (dictionary.new ≡ dictionary.old) }
 {
@@ -91,7 +91,7 @@ fn remove<C: Payload, B: Listing>(
     requires { IsUtf8 exception.now }
     ensures good { IfOk result (λ good. good ≡ is_word_alone kind (as_line exception.now)) }
     ensures applied { IfOk result (λ good.
-        IsTrue good → dictionary.new ≡ without_exception dictionary.old (as_line exception.now)) }
+        IsTrue good → dictionary.new ≡ after_removal dictionary.old (as_line exception.now)) }
     ensures unchanged_if_refused { IfOk result (λ good. IsTrue (not good) → dictionary.new ≡ dictionary.old) }
     ensures unchanged_on_error { OnErr result (dictionary.new ≡ dictionary.old) }
 {

@@ -6,5 +6,6 @@
 
 pub mod edits;
 mod items;
+mod known_entries;
 pub mod laws;
 pub mod reader;

@@ -18,6 +18,7 @@ ghost use Rattle.hyphenation_reader.specs.Private.LineAnswers.{IsItemOf};
 ghost use Rattle.hyphenation_trie.specs.Trie.{EachBeginsKey};
 
 use crate::items::{Item, LineBuffers, item_of};
+use crate::known_entries::{KnownEntries, insert_pattern};
 use crate::laws::spelt_is_sound;
 use hyphenation_breaks::entry::{Entry, Listing, Payload};
 use hyphenation_breaks::language::Language;
@@ -56,6 +57,7 @@ impl From<AllocError> for Refusal {
 struct Builder<C: Payload, B: Listing> {
     patterns: Trie<Entry<C>>,
     exceptions: Exceptions<B>,
+    known: KnownEntries,
 }
 
 // Does as the derived one would, in one step of a proof.
@@ -64,22 +66,28 @@ impl<C: Payload, B: Listing> Drop for Builder<C, B> {
         let Builder {
             patterns,
             exceptions,
+            known,
         } = self;
         drop(patterns);
         drop(exceptions);
+        drop(known);
     }
 }
 
 impl<C: Payload, B: Listing> Builder<C, B> {
-    // Returns an empty builder, with room for a text of so many bytes. Texts of patterns have six to eight bytes for
-    // each node, and seldom more than one exception in 40 bytes.
-    fn new(alloc: Global, bytes: usize) -> Result<Builder<C, B>, AllocError>
+    // Returns an empty builder for a dictionary of that kind, with room for a text of so many bytes. Texts of patterns
+    // have six to eight bytes for each node, and seldom more than one exception in 40 bytes.
+    fn new(alloc: Global, kind: Kind, bytes: usize) -> Result<Builder<C, B>, AllocError>
         ensures empty { IfOk result (λ builder. items_held builder ≡ no_items) }
         ensures begins { IfOk result (λ builder. EachBeginsKey builder.patterns) }
     {
+        let patterns = Trie::with_room(alloc, bytes / 6)?;
+        let exceptions = Exceptions::with_room(alloc, bytes / 40)?;
+        let known = KnownEntries::new(alloc, kind)?;
         Ok(Builder {
-            patterns: Trie::with_room(alloc, bytes / 6)?,
-            exceptions: Exceptions::with_room(alloc, bytes / 40)?,
+            patterns,
+            exceptions,
+            known,
         })
     }
 
@@ -91,7 +99,9 @@ impl<C: Payload, B: Listing> Builder<C, B> {
         let Builder {
             patterns,
             exceptions,
+            known,
         } = self;
+        drop(known);
         (patterns, exceptions)
     }
 
@@ -107,7 +117,7 @@ impl<C: Payload, B: Listing> Builder<C, B> {
         keys_are_looked_up::<Entry<C>>();
         inserted_key_is_added::<Entry<C>>();
         self.patterns.invariant();
-        let had = self.patterns.insert(key, entries)?;
+        let had = insert_pattern(&mut self.patterns, &mut self.known, key, entries)?;
         self.patterns.invariant();
         Ok(had)
     }
@@ -340,7 +350,7 @@ fn read_lines<C: Payload, B: Listing>(
     ensures begins { IfOk result (λ builder. EachBeginsKey builder.patterns) }
     ensures refused { IfErr result (λ refusal. IsRefusal refusal (fault_after form [] (lines_of bytes.now))) }
 {
-    let mut builder = Builder::new(alloc, bytes.len())?;
+    let mut builder = Builder::new(alloc, form.kind, bytes.len())?;
     add_lines(alloc, form, bytes, after_head, &mut builder)?;
     Ok(builder)
 }

@@ -77,12 +77,13 @@ ScoresHaveValues C =
     (change_of : C → Option Change) (keys : Patterns C) (word : List ℕ) (pairs : List (ℕ × Option (Bor Change)))
     → map scored_pair pairs ≡ scores change_of keys word → map (λ pair. pair.0) pairs ≡ values keys word
 
--- Patterns with equal keys and entries give equal values and equal winners.
+-- Patterns with equal keys and entries give equal values.
 abbrev pub SameKeysSameValues : Type 0 → Type 0
 SameKeysSameValues C =
     (keys other : Patterns C) (word : List ℕ) → ((text : List ℕ) → keys text ≡ other text)
     → values keys word ≡ values other word
 
+-- Patterns with equal keys and entries give equal winners.
 abbrev pub SameKeysSameWinners : Type 0 → Type 0
 SameKeysSameWinners C =
     (keys other : Patterns C) (word : List ℕ) → ((text : List ℕ) → keys text ≡ other text)

@@ -36,53 +36,72 @@ fn beats_best<C>(best: Option<&Entry<C>>, entry: &Entry<C>) -> bool
     }
 }
 
-// Lets an entry of a key that starts at `start` compete for the place on which it bears, if the word has that place.
+// Lets an entry of a key of `depth` bytes that ends at `end` compete for the place on which it bears, if the word has that
+// place.
 #[inline(always)]
-fn compete_at_place<'d, C>(bests: &mut [Option<&'d Entry<C>>], start: usize, entry: &'d Entry<C>)
-    requires start { start ≤ length bests.old + 2 }
+fn compete_at_place<'d, C>(
+    bests: &mut [Option<&'d Entry<C>>],
+    end: usize,
+    depth: usize,
+    entry: &'d Entry<C>,
+)
+    requires depth { depth ≤ end }
+    requires start { end - depth ≤ length bests.old + 2 }
     requires room { length bests.old + 1 < 2 ^ 63 }
-    ensures { AreBestAfterEntry bests.old start entry.now bests.new }
+    ensures { AreBestAfterEntry bests.old (end - depth) entry.now bests.new }
 {
-    // The frame has a dot before the word, and the first place comes after the word's first byte.
-    let at = (start + entry.place as usize).wrapping_sub(2);
+    // The frame has a dot before the word, and the first place comes after the word's first byte. The difference from the
+    // end is the same for all keys that end there, so it is taken first.
+    let at = end
+        .wrapping_sub(2)
+        .wrapping_sub(depth)
+        .wrapping_add(entry.place as usize);
     if at < bests.len() && beats_best(bests[at], entry) {
         bests[at] = Some(entry);
     }
 }
 
-// Lets the entries of a key that starts at `start` compete. Kept out of line: few keys have so many entries.
+// Lets the entries of a key of `depth` bytes that ends at `end` compete. Kept out of line: few keys have so many entries.
 #[cold]
 #[inline(never)]
 fn compete_many_entries<'d, C>(
     entries: &'d [Entry<C>],
-    start: usize,
+    end: usize,
+    depth: usize,
     bests: &mut [Option<&'d Entry<C>>],
 )
-    requires start { start ≤ length bests.old + 2 }
+    requires depth { depth ≤ end }
+    requires start { end - depth ≤ length bests.old + 2 }
     requires room { length bests.old + 1 < 2 ^ 63 }
     requires zero_start { StartAtZeroIfNone bests.old }
-    ensures { AreBestAfter bests.old start entries.now bests.new }
+    ensures { AreBestAfter bests.old (end - depth) entries.now bests.new }
 {
     for entry in entries {
-        compete_at_place(bests, start, entry);
+        compete_at_place(bests, end, depth, entry);
     }
 }
 
-// Lets the entries of a key that starts at `start` compete. Most keys have one entry or two.
+// Lets the entries of a key of `depth` bytes that ends at `end` compete. Most keys have one entry or two.
 #[inline(always)]
-fn compete_entries<'d, C>(entries: &'d [Entry<C>], start: usize, bests: &mut [Option<&'d Entry<C>>])
-    requires start { start ≤ length bests.old + 2 }
+fn compete_entries<'d, C>(
+    entries: &'d [Entry<C>],
+    end: usize,
+    depth: usize,
+    bests: &mut [Option<&'d Entry<C>>],
+)
+    requires depth { depth ≤ end }
+    requires start { end - depth ≤ length bests.old + 2 }
     requires room { length bests.old + 1 < 2 ^ 63 }
     requires zero_start { StartAtZeroIfNone bests.old }
-    ensures { AreBestAfter bests.old start entries.now bests.new }
+    ensures { AreBestAfter bests.old (end - depth) entries.now bests.new }
 {
     match entries {
-        [only] => compete_at_place(bests, start, only),
+        [only] => compete_at_place(bests, end, depth, only),
         [first, second] => {
-            compete_at_place(bests, start, first);
-            compete_at_place(bests, start, second);
+            compete_at_place(bests, end, depth, first);
+            compete_at_place(bests, end, depth, second);
         }
-        _ => compete_many_entries(entries, start, bests),
+        _ => compete_many_entries(entries, end, depth, bests),
     }
 }
 
@@ -114,7 +133,7 @@ fn compete_keys_at<'d, C: Drop>(
     let mut node = automaton.report(from);
     while node != 0 {
         let entries = automaton.entries(node, count);
-        compete_entries(entries, end - automaton.depth(node), bests);
+        compete_entries(entries, end, automaton.depth(node), bests);
         node = automaton.next_report(node);
     }
 }

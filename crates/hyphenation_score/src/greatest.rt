@@ -2,12 +2,12 @@
 //!
 //! Each place keeps the greatest value that a key has given it so far, so the order of the keys makes no difference.
 
-ghost use Rattle.std.specs.Prelude.{◌≡◌, ◌+◌, ◌-◌, ◌*◌, ◌<◌, ◌≤◌, ◌^◌, ◌==◌, ◌++◌, ◌∷◌, [], if◌then◌else◌, max, ℕ, length, slice_index, IfOk, IsOk};
+ghost use Rattle.std.specs.Prelude.{◌≡◌, ◌+◌, ◌-◌, ◌*◌, ◌<◌, ◌≤◌, ◌^◌, ◌++◌, ◌∷◌, [], ℕ, length, slice_index, IfOk, IsOk};
 ghost use Rattle.hyphenation_breaks.specs.Dictionary.{entries_of_keys};
 ghost use Rattle.hyphenation_trie.specs.Links.{IsLongest, keys_in};
 ghost use Rattle.hyphenation_trie.specs.Trie.{node_text, entries_of_key, EachBeginsKey};
 ghost use Rattle.hyphenation_score.specs.Counting.{CountsBy, CountsOf};
-ghost use Rattle.hyphenation_score.specs.Private.OnePass.{AreRaised, AreRaisedByEnds};
+ghost use Rattle.hyphenation_score.specs.Private.OnePass.{AreRaised, AreRaisedByEnds, AreRaisedTo};
 ghost use Rattle.hyphenation_score.specs.Scoring.{values};
 
 use hyphenation_breaks::breaks::Break;
@@ -18,50 +18,56 @@ use hyphenation_trie::laws::{keys_have_nodes, longest_goes_on};
 use hyphenation_trie::{Automaton, LookUps};
 use std::alloc::{AllocError, Global};
 
-// Raises the value of the word's place at `start + place` in the frame, if the word has that place.
-fn raise_place(values: &mut [u8], start: usize, place: u32, value: u8)
-    requires start { start ≤ length values.old + 2 }
+// Raises the value of the word's place at `place` in a key of `depth` bytes that ends at `end` in the frame, if the word has
+// that place.
+fn raise_place(values: &mut [u8], end: usize, depth: usize, place: u32, value: u8)
+    requires depth { depth ≤ end }
+    requires start { end - depth ≤ length values.old + 2 }
     requires room { length values.old + 1 < 2 ^ 63 }
-    ensures { (i : ℕ) → i < length values.old
-        → slice_index values.new i ≡ max (slice_index values.old i) (if start + place == (i + 1) + 1 then value
-        else 0) }
+    ensures { AreRaisedTo values.old (end - depth) place value values.new }
 {
-    // The frame has a dot before the word, and the first place comes after the word's first byte.
-    let at = (start + place as usize).wrapping_sub(2);
+    // The frame has a dot before the word, and the first place comes after the word's first byte. The
+    // difference from the end is the same for all keys that end there, so it is taken first.
+    let at = end
+        .wrapping_sub(2)
+        .wrapping_sub(depth)
+        .wrapping_add(place as usize);
     if at < values.len() && values[at] < value {
         values[at] = value;
     }
 }
 
-// Raises the values to those of the entries of a key that starts at `start`.
+// Raises the values to those of the entries of a key of `depth` bytes that ends at `end`.
 //
 // Kept out of line: few keys have so many entries, and a loop here would take registers from the pass.
 #[cold]
 #[inline(never)]
-fn raise_many_entries<C>(entries: &[Entry<C>], start: usize, values: &mut [u8])
-    requires start { start ≤ length values.old + 2 }
+fn raise_many_entries<C>(entries: &[Entry<C>], end: usize, depth: usize, values: &mut [u8])
+    requires depth { depth ≤ end }
+    requires start { end - depth ≤ length values.old + 2 }
     requires room { length values.old + 1 < 2 ^ 63 }
-    ensures { AreRaised values.old start entries.now values.new }
+    ensures { AreRaised values.old (end - depth) entries.now values.new }
 {
     for entry in entries {
-        raise_place(values, start, entry.place, entry.value);
+        raise_place(values, end, depth, entry.place, entry.value);
     }
 }
 
-// Raises the values to those of the entries of a key that starts at `start`. Most keys have one entry or two.
+// Raises the values to those of the entries of a key of `depth` bytes that ends at `end`. Most keys have one entry or two.
 #[inline(always)]
-fn raise_entries<C>(entries: &[Entry<C>], start: usize, values: &mut [u8])
-    requires start { start ≤ length values.old + 2 }
+fn raise_entries<C>(entries: &[Entry<C>], end: usize, depth: usize, values: &mut [u8])
+    requires depth { depth ≤ end }
+    requires start { end - depth ≤ length values.old + 2 }
     requires room { length values.old + 1 < 2 ^ 63 }
-    ensures { AreRaised values.old start entries.now values.new }
+    ensures { AreRaised values.old (end - depth) entries.now values.new }
 {
     match entries {
-        [only] => raise_place(values, start, only.place, only.value),
+        [only] => raise_place(values, end, depth, only.place, only.value),
         [first, second] => {
-            raise_place(values, start, first.place, first.value);
-            raise_place(values, start, second.place, second.value);
+            raise_place(values, end, depth, first.place, first.value);
+            raise_place(values, end, depth, second.place, second.value);
         }
-        _ => raise_many_entries(entries, start, values),
+        _ => raise_many_entries(entries, end, depth, values),
     }
 }
 
@@ -90,7 +96,7 @@ fn raise_keys_at<C: Drop>(
     let mut node = automaton.report(from);
     while node != 0 {
         let entries = automaton.entries(node, count);
-        raise_entries(entries, end - automaton.depth(node), values);
+        raise_entries(entries, end, automaton.depth(node), values);
         node = automaton.next_report(node);
     }
 }

@@ -9,4 +9,5 @@ pub mod Suffixes
 pub mod LinksMade
 pub mod FrozenTrie
 pub mod States
+pub mod SharedEntries
 pub mod LookedUp

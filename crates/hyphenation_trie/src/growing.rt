@@ -1,6 +1,7 @@
 //! A trie that grows by keys with their entries, inserted one after the other.
 
-ghost use Rattle.std.specs.Prelude.{◌≡◌, ◌≢◌, ◌+◌, ◌<◌, ◌++◌, [], ◌∷◌, ℕ, length, slice_index, None, IfOk, OnOk, OnErr, is_some, IfSome, IfNone};
+ghost use Rattle.std.specs.Prelude.{◌≡◌, ◌≢◌, ◌+◌, ◌<◌, ◌++◌, [], ◌∷◌, ℕ, length, slice_index, Some, None, IfOk, OnOk, OnErr, is_some, IfSome, IfNone};
+ghost use Rattle.std.specs.Prelude.{option_copied, slice_index_or};
 ghost use Rattle.hyphenation_trie.specs.Trie.{node_text, entries_of_key, IsTrie, AddsFront, KeepsNodes, KeepsKeys, SetsKey, EachBeginsKey};
 ghost use Rattle.hyphenation_trie.specs.Private.Trie.{with_child, Grows, with_entries};
 
@@ -11,7 +12,7 @@ use crate::frozen::{Frozen, Reports};
 use crate::lists::list_of_first;
 use crate::nodes_by_depth::NodesByDepth;
 use crate::rows::rows_of;
-use crate::state::{Span, State};
+use crate::state::{Span, State, entries_in};
 use std::alloc::{AllocError, Global};
 use std::fmt;
 use std::marker::Model;
@@ -108,6 +109,52 @@ impl<E: Drop> Trie<E> {
         Ok(had)
     }
 
+    /// Gives a key the entries of a node, in place of the entries that it had, and returns whether it was a key.
+    ///
+    /// `entries` are those of the node `like`, as [`Trie::entries_of_node`] returns them. Both have them in common then, so
+    /// that they take no more memory. No other key changes. The only error is out of memory, also if the trie would have
+    /// 2^32 nodes. It leaves each key as it was.
+    ///
+    /// ```text
+    /// trie.insert(b"rk", &mut entries)?;
+    /// let like = trie.count() - 1;                  // the node of `rk`
+    /// trie.insert_as(b"kin", like, &same)?;         // `same` equals the entries of `rk`
+    /// ```
+    pub fn insert_as(&mut self, key: &[u8], like: usize, entries: &[E]) -> Result<bool, AllocError>
+        requires { slice_index_or self.old.entries like None ≡ Some entries.now }
+        ensures key_set { OnOk result (SetsKey self.old self.new key.now entries.now) }
+        ensures had { IfOk result (λ had. had ≡ is_some (entries_of_key self.old key.now)) }
+        ensures begins { OnOk result (EachBeginsKey self.old → EachBeginsKey self.new) }
+        ensures same_keys_on_error { OnErr result (KeepsKeys self.old self.new) }
+        ensures adds { AddsFront self.old self.new key.now }
+        ensures nodes { KeepsNodes self.old self.new }
+    {
+        self.invariant();
+        let node = self.path(key)?;
+        self.invariant();
+        Ok(self.share_entries(node, like, entries))
+    }
+
+    /// Returns the number of nodes, with the root. The last node is the one that was added last.
+    pub fn count(&self) -> usize
+        ensures { result ≡ length self.now.texts }
+    {
+        self.states.len()
+    }
+
+    /// Returns the entries of a node. `None` if there is no such node, or if its text is not a key.
+    pub fn entries_of_node(&self, node: usize) -> Option<&[E]>
+        ensures { option_copied result ≡ slice_index_or self.now.entries node None }
+    {
+        if node < self.states.len() {
+            let state = self.states[node];
+            if state.is_key {
+                return Some(entries_in(&self.entries, state.span));
+            }
+        }
+        None
+    }
+
     /// Gives proofs the invariant of a trie, and does nothing.
     pub fn invariant(&self)
         ensures { IsTrie self.now }
@@ -202,6 +249,17 @@ impl<E: Drop> Trie<E> {
         Ok(self.states[node as usize].set_span(span))
     }
 
+    // Gives a node the entries of another node, in place of the entries that it had, and returns whether its text was a key.
+    fn share_entries(&mut self, node: u32, like: usize, entries: &[E]) -> bool
+        requires node { node < length self.old.texts }
+        requires like { slice_index_or self.old.entries like None ≡ Some entries.now }
+        ensures set { self.new ≡ with_entries self.old node entries.now }
+        ensures had { result ≡ is_some (entries_of_key self.old (node_text self.old node)) }
+    {
+        let span = self.states[like].span;
+        self.states[node as usize].set_span(span)
+    }
+
     /// Makes the automaton that finds the keys of the trie. The only error is out of memory, also if it would have 2^32 nodes
     /// or cells.
     pub fn freeze(self, alloc: Global) -> Result<Automaton<E>, AllocError>
@@ -209,20 +267,36 @@ impl<E: Drop> Trie<E> {
     {
         self.invariant();
         bytes_are_below_256(&self.children.bytes);
-        // Memory is taken while the trie is borrowed, so that an error drops the trie as a whole.
-        let none = Reports {
-            report: 0,
-            next_report: 0,
-        };
-        let reports = vec![in alloc; none; self.children.parents.len()]?;
         let rows = rows_of(alloc, &self.children)?;
-        let levels = NodesByDepth::of(alloc, &self.children.parents)?;
         let Trie {
             children,
             states,
             entries,
         } = self;
-        let mut trie = Frozen::new(states, entries, children, rows, reports, &levels.depths);
+        let Children {
+            parents,
+            bytes,
+            last,
+            before,
+        } = children;
+        // Rows have taken the place of the chains of children, whose memory is free for the lists that come next.
+        drop(last);
+        drop(before);
+        let levels = NodesByDepth::of(alloc, &parents)?;
+        let none = Reports {
+            report: 0,
+            next_report: 0,
+        };
+        let reports = vec![in alloc; none; parents.len()]?;
+        let mut trie = Frozen::new(
+            parents,
+            bytes,
+            states,
+            entries,
+            rows,
+            reports,
+            &levels.depths,
+        );
         link_all(&mut trie, &levels.depths, &levels.chains);
         Ok(Automaton { trie })
     }

@@ -4,8 +4,8 @@
 //! its owner. A look-up reads one cell. The row of the root is full: where the root has no child, the cell leads back to
 //! the root. So a search that reaches the root ends there without a test.
 
-ghost use Rattle.std.specs.Prelude.{◌≡◌, ◌+◌, ◌<◌, ◌≤◌, ◌≢◌, ℕ, true, false, OnOk, IfOk, IfSome, length, slice_index, Some, None};
-ghost use Rattle.hyphenation_trie.specs.Private.Rows.{child_in, AreChildren, OwnsNoChild, IsFreeRow, IsFullRow, HasRow, HasRows};
+ghost use Rattle.std.specs.Prelude.{◌≡◌, ◌+◌, ◌<◌, ◌≤◌, ◌≢◌, ℕ, true, false, OnOk, IfOk, IfSome, length, Some, None};
+ghost use Rattle.hyphenation_trie.specs.Private.Rows.{child_in, AreChildren, OwnsNoChild, IsByteSpan, IsFreeRow, IsFullRow, HasRow, HasRows};
 
 use super::children::Children;
 use super::lists::list_of_first;
@@ -113,10 +113,11 @@ fn row_fits(cells: &[Cell], free: u32, base: usize, node: u32, children: &Childr
 
 // The number of places that are tried for a row. More of them pack the rows closer and take longer. There are so few that
 // placing all rows takes time in the number of nodes alone.
-const TRIED_PLACES: usize = 16;
+const TRIED_PLACES: usize = 96;
 
-// The number of cells from the first tried place to the end of the cells in use.
-const CELLS_BACK: usize = 64;
+// The number of cells from the first tried place to the end of the cells in use. It is more than most rows span, since the
+// first bytes of letters beyond ASCII are far from ASCII letters. A row that spans more would always leave free cells.
+const CELLS_BACK: usize = 192;
 
 // A guess of where free cells are: none below `low`, and all from `top` on. It guides the search and proves nothing.
 #[derive(Clone, Copy)]
@@ -129,6 +130,8 @@ struct Gaps {
 fn byte_span(node: u32, children: &Children) -> (usize, usize)
     requires children { AreChildren children.now }
     requires node { node < length children.now.parents.items }
+    ensures within { (result.0 ≤ 255) × (result.1 ≤ 255) }
+    ensures each { IsByteSpan children.now node result }
 {
     let mut least = 255;
     let mut greatest = 0;
@@ -156,31 +159,100 @@ fn first_free(cells: &[Cell], free: u32, low: usize) -> usize {
     cells.len()
 }
 
-// Returns the first place from `from` on and below `to` at which the row of a node fits, if any.
+// Returns the first place from `from` on and below `to` at which the row of a node fits, if any. The least byte that leads to a
+// child is known.
 fn first_fit(
     cells: &[Cell],
     free: u32,
     from: usize,
     to: usize,
+    least: usize,
     node: u32,
     children: &Children,
 ) -> Option<usize>
     requires children { AreChildren children.now }
     requires node { node < length children.now.parents.items }
+    requires least { least ≤ 255 }
     ensures room { IfSome result (λ base. base + 255 < length cells.now) }
     ensures fits { IfSome result (λ base.
         IsFreeRow children.now cells.now free base node) }
 {
-    // If a row does not fit, most often the cell of its last child is in use. So that cell is tested first.
-    let last = children.bytes[children.last[node as usize] as usize] as usize;
-    // A row has 256 cells.
+    // If a row does not fit, most often the cell of its least byte is in use: cells are filled from the first free one on. So
+    // that cell is tested first, without a look at the children. A row has 256 cells.
     let end = to.min(cells.len().saturating_sub(255));
     for base in from..end {
-        if cells[base + last].owner == free && row_fits(cells, free, base, node, children) {
+        if cells[base + least].owner == free && row_fits(cells, free, base, node, children) {
             return Some(base);
         }
     }
     None
+}
+
+// Returns the place at which a row of one child takes the cell `at`, if that cell is free.
+fn one_fit(
+    cells: &[Cell],
+    free: u32,
+    at: usize,
+    byte: usize,
+    node: u32,
+    children: &Children,
+) -> Option<usize>
+    requires children { AreChildren children.now }
+    requires node { node < length children.now.parents.items }
+    requires byte { byte ≤ 255 }
+    requires one { IsByteSpan children.now node (byte, byte) }
+    ensures room { IfSome result (λ base. base + 255 < length cells.now) }
+    ensures fits { IfSome result (λ base.
+        IsFreeRow children.now cells.now free base node) }
+{
+    // A row has 256 cells.
+    if at < byte || cells.len().saturating_sub(255) <= at - byte {
+        return None;
+    }
+    if cells[at].owner == free {
+        Some(at - byte)
+    } else {
+        None
+    }
+}
+
+// Returns a place near the first free cells at which the row of a node fits, if one of the tried places does. The least and the
+// greatest byte that lead to a child are known.
+fn near_fit(
+    cells: &[Cell],
+    free: u32,
+    gaps: Gaps,
+    span: (usize, usize),
+    node: u32,
+    children: &Children,
+) -> Option<usize>
+    requires children { AreChildren children.now }
+    requires node { node < length children.now.parents.items }
+    requires least { span.0 ≤ 255 }
+    requires each { IsByteSpan children.now node span }
+    ensures room { IfSome result (λ base. base + 255 < length cells.now) }
+    ensures fits { IfSome result (λ base.
+        IsFreeRow children.now cells.now free base node) }
+{
+    let (least, greatest) = span;
+    if least == greatest {
+        // It goes into the first free cell.
+        return one_fit(cells, free, gaps.low, least, node, children);
+    }
+    let from = gaps
+        .top
+        .saturating_sub(CELLS_BACK)
+        .max(gaps.low)
+        .saturating_sub(least);
+    first_fit(
+        cells,
+        free,
+        from,
+        from.saturating_add(TRIED_PLACES),
+        least,
+        node,
+        children,
+    )
 }
 
 // Returns a place at which the row of a node fits, if one of the tried places does.
@@ -199,22 +271,7 @@ fn find_place(
 {
     let (least, greatest) = byte_span(node, children);
     gaps.low = first_free(cells, free, gaps.low);
-    let near = gaps.top.saturating_sub(CELLS_BACK);
-    // A row of one child goes into the first free cell.
-    let begin = if least == greatest || near < gaps.low {
-        gaps.low
-    } else {
-        near
-    };
-    let from = begin.saturating_sub(least);
-    if let Some(base) = first_fit(
-        cells,
-        free,
-        from,
-        from.saturating_add(TRIED_PLACES),
-        node,
-        children,
-    ) {
+    if let Some(base) = near_fit(cells, free, *gaps, (least, greatest), node, children) {
         let end = base.saturating_add(greatest).saturating_add(1);
         if gaps.top < end {
             gaps.top = end;
@@ -223,7 +280,15 @@ fn find_place(
     }
     let last = gaps.top.saturating_sub(least);
     gaps.top = last.saturating_add(greatest).saturating_add(1);
-    first_fit(cells, free, last, last.saturating_add(1), node, children)
+    first_fit(
+        cells,
+        free,
+        last,
+        last.saturating_add(1),
+        least,
+        node,
+        children,
+    )
 }
 
 // Adds one row of cells of an owner, and returns where it begins. The only error is out of memory.
@@ -301,8 +366,8 @@ fn root_row(alloc: Global, children: &Children) -> Result<Vec<Cell>, AllocError>
     ensures full { IfOk result (λ cells. IsFullRow cells.items 0 0) }
     ensures other_owners_stay { IfOk result (λ cells. (i c : ℕ) → 0 < i → child_in cells.items i c ≡ None) }
 {
-    // Most tries need about two cells for each node. Room that is not used costs addresses and no memory.
-    let mut cells = Vec::with_capacity(alloc, children.parents.len().saturating_mul(5) / 2)?;
+    // Most tries need little more than one cell for each node. Room that is not used costs addresses and no memory.
+    let mut cells = Vec::with_capacity(alloc, children.parents.len().saturating_mul(5) / 4)?;
     let base = add_row(&mut cells, 0)?;
     write_row(&mut cells, 0, base, 0, children);
     Ok(cells)

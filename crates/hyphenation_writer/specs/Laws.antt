@@ -70,7 +70,7 @@ EqualTextsAreOfEquals C B =
 -- The canonical text of a dictionary has the first version exactly if each value is at most 9.
 abbrev pub VersionIsLeast : Type 0 → Type 0 → Type 0
 VersionIsLeast C B =
-    (kind : Kind) (held : Held C B) (contents : Contents C B)
-    → (slice_index_or (lines_of (text_of kind held contents)) 0 [] ≡ head_of kind First)
+    (kind : Kind) (change_of : C → Option Change) (break_of : B → Break) (contents : Contents C B)
+    → (slice_index_or (lines_of (canonical_text_of kind change_of break_of contents)) 0 [] ≡ head_of kind First)
     ↔ ((key : List ℕ) (entries : List (Entry C)) → finite.get contents.patterns key ≡ Some entries
     → All (λ e. e.value ≤ 9) entries)

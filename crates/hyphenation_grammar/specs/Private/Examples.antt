@@ -9,13 +9,15 @@ use Rattle.hyphenation_grammar.specs.declared.form.Kind.TheVariants.{Standard, E
 use Rattle.hyphenation_grammar.specs.declared.form.Version.TheVariants.{First, Second}
 use Rattle.hyphenation_grammar.specs.declared.Cause.{Cause}
 
--- The forms, each by its kind and its version.
+-- The form of standard texts of version 1.
 abbrev pub standard_first : Form
 standard_first = record { kind = Standard; version = First }
 
+-- The form of standard texts of version 2.
 abbrev pub standard_second : Form
 standard_second = record { kind = Standard; version = Second }
 
+-- The form of extended texts of version 1.
 abbrev pub extended_first : Form
 extended_first = record { kind = Extended; version = First }
 
@@ -27,11 +29,12 @@ first_cause form line = cause_of form (head_line form ∷ codes "language hu" �
 abbrev pub FailFirst : Form → Option Cause → List (List ℕ) → Type 0
 FailFirst form cause lines = map (first_cause form) lines ≡ map (λ _. cause) lines
 
--- A change and an entry, field by field.
+-- A change, field by field.
 abbrev pub changed : ℕ → ℕ → List ℕ → ℕ → Change
 changed left right substitution breakpoint =
     record { left = left; right = right; substitution = substitution; breakpoint = breakpoint }
 
+-- An entry, field by field.
 abbrev pub entry : ℕ → ℕ → Option Change → Entry (Option Change)
 entry place value change = record { place = place; value = value; change = change }
 

@@ -5,6 +5,8 @@ use Rattle.std.specs.declared.io.ErrorKind.TheVariants.{OutOfMemory}
 use Rattle.hyphenation_breaks.specs.Dictionary.{Contents}
 use Rattle.hyphenation_grammar.specs.declared.Error.{Error}
 use Rattle.hyphenation_grammar.specs.declared.Error.TheVariants.{Deserialization, IO, LanguageMismatch, Memory}
+use Rattle.hyphenation_reader.specs.declared.reader.Refusal.{Refusal}
+use Rattle.hyphenation_reader.specs.declared.reader.Refusal.TheVariants.{Memory as NoMemory, Fault}
 
 -- The dictionary, exactly where its language is the asked one; else the asked and the found code.
 abbrev pub ChecksLanguage : {C B : Type 0} → List ℕ → Contents C B → Result (Contents C B) Error → Type 0
@@ -13,11 +15,10 @@ ChecksLanguage asked dictionary (Err (LanguageMismatch expected found)) =
     (expected ≡ asked) × (found ≡ dictionary.language) × (found ≢ asked)
 ChecksLanguage asked dictionary (Err _) = ⊥
 
--- An error of loading that a refused text gives: its fault, or memory was refused.
-abbrev pub IsRefusalError : Error → Type 0
-IsRefusalError (IO e) = ⊥
-IsRefusalError (LanguageMismatch expected found) = ⊥
-IsRefusalError _ = ⊤
+-- The error of loading that the refusal of a text gives.
+abbrev pub error_of : Refusal → Error
+error_of NoMemory = Memory alloc_error
+error_of (Fault line cause) = Deserialization line cause
 
 -- An error of reading as one of loading: memory was refused, or an I/O error of another kind.
 abbrev pub IsReadError : Error → Type 0

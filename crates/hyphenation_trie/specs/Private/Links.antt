@@ -17,11 +17,12 @@ pub record HasParents (texts : List (List ℕ)) (parents bytes : List ℕ) : Typ
       → (slice_index parents j < j)
       × (slice_index_or texts j [] ≡ slice_index_or texts (slice_index parents j) [] ++ slice_index bytes j ∷ [])
 
--- The parent of a node, and the byte that leads from the parent; 0 for the root, which has neither.
+-- The parent of a node; 0 for the root, which has none.
 abbrev pub parent_of : Option (ℕ × ℕ) → ℕ
 parent_of None = 0
 parent_of (Some from) = from.0
 
+-- The byte that leads to a node from its parent; 0 for the root, which has none.
 abbrev pub byte_of : Option (ℕ × ℕ) → ℕ
 byte_of None = 0
 byte_of (Some from) = from.1

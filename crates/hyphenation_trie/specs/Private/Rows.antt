@@ -1,5 +1,5 @@
 -- Rows of cells that lie over one another, one row for each node of a trie.
-use Rattle.std.specs.Prelude.{◌≡◌, ◌≢◌, ℕ, ◌+◌, ◌<◌, ◌==◌, if◌then◌else◌, List, length, map, slice_index, slice_index_or, Option, Some, None}
+use Rattle.std.specs.Prelude.{◌≡◌, ◌≢◌, ℕ, ◌+◌, ◌<◌, ◌≤◌, ◌==◌, if◌then◌else◌, List, length, map, slice_index, slice_index_or, Option, Some, None}
 use Rattle.hyphenation_trie.specs.Private.Chains.{IsChained}
 use Rattle.hyphenation_trie.specs.declared.children.Children.{Children}
 use Rattle.hyphenation_trie.specs.declared.rows.Cell.{Cell}
@@ -70,6 +70,12 @@ IsFreeRow children cells free base node = IsFreeRowBy children.parents.items chi
 -- The node's row begins there.
 abbrev pub HasRow : Children → List Cell → ℕ → ℕ → Type 0
 HasRow children cells base node = HasRowBy children.parents.items children.bytes.items cells base node
+
+-- Each byte that leads from the node to a child lies between these two.
+abbrev pub IsByteSpan : Children → ℕ → ℕ × ℕ → Type 0
+IsByteSpan children node span =
+    (j : ℕ) → 0 < j → j < length children.parents.items → slice_index children.parents.items j ≡ node
+    → (span.0 ≤ slice_index children.bytes.items j) × (slice_index children.bytes.items j ≤ span.1)
 
 -- The moves say where the row of each node begins.
 abbrev pub HasRows : Children → List Moves → List Cell → Type 0

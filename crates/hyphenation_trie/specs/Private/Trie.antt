@@ -44,6 +44,7 @@ abbrev pub IsWithin : ℕ → Option Span → Type 0
 IsWithin bound None = Unit {0}
 IsWithin bound (Some span) = span.start + span.count ≤ bound
 
+-- Each span of entries ends within a bound.
 abbrev pub AreWithin : ℕ → List (Option Span) → Type 0
 AreWithin bound [] = Unit {0}
 AreWithin bound (span ∷ spans) = IsWithin bound span × AreWithin bound spans

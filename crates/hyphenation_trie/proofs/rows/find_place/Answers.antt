@@ -26,12 +26,6 @@ returns-else-gaps-end-clause-room c = grind (arith, common_steps)
 pub returns-else-gaps-end-clause-fits : goal.returns-else-gaps-end-clause-fits
 returns-else-gaps-end-clause-fits c = grind (arith, common_steps)
 
-pub first_fit-requires-2-clause-children : goal.first_fit-requires-2-clause-children
-first_fit-requires-2-clause-children c = grind (arith, common_steps)
-
-pub first_fit-requires-2-clause-node : goal.first_fit-requires-2-clause-node
-first_fit-requires-2-clause-node c = grind (arith, common_steps)
-
 pub returns-clause-room : goal.returns-clause-room
 returns-clause-room c = grind (arith, common_steps)
 

@@ -6,4 +6,4 @@ pub returns-clause-was_held : goal.returns-clause-was_held
 returns-clause-was_held g c = c.in_ok-had.ensures.had ∙ ap is_some (sym (c.keys_are_looked_up.ensures c.args.self.now.patterns c.invariant.ensures c.args.key.now))
 
 pub returns-clause-patterns : goal.returns-clause-patterns
-returns-clause-patterns g c = c.inserted_key_is_added.ensures c.args.self.now.patterns c.insert.new.self c.args.key.now c.args.entries.now.items c.invariant.ensures c.invariant-2.ensures c.in_ok-had.ensures.key_set
+returns-clause-patterns g c = c.inserted_key_is_added.ensures c.args.self.now.patterns c.insert_pattern.new.trie c.args.key.now c.args.entries.now.items c.invariant.ensures c.invariant-2.ensures c.in_ok-had.ensures.key_set

@@ -14,19 +14,19 @@ set_depths-requires g c = c.requires.depths.lengths ∙ sym c.requires.states
 
 pub returns-clause-tree : goal.returns-clause-tree
 returns-clause-tree g c =
-    tree_same c.args.entries.items c.args.states.items c.set_depths.new.states.items c.args.children.parents.items c.args.children.bytes.items c.set_depths.ensures.spans
+    tree_same c.args.entries.items c.args.states.items c.set_depths.new.states.items c.args.parents.items c.args.bytes.items c.set_depths.ensures.spans
 
 pub returns-clause-links : goal.returns-clause-links
 returns-clause-links g c = λ j.
     let reports = c.args.reports.items in
     ap (λ (l : ℕ). links_with l (get_or reports j no_reports)) (c.requires.rows.unlinked j) ∙ ap (λ (rs : List Reports). links_with 0 (get_or rs j no_reports)) c.requires.reports
-    ∙ ap (links_with 0) (reports_none (length c.args.children.parents.items) j)
+    ∙ ap (links_with 0) (reports_none (length c.args.parents.items) j)
 
 pub invariant_of-result : goal.invariant_of-result
 invariant_of-result g c =
     let es = c.args.entries.items in
-    let parents = c.args.children.parents.items in
-    let bytes = c.args.children.bytes.items in
+    let parents = c.args.parents.items in
+    let bytes = c.args.bytes.items in
     let old = c.args.states.items in
     let states = c.set_depths.new.states.items in
     let moves = c.args.rows.moves.items in
