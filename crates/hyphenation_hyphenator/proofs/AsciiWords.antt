@@ -52,7 +52,7 @@ ascii_lowercase_fold word e =
 small_stays : (c : ℕ) → is_ascii_uppercase c ≡ false → to_ascii_lowercase c ≡ c
 small_stays c e = grind (arith)
 
-folds_small : (c : ℕ) → c < 128 → fold_character c ≡ to_ascii_lowercase c
+pub folds_small : (c : ℕ) → c < 128 → fold_character c ≡ to_ascii_lowercase c
 folds_small c lt =
     let other : (c == 0x130) ≡ false = grind (arith) in
     ap (λ b. cond b 0x69 (cond (is_uppercase c) (simple_fold c) c)) other
@@ -81,7 +81,7 @@ fold_is_ascii word a = subst IsAscii (sym (ascii_fold word a)) (small_ascii word
 as_long : (word : List ℕ) → IsAscii word → length (fold_case word) ≡ length word
 as_long word a = ap length (ascii_fold word a) ∙ length-map word to_ascii_lowercase
 
-keeps_length : (c : ℕ) → c < 128 → not (length (encode_utf8 (fold_character c)) == length (encode_utf8 c)) ≡ false
+pub keeps_length : (c : ℕ) → c < 128 → not (length (encode_utf8 (fold_character c)) == length (encode_utf8 c)) ≡ false
 keeps_length c lt = rw (folds_small c lt, encode_ascii (to_ascii_lowercase c) (lowercase_ascii c lt), encode_ascii c lt) refl
 
 pub ascii_no_shifts : (word : List ℕ) → IsAscii word → shifts_of word ≡ []

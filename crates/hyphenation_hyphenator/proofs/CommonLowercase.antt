@@ -107,18 +107,18 @@ unfolding chars
 chars_one c [] = refl
 chars_one c (b ∷ bs) = refl
 
-chars_ascii : (b : ℕ) (bs : List ℕ) → b < 0x80 → chars (b ∷ bs) ≡ b ∷ chars bs
+pub chars_ascii : (b : ℕ) (bs : List ℕ) → b < 0x80 → chars (b ∷ bs) ≡ b ∷ chars bs
 unfolding chars
 chars_ascii b bs below = rw (lt-ltb b 0x80 below) (chars_one b bs)
 
-chars_pair : (b c : ℕ) (bs : List ℕ) → 0xC0 ≤ b → b < 0xE0 → chars (b ∷ c ∷ bs) ≡ ((b - 192) * 64 + (c - 128)) ∷ chars bs
+pub chars_pair : (b c : ℕ) (bs : List ℕ) → 0xC0 ≤ b → b < 0xE0 → chars (b ∷ c ∷ bs) ≡ ((b - 192) * 64 + (c - 128)) ∷ chars bs
 unfolding chars
 chars_pair b c bs low high = rw (le-ltb b 0x80 (omega arith), lt-ltb b 0xE0 high) (chars_one ((b - 192) * 64 + (c - 128)) bs)
 
-ends_of : (low high c : ℕ) → (nat_le low c && nat_le c high) ≡ true → (low ≤ c) × (c ≤ high)
+pub ends_of : (low high c : ℕ) → (nat_le low c && nat_le c high) ≡ true → (low ≤ c) × (c ≤ high)
 ends_of low high c e = let parts = and_parts (nat_le low c) (nat_le c high) e in (leb-true low c parts.0, leb-true c high parts.1)
 
-pair_small : (b c : ℕ) → is_common_pair b c ≡ true → (0xC0 ≤ b) × (b < 0xE0) × (is_common_lowercase ((b - 192) * 64 + (c - 128)) ≡ true)
+pub pair_small : (b c : ℕ) → is_common_pair b c ≡ true → (0xC0 ≤ b) × (b < 0xE0) × (is_common_lowercase ((b - 192) * 64 + (c - 128)) ≡ true)
 pair_small b c e =
     let d0 = b == 0xD0 && (nat_le 0xB0 c && nat_le c 0xBF) in
     let d1 = b == 0xD1 && (nat_le 0x80 c && nat_le c 0x9F) in
@@ -190,7 +190,7 @@ small_not_upper c e =
       ]
     ]
 
-small_not_soft : (c : ℕ) → is_common_lowercase c ≡ true → (c == 0xAD) ≡ false
+pub small_not_soft : (c : ℕ) → is_common_lowercase c ≡ true → (c == 0xAD) ≡ false
 small_not_soft c e =
     elim (c == 0xAD) as (λ t. (c == 0xAD) ≡ t → t ≡ false) [
       | true ↦ λ is. let bad : is_common_lowercase 0xAD ≡ true = subst (λ x. is_common_lowercase x ≡ true) (eqb-true c 0xAD is) e in absurd cc

@@ -22,7 +22,10 @@ pub mod UnmovedPlaces
 pub mod CapitalRanges
 pub mod AsciiWords
 pub mod CommonLowercase
+pub mod InPlace
 pub mod OddPlaces
 pub mod PiecesJoin
 pub mod EmptyMark
 pub mod ExceptionRemoval
+pub mod PassedText
+pub mod SingleBytes

@@ -26,6 +26,27 @@ after_piece : (cs rest : List ℕ) → IsUtf8 (encode_utf8_all cs ++ rest) → I
 after_piece [] rest u = u
 after_piece (c ∷ cs) rest u = after_piece cs rest (IsUtf8-past_char _ _ c u (append_assoc (encode_utf8 c) (encode_utf8_all cs) rest))
 
+-- Each text of a list is UTF-8.
+abbrev pub AreUtf8 : List (List ℕ) → Type 0
+AreUtf8 [] = Unit {0}
+AreUtf8 (t ∷ ts) = IsUtf8 t × AreUtf8 ts
+
+own_utf8 : (cs rest : List ℕ) → IsUtf8 (encode_utf8_all cs ++ rest) → IsUtf8 (encode_utf8_all cs)
+own_utf8 cs rest u =
+    let piece : List ℕ = encode_utf8_all cs in
+    subst IsUtf8 (take-append_seam piece rest) (IsUtf8-take (piece ++ rest) (length piece) u (IsCharBoundary-at_seam (piece ++ rest) piece rest refl (after_piece cs rest u)))
+
+each_utf8 : (pieces : List (List ℕ)) → IsUtf8 (concat (map encode_utf8_all pieces)) → AreUtf8 (map encode_utf8_all pieces)
+each_utf8 [] u = tt
+each_utf8 (cs ∷ pieces) u =
+    let rest : List ℕ = concat (map encode_utf8_all pieces) in (own_utf8 cs rest u, each_utf8 pieces (after_piece cs rest u))
+
+pub pieces_are_utf8 : (text : List ℕ) → IsUtf8 text → AreUtf8 (word_bounds text)
+unfolding segments
+pieces_are_utf8 text u =
+    let whole = cut_bytes is_word_break [] (chars text) [] ∙ encodes-chars text u in
+    each_utf8 (cut is_word_break [] (chars text) []) (subst IsUtf8 (sym whole) u)
+
 each_back : (f : List ℕ → List ℕ) → ((piece : List ℕ) → IsUtf8 piece → f piece ≡ piece) → (pieces : List (List ℕ)) → IsUtf8 (concat (map encode_utf8_all pieces))
     → flat_map f (map encode_utf8_all pieces) ≡ concat (map encode_utf8_all pieces)
 each_back f back [] u = refl
@@ -33,7 +54,7 @@ each_back f back (cs ∷ pieces) u =
     let piece : List ℕ = encode_utf8_all cs in
     let rest : List ℕ = concat (map encode_utf8_all pieces) in
     let later : IsUtf8 rest = after_piece cs rest u in
-    let own : IsUtf8 piece = subst IsUtf8 (take-append_seam piece rest) (IsUtf8-take (piece ++ rest) (length piece) u (IsCharBoundary-at_seam (piece ++ rest) piece rest refl later)) in
+    let own : IsUtf8 piece = own_utf8 cs rest u in
     ap (λ x. x ++ flat_map f (map encode_utf8_all pieces)) (back piece own) ∙ ap (λ xs. piece ++ xs) (each_back f back pieces later)
 
 pub pieces_join : (f : List ℕ → List ℕ) → ((piece : List ℕ) → IsUtf8 piece → f piece ≡ piece) → (text : List ℕ) → IsUtf8 text → flat_map f (word_bounds text) ≡ text

@@ -2,3 +2,4 @@
 pub mod Fitting
 pub mod Opportunities
 pub mod CommonLowercase
+pub mod InPlace

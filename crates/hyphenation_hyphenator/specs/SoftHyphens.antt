@@ -3,6 +3,7 @@ use Rattle.std.specs.Prelude.{ℕ, ◌==◌, List, Bool, length, map, filter, ch
 use Rattle.std.specs.List.{range_with_len}
 use Rattle.hyphenation_hyphenator.specs.Places.{place_of_character}
 
+-- The number of the soft hyphen.
 abbrev pub soft_hyphen : ℕ
 soft_hyphen = 0xAD
 

@@ -12,7 +12,10 @@
 //! [`refold`] returns the folded word with a [`Shift`] for each such character, and [`realign`] carries a place of the
 //! folded word back by them. Place 3, before the `a`, comes after the shift of the `ẞ` and becomes 3 + 2 = 5.
 ghost use Rattle.std.specs.Prelude.{◌≡◌, ◌≤◌, ◌<◌, ◌^◌, ◌↔◌, ℕ, pos, ◌-ℤ◌, nat_lt, false};
-ghost use Rattle.std.specs.Prelude.{List, [], length, take, find, reverse, IfOk, IsOkAnd, IfSome, IsNone};
+ghost use Rattle.std.specs.Prelude.{List, [], ◌∷◌, ◌-◌, ◌*◌, ◌+◌, true, IsTrue, chars, length, take, find, reverse};
+ghost use Rattle.std.specs.Prelude.{IfOk, IsOkAnd, IfSome, IsNone};
+ghost use Rattle.std.specs.Char.{encode_utf8};
+ghost use Rattle.std.specs.List.{list_all};
 ghost use Rattle.std.specs.Cow.{cow_str_bytes, IsBorrowedStr};
 ghost use Rattle.std.specs.Int.{saturate_unsigned, w64};
 ghost use Rattle.std.specs.List.Sorted.{IsNonDecreasingBy};
@@ -24,6 +27,7 @@ ghost use Rattle.unicode.specs.Binary.{is_uppercase};
 ghost use Rattle.hyphenation_hyphenator.specs.Places.{place_of_character};
 ghost use Rattle.hyphenation_hyphenator.specs.Private.CommonLowercase.{is_common_lowercase, is_common_pair};
 ghost use Rattle.hyphenation_hyphenator.specs.Private.CommonLowercase.{are_common_lowercase};
+ghost use Rattle.hyphenation_hyphenator.specs.Private.InPlace.{folds_in_place, is_common_capital};
 ghost use Rattle.hyphenation_hyphenator.specs.Folding.{fold_character, fold_case, has_uppercase, shifts_of};
 ghost use Rattle.hyphenation_hyphenator.specs.Folding.{delta_below, carried_back, ForEachWordWith};
 
@@ -164,6 +168,77 @@ pub(crate) fn are_common_lowercase(word: &str) -> bool
         }
     }
     at == bytes.len() || bytes[at].is_ascii_lowercase()
+}
+
+// Whether a character is a capital of Latin-1 or of Russian. The folding of each has the number that is 32 greater.
+#[inline(always)]
+fn is_common_capital(c: char) -> bool
+    ensures { result ≡ is_common_capital c }
+{
+    ('À' <= c && c <= 'Ö') || ('Ø' <= c && c <= 'Þ') || ('А' <= c && c <= 'Я')
+}
+
+// Returns the number of a character's folding, with a fast path for common capitals.
+fn folded_number(c: char) -> u32
+    ensures { result ≡ fold_character c }
+{
+    if is_common_capital(c) {
+        c as u32 + 32
+    } else {
+        fold_char(c) as u32
+    }
+}
+
+// Folds a character of two bytes that is no soft hyphen and whose folding takes two bytes. The result is `None` for any
+// other character, and for bytes that encode no character of two.
+fn fold_pair(first: u8, second: u8) -> Option<(u8, u8)>
+    ensures encoded { IfSome result (λ _. (0xC0 ≤ first) × ((first < 0xE0) × (0x80 ≤ second))) }
+    ensures in_place { IfSome result (λ _. folds_in_place ((first - 0xC0) * 64 + (second - 0x80)) ≡ true) }
+    ensures folded { IfSome result (λ pair. encode_utf8 (fold_character ((first - 0xC0) * 64 + (second - 0x80)))
+        ≡ pair.0 ∷ pair.1 ∷ []) }
+{
+    if is_common_pair(first, second) {
+        return Some((first, second));
+    }
+    if first < 0xC2 || 0xE0 <= first || second < 0x80 || 0xC0 <= second {
+        return None;
+    }
+    let c = char::from_u32((first as u32 - 0xC0) * 64 + (second as u32 - 0x80))?;
+    let folding = folded_number(c);
+    if c == '\u{ad}' || folding < 0x80 || 0x800 <= folding {
+        return None;
+    }
+    Some((0xC0 + (folding / 64) as u8, 0x80 + (folding % 64) as u8))
+}
+
+// Folds a word into as many bytes, and returns whether each character is folded in place.
+//
+// Where one is not, the bytes are of no use. It reads bytes, since decoding characters takes more than twice as long.
+pub(crate) fn fold_in_place(word: &str, folded: &mut [u8]) -> bool
+    requires { length folded.old ≡ length word.now }
+    ensures in_place { IsTrue result → list_all folds_in_place (chars word.now) ≡ true }
+    ensures folded { IsTrue result → folded.new ≡ fold_case word.now }
+{
+    let bytes = word.as_bytes();
+    let mut at = 0;
+    while at < bytes.len() {
+        let first = bytes[at];
+        if first < 0x80 {
+            folded[at] = first.to_ascii_lowercase();
+            at += 1;
+        } else {
+            if at + 1 == bytes.len() {
+                return false;
+            }
+            let Some((first, second)) = fold_pair(first, bytes[at + 1]) else {
+                return false;
+            };
+            folded[at] = first;
+            folded[at + 1] = second;
+            at += 2;
+        }
+    }
+    true
 }
 
 // Whether a character has the property Uppercase, with fast paths for ASCII and common lowercase letters.

@@ -3,7 +3,7 @@
 //! A [`Hyphenator`] finds where a word may be broken. [`Hyphenator::hyphenate`] takes a word as written, which may have
 //! capitals and soft hyphens. The other calls take a word in lowercase and return places of that very word.
 
-ghost use Rattle.std.specs.Prelude.{◌≡◌, ℕ, ◌≤◌, List, IsTrue, Option, Some, None, IfSome, IfOk, OnOk, OnErr, map};
+ghost use Rattle.std.specs.Prelude.{◌≡◌, ℕ, ◌≤◌, List, [], IsTrue, Option, Some, None, IfSome, IfOk, OnOk, OnErr, map};
 ghost use Rattle.std.specs.Option.{option_map};
 ghost use Rattle.std.specs.Str.{IsCharBoundary, IsUtf8};
 ghost use Rattle.std.specs.String.{string_bytes};
@@ -73,7 +73,7 @@ pub trait Hyphenator<'h> {
     /// is no break.
     ///
     /// ```text
-    /// dictionary.opportunities_within(alloc, "hyphenation", (0, 7))?      // 2, 6, 7
+    /// dictionary.opportunities_within(alloc, "hyphenation", (0, 7))?      // 2, 6: the 7 is an exception's
     /// ```
     fn opportunities_within(
         &'h self,
@@ -170,6 +170,26 @@ pub trait Hyphenator<'h> {
         ensures breaks { HasBreaks Self.Opportunity.meaning result (breaks_of self.now word.now) }
         ensures fits { IfOk result (λ v. Fits word.now (map Self.Opportunity.meaning v.items)) }
         ensures ranges { OnOk result (KeepRanges (rules self.now) word.now) };
+
+    /// Puts the breaks of a word as written into a list, in place of what it held. They are those of
+    /// [`hyphenate`](Hyphenator::hyphenate).
+    ///
+    /// A caller with many words keeps one list, so that memory is taken for it once. After an error the list is empty.
+    ///
+    /// ```text
+    /// let mut places = Vec::new(alloc);
+    /// for word in words {
+    ///     dictionary.breaks_into(word, &mut places)?;      // for "Hyphenation" 2, 6, 7
+    /// }
+    /// ```
+    fn breaks_into(
+        &'h self,
+        word: &str,
+        breaks: &mut Vec<Self::Opportunity>,
+    ) -> Result<(), AllocError>
+        ensures breaks { OnOk result (map Self.Opportunity.meaning breaks.new.items ≡ breaks_of self.now word.now) }
+        ensures fits { OnOk result (Fits word.now (map Self.Opportunity.meaning breaks.new.items)) }
+        ensures empty_on_error { OnErr result (breaks.new.items ≡ []) };
 
     /// Returns a word as written, with its breaks.
     ///

@@ -2,28 +2,12 @@
 
 ghost use Rattle.std.specs.Prelude.{◌≡◌, ◌++◌, IfOk, OnOk, OnErr};
 ghost use Rattle.std.specs.String.{string_bytes};
-ghost use Rattle.hyphenation_segments.specs.Segments.{marked_word};
 ghost use Rattle.hyphenation_hyphenator.specs.Hyphenated.{hyphenated_text};
 
 use crate::hyphenator::Hyphenator;
-use hyphenation_segments::iter::push_marked;
+use hyphenation_segments::iter::push_marked_text;
 use std::alloc::{AllocError, Global};
-use unicode_segmentation::UnicodeSegmentation;
-
-// Appends a word with the mark at its breaks.
-fn push_word<'h, H: Hyphenator<'h>>(
-    alloc: Global,
-    output: &mut String,
-    dictionary: &'h H,
-    word: &str,
-    mark: &str,
-) -> Result<(), AllocError>
-    ensures { OnOk result (string_bytes output.new ≡ string_bytes output.old ++ marked_word mark.now word.now
-        (H.breaks_of dictionary.now word.now)) }
-{
-    let word = dictionary.hyphenate(alloc, word)?;
-    push_marked(output, &word, mark)
-}
+use word_pieces::WordPieces;
 
 /// Hyphenates a whole text: returns it with the mark at each break of its words.
 ///
@@ -43,9 +27,21 @@ pub fn hyphenated_text<'h, H: Hyphenator<'h>>(
         ≡ hyphenated_text (H.breaks_of dictionary.now) mark.now text.now) }
 {
     let mut output = String::with_capacity(alloc, text.len())?;
-    for piece in text.split_word_bounds() {
-        push_word(alloc, &mut output, dictionary, piece, mark)?;
+    let mut breaks = Vec::new(alloc);
+    // A piece without breaks is not appended by itself: the text from `start` on is still to be appended.
+    let mut start = 0;
+    let mut at = 0;
+    for piece in WordPieces::new(text) {
+        dictionary.breaks_into(piece, &mut breaks)?;
+        let end = at + piece.len();
+        if !breaks.is_empty() {
+            output.push_str(&text[start..at])?;
+            push_marked_text(&mut output, piece, &breaks, mark)?;
+            start = end;
+        }
+        at = end;
     }
+    output.push_str(&text[start..])?;
     Ok(output)
 }
 

@@ -2,7 +2,7 @@
 //!
 //! [`Segments`] takes the breaks of a word one by one (from [`Breaks`]) and returns the text between each two.
 //! [`SegmentsExt`] does so for breaks that may change letters. [`Hyphenating`] takes such texts (from [`Texts`]) and
-//! adds marks. [`push_marked`] appends all marked segments to a text at once.
+//! adds marks. [`push_marked`] and [`push_marked_text`] append all marked segments to a text at once.
 
 ghost use Rattle.std.specs.Prelude.{◌≡◌, ℕ, List, Option, Some, None, length, MatchResult};
 ghost use Rattle.hyphenation_breaks.specs.Break.{Break};
@@ -18,7 +18,7 @@ pub use extended::SegmentsExt;
 use hyphenation_breaks::breaks::Break;
 pub use marks::{Hyphenating, Iter};
 pub use plain::Segments;
-pub use pushing::push_marked;
+pub use pushing::{push_marked, push_marked_text};
 use std::alloc::AllocError;
 use std::borrow::CowStr;
 use std::iter::Copied;

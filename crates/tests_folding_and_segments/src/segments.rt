@@ -12,7 +12,7 @@ use hyphenation_breaks::breaks::Break;
 use hyphenation_breaks::extended::Subregion;
 use hyphenation_segments::Word;
 use hyphenation_segments::iter::{
-    Breaks, Hyphenating, Iter, SegmentText, Segments, SegmentsExt, Texts, laws,
+    Breaks, Hyphenating, Iter, SegmentText, Segments, SegmentsExt, Texts, laws, push_marked_text,
 };
 use std::alloc::{AllocError, Global};
 use std::iter::Copied;
@@ -506,4 +506,19 @@ fn mark_and_count(alloc: Global) -> Result<String, Fail> {
 #[test]
 fn marked_segments_join_to_the_marked_word(rt: HostRuntime) -> Result<(), Fail> {
     expect_text(mark_and_count(rt.alloc()), "fir=kin 2 2")
+}
+
+// A text with a word of three breaks appended to it.
+fn appended(alloc: Global) -> Result<String, AllocError> {
+    let mut page = String::from_str(alloc, "(")?;
+    let breaks = [2usize, 6, 7];
+    if Word::fits("hyphenation", &breaks) {
+        push_marked_text(&mut page, "hyphenation", &breaks, "-")?;
+    }
+    Ok(page)
+}
+
+#[test]
+fn marked_segments_of_a_text_are_appended(rt: HostRuntime) -> Result<(), Fail> {
+    expect_text(appended(rt.alloc()), "(hy-phen-a-tion")
 }

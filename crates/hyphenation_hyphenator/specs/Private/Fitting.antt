@@ -25,8 +25,8 @@ abbrev pub kept_opportunities : Rules → List ℕ → List Shift → List Break
 kept_opportunities rules folded shifts = kept_by_shifts folded shifts (opportunities rules folded)
 
 -- The opportunities of a folded word that are kept, carried back by the shifts of the folding.
-abbrev pub realigned_opportunities : Rules → List ℕ → List Shift → List Break
-realigned_opportunities rules folded shifts = map (realigned_break shifts) (kept_opportunities rules folded shifts)
+abbrev pub realigned_breaks : Rules → List ℕ → List Shift → List Break
+realigned_breaks rules folded shifts = map (realigned_break shifts) (kept_opportunities rules folded shifts)
 
 -- The end of a break's range, if the break is kept after ranges up to the last end.
 abbrev pub fitting_end : ℕ → List Shift → ℕ → Break → Option ℕ

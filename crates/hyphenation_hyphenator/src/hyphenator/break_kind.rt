@@ -1,12 +1,12 @@
 //! The breaks of standard and of extended dictionaries, for code that finds both.
 
-ghost use Rattle.std.specs.Prelude.{◌≡◌, ◌+◌, ◌-◌, ◌<◌, Option, None, IfOk, length, map};
+ghost use Rattle.std.specs.Prelude.{◌≡◌, ◌+◌, ◌-◌, ◌<◌, Option, None, OnOk, [], length, map};
 ghost use Rattle.std.specs.List.Sorted.{IsNonDecreasingBy};
 ghost use Rattle.hyphenation_breaks.specs.Break.{plain_break, break_at};
 ghost use Rattle.hyphenation_hyphenator.specs.Fitting.{kept_breaks};
 ghost use Rattle.hyphenation_hyphenator.specs.Private.Fitting.{range_holds_no_shift, kept_by_shifts};
 ghost use Rattle.hyphenation_trie.specs.Trie.{entries_of_key, EachBeginsKey};
-ghost use Rattle.hyphenation_hyphenator.specs.Opportunities.{breaks_within, breaks_at_odd_values, HasBreaks, Ascending};
+ghost use Rattle.hyphenation_hyphenator.specs.Opportunities.{breaks_within, breaks_at_odd_values, Ascending};
 ghost use Rattle.hyphenation_hyphenator.specs.Private.Opportunities.{borrowed_break, breaks_by_keys};
 
 use super::fitting::{are_plain, keep_fitting};
@@ -16,7 +16,7 @@ use hyphenation_breaks::breaks::Break;
 use hyphenation_breaks::entry::{Entry, Payload};
 use hyphenation_breaks::extended::Subregion;
 use hyphenation_trie::Automaton;
-use std::alloc::{AllocError, Global};
+use std::alloc::AllocError;
 
 // The type of the breaks that a kind of dictionary finds.
 pub(crate) trait BreakKind<'h>: Break + Copy {
@@ -26,16 +26,17 @@ pub(crate) trait BreakKind<'h>: Break + Copy {
     // A break as the dictionary's exceptions hold it.
     type Listing: Break;
 
-    // Finds the breaks within bounds that patterns allow.
+    // Puts the breaks within bounds that patterns allow into an empty list.
     fn pattern_breaks(
-        alloc: Global,
         patterns: &'h Automaton<Entry<Self::Payload>>,
         word: &str,
         bounds: (usize, usize),
-    ) -> Result<Vec<Self>, AllocError>
-        requires { EachBeginsKey patterns.now }
-        ensures { HasBreaks Self.meaning result
-            (breaks_by_keys Self.Payload.change_of (entries_of_key patterns.now) word.now bounds) };
+        list: &mut Vec<Self>,
+    ) -> Result<(), AllocError>
+        requires each_begins_key { EachBeginsKey patterns.now }
+        requires empty { list.old.items ≡ [] }
+        ensures { OnOk result (map Self.meaning list.new.items
+            ≡ breaks_by_keys Self.Payload.change_of (entries_of_key patterns.now) word.now bounds) };
 
     // Returns a listed break as a break that is found.
     fn from_listed(listed: &'h Self::Listing) -> Self
@@ -45,23 +46,18 @@ pub(crate) trait BreakKind<'h>: Break + Copy {
     fn at_place(self, place: usize) -> Self
         ensures { Self.meaning result ≡ break_at place (Self.meaning self).change };
 
-    // Returns plain breaks at the places.
-    fn from_places(alloc: Global, places: Vec<usize>) -> Result<Vec<Self>, AllocError>
-        ensures { HasBreaks Self.meaning result (map plain_break places.items) };
+    // Returns a plain break at a place.
+    fn plain(place: usize) -> Self
+        ensures { Self.meaning result ≡ plain_break place };
 
-    // Keeps those breaks of a folded word that fit the word as written.
+    // Keeps those breaks of a folded word that fit the word as written, and takes the others out of the list.
     //
     // The shifts are sorted by their indices, and the places of the breaks ascend.
-    fn keep_fitting(
-        alloc: Global,
-        folded: &str,
-        shifts: &[Shift],
-        breaks: Vec<Self>,
-    ) -> Result<Vec<Self>, AllocError>
+    fn keep_fitting(folded: &str, shifts: &[Shift], list: &mut Vec<Self>) -> Result<(), AllocError>
         requires shifts_sorted { IsNonDecreasingBy (λ shift. shift.index) shifts.now }
-        requires ascend { Ascending folded.now (map Self.meaning breaks.items) }
-        ensures { HasBreaks Self.meaning result
-            (kept_by_shifts folded.now shifts.now (map Self.meaning breaks.items)) };
+        requires ascend { Ascending folded.now (map Self.meaning list.old.items) }
+        ensures { OnOk result (map Self.meaning list.new.items
+            ≡ kept_by_shifts folded.now shifts.now (map Self.meaning list.old.items)) };
 }
 
 impl<'h> BreakKind<'h> for usize {
@@ -71,12 +67,12 @@ impl<'h> BreakKind<'h> for usize {
 
     #[inline(always)]
     fn pattern_breaks(
-        alloc: Global,
         patterns: &'h Automaton<Entry<()>>,
         word: &str,
         bounds: (usize, usize),
-    ) -> Result<Vec<usize>, AllocError> {
-        plain_breaks(alloc, patterns, word, bounds)
+        list: &mut Vec<usize>,
+    ) -> Result<(), AllocError> {
+        plain_breaks(patterns, word, bounds, list)
     }
 
     fn from_listed(listed: &'h usize) -> usize {
@@ -87,22 +83,22 @@ impl<'h> BreakKind<'h> for usize {
         place
     }
 
-    fn from_places(_alloc: Global, places: Vec<usize>) -> Result<Vec<usize>, AllocError> {
-        Ok(places)
+    fn plain(place: usize) -> usize {
+        place
     }
 
     // Plain breaks always fit.
     fn keep_fitting(
-        _alloc: Global,
         _folded: &str,
         _shifts: &[Shift],
-        breaks: Vec<usize>,
-    ) -> Result<Vec<usize>, AllocError>
+        _list: &mut Vec<usize>,
+    ) -> Result<(), AllocError>
         requires shifts_sorted { IsNonDecreasingBy (λ shift. shift.index) _shifts.now }
-        requires ascend { Ascending _folded.now (map plain_break breaks.items) }
-        ensures { HasBreaks plain_break result (kept_by_shifts _folded.now _shifts.now (map plain_break breaks.items)) }
+        requires ascend { Ascending _folded.now (map plain_break _list.old.items) }
+        ensures { OnOk result (map plain_break _list.new.items
+            ≡ kept_by_shifts _folded.now _shifts.now (map plain_break _list.old.items)) }
     {
-        Ok(breaks)
+        Ok(())
     }
 }
 
@@ -113,12 +109,12 @@ impl<'h> BreakKind<'h> for (usize, Option<&'h Subregion>) {
 
     #[inline(always)]
     fn pattern_breaks(
-        alloc: Global,
         patterns: &'h Automaton<Entry<Option<Subregion>>>,
         word: &str,
         bounds: (usize, usize),
-    ) -> Result<Vec<(usize, Option<&'h Subregion>)>, AllocError> {
-        winning_breaks(alloc, patterns, word, bounds)
+        list: &mut Vec<(usize, Option<&'h Subregion>)>,
+    ) -> Result<(), AllocError> {
+        winning_breaks(patterns, word, bounds, list)
     }
 
     fn from_listed(listed: &'h (usize, Option<Subregion>)) -> (usize, Option<&'h Subregion>) {
@@ -129,33 +125,26 @@ impl<'h> BreakKind<'h> for (usize, Option<&'h Subregion>) {
         (place, self.1)
     }
 
-    fn from_places(
-        alloc: Global,
-        places: Vec<usize>,
-    ) -> Result<Vec<(usize, Option<&'h Subregion>)>, AllocError> {
-        let mut breaks = Vec::new(alloc);
-        for place in &places {
-            breaks.push((*place, None))?;
-        }
-        Ok(breaks)
+    fn plain(place: usize) -> (usize, Option<&'h Subregion>) {
+        (place, None)
     }
 
     #[inline(always)]
     fn keep_fitting(
-        alloc: Global,
         folded: &str,
         shifts: &[Shift],
-        breaks: Vec<(usize, Option<&'h Subregion>)>,
-    ) -> Result<Vec<(usize, Option<&'h Subregion>)>, AllocError>
+        list: &mut Vec<(usize, Option<&'h Subregion>)>,
+    ) -> Result<(), AllocError>
         requires shifts_sorted { IsNonDecreasingBy (λ shift. shift.index) shifts.now }
-        requires ascend { Ascending folded.now (map borrowed_break breaks.items) }
-        ensures { HasBreaks borrowed_break result
-            (kept_by_shifts folded.now shifts.now (map borrowed_break breaks.entry.items)) }
+        requires ascend { Ascending folded.now (map borrowed_break list.old.items) }
+        ensures { OnOk result (map borrowed_break list.new.items
+            ≡ kept_by_shifts folded.now shifts.now (map borrowed_break list.old.items)) }
     {
         // Plain breaks always fit.
-        if are_plain(&breaks) {
-            return Ok(breaks);
+        if are_plain(list) {
+            return Ok(());
         }
-        keep_fitting(alloc, folded.len(), shifts, &breaks)
+        *list = keep_fitting(*list.allocator(), folded.len(), shifts, list)?;
+        Ok(())
     }
 }

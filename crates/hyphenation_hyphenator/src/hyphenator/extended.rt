@@ -12,7 +12,9 @@ ghost use Rattle.hyphenation_hyphenator.specs.Opportunities.{own_break, rules_of
 ghost use Rattle.hyphenation_hyphenator.specs.Opportunities.{HasBreaksIfAny, Ascending, ListsOnly};
 ghost use Rattle.hyphenation_score.specs.Scoring.{own_change};
 
-use super::word_paths::{breaks, exception, exception_within, opportunities, opportunities_within};
+use super::word_paths::{
+    breaks, breaks_into, exception, exception_within, opportunities, opportunities_within,
+};
 use super::{Hyphenator, boundaries_of};
 use hyphenation_breaks::extended::Subregion;
 use hyphenation_dictionary::dictionary::Extended;
@@ -126,5 +128,13 @@ impl<'h> Hyphenator<'h> for Extended {
         word: &str,
     ) -> Result<Vec<(usize, Option<&'h Subregion>)>, AllocError> {
         breaks(alloc, self, word)
+    }
+
+    fn breaks_into(
+        &'h self,
+        word: &str,
+        breaks: &mut Vec<(usize, Option<&'h Subregion>)>,
+    ) -> Result<(), AllocError> {
+        breaks_into(self, word, breaks)
     }
 }

@@ -4,14 +4,14 @@
 //! carry changes.
 
 ghost use Rattle.std.specs.Prelude.{◌≡◌, ◌≢◌, ◌%◌, ◌+◌, ◌-◌, ◌<◌, ◌≤◌, ◌&&◌, ℕ, length, map, filter, slice_index};
-ghost use Rattle.std.specs.Prelude.{IfOk, option_copied, Option, None};
+ghost use Rattle.std.specs.Prelude.{OnOk, [], ◌∷◌, ◌++◌, option_copied, Option, None};
 ghost use Rattle.std.specs.List.{range_with_len, slice_index_or};
 ghost use Rattle.std.specs.Option.{option_map};
 ghost use Rattle.hyphenation_breaks.specs.Break.{plain_break};
 ghost use Rattle.hyphenation_trie.specs.Trie.{entries_of_key, EachBeginsKey};
 ghost use Rattle.hyphenation_score.specs.Scoring.{own_change};
 ghost use Rattle.hyphenation_hyphenator.specs.Opportunities.{is_odd, no_change, within, breaks_within};
-ghost use Rattle.hyphenation_hyphenator.specs.Opportunities.{breaks_at_odd_values, HasBreaks};
+ghost use Rattle.hyphenation_hyphenator.specs.Opportunities.{breaks_at_odd_values};
 ghost use Rattle.hyphenation_hyphenator.specs.Private.Opportunities.{borrowed_break, break_at_winner};
 ghost use Rattle.hyphenation_hyphenator.specs.Private.Opportunities.{breaks_at_winners, breaks_by_keys, odd_places};
 
@@ -20,13 +20,25 @@ use hyphenation_breaks::extended::Subregion;
 use hyphenation_score::laws::winner_has_value;
 use hyphenation_score::{LookUps, compete_all, raise_all};
 use hyphenation_trie::Automaton;
-use std::alloc::{AllocError, Global};
+use std::alloc::AllocError;
 
 // Whether a place is within bounds, both included.
 pub(super) fn is_within(bounds: (usize, usize), place: usize) -> bool
     ensures { result ≡ within bounds place }
 {
     bounds.0 <= place && place <= bounds.1
+}
+
+// Appends a break. A list without memory takes some for eight breaks at once, since most words have a few.
+#[inline(always)]
+pub(super) fn push_with_room<B: Copy>(list: &mut Vec<B>, b: B) -> Result<(), AllocError>
+    ensures { OnOk result (list.new.items ≡ list.old.items ++ b ∷ []) }
+{
+    if list.capacity() == 0 {
+        list.reserve_exact(8)?;
+    }
+    list.push(b)?;
+    Ok(())
 }
 
 // Returns the break at a place by its winner, if the winner's value is odd and the place within bounds.
@@ -45,65 +57,71 @@ fn break_at_winner<'h>(
     }
 }
 
-// Returns the breaks within bounds by the winners of the places from place 1 on.
+// Puts the breaks within bounds by the winners of the places from place 1 on into an empty list.
+#[inline(always)]
 fn breaks_at_winners<'h>(
-    alloc: Global,
     winners: &[Option<&'h Entry<Option<Subregion>>>],
     bounds: (usize, usize),
-) -> Result<Vec<(usize, Option<&'h Subregion>)>, AllocError>
-    ensures { HasBreaks borrowed_break result (breaks_at_winners own_change (map option_copied winners.now) bounds) }
+    breaks: &mut Vec<(usize, Option<&'h Subregion>)>,
+) -> Result<(), AllocError>
+    requires { breaks.old.items ≡ [] }
+    ensures { OnOk result (map borrowed_break breaks.new.items
+        ≡ breaks_at_winners own_change (map option_copied winners.now) bounds) }
 {
-    // Most words have a few breaks, which take memory once.
-    let mut breaks = Vec::with_capacity(alloc, winners.len().min(8))?;
     for (index, winner) in winners.iter().enumerate() {
         if let Some(b) = break_at_winner(index + 1, *winner, bounds) {
-            breaks.push(b)?;
+            push_with_room(breaks, b)?;
         }
     }
-    Ok(breaks)
+    Ok(())
 }
 
-// Finds the breaks within bounds that patterns allow. The buffer has a winner for each place, all `None` at first.
+// Puts the breaks within bounds that patterns allow into an empty list. The buffer has a winner for each place, all
+// `None` at first.
 #[inline(always)]
 fn winning_breaks_with_buffer<'h>(
-    alloc: Global,
     patterns: &'h Automaton<Entry<Option<Subregion>>>,
     word: &str,
     winners: &mut [Option<&'h Entry<Option<Subregion>>>],
     bounds: (usize, usize),
-) -> Result<Vec<(usize, Option<&'h Subregion>)>, AllocError>
+    breaks: &mut Vec<(usize, Option<&'h Subregion>)>,
+) -> Result<(), AllocError>
     requires each_begins_key { EachBeginsKey patterns.now }
     requires one_for_each_place { length winners.old ≡ length word.now - 1 }
     requires none_at_first { (i : ℕ) → i < length winners.old → slice_index_or winners.old i None ≡ None }
-    ensures { HasBreaks borrowed_break result
-        (breaks_by_keys own_change (entries_of_key patterns.now) word.now bounds) }
+    requires empty { breaks.old.items ≡ [] }
+    ensures { OnOk result (map borrowed_break breaks.new.items
+        ≡ breaks_by_keys own_change (entries_of_key patterns.now) word.now bounds) }
 {
     winner_has_value::<Option<Subregion>>();
     let mut count = LookUps::new();
     compete_all(patterns, word.as_bytes(), winners, &mut count);
-    breaks_at_winners(alloc, winners, bounds)
+    breaks_at_winners(winners, bounds, breaks)
 }
 
-// Finds the breaks within bounds that the patterns of an extended dictionary allow, with the changes of the winners.
+// Puts the breaks within bounds that the patterns of an extended dictionary allow into an empty list, with the changes
+// of the winners.
 #[inline(always)]
 pub(super) fn winning_breaks<'h>(
-    alloc: Global,
     patterns: &'h Automaton<Entry<Option<Subregion>>>,
     word: &str,
     bounds: (usize, usize),
-) -> Result<Vec<(usize, Option<&'h Subregion>)>, AllocError>
-    requires { EachBeginsKey patterns.now }
-    ensures { HasBreaks borrowed_break result
-        (breaks_by_keys own_change (entries_of_key patterns.now) word.now bounds) }
+    breaks: &mut Vec<(usize, Option<&'h Subregion>)>,
+) -> Result<(), AllocError>
+    requires each_begins_key { EachBeginsKey patterns.now }
+    requires empty { breaks.old.items ≡ [] }
+    ensures { OnOk result (map borrowed_break breaks.new.items
+        ≡ breaks_by_keys own_change (entries_of_key patterns.now) word.now bounds) }
 {
     let places = word.len().saturating_sub(1);
     if places <= 32 {
         // The winners of most words stand on the stack.
         let mut winners: [Option<&'h Entry<Option<Subregion>>>; 32] = [None; 32];
-        return winning_breaks_with_buffer(alloc, patterns, word, &mut winners[..places], bounds);
+        return winning_breaks_with_buffer(patterns, word, &mut winners[..places], bounds, breaks);
     }
-    let mut winners: Vec<Option<&'h Entry<Option<Subregion>>>> = vec![in alloc; None; places]?;
-    winning_breaks_with_buffer(alloc, patterns, word, &mut winners, bounds)
+    let mut winners: Vec<Option<&'h Entry<Option<Subregion>>>> =
+        vec![in *breaks.allocator(); None; places]?;
+    winning_breaks_with_buffer(patterns, word, &mut winners, bounds, breaks)
 }
 
 // Returns the first place from `first` to `end` that has an odd value, or a place after `end` where none has.
@@ -123,68 +141,74 @@ fn first_odd_place(values: &[u8], first: usize, end: usize) -> usize
     first.max(end + 1)
 }
 
-// Returns the places within bounds that have an odd value. The values begin with that of place 1.
+// Puts the places within bounds that have an odd value into an empty list. The values begin with that of place 1.
 #[inline(always)]
 fn odd_places(
-    alloc: Global,
     values: &[u8],
     bounds: (usize, usize),
-) -> Result<Vec<usize>, AllocError>
-    ensures { IfOk result (λ v. v.items ≡ odd_places values.now bounds) }
+    places: &mut Vec<usize>,
+) -> Result<(), AllocError>
+    requires { places.old.items ≡ [] }
+    ensures { OnOk result (places.new.items ≡ odd_places values.now bounds) }
 {
     // Places outside of the bounds are not read.
     let first = bounds.0.max(1);
     let end = values.len().min(bounds.1);
     let least = first_odd_place(values, first, end);
     if end < least {
-        return Ok(Vec::new(alloc));
+        return Ok(());
     }
     // Most words have a few breaks, which take memory once.
-    let mut places = Vec::with_capacity(alloc, (end + 1 - least).min(8))?;
+    places.reserve_exact((end + 1 - least).min(8))?;
     for place in least..end + 1 {
         if values[place - 1] % 2 == 1 {
             places.push(place)?;
         }
     }
-    Ok(places)
+    Ok(())
 }
 
-// Finds the places within bounds that patterns allow. The buffer has a value for each place, all 0 at first.
+// Puts the places within bounds that patterns allow into an empty list. The buffer has a value for each place, all 0 at
+// first.
 #[inline(always)]
 fn plain_breaks_with_buffer(
-    alloc: Global,
     patterns: &Automaton<Entry<()>>,
     word: &str,
     values: &mut [u8],
     bounds: (usize, usize),
-) -> Result<Vec<usize>, AllocError>
+    places: &mut Vec<usize>,
+) -> Result<(), AllocError>
     requires each_begins_key { EachBeginsKey patterns.now }
     requires one_for_each_place { length values.old ≡ length word.now - 1 }
     requires zeros_at_first { (i : ℕ) → i < length values.old → slice_index values.old i ≡ 0 }
-    ensures { HasBreaks plain_break result (breaks_by_keys no_change (entries_of_key patterns.now) word.now bounds) }
+    requires empty { places.old.items ≡ [] }
+    ensures { OnOk result (map plain_break places.new.items
+        ≡ breaks_by_keys no_change (entries_of_key patterns.now) word.now bounds) }
 {
     let mut count = LookUps::new();
     raise_all(patterns, word.as_bytes(), values, &mut count);
-    odd_places(alloc, values, bounds)
+    odd_places(values, bounds, places)
 }
 
-// Finds the places within bounds that the patterns of a standard dictionary allow.
+// Puts the places within bounds that the patterns of a standard dictionary allow into an empty list.
 #[inline(always)]
 pub(super) fn plain_breaks(
-    alloc: Global,
     patterns: &Automaton<Entry<()>>,
     word: &str,
     bounds: (usize, usize),
-) -> Result<Vec<usize>, AllocError>
-    requires { EachBeginsKey patterns.now }
-    ensures { HasBreaks plain_break result (breaks_by_keys no_change (entries_of_key patterns.now) word.now bounds) }
+    places: &mut Vec<usize>,
+) -> Result<(), AllocError>
+    requires each_begins_key { EachBeginsKey patterns.now }
+    requires empty { places.old.items ≡ [] }
+    ensures { OnOk result (map plain_break places.new.items
+        ≡ breaks_by_keys no_change (entries_of_key patterns.now) word.now bounds) }
 {
-    let places = word.len().saturating_sub(1);
-    if places <= 64 {
+    let count = word.len().saturating_sub(1);
+    if count <= 64 {
         // The values of most words stand on the stack.
         let mut values = [0u8; 64];
-        return plain_breaks_with_buffer(alloc, patterns, word, &mut values[..places], bounds);
+        return plain_breaks_with_buffer(patterns, word, &mut values[..count], bounds, places);
     }
-    let mut values = vec![in alloc; 0u8; places]?;
-    plain_breaks_with_buffer(alloc, patterns, word, &mut values, bounds)
+    let mut values = vec![in *places.allocator(); 0u8; count]?;
+    plain_breaks_with_buffer(patterns, word, &mut values, bounds, places)
 }

@@ -9,7 +9,9 @@ ghost use Rattle.hyphenation_breaks.specs.Invariant.{are_listed};
 ghost use Rattle.hyphenation_hyphenator.specs.Opportunities.{no_change, rules_of, standard_rules};
 ghost use Rattle.hyphenation_hyphenator.specs.Opportunities.{HasBreaksIfAny, ListsOnly};
 
-use super::word_paths::{breaks, exception, exception_within, opportunities, opportunities_within};
+use super::word_paths::{
+    breaks, breaks_into, exception, exception_within, opportunities, opportunities_within,
+};
 use super::{Hyphenator, boundaries_of};
 use hyphenation_dictionary::dictionary::Standard;
 use hyphenation_score::laws::{value_is_borne, winner_is_first};
@@ -107,5 +109,11 @@ impl<'h> Hyphenator<'h> for Standard {
         self.invariant();
         value_is_borne::<()>();
         breaks(alloc, self, word)
+    }
+
+    fn breaks_into(&'h self, word: &str, breaks: &mut Vec<usize>) -> Result<(), AllocError> {
+        self.invariant();
+        value_is_borne::<()>();
+        breaks_into(self, word, breaks)
     }
 }

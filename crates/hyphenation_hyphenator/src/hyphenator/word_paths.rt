@@ -3,18 +3,19 @@
 //! The calls for lowercase words stand first. Then come the paths of a word as written, a fast one for each sort of
 //! words that is common.
 
-ghost use Rattle.std.specs.Prelude.{◌≡◌, ◌≤◌, [], true, ◌-◌, ◌<◌, ◌&&◌, length, map};
-ghost use Rattle.std.specs.Prelude.{Option, Some, None, IfOk, OnOk, IfSome};
-ghost use Rattle.std.specs.Char.{is_ascii_lowercase};
+ghost use Rattle.std.specs.Prelude.{◌≡◌, ◌≤◌, [], true, ◌-◌, ◌<◌, ◌&&◌, length, map, take};
+ghost use Rattle.std.specs.Prelude.{Option, Some, None, IsTrue, IfOk, OnOk, OnErr, IfSome};
+ghost use Rattle.std.specs.Char.{is_ascii_lowercase, to_ascii_lowercase};
 ghost use Rattle.std.specs.List.{list_all};
 ghost use Rattle.std.specs.List.Sorted.{IsNonDecreasingBy};
 ghost use Rattle.std.specs.Option.{option_map};
 ghost use Rattle.std.specs.Str.{IsAscii};
+ghost use Rattle.hyphenation_breaks.specs.Break.{plain_break};
 ghost use Rattle.hyphenation_segments.specs.Fits.{Fits};
 ghost use Rattle.hyphenation_hyphenator.specs.Folding.{shifts_of};
 ghost use Rattle.hyphenation_hyphenator.specs.Fitting.{kept_breaks, fitted_breaks_of, KeepRanges};
 ghost use Rattle.hyphenation_hyphenator.specs.Private.Fitting.{range_holds_no_shift, kept_by_shifts};
-ghost use Rattle.hyphenation_hyphenator.specs.Private.Fitting.{kept_opportunities, realigned_opportunities};
+ghost use Rattle.hyphenation_hyphenator.specs.Private.Fitting.{kept_opportunities, realigned_breaks};
 ghost use Rattle.hyphenation_hyphenator.specs.Private.CommonLowercase.{are_common_lowercase};
 ghost use Rattle.hyphenation_hyphenator.specs.Opportunities.{rules_of, within, breaks_within, by_patterns};
 ghost use Rattle.hyphenation_hyphenator.specs.Opportunities.{by_exception, exception_within_boundaries, opportunities_in};
@@ -25,8 +26,8 @@ use super::ascii_lowercase::are_ascii_lowercase;
 use super::boundaries::boundaries_of_ascii;
 use super::boundaries_of;
 use super::break_kind::BreakKind;
-use super::pattern_breaks::is_within;
-use crate::case_folding::{Shift, are_common_lowercase, realign_sorted, refold};
+use super::pattern_breaks::{is_within, push_with_room};
+use crate::case_folding::{Shift, are_common_lowercase, fold_in_place, realign_sorted, refold};
 use crate::soft_hyphens::soft_hyphen_indices;
 use hyphenation_breaks::breaks::Break;
 use hyphenation_breaks::entry::{Entry, Payload};
@@ -36,26 +37,43 @@ use hyphenation_score::laws::{value_is_borne, winner_is_first};
 use std::alloc::{AllocError, Global};
 use std::str;
 
-// Returns the listed breaks that are within bounds. It is kept out of line, since few words are listed.
+// Puts the listed breaks that are within bounds into an empty list. It is kept out of line, since few words are listed.
 #[inline(never)]
 fn listed_within<'h, F: BreakKind<'h>>(
-    alloc: Global,
     listed: &'h [F::Listing],
     bounds: (usize, usize),
-) -> Result<Vec<F>, AllocError>
-    ensures { HasBreaks F.meaning result (breaks_within (map F.Listing.meaning listed.now) bounds) }
+    list: &mut Vec<F>,
+) -> Result<(), AllocError>
+    requires { list.old.items ≡ [] }
+    ensures { OnOk result (map F.meaning list.new.items ≡ breaks_within (map F.Listing.meaning listed.now) bounds) }
 {
-    let mut breaks = Vec::new(alloc);
     for b in listed {
         if is_within(bounds, b.place()) {
-            breaks.push(F::from_listed(b))?;
+            push_with_room(list, F::from_listed(b))?;
         }
     }
-    Ok(breaks)
+    Ok(())
+}
+
+// Puts the breaks that patterns allow from the first bound to the second into an empty list.
+#[inline(always)]
+fn patterned_within<'h, F: BreakKind<'h>>(
+    dictionary: &'h Dictionary<F::Payload, F::Listing>,
+    word: &str,
+    bounds: (usize, usize),
+    list: &mut Vec<F>,
+) -> Result<(), AllocError>
+    requires { list.old.items ≡ [] }
+    ensures breaks { OnOk result (map F.meaning list.new.items
+        ≡ by_patterns (rules_of F.Payload.change_of F.Listing.meaning dictionary.now) word.now bounds) }
+    ensures ascend { OnOk result (Ascending word.now (map F.meaning list.new.items)) }
+{
+    dictionary.invariant();
+    value_is_borne::<F::Payload>();
+    F::pattern_breaks(automaton_of(dictionary), word, bounds, list)
 }
 
 // Finds the breaks that patterns allow from the first bound to the second.
-#[inline(always)]
 pub(crate) fn opportunities_within<'h, F: BreakKind<'h>>(
     alloc: Global,
     dictionary: &'h Dictionary<F::Payload, F::Listing>,
@@ -66,9 +84,9 @@ pub(crate) fn opportunities_within<'h, F: BreakKind<'h>>(
         (by_patterns (rules_of F.Payload.change_of F.Listing.meaning dictionary.now) word.now bounds) }
     ensures ascend { IfOk result (λ v. Ascending word.now (map F.meaning v.items)) }
 {
-    dictionary.invariant();
-    value_is_borne::<F::Payload>();
-    F::pattern_breaks(alloc, automaton_of(dictionary), word, bounds)
+    let mut list = Vec::new(alloc);
+    patterned_within(dictionary, word, bounds, &mut list)?;
+    Ok(list)
 }
 
 // Returns the breaks listed for a word from the first bound to the second.
@@ -85,7 +103,11 @@ pub(crate) fn exception_within<'h, F: BreakKind<'h>>(
 {
     dictionary.invariant();
     match dictionary.listed(word) {
-        Some(listed) => Ok(Some(listed_within(alloc, listed, bounds)?)),
+        Some(listed) => {
+            let mut list = Vec::new(alloc);
+            listed_within(listed, bounds, &mut list)?;
+            Ok(Some(list))
+        }
         None => Ok(None),
     }
 }
@@ -106,31 +128,48 @@ pub(crate) fn exception<'h, F: BreakKind<'h>>(
     }
 }
 
-// Finds the breaks from the first bound to the second: the listed ones of an exception, and else those that patterns
-// allow.
-//
-// It looks the exception up itself: passing on the result of `exception_within` would cost every other word time.
+// Puts the breaks from the first bound to the second into an empty list: the listed ones of an exception, and else
+// those that patterns allow.
 #[inline(always)]
 fn opportunities_in<'h, F: BreakKind<'h>>(
-    alloc: Global,
     dictionary: &'h Dictionary<F::Payload, F::Listing>,
     word: &str,
     bounds: (usize, usize),
-) -> Result<Vec<F>, AllocError>
-    ensures breaks { HasBreaks F.meaning result
-        (opportunities_in (rules_of F.Payload.change_of F.Listing.meaning dictionary.now) word.now bounds) }
-    ensures ascend { IfOk result (λ v. Ascending word.now (map F.meaning v.items)) }
+    list: &mut Vec<F>,
+) -> Result<(), AllocError>
+    requires { list.old.items ≡ [] }
+    ensures breaks { OnOk result (map F.meaning list.new.items
+        ≡ opportunities_in (rules_of F.Payload.change_of F.Listing.meaning dictionary.now) word.now bounds) }
+    ensures ascend { OnOk result (Ascending word.now (map F.meaning list.new.items)) }
 {
     dictionary.invariant();
     match dictionary.listed(word) {
-        Some(listed) => listed_within(alloc, listed, bounds),
-        None => opportunities_within(alloc, dictionary, word, bounds),
+        Some(listed) => listed_within(listed, bounds, list),
+        None => patterned_within(dictionary, word, bounds, list),
     }
 }
 
-// Finds the breaks of a lowercase word, within its boundaries.
-#[inline(always)]
+// Puts the breaks of a lowercase word, within its boundaries, into an empty list. It is kept out of line, so that the
+// scoring loop has all registers.
+#[inline(never)]
 #[tactic(auto, unfolding(crate::specs::Opportunities::opportunities))]
+fn put_opportunities<'h, F: BreakKind<'h>>(
+    dictionary: &'h Dictionary<F::Payload, F::Listing>,
+    word: &str,
+    list: &mut Vec<F>,
+) -> Result<(), AllocError>
+    requires { list.old.items ≡ [] }
+    ensures breaks { OnOk result (map F.meaning list.new.items
+        ≡ opportunities (rules_of F.Payload.change_of F.Listing.meaning dictionary.now) word.now) }
+    ensures ascend { OnOk result (Ascending word.now (map F.meaning list.new.items)) }
+{
+    let Some(bounds) = boundaries_of(dictionary.minima(), word) else {
+        return Ok(());
+    };
+    opportunities_in(dictionary, word, bounds, list)
+}
+
+// Finds the breaks of a lowercase word, within its boundaries.
 pub(crate) fn opportunities<'h, F: BreakKind<'h>>(
     alloc: Global,
     dictionary: &'h Dictionary<F::Payload, F::Listing>,
@@ -140,10 +179,9 @@ pub(crate) fn opportunities<'h, F: BreakKind<'h>>(
         (opportunities (rules_of F.Payload.change_of F.Listing.meaning dictionary.now) word.now) }
     ensures ascend { IfOk result (λ v. Ascending word.now (map F.meaning v.items)) }
 {
-    let Some(bounds) = boundaries_of(dictionary.minima(), word) else {
-        return Ok(Vec::new(alloc));
-    };
-    opportunities_in(alloc, dictionary, word, bounds)
+    let mut list = Vec::new(alloc);
+    put_opportunities(dictionary, word, &mut list)?;
+    Ok(list)
 }
 
 // Carries each break of a folded word back to the word as written. The shifts are sorted by their indices.
@@ -156,23 +194,24 @@ pub(crate) fn realign_all<'h, F: BreakKind<'h>>(breaks: &mut [F], shifts: &[Shif
     }
 }
 
-// Finds the breaks of a folded word of ASCII, where the folding moved nothing.
+// Puts the breaks of a folded word of ASCII, where the folding moved nothing, into an empty list.
 #[inline(always)]
 #[tactic(auto, unfolding(crate::specs::Opportunities::opportunities, crate::specs::Fitting::kept_breaks))]
 fn breaks_of_folded_ascii<'h, F: BreakKind<'h>>(
-    alloc: Global,
     dictionary: &'h Dictionary<F::Payload, F::Listing>,
     folded: &str,
-) -> Result<Vec<F>, AllocError>
+    list: &mut Vec<F>,
+) -> Result<(), AllocError>
     requires ascii { IsAscii folded.now }
-    ensures { HasBreaks F.meaning result
-        (kept_opportunities (rules_of F.Payload.change_of F.Listing.meaning dictionary.now) folded.now []) }
+    requires empty { list.old.items ≡ [] }
+    ensures { OnOk result (map F.meaning list.new.items
+        ≡ kept_opportunities (rules_of F.Payload.change_of F.Listing.meaning dictionary.now) folded.now []) }
 {
     let Some(bounds) = boundaries_of_ascii(dictionary.minima(), folded) else {
-        return Ok(Vec::new(alloc));
+        return Ok(());
     };
-    let found = opportunities_in(alloc, dictionary, folded, bounds)?;
-    F::keep_fitting(alloc, folded, &[], found)
+    opportunities_in(dictionary, folded, bounds, list)?;
+    F::keep_fitting(folded, &[], list)
 }
 
 // Does nothing. Its contract is a law: a word of the letters a to z is ASCII.
@@ -182,90 +221,99 @@ fn ascii_lowercase_is_ascii(word: &str)
     ensures { IsAscii word.now }
 {}
 
-// Finds the breaks of a word of the letters a to z.
+// Puts the breaks of a word of the letters a to z into an empty list.
 #[inline(never)]
 fn breaks_of_ascii_lowercase<'h, F: BreakKind<'h>>(
-    alloc: Global,
     dictionary: &'h Dictionary<F::Payload, F::Listing>,
     word: &str,
-) -> Result<Vec<F>, AllocError>
-    requires { list_all is_ascii_lowercase word.now ≡ true }
-    ensures { HasBreaks F.meaning result
-        (fitted_breaks_of (rules_of F.Payload.change_of F.Listing.meaning dictionary.now) word.now) }
+    list: &mut Vec<F>,
+) -> Result<(), AllocError>
+    requires letters { list_all is_ascii_lowercase word.now ≡ true }
+    requires empty { list.old.items ≡ [] }
+    ensures { OnOk result (map F.meaning list.new.items
+        ≡ fitted_breaks_of (rules_of F.Payload.change_of F.Listing.meaning dictionary.now) word.now) }
 {
     dictionary.invariant();
     value_is_borne::<F::Payload>();
     ascii_lowercase_is_ascii(word);
-    breaks_of_folded_ascii(alloc, dictionary, word)
+    breaks_of_folded_ascii(dictionary, word, list)
 }
 
-// Finds the breaks of a word of ASCII, which is folded on the stack.
+// Folds a word of ASCII over the first bytes of a buffer. All of the buffer is folded, since so many bytes are folded at
+// once.
+#[inline(always)]
+fn fold_ascii(word: &[u8], buffer: &mut [u8; 64])
+    requires { length word.now ≤ 64 }
+    ensures { take (length word.now) buffer.new ≡ map to_ascii_lowercase word.now }
+{
+    buffer[..word.len()].copy_from_slice(word);
+    buffer.make_ascii_lowercase();
+}
+
+// Puts the breaks of a word of ASCII, which is folded on the stack, into an empty list.
 #[inline(never)]
 fn breaks_of_ascii<'h, F: BreakKind<'h>>(
-    alloc: Global,
     dictionary: &'h Dictionary<F::Payload, F::Listing>,
     word: &str,
-) -> Result<Vec<F>, AllocError>
+    list: &mut Vec<F>,
+) -> Result<(), AllocError>
     requires ascii { IsAscii word.now }
     requires short { length word.now ≤ 64 }
-    ensures { HasBreaks F.meaning result
-        (fitted_breaks_of (rules_of F.Payload.change_of F.Listing.meaning dictionary.now) word.now) }
+    requires empty { list.old.items ≡ [] }
+    ensures { OnOk result (map F.meaning list.new.items
+        ≡ fitted_breaks_of (rules_of F.Payload.change_of F.Listing.meaning dictionary.now) word.now) }
 {
     dictionary.invariant();
     value_is_borne::<F::Payload>();
     let mut buffer = [0u8; 64];
-    let folded = &mut buffer[..word.len()];
-    folded.copy_from_slice(word.as_bytes());
-    folded.make_ascii_lowercase();
-    let text = str::from_utf8(folded).unwrap();
-    breaks_of_folded_ascii(alloc, dictionary, text)
+    fold_ascii(word.as_bytes(), &mut buffer);
+    let folded = unsafe { str::from_utf8_unchecked(&buffer[..word.len()]) };
+    breaks_of_folded_ascii(dictionary, folded, list)
 }
 
-// Finds the breaks of a word of common lowercase letters, which folds to itself.
-#[inline(never)]
+// Puts the breaks of a word of common lowercase letters, which folds to itself, into an empty list.
 fn breaks_of_common_lowercase<'h, F: BreakKind<'h>>(
-    alloc: Global,
     dictionary: &'h Dictionary<F::Payload, F::Listing>,
     word: &str,
-) -> Result<Vec<F>, AllocError>
-    requires { are_common_lowercase word.now ≡ true }
-    ensures { HasBreaks F.meaning result
-        (fitted_breaks_of (rules_of F.Payload.change_of F.Listing.meaning dictionary.now) word.now) }
+    list: &mut Vec<F>,
+) -> Result<(), AllocError>
+    requires letters { are_common_lowercase word.now ≡ true }
+    requires empty { list.old.items ≡ [] }
+    ensures { OnOk result (map F.meaning list.new.items
+        ≡ fitted_breaks_of (rules_of F.Payload.change_of F.Listing.meaning dictionary.now) word.now) }
 {
-    let found = opportunities(alloc, dictionary, word)?;
-    F::keep_fitting(alloc, word, &[], found)
+    put_opportunities(dictionary, word, list)?;
+    F::keep_fitting(word, &[], list)
 }
 
-// Finds the opportunities of a folded word. It is kept out of line, so that the scoring loop has all registers.
-#[inline(never)]
-fn folded_opportunities<'h, F: BreakKind<'h>>(
-    alloc: Global,
-    dictionary: &'h Dictionary<F::Payload, F::Listing>,
-    folded: &str,
-) -> Result<Vec<F>, AllocError>
-    ensures breaks { HasBreaks F.meaning result
-        (opportunities (rules_of F.Payload.change_of F.Listing.meaning dictionary.now) folded.now) }
-    ensures ascend { IfOk result (λ v. Ascending folded.now (map F.meaning v.items)) }
-{
-    opportunities(alloc, dictionary, folded)
-}
-
-// Finds the breaks of a folded word, and carries them back. The shifts of the folding are sorted by their indices.
-#[inline(always)]
+// Puts the breaks of a folded word, carried back, into an empty list. The shifts of the folding are sorted by their
+// indices.
 fn breaks_of_folded<'h, F: BreakKind<'h>>(
-    alloc: Global,
     dictionary: &'h Dictionary<F::Payload, F::Listing>,
     folded: &str,
     shifts: &[Shift],
-) -> Result<Vec<F>, AllocError>
+    list: &mut Vec<F>,
+) -> Result<(), AllocError>
     requires shifts_sorted { IsNonDecreasingBy (λ shift. shift.index) shifts.now }
-    ensures { HasBreaks F.meaning result (realigned_opportunities
+    requires empty { list.old.items ≡ [] }
+    ensures { OnOk result (map F.meaning list.new.items ≡ realigned_breaks
         (rules_of F.Payload.change_of F.Listing.meaning dictionary.now) folded.now shifts.now) }
 {
-    let found = folded_opportunities(alloc, dictionary, folded)?;
-    let mut breaks = F::keep_fitting(alloc, folded, shifts, found)?;
-    realign_all(&mut breaks, shifts);
-    Ok(breaks)
+    put_opportunities(dictionary, folded, list)?;
+    F::keep_fitting(folded, shifts, list)?;
+    realign_all(list, shifts);
+    Ok(())
+}
+
+// Puts plain breaks at the places into an empty list.
+fn put_plain<'h, F: BreakKind<'h>>(places: &[usize], list: &mut Vec<F>) -> Result<(), AllocError>
+    requires { list.old.items ≡ [] }
+    ensures { OnOk result (map F.meaning list.new.items ≡ map plain_break places.now) }
+{
+    for place in places {
+        push_with_room(list, F::plain(*place))?;
+    }
+    Ok(())
 }
 
 // Does nothing. Its contract is a law: the shifts of a word's folding are sorted by their indices.
@@ -275,49 +323,97 @@ fn shifts_are_in_order(word: &str, shifts: &[Shift])
     ensures { IsNonDecreasingBy (λ shift. shift.index) shifts.now }
 {}
 
-// Finds the breaks of any word.
+// Puts the breaks of any word into an empty list.
 #[inline(never)]
 fn breaks_of_any<'h, F: BreakKind<'h>>(
-    alloc: Global,
     dictionary: &'h Dictionary<F::Payload, F::Listing>,
     word: &str,
-) -> Result<Vec<F>, AllocError>
-    ensures { HasBreaks F.meaning result
-        (fitted_breaks_of (rules_of F.Payload.change_of F.Listing.meaning dictionary.now) word.now) }
+    list: &mut Vec<F>,
+) -> Result<(), AllocError>
+    requires { list.old.items ≡ [] }
+    ensures { OnOk result (map F.meaning list.new.items
+        ≡ fitted_breaks_of (rules_of F.Payload.change_of F.Listing.meaning dictionary.now) word.now) }
 {
     dictionary.invariant();
     value_is_borne::<F::Payload>();
+    let alloc = *list.allocator();
     if let Some(places) = soft_hyphen_indices(alloc, word)? {
-        return F::from_places(alloc, places);
+        return put_plain(&places, list);
     }
     let (folded, shifts) = refold(alloc, word)?;
     let text = folded.as_str();
     let shifts: &[Shift] = &shifts;
     shifts_are_in_order(word, shifts);
-    breaks_of_folded(alloc, dictionary, text, shifts)
+    breaks_of_folded(dictionary, text, shifts, list)
 }
 
-// Finds the breaks of a word as written, by the fastest path for its letters.
+// Puts the breaks of a word of at most 64 bytes into an empty list. Most such words are folded on the stack, without
+// shifts.
+#[inline(never)]
+fn breaks_of_short<'h, F: BreakKind<'h>>(
+    dictionary: &'h Dictionary<F::Payload, F::Listing>,
+    word: &str,
+    list: &mut Vec<F>,
+) -> Result<(), AllocError>
+    requires short { length word.now ≤ 64 }
+    requires empty { list.old.items ≡ [] }
+    ensures { OnOk result (map F.meaning list.new.items
+        ≡ fitted_breaks_of (rules_of F.Payload.change_of F.Listing.meaning dictionary.now) word.now) }
+{
+    let mut buffer = [0u8; 64];
+    let bytes = &mut buffer[..word.len()];
+    if !fold_in_place(word, bytes) {
+        return breaks_of_any(dictionary, word, list);
+    }
+    let folded = unsafe { str::from_utf8_unchecked(bytes) };
+    put_opportunities(dictionary, folded, list)?;
+    F::keep_fitting(folded, &[], list)
+}
+
+// Whether a word is one byte of ASCII, which the minima leave whole. Half of the pieces of a text are such: spaces, commas
+// and other marks.
+#[inline(always)]
+fn is_whole_byte<'h, F: BreakKind<'h>>(
+    dictionary: &'h Dictionary<F::Payload, F::Listing>,
+    word: &str,
+) -> bool
+    ensures { IsTrue result
+        → fitted_breaks_of (rules_of F.Payload.change_of F.Listing.meaning dictionary.now) word.now ≡ [] }
+{
+    let bytes = word.as_bytes();
+    if bytes.len() != 1 || bytes[0] >= 0x80 || dictionary.minima().0 == 0 {
+        return false;
+    }
+    true
+}
+
+// Puts the breaks of a word as written into an empty list, by the fastest path for its letters.
 //
 // Most words have lowercase letters alone, which fold to themselves, or are ASCII. Such words have no soft hyphens, and
 // their folding moves no place.
 #[inline(always)]
 fn breaks_by_path<'h, F: BreakKind<'h>>(
-    alloc: Global,
     dictionary: &'h Dictionary<F::Payload, F::Listing>,
     word: &str,
-) -> Result<Vec<F>, AllocError>
-    ensures { HasBreaks F.meaning result
-        (fitted_breaks_of (rules_of F.Payload.change_of F.Listing.meaning dictionary.now) word.now) }
+    list: &mut Vec<F>,
+) -> Result<(), AllocError>
+    requires { list.old.items ≡ [] }
+    ensures { OnOk result (map F.meaning list.new.items
+        ≡ fitted_breaks_of (rules_of F.Payload.change_of F.Listing.meaning dictionary.now) word.now) }
 {
+    if is_whole_byte::<F>(dictionary, word) {
+        return Ok(());
+    }
     if are_ascii_lowercase(word.as_bytes()) {
-        breaks_of_ascii_lowercase(alloc, dictionary, word)
+        breaks_of_ascii_lowercase(dictionary, word, list)
     } else if are_common_lowercase(word) {
-        breaks_of_common_lowercase(alloc, dictionary, word)
-    } else if word.len() <= 64 && word.is_ascii() {
-        breaks_of_ascii(alloc, dictionary, word)
+        breaks_of_common_lowercase(dictionary, word, list)
+    } else if 64 < word.len() {
+        breaks_of_any(dictionary, word, list)
+    } else if word.is_ascii() {
+        breaks_of_ascii(dictionary, word, list)
     } else {
-        breaks_of_any(alloc, dictionary, word)
+        breaks_of_short(dictionary, word, list)
     }
 }
 
@@ -336,5 +432,32 @@ pub(crate) fn breaks<'h, F: BreakKind<'h>>(
     dictionary.invariant();
     value_is_borne::<F::Payload>();
     winner_is_first::<F::Payload>();
-    breaks_by_path(alloc, dictionary, word)
+    let mut list = Vec::new(alloc);
+    breaks_by_path(dictionary, word, &mut list)?;
+    Ok(list)
+}
+
+// Puts the breaks of a word as written into a list, in place of what it held.
+#[inline(always)]
+pub(crate) fn breaks_into<'h, F: BreakKind<'h>>(
+    dictionary: &'h Dictionary<F::Payload, F::Listing>,
+    word: &str,
+    list: &mut Vec<F>,
+) -> Result<(), AllocError>
+    ensures breaks { OnOk result (map F.meaning list.new.items
+        ≡ fitted_breaks_of (rules_of F.Payload.change_of F.Listing.meaning dictionary.now) word.now) }
+    ensures fits { OnOk result (Fits word.now (map F.meaning list.new.items)) }
+    ensures empty_on_error { OnErr result (list.new.items ≡ []) }
+{
+    dictionary.invariant();
+    value_is_borne::<F::Payload>();
+    winner_is_first::<F::Payload>();
+    list.clear();
+    match breaks_by_path(dictionary, word, list) {
+        Ok(()) => Ok(()),
+        Err(error) => {
+            list.clear();
+            Err(error)
+        }
+    }
 }

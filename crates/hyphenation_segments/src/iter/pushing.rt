@@ -57,6 +57,37 @@ fn push_segments<B: Break>(
     output.push_str(&text[start..])
 }
 
+/// Appends the segments of a text at breaks that fit it to a `String`, each but the last with the mark after it.
+///
+/// The breaks must fit the text; [`Word::fits`] tests that. An error says that memory was refused; the `String` is then
+/// unchanged.
+///
+/// ```text
+/// if Word::fits("hyphenation", &breaks) {                                // breaks: 2, 6, 7
+///     push_marked_text(&mut page, "hyphenation", &breaks, "·")?;         // hy·phen·a·tion
+/// }
+/// ```
+pub fn push_marked_text<B: Break>(
+    output: &mut String,
+    text: &str,
+    breaks: &[B],
+    mark: &str,
+) -> Result<(), AllocError>
+    requires fit { Fits text.now (map B.meaning breaks.now) }
+    ensures adds { OnOk result (string_bytes output.new
+        ≡ string_bytes output.old ++ marked_word mark.now text.now (map B.meaning breaks.now)) }
+    ensures unchanged_on_error { OnErr result (string_bytes output.new ≡ string_bytes output.old) }
+{
+    let before = output.len();
+    match push_segments(output, text, breaks, mark) {
+        Ok(()) => Ok(()),
+        Err(error) => {
+            output.truncate(before);
+            Err(error)
+        }
+    }
+}
+
 /// Appends the segments of a word to a `String`, each but the last with the mark after it.
 ///
 /// An error says that memory was refused; the `String` is then unchanged.
@@ -74,12 +105,5 @@ pub fn push_marked<B: Break>(
         ≡ string_bytes output.old ++ marked_word mark.now word.now.text.now (map B.meaning word.now.breaks.items)) }
     ensures unchanged_on_error { OnErr result (string_bytes output.new ≡ string_bytes output.old) }
 {
-    let before = output.len();
-    match push_segments(output, word.text, &word.breaks, mark) {
-        Ok(()) => Ok(()),
-        Err(error) => {
-            output.truncate(before);
-            Err(error)
-        }
-    }
+    push_marked_text(output, word.text, &word.breaks, mark)
 }

@@ -7,11 +7,11 @@ use Rattle.hyphenation_breaks.specs.declared.entry.Entry.{Entry}
 use Rattle.hyphenation_score.specs.Scoring.{own_change}
 use Rattle.hyphenation_hyphenator.specs.Private.Opportunities.{borrowed_break, break_at_index, has_break_at_index}
 use Rattle.hyphenation_hyphenator.proofs.BreaksFound.{break_at_next, no_break_at_next}
-use Rattle.hyphenation_hyphenator.proofs.hyphenator.pattern_breaks.breaks_at_winners.Goals.{in-Some+in_ok-push, in_default}
+use Rattle.hyphenation_hyphenator.proofs.hyphenator.pattern_breaks.breaks_at_winners.Goals.{in-Some+in_ok-push_with_room, in_default}
 use Rattle.hyphenation_hyphenator.proofs.hyphenator.pattern_breaks.breaks_at_winners.Goals as goal
 
 pub loop-index-init : goal.loop-index-init
-loop-index-init c = ap (map borrowed_break) c.in_ok-breaks.ensures.items
+loop-index-init c = ap (map borrowed_break) c.requires
 
 pub loop-index-preserved : goal.loop-index-preserved
 loop-index-preserved c =
@@ -23,8 +23,8 @@ loop-index-preserved c =
     let before = map m c.loop-index.breaks.items in
     let at : option_copied winner ≡ slice_index_or winners i None = ap option_copied c.index-winners-index.is ∙ sym (get_or-map option_copied c.args.winners.now i winner None c.loop-index-test.true) in
     elim c.match-break_at_winner.branch [
-      | in-Some+in_ok-push w ↦
-          rw (w.breaks-is, w.in_ok-push.ensures.items) (map-append m c.loop-index.breaks.items (w.in-Some.b ∷ [])
+      | in-Some+in_ok-push_with_room w ↦
+          rw (w.breaks-is, w.in_ok-push_with_room.ensures) (map-append m c.loop-index.breaks.items (w.in-Some.b ∷ [])
           ∙ break_at_next change_of winners c.args.bounds i before (m w.in-Some.b) (option_copied winner) at c.loop-index.invariant (sym (ap (option_map m) w.in-Some.is) ∙ c.break_at_winner.ensures))
       | in_default w ↦ rw w.breaks-is (no_break_at_next change_of winners c.args.bounds i before (option_copied winner) at c.loop-index.invariant (sym (ap (option_map m) w.in_default.is) ∙ c.break_at_winner.ensures))
     ]

@@ -4,7 +4,7 @@ use Rattle.hyphenation_hyphenator.proofs.hyphenator.pattern_breaks.odd_places.Go
 use Rattle.hyphenation_hyphenator.proofs.hyphenator.pattern_breaks.odd_places.Goals.{then-values-place-eq1+in_ok-push, else-values-place-eq1}
 
 pub loop-place-init : goal.loop-place-init
-loop-place-init c = c.in_ok-places.ensures.items ∙ even_none c.args.values.now c.args.bounds c.max-first.result c.first_odd_place-least.result c.first_odd_place-least.ensures.even_before
+loop-place-init c = c.reserve_exact.ensures.items ∙ c.requires ∙ even_none c.args.values.now c.args.bounds c.max-first.result c.first_odd_place-least.result c.first_odd_place-least.ensures.even_before
 
 pub loop-place-preserved : goal.loop-place-preserved
 loop-place-preserved c =
@@ -35,7 +35,7 @@ returns-then-end-least c =
     let first = c.max-first.result in
     let end = c.min-end.result in
     let least = c.first_odd_place-least.result in
-    c.new.ensures.items
+    c.requires
     ∙ even_none values c.args.bounds first least c.first_odd_place-least.ensures.even_before
     ∙ within_alone (test_of values c.args.bounds) first end least (length values) (omega arith) (omega arith) (omega arith) (omega arith) c.first_odd_place-least.ensures.to_after_end
     (λ p one out. outside values c.args.bounds first end p c.max-first.ensures c.min-end.ensures one out)

@@ -1,5 +1,4 @@
 use Rattle.std.proofs.Common.{map, length, refl, ap, ◌∙◌, arith}
-use Rattle.std.proofs.lemmas.Result.{IfOk-weaker}
 use Rattle.hyphenation_breaks.specs.Break.{plain_break}
 use Rattle.hyphenation_hyphenator.specs.Fitting.{kept_breaks}
 use Rattle.hyphenation_hyphenator.specs.Private.Fitting.{range_holds_no_shift}
@@ -7,7 +6,7 @@ use Rattle.hyphenation_hyphenator.specs.Opportunities.{rules_of, opportunities}
 use Rattle.hyphenation_hyphenator.specs.SoftHyphens.{soft_hyphens}
 use Rattle.hyphenation_hyphenator.proofs.FittedBreaks.{breaks_are, soft_breaks_are}
 use Rattle.hyphenation_hyphenator.proofs.RulesAscend.{rules_are_sound, opportunities_ascend}
-use Rattle.hyphenation_hyphenator.proofs.Standard.{no_soft_hyphens, none_is_not_some}
+use Rattle.hyphenation_hyphenator.proofs.Standard.{no_soft_hyphens, none_is_not_some, on_ok_then}
 use Rattle.hyphenation_hyphenator.proofs.hyphenator.word_paths.breaks_of_any.Goals as goal
 
 -- A word with soft hyphens.
@@ -18,9 +17,9 @@ returns-in-Some g c =
     let word = c.args.word.now in
     let found = rw c.in-Some.is at c.in_ok-places.ensures.places in
     let some = rw c.in-Some.is at c.in_ok-places.ensures.some_if_any in
-    IfOk-weaker c.from_places.result _ _
-    (λ v h. soft_breaks_are (rules_of g.F.Payload.Payload.change_of g.F.Listing.Break.meaning c.args.dictionary.now) word (map m v.items) (some.0 refl) (h ∙ ap (map plain_break) found))
-    c.from_places.ensures
+    on_ok_then c.put_plain.result _ _
+    (λ h. soft_breaks_are (rules_of g.F.Payload.Payload.change_of g.F.Listing.Break.meaning c.args.dictionary.now) word (map m c.put_plain.new.list.items) (some.0 refl) (h ∙ ap (map plain_break) (c.deref.ensures.value ∙ found)))
+    c.put_plain.ensures
 
 -- Any other word.
 
@@ -39,8 +38,8 @@ returns g c =
     let kept = kept_breaks (range_holds_no_shift size shifts) found in
     let none = no_soft_hyphens (soft_hyphens word) (λ some. none_is_not_some c.in_ok-places.field-0 c.in_default.is (c.in_ok-places.ensures.some_if_any.1 some)) in
     let sound = opportunities_ascend rules text (rules_are_sound change_of break_of contents text c.value_is_borne.ensures c.invariant.ensures c.as_str-text.utf8) in
-    IfOk-weaker c.breaks_of_folded.result _ _
-    (λ v is. breaks_are rules word text size shifts found kept (map m v.items) c.utf8.word (omega arith) none (record {
+    on_ok_then c.breaks_of_folded.result _ _
+    (λ is. breaks_are rules word text size shifts found kept (map m c.breaks_of_folded.new.list.items) c.utf8.word (omega arith) none (record {
       folded_is = c.as_str-text.ensures.value ∙ c.in_ok-folded.ensures.folded;
       size_is = refl;
       shifts_are = c.deref-shifts.ensures.value ∙ c.in_ok-folded.ensures.shifts;

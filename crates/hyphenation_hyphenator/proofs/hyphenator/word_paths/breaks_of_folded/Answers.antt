@@ -10,6 +10,6 @@ returns g c =
     let m = g.F.Break.meaning in
     let shifts = c.args.shifts.now in
     let size = length c.args.folded.now in
-    let written = whole_written c.in_ok-breaks.breaks.len c.realign_all.new.breaks c.in_ok-breaks.breaks.items (c.realign_all.auto.breaks ∙ c.deref_mut.ensures.len) in
+    let written = whole_written c.keep_fitting.new.list.len c.realign_all.new.breaks c.keep_fitting.new.list.items (c.realign_all.auto.breaks ∙ c.deref_mut.ensures.len) in
     ap (map m) written ∙ c.realign_all.ensures
-    ∙ ap (map (realigned_break shifts)) (ap (map m) c.deref_mut.ensures.value ∙ c.in_ok-breaks.ensures ∙ ap (kept_breaks (range_holds_no_shift size shifts)) c.in_ok-found.ensures.breaks)
+    ∙ ap (map (realigned_break shifts)) (ap (map m) c.deref_mut.ensures.value ∙ c.in_ok-keep_fitting.ensures ∙ ap (kept_breaks (range_holds_no_shift size shifts)) c.in_ok-put_opportunities.ensures.breaks)

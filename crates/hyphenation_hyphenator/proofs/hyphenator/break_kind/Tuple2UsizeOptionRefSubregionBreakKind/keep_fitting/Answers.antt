@@ -7,6 +7,6 @@ use Rattle.hyphenation_hyphenator.proofs.hyphenator.break_kind.Tuple2UsizeOption
 
 pub returns-then-are_plain : goal.returns-then-are_plain
 returns-then-are_plain c =
-    let breaks = c.args.breaks.items in
+    let breaks = c.args.list.now.items in
     let none = ap (list_all (λ b. is_none b.1)) (sym c.deref.ensures.value) ∙ sym c.are_plain.ensures ∙ c.if-are_plain.true in
     sym (plain_kept c.args.folded.now c.args.shifts.now (map borrowed_break breaks) c.requires.ascend (plain_borrowed breaks none))

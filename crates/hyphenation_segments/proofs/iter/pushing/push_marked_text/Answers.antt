@@ -2,7 +2,7 @@ use Rattle.std.proofs.Common.{◌≤◌, ◌∙◌, subst}
 use Rattle.std.specs.String.{string_bytes}
 use Rattle.std.proofs.lemmas.Str.{IsUtf8-string_bytes}
 use Rattle.hyphenation_segments.proofs.Pushing.{cut_back}
-use Rattle.hyphenation_segments.proofs.iter.pushing.push_marked.Goals as goal
+use Rattle.hyphenation_segments.proofs.iter.pushing.push_marked_text.Goals as goal
 
 pub truncate-requires : goal.truncate-requires
 truncate-requires g c = λ within.
