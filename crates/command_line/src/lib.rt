@@ -1,4 +1,4 @@
-//! Shared by the three programs: the version, the arguments, the messages, and the texts of `--help` and `--version`.
+//! Shared by the programs: the version, the arguments, the messages, and the texts of `--help` and `--version`.
 #![tactic(auto)]
 
 ghost use Rattle.std.specs.Prelude.{◌≡◌, ◌≢◌};
@@ -14,7 +14,7 @@ use std::fmt::Display;
 use std::io::{ErrorKind, Write};
 use std::{env, io};
 
-/// The version of the three programs. The file `VERSION` has the same, and `tests/figures` compares them.
+/// The version of all programs. The file `VERSION` has the same, and `tests/figures` compares them.
 pub const VERSION: &str = "0.1.0";
 
 /// Calls a function with the arguments of the program, without its name, and returns what that returns.

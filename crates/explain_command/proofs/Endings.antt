@@ -2,7 +2,8 @@
 use Rattle.std.proofs.Common.{◌≡◌, ℕ, ◌<◌, List, [], ◌∷◌, length, map, refl, sym, ap, subst, arith}
 use Rattle.std.specs.Prelude.{Option, None, Some, Result, Ok, Err, IfErr, IfOk, IsUtf8}
 use Rattle.std.specs.Borrow.{Bor}
-use Rattle.hyphenation.specs.Engine.{JudgesText, BeforeReading, IsTextError, texts_now}
+use Rattle.hyphenation.specs.Engine.{JudgesText, BeforeReading, IsTextError}
+use Rattle.hyphenation_breaks.specs.Borrowed.{texts_now}
 use Rattle.hyphenation.specs.declared.engine.RunError.{RunError}
 use Rattle.hyphenation.specs.declared.engine.RunError.TheVariants.{Dictionary, Edit, TextNotUtf8, Input, Output, Memory}
 use Rattle.explain_command.specs.Explained.{AreExplained, ExplainsWords}

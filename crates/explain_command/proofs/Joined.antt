@@ -5,7 +5,7 @@ use Rattle.std.specs.List.{AllZip, join_with_byte}
 use Rattle.std.proofs.lemmas.Bool.Decides.{nat_tests}
 use Rattle.std.proofs.lemmas.List.{length-map, map_push, take_more}
 use Rattle.std.proofs.lemmas.List.Elements.{AllZip-push, length_all_zip}
-use Rattle.hyphenation.specs.Engine.{texts_now}
+use Rattle.hyphenation_breaks.specs.Borrowed.{texts_now}
 use Rattle.explain_command.specs.Explained.{AreExplained}
 use Rattle.explain_command.specs.Private.Joined.{gap_before}
 

@@ -6,7 +6,8 @@
 ghost use Rattle.std.specs.Prelude.{◌≡◌, ◌≢◌, List, ℕ, Err, None, Some, OnOk};
 ghost use Rattle.std.specs.IoError.{error_kind};
 ghost use Rattle.hyphenation_load.specs.Load.{AppendsTo};
-ghost use Rattle.hyphenation.specs.Engine.{BeforeWriting, IsUnwritten, texts_now};
+ghost use Rattle.hyphenation.specs.Engine.{BeforeWriting, IsUnwritten};
+ghost use Rattle.hyphenation_breaks.specs.Borrowed.{texts_now};
 ghost use Rattle.command_line.specs.About.{help_or_version, WritesHelp};
 ghost use Rattle.command_line.specs.Statuses.{BeforeOutput};
 ghost use Rattle.explain_command.specs.Arguments.{parsed_args};

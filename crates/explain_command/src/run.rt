@@ -2,7 +2,8 @@
 
 ghost use Rattle.std.specs.Prelude.{◌≡◌, ◌++◌, ℕ, List, IfErr, IfOk, OnOk};
 ghost use Rattle.hyphenation_load.specs.Load.{AppendsTo};
-ghost use Rattle.hyphenation.specs.Engine.{BeforeWriting, JudgesDictionary, IsUnwritten, IsTextError, JudgesText, texts_now};
+ghost use Rattle.hyphenation.specs.Engine.{BeforeWriting, JudgesDictionary, IsUnwritten, IsTextError, JudgesText};
+ghost use Rattle.hyphenation_breaks.specs.Borrowed.{texts_now};
 ghost use Rattle.explain_command.specs.Explained.{AreExplained, ExplainsWords, ExplainsBy, WritesExplained};
 ghost use Rattle.explain_command.specs.Private.Joined.{gap_before};
 ghost use Rattle.explain_command.specs.Statuses.{EndsFor};

@@ -138,7 +138,7 @@ fn run_request<F: Files, I: Read, O: Write>(
     ensures ended { EndsFor (parsed_task request.now.task) (I.remaining input.old) result }
     ensures unread { BeforeText (parsed_task request.now.task) result (input.new ≡ input.old) }
     ensures untouched { BeforeWriting result (output.new ≡ output.old) }
-    ensures whole { OnOk result ((text : List ℕ) × AppendsTo O.contents output.old output.new text) }
+    ensures appends_some_text { OnOk result ((text : List ℕ) × AppendsTo O.contents output.old output.new text) }
 {
     let mut dictionary = fs::open(rt, request.path).map_err(opening_error)?;
     match request.task {
@@ -248,7 +248,7 @@ pub fn answer<F: Files, I: Read, O: Write, E: Write>(
     ensures ended { IfSome (parsed_args args.now) (λ parsed.
         EndsWith parsed.task (I.remaining input.old) (input.new ≡ input.old) result) }
     ensures untouched { BeforeOutput result (output.new ≡ output.old) }
-    ensures written { result ≡ 0 → (text : List ℕ) × AppendsTo O.contents output.old output.new text }
+    ensures appends_some_text { result ≡ 0 → (text : List ℕ) × AppendsTo O.contents output.old output.new text }
 {
     let Some(request) = Request::from_args(args) else {
         let _ = errors.write_all(USAGE.as_bytes());

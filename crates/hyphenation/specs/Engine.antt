@@ -2,6 +2,7 @@
 use Rattle.std.specs.Prelude.{◌≡◌, ◌≢◌, ℕ, List, [], ◌∷◌, ◌++◌, map, decimal, IsUtf8, None, Result, Ok, Err, OnOk, IfOk, IfSome, Option, Some, ⊤}
 use Rattle.std.specs.Borrow.{Bor}
 use Rattle.std.specs.List.{join_with_byte}
+use Rattle.hyphenation_breaks.specs.Borrowed.{texts_now}
 use Rattle.hyphenation_breaks.specs.Break.{Break, plain_break}
 use Rattle.hyphenation_breaks.specs.Dictionary.{entries_of_keys}
 use Rattle.hyphenation_reader.specs.Edits.{after_edits, first_refused}
@@ -23,10 +24,6 @@ use Rattle.hyphenation_load.specs.Load.{language_of_text, IsAcceptedIn, IsLoadEr
 use Rattle.hyphenation_score.specs.Scoring.{own_change, values}
 
 -- ---- the output
-
--- The texts of a list of borrowed texts.
-abbrev pub texts_now : List (Bor (List ℕ)) → List (List ℕ)
-texts_now texts = map (λ text. text.now) texts
 
 -- Values in decimal, one space between, and a line feed.
 abbrev pub score_line : List ℕ → List ℕ

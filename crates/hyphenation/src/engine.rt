@@ -3,10 +3,11 @@
 ghost use Rattle.std.specs.Prelude.{◌≡◌, ◌++◌, List, ℕ, OnOk, IfOk, IfErr, IfSome, decimal, map};
 ghost use Rattle.std.specs.String.{string_bytes};
 ghost use Rattle.hyphenation_load.specs.Load.{AppendsTo};
-ghost use Rattle.hyphenation.specs.Engine.{texts_now, score_line, values_by, score_by, run_output, RunReturns, RunWrites};
+ghost use Rattle.hyphenation.specs.Engine.{score_line, values_by, score_by, run_output, RunReturns, RunWrites};
 ghost use Rattle.hyphenation.specs.Engine.{JudgesDictionary, JudgesEdits, JudgesText};
 ghost use Rattle.hyphenation.specs.Engine.{BeforeReading, BeforeWriting, IsScoreError, IsUnwritten, HidesNoOutOfMemory};
 ghost use Rattle.hyphenation.specs.Private.Engine.{space_before};
+ghost use Rattle.hyphenation_breaks.specs.Borrowed.{texts_now};
 ghost use Rattle.hyphenation_breaks.specs.Dictionary.{entries_of_keys};
 ghost use Rattle.hyphenation_score.specs.Scoring.{values};
 
@@ -188,7 +189,7 @@ pub fn run_score<D: Read, O: Write>(
     ensures dictionary { JudgesDictionary kind lang (D.remaining dictionary.old) result }
     ensures written { OnOk result (IfSome (D.remaining dictionary.old) (λ bytes.
         AppendsTo O.contents output.old output.new (score_by kind word.now bytes))) }
-    ensures whole { OnOk result ((text : List ℕ) × AppendsTo O.contents output.old output.new text) }
+    ensures appends_some_text { OnOk result ((text : List ℕ) × AppendsTo O.contents output.old output.new text) }
     ensures untouched { BeforeWriting result (output.new ≡ output.old) }
     ensures score_error { IfErr result IsScoreError }
     ensures not_out_of_memory { IfErr result HidesNoOutOfMemory }
@@ -251,7 +252,7 @@ pub fn run<D: Read, I: Read, O: Write>(
     ensures text { JudgesText (I.remaining input.old) result }
     ensures written { RunWrites result O.contents output.old output.new (run_output kind edits.now mark.now)
         (D.remaining dictionary.old) (I.remaining input.old) }
-    ensures whole { OnOk result ((text : List ℕ) × AppendsTo O.contents output.old output.new text) }
+    ensures appends_some_text { OnOk result ((text : List ℕ) × AppendsTo O.contents output.old output.new text) }
     ensures untouched { BeforeWriting result (output.new ≡ output.old) }
     ensures unread { BeforeReading result (input.new ≡ input.old) }
     ensures not_out_of_memory { IfErr result HidesNoOutOfMemory }

@@ -2,10 +2,11 @@
 use Rattle.std.proofs.Common.{◌≡◌, ℕ, ◌+◌, ◌<◌, ◌≤◌, ◌||◌, ◌==◌, nat_lt, true, false, cond, List, [], ◌∷◌, ◌++◌, length, Some, None, refl, sym, ap, subst, ◌∙◌, arith, inl, inr}
 use Rattle.std.specs.List.{flat_map, All}
 use Rattle.std.proofs.lemmas.Bool.{cases_lt, or_cases, or_left, false≢true, false_from_ne_true, eqb-true, eq-eqb, ne_eqb, lt-ltb, le-ltb, cond-true, cond-false}
-use Rattle.std.proofs.lemmas.List.Elements.{All-nil, All-cons}
+use Rattle.std.proofs.lemmas.List.Elements.{All-nil, All-cons, All-head, All-tail}
 use Rattle.std.proofs.lemmas.List.Folds.{list_any-append}
 use Rattle.std.proofs.lemmas.Option.{none-some}
 use Rattle.hyphenation_breaks.specs.Break.{Break}
+use Rattle.word_pieces.specs.Pieces.{EndsBy, PassesBefore}
 use Rattle.line_filling.specs.Cuts.{is_one_of, breaks_in}
 use Rattle.line_filling.specs.Private.WordBreaks.{pending_breaks, remaining_pieces, remaining_breaks, places_after, first_place, RiseBetween, FollowBetween, FitsUsize, InOrder, NoneWithin, IsFirstAfter}
 use Rattle.line_filling.specs.declared.word_breaks.WordBreaks.{WordBreaks}
@@ -69,6 +70,10 @@ pub follow_order : (breaks_of : List ℕ → List Break) (from to : ℕ) (xs : L
 follow_order breaks_of from to [] h = h
 follow_order breaks_of from to (x ∷ xs) h = omega (arith, h.0, follow_order breaks_of (x.0 + length x.1) to xs h.2)
 
+follow_from : (breaks_of : List ℕ → List Break) (a b to : ℕ) (xs : List (ℕ × List ℕ)) → a ≤ b → FollowBetween breaks_of b to xs → FollowBetween breaks_of a to xs
+follow_from breaks_of a b to [] le h = omega (arith, h)
+follow_from breaks_of a b to (x ∷ xs) le h = (omega (arith, h.0), h.1, h.2)
+
 pub in_follow : (breaks_of : List ℕ → List Break) (from to p : ℕ) (xs : List (ℕ × List ℕ)) → FollowBetween breaks_of from to xs → is_one_of p (flat_map (breaks_in breaks_of) xs) ≡ true → from ≤ p
 in_follow breaks_of from to p [] h i = absurd (false≢true i)
 in_follow breaks_of from to p (x ∷ xs) h i =
@@ -87,6 +92,19 @@ piece_passed breaks_of x xs from p h ends lt =
     let rest = flat_map (breaks_in breaks_of) xs in
     let none : is_one_of p here ≡ false = false_from_ne_true (is_one_of p here) (λ i. omega (arith, (in_rise x.0 (x.0 + length x.1) p here h i).1)) in
     sym (list_any-append (λ b. p == b) here rest ∙ ap (λ b. b || is_one_of p rest) none)
+
+-- First pieces are left out.
+follow_without : (breaks_of : List ℕ → List Break) (from to : ℕ) (passed xs : List (ℕ × List ℕ)) → FollowBetween breaks_of from to (passed ++ xs) → FollowBetween breaks_of from to xs
+follow_without breaks_of from to [] xs h = h
+follow_without breaks_of from to (x ∷ passed) xs h = follow_from breaks_of from (x.0 + length x.1) to xs (omega (arith, h.0)) (follow_without breaks_of (x.0 + length x.1) to passed xs h.2)
+
+-- First pieces that end before a place have no break after it.
+pieces_passed : (breaks_of : List ℕ → List Break) (at to : ℕ) (passed xs : List (ℕ × List ℕ)) (from p : ℕ) → FollowBetween breaks_of at to (passed ++ xs) → All (EndsBy from) passed → from < p
+    → is_one_of p (flat_map (breaks_in breaks_of) xs) ≡ is_one_of p (flat_map (breaks_in breaks_of) (passed ++ xs))
+pieces_passed breaks_of at to [] xs from p h ends lt = refl
+pieces_passed breaks_of at to (x ∷ passed) xs from p h ends lt =
+    pieces_passed breaks_of (x.0 + length x.1) to passed xs from p h.2 (All-tail (EndsBy from) x passed ends) lt
+    ∙ piece_passed breaks_of x (passed ++ xs) from p h.1 (All-head (EndsBy from) x passed ends) lt
 
 -- ---- breaks to come
 
@@ -136,6 +154,29 @@ module _ (breaks_of : List ℕ → List Break) (b later : WordBreaks) (order : I
         let o = order_left in
         first_found breaks_of (pending_breaks later) (remaining_pieces later) 0 later.reached o.end from place o.pending o.pieces found
         (head_after from place (pending_breaks b) (ap first_place (sym pending) ∙ found))
+
+  -- First pieces that end at or before a place are passed.
+  module _ (from : ℕ) (pending : pending_breaks later ≡ pending_breaks b) (pieces : PassesBefore from (remaining_pieces b) (remaining_pieces later)) (reached : later.reached ≡ b.reached) where
+    all_pieces : FollowBetween breaks_of b.reached order.end (pieces.0 ++ remaining_pieces later)
+    all_pieces = subst (FollowBetween breaks_of b.reached order.end) pieces.1 order.pieces
+
+    pub order_passed : InOrder breaks_of later
+    order_passed = record {
+      end = order.end;
+      end_fits_usize = order.end_fits_usize;
+      pending = subst (λ to. RiseBetween 0 to (pending_breaks later)) (sym reached) (subst (RiseBetween 0 b.reached) (sym pending) order.pending);
+      pieces = subst (λ at. FollowBetween breaks_of at order.end (remaining_pieces later)) (sym reached) (follow_without breaks_of b.reached order.end pieces.0 (remaining_pieces later) all_pieces);
+    }
+
+    pub stay_passed : (p : ℕ) → from < p → is_one_of p (remaining_breaks breaks_of later) ≡ is_one_of p (remaining_breaks breaks_of b)
+    stay_passed p lt =
+        let ps = pending_breaks b in
+        let xs = remaining_pieces later in
+        ap (λ qs. is_one_of p (qs ++ flat_map (breaks_in breaks_of) xs)) pending
+        ∙ list_any-append (λ q. p == q) ps (flat_map (breaks_in breaks_of) xs)
+        ∙ ap (λ v. is_one_of p ps || v) (pieces_passed breaks_of b.reached order.end pieces.0 xs from p all_pieces pieces.2 lt)
+        ∙ sym (list_any-append (λ q. p == q) ps (flat_map (breaks_in breaks_of) (pieces.0 ++ xs)))
+        ∙ ap (λ ys. is_one_of p (ps ++ flat_map (breaks_in breaks_of) ys)) (sym pieces.1)
 
   -- No break is to come before the pieces that are left, where none is pending.
   pub none_before : (from until : ℕ) → first_place (pending_breaks b) ≡ None → until ≤ b.reached → NoneWithin (remaining_breaks breaks_of b) from until

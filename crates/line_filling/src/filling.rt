@@ -48,7 +48,11 @@ fn count_characters(text: &str, start: usize, end: usize) -> usize
     requires end_at_character { IsCharBoundary text.now end }
     ensures { result ≡ length (chars (slice_range text.now start end)) }
 {
-    text[start..end].chars().count()
+    let part = &text[start..end];
+    if part.is_ascii() {
+        return part.len();
+    }
+    part.chars().count()
 }
 
 // Counts the characters from the start of the line to a place after its last cut.
@@ -163,12 +167,7 @@ fn pass_breaks<'h, H: Hyphenator<'h, Opportunity = usize>>(
 {
     plain_breaks_fit_where_ascending();
     let mut current = current;
-    while let Some(place) = breaks.first_after(
-        *lines.allocator(),
-        dictionary,
-        current.end,
-        until,
-    )? {
+    while let Some(place) = breaks.first_after(dictionary, current.end, until)? {
         if until <= place {
             return Ok(current);
         }

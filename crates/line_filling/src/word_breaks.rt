@@ -4,6 +4,7 @@ ghost use Rattle.std.specs.Prelude.{◌≡◌, ℕ, ◌<◌, [], None, All, IfOk
 ghost use Rattle.std.specs.Option.{MatchOption};
 ghost use Rattle.unicode_segmentation.specs.Segments.{with_offsets};
 ghost use Rattle.unicode_segmentation.specs.Word.{word_bounds};
+ghost use Rattle.word_pieces.specs.Pieces.{PassesBefore};
 ghost use Rattle.line_filling.specs.Cuts.{is_one_of};
 ghost use Rattle.line_filling.specs.Private.WordBreaks.{pending_breaks, remaining_pieces, with_next_piece};
 ghost use Rattle.line_filling.specs.Private.WordBreaks.{remaining_breaks, places_after, first_place};
@@ -11,7 +12,7 @@ ghost use Rattle.line_filling.specs.Private.WordBreaks.{InOrder, FindsFirstAfter
 
 use hyphenation_hyphenator::hyphenator::Hyphenator;
 use std::alloc::{AllocError, Global};
-use unicode_segmentation::{UWordBoundIndices, UnicodeSegmentation};
+use word_pieces::WordPieceIndices;
 
 // The breaks to come of a text, whose pieces between word bounds are broken when they are needed.
 //
@@ -26,7 +27,7 @@ pub(crate) struct WordBreaks<'t> {
     // The number of those breaks that were passed.
     passed: usize,
     // The pieces that were not taken yet.
-    pieces: UWordBoundIndices<'t>,
+    pieces: WordPieceIndices<'t>,
     // Where the first piece that was not taken begins.
     reached: usize,
 }
@@ -42,7 +43,7 @@ impl<'t> WordBreaks<'t> {
             offset: 0,
             breaks: Vec::new(alloc),
             passed: 0,
-            pieces: text.split_word_bound_indices(),
+            pieces: WordPieceIndices::new(text),
             reached: 0,
         }
     }
@@ -65,6 +66,17 @@ impl<'t> WordBreaks<'t> {
         None
     }
 
+    // Passes pieces that end at or before a place. None of their breaks is after it, so they are never read.
+    fn pass_before(&mut self, place: usize)
+        ensures pending { pending_breaks self.new ≡ pending_breaks self.old }
+        ensures pieces { PassesBefore place (remaining_pieces self.old) (remaining_pieces self.new) }
+        ensures reached { self.new.reached ≡ self.old.reached }
+    {
+        if self.reached < place {
+            self.pieces.pass_before(place);
+        }
+    }
+
     // Takes the next piece, and returns it with the place where it begins.
     fn next_piece(&mut self) -> Option<(usize, &'t str)>
         ensures pending { pending_breaks self.new ≡ pending_breaks self.old }
@@ -81,7 +93,6 @@ impl<'t> WordBreaks<'t> {
     // then.
     pub(crate) fn first_after<'h, H: Hyphenator<'h, Opportunity = usize>>(
         &mut self,
-        alloc: Global,
         dictionary: &'h H,
         from: usize,
         until: usize,
@@ -93,6 +104,7 @@ impl<'t> WordBreaks<'t> {
         ensures first { IfOk result
             (FindsFirstAfter (remaining_breaks (H.breaks_of dictionary.now) self.new) from until) }
     {
+        self.pass_before(from);
         loop {
             if let Some(place) = self.first_pending(from) {
                 return Ok(Some(place));
@@ -105,7 +117,7 @@ impl<'t> WordBreaks<'t> {
             };
             self.reached = offset + piece.len();
             if from < self.reached {
-                self.breaks = dictionary.breaks(alloc, piece)?;
+                dictionary.breaks_into(piece, &mut self.breaks)?;
                 self.offset = offset;
                 self.passed = 0;
             }

@@ -96,7 +96,7 @@ pub fn run_fill<D: Read, I: Read, O: Write>(
     ensures text { JudgesText (I.remaining input.old) result }
     ensures written { RunWrites result O.contents output.old output.new (fill_output columns)
         (D.remaining dictionary.old) (I.remaining input.old) }
-    ensures whole { OnOk result ((text : List ℕ) × AppendsTo O.contents output.old output.new text) }
+    ensures appends_some_text { OnOk result ((text : List ℕ) × AppendsTo O.contents output.old output.new text) }
     ensures untouched { BeforeWriting result (output.new ≡ output.old) }
     ensures unread { BeforeReading result (input.new ≡ input.old) }
     ensures no_edits { JudgesEdits Kind.Standard [] result }

@@ -1,4 +1,4 @@
-//! Tests of the commands of the three programs, and of the callers in `callers`. No clause says what they show.
+//! Tests of the commands of the programs, and of the callers in `callers`. No clause says what they show.
 #![tactic(auto)]
 
 #[cfg(test)]

@@ -1,12 +1,12 @@
 -- The steps of a run: a line of values, loading, the text that is made, and errors.
 use Rattle.std.specs.Prelude.{◌≡◌, ◌==◌, if◌then◌else◌, ℕ, List, [], ◌∷◌, fold, Option, None, Result, MatchResult, ⊤}
 use Rattle.std.specs.Borrow.{Bor}
+use Rattle.hyphenation_breaks.specs.Borrowed.{texts_now}
 use Rattle.hyphenation_breaks.specs.Break.{Break}
 use Rattle.hyphenation_hyphenator.specs.Hyphenated.{hyphenated_text}
 use Rattle.hyphenation_grammar.specs.declared.Cause.{Cause}
 use Rattle.hyphenation_grammar.specs.declared.Error.{Error}
 use Rattle.hyphenation_load.specs.Load.{IsLoadErrorIn}
-use Rattle.hyphenation.specs.Engine.{texts_now}
 use Rattle.hyphenation.specs.declared.engine.RunError.{RunError}
 use Rattle.hyphenation.specs.declared.engine.RunError.TheVariants.{Edit, Memory}
 

@@ -4,12 +4,13 @@ ghost use Rattle.std.specs.Prelude.{◌≡◌, ◌≢◌, List, ℕ, IsTrue, IfE
 ghost use Rattle.std.specs.Io.KnownBytes.{IsAtEnd};
 ghost use Rattle.std.specs.IoError.{error_kind};
 ghost use Rattle.std.specs.String.{string_bytes};
+ghost use Rattle.hyphenation_breaks.specs.Borrowed.{texts_now};
 ghost use Rattle.hyphenation_breaks.specs.Break.{Break};
 ghost use Rattle.hyphenation_grammar.specs.Judging.{refusal_of};
 ghost use Rattle.hyphenation_hyphenator.specs.Hyphenated.{hyphenated_text};
 ghost use Rattle.hyphenation_load.specs.Load.{language_of_text, IsNotOutOfMemory};
 ghost use Rattle.hyphenation_reader.specs.Edits.{is_good_edit};
-ghost use Rattle.hyphenation.specs.Engine.{texts_now, RunReturns, BeforeReading, JudgesDictionary, JudgesEdits, JudgesText};
+ghost use Rattle.hyphenation.specs.Engine.{RunReturns, BeforeReading, JudgesDictionary, JudgesEdits, JudgesText};
 ghost use Rattle.hyphenation.specs.Engine.{IsInputError, IsTextError, IsUnwritten, HidesNoOutOfMemory};
 ghost use Rattle.hyphenation.specs.Private.Engine.{made_by, LoadsText, IsEditError};
 

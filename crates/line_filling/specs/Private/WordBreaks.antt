@@ -3,13 +3,13 @@ use Rattle.std.specs.Prelude.{◌≡◌, ℕ, ◌+◌, ◌<◌, ◌≤◌, ◌^�
 use Rattle.std.specs.Borrow.{Bor}
 use Rattle.std.specs.List.{flat_map}
 use Rattle.hyphenation_breaks.specs.Break.{Break}
-use Rattle.unicode_segmentation.specs.Iter.{word_bound_indices_left}
+use Rattle.word_pieces.specs.Pieces.{piece_indices_left}
 use Rattle.line_filling.specs.Cuts.{is_one_of, breaks_in, word_breaks}
 use Rattle.line_filling.specs.declared.word_breaks.WordBreaks.{WordBreaks}
 
 -- The pieces that were not taken.
 abbrev pub remaining_pieces : WordBreaks → List (ℕ × List ℕ)
-remaining_pieces b = word_bound_indices_left b.pieces
+remaining_pieces b = piece_indices_left b.pieces
 
 -- The next piece, if there is one, and the pieces after it.
 abbrev pub with_next_piece : Option (ℕ × Bor (List ℕ)) → List (ℕ × List ℕ) → List (ℕ × List ℕ)

@@ -1,5 +1,5 @@
 use Rattle.std.proofs.Common.{take}
-use Rattle.hyphenation.specs.Engine.{texts_now}
+use Rattle.hyphenation_breaks.specs.Borrowed.{texts_now}
 use Rattle.explain_command.specs.Explained.{AreExplained}
 use Rattle.explain_command.proofs.run.explained.Given as goal
 

@@ -1,7 +1,7 @@
 use Rattle.std.proofs.Common.{◌≡◌, ◌<◌, ℕ, List, [], Option, sym, subst, refl, length, rules}
 use Rattle.std.specs.Prelude.{IfOk}
 use Rattle.std.proofs.lemmas.Result.{err_from_is_err_and}
-use Rattle.hyphenation.specs.Engine.{texts_now}
+use Rattle.hyphenation_breaks.specs.Borrowed.{texts_now}
 use Rattle.explain_command.specs.Explained.{ExplainsWords}
 use Rattle.explain_command.specs.Statuses.{EndsFor}
 use Rattle.explain_command.proofs.Endings.{ends_of_input, no_words, ends_unread, explains_given}

@@ -7,7 +7,7 @@ use Rattle.hyphenation_hyphenator.specs.Opportunities.{own_break, extended_rules
 use Rattle.hyphenation_score.specs.Scoring.{own_change}
 use Rattle.hyphenation_breaks.specs.Break.{Change}
 use Rattle.hyphenation_grammar.specs.declared.form.Kind.TheVariants.{Extended}
-use Rattle.hyphenation.specs.Engine.{texts_now}
+use Rattle.hyphenation_breaks.specs.Borrowed.{texts_now}
 use Rattle.explanations.specs.Texts.{Explains}
 use Rattle.explain_command.specs.Explained.{ExplainsWords, ExplainsBy}
 use Rattle.explain_command.proofs.run.extended_text.Goals as goal

@@ -5,7 +5,7 @@ use Rattle.hyphenation_breaks.specs.Dictionary.{Contents}
 use Rattle.hyphenation_breaks.specs.Break.{plain_break}
 use Rattle.hyphenation_hyphenator.specs.Opportunities.{no_change, standard_rules, all_breaks_of}
 use Rattle.hyphenation_grammar.specs.declared.form.Kind.TheVariants.{Standard}
-use Rattle.hyphenation.specs.Engine.{texts_now}
+use Rattle.hyphenation_breaks.specs.Borrowed.{texts_now}
 use Rattle.explanations.specs.Texts.{Explains}
 use Rattle.explain_command.specs.Explained.{ExplainsWords, ExplainsBy}
 use Rattle.explain_command.proofs.run.standard_text.Goals as goal

@@ -4,8 +4,16 @@ use Rattle.line_filling.specs.Cuts.{is_one_of, breaks_in}
 use Rattle.line_filling.specs.Private.WordBreaks.{pending_breaks, remaining_pieces, first_place, with_next_piece}
 use Rattle.line_filling.specs.declared.word_breaks.WordBreaks.{WordBreaks}
 use Rattle.line_filling.proofs.TextBreaks.{placed}
-use Rattle.line_filling.proofs.WordBreaks.{no_head, all_fit_usize, follow_order, order_left, stay_left, first_left, piece_fits_usize, none_before, order_without, stay_without, order_broken, stay_broken}
+use Rattle.line_filling.proofs.WordBreaks.{no_head, all_fit_usize, follow_order, order_left, stay_left, first_left, piece_fits_usize, none_before, order_passed, stay_passed, order_without, stay_without, order_broken, stay_broken}
 use Rattle.line_filling.proofs.word_breaks.WordBreaks.first_after.Goals as goal
+
+pub loop-place-init : goal.loop-place-init
+loop-place-init g c =
+    let breaks_of = g.H.Hyphenator.breaks_of c.args.dictionary.now in
+    record {
+      order = order_passed breaks_of c.args.self.now c.pass_before.new.self c.requires c.args.from c.pass_before.ensures.pending c.pass_before.ensures.pieces c.pass_before.ensures.reached;
+      stay = λ p lt. refl;
+    }
 
 pub first_pending-requires : goal.first_pending-requires
 first_pending-requires g c =
@@ -23,6 +31,7 @@ pub returns-in-Some-clause-later_breaks_stay : goal.returns-in-Some-clause-later
 returns-in-Some-clause-later_breaks_stay g c = λ p lt.
     let breaks_of = g.H.Hyphenator.breaks_of c.args.dictionary.now in
     stay_left breaks_of c.loop-place.self c.first_pending.new.self c.loop-place.invariant.order c.args.from c.first_pending.ensures.pending c.first_pending.ensures.pieces c.first_pending.ensures.reached p lt ∙ c.loop-place.invariant.stay p lt
+    ∙ stay_passed breaks_of c.args.self.now c.pass_before.new.self c.requires c.args.from c.pass_before.ensures.pending c.pass_before.ensures.pieces c.pass_before.ensures.reached p lt
 
 pub returns-in-Some-clause-first : goal.returns-in-Some-clause-first
 returns-in-Some-clause-first g c =
@@ -38,6 +47,7 @@ returns-in_default-next_piece-clause-later_breaks_stay g c = λ p lt.
     ap (λ ps. is_one_of p (ps ++ flat_map (breaks_in breaks_of) (remaining_pieces later))) c.next_piece.ensures.pending
     ∙ ap (λ xs. is_one_of p (pending_breaks b ++ flat_map (breaks_in breaks_of) xs)) (sym same)
     ∙ stay_left breaks_of c.loop-place.self b c.loop-place.invariant.order c.args.from c.first_pending.ensures.pending c.first_pending.ensures.pieces c.first_pending.ensures.reached p lt ∙ c.loop-place.invariant.stay p lt
+    ∙ stay_passed breaks_of c.args.self.now c.pass_before.new.self c.requires c.args.from c.pass_before.ensures.pending c.pass_before.ensures.pieces c.pass_before.ensures.reached p lt
 
 pub returns-in_default-next_piece-clause-first : goal.returns-in_default-next_piece-clause-first
 returns-in_default-next_piece-clause-first g c = λ p l u.
@@ -51,6 +61,7 @@ pub returns-then-until-self-clause-later_breaks_stay : goal.returns-then-until-s
 returns-then-until-self-clause-later_breaks_stay g c = λ p lt.
     let breaks_of = g.H.Hyphenator.breaks_of c.args.dictionary.now in
     stay_left breaks_of c.loop-place.self c.first_pending.new.self c.loop-place.invariant.order c.args.from c.first_pending.ensures.pending c.first_pending.ensures.pieces c.first_pending.ensures.reached p lt ∙ c.loop-place.invariant.stay p lt
+    ∙ stay_passed breaks_of c.args.self.now c.pass_before.new.self c.requires c.args.from c.pass_before.ensures.pending c.pass_before.ensures.pieces c.pass_before.ensures.reached p lt
 
 pub returns-then-until-self-clause-first : goal.returns-then-until-self-clause-first
 returns-then-until-self-clause-first g c =
@@ -86,8 +97,8 @@ loop-place-preserved-then-from-self g c =
     let x : ℕ × List ℕ = (c.in-Some-next_piece.offset, c.in-Some-next_piece.piece.now) in
     let xs = remaining_pieces c.next_piece.new.self in
     let next : remaining_pieces b ≡ x ∷ xs = c.next_piece.ensures.pieces ∙ ap (λ o. with_next_piece o xs) c.in-Some-next_piece.is in
-    let later : WordBreaks = record { offset = x.0; breaks = c.in_ok-self.field-0; passed = 0; pieces = c.next_piece.new.self.pieces; reached = x.0 + length x.1 } in
-    let pending : pending_breaks later ≡ breaks_in breaks_of x = placed x.0 c.in_ok-self.field-0.items ∙ ap (map (λ v. x.0 + v.place)) c.in_ok-self.ensures.breaks in
+    let later : WordBreaks = record { offset = x.0; breaks = c.breaks_into.new.breaks; passed = 0; pieces = c.next_piece.new.self.pieces; reached = x.0 + length x.1 } in
+    let pending : pending_breaks later ≡ breaks_in breaks_of x = placed x.0 c.breaks_into.new.breaks.items ∙ ap (map (λ v. x.0 + v.place)) c.in_ok-breaks_into.ensures.breaks in
     record {
       order = order_broken breaks_of b later order x xs none next refl refl pending;
       stay = λ p lt. stay_broken breaks_of b later order x xs none next refl refl p pending ∙ stay_left breaks_of c.loop-place.self b before.order from c.first_pending.ensures.pending c.first_pending.ensures.pieces c.first_pending.ensures.reached p lt ∙ before.stay p lt;
