@@ -5,11 +5,15 @@
 
 ghost use Rattle.std.specs.Prelude.{◌<◌, IfSome, length};
 
+use html_pieces::references::{has_ampersand, read};
 use std::alloc::{AllocError, Global};
 use std::collections::BTreeSet;
 
-// No tag of a language has more bytes. More of a value is not looked at, so that long values take linear time.
+// No tag of a language has more bytes. More of one is not looked at, so that long values take linear time.
 const LONGEST_TAG: usize = 64;
+
+// No more of a value is looked at. A tag may have more bytes as it is written, with character references.
+const LONGEST_VALUE: usize = 256;
 
 // Whether a byte ends the value of an attribute: a quote, white space, or the end of the tag.
 fn ends_value(byte: u8) -> bool {
@@ -18,7 +22,7 @@ fn ends_value(byte: u8) -> bool {
 
 // The value that a text begins with.
 fn value_front(text: &[u8]) -> &[u8] {
-    let text = &text[..text.len().min(LONGEST_TAG)];
+    let text = &text[..text.len().min(LONGEST_VALUE)];
     match text.iter().position(|byte| ends_value(*byte)) {
         Some(end) => &text[..end],
         None => text,
@@ -55,6 +59,7 @@ fn language_at(text: &[u8]) -> Option<&[u8]> {
 
 // Adds a language to those that were found, if it is text.
 fn add(languages: &mut BTreeSet<String>, alloc: Global, language: &[u8]) -> Result<(), AllocError> {
+    let language = &language[..language.len().min(LONGEST_TAG)];
     if let Ok(language) = std::str::from_utf8(language) {
         if !languages.contains(language) {
             languages.insert(String::from_str(alloc, language)?)?;
@@ -63,23 +68,35 @@ fn add(languages: &mut BTreeSet<String>, alloc: Global, language: &[u8]) -> Resu
     Ok(())
 }
 
-/// Returns the languages that a page may name, each once: what follows `lang=`, at most 64 bytes of it. The error says
-/// that memory was refused.
+// Adds the language that a value names, whose character references are read.
+fn add_read(
+    languages: &mut BTreeSet<String>,
+    alloc: Global,
+    value: &[u8],
+) -> Result<(), AllocError> {
+    if has_ampersand(value) {
+        let language = read(alloc, value)?;
+        add(languages, alloc, &language)
+    } else {
+        add(languages, alloc, value)
+    }
+}
+
+/// Returns the languages that a page may name, each once: what follows `lang=`, with its character references read, and at
+/// most 64 bytes of it. The error says that memory was refused.
 ///
 /// ```text
-/// languages_of(alloc, "<p lang=de>Wort <i LANG='fr-CA'>mot</i>")?      // de, fr-CA
+/// languages_of(alloc, "<p lang=de>Wort <i LANG='f&#114;-CA'>mot</i>")?      // de, fr-CA
 /// ```
 pub fn languages_of(alloc: Global, page: &str) -> Result<BTreeSet<String>, AllocError> {
     let mut languages = BTreeSet::new(alloc);
     let page = page.as_bytes();
-    let mut may_begin = true;
     for at in 0..page.len() {
-        if may_begin {
+        if page[at].to_ascii_lowercase() == b'l' && (at == 0 || ends_name(page[at - 1])) {
             if let Some(language) = language_at(&page[at..]) {
-                add(&mut languages, alloc, language)?;
+                add_read(&mut languages, alloc, language)?;
             }
         }
-        may_begin = ends_name(page[at]);
     }
     Ok(languages)
 }

@@ -7,3 +7,7 @@ pub mod WholePages
 pub mod Limits
 pub mod OtherTexts
 pub mod QuietBytes
+pub mod QuietSteps
+pub mod NumberSteps
+pub mod ReadSteps
+pub mod ValueSteps

@@ -1,5 +1,5 @@
 -- One byte more of a page that is cut into pieces.
-use Rattle.std.proofs.Common.{◌≡◌, ℕ, ◌+◌, ◌-◌, ◌<◌, ◌≤◌, ◌&&◌, List, [], ◌∷◌, ◌++◌, length, map, drop, slice_range, get_or, refl, ap, sym, ◌∙◌, Option, Some, None, Bool, true, false, if◌then◌else◌, IsCharBoundary, IsUtf8, arith, append_assoc, subst, nat_lt}
+use Rattle.std.proofs.Common.{◌≡◌, ℕ, ◌+◌, ◌-◌, ◌<◌, ◌≤◌, ◌&&◌, List, [], ◌∷◌, ◌++◌, length, map, drop, slice_range, get_or, refl, ap, sym, ◌∙◌, Option, Some, None, Bool, true, false, zero, suc, if◌then◌else◌, IsCharBoundary, IsUtf8, arith, append_assoc, subst, nat_lt}
 use Rattle.std.specs.Option.{option_map_or}
 use Rattle.html_pieces.specs.declared.bytes.Form.{Form}
 use Rattle.html_pieces.specs.declared.tokenizer.State.{State}
@@ -11,6 +11,8 @@ use Rattle.html_pieces.specs.Names.{is_foreign_root, name_of, is_end_tag}
 use Rattle.html_pieces.specs.declared.tokenizer.State.TheVariants.{Data, TagEnd, EmptyTagEnd}
 use Rattle.std.proofs.lemmas.Str.{IsCharBoundary-start}
 use Rattle.std.proofs.lemmas.Bool.Decides.{nat_tests}
+use Rattle.html_pieces.specs.Private.Quiet.{AreQuiet}
+use Rattle.html_pieces.proofs.QuietBytes.{quiet_stays}
 use Rattle.html_pieces.proofs.Slices.{drop_more, slice_more, slice_one}
 
 -- the pieces after a byte that begins the next one
@@ -53,10 +55,11 @@ pub record Told (form : Form) (page : List ℕ) (pieces : List Piece) (depth : �
   pub started : start < i
   pub at_character : IsCharBoundary page start
   pub few : depth ≤ start
+  pub within : i ≤ length page
 
 pub told_first : (form : Form) (page : List ℕ) → IsUtf8 page → 0 < length page → Told form page [] 0 (begin Data (get_or page 0 0)) 0 1
 told_first form [] u h = absurd (omega arith)
-told_first form (b ∷ bs) u h = record { told = refl; started = omega arith; at_character = IsCharBoundary-start (b ∷ bs) u; few = omega arith }
+told_first form (b ∷ bs) u h = record { told = refl; started = omega arith; at_character = IsCharBoundary-start (b ∷ bs) u; few = omega arith; within = omega arith }
 
 pub told_on : (form : Form) (page bytes : List ℕ) (pieces : List Piece) (depth : ℕ) (state after : State) (start i : ℕ) → bytes ≡ page → Told form page pieces depth state start i → i < length bytes
     → state_after form (nat_lt 0 depth) state (slice_range bytes start i) (get_or bytes i 0) ≡ Some after → Told form page pieces depth after start (i + 1)
@@ -69,6 +72,7 @@ told_on form page bytes pieces depth state after start i same t lt e =
       started = omega (arith, t.started);
       at_character = t.at_character;
       few = t.few;
+      within = omega (arith, lt');
     }
 
 pub first_byte : (b : ℕ) → is_continuation b ≡ false → 128 ≤ b → 192 ≤ b
@@ -113,6 +117,7 @@ told_anew form page bytes pieces depth state start i same t lt e =
       started = omega arith;
       at_character = starts_character form (nat_lt 0 depth) page state (slice_range page start i) i lt' e';
       few = omega (arith, grows, t.few, t.started);
+      within = omega (arith, lt');
     }
 
 -- the same of a piece as it was made, and of the pieces as they are held
@@ -135,3 +140,24 @@ told_pushed form page bytes held held' pushed depth depth' state inside state' s
     (d ∙ ap (λ bs. depth_after depth state (slice_range bs start i)) same)
     (s ∙ ap (λ q. begin q (get_or bytes i 0)) cn ∙ ap (λ bs. begin (content_after form (nat_lt 0 depth) state (slice_range bs start i)) (get_or bs i 0)) same)
     refl
+
+-- the same past bytes that leave the state as it is
+told_past : (form : Form) (page bytes : List ℕ) (pieces : List Piece) (depth : ℕ) (state : State) (start n i : ℕ) → bytes ≡ page → Told form page pieces depth state start i → i + n ≤ length bytes
+    → AreQuiet state bytes i (i + n) → Told form page pieces depth state start (i + n)
+told_past form page bytes pieces depth state start zero i same t w q =
+    let here : i + zero ≡ i = omega arith in
+    subst (λ k. Told form page pieces depth state start k) (sym here) t
+told_past form page bytes pieces depth state start (suc n) i same t w q =
+    let there : i + 1 + n ≡ i + suc n = omega arith in
+    let lt : i < length bytes = omega (arith, w) in
+    let first = q i (omega arith) (omega arith) in
+    let next = told_on form page bytes pieces depth state state start i same t lt (quiet_stays form (nat_lt 0 depth) state (slice_range bytes start i) (get_or bytes i 0) first) in
+    subst (λ k. Told form page pieces depth state start k) there
+    (told_past form page bytes pieces depth state start n (i + 1) same next (omega (arith, w)) (λ k l u. q k (omega (arith, l)) (omega (arith, u))))
+
+pub told_up_to : (form : Form) (page bytes : List ℕ) (pieces : List Piece) (depth : ℕ) (state : State) (start i to : ℕ) → bytes ≡ page → Told form page pieces depth state start i → i ≤ to → to ≤ length bytes
+    → AreQuiet state bytes i to → Told form page pieces depth state start to
+told_up_to form page bytes pieces depth state start i to same t le w q =
+    let there : i + (to - i) ≡ to = omega (arith, le) in
+    subst (λ k. Told form page pieces depth state start k) there
+    (told_past form page bytes pieces depth state start (to - i) i same t (omega (arith, le, w)) (λ k l u. q k l (omega (arith, le, u))))

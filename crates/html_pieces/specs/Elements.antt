@@ -2,13 +2,14 @@
 -- Source: HTML Living Standard, 3.2.6.2 (lang and xml:lang), 3.2.6.3 (translate), 13.1.2.4 (optional tags), 13.2.4.2 (the
 -- stack of open elements), 13.2.6 (tree construction). Simpler than the standard: an end tag of a formatting element, as
 -- `b`, closes all in that element too, and none is opened anew in the next paragraph.
-use Rattle.std.specs.Prelude.{ℕ, ◌-◌, ◌==◌, ◌||◌, ◌&&◌, Bool, true, false, not, List, [], ◌∷◌, ◌++◌, map, reverse, codes, nat_eq, Option, Some, None, if◌then◌else◌}
+use Rattle.std.specs.Prelude.{ℕ, ◌-◌, ◌==◌, ◌||◌, ◌&&◌, Bool, true, false, not, List, [], ◌∷◌, ◌++◌, length, map, reverse, codes, nat_eq, nat_lt, Option, Some, None, if◌then◌else◌}
 use Rattle.std.specs.Option.{unwrap_or, option_map_or}
 use Rattle.std.specs.Cmp.Lexicographic.{pointwise}
 use Rattle.html_pieces.specs.Bytes.{is_white_space, is_same_name, is_same_in, is_xml}
 use Rattle.html_pieces.specs.Names.{name_of, is_foreign_root}
 use Rattle.html_pieces.specs.Pieces.{Piece}
 use Rattle.html_pieces.specs.Groups.{is_one_of, group_of, is_void, ends, stops, bounds, is_root, is_heading}
+use Rattle.html_pieces.specs.References.{read_value}
 use Rattle.html_pieces.specs.Tags.{Attribute, attributes_of, value_of}
 use Rattle.html_pieces.specs.declared.bytes.Form.{Form}
 use Rattle.html_pieces.specs.declared.groups.Group.{Group}
@@ -29,12 +30,24 @@ pub record Element : Type 0 where
   pub is_foreign : Bool
   pub is_left_alone : Bool
 
+-- A value of more bytes is taken for a language as it is written. No tag of a language has so many.
+abbrev pub longest_language : ℕ
+longest_language = 256
+
+-- The language that a value names.
+abbrev pub language_by : List ℕ → List ℕ
+language_by value = if nat_lt longest_language (length value) then value else read_value value
+
+-- The language of an element as the code holds it, which may still be written with references.
+abbrev pub held_language : Bool → List ℕ → List ℕ
+held_language is_written language = if is_written then read_value language else language
+
 -- The same of an element as the code holds it.
 abbrev pub as_element : declared.Element → Element
 as_element held = record {
   name = held.name.now;
   group = held.group;
-  language = held.language.now;
+  language = held_language held.has_references held.language.now;
   is_apart = held.is_apart;
   is_translated = held.is_translated;
   is_foreign = held.is_foreign;
@@ -68,7 +81,8 @@ has_word word text = has_word_from word [] text
 
 -- A class of this name is given.
 abbrev pub has_class : Form → List ℕ → List Attribute → Bool
-has_class form class attributes = option_map_or (has_word class) (value_of form (codes "class") attributes) false
+has_class form class attributes =
+    option_map_or (λ value. has_word class (read_value value)) (value_of form (codes "class") attributes) false
 
 -- By the value "no" a text may not be translated, by "yes" or nothing it may, and else as around.
 abbrev pub translated_by : Bool → List ℕ → Bool
@@ -79,18 +93,27 @@ translated_by around value =
 
 -- The text may be translated, by the attribute `translate`; where that is not there, as around.
 abbrev pub is_translated : Form → List Attribute → Bool → Bool
-is_translated form attributes around = option_map_or (translated_by around) (value_of form (codes "translate") attributes) around
+is_translated form attributes around =
+    option_map_or (λ value. translated_by around (read_value value)) (value_of form (codes "translate") attributes) around
 
--- The value of the first of two names that an attribute has, or else another one.
-abbrev pub value_of_either : Form → List ℕ → List ℕ → List Attribute → List ℕ → List ℕ
-value_of_either form name other attributes around =
-    unwrap_or (value_of form name attributes) (unwrap_or (value_of form other attributes) around)
+-- The first of two values that there is.
+abbrev pub or_else : Option (List ℕ) → Option (List ℕ) → Option (List ℕ)
+or_else None other = other
+or_else (Some value) other = Some value
 
--- The language by xml:lang in XML, by lang in HTML. Where that is not there, the other one serves.
+-- The value of the first of two names that an attribute has.
+abbrev pub value_of_either : Form → List ℕ → List ℕ → List Attribute → Option (List ℕ)
+value_of_either form name other attributes = or_else (value_of form name attributes) (value_of form other attributes)
+
+-- The value that names the language: of xml:lang in XML, of lang in HTML. Where that is not there, the other one serves.
+abbrev pub language_value : Form → List Attribute → Option (List ℕ)
+language_value form attributes =
+    if is_xml form then value_of_either form (codes "xml:lang") (codes "lang") attributes
+    else value_of_either form (codes "lang") (codes "xml:lang") attributes
+
+-- The language by the attributes of an element; where none names it, the one around.
 abbrev pub language_of : Form → List Attribute → List ℕ → List ℕ
-language_of form attributes around =
-    if is_xml form then value_of_either form (codes "xml:lang") (codes "lang") attributes around
-    else value_of_either form (codes "lang") (codes "xml:lang") attributes around
+language_of form attributes around = option_map_or language_by (language_value form attributes) around
 
 -- The group of an element that begins. Groups are for HTML alone.
 abbrev pub group_in : Form → Bool → List ℕ → Group

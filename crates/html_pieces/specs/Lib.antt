@@ -1,6 +1,7 @@
 pub mod Bytes
 pub mod Names
 pub mod Pieces
+pub mod References
 pub mod Tags
 pub mod Groups
 pub mod Elements

@@ -1,3 +1,4 @@
 -- Definitions that private functions and proofs state. No contract of a public call cites them.
 pub mod Parts
 pub mod Quiet
+pub mod Read

@@ -1,5 +1,5 @@
 -- The attributes of a tag.
--- Source: HTML Living Standard, 13.2.5.32 to 13.2.5.39. Character references in values are not read.
+-- Source: HTML Living Standard, 13.2.5.32 to 13.2.5.39. Values are as they are written: References says how they are read.
 use Rattle.std.specs.Prelude.{ℕ, Bool, true, false, not, ◌&&◌, ◌++◌, List, [], ◌∷◌, drop, Option, Some, None, if◌then◌else◌}
 use Rattle.std.specs.Option.{unwrap_or}
 use Rattle.html_pieces.specs.Bytes.{is_same_in}

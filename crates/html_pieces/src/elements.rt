@@ -1,17 +1,21 @@
 //! The elements that are open at a text.
 
 ghost use Rattle.std.specs.Prelude.{◌≡◌, ◌≤◌, map, take, length, IfOk, OnOk};
+ghost use Rattle.std.specs.Option.{option_map};
 ghost use Rattle.html_pieces.specs.Pieces.{as_piece};
 ghost use Rattle.html_pieces.specs.Groups.{is_one_of};
+ghost use Rattle.html_pieces.specs.References.{read_value};
 ghost use Rattle.html_pieces.specs.Tags.{as_attribute};
 ghost use Rattle.html_pieces.specs.Elements.{as_element, as_elements, left_alone_names, integration_names};
-ghost use Rattle.html_pieces.specs.Elements.{has_word, has_class, is_translated, value_of_either, language_of};
+ghost use Rattle.html_pieces.specs.Elements.{has_word, has_class, translated_by, is_translated, value_of_either};
+ghost use Rattle.html_pieces.specs.Elements.{language_value, held_language, language_by, language_of};
 ghost use Rattle.html_pieces.specs.Elements.{group_in, holds_foreign, opened, innermost, before_new, closed_as};
 ghost use Rattle.html_pieces.specs.Elements.{closed, begun_as, begun, is_closed_by_slash, elements_after};
 ghost use Rattle.html_pieces.specs.Elements.{page_element};
 
 use crate::bytes::{Form, is_same_in, is_same_name, is_white_space};
 use crate::groups::{Group, bounds, ends, group_of, is_heading, is_root, is_void, stops};
+use crate::references::{has_ampersand, read, read_plain};
 use crate::tags::{Attribute, attributes, value_of};
 use crate::tokenizer::{Kind, Piece, is_foreign_root, name_of};
 use std::alloc::{AllocError, Global};
@@ -21,8 +25,10 @@ use std::alloc::{AllocError, Global};
 pub struct Element<'t> {
     pub name: &'t [u8],
     pub group: Group,
-    /// The language of its text.
+    /// The language of its text, as it is written.
     pub language: &'t [u8],
+    /// Whether its language may have character references, which are to be read.
+    pub has_references: bool,
     /// Whether it or an element around it is one whose text is left as it is.
     pub is_apart: bool,
     /// Whether its text may be translated.
@@ -32,6 +38,9 @@ pub struct Element<'t> {
     /// Whether its text is left as it is.
     pub is_left_alone: bool,
 }
+
+/// A value of more bytes is taken for a language as it is written.
+const LONGEST_LANGUAGE: usize = 256;
 
 /// So many open elements are looked at, the innermost ones.
 const DEPTH_LIMIT: usize = 512;
@@ -90,61 +99,141 @@ fn has_word(word: &[u8], text: &[u8]) -> bool
     &text[start..] == word
 }
 
+/// Whether a value, when it is read, has this class among its words.
+fn has_class_in(alloc: Global, class: &[u8], value: &[u8]) -> Result<bool, AllocError>
+    ensures { IfOk result (λ has. has ≡ has_word class.now (read_value value.now)) }
+{
+    if has_ampersand(value) {
+        let characters = read(alloc, value)?;
+        Ok(has_word(class, &characters))
+    } else {
+        Ok(has_word(class, read_plain(value)))
+    }
+}
+
 /// Whether attributes give a class of this name.
-fn has_class(form: Form, class: &[u8], attributes: &[Attribute<'_>]) -> bool
-    ensures { result ≡ has_class form class.now (map as_attribute attributes.now) }
+fn has_class(
+    alloc: Global,
+    form: Form,
+    class: &[u8],
+    attributes: &[Attribute<'_>],
+) -> Result<bool, AllocError>
+    ensures { IfOk result (λ has. has ≡ has_class form class.now (map as_attribute attributes.now)) }
 {
     match value_of(form, attributes, b"class") {
-        Some(value) => has_word(class, value),
-        None => false,
+        Some(value) => has_class_in(alloc, class, value),
+        None => Ok(false),
+    }
+}
+
+/// Whether text may be translated by a value that has been read, or else as around.
+fn translated_by(around: bool, value: &[u8]) -> bool
+    ensures { result ≡ translated_by around value.now }
+{
+    if is_same_name(value, b"no") {
+        false
+    } else if is_same_name(value, b"yes") || is_same_name(value, b"") {
+        true
+    } else {
+        around
+    }
+}
+
+/// Whether text may be translated by a value as it is written, or else as around.
+fn translated_in(alloc: Global, around: bool, value: &[u8]) -> Result<bool, AllocError>
+    ensures { IfOk result (λ is. is ≡ translated_by around (read_value value.now)) }
+{
+    if has_ampersand(value) {
+        let characters = read(alloc, value)?;
+        Ok(translated_by(around, &characters))
+    } else {
+        Ok(translated_by(around, read_plain(value)))
     }
 }
 
 /// Whether text may be translated by attributes, or else by those around.
-fn is_translated(form: Form, attributes: &[Attribute<'_>], around: bool) -> bool
-    ensures { result ≡ is_translated form (map as_attribute attributes.now) around }
+fn is_translated(
+    alloc: Global,
+    form: Form,
+    attributes: &[Attribute<'_>],
+    around: bool,
+) -> Result<bool, AllocError>
+    ensures { IfOk result (λ is. is ≡ is_translated form (map as_attribute attributes.now) around) }
 {
     match value_of(form, attributes, b"translate") {
-        Some(value) => {
-            if is_same_name(value, b"no") {
-                false
-            } else if is_same_name(value, b"yes") || is_same_name(value, b"") {
-                true
-            } else {
-                around
-            }
-        }
-        None => around,
+        Some(value) => translated_in(alloc, around, value),
+        None => Ok(around),
     }
 }
 
-/// The value of the first of two names that an attribute has, or else another one.
+/// The value of the first of two names that an attribute has.
 fn value_of_either<'t>(
     form: Form,
     name: &[u8],
     other: &[u8],
     attributes: &[Attribute<'t>],
-    around: &'t [u8],
-) -> &'t [u8]
-    ensures { result.now ≡ value_of_either form name.now other.now (map as_attribute attributes.now) around.now }
+) -> Option<&'t [u8]>
+    ensures { option_map (λ value. value.now) result ≡ value_of_either form name.now other.now (map as_attribute attributes.now) }
 {
     match value_of(form, attributes, name) {
-        Some(value) => value,
-        None => match value_of(form, attributes, other) {
-            Some(value) => value,
-            None => around,
-        },
+        Some(value) => Some(value),
+        None => value_of(form, attributes, other),
+    }
+}
+
+/// The value that names the language.
+fn language_value<'t>(form: Form, attributes: &[Attribute<'t>]) -> Option<&'t [u8]>
+    ensures { option_map (λ value. value.now) result ≡ language_value form (map as_attribute attributes.now) }
+{
+    if form.is_xml() {
+        value_of_either(form, b"xml:lang", b"lang", attributes)
+    } else {
+        value_of_either(form, b"lang", b"xml:lang", attributes)
+    }
+}
+
+/// A language as it is written, whose references, if it may have some, are read when it is asked for.
+#[derive(Clone, Copy)]
+struct Language<'t> {
+    written: &'t [u8],
+    has_references: bool,
+}
+
+/// The language that a value names, whose references are read.
+fn language_read(value: &[u8]) -> Language<'_>
+    ensures { held_language result.has_references result.written.now ≡ read_value value.now }
+{
+    Language {
+        written: value,
+        has_references: has_ampersand(value),
+    }
+}
+
+/// The language that a value names.
+fn language_by(value: &[u8]) -> Language<'_>
+    ensures { held_language result.has_references result.written.now ≡ language_by value.now }
+{
+    if value.len() > LONGEST_LANGUAGE {
+        Language {
+            written: value,
+            has_references: false,
+        }
+    } else {
+        language_read(value)
     }
 }
 
 /// The language that attributes name, or else the one around.
-fn language_of<'t>(form: Form, attributes: &[Attribute<'t>], around: &'t [u8]) -> &'t [u8]
-    ensures { result.now ≡ language_of form (map as_attribute attributes.now) around.now }
+fn language_of<'t>(form: Form, attributes: &[Attribute<'t>], around: Element<'t>) -> Language<'t>
+    ensures { held_language result.has_references result.written.now
+        ≡ language_of form (map as_attribute attributes.now) (as_element around.entry).language }
 {
-    if form.is_xml() {
-        value_of_either(form, b"xml:lang", b"lang", attributes, around)
-    } else {
-        value_of_either(form, b"lang", b"xml:lang", attributes, around)
+    match language_value(form, attributes) {
+        Some(value) => language_by(value),
+        None => Language {
+            written: around.language,
+            has_references: around.has_references,
+        },
     }
 }
 
@@ -179,12 +268,15 @@ fn opened<'t>(
 {
     let attributes = attributes(alloc, form, tag)?;
     let name = name_of(tag);
-    let is_apart = around.is_apart || is_left_alone(name) || has_class(form, class, &attributes);
-    let is_translated = is_translated(form, &attributes, around.is_translated);
+    let has_class = has_class(alloc, form, class, &attributes)?;
+    let is_apart = around.is_apart || is_left_alone(name) || has_class;
+    let is_translated = is_translated(alloc, form, &attributes, around.is_translated)?;
+    let language = language_of(form, &attributes, around);
     Ok(Element {
         name,
         group: group_in(form, around.is_foreign, name),
-        language: language_of(form, &attributes, around.language),
+        language: language.written,
+        has_references: language.has_references,
         is_apart,
         is_translated,
         is_foreign: holds_foreign(around.is_foreign, name),
@@ -342,6 +434,7 @@ pub fn page_element(language: &[u8]) -> Element<'_>
         name: b"",
         group: Group::Root,
         language,
+        has_references: false,
         is_apart: false,
         is_translated: true,
         is_foreign: false,

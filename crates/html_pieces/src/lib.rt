@@ -6,5 +6,6 @@ pub mod elements;
 pub mod forms;
 pub mod groups;
 pub mod laws;
+pub mod references;
 pub mod tags;
 pub mod tokenizer;

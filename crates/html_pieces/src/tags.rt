@@ -1,15 +1,16 @@
 //! The attributes of tags.
 
-ghost use Rattle.std.specs.Prelude.{◌≡◌, ◌++◌, ◌∷◌, [], ◌<◌, false, IsTrue, length, slice_index, map, IfOk, OnOk};
+ghost use Rattle.std.specs.Prelude.{◌≡◌, ◌++◌, ◌∷◌, [], ◌<◌, ◌≤◌, false, IsTrue, if◌then◌else◌, length, slice_index, slice_range, map, IfOk, OnOk};
 ghost use Rattle.std.specs.Option.{option_map, unwrap_or};
 ghost use Rattle.html_pieces.specs.Pieces.{next};
 ghost use Rattle.html_pieces.specs.declared.tokenizer.State.TheVariants.{TagEnd};
 ghost use Rattle.html_pieces.specs.Tags.{as_attribute, attributes_of, is_name, is_unquoted, is_value, name_on};
 ghost use Rattle.html_pieces.specs.Tags.{value_on, read, ended, value_of};
 ghost use Rattle.html_pieces.specs.Private.Parts.{EndsAt};
+ghost use Rattle.html_pieces.specs.Private.Quiet.{AreQuiet};
 
 use crate::bytes::{Form, is_same_in};
-use crate::tokenizer::{State, is_quiet, next};
+use crate::tokenizer::{State, after_quiet, is_quiet, next};
 use std::alloc::{AllocError, Global};
 
 /// An attribute of a tag, as it is written.
@@ -126,6 +127,36 @@ fn next_in_tag(form: Form, state: State, byte: u8) -> State
     }
 }
 
+/// The first place from one on whose byte may end a value; outside of values the place where it is asked.
+#[tactic(auto, using(crate::proofs::QuietSteps::none_passed))]
+fn after_value(state: State, tag: &[u8], from: usize) -> usize
+    requires { from ≤ length tag.now }
+    ensures passed { from ≤ result }
+    ensures within { result ≤ length tag.now }
+    ensures quiet { AreQuiet state tag.now from result }
+    ensures kept { is_value state ≡ false → result ≡ from }
+{
+    if is_value(state) {
+        after_quiet(state, tag, from)
+    } else {
+        from
+    }
+}
+
+/// The value that is being read, after more bytes of it.
+fn value_past<'t>(tag: &'t [u8], from: usize, to: usize, state: State, value: &'t [u8]) -> &'t [u8]
+    requires order { from ≤ to }
+    requires within { to ≤ length tag.now }
+    requires part { IsTrue (is_value state) → EndsAt tag.now value.now from }
+    ensures { result.now ≡ (if is_value state then value.entry.now ++ slice_range tag.now from to else value.entry.now) }
+{
+    if is_value(state) {
+        &tag[from - value.len()..to]
+    } else {
+        value
+    }
+}
+
 /// The attributes of a tag, in order, as they are written.
 ///
 /// The only error is that memory was refused.
@@ -136,12 +167,16 @@ pub fn attributes(alloc: Global, form: Form, tag: &[u8]) -> Result<Vec<Attribute
     let mut state = State::TagOpen;
     let mut name: &[u8] = &[];
     let mut value: &[u8] = &[];
-    for i in 1..tag.len() {
+    let mut i = 1;
+    while i < tag.len() {
         let after = next_in_tag(form, state, tag[i]);
         push_ended(&mut attributes, state, after, name, value)?;
         name = name_on(tag, i, state, after, name);
         value = value_on(tag, i, state, after, value);
+        let end = after_value(after, tag, i + 1);
+        value = value_past(tag, i + 1, end, after, value);
         state = after;
+        i = end;
     }
     push_read(&mut attributes, name, value)?;
     Ok(attributes)

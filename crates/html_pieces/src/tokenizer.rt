@@ -1,13 +1,15 @@
 //! A page, cut into pieces.
 
-ghost use Rattle.std.specs.Prelude.{◌≡◌, ◌+◌, ◌<◌, ◌^◌, map, take_while, not, IfOk};
+ghost use Rattle.std.specs.Prelude.{◌≡◌, ◌==◌, ◌+◌, ◌<◌, ◌≤◌, ◌^◌, length, map, take_while, not, IfOk};
 ghost use Rattle.html_pieces.specs.Bytes.{ends_name};
 ghost use Rattle.html_pieces.specs.Names.{is_end_tag, name_of, raw_end_tag, raw_element, is_foreign_root};
 ghost use Rattle.html_pieces.specs.Pieces.{in_tag, in_attribute, before_value, in_unquoted_value, ends_tag, in_raw};
 ghost use Rattle.html_pieces.specs.Pieces.{in_escaped, in_double_escaped, next, state_after, kind_of, content_of};
 ghost use Rattle.html_pieces.specs.Pieces.{content_after_tag, content_after, depth_after, begin, pieces_of};
 ghost use Rattle.html_pieces.specs.Pieces.{as_piece};
-ghost use Rattle.html_pieces.specs.Private.Quiet.{is_quiet};
+ghost use Rattle.html_pieces.specs.Laws.{ends_text};
+ghost use Rattle.html_pieces.specs.declared.tokenizer.State.TheVariants.{Data};
+ghost use Rattle.html_pieces.specs.Private.Quiet.{is_quiet, AreQuiet, AreOthers};
 
 use crate::bytes::{
     Form, ends_name, is_alphanumeric, is_continuation, is_name_start, is_same_name, is_white_space,
@@ -622,6 +624,69 @@ fn state_after(form: Form, foreign: bool, state: State, front: &[u8], byte: u8) 
     }
 }
 
+const fn ends_text(byte: u8) -> bool
+    ensures { result ≡ ends_text byte }
+{
+    byte == b'<' || byte == b'&'
+}
+
+/// The first place from one on whose byte ends a text; the end where there is none.
+#[tactic(auto, using(crate::proofs::QuietSteps::none_passed))]
+fn after_text(bytes: &[u8], from: usize) -> usize
+    requires { from ≤ length bytes.now }
+    ensures passed { from ≤ result }
+    ensures within { result ≤ length bytes.now }
+    ensures quiet { AreQuiet Data bytes.now from result }
+{
+    for i in from..bytes.len() {
+        if ends_text(bytes[i]) {
+            return i;
+        }
+    }
+    bytes.len()
+}
+
+const fn is_byte(byte: u8, other: u8) -> bool
+    ensures { result ≡ (byte == other) }
+{
+    byte == other
+}
+
+/// The first place of a byte from one on; the end where there is none.
+#[tactic(auto, using(crate::proofs::QuietSteps::none_before))]
+fn after_others(stop: u8, bytes: &[u8], from: usize) -> usize
+    requires { from ≤ length bytes.now }
+    ensures passed { from ≤ result }
+    ensures within { result ≤ length bytes.now }
+    ensures others { AreOthers stop bytes.now from result }
+{
+    for i in from..bytes.len() {
+        if is_byte(bytes[i], stop) {
+            return i;
+        }
+    }
+    bytes.len()
+}
+
+/// The first place from one on whose byte may change a state; at most the end.
+///
+/// It goes on in texts, comments and values in quotes, which are most of a page.
+#[tactic(auto, using(crate::proofs::QuietSteps::none_passed))]
+pub(crate) fn after_quiet(state: State, bytes: &[u8], from: usize) -> usize
+    requires { from ≤ length bytes.now }
+    ensures passed { from ≤ result }
+    ensures within { result ≤ length bytes.now }
+    ensures quiet { AreQuiet state bytes.now from result }
+{
+    match state {
+        State::Data => after_text(bytes, from),
+        State::DoubleQuotedValue => after_others(b'"', bytes, from),
+        State::SingleQuotedValue => after_others(b'\'', bytes, from),
+        State::Comment => after_others(b'-', bytes, from),
+        _ => from,
+    }
+}
+
 /// The pieces of a page, in order.
 ///
 /// The only error is that memory was refused.
@@ -636,7 +701,8 @@ pub fn pieces(alloc: Global, form: Form, page: &str) -> Result<Vec<Piece<'_>>, A
     let mut state = begin(State::Data, bytes[0]);
     let mut depth = 0;
     let mut start = 0;
-    for i in 1..bytes.len() {
+    let mut i = 1;
+    while i < bytes.len() {
         let byte = bytes[i];
         let front = &bytes[start..i];
         match state_after(form, 0 < depth, state, front, byte) {
@@ -652,6 +718,7 @@ pub fn pieces(alloc: Global, form: Form, page: &str) -> Result<Vec<Piece<'_>>, A
                 start = i;
             }
         }
+        i = after_quiet(state, bytes, i + 1);
     }
     let front = &bytes[start..];
     pieces.push(Piece {

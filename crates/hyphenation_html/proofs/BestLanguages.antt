@@ -1,13 +1,12 @@
 -- The best language is the same, whatever stands beside the codes.
 use Rattle.std.proofs.Common.{◌≡◌, ℕ, ◌&&◌, Bool, true, false, List, [], ◌∷◌, map, length, nat_lt, refl, ap, sym, ◌∙◌, Option, Some, None, if◌then◌else◌}
 use Rattle.std.specs.Option.{option_map}
-use Rattle.hyphenation_html.specs.Languages.{Language, coded, breaking, languages_by, code_length, better, best_from, best_of, serves}
+use Rattle.hyphenation_html.specs.Languages.{coded, breaking, languages_by, code_length, better, best_from, best_of, serves}
 use Rattle.hyphenation_html.specs.declared.dictionary.AnyDictionary.{AnyDictionary}
 use Rattle.hyphenation_html.specs.declared.languages.LanguageDictionary.{LanguageDictionary}
 use Rattle.hyphenation_html.specs.Words.{within_limits}
 use Rattle.hyphenation_html.specs.Dictionaries.{places_by}
-use Rattle.hyphenation_html.specs.Private.Marked.{marked_text, marked_in}
-use Rattle.html_pieces.specs.Elements.{Element}
+use Rattle.hyphenation_html.specs.Private.Marked.{marked_text}
 use Rattle.std.specs.Option.{option_map_or}
 use Rattle.hyphenation_html.specs.declared.settings.Settings.{Settings}
 
@@ -37,18 +36,16 @@ pub best_alike : (settings : Settings) (tag : List ℕ) (languages : List Langua
     → best_of tag (languages_by settings languages) ≡ option_map (breaking settings) (best_of tag (map coded languages))
 best_alike settings tag languages = from_alike settings tag None languages
 
--- A text of an element whose language has this dictionary.
-pub in_language : (settings : Settings) (mark text : List ℕ) (element : Element) (before after : Bool) (languages : List LanguageDictionary) (language : LanguageDictionary)
-    → element.is_left_alone ≡ false → Some (coded language) ≡ best_of element.language (map coded languages)
-    → marked_in (languages_by settings languages) mark element before after text
+-- A text in a language that has this dictionary.
+pub in_language : (settings : Settings) (mark text tag : List ℕ) (before after : Bool) (languages : List LanguageDictionary) (language : LanguageDictionary)
+    → Some (coded language) ≡ best_of tag (map coded languages)
+    → option_map_or (λ l. marked_text l.1 mark before after text) (best_of tag (languages_by settings languages)) text
     ≡ marked_text (within_limits settings.min_word settings.skip_capitals (places_by language.dictionary)) mark before after text
-in_language settings mark text element before after languages language alone best =
-    ap (λ c. if c then text else option_map_or (λ l. marked_text l.1 mark before after text) (best_of element.language (languages_by settings languages)) text) alone
-    ∙ ap (λ o. option_map_or (λ l. marked_text l.1 mark before after text) o text) (best_alike settings element.language languages ∙ ap (option_map (breaking settings)) (sym best))
+in_language settings mark text tag before after languages language best =
+    ap (λ o. option_map_or (λ l. marked_text l.1 mark before after text) o text) (best_alike settings tag languages ∙ ap (option_map (breaking settings)) (sym best))
 
--- A text of an element whose language has none.
-pub in_no_language : (settings : Settings) (mark text : List ℕ) (element : Element) (before after : Bool) (languages : List LanguageDictionary)
-    → element.is_left_alone ≡ false → None ≡ best_of element.language (map coded languages) → marked_in (languages_by settings languages) mark element before after text ≡ text
-in_no_language settings mark text element before after languages alone best =
-    ap (λ c. if c then text else option_map_or (λ l. marked_text l.1 mark before after text) (best_of element.language (languages_by settings languages)) text) alone
-    ∙ ap (λ o. option_map_or (λ l. marked_text l.1 mark before after text) o text) (best_alike settings element.language languages ∙ ap (option_map (breaking settings)) (sym best))
+-- A text in a language that has none.
+pub in_no_language : (settings : Settings) (mark text tag : List ℕ) (before after : Bool) (languages : List LanguageDictionary)
+    → None ≡ best_of tag (map coded languages) → option_map_or (λ l. marked_text l.1 mark before after text) (best_of tag (languages_by settings languages)) text ≡ text
+in_no_language settings mark text tag before after languages best =
+    ap (λ o. option_map_or (λ l. marked_text l.1 mark before after text) o text) (best_alike settings tag languages ∙ ap (option_map (breaking settings)) (sym best))

@@ -1,5 +1,5 @@
 -- Breaks of words that are not passed over.
-use Rattle.std.proofs.Common.{◌≡◌, ℕ, Bool, true, false, List, [], refl, IsTrue, if◌then◌else◌}
+use Rattle.std.proofs.Common.{ℕ, Bool, true, false, List, [], refl, IsTrue, if◌then◌else◌}
 use Rattle.hyphenation_breaks.specs.Break.{ascend_on}
 use Rattle.hyphenation_html.specs.Dictionaries.{Breaks}
 use Rattle.hyphenation_html.specs.Words.{is_passed_over, within_limits}

@@ -1,8 +1,8 @@
 -- A text that is written word by word is the text with marks at its places.
-use Rattle.std.proofs.Common.{◌≡◌, ℕ, ◌+◌, ◌≤◌, ◌<◌, ◌||◌, Bool, true, false, cond, List, [], ◌∷◌, ◌++◌, map, length, refl, ap, sym, ◌∙◌, arith, append_assoc, append-nil, subst, IsTrue, if◌then◌else◌}
+use Rattle.std.proofs.Common.{◌≡◌, ℕ, ◌+◌, ◌<◌, ◌||◌, Bool, true, false, cond, List, [], ◌∷◌, ◌++◌, map, length, refl, ap, sym, ◌∙◌, arith, append_assoc, append-nil, subst, IsTrue, if◌then◌else◌}
 use Rattle.std.specs.Prelude.{encode_utf8, encode_utf8_all}
 use Rattle.std.specs.List.{concat, flat_map}
-use Rattle.std.specs.Str.{IsUtf8, chars, IsCharBoundary}
+use Rattle.std.specs.Str.{IsUtf8, chars}
 use Rattle.std.proofs.Math.Seq.{take-append_seam}
 use Rattle.std.proofs.lemmas.Str.{encodes-append, encodes-chars, IsUtf8-past_char, IsUtf8-take, IsCharBoundary-at_seam}
 use Rattle.unicode_segmentation.specs.Segments.{Rule, prepend, cut, segments}

@@ -1,5 +1,5 @@
 -- One byte more of a text that is cut at white space.
-use Rattle.std.proofs.Common.{◌≡◌, ℕ, ◌+◌, ◌<◌, ◌≤◌, ◌||◌, Bool, true, false, List, [], ◌∷◌, ◌++◌, length, take, drop, slice_range, get_or, refl, ap, sym, ◌∙◌, arith, if◌then◌else◌, append_assoc, nat_eq, IsCharBoundary, IsUtf8, subst}
+use Rattle.std.proofs.Common.{◌≡◌, ℕ, ◌+◌, ◌<◌, ◌≤◌, Bool, true, false, List, [], ◌∷◌, ◌++◌, length, drop, slice_range, get_or, refl, ap, sym, ◌∙◌, arith, if◌then◌else◌, append_assoc, IsCharBoundary, IsUtf8, subst}
 use Rattle.std.proofs.lemmas.Str.{IsCharBoundary-start, IsCharBoundary-after_ascii}
 use Rattle.std.proofs.lemmas.Bool.Decides.{nat_tests}
 use Rattle.html_pieces.specs.Bytes.{is_white_space}

@@ -10,7 +10,8 @@ ghost use Rattle.hyphenation_html.specs.Places.{page_places, marked_page, IsDone
 ghost use Rattle.hyphenation_html.specs.Touching.{touched_after};
 ghost use Rattle.hyphenation_html.specs.Laws.{IsPageWithMarks, IsInText, soft_hyphen};
 ghost use Rattle.hyphenation_html.specs.Private.Fit.{AllFit};
-ghost use Rattle.hyphenation_html.specs.Private.Marked.{is_text, marked_in_by, marked_piece_by, marked_pieces_by, marked_page_by};
+ghost use Rattle.hyphenation_html.specs.Private.Marked.{is_text, marked_in_language, marked_read_by, marked_in_by};
+ghost use Rattle.hyphenation_html.specs.Private.Marked.{marked_piece_by, marked_pieces_by, marked_page_by};
 
 use crate::dictionary::limited_breaks_fit;
 use crate::languages::{LanguageDictionary, best_of};
@@ -21,6 +22,7 @@ use html_pieces::bytes::Form;
 use html_pieces::elements::{Element, innermost, page_element, pass};
 use html_pieces::forms::cut;
 use html_pieces::laws::{other_texts_are_cut_alike, pieces_are_utf8, pieces_join};
+use html_pieces::references::read;
 use html_pieces::tokenizer::{Kind, Piece};
 use hyphenation_hyphenator::hyphenator::laws::plain_breaks_fit_where_ascending;
 use hyphenation_segments::iter::laws::{marked_segments_join, segments_join};
@@ -31,6 +33,67 @@ fn push_unmarked(output: &mut String, text: &str) -> Result<(), AllocError>
     ensures { OnOk result (string_bytes output.new ≡ string_bytes output.old ++ text.now) }
 {
     output.push_str(text)
+}
+
+// Appends a text in a language, with the mark at the breaks of its words by the dictionary of the language.
+fn push_in_language(
+    output: &mut String,
+    alloc: Global,
+    languages: &[LanguageDictionary],
+    settings: &Settings<'_>,
+    language: &[u8],
+    text: &str,
+    before: bool,
+    after: bool,
+) -> Result<(), AllocError>
+    ensures { OnOk result (string_bytes output.new ≡ string_bytes output.old
+        ++ marked_in_language settings.now languages.now language.now before after text.now) }
+{
+    match best_of(languages, language) {
+        Some(language) => push_text(
+            output,
+            alloc,
+            &language.dictionary,
+            settings,
+            text,
+            before,
+            after,
+        ),
+        None => push_unmarked(output, text),
+    }
+}
+
+// Appends a text in the language of an element, whose references are read first.
+fn push_read(
+    output: &mut String,
+    alloc: Global,
+    languages: &[LanguageDictionary],
+    settings: &Settings<'_>,
+    element: Element<'_>,
+    text: &str,
+    before: bool,
+    after: bool,
+) -> Result<(), AllocError>
+    ensures { OnOk result (string_bytes output.new ≡ string_bytes output.old
+        ++ marked_read_by settings.now languages.now element.entry before after text.now) }
+{
+    if element.has_references {
+        let language = read(alloc, element.language)?;
+        push_in_language(
+            output, alloc, languages, settings, &language, text, before, after,
+        )
+    } else {
+        push_in_language(
+            output,
+            alloc,
+            languages,
+            settings,
+            element.language,
+            text,
+            before,
+            after,
+        )
+    }
 }
 
 // Appends a text of an element, with the mark at the breaks of its words by the dictionary of its language.
@@ -48,19 +111,11 @@ fn push_in(
         ++ marked_in_by settings.now languages.now element.entry before after text.now) }
 {
     if element.is_left_alone {
-        return output.push_str(text);
-    }
-    match best_of(languages, element.language) {
-        Some(language) => push_text(
-            output,
-            alloc,
-            &language.dictionary,
-            settings,
-            text,
-            before,
-            after,
-        ),
-        None => push_unmarked(output, text),
+        output.push_str(text)
+    } else {
+        push_read(
+            output, alloc, languages, settings, element, text, before, after,
+        )
     }
 }
 

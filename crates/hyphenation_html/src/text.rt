@@ -12,7 +12,7 @@ use html_pieces::bytes::is_white_space;
 use hyphenation_segments::iter::laws::marked_segments_join;
 use hyphenation_segments::iter::push_marked;
 use std::alloc::{AllocError, Global};
-use unicode_segmentation::UnicodeSegmentation;
+use word_pieces::WordPieces;
 
 // Appends a word with the mark at its breaks.
 fn push_breaking(
@@ -63,7 +63,7 @@ fn push_token(
     if is_left_whole(token.as_bytes()) {
         return output.push_str(token);
     }
-    for word in token.split_word_bounds() {
+    for word in WordPieces::new(token) {
         push_word(output, alloc, dictionary, settings, word)?;
     }
     Ok(())

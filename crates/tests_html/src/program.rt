@@ -86,6 +86,7 @@ fn dictionaries_are_found_by_the_languages_of_a_page(rt: HostRuntime) -> Result<
             "<p xml:lang=\"EN-GB-x-y\">fir-kin",
         ),
         ("<p lang=hu>asszonnyal", "<p lang=hu>asszo-nnyal"),
+        ("<p lang=d&#101;>firkin", "<p lang=d&#101;>fi-rk-in"),
         (
             "<p lang=de>firkin <i lang=en-gb>firkin",
             "<p lang=de>fi-rk-in <i lang=en-gb>fir-kin",

@@ -106,6 +106,14 @@ const LANGUAGES: &[(&str, &str)] = &[
     ),
     ("<p lang=hu>asszonnyal", "<p lang=hu>asszo-nnyal"),
     ("<p lang=''>firkin", "<p lang=''>firkin"),
+    (
+        "<p lang='d&#101;'>firkin <i LANG=&#x65&#110>firkin",
+        "<p lang='d&#101;'>fi-rk-in <i LANG=&#x65&#110>fir-kin",
+    ),
+    (
+        "<p lang='d&#101;&amp;'>firkin<i lang='&amp;#100;e'> firkin",
+        "<p lang='d&#101;&amp;'>firkin<i lang='&amp;#100;e'> firkin",
+    ),
 ];
 
 #[test]
@@ -121,6 +129,14 @@ const LEFT_ALONE: &[(&str, &str)] = &[
     (
         "<i translate=NO>firkin</i> firkin",
         "<i translate=NO>firkin</i> fir-kin",
+    ),
+    (
+        "<p class='a&Tab;dont&#104;yphenate'>firkin<p class='a&amp;donthyphenate'>firkin",
+        "<p class='a&Tab;dont&#104;yphenate'>firkin<p class='a&amp;donthyphenate'>fir-kin",
+    ),
+    (
+        "<i translate='n&#111;'>firkin <b translate='&#121es'>firkin</b></i> firkin",
+        "<i translate='n&#111;'>firkin <b translate='&#121es'>fir-kin</b></i> fir-kin",
     ),
     (
         "&amp;firkin firkin firkin&shy;",

@@ -5,3 +5,5 @@
 mod cuttings;
 #[cfg(test)]
 mod open_elements;
+#[cfg(test)]
+mod references;

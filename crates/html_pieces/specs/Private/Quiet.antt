@@ -1,5 +1,5 @@
 -- Bytes that leave a state as it is.
-use Rattle.std.specs.Prelude.{ℕ, ◌==◌, Bool, false, not}
+use Rattle.std.specs.Prelude.{◌≡◌, ℕ, ◌==◌, ◌<◌, ◌≤◌, Bool, true, false, not, List, slice_index}
 use Rattle.html_pieces.specs.Bytes.{is_alphanumeric}
 use Rattle.html_pieces.specs.Laws.{ends_text}
 use Rattle.html_pieces.specs.declared.tokenizer.State.{State}
@@ -15,3 +15,11 @@ is_quiet SingleQuotedValue b = not (b == 39)
 is_quiet Comment b = not (b == 45)
 is_quiet (Raw element) b = is_alphanumeric b
 is_quiet _ b = false
+
+-- The bytes from a place up to another one leave the state as it is.
+abbrev pub AreQuiet : State → List ℕ → ℕ → ℕ → Type 0
+AreQuiet state bytes from to = (k : ℕ) → from ≤ k → k < to → is_quiet state (slice_index bytes k) ≡ true
+
+-- The bytes from a place up to another one are none of these.
+abbrev pub AreOthers : ℕ → List ℕ → ℕ → ℕ → Type 0
+AreOthers stop bytes from to = (k : ℕ) → from ≤ k → k < to → not (slice_index bytes k == stop) ≡ true

@@ -85,6 +85,17 @@ abbrev pub marked_text_by : Settings → AnyDictionary → Bool → Bool → Lis
 marked_text_by settings dictionary before after text =
     marked_text (breaks_under settings dictionary) settings.mark.now before after text
 
+-- A text in a language with its marks.
+abbrev pub marked_in_language : Settings → List LanguageDictionary → List ℕ → Bool → Bool → List ℕ → List ℕ
+marked_in_language settings languages language before after text =
+    option_map_or (λ found. marked_text found.1 settings.mark.now before after text)
+    (best_of language (languages_by settings languages)) text
+
+-- A text in the language of an element with its marks.
+abbrev pub marked_read_by : Settings → List LanguageDictionary → held.Element → Bool → Bool → List ℕ → List ℕ
+marked_read_by settings languages element before after text =
+    marked_in_language settings languages (as_element element).language before after text
+
 -- A text of an element with its marks.
 abbrev pub marked_in_by : Settings → List LanguageDictionary → held.Element → Bool → Bool → List ℕ → List ℕ
 marked_in_by settings languages element before after text =
