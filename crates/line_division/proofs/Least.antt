@@ -1,15 +1,13 @@
 -- The line that is best to begin at a place, and the best ones after it.
 use Rattle.std.specs.Bool.{MatchBool}
 use Rattle.std.proofs.Common.{◌≡◌, ℕ, ◌+◌, ◌-◌, ◌<◌, ◌≤◌, Bool, true, false, List, [], ◌∷◌, ◌++◌, length, set, length-set, append_assoc, append-nil, sym, ap, subst, refl, ◌∙◌, arith, inl, inr}
-use Rattle.std.proofs.lemmas.Bool.{cases_lt, cases_eq}
+use Rattle.std.proofs.lemmas.Bool.{cases_eq}
 use Rattle.std.proofs.lemmas.List.{get_or-set_same, get_or-set_other}
 use Rattle.line_division.specs.declared.stretch.Stretch.{Stretch}
 use Rattle.line_division.specs.declared.cost.Cost.{Cost}
 use Rattle.line_division.specs.declared.even.Choice.{Choice}
 use Rattle.line_division.specs.Cost.{nothing, together, CostsNoMore}
-use Rattle.std.specs.List.{sum_by, slice_range}
-use Rattle.line_division.specs.Lines.{stretch_at, joined_width, line_width, line_cost}
-use Rattle.line_division.proofs.Widths.{wider}
+use Rattle.line_division.specs.Lines.{line_cost}
 use Rattle.line_division.specs.Division.{Divides, EachFits, cost_of}
 use Rattle.line_division.specs.Private.Best.{no_choice, choice_at, IsLeast, IsSmall, IsMade, AreBest}
 
@@ -48,31 +46,6 @@ least_alone stretches columns last_columns choices start choice made alone best 
     let same : choice.end ≡ end = omega (arith, divides.0) in
     subst (λ e. CostsNoMore choice.cost (cost_of stretches columns last_columns start (e ∷ row))) same (made_least stretches columns last_columns choices start choice row made best (subst (λ e. Divides stretches columns e row) (sym same) divides.2))
 
--- One more end is tried, and the better one kept.
-pub least_further : (stretches : List Stretch) (columns last_columns : ℕ) (choices : List Choice) (start last : ℕ) (old : Cost) (other : Choice)
-    → IsLeastUpTo stretches columns last_columns start last old → IsMade stretches columns last_columns choices start other → other.end ≡ last + 1 → AreBest stretches columns last_columns choices (start + 1)
-    → (kept : Cost) → CostsNoMore kept old → CostsNoMore kept other.cost → IsLeastUpTo stretches columns last_columns start (last + 1) kept
-least_further stretches columns last_columns choices start last old other before made alone best kept no_more no_more_either end row le divides =
-    elim (cases_lt last end) [
-      | inl later ↦
-          let same : other.end ≡ end = omega (arith, later) in
-          subst (λ e. CostsNoMore kept (cost_of stretches columns last_columns start (e ∷ row))) same
-          (no_more_along kept other.cost (cost_of stretches columns last_columns start (other.end ∷ row)) no_more_either (made_least stretches columns last_columns choices start other row made best (subst (λ e. Divides stretches columns e row) (sym same) divides.2)))
-      | inr earlier ↦ no_more_along kept old (cost_of stretches columns last_columns start (end ∷ row)) no_more (before end row earlier divides)
-    ]
-
--- One more end is no choice, since its line doesn't fit.
-pub least_past : (stretches : List Stretch) (columns last_columns start last : ℕ) (old : Cost) → start < last → IsLeastUpTo stretches columns last_columns start last old → columns < line_width stretches start (last + 1)
-    → IsLeastUpTo stretches columns last_columns start (last + 1) old
-least_past stretches columns last_columns start last old lt before wide end row le divides =
-    elim (cases_lt last end) [
-      | inl later ↦ elim divides.1 [
-        | inl fit ↦ let same : end ≡ last + 1 = omega (arith, later) in absurd (omega (arith, wide, subst (λ e. line_width stretches start e ≤ columns) same fit))
-        | inr alone ↦ absurd (omega (arith, alone, later))
-      ]
-      | inr earlier ↦ before end row earlier divides
-    ]
-
 -- A cost that is no dearer up to the last end is least.
 pub least_at_last : (stretches : List Stretch) (columns last_columns start : ℕ) (least : Cost) → start < length stretches → ((end : ℕ) (row : List ℕ) → Divides stretches columns start (end ∷ row) → CostsNoMore least (cost_of stretches columns last_columns start (end ∷ row))) → IsLeast stretches columns last_columns start least
 least_at_last stretches columns last_columns start least lt up [] divides = absurd (omega (arith, divides))
@@ -81,26 +54,6 @@ least_at_last stretches columns last_columns start least lt up (end ∷ row) div
 pub divides_within : (stretches : List Stretch) (columns start : ℕ) (row : List ℕ) → Divides stretches columns start row → start ≤ length stretches
 divides_within stretches columns start [] divides = omega (arith, divides)
 divides_within stretches columns start (end ∷ row) divides = let rest = divides_within stretches columns end row divides.2 in omega (arith, rest, divides.0)
-
--- No line that ends later fits.
-pub least_stopped : (stretches : List Stretch) (columns last_columns start last : ℕ) (least : Cost) → start < last → last < length stretches → IsLeastUpTo stretches columns last_columns start last least
-    → columns < (stretch_at stretches start).opening + sum_by joined_width (slice_range stretches start last) + (stretch_at stretches last).width
-    → IsLeast stretches columns last_columns start least
-least_stopped stretches columns last_columns start last least lt within before wide =
-    least_at_last stretches columns last_columns start least (omega arith) (λ end row divides.
-    elim (cases_lt last end) [
-      | inl later ↦ elim divides.1 [
-        | inl fit ↦ absurd (omega (arith, wide, fit, wider stretches start last end (omega arith) within later))
-        | inr alone ↦ absurd (omega (arith, alone, later))
-      ]
-      | inr earlier ↦ before end row earlier divides
-    ])
-
--- All lines were tried.
-pub least_whole : (stretches : List Stretch) (columns last_columns start last : ℕ) (least : Cost) → start < length stretches → length stretches ≤ last → IsLeastUpTo stretches columns last_columns start last least
-    → IsLeast stretches columns last_columns start least
-least_whole stretches columns last_columns start last least lt all before =
-    least_at_last stretches columns last_columns start least lt (λ end row divides. before end row (let within = divides_within stretches columns end row divides.2 in omega (arith, within)) divides)
 
 -- The results of a comparison.
 pub told_less : (one other : Cost) (b : Bool) → MatchBool b (CostsNoMore one other) (CostsNoMore other one) → b ≡ true → CostsNoMore one other

@@ -9,6 +9,7 @@
 mod cost;
 mod even;
 mod greedy;
+pub mod laws;
 mod stretch;
 
 pub use cost::Cost;

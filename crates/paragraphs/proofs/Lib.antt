@@ -6,3 +6,8 @@ pub mod WordsKept
 pub mod PageRows
 pub mod ShortParts
 pub mod ShownTexts
+pub mod Printable
+pub mod Groups
+pub mod WholeWords
+pub mod MixedParts
+pub mod FullLines

@@ -1,11 +1,15 @@
 -- The lines of paragraphs, one after the other.
-use Rattle.std.proofs.Common.{◌≡◌, ℕ, List, [], ◌∷◌, ◌++◌, sym, ap, subst, ◌∙◌, append_assoc, append-nil}
+use Rattle.std.proofs.Common.{◌≡◌, ℕ, zero, suc, ◌<◌, length, map, slice_index_or, inl, inr, arith, List, [], ◌∷◌, ◌++◌, sym, ap, subst, ◌∙◌, append_assoc, append-nil}
 use Rattle.std.specs.List.{flat_map}
+use Rattle.std.specs.String.{string_bytes}
+use Rattle.std.specs.declared.string.String.{String}
 use Rattle.std.proofs.lemmas.Grind.{flat_map-append}
 use Rattle.hyphenation_breaks.specs.Break.{Break}
 use Rattle.paragraphs.specs.declared.setting.Aim.{Aim}
-use Rattle.paragraphs.specs.Pages.{IsFilled, AreFilled, apart, IsPage}
-use Rattle.paragraphs.specs.Words.{Style}
+use Rattle.paragraphs.specs.Pages.{IsFilled, AreFilled, apart, IsPage, HasTooLong}
+use Rattle.paragraphs.specs.Settings.{IsTooLong}
+use Rattle.paragraphs.specs.Words.{Style, parts_of}
+use Rattle.text_paragraphs.specs.Words.{words}
 use Rattle.text_paragraphs.specs.Paragraphs.{paragraphs}
 
 filled_more : (aim : Aim) (breaks_of : List ℕ → List Break) (style : Style) (columns : ℕ) (texts : List (List ℕ)) (rows : List (List (List ℕ))) (text : List ℕ) (lines : List (List ℕ))
@@ -43,3 +47,10 @@ page_made aim breaks_of style columns text first others lines new is filled adde
   each = subst (λ texts. AreFilled aim breaks_of style columns texts (lines ∷ added.rows)) (sym is) (filled, added.each);
   whole = added.whole;
 }
+
+-- One of the texts is too long.
+pub has_among : {Z : Type 0} (breaks_of : List ℕ → List Break) (style : Style) (texts : List (String Z)) (i : ℕ) (item : String Z) → i < length texts → item ≡ slice_index_or texts i item
+    → IsTooLong (parts_of breaks_of style (words (string_bytes item))) → HasTooLong breaks_of style (map string_bytes texts)
+has_among breaks_of style [] i item lt is long = absurd (omega (arith, lt))
+has_among breaks_of style (text ∷ texts) zero item lt is long = inl (subst (λ t. IsTooLong (parts_of breaks_of style (words (string_bytes t)))) is long)
+has_among breaks_of style (text ∷ texts) (suc i) item lt is long = inr (has_among breaks_of style texts i item (omega (arith, lt)) is long)

@@ -1,12 +1,11 @@
 -- Parts that are made with plain breaks begin lines with one indent, but for the first.
-use Rattle.std.proofs.Common.{◌≡◌, ℕ, zero, suc, ◌+◌, ◌<◌, ◌≤◌, true, false, cond, List, [], ◌∷◌, ◌++◌, length, map, sym, ap, refl, ◌∙◌, arith, append-nil}
-use Rattle.std.specs.Prelude.{None}
+use Rattle.std.proofs.Common.{◌≡◌, ℕ, zero, suc, ◌+◌, ◌<◌, true, false, cond, List, [], ◌∷◌, ◌++◌, length, map, ap, refl, ◌∙◌, arith, append-nil}
 use Rattle.std.specs.List.{All, flat_map}
 use Rattle.std.proofs.lemmas.List.{get_or-map, length-map}
 use Rattle.std.proofs.lemmas.List.Elements.{All-head, All-tail}
 use Rattle.unicode_segmentation.specs.Segments.{with_offsets}
 use Rattle.unicode_segmentation.specs.Word.{word_bounds}
-use Rattle.hyphenation_breaks.specs.Break.{Break, begin_of, end_of, before_of, after_of}
+use Rattle.hyphenation_breaks.specs.Break.{Break, end_of, after_of}
 use Rattle.line_division.specs.Greedy.{IsOrderly}
 use Rattle.line_division.specs.Lines.{no_stretch, stretch_at}
 use Rattle.paragraphs.specs.Settings.{Setting, no_setting, setting_at, stretch_of, columns_of}

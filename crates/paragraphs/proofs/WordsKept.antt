@@ -1,12 +1,12 @@
 -- No letter of a word is lost in its parts.
-use Rattle.std.proofs.Common.{◌≡◌, ℕ, ◌+◌, ◌<◌, ◌≤◌, true, false, cond, nat_lt, List, [], ◌∷◌, ◌++◌, length, drop, slice_range, sym, ap, refl, ◌∙◌, arith, append_assoc, append-nil}
+use Rattle.std.proofs.Common.{◌≡◌, ℕ, ◌<◌, ◌≤◌, true, false, cond, nat_lt, List, [], ◌∷◌, ◌++◌, length, drop, slice_range, sym, ap, refl, ◌∙◌, arith, append_assoc, append-nil}
 use Rattle.std.specs.List.{flat_map}
 use Rattle.std.proofs.lemmas.Bool.{and_parts, ltb-true}
 use Rattle.std.proofs.lemmas.Grind.{flat_map-append}
 use Rattle.std.proofs.lemmas.List.Folds.{drop_split}
 use Rattle.hyphenation_breaks.specs.Break.{Break, begin_of, end_of, after_of, before_of}
 use Rattle.paragraphs.specs.Settings.{Setting, joined_text}
-use Rattle.paragraphs.specs.Words.{Style, parts_it, parts_from, word_parts, word_breaks, parts_of, spaced, KeepWords}
+use Rattle.paragraphs.specs.Words.{Style, parts_it, parts_from, word_parts, word_breaks, spaced, KeepWords}
 
 -- The parts from a place on, in one line, are the word from there on, and a space.
 kept_from : (style : Style) (word opening : List ℕ) (from : ℕ) (bs : List Break)

@@ -1,11 +1,12 @@
 -- The lines of a text.
-use Rattle.std.specs.Prelude.{◌≡◌, ℕ, List, [], ◌∷◌, ◌++◌, ⊤}
+use Rattle.std.specs.Prelude.{◌≡◌, ◌⊎◌, ℕ, List, [], ◌∷◌, ◌++◌, ⊤}
 use Rattle.std.specs.List.{flat_map}
 use Rattle.hyphenation_breaks.specs.Break.{Break}
 use Rattle.text_paragraphs.specs.Words.{words}
 use Rattle.text_paragraphs.specs.Paragraphs.{paragraphs}
 use Rattle.paragraphs.specs.declared.setting.Aim.{Aim}
 use Rattle.paragraphs.specs.Aims.{IsSet, IsOrderlyIfPlain}
+use Rattle.paragraphs.specs.Settings.{IsTooLong}
 use Rattle.paragraphs.specs.Words.{Style, parts_of, KeepWords}
 
 -- These are lines of a paragraph, as an aim asks for them, and no word of it is lost. Where no break changes letters, the
@@ -37,3 +38,9 @@ pub record IsPage (aim : Aim) (breaks_of : List ℕ → List Break) (style : Sty
   pub rows : List (List (List ℕ))
   pub each : AreFilled aim breaks_of style columns (paragraphs text) rows
   pub whole : lines ≡ page rows
+
+-- One of the paragraphs is too long.
+abbrev pub HasTooLong : (List ℕ → List Break) → Style → List (List ℕ) → Type 0
+HasTooLong breaks_of style [] = ⊥
+HasTooLong breaks_of style (text ∷ texts) =
+    IsTooLong (parts_of breaks_of style (words text)) ⊎ HasTooLong breaks_of style texts

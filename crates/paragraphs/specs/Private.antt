@@ -4,3 +4,6 @@ pub mod Ends
 pub mod Open
 pub mod PartSettings
 pub mod Pieces
+pub mod Entries
+pub mod MixedParts
+pub mod Printable

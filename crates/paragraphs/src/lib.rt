@@ -4,6 +4,7 @@
 //! gives, or those whose cost is least ([`Aim`]). Widths are columns of a terminal.
 #![tactic(auto)]
 
+mod mixed;
 mod page;
 mod part;
 mod setting;

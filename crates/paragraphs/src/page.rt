@@ -1,10 +1,14 @@
 //! The lines of a whole text.
 
-ghost use Rattle.std.specs.Prelude.{◌≡◌, [], ◌∷◌, ◌++◌, IfOk, OnOk, map};
+ghost use Rattle.std.specs.Prelude.{◌≡◌, [], ◌∷◌, ◌++◌, IfOk, IfErr, OnOk, map};
 ghost use Rattle.std.specs.String.{string_bytes};
-ghost use Rattle.paragraphs.specs.Pages.{IsPage};
-ghost use Rattle.paragraphs.specs.Private.Added.{texts_of, AddsLines};
+ghost use Rattle.paragraphs.specs.Pages.{HasTooLong, IsPage};
+ghost use Rattle.paragraphs.specs.Private.Added.{texts_of as texts, AddsLines};
+ghost use Rattle.paragraphs.specs.Settings.{IsTooLong};
 ghost use Rattle.paragraphs.specs.Styles.{style_of};
+ghost use Rattle.paragraphs.specs.Words.{parts_of};
+ghost use Rattle.text_paragraphs.specs.Paragraphs.{paragraphs};
+ghost use Rattle.text_paragraphs.specs.Words.{words};
 
 use crate::setting::Aim;
 use crate::style::Style;
@@ -15,7 +19,7 @@ use text_paragraphs::paragraphs_of;
 
 // Appends an empty line.
 fn push_empty_line(alloc: Global, page: &mut Vec<String>) -> Result<(), AllocError>
-    ensures { OnOk result (texts_of page.new.items ≡ texts_of page.old.items ++ [] ∷ []) }
+    ensures { OnOk result (texts page.new.items ≡ texts page.old.items ++ [] ∷ []) }
 {
     page.push(String::new(alloc))?;
     Ok(())
@@ -31,8 +35,10 @@ fn push_lines<'h, H: Hyphenator<'h>>(
     aim: Aim,
     page: &mut Vec<String>,
 ) -> Result<(), FillError>
-    ensures { OnOk result (AddsLines aim (H.breaks_of dictionary.now) (style_of style.now) columns text.now
-        (texts_of page.old.items) (texts_of page.new.items)) }
+    ensures lines { OnOk result (AddsLines aim (H.breaks_of dictionary.now) (style_of style.now) columns text.now
+        (texts page.old.items) (texts page.new.items)) }
+    ensures too_long { IfErr result (λ e. e ≡ FillError.TooLong →
+        IsTooLong (parts_of (H.breaks_of dictionary.now) (style_of style.now) (words text.now))) }
 {
     let mut lines = fill(alloc, dictionary, style, text, columns, aim)?;
     page.append(&mut lines)?;
@@ -41,7 +47,10 @@ fn push_lines<'h, H: Hyphenator<'h>>(
 
 /// Returns the lines of all paragraphs of a text, with an empty line between two of them.
 ///
-/// A paragraph ends at a line without a word. [`fill`] says which lines a paragraph has, and what an error says.
+/// A paragraph ends at a line without a word. [`fill`] says which lines a paragraph has.
+///
+/// The error says that memory was refused, or that one of the paragraphs is too long: it has 2^30 parts, or a text of one
+/// of them has 2^31 bytes.
 ///
 /// ```text
 /// let style = Style { first: "", indent: "", price: 0 };
@@ -55,8 +64,10 @@ pub fn fill_text<'h, H: Hyphenator<'h>>(
     columns: u16,
     aim: Aim,
 ) -> Result<Vec<String>, FillError>
-    ensures { IfOk result (λ page.
+    ensures page { IfOk result (λ page.
         IsPage aim (H.breaks_of dictionary.now) (style_of style.now) columns text.now (map string_bytes page.items)) }
+    ensures too_long { IfErr result (λ e. e ≡ FillError.TooLong →
+        HasTooLong (H.breaks_of dictionary.now) (style_of style.now) (paragraphs text.now)) }
 {
     let paragraphs = paragraphs_of(alloc, text)?;
     let mut page = Vec::new(alloc);

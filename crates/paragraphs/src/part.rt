@@ -1,5 +1,9 @@
 //! The parts of which the lines of a paragraph are made.
 
+ghost use Rattle.std.specs.Prelude.{◌≡◌};
+ghost use Rattle.std.specs.List.{list_all};
+ghost use Rattle.paragraphs.specs.Private.PartSettings.{is_short_part};
+
 // A text between two neighbouring places at which a line may end.
 //
 // ```text
@@ -25,4 +29,26 @@ pub struct Part<'t> {
     pub hyphen: &'t str,
     // The cost of a line's end after it.
     pub price: u32,
+}
+
+// Tests whether no text of a part is too long to be measured.
+pub(crate) fn is_short(part: &Part) -> bool
+    ensures { result ≡ is_short_part part.now }
+{
+    part.indent.len() + part.after.len() < 1 << 31
+        && part.text.len() < 1 << 31
+        && part.joint.len() < 1 << 31
+        && part.before.len() + part.hyphen.len() < 1 << 31
+}
+
+// Tests whether all parts are short.
+pub(crate) fn are_short(parts: &[Part]) -> bool
+    ensures { result ≡ list_all is_short_part parts.now }
+{
+    for part in parts {
+        if !is_short(part) {
+            return false;
+        }
+    }
+    true
 }

@@ -8,7 +8,7 @@ ghost use Rattle.paragraphs.specs.Private.PartSettings.{setting_of, settings_of,
 ghost use Rattle.paragraphs.specs.Settings.{columns_of, shown, stretch_of, shown_text, last_text, line_text, lines_to};
 
 use crate::part::Part;
-use crate::shown::{has_soft_hyphen, push_shown, shown};
+use crate::shown::{has_soft_hyphen, is_printable, push_shown, shown};
 use line_division::{Stretch, even_ends, greedy_ends};
 use std::alloc::{AllocError, Global};
 use unicode_width::UnicodeWidthStr;
@@ -30,6 +30,9 @@ fn columns_of(text: &str) -> u32
     requires { length text.now < 2 ^ 31 }
     ensures { result ≡ columns_of text.now }
 {
+    if is_printable(text) {
+        return text.len() as u32;
+    }
     text.width() as u32
 }
 
@@ -38,6 +41,9 @@ fn columns_shown(alloc: Global, text: &str) -> Result<u32, AllocError>
     requires { length text.now < 2 ^ 31 }
     ensures { IfOk result (λ columns. columns ≡ columns_of (shown text.now)) }
 {
+    if is_printable(text) {
+        return Ok(text.len() as u32);
+    }
     if has_soft_hyphen(text) {
         let shown = shown(alloc, text)?;
         return Ok(columns_of(&shown));
@@ -62,7 +68,7 @@ fn columns_of_both(alloc: Global, first: &str, second: &str) -> Result<u32, Allo
 }
 
 // Returns the columns of a part.
-fn stretch(alloc: Global, part: &Part) -> Result<Stretch, AllocError>
+pub(crate) fn stretch(alloc: Global, part: &Part) -> Result<Stretch, AllocError>
     requires { IsShort part.now }
     ensures { IfOk result (λ stretch. stretch ≡ stretch_of (setting_of part.now)) }
 {
@@ -76,7 +82,7 @@ fn stretch(alloc: Global, part: &Part) -> Result<Stretch, AllocError>
 }
 
 // Returns the columns of all parts.
-fn stretches(alloc: Global, parts: &[Part]) -> Result<Vec<Stretch>, AllocError>
+pub(crate) fn stretches(alloc: Global, parts: &[Part]) -> Result<Vec<Stretch>, AllocError>
     requires { All IsShort parts.now }
     ensures { IfOk result (λ v. v.items ≡ map stretch_of (settings_of parts.now)) }
 {
@@ -131,7 +137,11 @@ fn line(alloc: Global, parts: &[Part], start: usize, end: usize) -> Result<Strin
 }
 
 // Returns the lines to a row of ends.
-fn lines(alloc: Global, parts: &[Part], ends: &[usize]) -> Result<Vec<String>, AllocError>
+pub(crate) fn lines(
+    alloc: Global,
+    parts: &[Part],
+    ends: &[usize],
+) -> Result<Vec<String>, AllocError>
     requires { Rise 0 (length parts.now) ends.now }
     ensures { IfOk result (λ lines. map string_bytes lines.items ≡ lines_to (settings_of parts.now) 0 ends.now) }
 {

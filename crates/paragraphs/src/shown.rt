@@ -1,11 +1,26 @@
 //! Texts as they are shown: without soft hyphens.
 
 ghost use Rattle.std.specs.Prelude.{◌≡◌, ◌++◌, IfOk, OnOk, chars};
-ghost use Rattle.std.specs.List.{list_any};
+ghost use Rattle.std.specs.List.{list_all, list_any};
 ghost use Rattle.std.specs.String.{string_bytes};
+ghost use Rattle.paragraphs.specs.Private.Printable.{is_printable};
 ghost use Rattle.paragraphs.specs.Settings.{is_soft_hyphen, shown};
 
 use std::alloc::{AllocError, Global};
+
+// Tests whether a byte is a printable character of ASCII.
+fn is_printable_byte(byte: u8) -> bool
+    ensures { result ≡ is_printable byte }
+{
+    0x20 <= byte && byte <= 0x7e
+}
+
+// Tests whether a text has printable characters of ASCII alone. Such a text is shown as it is, a column for each byte.
+pub(crate) fn is_printable(text: &str) -> bool
+    ensures { result ≡ list_all is_printable text.now }
+{
+    text.as_bytes().iter().all(|byte| is_printable_byte(*byte))
+}
 
 // Tests whether a text has a soft hyphen.
 pub(crate) fn has_soft_hyphen(text: &str) -> bool
@@ -25,6 +40,10 @@ pub(crate) fn shown(alloc: Global, text: &str) -> Result<String, AllocError>
 pub(crate) fn push_shown(line: &mut String, text: &str) -> Result<(), AllocError>
     ensures { OnOk result (string_bytes line.new ≡ string_bytes line.old ++ shown text.now) }
 {
+    if is_printable(text) {
+        line.push_str(text)?;
+        return Ok(());
+    }
     if has_soft_hyphen(text) {
         let shown = shown(*line.allocator(), text)?;
         line.push_str(&shown)?;

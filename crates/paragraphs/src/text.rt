@@ -1,17 +1,17 @@
 //! The parts of a paragraph, and its lines.
 
 ghost use Rattle.std.specs.Prelude.{◌≡◌, IfOk, IfErr, OnOk, map};
-ghost use Rattle.std.specs.List.{list_all};
 ghost use Rattle.std.specs.String.{string_bytes};
 ghost use Rattle.paragraphs.specs.Pages.{IsFilled};
 ghost use Rattle.paragraphs.specs.Private.Open.{AddsParts};
-ghost use Rattle.paragraphs.specs.Private.PartSettings.{settings_of, is_short_part};
+ghost use Rattle.paragraphs.specs.Private.PartSettings.{settings_of};
 ghost use Rattle.paragraphs.specs.Settings.{IsTooLong};
 ghost use Rattle.paragraphs.specs.Styles.{style_of};
 ghost use Rattle.paragraphs.specs.Words.{other_parts, parts_of};
 ghost use Rattle.text_paragraphs.specs.Words.{words};
 
-use crate::part::Part;
+use crate::mixed::{NotFull, full_lines, mixed_of};
+use crate::part::{Part, are_short};
 use crate::setting::{Aim, set};
 use crate::style::Style;
 use crate::word::push_word;
@@ -25,6 +25,7 @@ fn push_others<'t, 'h, H: Hyphenator<'h>>(
     dictionary: &'h H,
     style: &Style<'t>,
     text: &'t str,
+    breaks: &mut Vec<H::Opportunity>,
     parts: &mut Vec<Part<'t>>,
 ) -> Result<(), AllocError>
     ensures { OnOk result (AddsParts parts.old.items parts.new.items
@@ -32,7 +33,7 @@ fn push_others<'t, 'h, H: Hyphenator<'h>>(
 {
     let mut rest = text;
     while let Some((word, after)) = split_word(rest) {
-        push_word(alloc, dictionary, style, style.indent, word, parts)?;
+        push_word(alloc, dictionary, style, style.indent, word, breaks, parts)?;
         rest = after;
     }
     Ok(())
@@ -52,8 +53,17 @@ fn parts_of<'t, 'h, H: Hyphenator<'h>>(
     let Some((first, rest)) = split_word(text) else {
         return Ok(parts);
     };
-    push_word(alloc, dictionary, style, style.first, first, &mut parts)?;
-    push_others(alloc, dictionary, style, rest, &mut parts)?;
+    let mut breaks = Vec::new(alloc);
+    push_word(
+        alloc,
+        dictionary,
+        style,
+        style.first,
+        first,
+        &mut breaks,
+        &mut parts,
+    )?;
+    push_others(alloc, dictionary, style, rest, &mut breaks, &mut parts)?;
     Ok(parts)
 }
 
@@ -77,26 +87,48 @@ impl From<AllocError> for FillError {
     }
 }
 
-// Tests whether no text of a part is too long to be measured.
-fn is_short(part: &Part) -> bool
-    ensures { result ≡ is_short_part part.now }
+// Returns the lines of a paragraph, each as full as can be, where few of its words had to be broken to find them.
+fn full_lines_of<'h, H: Hyphenator<'h>>(
+    alloc: Global,
+    dictionary: &'h H,
+    style: &Style,
+    text: &str,
+    columns: u16,
+) -> Result<Vec<String>, NotFull>
+    ensures { IfOk result (λ lines. IsFilled Aim.Full (H.breaks_of dictionary.now) (style_of style.now) columns text.now
+        (map string_bytes lines.items)) }
 {
-    part.indent.len() + part.after.len() < 1 << 31
-        && part.text.len() < 1 << 31
-        && part.joint.len() < 1 << 31
-        && part.before.len() + part.hyphen.len() < 1 << 31
+    let mixed = mixed_of(alloc, dictionary, style, text, columns)?;
+    if !are_short(&mixed.parts) {
+        return Err(NotFull::Unsettled);
+    }
+    let lines = full_lines(alloc, &mixed.parts, &mixed.wholes, columns)?;
+    Ok(lines)
 }
 
-// Tests whether all parts are short.
-fn are_short(parts: &[Part]) -> bool
-    ensures { result ≡ list_all is_short_part parts.now }
+// Returns the lines of a paragraph, of which all words are broken.
+fn fill_all<'h, H: Hyphenator<'h>>(
+    alloc: Global,
+    dictionary: &'h H,
+    style: &Style,
+    text: &str,
+    columns: u16,
+    aim: Aim,
+) -> Result<Vec<String>, FillError>
+    ensures lines { IfOk result (λ lines. IsFilled aim (H.breaks_of dictionary.now) (style_of style.now) columns text.now
+        (map string_bytes lines.items)) }
+    ensures too_long { IfErr result (λ e. e ≡ FillError.TooLong →
+        IsTooLong (parts_of (H.breaks_of dictionary.now) (style_of style.now) (words text.now))) }
 {
-    for part in parts {
-        if !is_short(part) {
-            return false;
-        }
+    let parts = parts_of(alloc, dictionary, style, text)?;
+    if parts.len() >= 1 << 30 {
+        return Err(FillError::TooLong);
     }
-    true
+    if !are_short(&parts) {
+        return Err(FillError::TooLong);
+    }
+    let lines = set(alloc, &parts, columns, aim)?;
+    Ok(lines)
 }
 
 /// Returns the lines of a paragraph: its words with one space between them, broken where a line ends.
@@ -124,13 +156,12 @@ pub fn fill<'h, H: Hyphenator<'h>>(
     ensures too_long { IfErr result (λ e. e ≡ FillError.TooLong →
         IsTooLong (parts_of (H.breaks_of dictionary.now) (style_of style.now) (words text.now))) }
 {
-    let parts = parts_of(alloc, dictionary, style, text)?;
-    if parts.len() >= 1 << 30 {
-        return Err(FillError::TooLong);
+    if let Aim::Full = aim {
+        match full_lines_of(alloc, dictionary, style, text, columns) {
+            Ok(lines) => return Ok(lines),
+            Err(NotFull::Memory) => return Err(FillError::Memory),
+            Err(NotFull::Unsettled) => {}
+        }
     }
-    if !are_short(&parts) {
-        return Err(FillError::TooLong);
-    }
-    let lines = set(alloc, &parts, columns, aim)?;
-    Ok(lines)
+    fill_all(alloc, dictionary, style, text, columns, aim)
 }

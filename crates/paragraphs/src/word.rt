@@ -7,14 +7,14 @@ ghost use Rattle.paragraphs.specs.Private.Open.{Passes, PassesPiece, AddsParts, 
 ghost use Rattle.paragraphs.specs.Private.Pieces.{IsPieceOf};
 ghost use Rattle.paragraphs.specs.Styles.{style_of};
 ghost use Rattle.paragraphs.specs.Words.{set_off, word_parts};
-ghost use Rattle.unicode_segmentation.specs.Iter.{word_bound_indices_left};
+ghost use Rattle.word_pieces.specs.Pieces.{piece_indices_left};
 
 use crate::part::Part;
 use crate::style::Style;
 use hyphenation_breaks::breaks::Break;
 use hyphenation_hyphenator::hyphenator::Hyphenator;
 use std::alloc::{AllocError, Global};
-use unicode_segmentation::{UWordBoundIndices, UnicodeSegmentation};
+use word_pieces::WordPieceIndices;
 
 // The part that is being made.
 #[derive(Drop)]
@@ -67,7 +67,7 @@ fn pass_break<'t, B: Break>(
     })
 }
 
-// Passes the breaks of a piece of a word.
+// Passes the breaks of a piece of a word. They replace those in the list.
 fn pass_piece<'t, 'h, H: Hyphenator<'h>>(
     alloc: Global,
     dictionary: &'h H,
@@ -75,6 +75,7 @@ fn pass_piece<'t, 'h, H: Hyphenator<'h>>(
     word: &'t str,
     offset: usize,
     piece: &str,
+    breaks: &mut Vec<H::Opportunity>,
     parts: &mut Vec<Part<'t>>,
     current: Open<'t>,
 ) -> Result<Open<'t>, AllocError>
@@ -85,28 +86,29 @@ fn pass_piece<'t, 'h, H: Hyphenator<'h>>(
     ensures from { IfOk result (λ next. IsCharBoundary word.now next.from) }
 {
     let mut current = current;
-    let breaks = dictionary.breaks(alloc, piece)?;
-    for b in &breaks {
+    dictionary.breaks_into(piece, breaks)?;
+    for b in breaks.iter() {
         current = pass_break(alloc, style, word, offset, b, parts, current)?;
     }
     Ok(current)
 }
 
 // Takes the next piece of a word, and returns it with the place where it begins.
-fn next_piece<'t>(pieces: &mut UWordBoundIndices<'t>) -> Option<(usize, &'t str)>
-    ensures pieces { word_bound_indices_left pieces.old ≡ next_then result (word_bound_indices_left pieces.new) }
-    ensures end { result ≡ None → word_bound_indices_left pieces.new ≡ [] }
+fn next_piece<'t>(pieces: &mut WordPieceIndices<'t>) -> Option<(usize, &'t str)>
+    ensures pieces { piece_indices_left pieces.old ≡ next_then result (piece_indices_left pieces.new) }
+    ensures end { result ≡ None → piece_indices_left pieces.new ≡ [] }
 {
     pieces.next()
 }
 
-// Adds the parts of a word. A line that begins with the word has this indent.
+// Adds the parts of a word. A line that begins with the word has this indent. The list is for the breaks of its pieces.
 pub(crate) fn push_word<'t, 'h, H: Hyphenator<'h>>(
     alloc: Global,
     dictionary: &'h H,
     style: &Style<'t>,
     indent: &'t str,
     word: &'t str,
+    breaks: &mut Vec<H::Opportunity>,
     parts: &mut Vec<Part<'t>>,
 ) -> Result<(), AllocError>
     ensures { OnOk result (AddsParts parts.old.items parts.new.items
@@ -117,10 +119,10 @@ pub(crate) fn push_word<'t, 'h, H: Hyphenator<'h>>(
         after: String::new(alloc),
         from: 0,
     };
-    let mut pieces = word.split_word_bound_indices();
+    let mut pieces = WordPieceIndices::new(word);
     while let Some((offset, piece)) = next_piece(&mut pieces) {
         current = pass_piece(
-            alloc, dictionary, style, word, offset, piece, parts, current,
+            alloc, dictionary, style, word, offset, piece, breaks, parts, current,
         )?;
     }
     let last = Part {

@@ -1,16 +1,23 @@
-use Rattle.std.proofs.Common.{◌≡◌, ◌+◌, ◌-◌, ◌^◌, ◌<◌, length}
+use Rattle.std.proofs.Common.{◌≡◌, ◌+◌, ◌-◌, ◌^◌, ◌<◌, ◌≤◌, length}
 use Rattle.std.specs.List.{sum_by, slice_range}
 use Rattle.line_division.specs.Lines.{stretch_at, joined_width}
 use Rattle.line_division.specs.Private.Best.{IsSmall, IsMade}
 use Rattle.line_division.proofs.Least.{IsLeastUpTo}
+use Rattle.line_division.proofs.Reaching.{IsLeastAfter}
 use Rattle.line_division.proofs.even.best_line.Given as goal
 
--- The best line of those that end no later than at the last stretch so far.
+-- The best line of those that end later than after the last stretch to try, and of the first stretch alone.
 abbrev pub invariant-loop-last : goal.invariant-loop-last
 invariant-loop-last l = record {
+  from : l.start ≤ l.last;
+  within : l.last < length l.stretches;
   joined : l.joined ≡ (stretch_at l.stretches l.start).opening + sum_by joined_width (slice_range l.stretches l.start l.last);
   small_sum : l.joined < 2 ^ 34;
-  least : IsLeastUpTo l.stretches l.columns l.last_columns l.start l.last l.best.cost;
+  alone : IsLeastUpTo l.stretches l.columns l.last_columns l.start (l.start + 1) l.best.cost;
+  after : IsLeastAfter l.stretches l.columns l.last_columns l.start (l.last + 1) l.best.cost;
   made : IsMade l.stretches l.columns l.last_columns l.choices l.start l.best;
   small : IsSmall l.best.cost (length l.stretches - l.start);
 }
+
+abbrev pub decreases-loop-last : goal.decreases-loop-last
+decreases-loop-last l = l.last - l.start

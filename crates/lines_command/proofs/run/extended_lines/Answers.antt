@@ -20,5 +20,5 @@ returns g c =
       filled =
           page_as c.aim.result (aim_for options) (extended_breaks c.in_ok-dictionary.dictionary) (extended_breaks (extended_contents bytes)) (style_of c.style.result) (style_for options)
           options.columns c.deref.result.now (string_bytes c.in_ok-text.text) (map string_bytes c.in_ok-lines.lines.items)
-          c.aim.ensures (ap extended_breaks loaded.1) c.style.ensures c.deref.ensures c.in_ok-lines.ensures;
+          c.aim.ensures (ap extended_breaks loaded.1) c.style.ensures c.deref.ensures c.in_ok-lines.ensures.page;
     }

@@ -1,5 +1,6 @@
 use Rattle.std.proofs.Common.{◌≡◌, ap, sym, ◌∙◌, length, arith}
 use Rattle.paragraphs.specs.Settings.{columns_of, shown}
+use Rattle.paragraphs.proofs.Printable.{printable_columns_shown}
 use Rattle.paragraphs.proofs.ShownTexts.{shown_same, shown_shorter}
 use Rattle.paragraphs.proofs.setting.columns_shown.Goals as goal
 
@@ -10,3 +11,6 @@ columns_of-requires c =
 
 pub returns : goal.returns
 returns c = c.columns_of-2.ensures ∙ ap columns_of (sym (shown_same c.args.text.now c.utf8.text (sym c.if-has_soft_hyphen.ensures)))
+
+pub returns-then-is_printable : goal.returns-then-is_printable
+returns-then-is_printable c = sym (printable_columns_shown c.args.text.now (sym c.if-is_printable.ensures))

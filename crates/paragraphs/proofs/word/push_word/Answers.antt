@@ -15,7 +15,7 @@ loop-offset-init g c =
     let word = c.args.word.now in
     let indent = c.args.indent.now in
     let made = settings_of c.args.parts.now.items in
-    let left = c.split_word_bound_indices-pieces.ensures.left in
+    let left = c.new-pieces.ensures.left in
     record {
       goes =
           ap (λ ps. made ++ parts_from style word (indent ++ string_bytes c.new.result) 0 (flat_map (breaks_in breaks_of) ps)) left

@@ -1,7 +1,7 @@
 use Rattle.std.proofs.Common.{◌≡◌, ◌++◌, length}
 use Rattle.std.specs.List.{flat_map}
 use Rattle.std.specs.Str.{IsCharBoundary}
-use Rattle.unicode_segmentation.specs.Iter.{word_bound_indices_left}
+use Rattle.word_pieces.specs.Pieces.{piece_indices_left}
 use Rattle.paragraphs.specs.Words.{breaks_in, word_parts}
 use Rattle.paragraphs.specs.Private.PartSettings.{settings_of}
 use Rattle.paragraphs.specs.Styles.{style_of}
@@ -14,11 +14,11 @@ abbrev pub invariant-loop-offset : goal.invariant-loop-offset
 invariant-loop-offset g l =
     let breaks_of = g.H.Hyphenator.breaks_of l.dictionary in
     record {
-      goes : settings_with (style_of l.style) l.word l.parts.items l.current (flat_map (breaks_in breaks_of) (word_bound_indices_left l.pieces))
+      goes : settings_with (style_of l.style) l.word l.parts.items l.current (flat_map (breaks_in breaks_of) (piece_indices_left l.pieces))
           ≡ settings_of l.initial.parts.items ++ word_parts breaks_of (style_of l.style) l.indent l.word;
-      pieces : ArePieces l.word (word_bound_indices_left l.pieces);
+      pieces : ArePieces l.word (piece_indices_left l.pieces);
       from : IsCharBoundary l.word l.current.from;
     }
 
 abbrev pub decreases-loop-offset : goal.decreases-loop-offset
-decreases-loop-offset g l = length (word_bound_indices_left l.pieces)
+decreases-loop-offset g l = length (piece_indices_left l.pieces)

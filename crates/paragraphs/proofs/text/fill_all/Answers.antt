@@ -9,7 +9,7 @@ use Rattle.text_paragraphs.specs.Words.{words}
 use Rattle.paragraphs.proofs.PlainParts.{plain_parts_orderly}
 use Rattle.paragraphs.proofs.ShortParts.{not_all_short}
 use Rattle.paragraphs.proofs.WordsKept.{words_kept}
-use Rattle.paragraphs.proofs.text.fill.Goals as goal
+use Rattle.paragraphs.proofs.text.fill_all.Goals as goal
 
 pub returns-then-not-are_short-clause-too_long : goal.returns-then-not-are_short-clause-too_long
 returns-then-not-are_short-clause-too_long g c = λ _.

@@ -1,0 +1,18 @@
+use Rattle.std.proofs.Common.{◌-◌, ◌≡◌, ◌^◌, ◌<◌, ◌≤◌, length}
+use Rattle.std.specs.List.{sum_by, slice_range}
+use Rattle.line_division.specs.Lines.{joined_width}
+use Rattle.line_division.proofs.Reaching.{IsBeyond}
+use Rattle.line_division.proofs.even.reach_from.Given as goal
+
+-- No line that goes past the last stretch so far fits.
+abbrev pub invariant-loop-last : goal.invariant-loop-last
+invariant-loop-last l = record {
+  from : l.start ≤ l.last;
+  within : l.last ≤ length l.stretches;
+  joined : l.joined ≡ sum_by joined_width (slice_range l.stretches l.start l.last);
+  small_sum : l.joined < 2 ^ 34;
+  beyond : IsBeyond l.stretches l.columns l.start l.last;
+}
+
+abbrev pub decreases-loop-last : goal.decreases-loop-last
+decreases-loop-last l = l.last - l.start

@@ -1,0 +1,33 @@
+-- The parts that the code holds, of which some are whole words.
+use Rattle.std.specs.Prelude.{◌≡◌, ◌++◌, ℕ, Bool, List}
+use Rattle.hyphenation_breaks.specs.Break.{Break}
+use Rattle.paragraphs.specs.Aims.{IsSet}
+use Rattle.paragraphs.specs.declared.mixed.Mixed.{Mixed}
+use Rattle.paragraphs.specs.declared.setting.Aim.TheVariants.{Full}
+use Rattle.paragraphs.specs.Private.Entries.{AreMixed, AddsMixed}
+use Rattle.paragraphs.specs.Private.PartSettings.{settings_of}
+use Rattle.paragraphs.specs.Settings.{Setting}
+use Rattle.paragraphs.specs.Words.{Style, word_parts, other_parts}
+
+-- They stand for the parts of a paragraph.
+abbrev pub StandForAll : Mixed → List Setting → Type 0
+StandForAll mixed settings = AreMixed mixed.wholes.items (settings_of mixed.parts.items) settings
+
+-- Parts were added, which stand for these.
+abbrev pub Adds : Mixed → Mixed → List Setting → Type 0
+Adds old new added = AddsMixed old.wholes.items (settings_of old.parts.items) new.wholes.items (settings_of new.parts.items) added
+
+-- A word was added whole, wherever it may be broken.
+abbrev pub AddsWhole : Mixed → Mixed → List ℕ → List ℕ → Type 0
+AddsWhole old new indent word =
+    (breaks_of : List ℕ → List Break) (style : Style) → Adds old new (word_parts breaks_of style indent word)
+
+-- These are the lines of each paragraph for whose parts they stand, each as full as can be.
+abbrev pub FillAll : List Bool → List Setting → ℕ → List (List ℕ) → Type 0
+FillAll wholes parts columns lines = (settings : List Setting) → AreMixed wholes parts settings → IsSet Full settings columns lines
+
+-- The words that were passed were added; these are still to come.
+pub record AddsUpTo (breaks_of : List ℕ → List Break) (style : Style) (old new : Mixed) (words rest : List (List ℕ)) : Type 0 where
+  pub added : List Setting
+  pub made : added ++ other_parts breaks_of style rest ≡ other_parts breaks_of style words
+  pub adds : Adds old new added
