@@ -84,8 +84,8 @@ text_of (inr extended) = extended_text extended
 
 -- The dictionary that is loaded.
 abbrev pub dictionary_of : Loaded → Dictionary
-dictionary_of (of.Standard standard) = inl (arc_value standard)
-dictionary_of (of.Extended extended) = inr (arc_value extended)
+dictionary_of (of.Standard standard room) = inl (arc_value standard)
+dictionary_of (of.Extended extended room) = inr (arc_value extended)
 
 -- The dictionary that a slot keeps, or none.
 abbrev pub held : Option Loaded → Option Dictionary

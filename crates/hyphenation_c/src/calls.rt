@@ -21,6 +21,7 @@ use crate::buffers::{fill_buffer, fill_buffers};
 use crate::changes;
 use crate::changes::BreakChange;
 use crate::loaded::Loaded;
+use crate::room::Room;
 use crate::statuses::{NOT_UTF8, OTHER_KIND, OUT_OF_MEMORY};
 use crate::utf8::word_of;
 use hyphenation_breaks::breaks::Break;
@@ -46,14 +47,14 @@ fn read(alloc: Global, kind: Kind, bytes: &[u8]) -> Result<Loaded, Refusal>
         Kind::Standard => {
             let dictionary = read_standard(alloc, bytes)?;
             match Arc::new(alloc, dictionary) {
-                Ok(counted) => Ok(Loaded::Standard(counted)),
+                Ok(counted) => Ok(Loaded::Standard(counted, Room::new())),
                 Err(_) => Err(Refusal::Memory),
             }
         }
         Kind::Extended => {
             let dictionary = read_extended(alloc, bytes)?;
             match Arc::new(alloc, dictionary) {
-                Ok(counted) => Ok(Loaded::Extended(counted)),
+                Ok(counted) => Ok(Loaded::Extended(counted, Room::new())),
                 Err(_) => Err(Refusal::Memory),
             }
         }
@@ -78,8 +79,14 @@ fn again(loaded: &Loaded) -> Result<Loaded, AllocError>
     ensures { IfOk result (λ other. dictionary_of other ≡ dictionary_of loaded.now) }
 {
     match loaded {
-        Loaded::Standard(standard) => Ok(Loaded::Standard(Arc::try_clone(standard)?)),
-        Loaded::Extended(extended) => Ok(Loaded::Extended(Arc::try_clone(extended)?)),
+        Loaded::Standard(standard, _) => Ok(Loaded::Standard(
+            Arc::try_clone(standard)?,
+            Room::new(),
+        )),
+        Loaded::Extended(extended, _) => Ok(Loaded::Extended(
+            Arc::try_clone(extended)?,
+            Room::new(),
+        )),
     }
 }
 
@@ -102,8 +109,8 @@ fn language_in(loaded: &Loaded) -> Language
     ensures { result ≡ language_of (dictionary_of loaded.now) }
 {
     match loaded {
-        Loaded::Standard(standard) => standard.language(),
-        Loaded::Extended(extended) => extended.language(),
+        Loaded::Standard(standard, _) => standard.language(),
+        Loaded::Extended(extended, _) => extended.language(),
     }
 }
 
@@ -113,8 +120,8 @@ pub fn minima_in(loaded: &Loaded) -> (usize, usize)
     ensures { result ≡ minima_of (dictionary_of loaded.now) }
 {
     match loaded {
-        Loaded::Standard(standard) => standard.minima(),
-        Loaded::Extended(extended) => extended.minima(),
+        Loaded::Standard(standard, _) => standard.minima(),
+        Loaded::Extended(extended, _) => extended.minima(),
     }
 }
 
@@ -127,52 +134,65 @@ pub fn write_language(loaded: &Loaded, code: &mut [u8], count: &mut usize) -> u3
     fill_buffer(language.code().as_bytes(), code, count)
 }
 
-// The places of the breaks that a standard dictionary finds.
+// Puts the places of the breaks that a standard dictionary finds into a list, in place of what it held.
 fn standard_places(
     dictionary: &Standard,
-    alloc: Global,
     word: &str,
-) -> Result<Vec<usize>, AllocError>
-    ensures { IfOk result (λ v.
-        v.items ≡ map (λ b. b.place) (all_breaks_of (rules_of no_change plain_break dictionary.now) word.now)) }
+    list: &mut Vec<usize>,
+) -> Result<(), AllocError>
+    ensures { OnOk result (list.new.items
+        ≡ map (λ b. b.place) (all_breaks_of (rules_of no_change plain_break dictionary.now) word.now)) }
 {
-    let breaks = dictionary.breaks(alloc, word)?;
-    Ok(breaks)
+    dictionary.breaks_into(word, list)?;
+    Ok(())
 }
 
-// The places of breaks.
-fn places_of<B: Break>(alloc: Global, breaks: &[B]) -> Result<Vec<usize>, AllocError>
-    ensures { IfOk result (λ v. v.items ≡ map (λ b. b.place) (map B.meaning breaks.now)) }
+// Puts the places of breaks into a list, in place of what it held.
+fn places_of<B: Break>(breaks: &[B], list: &mut Vec<usize>) -> Result<(), AllocError>
+    ensures { OnOk result (list.new.items ≡ map (λ b. b.place) (map B.meaning breaks.now)) }
 {
-    let mut places = Vec::new(alloc);
+    list.clear();
     for b in breaks {
-        places.push(b.place())?;
+        list.push(b.place())?;
     }
-    Ok(places)
+    Ok(())
 }
 
-// The places of the breaks that an extended dictionary finds.
+// Puts the places of the breaks that an extended dictionary finds into a list, in place of what it held.
 fn extended_places(
     dictionary: &Extended,
     alloc: Global,
     word: &str,
-) -> Result<Vec<usize>, AllocError>
-    ensures { IfOk result (λ v.
-        v.items ≡ map (λ b. b.place) (fitted_breaks_of (rules_of own_change own_break dictionary.now) word.now)) }
+    list: &mut Vec<usize>,
+) -> Result<(), AllocError>
+    ensures { OnOk result (list.new.items
+        ≡ map (λ b. b.place) (fitted_breaks_of (rules_of own_change own_break dictionary.now) word.now)) }
 {
     let breaks = dictionary.breaks(alloc, word)?;
-    let places = places_of(alloc, &breaks)?;
-    Ok(places)
+    places_of(&breaks, list)
 }
 
-/// The places of a word's breaks.
+/// Puts the places of a word's breaks into a list, in place of what it held.
 #[inline(always)]
-pub fn places_in(loaded: &Loaded, alloc: Global, word: &str) -> Result<Vec<usize>, AllocError>
-    ensures { IfOk result (λ v. v.items ≡ places_by (dictionary_of loaded.now) word.now) }
+pub fn find_places(
+    loaded: &Loaded,
+    alloc: Global,
+    word: &str,
+    list: &mut Vec<usize>,
+) -> Result<(), AllocError>
+    ensures { OnOk result (list.new.items ≡ places_by (dictionary_of loaded.now) word.now) }
 {
     match loaded {
-        Loaded::Standard(standard) => standard_places(standard, alloc, word),
-        Loaded::Extended(extended) => extended_places(extended, alloc, word),
+        Loaded::Standard(standard, _) => standard_places(standard, word, list),
+        Loaded::Extended(extended, _) => extended_places(extended, alloc, word, list),
+    }
+}
+
+// The room of a dictionary's handle.
+fn room_of(loaded: &Loaded) -> &Room {
+    match loaded {
+        Loaded::Standard(_, room) => room,
+        Loaded::Extended(_, room) => room,
     }
 }
 
@@ -190,10 +210,14 @@ pub fn write_breaks(
     let Some(word) = word_of(word) else {
         return NOT_UTF8;
     };
-    let Ok(found) = places_in(loaded, alloc, word) else {
+    let room = room_of(loaded);
+    let mut found = room.take(alloc);
+    let Ok(_) = find_places(loaded, alloc, word, &mut found) else {
         return OUT_OF_MEMORY;
     };
-    fill_buffer(&found, places, count)
+    let status = fill_buffer(&found, places, count);
+    room.keep(found);
+    status
 }
 
 // The breaks of a word with the changes that they make, and the texts of these.
@@ -221,8 +245,8 @@ fn changes_in(loaded: &Loaded, alloc: Global, word: &str) -> Result<Changes, All
     ensures texts { IfOk result (λ found. found.1.items ≡ texts_of (breaks_by (dictionary_of loaded.now) word.now)) }
 {
     match loaded {
-        Loaded::Standard(standard) => changes_by(&**standard, alloc, word),
-        Loaded::Extended(extended) => changes_by(&**extended, alloc, word),
+        Loaded::Standard(standard, _) => changes_by(&**standard, alloc, word),
+        Loaded::Extended(extended, _) => changes_by(&**extended, alloc, word),
     }
 }
 
@@ -268,8 +292,8 @@ fn text_in(loaded: &Loaded, alloc: Global, text: &str, mark: &str) -> Result<Str
         string_bytes page ≡ hyphenated_text (breaks_by (dictionary_of loaded.now)) mark.now text.now) }
 {
     match loaded {
-        Loaded::Standard(standard) => text_by(&**standard, alloc, text, mark),
-        Loaded::Extended(extended) => text_by(&**extended, alloc, text, mark),
+        Loaded::Standard(standard, _) => text_by(&**standard, alloc, text, mark),
+        Loaded::Extended(extended, _) => text_by(&**extended, alloc, text, mark),
     }
 }
 
@@ -336,7 +360,7 @@ pub fn write_lines(
 ) -> u32
     ensures { FindsLines (dictionary_of loaded.now) text.now columns buffer.old buffer.new count.old count.new result }
 {
-    let Loaded::Standard(standard) = loaded else {
+    let Loaded::Standard(standard, _) = loaded else {
         return OTHER_KIND;
     };
     let Ok(text) = std::str::from_utf8(text) else {
@@ -354,8 +378,8 @@ fn text_of(loaded: &Loaded, alloc: Global) -> Result<Vec<u8>, AllocError>
     ensures { IfOk result (λ text. text.items ≡ text_of (dictionary_of loaded.now)) }
 {
     match loaded {
-        Loaded::Standard(standard) => standard.to_text(alloc),
-        Loaded::Extended(extended) => extended.to_text(alloc),
+        Loaded::Standard(standard, _) => standard.to_text(alloc),
+        Loaded::Extended(extended, _) => extended.to_text(alloc),
     }
 }
 

@@ -93,8 +93,8 @@ fn apply(loaded: &mut Loaded, alloc: Global, edit: &str) -> Result<bool, AllocEr
     ensures unchanged_on_error { OnErr result (dictionary_of loaded.new ≡ dictionary_of loaded.old) }
 {
     match loaded {
-        Loaded::Standard(standard) => edit_standard(standard, alloc, edit),
-        Loaded::Extended(extended) => edit_extended(extended, alloc, edit),
+        Loaded::Standard(standard, _) => edit_standard(standard, alloc, edit),
+        Loaded::Extended(extended, _) => edit_extended(extended, alloc, edit),
     }
 }
 

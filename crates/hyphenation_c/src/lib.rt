@@ -24,6 +24,7 @@ pub mod lists;
 pub mod loaded;
 pub mod numbers;
 pub mod patterns;
+pub mod room;
 pub mod statuses;
 #[cfg(test)]
 mod tests;

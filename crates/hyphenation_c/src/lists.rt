@@ -10,7 +10,7 @@ ghost use Rattle.hyphenation_c.specs.Lists.{IsNoList, Lists};
 ghost use Rattle.hyphenation_c.specs.Statuses.{into};
 
 use crate::buffers::fill_buffers;
-use crate::calls::places_in;
+use crate::calls::find_places;
 use crate::loaded::Loaded;
 use crate::statuses::{BAD_ENDS, NOT_UTF8, OUT_OF_MEMORY};
 use crate::utf8::word_of;
@@ -75,8 +75,9 @@ fn places_of_words(
 {
     let mut places = Vec::new(alloc);
     let mut ends = Vec::with_capacity(alloc, words.len())?;
+    let mut found = Vec::new(alloc);
     for word in words {
-        let found = places_in(loaded, alloc, word)?;
+        find_places(loaded, alloc, word, &mut found)?;
         places.extend_from_slice(&found)?;
         ends.push(places.len())?;
     }

@@ -9,6 +9,7 @@ ghost use Rattle.hyphenation_c.specs.Dictionaries.{dictionary_of};
 ghost use Rattle.hyphenation_c.specs.Patterns.{dic_given, minimum_given, failure_of, pattern_cause_number, IsFailure};
 
 use crate::loaded::Loaded;
+use crate::room::Room;
 use hyphenation_breaks::entry::{Listing, Payload};
 use hyphenation_breaks::extended::Subregion;
 use hyphenation_breaks::language::Language;
@@ -96,7 +97,7 @@ fn loaded_from_dic(
         Kind::Standard => {
             let dictionary = from_dic::<(), usize>(alloc, language, left, right, bytes)?;
             match Arc::new(alloc, dictionary) {
-                Ok(counted) => Ok(Loaded::Standard(counted)),
+                Ok(counted) => Ok(Loaded::Standard(counted, Room::new())),
                 Err(_) => Err(ConvertError::Memory),
             }
         }
@@ -105,7 +106,7 @@ fn loaded_from_dic(
                 alloc, language, left, right, bytes,
             )?;
             match Arc::new(alloc, dictionary) {
-                Ok(counted) => Ok(Loaded::Extended(counted)),
+                Ok(counted) => Ok(Loaded::Extended(counted, Room::new())),
                 Err(_) => Err(ConvertError::Memory),
             }
         }

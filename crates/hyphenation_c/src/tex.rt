@@ -8,6 +8,7 @@ ghost use Rattle.hyphenation_c.specs.Dictionaries.{dictionary_of};
 ghost use Rattle.hyphenation_c.specs.TexFiles.{form_numbered, files_of, files_given, IsOfFiles, IsNoDictionary};
 
 use crate::loaded::Loaded;
+use crate::room::Room;
 use hyphenation_breaks::extended::Subregion;
 use hyphenation_breaks::language::Language;
 use hyphenation_grammar::form::Kind;
@@ -63,7 +64,7 @@ fn loaded_from_files(
         Kind::Standard => {
             let dictionary = convert::<(), usize>(alloc, language, left, right, files)?;
             match Arc::new(alloc, dictionary) {
-                Ok(counted) => Ok(Loaded::Standard(counted)),
+                Ok(counted) => Ok(Loaded::Standard(counted, Room::new())),
                 Err(_) => Err(ConvertError::Memory),
             }
         }
@@ -72,14 +73,14 @@ fn loaded_from_files(
                 alloc, language, left, right, files,
             )?;
             match Arc::new(alloc, dictionary) {
-                Ok(counted) => Ok(Loaded::Extended(counted)),
+                Ok(counted) => Ok(Loaded::Extended(counted, Room::new())),
                 Err(_) => Err(ConvertError::Memory),
             }
         }
     }
 }
 
-// The dictionary of a kind of files, in a box. Files that are refused are told before minima that are missing.
+// The dictionary of a kind of files, in a box. If a file is faulty and minima are missing, the error is the fault.
 #[tactic(auto, using(crate::proofs::OfFiles::minimum_missing))]
 fn boxed_from_files(
     alloc: Global,

@@ -50,8 +50,8 @@ fn values_in(loaded: &Loaded, alloc: Global, word: &str) -> Result<Vec<u8>, Allo
     ensures { IfOk result (λ v. v.items ≡ values_by (dictionary_of loaded.now) word.now) }
 {
     match loaded {
-        Loaded::Standard(standard) => standard_values(standard, alloc, word),
-        Loaded::Extended(extended) => extended_values(extended, alloc, word),
+        Loaded::Standard(standard, _) => standard_values(standard, alloc, word),
+        Loaded::Extended(extended, _) => extended_values(extended, alloc, word),
     }
 }
 

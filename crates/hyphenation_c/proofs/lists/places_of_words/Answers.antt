@@ -15,7 +15,7 @@ loop-word-preserved c =
     let lt_words : n < length words = omega (arith, length-map c.args.words.now now) in
     let places : c.extend_from_slice.new.self.items ≡ places_of_all f (take (n + 1) words) =
     c.in_ok-extend_from_slice.ensures.items
-    ∙ places_more f words n _ c.loop-word.places.items c.deref.result.now lt_words (word_read now c.args.words.now n _ _ lt) c.loop-word.invariant.places (c.deref.ensures.value ∙ c.in_ok-found.ensures) in
+    ∙ places_more f words n _ c.loop-word.places.items c.deref.result.now lt_words (word_read now c.args.words.now n _ _ lt) c.loop-word.invariant.places (c.deref.ensures.value ∙ c.in_ok-find_places.ensures) in
     let size : c.len.result ≡ length c.extend_from_slice.new.self.items = omega (arith, c.len.ensures, c.extend_from_slice.new.self.ok.0) in
     record {
       places = places;
