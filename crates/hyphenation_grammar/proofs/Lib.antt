@@ -7,5 +7,6 @@ pub mod Spellings
 pub mod TokenParts
 pub mod TokenUtf8
 pub mod WordUtf8
+pub mod OrdinaryPatterns
 pub mod PatternBytes
 pub mod Utf8

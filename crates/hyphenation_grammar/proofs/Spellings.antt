@@ -1,14 +1,13 @@
 -- Each spelling of bytes and of elements is read as these. Nothing else is read.
-use Rattle.std.proofs.Common.{◌≡◌, ◌∙◌, ℕ, ◌+◌, ◌-◌, ◌≤◌, ◌<◌, Bool, true, false, cond, not, ◌&&◌, ◌||◌, eqb, nat_le, List, [], ◌∷◌, ◌++◌, map, Option, Some, None, refl, sym, ap, subst, append_assoc, arith, inl, inr, ◌≢◌}
-use Rattle.std.specs.Prelude.{◌⊎◌}
+use Rattle.std.proofs.Common.{◌≡◌, ◌∙◌, ℕ, ◌+◌, ◌-◌, ◌≤◌, ◌<◌, Bool, true, false, cond, not, ◌&&◌, ◌||◌, eqb, List, [], ◌∷◌, ◌++◌, Option, Some, None, refl, sym, ap, subst, append_assoc, arith, inl, inr, ◌≢◌}
 use Rattle.std.specs.List.{list_all}
 use Rattle.std.specs.Option.{option_map, option_and_then}
 use Rattle.std.specs.Cmp.{first_so, second_so}
 use Rattle.std.proofs.lemmas.List.{append-nil}
-use Rattle.std.proofs.lemmas.Bool.{eqb-true, leb-true}
+use Rattle.std.proofs.lemmas.Bool.{eqb-true}
 use Rattle.std.proofs.lemmas.Bool.Decides.{nat_tests}
 use Rattle.hyphenation_grammar.specs.Lines.{is_digit}
-use Rattle.hyphenation_grammar.specs.Laws.{SpeltOneByOne, IsItself, IsEscape, SpellsByte, unescaped, writes_value, IsLetter, IsDigit, IsBraced, SpellsElement, IsSpeltPattern}
+use Rattle.hyphenation_grammar.specs.Laws.{SpeltOneByOne, SpellsByte, unescaped, writes_value, IsBraced, SpellsElement, IsSpeltPattern}
 use Rattle.hyphenation_grammar.specs.Tokens.{escaped_bytes_after, byte_of_escape, concatenation, unescape_byte, element_of, is_unescaped, is_unescaped_digit, braced_value, step_outside, step_inside, step_at, elements_from, elements_of, pattern_escapes, pattern_bytes}
 use Rattle.hyphenation_grammar.specs.declared.form.Version.{Version}
 use Rattle.hyphenation_grammar.specs.declared.form.Version.TheVariants.{First, Second}

@@ -1,10 +1,11 @@
 //! A pattern's token, read in one pass.
 
-ghost use Rattle.std.specs.Prelude.{◌≡◌, ◌≢◌, IfOk, false, true};
+ghost use Rattle.std.specs.Prelude.{◌≡◌, ◌≢◌, ◌<◌, ◌∷◌, [], IfOk, OnOk, Some, length, false, true};
 ghost use Rattle.hyphenation_breaks.specs.Ascii.{backslash, carriage_return, close_brace, open_brace};
-ghost use Rattle.hyphenation_grammar.specs.Lines.{is_digit};
+ghost use Rattle.hyphenation_grammar.specs.Lines.{between_spaces, is_digit};
 ghost use Rattle.hyphenation_grammar.specs.Parsed.{read_pattern, pattern_view, some_if};
 ghost use Rattle.hyphenation_grammar.specs.Tokens.{braced_value, pattern_escapes};
+ghost use Rattle.hyphenation_grammar.specs.Private.Tokens.{is_ordinary};
 
 use crate::form::Version;
 use crate::lines::number_to_255;
@@ -29,7 +30,7 @@ pub struct PatternToken {
 }
 
 impl PatternToken {
-    ghost use Rattle.std.specs.Prelude.{◌≡◌, None, IfOk, OnOk};
+    ghost use Rattle.std.specs.Prelude.{◌≡◌, ◌≢◌, None, Some, IfOk, OnOk, false};
     ghost use Rattle.hyphenation_grammar.specs.Parsed.{is_bad, pattern_view, nothing_read, some_if, with_byte};
     ghost use Rattle.hyphenation_grammar.specs.Parsed.{with_element, with_spelt, with_step};
     ghost use Rattle.hyphenation_grammar.specs.Tokens.{step_inside, step_outside};
@@ -92,6 +93,23 @@ impl PatternToken {
                 Ok(true)
             }
         }
+    }
+
+    // Reads one byte more that is outside braces and has no meaning but its own: a digit is a value, any other byte a letter.
+    #[inline(always)]
+    fn read_ordinary(&mut self, byte: u8) -> Result<(), AllocError>
+        requires escape { (byte ≢ backslash) × (byte ≢ carriage_return) }
+        requires brace { (byte ≢ open_brace) × (byte ≢ close_brace) }
+        requires outside { (pattern_view self.old).digits ≡ None }
+        ensures read { OnOk result ((version : Version)
+            → Some (pattern_view self.new) ≡ with_byte version false (pattern_view self.old) byte) }
+        ensures outside { OnOk result ((pattern_view self.new).digits ≡ None) }
+    {
+        self.add_element(element_of(EscapedByte {
+            byte,
+            escaped: false,
+        }))?;
+        Ok(())
     }
 
     // Appends an element.
@@ -174,6 +192,13 @@ fn is_plain(byte: u8) -> bool
     b'9' < byte && byte != b'\\' && byte != b'{' && byte != b'}'
 }
 
+// Whether a byte is a letter or a value by itself in each pattern: no space, no control character, no backslash, no brace.
+fn is_ordinary(byte: u8) -> bool
+    ensures { result ≡ is_ordinary byte }
+{
+    b' ' < byte && byte != b'\\' && (byte < b'{' || 127 < byte)
+}
+
 // Returns the value that digits in braces write: a number from 10 to 255.
 fn braced(digits: &[u8]) -> Option<u8>
     ensures { result ≡ braced_value digits.now }
@@ -215,4 +240,28 @@ pub fn read_pattern(
         after = !after && *byte == b'\\';
     }
     Ok(!after)
+}
+
+/// Reads a pattern's token into `pattern`, whose old contents are dropped, if the text is that token alone, and has no escape
+/// and no brace. False if it isn't; then `pattern` means nothing. The only error is memory.
+///
+/// Most patterns are like this. Reading them takes less time than [`read_pattern`] does, and gives the same.
+#[inline(always)]
+pub fn read_ordinary_pattern(text: &[u8], pattern: &mut PatternToken) -> Result<bool, AllocError>
+    ensures token { IfOk result (λ is_read. is_read ≡ true
+        → (0 < length text.now) × (between_spaces text.now ≡ text.now ∷ [])) }
+    ensures read { IfOk result (λ is_read. is_read ≡ true → (version : Version)
+        → Some (pattern_view pattern.new) ≡ read_pattern version text.now) }
+{
+    if text.is_empty() {
+        return Ok(false);
+    }
+    pattern.clear();
+    for byte in text {
+        if !is_ordinary(*byte) {
+            return Ok(false);
+        }
+        pattern.read_ordinary(*byte)?;
+    }
+    Ok(true)
 }

@@ -1,6 +1,6 @@
 -- The tests of a line: those before Token, and those from it on.
 use Rattle.std.proofs.Common.{◌≡◌, ◌∙◌, ◌<◌, ℕ, Bool, true, false, cond, eqb, nat_lt, not, ◌&&◌, arith, List, ◌∷◌, [], ◌++◌, drop, Option, Some, None, refl, sym, ap, subst, is_some}
-use Rattle.std.specs.Prelude.{IsUtf8, codes, Result, Ok, Err, MatchResult, IfErr}
+use Rattle.std.specs.Prelude.{IsUtf8, codes, Result, Ok, Err, MatchResult, IfErr, IfOk, OnOk}
 use Rattle.std.specs.Option.{option_or}
 use Rattle.std.specs.Str.{is_utf8}
 use Rattle.std.proofs.lemmas.Bool.{eqb-true}
@@ -85,6 +85,16 @@ pub refused_late : {X : Type 0} (form : Form) (number : ℕ) (line : List ℕ) (
 refused_late form number line found never is P (Ok x) h = tt
 refused_late form number line found never is P (Err cause) h =
     halves form number line ∙ ap (λ (o : Option Cause). option_or o (item_cause form line)) (sym is ∙ none_of found never) ∙ h
+
+pub passed_late : {X : Type 0} (form : Form) (number : ℕ) (line : List ℕ) (found : Option Cause) → ((x : Cause) → found ≡ Some x → ⊥) → found ≡ cause_before_token form number line
+    → (P : X → Type 0) (r : Result X Cause) → MatchResult r (λ x. (item_cause form line ≡ None) × P x) (λ cause. item_cause form line ≡ Some cause) → OnOk r (own_cause form number line ≡ None)
+passed_late form number line found never is P (Ok x) h =
+    halves form number line ∙ ap (λ (o : Option Cause). option_or o (item_cause form line)) (sym is ∙ none_of found never) ∙ h.0
+passed_late form number line found never is P (Err cause) h = tt
+
+pub said_late : {X : Type 0} (form : Form) (line : List ℕ) (P : X → Type 0) (r : Result X Cause) → MatchResult r (λ x. (item_cause form line ≡ None) × P x) (λ cause. item_cause form line ≡ Some cause) → IfOk r P
+said_late form line P (Ok x) h = h.1
+said_late form line P (Err cause) h = tt
 
 -- the lines after the third are judged alike
 after_third : (form : Form) (number : ℕ) (line : List ℕ) → 3 < number → cause_before_token form number line ≡ early_cause line

@@ -53,15 +53,15 @@ module _ {C B : Type 0} (version : Version) (payload_of : Option Change → C) (
   no_word e = ap (option_map {U = List ℕ × List B} (λ x. (x.0, map listing_of x.1))) e
 
   -- the last two tests, by what an item repeats
-  item_repeats : (item : Item C B) → IsItemOf version payload_of listing_of item line → repeated_by before item ≡ repetition version earlier line
-  item_repeats Nothing says = repeats_by None None (no_key says.0) (no_word says.1)
-  item_repeats (Pattern key entries) says = repeats_by (Some (key.items, entries.items)) None says.0 (no_word says.1)
-  item_repeats (Exception word listed) says = repeats_by None (Some (string_bytes word, listed.items)) (no_key says.0) says.1
+  item_repeats : (key : List ℕ) (entries : List (Entry C)) (item : Item B) → IsItemOf version payload_of listing_of key entries item line → repeated_by before key item ≡ repetition version earlier line
+  item_repeats key entries Nothing says = repeats_by None None (no_key says.0) (no_word says.1)
+  item_repeats key entries Pattern says = repeats_by (Some (key, entries)) None says.0 (no_word says.1)
+  item_repeats key entries (Exception word listed) says = repeats_by None (Some (string_bytes word, listed.items)) (no_key says.0) says.1
 
-  item_more : (item : Item C B) → IsItemOf version payload_of listing_of item line → None ≡ repetition version earlier line → with_item before item ≡ items_of_lines version payload_of listing_of (earlier ++ line ∷ [])
-  item_more Nothing says none = more_by None None (no_key says.0) (no_word says.1) none
-  item_more (Pattern key entries) says none = more_by (Some (key.items, entries.items)) None says.0 (no_word says.1) none
-  item_more (Exception word listed) says none = more_by None (Some (string_bytes word, listed.items)) (no_key says.0) says.1 none
+  item_more : (key : List ℕ) (entries : List (Entry C)) (item : Item B) → IsItemOf version payload_of listing_of key entries item line → None ≡ repetition version earlier line → with_item before key entries item ≡ items_of_lines version payload_of listing_of (earlier ++ line ∷ [])
+  item_more key entries Nothing says none = more_by None None (no_key says.0) (no_word says.1) none
+  item_more key entries Pattern says none = more_by (Some (key, entries)) None says.0 (no_word says.1) none
+  item_more key entries (Exception word listed) says none = more_by None (Some (string_bytes word, listed.items)) (no_key says.0) says.1 none
 
 -- the first fault from a line on, by its two groups of tests
 abbrev pub from_line : ℕ → Option Cause → Option Cause → Option (ℕ × Cause) → Option (ℕ × Cause)
@@ -111,28 +111,28 @@ module _ {C B : Type 0} (payload_of : Option Change → C) (listing_of : Break �
       first None again rest h = absurd cc
       first (Some c) again rest h = h
 
-  module _ (s : SpeltItems C B) (is : s ≡ items_of_lines form.version payload_of listing_of (take i texts)) (item : Item C B) (says : IsItemOf form.version payload_of listing_of item line) (own : own_cause form (i + 1) line ≡ None) where
-    again : repeated_by s item ≡ repetition form.version (take i texts) line
-    again = ap (λ (x : SpeltItems C B). repeated_by x item) is ∙ item_repeats form.version payload_of listing_of (take i texts) line item says
+  module _ (s : SpeltItems C B) (is : s ≡ items_of_lines form.version payload_of listing_of (take i texts)) (key : List ℕ) (entries : List (Entry C)) (item : Item B) (says : IsItemOf form.version payload_of listing_of key entries item line) (own : own_cause form (i + 1) line ≡ None) where
+    again : repeated_by s key item ≡ repetition form.version (take i texts) line
+    again = ap (λ (x : SpeltItems C B). repeated_by x key item) is ∙ item_repeats form.version payload_of listing_of (take i texts) line key entries item says
 
     -- it repeats another
-    pub repeated-fault : (cause : Cause) (all : Option (ℕ × Cause)) → Some cause ≡ repeated_by s item → fault_after form (take i texts) (drop i texts) ≡ all → all ≡ Some (i + 1, cause)
+    pub repeated-fault : (cause : Cause) (all : Option (ℕ × Cause)) → Some cause ≡ repeated_by s key item → fault_after form (take i texts) (drop i texts) ≡ all → all ≡ Some (i + 1, cause)
     repeated-fault cause all repeated before =
         sym before ∙ at_reference
         ∙ ap (λ (o : Option Cause). from_line (i + 1) o (repetition form.version (take i texts) line) (fault_after form (take (i + 1) texts) (drop (i + 1) texts))) own
         ∙ ap (λ (o : Option Cause). from_line (i + 1) None o (fault_after form (take (i + 1) texts) (drop (i + 1) texts))) (sym (repeated ∙ again))
 
     -- it fails none
-    pub goes-on : (all : Option (ℕ × Cause)) → None ≡ repeated_by s item → fault_after form (take i texts) (drop i texts) ≡ all → fault_after form (take (i + 1) texts) (drop (i + 1) texts) ≡ all
+    pub goes-on : (all : Option (ℕ × Cause)) → None ≡ repeated_by s key item → fault_after form (take i texts) (drop i texts) ≡ all → fault_after form (take (i + 1) texts) (drop (i + 1) texts) ≡ all
     goes-on all none before =
         ap (λ (o : Option Cause). from_line (i + 1) None o (fault_after form (take (i + 1) texts) (drop (i + 1) texts))) (none ∙ again)
         ∙ ap (λ (o : Option Cause). from_line (i + 1) o (repetition form.version (take i texts) line) (fault_after form (take (i + 1) texts) (drop (i + 1) texts))) (sym own)
         ∙ sym at_reference ∙ before
 
-    pub spells-more : (next : SpeltItems C B) → None ≡ repeated_by s item → next ≡ with_item s item → next ≡ items_of_lines form.version payload_of listing_of (take (i + 1) texts)
+    pub spells-more : (next : SpeltItems C B) → None ≡ repeated_by s key item → next ≡ with_item s key entries item → next ≡ items_of_lines form.version payload_of listing_of (take (i + 1) texts)
     spells-more next none added =
-        added ∙ ap (λ (x : SpeltItems C B). with_item x item) is
-        ∙ item_more form.version payload_of listing_of (take i texts) line item says (none ∙ again)
+        added ∙ ap (λ (x : SpeltItems C B). with_item x key entries item) is
+        ∙ item_more form.version payload_of listing_of (take i texts) line key entries item says (none ∙ again)
         ∙ ap (λ (l : List ℕ). items_of_lines form.version payload_of listing_of (take i texts ++ l ∷ [])) (sym same_line)
         ∙ ap (items_of_lines form.version payload_of listing_of) (sym (take-suc texts i [] in_texts)) ∙ ap (λ (j : ℕ). items_of_lines form.version payload_of listing_of (take j texts)) (sym (add-one i))
 

@@ -14,7 +14,7 @@ ghost use Rattle.hyphenation_reader.specs.Private.Matched.{suits_form_in_pattern
 ghost use Rattle.hyphenation_grammar.specs.Parsed.{pattern_view};
 ghost use Rattle.hyphenation_reader.specs.Private.Parsed.{exception_parts, no_later, pattern_parts, read_later};
 ghost use Rattle.hyphenation_reader.specs.Private.Parsed.{later_view};
-ghost use Rattle.hyphenation_reader.specs.Private.LineAnswers.{ReturnsItem, ReturnsException, IsItemOf};
+ghost use Rattle.hyphenation_reader.specs.Private.LineAnswers.{ReturnsPattern, ReturnsListed, ReturnsException, IsItemIn};
 ghost use Rattle.hyphenation_reader.specs.Private.LineAnswers.{breaks_listed, entries_of, exception_cause};
 ghost use Rattle.hyphenation_reader.specs.Private.LineAnswers.{suits_word, suits_form, places_cause};
 
@@ -23,32 +23,25 @@ use hyphenation_breaks::extended::Subregion;
 use hyphenation_grammar::Cause;
 use hyphenation_grammar::form::{Form, Kind, Version};
 use hyphenation_grammar::lines::{first_token, is_utf8, starts_with, strip_prefix};
-use hyphenation_grammar::pattern::{PatternToken, read_pattern};
+use hyphenation_grammar::pattern::{PatternToken, read_ordinary_pattern, read_pattern};
 use hyphenation_grammar::tokens::{LaterToken, is_boundary, later_token, string_of};
 use hyphenation_trie::to_u32;
 use std::alloc::{AllocError, Global};
-use std::mem;
 use std::vec::IntoIter;
 
 // The item that a line spells.
 #[derive(Drop)]
-pub(crate) enum Item<C: Drop, B: Drop> {
+pub(crate) enum Item<B: Drop> {
     // A head line, an empty line or a comment.
     Nothing,
-    // A key with its entries.
-    Pattern {
-        key: Vec<u8>,
-        entries: Vec<Entry<C>>,
-    },
+    // A key with its entries. The buffers have both.
+    Pattern,
     // A word with its listed breaks.
-    Exception {
-        word: String,
-        listed: Vec<B>,
-    },
+    Exception { word: String, listed: Vec<B> },
 }
 
-// Buffers that each line fills anew, so that not each line asks for memory. Their contents between two lines mean
-// nothing.
+// Buffers that each line fills anew, so that not each line asks for memory. They have the key and the entries of a pattern
+// until its item is added. They have nothing of other lines that counts.
 pub(crate) struct LineBuffers<C: Drop> {
     // The contents of a pattern's token.
     pub pattern: PatternToken,
@@ -85,11 +78,11 @@ pub(crate) fn item_of<C: Payload, B: Listing>(
     line: &[u8],
     known: bool,
     buffers: &mut LineBuffers<C>,
-) -> Result<Result<Item<C, B>, Cause>, AllocError>
+) -> Result<Result<Item<B>, Cause>, AllocError>
     requires utf8 { known ≡ true → IsUtf8 line.now }
     ensures passes { IfOk result (λ found. OnOk found (own_cause form 4 line.now ≡ None)) }
-    ensures says { IfOk result (λ found.
-        IfOk found (λ item. IsItemOf form.version C.payload_of B.listing_of item line.now)) }
+    ensures says { IfOk result (λ found. IfOk found (λ item.
+        IsItemIn buffers.new form.version C.payload_of B.listing_of item line.now)) }
     ensures refused { IfOk result (λ found. IfErr found (λ cause. own_cause form 4 line.now ≡ Some cause)) }
 {
     if let Some(cause) = early_cause(line, known) {
@@ -98,7 +91,7 @@ pub(crate) fn item_of<C: Payload, B: Listing>(
     match strip_prefix(b"p ", line) {
         Some(text) => pattern_item(alloc, form, text, buffers),
         None => match strip_prefix(b"e ", line) {
-            Some(text) => exception_item(alloc, form, text),
+            Some(text) => exception_item::<C, B>(alloc, form, text),
             None => Ok(Ok(Item::Nothing)),
         },
     }
@@ -137,16 +130,16 @@ fn is_known(line: &[u8]) -> bool
         || starts_with(b"e ", line)
 }
 
-// Returns the item of a `p` line, given the text after `p `, or the first test that it fails.
+// Returns the item of a `p` line, given the text after `p `, or the first test that it fails. Its key and its entries are
+// left in the buffers.
 fn pattern_item<C: Payload, B: Listing>(
     alloc: Global,
     form: Form,
     text: &[u8],
     buffers: &mut LineBuffers<C>,
-) -> Result<Result<Item<C, B>, Cause>, AllocError>
+) -> Result<Result<Item<B>, Cause>, AllocError>
     requires { IsUtf8 text.now }
-    ensures { IfOk result (λ found. (line : List ℕ) → Some text.now ≡ strip_prefix (codes "p ") line
-        → ReturnsItem form C.payload_of B.listing_of line found) }
+    ensures { IfOk result (λ found. ReturnsPattern buffers.new form C.payload_of B.listing_of text.now found) }
 {
     let Some(later) = pattern_parts(alloc, form.version, text, &mut buffers.pattern)? else {
         return Ok(Err(Cause::Token));
@@ -157,10 +150,7 @@ fn pattern_item<C: Payload, B: Listing>(
     if !entries_with_changes(&buffers.pattern.values, later.listed, &mut buffers.entries)? {
         return Ok(Err(Cause::Change));
     }
-    Ok(Ok(Item::Pattern {
-        key: mem::replace(&mut buffers.pattern.key, Vec::new(alloc)),
-        entries: mem::replace(&mut buffers.entries, Vec::new(alloc)),
-    }))
+    Ok(Ok(Item::Pattern))
 }
 
 // Reads the tokens of a `p` line: the first into `pattern`, and returns the later ones. `None` if one of them can't be
@@ -177,16 +167,16 @@ fn pattern_parts(
         option_map (λ later. (pattern_view pattern.new, later_view later)) found
         ≡ pattern_parts version (between_spaces text.now)) }
 {
+    // Most patterns have one token alone, without escapes and braces.
+    if read_ordinary_pattern(text, pattern)? {
+        return Ok(Some(Later::none(alloc)));
+    }
     let (first, later) = first_token(text);
     if first.is_empty() {
         return Ok(None);
     }
     if !read_pattern(alloc, version, first, pattern)? {
         return Ok(None);
-    }
-    // Most patterns have one token alone.
-    if later.is_none() {
-        return Ok(Some(Later::none(alloc)));
     }
     later_of(alloc, later)
 }
@@ -320,10 +310,9 @@ fn exception_item<C: Payload, B: Listing>(
     alloc: Global,
     form: Form,
     text: &[u8],
-) -> Result<Result<Item<C, B>, Cause>, AllocError>
+) -> Result<Result<Item<B>, Cause>, AllocError>
     requires { IsUtf8 text.now }
-    ensures { IfOk result (λ found. (line : List ℕ) → Some text.now ≡ strip_prefix (codes "e ") line
-        → ReturnsItem form C.payload_of B.listing_of line found) }
+    ensures { IfOk result (λ found. ReturnsListed C form C.payload_of B.listing_of text.now found) }
 {
     match exception_of(alloc, form, text)? {
         Ok((word, listed)) => Ok(Ok(Item::Exception { word, listed })),

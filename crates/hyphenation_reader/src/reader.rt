@@ -14,7 +14,7 @@ ghost use Rattle.hyphenation_grammar.specs.Reading.{items_of_lines, contents_in,
 ghost use Rattle.hyphenation_grammar.specs.Reading.{extended_contents};
 ghost use Rattle.hyphenation_reader.specs.Refusals.{IsRefusal};
 ghost use Rattle.hyphenation_reader.specs.Private.Refusals.{at_number};
-ghost use Rattle.hyphenation_reader.specs.Private.LineAnswers.{IsItemOf};
+ghost use Rattle.hyphenation_reader.specs.Private.LineAnswers.{IsItemIn};
 ghost use Rattle.hyphenation_trie.specs.Trie.{EachBeginsKey};
 
 use crate::items::{Item, LineBuffers, item_of};
@@ -135,23 +135,23 @@ impl<C: Payload, B: Listing> Builder<C, B> {
         Ok(old.is_some())
     }
 
-    // Adds the item of a line, and puts its lists into the buffers. Returns the cause if an earlier line has its key or
-    // its word.
+    // Adds the item of a line; the buffers have a pattern's key and entries. Returns the cause if an earlier line has its
+    // key or its word.
     fn add(
         &mut self,
-        item: Item<C, B>,
+        item: Item<B>,
         buffers: &mut LineBuffers<C>,
     ) -> Result<Option<Cause>, AllocError>
-        ensures cause { IfOk result (λ cause. cause ≡ repeated_by (items_held self.old) item) }
-        ensures added { OnOk result (items_held self.new ≡ with_item (items_held self.old) item) }
+        ensures cause { IfOk result (λ cause.
+            cause ≡ repeated_by (items_held self.old) buffers.old.pattern.key.items item) }
+        ensures added { OnOk result (items_held self.new
+            ≡ with_item (items_held self.old) buffers.old.pattern.key.items buffers.old.entries.items item) }
         ensures begins { OnOk result (EachBeginsKey self.old.patterns → EachBeginsKey self.new.patterns) }
     {
         match item {
             Item::Nothing => Ok(None),
-            Item::Pattern { key, mut entries } => {
-                let had = self.add_pattern(&key, &mut entries)?;
-                buffers.pattern.key = key;
-                buffers.entries = entries;
+            Item::Pattern => {
+                let had = self.add_pattern(&buffers.pattern.key, &mut buffers.entries)?;
                 Ok(had.then_some(Cause::RepeatedPattern))
             }
             Item::Exception { word, listed } => {
@@ -162,7 +162,8 @@ impl<C: Payload, B: Listing> Builder<C, B> {
     }
 }
 
-// Returns the item of the line of that number, which must be above 3, or its refusal.
+// Returns the item of the line of that number, which must be above 3, or its refusal. The buffers have a pattern's key and
+// entries.
 fn item_at<C: Payload, B: Listing>(
     alloc: Global,
     form: Form,
@@ -170,11 +171,12 @@ fn item_at<C: Payload, B: Listing>(
     line: &[u8],
     known: bool,
     buffers: &mut LineBuffers<C>,
-) -> Result<Item<C, B>, Refusal>
+) -> Result<Item<B>, Refusal>
     requires utf8 { known ≡ true → IsUtf8 line.now }
     requires past_head { 3 < number }
     ensures passes { OnOk result (own_cause form number line.now ≡ None) }
-    ensures says { IfOk result (λ item. IsItemOf form.version C.payload_of B.listing_of item line.now) }
+    ensures says { IfOk result (λ item.
+        IsItemIn buffers.new form.version C.payload_of B.listing_of item line.now) }
     ensures refused { IfErr result (λ refusal. IsRefusal refusal (at_number number (own_cause form number line.now))) }
 {
     match item_of(alloc, form, line, known, buffers)? {

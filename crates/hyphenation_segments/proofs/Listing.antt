@@ -1,5 +1,5 @@
 -- Breaks may be listed exactly where each fits the word by itself.
-use Rattle.std.proofs.Common.{◌≡◌, ℕ, ◌+◌, ◌-◌, ◌≤◌, ◌<◌, ◌^◌, ◌&&◌, Bool, true, false, nat_le, le-leb, List, [], ◌∷◌, length, map, Option, Some, None, refl, sym, subst, arith, add-zero, IsCharBoundary}
+use Rattle.std.proofs.Common.{◌≡◌, ℕ, ◌+◌, ◌-◌, ◌<◌, ◌^◌, ◌&&◌, Bool, true, false, nat_le, le-leb, List, [], ◌∷◌, length, map, Option, Some, None, refl, sym, subst, arith, add-zero, IsCharBoundary}
 use Rattle.std.proofs.Math.Nat.{sub-zero}
 use Rattle.std.proofs.lemmas.Bool.{and_parts, leb-true, lt-ltb}
 use Rattle.hyphenation_breaks.specs.Break.{Break, Change, break_at, is_boundary, has_boundary, keeps_within}

@@ -1,8 +1,8 @@
 //! The edges of a trie's nodes: the parent of each, and the children of each as a chain.
 
-ghost use Rattle.std.specs.Prelude.{◌≡◌, ◌+◌, ◌<◌, ◌≤◌, ◌++◌, [], ◌∷◌, length, slice_index, slice_set, vec_len, vec_capacity, IfOk, OnOk, OnErr};
+ghost use Rattle.std.specs.Prelude.{◌≡◌, ◌<◌, ◌++◌, [], ◌∷◌, length, slice_index, slice_set, IfOk, OnOk, OnErr};
 
-use super::lists::list_of_first;
+use super::lists::{list_of_first, push_both};
 use super::to_u32;
 use std::alloc::{AllocError, Global};
 
@@ -36,24 +36,8 @@ impl Children {
         })
     }
 
-    // Makes room for one more node, and changes no node. The only error is out of memory.
-    fn reserve(&mut self) -> Result<(), AllocError>
-        ensures nodes { (self.new.parents.items ≡ self.old.parents.items)
-            × (self.new.bytes.items ≡ self.old.bytes.items) }
-        ensures chains { (self.new.last.items ≡ self.old.last.items)
-            × (self.new.before.items ≡ self.old.before.items) }
-        ensures nodes_room { OnOk result ((vec_len self.new.parents < vec_capacity self.new.parents)
-            × (vec_len self.new.bytes < vec_capacity self.new.bytes)) }
-        ensures chains_room { OnOk result ((vec_len self.new.last < vec_capacity self.new.last)
-            × (vec_len self.new.before < vec_capacity self.new.before)) }
-    {
-        self.parents.reserve(1)?;
-        self.bytes.reserve(1)?;
-        self.last.reserve(1)?;
-        self.before.reserve(1)
-    }
-
     // Adds a child to a node, as its last one, and returns the number of the child. The only error is out of memory.
+    #[inline(always)]
     pub(crate) fn add(&mut self, node: u32, byte: u8) -> Result<u32, AllocError>
         requires { node < length self.old.last.items }
         ensures child { IfOk result (λ child. child ≡ length self.old.before.items) }
@@ -69,12 +53,15 @@ impl Children {
             × (self.new.before.items ≡ self.old.before.items)) }
     {
         let child = to_u32(self.before.len())?;
-        // Room comes first, so that no list gets a node that another list then refuses.
-        self.reserve()?;
-        self.parents.push(node).unwrap();
-        self.bytes.push(byte).unwrap();
-        self.before.push(self.last[node as usize]).unwrap();
-        self.last.push(0).unwrap();
+        let before = self.last[node as usize];
+        let (parents, bytes) = (self.parents.len(), self.bytes.len());
+        push_both(&mut self.parents, node, &mut self.bytes, byte)?;
+        if let Err(error) = push_both(&mut self.last, 0, &mut self.before, before) {
+            // No list keeps a node that another list refuses.
+            self.parents.truncate(parents);
+            self.bytes.truncate(bytes);
+            return Err(error);
+        }
         self.last[node as usize] = child;
         Ok(child)
     }

@@ -174,6 +174,7 @@ impl<E: Drop> Trie<E> {
     }
 
     // Returns the child of a node at a byte, if it has one.
+    #[inline(always)]
     fn child_of(&self, node: u32, byte: u8) -> Option<u32>
         requires { node < length self.now.texts }
         ensures found { IfSome result (λ j.
@@ -192,6 +193,7 @@ impl<E: Drop> Trie<E> {
     }
 
     // Adds a child to a node, and returns it. The only error is out of memory.
+    #[inline(always)]
     fn grow(&mut self, node: u32, byte: u8) -> Result<u32, AllocError>
         requires node { node < length self.old.texts }
         requires absent { (j : ℕ) → j < length self.old.texts
@@ -199,14 +201,20 @@ impl<E: Drop> Trie<E> {
         ensures child_added { IfOk result (λ j. (j ≡ length self.old.texts) × (self.new ≡ with_child self.old node byte)) }
         ensures unchanged_on_error { OnErr result (self.new ≡ self.old) }
     {
-        // Room comes first, so that no node is added without its state.
-        self.states.reserve(1)?;
-        let child = self.children.add(node, byte)?;
-        self.states.push(State::of_no_key()).unwrap();
-        Ok(child)
+        let count = self.states.len();
+        self.states.push(State::of_no_key())?;
+        match self.children.add(node, byte) {
+            Ok(child) => Ok(child),
+            Err(error) => {
+                // No state stays without its node.
+                self.states.truncate(count);
+                Err(error)
+            }
+        }
     }
 
     // Returns the child of a node at a byte, and adds it if there is none. The only error is out of memory.
+    #[inline(always)]
     fn step(&mut self, node: u32, byte: u8) -> Result<u32, AllocError>
         requires { node < length self.old.texts }
         ensures child { IfOk result (λ j.

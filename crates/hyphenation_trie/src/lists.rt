@@ -1,6 +1,6 @@
-//! Lists with their first element.
+//! Lists with their first element, and lists that grow together.
 
-ghost use Rattle.std.specs.Prelude.{◌≡◌, [], ◌∷◌, IfOk};
+ghost use Rattle.std.specs.Prelude.{◌≡◌, ◌++◌, [], ◌∷◌, IfOk, OnOk, OnErr};
 
 use std::alloc::{AllocError, Global};
 
@@ -15,4 +15,26 @@ pub(crate) fn list_of_first<T: Copy>(
     let mut list = Vec::with_capacity(alloc, room)?;
     list.push(first)?;
     Ok(list)
+}
+
+// Appends an element to each of two lists, or to none of them. The only error is out of memory.
+#[inline(always)]
+pub(crate) fn push_both<S: Copy, T: Copy>(
+    firsts: &mut Vec<S>,
+    first: S,
+    seconds: &mut Vec<T>,
+    second: T,
+) -> Result<(), AllocError>
+    ensures firsts { OnOk result (firsts.new.items ≡ firsts.old.items ++ first ∷ []) }
+    ensures seconds { OnOk result (seconds.new.items ≡ seconds.old.items ++ second ∷ []) }
+    ensures firsts_unchanged_on_error { OnErr result (firsts.new.items ≡ firsts.old.items) }
+    ensures seconds_unchanged_on_error { OnErr result (seconds.new.items ≡ seconds.old.items) }
+{
+    let count = firsts.len();
+    firsts.push(first)?;
+    if seconds.push(second).is_err() {
+        firsts.truncate(count);
+        return Err(AllocError);
+    }
+    Ok(())
 }

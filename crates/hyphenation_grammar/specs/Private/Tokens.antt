@@ -1,14 +1,18 @@
--- Bytes that need no escape, and the steps by which a later token is split and read.
-use Rattle.std.specs.Prelude.{◌≡◌, ℕ, ◌-◌, ◌==◌, ◌<◌, ◌&&◌, ◌||◌, Bool, not, if◌then◌else◌, List, [], ◌∷◌, take, drop, slice_index_or, Option, Some, None, is_some}
+-- Bytes that need no escape, bytes of ordinary patterns, and the steps by which a later token is split and read.
+use Rattle.std.specs.Prelude.{◌≡◌, ℕ, ◌-◌, ◌==◌, ◌<◌, ◌&&◌, ◌||◌, nat_lt, Bool, not, if◌then◌else◌, List, [], ◌∷◌, take, drop, slice_index_or, Option, Some, None, is_some}
 use Rattle.std.specs.List.{list_all}
 use Rattle.hyphenation_grammar.specs.Lines.{is_number, number}
 use Rattle.hyphenation_grammar.specs.Tokens.{escaped_bytes_of, parts_within, text_spelt}
 use Rattle.hyphenation_grammar.specs.declared.tokens.Escapes.TheVariants.{Plain}
-use Rattle.hyphenation_breaks.specs.Ascii.{backslash, carriage_return}
+use Rattle.hyphenation_breaks.specs.Ascii.{backslash, carriage_return, open_brace, space}
 
 -- A byte that stands for itself, without an escape.
 abbrev pub stands_for_itself : ℕ → Bool
 stands_for_itself b = not (b == backslash || b == carriage_return)
+
+-- A byte that is a letter or a value by itself in each pattern: no space, no control character, no backslash, no brace.
+abbrev pub is_ordinary : ℕ → Bool
+is_ordinary b = nat_lt space b && not (b == backslash) && (nat_lt b open_brace || nat_lt 127 b)
 
 -- A comma that may split the text stands between the two.
 abbrev pub IsSplit : ℕ → List ℕ → List ℕ → List ℕ → Type 0

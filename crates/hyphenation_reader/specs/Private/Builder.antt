@@ -3,6 +3,7 @@
 use Rattle.std.specs.Prelude.{◌≡◌, ◌+◌, ◌<◌, ◌≤◌, IsUtf8, Bool, true, not, ℕ, List, [], length, take, drop, slice_index_or, if◌then◌else◌, Option, Some, None}
 use Rattle.std.specs.FinMap as finite
 use Rattle.std.specs.String.{string_bytes}
+use Rattle.hyphenation_breaks.specs.declared.entry.Entry.{Entry}
 use Rattle.hyphenation_dictionary.specs.Parts.{patterns_of}
 use Rattle.hyphenation_grammar.specs.Reading.{SpeltItems}
 use Rattle.hyphenation_grammar.specs.Judging.{fault_after, is_item_line}
@@ -23,19 +24,19 @@ items_held builder = record { patterns = patterns_of builder.patterns; exception
 abbrev pub no_items : {C B : Type 0} → SpeltItems C B
 no_items = record { patterns = finite.from_entries []; exceptions = finite.from_entries [] }
 
--- The items with one more.
-abbrev pub with_item : {C B : Type 0} → SpeltItems C B → Item C B → SpeltItems C B
-with_item s Nothing = s
-with_item s (Pattern key entries) =
-    record { patterns = finite.insert s.patterns key.items entries.items; exceptions = s.exceptions }
-with_item s (Exception word listed) =
+-- The items with one more, and a pattern's key and entries.
+abbrev pub with_item : {C B : Type 0} → SpeltItems C B → List ℕ → List (Entry C) → Item B → SpeltItems C B
+with_item s key entries Nothing = s
+with_item s key entries Pattern =
+    record { patterns = finite.insert s.patterns key entries; exceptions = s.exceptions }
+with_item s key entries (Exception word listed) =
     record { patterns = s.patterns; exceptions = finite.insert s.exceptions (string_bytes word) listed.items }
 
--- The cause if an item repeats one that is held.
-abbrev pub repeated_by : {C B : Type 0} → SpeltItems C B → Item C B → Option Cause
-repeated_by s Nothing = None
-repeated_by s (Pattern key entries) = if finite.contains_key s.patterns key.items then Some RepeatedPattern else None
-repeated_by s (Exception word listed) =
+-- The cause if an item, with a pattern's key, repeats one that is held.
+abbrev pub repeated_by : {C B : Type 0} → SpeltItems C B → List ℕ → Item B → Option Cause
+repeated_by s key Nothing = None
+repeated_by s key Pattern = if finite.contains_key s.patterns key then Some RepeatedPattern else None
+repeated_by s key (Exception word listed) =
     if finite.contains_key s.exceptions (string_bytes word) then Some RepeatedException else None
 
 -- Lines that spell no item.

@@ -1,6 +1,6 @@
 -- The results of reading one line, and the tests that it fails.
 -- It follows the steps of private functions, which are proved equal to Items and Judging. No public contract cites it.
-use Rattle.std.specs.Prelude.{◌≡◌, ℕ, ◌==◌, ◌&&◌, Bool, true, false, not, if◌then◌else◌, List, [], ◌∷◌, map, find, Option, Some, None, Result, MatchResult}
+use Rattle.std.specs.Prelude.{◌≡◌, ℕ, ◌==◌, ◌&&◌, Bool, true, false, not, if◌then◌else◌, List, [], ◌∷◌, map, find, Option, Some, None, Result, MatchResult, codes}
 use Rattle.std.specs.Option.{option_or}
 use Rattle.std.specs.List.{list_all, list_any}
 use Rattle.std.specs.String.{string_bytes}
@@ -10,6 +10,7 @@ use Rattle.hyphenation_breaks.specs.Break.{Break, Change as Changed, break_at, a
 use Rattle.hyphenation_breaks.specs.Invariant.{has_letter}
 use Rattle.hyphenation_grammar.specs.Items.{pattern_of_line, exception_of_line, change_at}
 use Rattle.hyphenation_grammar.specs.Judging.{fails, is_extended}
+use Rattle.hyphenation_grammar.specs.Lines.{strip_prefix}
 use Rattle.hyphenation_grammar.specs.Parsed.{ReadPattern, is_bad}
 use Rattle.hyphenation_reader.specs.Private.Parsed.{ReadLater}
 use Rattle.hyphenation_grammar.specs.Reading.{spelling_as, entry_as}
@@ -20,29 +21,53 @@ use Rattle.hyphenation_grammar.specs.declared.form.Form.{Form}
 use Rattle.hyphenation_grammar.specs.declared.form.Version.{Version}
 use Rattle.hyphenation_reader.specs.declared.items.Item.{Item}
 use Rattle.hyphenation_reader.specs.declared.items.Item.TheVariants.{Nothing, Pattern, Exception}
+use Rattle.hyphenation_reader.specs.declared.items.LineBuffers.{LineBuffers}
 
--- The item is what the line spells, in a dictionary that holds changes and listed breaks by these functions.
-abbrev pub IsItemOf : {C B : Type 0} → Version → (Option Changed → C) → (Break → B) → Item C B → List ℕ → Type 0
-IsItemOf version payload_of listing_of Nothing line =
+-- The item, with a pattern's key and entries, is what the line spells, in a dictionary that holds changes and listed breaks
+-- by these functions.
+abbrev pub IsItemOf : {C B : Type 0} → Version → (Option Changed → C) → (Break → B) → List ℕ → List (Entry C) → Item B
+    → List ℕ → Type 0
+IsItemOf version payload_of listing_of key entries Nothing line =
     (pattern_of_line version line ≡ None) × (exception_of_line line ≡ None)
-IsItemOf version payload_of listing_of (Pattern key entries) line =
-    (spelling_as (entry_as payload_of) (pattern_of_line version) line ≡ Some (key.items, entries.items))
+IsItemOf version payload_of listing_of key entries Pattern line =
+    (spelling_as (entry_as payload_of) (pattern_of_line version) line ≡ Some (key, entries))
     × (exception_of_line line ≡ None)
-IsItemOf version payload_of listing_of (Exception word listed) line =
+IsItemOf version payload_of listing_of key entries (Exception word listed) line =
     (pattern_of_line version line ≡ None)
     × (spelling_as listing_of exception_of_line line ≡ Some (string_bytes word, listed.items))
+
+-- The item is what the line spells; the buffers have a pattern's key and entries.
+abbrev pub IsItemIn : {C B : Type 0} → LineBuffers C → Version → (Option Changed → C) → (Break → B) → Item B → List ℕ → Type 0
+IsItemIn buffers version payload_of listing_of item line =
+    IsItemOf version payload_of listing_of buffers.pattern.key.items buffers.entries.items item line
 
 -- The first test from Token on that a `p` or `e` line fails.
 abbrev pub item_cause : Form → List ℕ → Option Cause
 item_cause form line =
     find (fails form 4 line) (Token ∷ BadValue ∷ TwoValues ∷ NoLetters ∷ Number ∷ Place ∷ Change ∷ [])
 
--- The result of reading a `p` or `e` line: the item that it spells, or the first of these tests that it fails.
-abbrev pub ReturnsItem : {C B : Type 0} → Form → (Option Changed → C) → (Break → B) → List ℕ → Result (Item C B) Cause
-    → Type 0
-ReturnsItem form payload_of listing_of line found =
-    MatchResult found (λ item. (item_cause form line ≡ None) × IsItemOf form.version payload_of listing_of item line)
+-- The result of reading a `p` or `e` line: the item that it spells, with a pattern's key and entries, or the first of these
+-- tests that it fails.
+abbrev pub ReturnsItem : {C B : Type 0} → Form → (Option Changed → C) → (Break → B) → List ℕ → List (Entry C) → List ℕ
+    → Result (Item B) Cause → Type 0
+ReturnsItem form payload_of listing_of key entries line found =
+    MatchResult found
+    (λ item. (item_cause form line ≡ None) × IsItemOf form.version payload_of listing_of key entries item line)
     (λ cause. item_cause form line ≡ Some cause)
+
+-- The result of reading a `p` line, given its text after `p `. The buffers have the key and the entries of the pattern.
+abbrev pub ReturnsPattern : {C B : Type 0} → LineBuffers C → Form → (Option Changed → C) → (Break → B) → List ℕ
+    → Result (Item B) Cause → Type 0
+ReturnsPattern buffers form payload_of listing_of text found =
+    (line : List ℕ) → Some text ≡ strip_prefix (codes "p ") line
+    → ReturnsItem form payload_of listing_of buffers.pattern.key.items buffers.entries.items line found
+
+-- The result of reading an `e` line, given its text after `e `, whatever key and entries the buffers have.
+abbrev pub ReturnsListed : (C : Type 0) {B : Type 0} → Form → (Option Changed → C) → (Break → B) → List ℕ
+    → Result (Item B) Cause → Type 0
+ReturnsListed C form payload_of listing_of text found =
+    (line : List ℕ) → Some text ≡ strip_prefix (codes "e ") line
+    → (key : List ℕ) → (entries : List (Entry C)) → ReturnsItem form payload_of listing_of key entries line found
 
 -- The result of reading an `e` line: its word and its listed breaks, or the first of these tests that it fails.
 abbrev pub ReturnsException : {B Y Z : Type 0} → Form → (Break → B) → List ℕ → Result (String Y × Vec B Z) Cause

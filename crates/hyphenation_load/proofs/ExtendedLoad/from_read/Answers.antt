@@ -1,10 +1,8 @@
 -- The dictionary of the bytes that were read is the one that their text gives.
-use Rattle.std.proofs.Common.{◌≡◌, Ok, None, List, ℕ, IfOk, Result, sym, subst}
-use Rattle.hyphenation_grammar.specs.declared.Error.{Error}
+use Rattle.std.proofs.Common.{◌≡◌, None, List, ℕ, subst}
 use Rattle.hyphenation_grammar.specs.declared.form.Kind.TheVariants.{Extended}
 use Rattle.hyphenation_grammar.specs.Judging.{refusal_of}
 use Rattle.hyphenation_grammar.specs.Reading.{extended_contents}
-use Rattle.hyphenation_load.specs.Load.{Loads}
 use Rattle.hyphenation_load.proofs.ExtendedLoad.from_read.Goals as goal
 
 pub returns-in-Ok-read_extended-clause-loaded : goal.returns-in-Ok-read_extended-clause-loaded

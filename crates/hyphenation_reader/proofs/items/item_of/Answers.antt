@@ -1,5 +1,6 @@
+use Rattle.std.proofs.Common.{[]}
 use Rattle.std.proofs.lemmas.Result.{IfOk-weaker}
-use Rattle.hyphenation_reader.proofs.JudgingLine.{early, exception-utf8, pattern-utf8, refused_late}
+use Rattle.hyphenation_reader.proofs.JudgingLine.{early, exception-utf8, pattern-utf8, passed_late, refused_late, said_late}
 use Rattle.hyphenation_reader.proofs.items.item_of.Goals as goal
 
 pub returns-in-Some-clause-refused : goal.returns-in-Some-clause-refused
@@ -17,4 +18,12 @@ returns-in-Some-strip_prefix-clause-refused g c =
 
 pub returns-in-Some-strip_prefix-2-clause-refused : goal.returns-in-Some-strip_prefix-2-clause-refused
 returns-in-Some-strip_prefix-2-clause-refused g c =
-    IfOk-weaker c.exception_item.result _ _ (λ found is. refused_late c.args.form 4 c.args.line.now c.early_cause.result c.in_default.not-Some c.early_cause.ensures _ found (is c.args.line.now c.in-Some-strip_prefix-2.ensures)) c.exception_item.ensures
+    IfOk-weaker c.exception_item.result _ _ (λ found is. refused_late c.args.form 4 c.args.line.now c.early_cause.result c.in_default.not-Some c.early_cause.ensures _ found (is c.args.line.now c.in-Some-strip_prefix-2.ensures [] [])) c.exception_item.ensures
+
+pub returns-in-Some-strip_prefix-2-clause-passes : goal.returns-in-Some-strip_prefix-2-clause-passes
+returns-in-Some-strip_prefix-2-clause-passes g c =
+    IfOk-weaker c.exception_item.result _ _ (λ found is. passed_late c.args.form 4 c.args.line.now c.early_cause.result c.in_default.not-Some c.early_cause.ensures _ found (is c.args.line.now c.in-Some-strip_prefix-2.ensures [] [])) c.exception_item.ensures
+
+pub returns-in-Some-strip_prefix-2-clause-says : goal.returns-in-Some-strip_prefix-2-clause-says
+returns-in-Some-strip_prefix-2-clause-says g c =
+    IfOk-weaker c.exception_item.result _ _ (λ found is. said_late c.args.form c.args.line.now _ found (is c.args.line.now c.in-Some-strip_prefix-2.ensures _ _)) c.exception_item.ensures

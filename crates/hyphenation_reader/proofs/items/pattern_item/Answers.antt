@@ -46,7 +46,7 @@ returns g c = λ line start.
     let all = told_of c.deref.result.now pattern.values.items c.in-Some.later.listed.items c.in_ok-entries_with_changes.field-0 true c.deref.ensures.value c.in_ok-entries_with_changes.ensures.each_has_value c.if-not-branch.false in
     let passes = at_match c.args.form (pattern_view pattern) (later_view c.in-Some.later) true none all in
     let says = pattern_says c.args.form line c.args.text.now start g.C.Payload.payload_of (pattern_view pattern) (later_view c.in-Some.later) read passes in
-    let made = (λ i. (c.replace-2.ensures.value i).items) ∙ c.in_ok-entries_with_changes.ensures.entries c.if-not-branch.false ∙ (λ i. entries_of g.C.Payload.payload_of (c.deref.ensures.value i) c.in-Some.later.listed.items) in (
+    let made = c.in_ok-entries_with_changes.ensures.entries c.if-not-branch.false ∙ (λ i. entries_of g.C.Payload.payload_of (c.deref.ensures.value i) c.in-Some.later.listed.items) in (
       pattern_caused c.args.form line c.args.text.now start (pattern_view pattern) (later_view c.in-Some.later) read ∙ passes,
-      (says.0 ∙ (λ i. Some ((sym c.replace.ensures.value i).items, sym made i)), says.1),
+      (says.0 ∙ (λ i. Some (pattern.key.items, sym made i)), says.1),
     )

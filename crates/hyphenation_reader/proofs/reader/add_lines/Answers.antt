@@ -15,7 +15,7 @@ returns-in_err-item-clause-refused g c =
 pub returns-in-Some-2-clause-refused : goal.returns-in-Some-2-clause-refused
 returns-in-Some-2-clause-refused g c =
     let at = c.loop-line.invariant.rest ∙ c.in-Some.ensures.first in
-    repeated-fault g.C.Payload.payload_of g.B.Listing.listing_of c.args.form (lines_of c.args.bytes.now) c.loop-line.count c.in-Some.line.now _ at _ c.loop-line.invariant.spelt c.in_ok-item.item c.in_ok-item.ensures.says c.in_ok-item.ensures.passes c.in-Some-2.cause _
+    repeated-fault g.C.Payload.payload_of g.B.Listing.listing_of c.args.form (lines_of c.args.bytes.now) c.loop-line.count c.in-Some.line.now _ at _ c.loop-line.invariant.spelt c.item_at.new.buffers.pattern.key.items c.item_at.new.buffers.entries.items c.in_ok-item.item c.in_ok-item.ensures.says c.in_ok-item.ensures.passes c.in-Some-2.cause _
     (sym c.in-Some-2.is ∙ c.in_ok-cause.ensures.cause) c.loop-line.invariant.fault
 
 pub loop-line-preserved : goal.loop-line-preserved
@@ -28,8 +28,8 @@ loop-line-preserved g c =
       past = omega (arith, c.loop-line.invariant.past);
       within = reaches g.C.Payload.payload_of g.B.Listing.listing_of c.args.form all c.loop-line.count c.in-Some.line.now _ at;
       rest = rest_is g.C.Payload.payload_of g.B.Listing.listing_of c.args.form all c.loop-line.count c.in-Some.line.now _ at;
-      fault = goes-on g.C.Payload.payload_of g.B.Listing.listing_of c.args.form all c.loop-line.count c.in-Some.line.now _ at _ c.loop-line.invariant.spelt c.in_ok-item.item c.in_ok-item.ensures.says c.in_ok-item.ensures.passes _ none c.loop-line.invariant.fault;
-      spelt = spells-more g.C.Payload.payload_of g.B.Listing.listing_of c.args.form all c.loop-line.count c.in-Some.line.now _ at _ c.loop-line.invariant.spelt c.in_ok-item.item c.in_ok-item.ensures.says c.in_ok-item.ensures.passes _ none c.in_ok-cause.ensures.added;
+      fault = goes-on g.C.Payload.payload_of g.B.Listing.listing_of c.args.form all c.loop-line.count c.in-Some.line.now _ at _ c.loop-line.invariant.spelt c.item_at.new.buffers.pattern.key.items c.item_at.new.buffers.entries.items c.in_ok-item.item c.in_ok-item.ensures.says c.in_ok-item.ensures.passes _ none c.loop-line.invariant.fault;
+      spelt = spells-more g.C.Payload.payload_of g.B.Listing.listing_of c.args.form all c.loop-line.count c.in-Some.line.now _ at _ c.loop-line.invariant.spelt c.item_at.new.buffers.pattern.key.items c.item_at.new.buffers.entries.items c.in_ok-item.item c.in_ok-item.ensures.says c.in_ok-item.ensures.passes _ none c.in_ok-cause.ensures.added;
       utf8 = λ known. (c.in-Some.ensures.utf8 (c.loop-line.invariant.utf8 known)).1;
       begins = c.in_ok-cause.ensures.begins c.loop-line.invariant.begins;
     }
