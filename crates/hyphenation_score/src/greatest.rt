@@ -164,6 +164,28 @@ pub fn raise_all<C: Drop>(
     let _last = read_byte(automaton, node, b'.', word.len() + 2, scores, count);
 }
 
+// Returns the values of a word's places. `zeros` must have a 0 for each place, and is filled with the values. The only error
+// is out of memory.
+#[inline(always)]
+fn values_from<C: Drop>(
+    alloc: Global,
+    automaton: &Automaton<Entry<C>>,
+    word: &[u8],
+    zeros: &mut [u8],
+    count: &mut LookUps,
+) -> Result<Vec<u8>, AllocError>
+    requires begins { EachBeginsKey automaton.now }
+    requires made { count.old.made ≤ 2 ^ 64 }
+    requires reported { count.old.reported ≤ 2 ^ 64 }
+    requires places { length zeros.old ≡ length word.now - 1 }
+    requires zeros { (i : ℕ) → i < length zeros.old → slice_index zeros.old i ≡ 0 }
+    ensures values { IfOk result (λ v. v.items ≡ values (entries_of_key automaton.now) word.now) }
+    ensures counts { CountsBy (entries_of_key automaton.now) word.now count.old count.new (IsOk result) }
+{
+    raise_all(automaton, word, zeros, count);
+    Vec::from_slice(alloc, zeros)
+}
+
 // Returns the values of a word's places, by the automaton of the keys. The only error is out of memory.
 #[inline(always)]
 pub(super) fn values_in<C: Drop>(
@@ -179,6 +201,11 @@ pub(super) fn values_in<C: Drop>(
     ensures counts { CountsBy (entries_of_key automaton.now) word.now count.old count.new (IsOk result) }
 {
     let places = word.len().saturating_sub(1);
+    if places <= 64 {
+        // The values of most words are found on the stack and copied, since that is faster than to fill a list with 0.
+        let mut zeros = [0u8; 64];
+        return values_from(alloc, automaton, word, &mut zeros[..places], count);
+    }
     let mut values = vec![in alloc; 0u8; places]?;
     raise_all(automaton, word, &mut values, count);
     Ok(values)
