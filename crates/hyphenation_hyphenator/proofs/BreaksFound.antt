@@ -1,9 +1,10 @@
 -- Steps of the loops that find, carry back and keep breaks.
-use Rattle.std.proofs.Common.{◌≡◌, ℕ, zero, suc, ◌+◌, ◌-◌, ◌<◌, ◌≤◌, ◌&&◌, Bool, true, false, cond, nat_le, List, [], ◌∷◌, ◌++◌, length, map, filter, take, drop, get_or, Option, Some, None, refl, sym, ap, subst, ◌∙◌, arith}
+use Rattle.std.proofs.Common.{◌≡◌, ℕ, zero, suc, ◌+◌, ◌-◌, ◌<◌, ◌≤◌, ◌&&◌, Bool, true, false, cond, nat_le, List, [], ◌∷◌, ◌++◌, length, map, filter, take, drop, get_or, min, Option, Some, None, refl, sym, ap, subst, ◌∙◌, arith, inl, inr}
 use Rattle.std.specs.List.{slice_index_or, range_with_len}
 use Rattle.std.specs.FinMap as finite
 use Rattle.std.specs.Option.{IfSome, option_map, option_and_then}
 use Rattle.std.specs.Str.{IsUtf8}
+use Rattle.std.proofs.Math.Bool.{and-true}
 use Rattle.std.proofs.Math.ListN.{set}
 use Rattle.std.proofs.lemmas.List.{take_more, take_all, drop_all, map-append, map-set, get_or-map, append-nil}
 use Rattle.std.proofs.lemmas.List.Edits.{map_over_more}
@@ -21,6 +22,7 @@ use Rattle.hyphenation_score.specs.Laws.{ValueIsBorne, WinnerHasValue}
 use Rattle.hyphenation_score.specs.Scoring.{value_of, value_at, winner_at, winners}
 use Rattle.hyphenation_hyphenator.proofs.Fitting.{EndsAt}
 use Rattle.hyphenation_hyphenator.proofs.NumberedCharacters.{picked_more}
+use Rattle.hyphenation_hyphenator.proofs.OddPlaces.{none_of, not_within, parts}
 use Rattle.hyphenation_hyphenator.proofs.RulesAscend.{rules_are_sound, exceptions_ascend, by_patterns_ascend, by_exception_ascends}
 
 pub some_if : {X : Type 0} (t : Bool) (x y : X) → Some x ≡ cond t (Some y) None → (t ≡ true) × (x ≡ y)
@@ -68,21 +70,45 @@ pub won_more : {C : Type 0} (change_of : C → Option Change) (winners : List (O
 won_more change_of winners bounds i breaks is =
     picked_more (break_at_index change_of winners) (has_break_at_index winners bounds) i ∙ ap (λ bs. bs ++ cond (has_break_at_index winners bounds i) (break_at_index change_of winners i ∷ []) []) (sym is)
 
+-- Whether the winner at an index within bounds gives a break.
+odd_at : {C : Type 0} (winners : List (Option (Entry C))) (bounds : ℕ × ℕ) (i : ℕ) (winner : Option (Entry C)) → winner ≡ slice_index_or winners i None → within bounds (i + 1) ≡ true → is_odd (value_of winner) ≡ has_break_at_index winners bounds i
+odd_at {C} winners bounds i winner at inside =
+    sym (ap (λ w. is_odd (value_of (slice_index_or winners i None)) && w) inside ∙ and-true (is_odd (value_of (slice_index_or winners i None)))
+    ∙ ap (λ (w : Option (Entry C)). is_odd (value_of w)) (sym at))
+
 pub break_at_next : {C : Type 0} (change_of : C → Option Change) (winners : List (Option (Entry C))) (bounds : ℕ × ℕ) (i : ℕ) (breaks : List Break) (b : Break) (winner : Option (Entry C))
-    → winner ≡ slice_index_or winners i None → breaks ≡ map (break_at_index change_of winners) (filter (has_break_at_index winners bounds) (range_with_len 0 i)) → Some b ≡ break_at_winner change_of (i + 1) winner bounds
+    → winner ≡ slice_index_or winners i None → within bounds (i + 1) ≡ true → breaks ≡ map (break_at_index change_of winners) (filter (has_break_at_index winners bounds) (range_with_len 0 i)) → Some b ≡ break_at_winner change_of (i + 1) winner
     → breaks ++ b ∷ [] ≡ map (break_at_index change_of winners) (filter (has_break_at_index winners bounds) (range_with_len 0 (i + 1)))
-break_at_next {C} change_of winners bounds i breaks b winner at is e =
-    let here : Some b ≡ cond (has_break_at_index winners bounds i) (Some (break_at_index change_of winners i)) None = e ∙ ap (λ w. break_at_winner change_of (i + 1) w bounds) at in
+break_at_next {C} change_of winners bounds i breaks b winner at inside is e =
+    let odd = odd_at winners bounds i winner at inside in
+    let here : Some b ≡ cond (has_break_at_index winners bounds i) (Some (break_at_index change_of winners i)) None =
+    e ∙ ap (λ (w : Option (Entry C)). cond (is_odd (value_of winner)) (Some (break_at (i + 1) (option_and_then (λ (entry : Entry C). change_of entry.change) w))) None) at
+    ∙ ap (λ t. cond t (Some (break_at_index change_of winners i)) None) odd in
     let found = some_if (has_break_at_index winners bounds i) b (break_at_index change_of winners i) here in
     ap (λ y. breaks ++ y ∷ []) found.1 ∙ sym (won_more change_of winners bounds i breaks is ∙ ap (λ t. breaks ++ cond t (break_at_index change_of winners i ∷ []) []) found.0)
 
 pub no_break_at_next : {C : Type 0} (change_of : C → Option Change) (winners : List (Option (Entry C))) (bounds : ℕ × ℕ) (i : ℕ) (breaks : List Break) (winner : Option (Entry C))
-    → winner ≡ slice_index_or winners i None → breaks ≡ map (break_at_index change_of winners) (filter (has_break_at_index winners bounds) (range_with_len 0 i)) → None ≡ break_at_winner change_of (i + 1) winner bounds
+    → winner ≡ slice_index_or winners i None → within bounds (i + 1) ≡ true → breaks ≡ map (break_at_index change_of winners) (filter (has_break_at_index winners bounds) (range_with_len 0 i)) → None ≡ break_at_winner change_of (i + 1) winner
     → breaks ≡ map (break_at_index change_of winners) (filter (has_break_at_index winners bounds) (range_with_len 0 (i + 1)))
-no_break_at_next change_of winners bounds i breaks winner at is e =
-    let here : None ≡ cond (has_break_at_index winners bounds i) (Some (break_at_index change_of winners i)) None = e ∙ ap (λ w. break_at_winner change_of (i + 1) w bounds) at in
-    let no = none_if (has_break_at_index winners bounds i) (break_at_index change_of winners i) here in
+no_break_at_next {C} change_of winners bounds i breaks winner at inside is e =
+    let even = none_if (is_odd (value_of winner)) (break_at (i + 1) (option_and_then (λ (entry : Entry C). change_of entry.change) winner)) e in
+    let no = sym (odd_at winners bounds i winner at inside) ∙ even in
     sym (won_more change_of winners bounds i breaks is ∙ ap (λ t. breaks ++ cond t (break_at_index change_of winners i ∷ []) []) no ∙ append-nil breaks)
+
+-- No winner before the first bound or after the last one gives a break.
+pub none_before : {C : Type 0} (winners : List (Option (Entry C))) (bounds : ℕ × ℕ) (first : ℕ) → first ≤ bounds.0 - 1 → filter (has_break_at_index winners bounds) (range_with_len 0 first) ≡ []
+none_before winners bounds first le =
+    none_of (has_break_at_index winners bounds) 0 first (λ i l h. not_within bounds.0 bounds.1 (i + 1) (is_odd (value_of (slice_index_or winners i None))) (inl (omega arith)))
+
+pub none_after : {C : Type 0} (winners : List (Option (Entry C))) (bounds : ℕ × ℕ) (end : ℕ) → end ≡ min (length winners) bounds.1
+    → filter (has_break_at_index winners bounds) (range_with_len 0 end) ≡ filter (has_break_at_index winners bounds) (range_with_len 0 (length winners))
+none_after winners bounds end is =
+    let test = has_break_at_index winners bounds in
+    let rest : ℕ = length winners - end in
+    let sum : length winners ≡ end + rest = omega arith in
+    let back : filter test (range_with_len (0 + end) rest) ≡ [] =
+    none_of test (0 + end) rest (λ i l h. not_within bounds.0 bounds.1 (i + 1) (is_odd (value_of (slice_index_or winners i None))) (inr (omega arith))) in
+    sym (ap (λ n. filter test (range_with_len 0 n)) sum ∙ parts test 0 end rest ∙ ap (λ xs. filter test (range_with_len 0 end) ++ xs) back ∙ append-nil (filter test (range_with_len 0 end)))
 
 -- ---- found breaks, by the rules of a dictionary
 

@@ -156,6 +156,16 @@ pair_small b c e =
           )
     ]
 
+-- The rest after a letter of ASCII, after a pair, and where there is neither.
+pub lower_goes_on : (word : List ℕ) (at : ℕ) → at + 1 < length word → is_ascii_lowercase (slice_index word at) ≡ true → are_common_lowercase (drop at word) ≡ are_common_lowercase (drop (at + 1) word)
+lower_goes_on word at lt lower = after_lower word at lt (lower_below (slice_index word at) lower) lower
+
+pub pair_goes_on : (word : List ℕ) (at : ℕ) → at + 1 < length word → is_common_pair (slice_index word at) (slice_index word (at + 1)) ≡ true → are_common_lowercase (drop at word) ≡ are_common_lowercase (drop (at + 2) word)
+pair_goes_on word at lt pair = let lead = (pair_small (slice_index word at) (slice_index word (at + 1)) pair).0 in after_pair word at lt (omega arith) pair
+
+pub neither_goes_on : (word : List ℕ) (at : ℕ) → at + 1 < length word → is_ascii_lowercase (slice_index word at) ≡ false → is_common_pair (slice_index word at) (slice_index word (at + 1)) ≡ false → are_common_lowercase (drop at word) ≡ false
+neither_goes_on word at lt other apart = elim (cases_lt (slice_index word at) 0x80) [ inl below ↦ no_lower word at lt below other | inr above ↦ no_pair word at lt above apart ]
+
 -- Bytes of common lowercase letters decode to such letters.
 all_small : (c : ℕ) (cs spelt : List ℕ) → spelt ≡ c ∷ cs → is_common_lowercase c ≡ true → list_all is_common_lowercase cs ≡ true → list_all is_common_lowercase spelt ≡ true
 all_small c cs spelt is first rest = ap (list_all is_common_lowercase) is ∙ ap (λ t. t && list_all is_common_lowercase cs) first ∙ rest

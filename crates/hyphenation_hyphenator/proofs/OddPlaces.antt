@@ -24,7 +24,7 @@ range-append a (suc m) n =
     let two : (a + 1) + m ≡ a + suc m = omega arith in
     ap (range_with_len a) one ∙ ap (λ (zs : List ℕ). a ∷ zs) (range-append (a + 1) m n ∙ ap (λ (k : ℕ). range_with_len (a + 1) m ++ range_with_len k n) two)
 
-parts : (test : ℕ → Bool) (a m n : ℕ) → filter test (range_with_len a (m + n)) ≡ filter test (range_with_len a m) ++ filter test (range_with_len (a + m) n)
+pub parts : (test : ℕ → Bool) (a m n : ℕ) → filter test (range_with_len a (m + n)) ≡ filter test (range_with_len a m) ++ filter test (range_with_len (a + m) n)
 parts test a m n = ap (filter test) (range-append a m n) ∙ filter-append test (range_with_len a m) (range_with_len (a + m) n)
 
 -- No place before the first or after the end passes the test.
@@ -54,11 +54,11 @@ within_alone test first end at len one le low after ends none = elim (cases_lt e
 abbrev pub test_of : List ℕ → ℕ × ℕ → ℕ → Bool
 test_of values bounds place = is_odd (slice_index values (place - 1)) && within bounds place
 
-not_within : (low high p : ℕ) (b : Bool) → (p < low) ⊎ (high < p) → (b && (nat_le low p && nat_le p high)) ≡ false
+pub not_within : (low high p : ℕ) (b : Bool) → (p < low) ⊎ (high < p) → (b && (nat_le low p && nat_le p high)) ≡ false
 not_within low high p b (inl h) = rw (lt-leb low p h) (and-false b)
 not_within low high p b (inr h) = rw (lt-leb p high h, and-false (nat_le low p)) (and-false b)
 
-is_within : (low high p : ℕ) → low ≤ p → p ≤ high → (nat_le low p && nat_le p high) ≡ true
+pub is_within : (low high p : ℕ) → low ≤ p → p ≤ high → (nat_le low p && nat_le p high) ≡ true
 is_within low high p a b = rw (le-leb low p a, le-leb p high b) refl
 
 pub outside : (values : List ℕ) (bounds : ℕ × ℕ) (first end p : ℕ) → first ≡ max bounds.0 1 → end ≡ min (length values) bounds.1 → 1 ≤ p → (p < first) ⊎ (end < p) → test_of values bounds p ≡ false

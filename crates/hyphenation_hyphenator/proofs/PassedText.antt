@@ -3,12 +3,12 @@ use Rattle.std.proofs.Common.{◌≡◌, ℕ, ◌+◌, ◌-◌, List, [], ◌∷
 use Rattle.std.specs.List.{concat, flat_map}
 use Rattle.std.specs.Str.{IsUtf8, IsCharBoundary}
 use Rattle.std.proofs.lemmas.List.{take_all}
-use Rattle.std.proofs.lemmas.List.Concat.{concat_is}
 use Rattle.std.proofs.lemmas.Str.{IsCharBoundary-at_seam, IsUtf8-append, IsUtf8-nil}
 use Rattle.unicode_segmentation.specs.Word.{word_bounds}
 use Rattle.hyphenation_breaks.specs.Break.{Break}
 use Rattle.hyphenation_segments.specs.Segments.{marked_word}
-use Rattle.hyphenation_hyphenator.proofs.PiecesJoin.{AreUtf8, pieces_join, pieces_are_utf8}
+use Rattle.word_pieces.specs.Pieces.{PiecesAreSlices, PiecesJoin}
+use Rattle.hyphenation_hyphenator.proofs.PiecesJoin.{AreUtf8, pieces_are_utf8}
 
 -- The text is a front that is done, a part that was passed and not appended yet, and the pieces to come. The output, that
 -- part and the pieces to come give the whole.
@@ -26,16 +26,16 @@ joined_utf8 : (pieces : List (List ℕ)) → AreUtf8 pieces → IsUtf8 (concat p
 joined_utf8 [] u = IsUtf8-nil
 joined_utf8 (p ∷ ps) u = IsUtf8-append p (concat ps) u.0 (joined_utf8 ps u.1)
 
-pub at_first : {text output : List ℕ} {f : List ℕ → List ℕ} {left : List (List ℕ)} → IsUtf8 text → output ≡ [] → left ≡ word_bounds text → IsPassed text f (flat_map f (word_bounds text)) output 0 0 left
-at_first {text} {output} {f} {left} u none all =
+pub at_first : {text output : List ℕ} {f : List ℕ → List ℕ} {left : List (List ℕ)} → PiecesAreSlices → PiecesJoin → IsUtf8 text → output ≡ [] → left ≡ word_bounds text → IsPassed text f (flat_map f (word_bounds text)) output 0 0 left
+at_first {text} {output} {f} {left} slices join u none all =
     record {
       front = [];
       part = [];
-      text_is = sym (ap concat all ∙ concat_is (word_bounds text) ∙ pieces_join (λ x. x) (λ piece v. refl) text u);
+      text_is = sym (ap concat all ∙ join text u);
       start_is = refl;
       at_is = refl;
       part_utf8 = IsUtf8-nil;
-      left_utf8 = subst AreUtf8 (sym all) (pieces_are_utf8 text u);
+      left_utf8 = subst AreUtf8 (sym all) (pieces_are_utf8 slices text u);
       gives = ap (λ x. x ++ flat_map f left) none ∙ ap (flat_map f) all;
     }
 

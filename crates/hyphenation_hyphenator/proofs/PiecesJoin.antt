@@ -1,64 +1,29 @@
--- The pieces of a text between word bounds join to the text.
-use Rattle.std.proofs.Common.{◌≡◌, ℕ, List, [], ◌∷◌, ◌++◌, map, length, refl, sym, ap, subst, ◌∙◌, true, false, cond, append_assoc, append-nil}
-use Rattle.std.specs.Prelude.{encode_utf8, encode_utf8_all}
+-- All pieces of a text between word bounds together.
+use Rattle.std.proofs.Common.{◌≡◌, ℕ, ◌+◌, List, [], ◌∷◌, ◌++◌, length, refl, sym, ap, subst, ◌∙◌, arith}
 use Rattle.std.specs.List.{concat, flat_map}
-use Rattle.std.specs.Str.{IsUtf8, chars}
-use Rattle.std.proofs.Math.Seq.{take-append_seam}
-use Rattle.std.proofs.lemmas.Str.{encodes-append, encodes-chars, IsUtf8-past_char, IsUtf8-take, IsCharBoundary-at_seam}
-use Rattle.unicode_segmentation.specs.Segments.{Rule, prepend, cut, segments}
-use Rattle.unicode_segmentation.specs.Word.{is_word_break, word_bounds}
-
--- The bytes of a part that is put in front, and of a part that is cut off.
-front_bytes : (part : List ℕ) (pieces : List (List ℕ)) → concat (map encode_utf8_all (prepend part pieces)) ≡ encode_utf8_all part ++ concat (map encode_utf8_all pieces)
-front_bytes part [] = refl
-front_bytes part (cs ∷ pieces) = ap (λ xs. xs ++ concat (map encode_utf8_all pieces)) (encodes-append part cs) ∙ append_assoc (encode_utf8_all part) (encode_utf8_all cs) (concat (map encode_utf8_all pieces))
-
-cut_bytes : (rule : Rule) (before cs after : List ℕ) → concat (map encode_utf8_all (cut rule before cs after)) ≡ encode_utf8_all cs
-unfolding cut
-cut_bytes rule before [] after = refl
-cut_bytes rule before (c ∷ cs) after =
-    let rest = cut rule (c ∷ before) cs after in
-    let bytes = encode_utf8_all (c ∷ []) ++ concat (map encode_utf8_all rest) in
-    elim (rule (c ∷ before) (cs ++ after)) as (λ b. concat (map encode_utf8_all (cond b ((c ∷ []) ∷ rest) (prepend (c ∷ []) rest))) ≡ bytes) [ true ↦ refl | false ↦ front_bytes (c ∷ []) rest ]
-    ∙ ap (λ x. x ++ concat (map encode_utf8_all rest)) (append-nil (encode_utf8 c)) ∙ ap (λ xs. encode_utf8 c ++ xs) (cut_bytes rule (c ∷ before) cs after)
-
-after_piece : (cs rest : List ℕ) → IsUtf8 (encode_utf8_all cs ++ rest) → IsUtf8 rest
-after_piece [] rest u = u
-after_piece (c ∷ cs) rest u = after_piece cs rest (IsUtf8-past_char _ _ c u (append_assoc (encode_utf8 c) (encode_utf8_all cs) rest))
+use Rattle.std.specs.Str.{IsUtf8}
+use Rattle.std.proofs.lemmas.Str.{IsUtf8-between}
+use Rattle.unicode_segmentation.specs.Segments.{with_offsets}
+use Rattle.unicode_segmentation.specs.Word.{word_bounds}
+use Rattle.word_pieces.specs.Pieces.{AreSlices, PiecesAreSlices}
 
 -- Each text of a list is UTF-8.
 abbrev pub AreUtf8 : List (List ℕ) → Type 0
 AreUtf8 [] = Unit {0}
 AreUtf8 (t ∷ ts) = IsUtf8 t × AreUtf8 ts
 
-own_utf8 : (cs rest : List ℕ) → IsUtf8 (encode_utf8_all cs ++ rest) → IsUtf8 (encode_utf8_all cs)
-own_utf8 cs rest u =
-    let piece : List ℕ = encode_utf8_all cs in
-    subst IsUtf8 (take-append_seam piece rest) (IsUtf8-take (piece ++ rest) (length piece) u (IsCharBoundary-at_seam (piece ++ rest) piece rest refl (after_piece cs rest u)))
+slices_are_utf8 : (text : List ℕ) (at : ℕ) (pieces : List (List ℕ)) → IsUtf8 text → AreSlices text (with_offsets at pieces) → AreUtf8 pieces
+unfolding with_offsets
+slices_are_utf8 text at [] u slices = tt
+slices_are_utf8 text at (piece ∷ pieces) u slices = (
+  subst IsUtf8 (sym slices.0.bytes) (IsUtf8-between text at (at + length piece) u (omega arith) slices.0.start slices.0.end),
+  slices_are_utf8 text (at + length piece) pieces u slices.1,
+)
 
-each_utf8 : (pieces : List (List ℕ)) → IsUtf8 (concat (map encode_utf8_all pieces)) → AreUtf8 (map encode_utf8_all pieces)
-each_utf8 [] u = tt
-each_utf8 (cs ∷ pieces) u =
-    let rest : List ℕ = concat (map encode_utf8_all pieces) in (own_utf8 cs rest u, each_utf8 pieces (after_piece cs rest u))
+pub pieces_are_utf8 : PiecesAreSlices → (text : List ℕ) → IsUtf8 text → AreUtf8 (word_bounds text)
+pieces_are_utf8 slices text u = slices_are_utf8 text 0 (word_bounds text) u (slices text u)
 
-pub pieces_are_utf8 : (text : List ℕ) → IsUtf8 text → AreUtf8 (word_bounds text)
-unfolding segments
-pieces_are_utf8 text u =
-    let whole = cut_bytes is_word_break [] (chars text) [] ∙ encodes-chars text u in
-    each_utf8 (cut is_word_break [] (chars text) []) (subst IsUtf8 (sym whole) u)
-
-each_back : (f : List ℕ → List ℕ) → ((piece : List ℕ) → IsUtf8 piece → f piece ≡ piece) → (pieces : List (List ℕ)) → IsUtf8 (concat (map encode_utf8_all pieces))
-    → flat_map f (map encode_utf8_all pieces) ≡ concat (map encode_utf8_all pieces)
-each_back f back [] u = refl
-each_back f back (cs ∷ pieces) u =
-    let piece : List ℕ = encode_utf8_all cs in
-    let rest : List ℕ = concat (map encode_utf8_all pieces) in
-    let later : IsUtf8 rest = after_piece cs rest u in
-    let own : IsUtf8 piece = own_utf8 cs rest u in
-    ap (λ x. x ++ flat_map f (map encode_utf8_all pieces)) (back piece own) ∙ ap (λ xs. piece ++ xs) (each_back f back pieces later)
-
-pub pieces_join : (f : List ℕ → List ℕ) → ((piece : List ℕ) → IsUtf8 piece → f piece ≡ piece) → (text : List ℕ) → IsUtf8 text → flat_map f (word_bounds text) ≡ text
-unfolding segments
-pieces_join f back text u =
-    let whole = cut_bytes is_word_break [] (chars text) [] ∙ encodes-chars text u in
-    each_back f back (cut is_word_break [] (chars text) []) (subst IsUtf8 (sym whole) u) ∙ whole
+-- A function that leaves each piece as it is leaves all of them as they are.
+pub each_stays : (f : List ℕ → List ℕ) → ((piece : List ℕ) → IsUtf8 piece → f piece ≡ piece) → (pieces : List (List ℕ)) → AreUtf8 pieces → flat_map f pieces ≡ concat pieces
+each_stays f stays [] u = refl
+each_stays f stays (piece ∷ pieces) u = ap (λ x. x ++ flat_map f pieces) (stays piece u.0) ∙ ap (λ xs. piece ++ xs) (each_stays f stays pieces u.1)

@@ -155,12 +155,12 @@ pub(crate) fn are_common_lowercase(word: &str) -> bool
     let mut at = 0;
     while at < last {
         let first = bytes[at];
-        if first < 0x80 {
-            if !first.is_ascii_lowercase() {
-                return false;
-            }
+        if first.is_ascii_lowercase() {
             at += 1;
         } else {
+            if first < 0x80 {
+                return false;
+            }
             if !is_common_pair(first, bytes[at + 1]) {
                 return false;
             }

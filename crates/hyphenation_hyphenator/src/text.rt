@@ -8,6 +8,7 @@ use crate::hyphenator::Hyphenator;
 use hyphenation_segments::iter::push_marked_text;
 use std::alloc::{AllocError, Global};
 use word_pieces::WordPieces;
+use word_pieces::laws::pieces_are_slices;
 
 /// Hyphenates a whole text: returns it with the mark at each break of its words.
 ///
@@ -26,6 +27,7 @@ pub fn hyphenated_text<'h, H: Hyphenator<'h>>(
     ensures { IfOk result (λ output. string_bytes output
         ≡ hyphenated_text (H.breaks_of dictionary.now) mark.now text.now) }
 {
+    pieces_are_slices();
     let mut output = String::with_capacity(alloc, text.len())?;
     let mut breaks = Vec::new(alloc);
     // A piece without breaks is not appended by itself: the text from `start` on is still to be appended.

@@ -2,7 +2,6 @@ pub mod Division
 pub mod CutPassing
 pub mod CutRows
 pub mod FillWalk
-pub mod Pieces
 pub mod Slices
 pub mod TextBreaks
 pub mod Widths

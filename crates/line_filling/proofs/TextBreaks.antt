@@ -11,6 +11,7 @@ use Rattle.std.proofs.lemmas.Str.{IsCharBoundary-start, IsUtf8-between}
 use Rattle.hyphenation_breaks.specs.Break.{Break, plain_break}
 use Rattle.hyphenation_hyphenator.specs.Opportunities.{Ascending}
 use Rattle.hyphenation_hyphenator.specs.Laws.{FitWhereAscending}
+use Rattle.word_pieces.specs.Pieces.{IsSlice, AreSlices, PiecesAreSlices}
 use Rattle.hyphenation_segments.specs.Fits.{FitsFrom}
 use Rattle.unicode_segmentation.specs.Segments.{with_offsets}
 use Rattle.unicode_segmentation.specs.Word.{word_bounds}
@@ -23,7 +24,6 @@ use Rattle.line_filling.specs.declared.word_breaks.WordBreaks.{WordBreaks}
 use Rattle.line_filling.proofs.Division.{Shortens, stays_ahead, are_ends}
 use Rattle.line_filling.proofs.CutRows.{row_end, row_is}
 use Rattle.line_filling.proofs.FillWalk.{IsSound, end_is_cut, cut_boundary}
-use Rattle.line_filling.proofs.Pieces.{IsPieceOf, ArePieces, all_pieces}
 use Rattle.line_filling.proofs.Widths.{shorter}
 
 -- The breaks of each word ascend strictly on its character boundaries.
@@ -44,7 +44,7 @@ ascends word breaks law a = let places = map (λ b. b.place) breaks in fits_asce
 
 -- ---- the breaks of one piece
 
-in_piece : (text : List ℕ) (x : ℕ × List ℕ) (b : ℕ) → IsPieceOf text x → IsCharBoundary x.1 b → IsCharBoundary text (x.0 + b)
+in_piece : (text : List ℕ) (x : ℕ × List ℕ) (b : ℕ) → IsSlice text x → IsCharBoundary x.1 b → IsCharBoundary text (x.0 + b)
 in_piece text x b is at =
     elim (cases_lt b (length x.1)) [
       | inr last ↦ subst (λ n. IsCharBoundary text (x.0 + n)) (omega (arith, at.0)) is.end
@@ -53,10 +53,10 @@ in_piece text x b is at =
           (omega (arith, is.end.0), λ _ high. omega (arith, at.1 lt (omega (arith, same)), same))
     ]
 
-piece_utf8 : (text : List ℕ) (x : ℕ × List ℕ) → IsUtf8 text → IsPieceOf text x → IsUtf8 x.1
+piece_utf8 : (text : List ℕ) (x : ℕ × List ℕ) → IsUtf8 text → IsSlice text x → IsUtf8 x.1
 piece_utf8 text x u is = subst IsUtf8 (sym is.bytes) (IsUtf8-between text x.0 (x.0 + length x.1) u (omega arith) is.start is.end)
 
-placed_boundary : (text : List ℕ) (x : ℕ × List ℕ) (least p : ℕ) (bs : List Break) → IsPieceOf text x → Ascend x.1 least (map (λ b. b.place) bs) → is_one_of p (map (λ b. x.0 + b.place) bs) ≡ true → IsCharBoundary text p
+placed_boundary : (text : List ℕ) (x : ℕ × List ℕ) (least p : ℕ) (bs : List Break) → IsSlice text x → Ascend x.1 least (map (λ b. b.place) bs) → is_one_of p (map (λ b. x.0 + b.place) bs) ≡ true → IsCharBoundary text p
 placed_boundary text x least p [] is a i = absurd (false≢true i)
 placed_boundary text x least p (b ∷ bs) is a i =
     elim (or_cases (p == (x.0 + b.place)) (is_one_of p (map (λ c. x.0 + c.place) bs)) i) [
@@ -74,7 +74,7 @@ placed offset (b ∷ bs) = ap (λ ps. (offset + b) ∷ ps) (placed offset bs)
 
 -- ---- the pieces of a text
 
-follow : (breaks_of : List ℕ → List Break) (text : List ℕ) (at : ℕ) (ps : List (List ℕ)) → FitWhereAscending → IsUtf8 text → AreAscending breaks_of → at ≤ length text → ArePieces text (with_offsets at ps) → FollowBetween breaks_of at (length text) (with_offsets at ps)
+follow : (breaks_of : List ℕ → List Break) (text : List ℕ) (at : ℕ) (ps : List (List ℕ)) → FitWhereAscending → IsUtf8 text → AreAscending breaks_of → at ≤ length text → AreSlices text (with_offsets at ps) → FollowBetween breaks_of at (length text) (with_offsets at ps)
 unfolding with_offsets
 follow breaks_of text at [] law u ascend within are = within
 follow breaks_of text at (p ∷ ps) law u ascend within are =
@@ -84,7 +84,7 @@ follow breaks_of text at (p ∷ ps) law u ascend within are =
       follow breaks_of text (at + length p) ps law u ascend are.0.end.0 are.1,
     )
 
-in_some_piece : (breaks_of : List ℕ → List Break) (text : List ℕ) (xs : List (ℕ × List ℕ)) (p : ℕ) → FitWhereAscending → IsUtf8 text → AreAscending breaks_of → ArePieces text xs → is_one_of p (flat_map (breaks_in breaks_of) xs) ≡ true → IsCharBoundary text p
+in_some_piece : (breaks_of : List ℕ → List Break) (text : List ℕ) (xs : List (ℕ × List ℕ)) (p : ℕ) → FitWhereAscending → IsUtf8 text → AreAscending breaks_of → AreSlices text xs → is_one_of p (flat_map (breaks_in breaks_of) xs) ≡ true → IsCharBoundary text p
 in_some_piece breaks_of text [] p law u ascend are i = absurd (false≢true i)
 in_some_piece breaks_of text (x ∷ xs) p law u ascend are i =
     let here = breaks_in breaks_of x in
@@ -94,18 +94,18 @@ in_some_piece breaks_of text (x ∷ xs) p law u ascend are i =
       | inr later ↦ in_some_piece breaks_of text xs p law u ascend are.1 later
     ]
 
-pub sound : (breaks_of : List ℕ → List Break) (text : List ℕ) → FitWhereAscending → IsUtf8 text → AreAscending breaks_of → IsSound text (word_breaks breaks_of text)
-sound breaks_of text law u ascend = record { utf8 = u; boundary = λ p i. in_some_piece breaks_of text (with_offsets 0 (word_bounds text)) p law u ascend (all_pieces text u) i }
+pub sound : (breaks_of : List ℕ → List Break) (text : List ℕ) → PiecesAreSlices → FitWhereAscending → IsUtf8 text → AreAscending breaks_of → IsSound text (word_breaks breaks_of text)
+sound breaks_of text slices law u ascend = record { utf8 = u; boundary = λ p i. in_some_piece breaks_of text (with_offsets 0 (word_bounds text)) p law u ascend (slices text u) i }
 
 -- All breaks of a text are to come at its start.
-pub at_start : (breaks_of : List ℕ → List Break) (text : List ℕ) (b : WordBreaks) → FitWhereAscending → IsUtf8 text → AreAscending breaks_of → FitsUsize (length text) → pending_breaks b ≡ [] → remaining_pieces b ≡ with_offsets 0 (word_bounds text) → b.reached ≡ 0 → HasBreaksAfter breaks_of text 0 b
-at_start breaks_of text b law u ascend end_fits_usize pending pieces reached =
+pub at_start : (breaks_of : List ℕ → List Break) (text : List ℕ) (b : WordBreaks) → PiecesAreSlices → FitWhereAscending → IsUtf8 text → AreAscending breaks_of → FitsUsize (length text) → pending_breaks b ≡ [] → remaining_pieces b ≡ with_offsets 0 (word_bounds text) → b.reached ≡ 0 → HasBreaksAfter breaks_of text 0 b
+at_start breaks_of text b slices law u ascend end_fits_usize pending pieces reached =
     record {
       order = record {
         end = length text;
         end_fits_usize = end_fits_usize;
         pending = subst (RiseBetween 0 b.reached) (sym pending) (omega arith);
-        pieces = subst (λ at. FollowBetween breaks_of at (length text) (remaining_pieces b)) (sym reached) (subst (FollowBetween breaks_of 0 (length text)) (sym pieces) (follow breaks_of text 0 (word_bounds text) law u ascend (omega arith) (all_pieces text u)));
+        pieces = subst (λ at. FollowBetween breaks_of at (length text) (remaining_pieces b)) (sym reached) (subst (FollowBetween breaks_of 0 (length text)) (sym pieces) (follow breaks_of text 0 (word_bounds text) law u ascend (omega arith) (slices text u)));
       };
       stay = λ p lt. ap (λ ps. is_one_of p (ps ++ flat_map (breaks_in breaks_of) (remaining_pieces b))) pending ∙ ap (λ xs. is_one_of p (flat_map (breaks_in breaks_of) xs)) pieces;
     }

@@ -20,6 +20,7 @@ use crate::word_breaks::WordBreaks;
 use hyphenation_hyphenator::hyphenator::Hyphenator;
 use hyphenation_hyphenator::hyphenator::laws::plain_breaks_fit_where_ascending;
 use std::alloc::{AllocError, Global};
+use word_pieces::laws::pieces_are_slices;
 
 // The line that is being filled. Its places are counted in bytes; before the first cut all numbers are 0.
 #[derive(Clone, Copy)]
@@ -166,6 +167,7 @@ fn pass_breaks<'h, H: Hyphenator<'h, Opportunity = usize>>(
     ensures no_cut_left { IfOk result (λ next. HasNoCutWithin (H.breaks_of dictionary.now) text.now next.end until) }
 {
     plain_breaks_fit_where_ascending();
+    pieces_are_slices();
     let mut current = current;
     while let Some(place) = breaks.first_after(dictionary, current.end, until)? {
         if until <= place {
@@ -188,6 +190,7 @@ fn fill_all<'h, H: Hyphenator<'h, Opportunity = usize>>(
         map string_bytes filled.items ≡ lines_by (H.breaks_of dictionary.now) text.now columns) }
 {
     plain_breaks_fit_where_ascending();
+    pieces_are_slices();
     let mut lines = Vec::new(alloc);
     let mut breaks = WordBreaks::new(alloc, text);
     let mut current = OpenLine {
@@ -254,6 +257,7 @@ pub fn fill<'h, H: Hyphenator<'h, Opportunity = usize>>(
 {
     dictionary.breaks_fit();
     plain_breaks_fit_where_ascending();
+    pieces_are_slices();
     let filled = fill_all(alloc, dictionary, text, columns)?;
     Ok(filled)
 }

@@ -4,3 +4,4 @@ mod Verdicts
 mod LetterRuns
 mod PlainWalks
 mod Bounds
+mod Slices

@@ -1,6 +1,6 @@
 -- Walks over characters of ASCII.
 
-use Rattle.std.proofs.Common.{◌≡◌, ℕ, zero, suc, ◌+◌, ◌-◌, ◌<◌, ◌≤◌, Bool, true, false, nat_lt, ◌&&◌, ◌||◌, List, [], ◌∷◌, ◌++◌, length, take, drop, slice_index, slice_range, Some, IsUtf8, IsCharBoundary, encode_utf8, refl, sym, ap, ap₂, subst, subst₂, ◌∙◌, append-nil, arith, inl, inr}
+use Rattle.std.proofs.Common.{◌≡◌, ℕ, zero, suc, ◌+◌, ◌-◌, ◌<◌, ◌≤◌, Bool, true, false, nat_lt, ◌&&◌, ◌||◌, List, [], ◌∷◌, ◌++◌, length, take, drop, slice_index, slice_range, Some, IsUtf8, IsCharBoundary, encode_utf8, refl, sym, ap, ap₂, subst, ◌∙◌, append-nil, arith, inl, inr}
 use mathlib.Core.Bool.{false≢true}
 use Rattle.std.proofs.lemmas.Bool.{cases_lt, cond_both, ltb-true, lt-ltb}
 use Rattle.std.proofs.lemmas.List.{drop_more, drop_all}

@@ -1,9 +1,11 @@
 -- The pieces that the iterators have left.
 -- Source of word bounds: UAX #29, Unicode Text Segmentation, as the kit's crate `unicode_segmentation` states it.
 
-use Rattle.std.specs.Prelude.{◌≡◌, ℕ, ◌+◌, ◌≤◌, List, ◌++◌, length, All}
+use Rattle.std.specs.Prelude.{◌≡◌, ℕ, ◌+◌, ◌≤◌, List, [], ◌∷◌, ◌++◌, length, slice_range, All}
+use Rattle.std.specs.List.{concat}
+use Rattle.std.specs.Str.{IsUtf8, IsCharBoundary}
 use Rattle.unicode_segmentation.specs.Segments.{segments_between, with_offsets}
-use Rattle.unicode_segmentation.specs.Word.{is_word_break}
+use Rattle.unicode_segmentation.specs.Word.{is_word_break, word_bounds}
 use Rattle.word_pieces.specs.declared.pieces.WordPieces.{WordPieces}
 use Rattle.word_pieces.specs.declared.pieces.WordPieceIndices.{WordPieceIndices}
 
@@ -26,3 +28,22 @@ EndsBy place (at, piece) = at + length piece ≤ place
 -- First pieces were passed, and the others stay to come. Each that was passed ends at or before the place.
 abbrev pub PassesBefore : ℕ → List (ℕ × List ℕ) → List (ℕ × List ℕ) → Type 0
 PassesBefore place old new = (passed : List (ℕ × List ℕ)) × (old ≡ passed ++ new) × All (EndsBy place) passed
+
+-- A piece, with the offset at which it begins, is a slice of the text between two character boundaries.
+pub record IsSlice (text : List ℕ) (piece : ℕ × List ℕ) : Type 0 where
+  pub start : IsCharBoundary text piece.0
+  pub end : IsCharBoundary text (piece.0 + length piece.1)
+  pub bytes : piece.1 ≡ slice_range text piece.0 (piece.0 + length piece.1)
+
+-- Each piece is such a slice.
+abbrev pub AreSlices : List ℕ → List (ℕ × List ℕ) → Type 0
+AreSlices text [] = Unit {0}
+AreSlices text (piece ∷ pieces) = IsSlice text piece × AreSlices text pieces
+
+-- The pieces of each text are slices of it.
+abbrev pub PiecesAreSlices : Type 0
+PiecesAreSlices = (text : List ℕ) → IsUtf8 text → AreSlices text (with_offsets 0 (word_bounds text))
+
+-- The pieces of each text join to it.
+abbrev pub PiecesJoin : Type 0
+PiecesJoin = (text : List ℕ) → IsUtf8 text → concat (word_bounds text) ≡ text

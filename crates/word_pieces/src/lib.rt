@@ -5,6 +5,7 @@
 mod ascii;
 mod characters;
 mod kinds;
+pub mod laws;
 mod pieces;
 mod rules;
 mod values;

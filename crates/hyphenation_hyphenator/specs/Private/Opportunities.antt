@@ -25,10 +25,10 @@ odd_places values bounds =
 abbrev pub borrowed_break : ℕ × Option (Bor Change) → Break
 borrowed_break found = break_at found.0 (option_copied found.1)
 
--- The break at a place by its winner, if the winner's value is odd and the place within bounds.
-abbrev pub break_at_winner : {C : Type 0} → (C → Option Change) → ℕ → Option (Entry C) → ℕ × ℕ → Option Break
-break_at_winner change_of place winner bounds =
-    if is_odd (value_of winner) && within bounds place
+-- The break at a place by its winner, if the winner's value is odd.
+abbrev pub break_at_winner : {C : Type 0} → (C → Option Change) → ℕ → Option (Entry C) → Option Break
+break_at_winner change_of place winner =
+    if is_odd (value_of winner)
     then Some (break_at place (option_and_then (λ entry. change_of entry.change) winner))
     else None
 

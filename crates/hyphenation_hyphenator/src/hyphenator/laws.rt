@@ -11,6 +11,7 @@ ghost use Rattle.hyphenation_hyphenator.specs.Opportunities.{no_change, rules_of
 use hyphenation_dictionary::dictionary::Standard;
 use hyphenation_score::laws::{value_is_borne, winner_is_first};
 use hyphenation_segments::iter::laws::segments_join;
+use word_pieces::laws::pieces_are_slices;
 
 /// Plain breaks fit a text exactly where their places ascend strictly on its character boundaries.
 pub fn plain_breaks_fit_where_ascending()
@@ -39,4 +40,5 @@ pub fn empty_mark_leaves_the_text(dictionary: &Standard)
     value_is_borne::<()>();
     winner_is_first::<()>();
     segments_join();
+    pieces_are_slices();
 }

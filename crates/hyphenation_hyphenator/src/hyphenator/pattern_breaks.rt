@@ -41,16 +41,15 @@ pub(super) fn push_with_room<B: Copy>(list: &mut Vec<B>, b: B) -> Result<(), All
     Ok(())
 }
 
-// Returns the break at a place by its winner, if the winner's value is odd and the place within bounds.
+// Returns the break at a place by its winner, if the winner's value is odd.
 fn break_at_winner<'h>(
     place: usize,
     winner: Option<&'h Entry<Option<Subregion>>>,
-    bounds: (usize, usize),
 ) -> Option<(usize, Option<&'h Subregion>)>
-    ensures { option_map borrowed_break result ≡ break_at_winner own_change place (option_copied winner.entry) bounds }
+    ensures { option_map borrowed_break result ≡ break_at_winner own_change place (option_copied winner.entry) }
 {
     let entry = winner?;
-    if entry.value % 2 == 1 && is_within(bounds, place) {
+    if entry.value % 2 == 1 {
         Some((place, entry.change.as_ref()))
     } else {
         None
@@ -68,8 +67,11 @@ fn breaks_at_winners<'h>(
     ensures { OnOk result (map borrowed_break breaks.new.items
         ≡ breaks_at_winners own_change (map option_copied winners.now) bounds) }
 {
-    for (index, winner) in winners.iter().enumerate() {
-        if let Some(b) = break_at_winner(index + 1, *winner, bounds) {
+    // Places outside of the bounds are not read.
+    let end = winners.len().min(bounds.1);
+    let first = bounds.0.saturating_sub(1).min(end);
+    for index in first..end {
+        if let Some(b) = break_at_winner(index + 1, winners[index]) {
             push_with_room(breaks, b)?;
         }
     }

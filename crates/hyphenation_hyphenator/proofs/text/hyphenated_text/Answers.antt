@@ -5,7 +5,7 @@ use Rattle.hyphenation_hyphenator.proofs.PassedText.{at_first, start_boundary, a
 use Rattle.hyphenation_hyphenator.proofs.text.hyphenated_text.Goals as goal
 
 pub loop-piece-init : goal.loop-piece-init
-loop-piece-init g c = at_first c.utf8.text (grind (arith, common_steps)) (grind (arith, common_steps))
+loop-piece-init g c = at_first c.pieces_are_slices.ensures.slices c.pieces_are_slices.ensures.join c.utf8.text (grind (arith, common_steps)) (grind (arith, common_steps))
 
 pub range-requires-clause-start_boundary : goal.range-requires-clause-start_boundary
 range-requires-clause-start_boundary g c = λ _. start_boundary c.loop-piece.invariant

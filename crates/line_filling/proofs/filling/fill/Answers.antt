@@ -11,7 +11,7 @@ returns-clause-fits g c = λ row d.
     let text = c.args.text.now in
     let breaks_of = g.H.Hyphenator.breaks_of c.args.dictionary.now in
     let breaks = word_breaks breaks_of text in
-    let least = fewest text c.args.columns breaks row (sound breaks_of text c.plain_breaks_fit_where_ascending.ensures c.utf8.text c.breaks_fit.ensures.ascend) d in
+    let least = fewest text c.args.columns breaks row (sound breaks_of text c.pieces_are_slices.ensures.slices c.plain_breaks_fit_where_ascending.ensures c.utf8.text c.breaks_fit.ensures.ascend) d in
     subst (All (λ line. length (chars line) ≤ c.args.columns)) (sym c.in_ok-filled.ensures) (narrow_lines text c.args.columns 0 (line_ends text c.args.columns breaks) least.1)
 
 pub returns-clause-fewest : goal.returns-clause-fewest
@@ -19,7 +19,7 @@ returns-clause-fewest g c = λ row d.
     let text = c.args.text.now in
     let breaks_of = g.H.Hyphenator.breaks_of c.args.dictionary.now in
     let breaks = word_breaks breaks_of text in
-    let least = fewest text c.args.columns breaks row (sound breaks_of text c.plain_breaks_fit_where_ascending.ensures c.utf8.text c.breaks_fit.ensures.ascend) d in
+    let least = fewest text c.args.columns breaks row (sound breaks_of text c.pieces_are_slices.ensures.slices c.plain_breaks_fit_where_ascending.ensures c.utf8.text c.breaks_fit.ensures.ascend) d in
     let count : length c.in_ok-filled.filled.items ≡ length (line_ends text c.args.columns breaks) = sym (length-map _ _) ∙ ap length c.in_ok-filled.ensures ∙ count_lines text 0 (line_ends text c.args.columns breaks) in
     omega (arith, least.0, count)
 
@@ -27,10 +27,10 @@ pub returns-clause-joins : goal.returns-clause-joins
 returns-clause-joins g c =
     let text = c.args.text.now in
     let breaks_of = g.H.Hyphenator.breaks_of c.args.dictionary.now in
-    join_to_text text c.args.columns (word_breaks breaks_of text) (sound breaks_of text c.plain_breaks_fit_where_ascending.ensures c.utf8.text c.breaks_fit.ensures.ascend)
+    join_to_text text c.args.columns (word_breaks breaks_of text) (sound breaks_of text c.pieces_are_slices.ensures.slices c.plain_breaks_fit_where_ascending.ensures c.utf8.text c.breaks_fit.ensures.ascend)
 
 pub returns-clause-ends : goal.returns-clause-ends
 returns-clause-ends g c =
     let text = c.args.text.now in
     let breaks_of = g.H.Hyphenator.breaks_of c.args.dictionary.now in
-    right_ends text c.args.columns (word_breaks breaks_of text) (sound breaks_of text c.plain_breaks_fit_where_ascending.ensures c.utf8.text c.breaks_fit.ensures.ascend)
+    right_ends text c.args.columns (word_breaks breaks_of text) (sound breaks_of text c.pieces_are_slices.ensures.slices c.plain_breaks_fit_where_ascending.ensures c.utf8.text c.breaks_fit.ensures.ascend)

@@ -19,7 +19,7 @@ loop-current-init g c =
     record {
       all = ap (λ xs. map string_bytes xs ++ lines text c.args.columns (word_breaks breaks_of text)) c.new-lines.ensures.items;
       line = record { order = omega arith; start = IsCharBoundary-start text c.utf8.text; end = IsCharBoundary-start text c.utf8.text; width = sym (ap length chars-nil) };
-      breaks = at_start breaks_of text c.new-breaks.result c.plain_breaks_fit_where_ascending.ensures c.utf8.text c.requires.ascend (omega arith) c.new-breaks.ensures.pending c.new-breaks.ensures.pieces c.new-breaks.ensures.reached;
+      breaks = at_start breaks_of text c.new-breaks.result c.pieces_are_slices.ensures.slices c.plain_breaks_fit_where_ascending.ensures c.utf8.text c.requires.ascend (omega arith) c.new-breaks.ensures.pending c.new-breaks.ensures.pieces c.new-breaks.ensures.reached;
     }
 
 pub count_characters_to-width-requires-clause-at_character : goal.count_characters_to-width-requires-clause-at_character
@@ -61,7 +61,7 @@ loop-current-preserved g c =
     let cut : is_cut text breaks next ≡ true = or_left (is_plain text next) (is_one_of next breaks) c.next_plain_cut-next.ensures.plain in
     let then : state_of c.in_ok-current.current c.pass_cut.new.lines.items ≡ state_after_cut text columns t next = c.in_ok-current.ensures.state in
     let reached : c.in_ok-current.current.end ≡ next = ap (λ (v : FillState). v.end) then ∙ passing_end text columns t next in
-    let goes = passing_lines text columns breaks t next (sound breaks_of text c.plain_breaks_fit_where_ascending.ensures c.utf8.text c.requires.ascend) is passed.ensures.ends_before cut (λ p l u h. false≢true (sym (passed.ensures.no_cut_left p l u) ∙ h)) in
+    let goes = passing_lines text columns breaks t next (sound breaks_of text c.pieces_are_slices.ensures.slices c.plain_breaks_fit_where_ascending.ensures c.utf8.text c.requires.ascend) is passed.ensures.ends_before cut (λ p l u h. false≢true (sym (passed.ensures.no_cut_left p l u) ∙ h)) in
     record {
       all = ap (all_lines text columns breaks) then ∙ goes ∙ passed.ensures.same_lines ∙ before.all;
       line = c.in_ok-current.ensures.open_line;

@@ -17,7 +17,7 @@ pass_cut-requires-clause-at_character g c =
     let place = c.in-Some.place in
     let found = MatchOption-at_some _ _ place c.in-Some.is c.in_ok-place.ensures.first in
     let among : is_one_of place breaks ≡ true = sym (c.loop-place.invariant.breaks.stay place found.after) ∙ sym (c.in_ok-place.ensures.later_breaks_stay place found.after) ∙ found.among in
-    cut_boundary text c.args.columns breaks place (sound breaks_of text c.plain_breaks_fit_where_ascending.ensures c.utf8.text c.requires.ascend) (omega (arith, found.after)) (or_right (is_plain text place) (is_one_of place breaks) among)
+    cut_boundary text c.args.columns breaks place (sound breaks_of text c.pieces_are_slices.ensures.slices c.plain_breaks_fit_where_ascending.ensures c.utf8.text c.requires.ascend) (omega (arith, found.after)) (or_right (is_plain text place) (is_one_of place breaks) among)
 
 pub loop-place-preserved : goal.loop-place-preserved
 loop-place-preserved g c =
@@ -35,7 +35,7 @@ loop-place-preserved g c =
     let is : IsState text s = record { order = before.line.order; start = before.line.start; end = before.line.end } in
     let then : state_of c.in_ok-current.current c.pass_cut.new.lines.items ≡ state_after_cut text columns s place = c.in_ok-current.ensures.state in
     let reached : c.in_ok-current.current.end ≡ place = ap (λ (v : FillState). v.end) then ∙ passing_end text columns s place in
-    let goes = passing_lines text columns breaks s place (sound breaks_of text c.plain_breaks_fit_where_ascending.ensures c.utf8.text c.requires.ascend) is found.after cut
+    let goes = passing_lines text columns breaks s place (sound breaks_of text c.pieces_are_slices.ensures.slices c.plain_breaks_fit_where_ascending.ensures c.utf8.text c.requires.ascend) is found.after cut
     (λ p l u h. false≢true (sym (or_from_false (is_plain text p) (is_one_of p breaks) (c.requires.no_plain_cut p (omega (arith, before.onward)) (omega (arith, c.if-until-place.false))) (same p l ∙ found.first p l u)) ∙ h)) in
     record {
       same = ap (all_lines text columns breaks) then ∙ goes ∙ before.same;

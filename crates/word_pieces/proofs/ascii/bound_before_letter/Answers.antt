@@ -1,4 +1,4 @@
-use Rattle.std.proofs.Common.{◌≡◌, ◌-◌, ◌<◌, ◌≤◌, length, slice_index, subst, rules, arith}
+use Rattle.std.proofs.Common.{◌≡◌, ◌-◌, ◌<◌, length, slice_index, subst, rules, arith}
 use Rattle.std.proofs.lemmas.Option.{same_Some}
 use Rattle.word_pieces.specs.declared.kinds.Kind.TheVariants.{Letter, Space}
 use Rattle.word_pieces.specs.Private.Kinds.{kind_of_byte}

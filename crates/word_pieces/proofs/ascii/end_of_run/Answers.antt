@@ -1,8 +1,7 @@
-use Rattle.std.proofs.Common.{◌≡◌, ℕ, true, ◌+◌, ◌<◌, ◌≤◌, Some, length, slice_index, sym, ap, subst, ◌∙◌, rules, arith}
+use Rattle.std.proofs.Common.{◌≡◌, ℕ, true, ◌+◌, ◌<◌, ◌≤◌, Some, length, slice_index, subst, rules, arith}
 use Rattle.std.proofs.lemmas.Option.{same_Some}
-use Rattle.word_pieces.specs.declared.kinds.Kind.{Kind}
 use Rattle.word_pieces.specs.declared.kinds.Kind.TheVariants.{Letter, Middle}
-use Rattle.word_pieces.specs.Private.Kinds.{is_near, kind_of_byte, verdict, letter_may_begin}
+use Rattle.word_pieces.specs.Private.Kinds.{kind_of_byte, verdict}
 use Rattle.word_pieces.specs.Private.Walks.{IsPlainEnd}
 use Rattle.word_pieces.proofs.PlainWalks.{IsPlainWalk, IsPlainWalk-first_run, IsPlainEnd-verdict, IsPlainEnd-middle, IsPlainEnd-end}
 use Rattle.word_pieces.proofs.ascii.end_of_run.Goals as goal

@@ -11,6 +11,6 @@ pub returns : goal.returns
 returns c = λ text u.
     let dictionary = c.args.dictionary.now in
     let kept = c.invariant.ensures in
-    text_stays (all_breaks_of (rules_of no_change plain_break dictionary)) c.segments_join.ensures
+    text_stays (all_breaks_of (rules_of no_change plain_break dictionary)) c.pieces_are_slices.ensures.slices c.pieces_are_slices.ensures.join c.segments_join.ensures
     (λ word v. subst (Fits word) (fitted_alike dictionary word c.value_is_borne.ensures kept v) (breaks_fit no_change plain_break dictionary word c.value_is_borne.ensures c.winner_is_first.ensures kept v))
     (breaks_plain dictionary) text u

@@ -8,4 +8,4 @@ use Rattle.hyphenation_hyphenator.proofs.hyphenator.pattern_breaks.breaks_at_win
 
 abbrev pub invariant-loop-index : goal.invariant-loop-index
 invariant-loop-index l =
-    map borrowed_break l.breaks.items ≡ map (break_at_index own_change (map (option_copied {T = Entry (Option Change)}) l.winners)) (filter (has_break_at_index (map (option_copied {T = Entry (Option Change)}) l.winners) l.bounds) (range_with_len 0 l.index))
+    map borrowed_break l.breaks.items ≡ map (break_at_index own_change (map (option_copied {T = Entry (Option Change)}) l.winners)) (filter (has_break_at_index (map (option_copied {T = Entry (Option Change)}) l.winners) l.fn.bounds) (range_with_len 0 l.index))

@@ -1,21 +1,12 @@
 -- The pieces of a text between word bounds follow one another in it.
-use Rattle.std.proofs.Common.{◌≡◌, ℕ, ◌+◌, ◌-◌, true, false, cond, List, [], ◌∷◌, ◌++◌, map, length, take, drop, slice_range, refl, sym, ap, subst, ◌∙◌, arith, append_assoc, append-nil, take_at, drop_at, length-append}
+use Rattle.std.proofs.Common.{◌≡◌, ℕ, ◌+◌, ◌-◌, true, false, cond, List, [], ◌∷◌, ◌++◌, map, length, take, drop, refl, sym, ap, subst, ◌∙◌, arith, append_assoc, append-nil, take_at, drop_at, length-append}
 use Rattle.std.specs.Prelude.{encode_utf8, encode_utf8_all}
 use Rattle.std.specs.List.{concat}
 use Rattle.std.specs.Str.{IsUtf8, IsCharBoundary, chars}
 use Rattle.std.proofs.lemmas.Str.{encodes-append, encodes-chars, IsUtf8-past_char, IsCharBoundary-at_seam}
 use Rattle.unicode_segmentation.specs.Segments.{Rule, prepend, cut, segments, with_offsets}
-use Rattle.unicode_segmentation.specs.Word.{is_word_break, word_bounds}
-
--- A piece is a slice of the text between two character boundaries.
-pub record IsPieceOf (text : List ℕ) (piece : ℕ × List ℕ) : Type 0 where
-  pub start : IsCharBoundary text piece.0
-  pub end : IsCharBoundary text (piece.0 + length piece.1)
-  pub bytes : piece.1 ≡ slice_range text piece.0 (piece.0 + length piece.1)
-
-abbrev pub ArePieces : List ℕ → List (ℕ × List ℕ) → Type 0
-ArePieces text [] = Unit {0}
-ArePieces text (x ∷ xs) = IsPieceOf text x × ArePieces text xs
+use Rattle.unicode_segmentation.specs.Word.{is_word_break}
+use Rattle.word_pieces.specs.Pieces.{AreSlices, PiecesAreSlices, PiecesJoin}
 
 -- The bytes of a part that is put in front, and of a part that is cut off.
 front_bytes : (part : List ℕ) (pieces : List (List ℕ)) → concat (map encode_utf8_all (prepend part pieces)) ≡ encode_utf8_all part ++ concat (map encode_utf8_all pieces)
@@ -37,7 +28,7 @@ after_piece (c ∷ cs) rest u = after_piece cs rest (IsUtf8-past_char _ _ c u (a
 
 -- Pieces that join to the rest of the text are slices of it.
 stand : (text front : List ℕ) (pieces : List (List ℕ)) → text ≡ front ++ concat (map encode_utf8_all pieces) → IsUtf8 (concat (map encode_utf8_all pieces))
-    → ArePieces text (with_offsets (length front) (map encode_utf8_all pieces))
+    → AreSlices text (with_offsets (length front) (map encode_utf8_all pieces))
 unfolding with_offsets
 stand text front [] is u = tt
 stand text front (cs ∷ pieces) is u =
@@ -53,11 +44,15 @@ stand text front (cs ∷ pieces) is u =
         bytes = sym (ap (λ t. take (length front + length piece - length front) (drop (length front) t)) is
             ∙ ap (take (length front + length piece - length front)) (drop_at front (piece ++ rest) (length front) refl) ∙ take_at piece rest (length front + length piece - length front) width);
       },
-      subst (λ n. ArePieces text (with_offsets n (map encode_utf8_all pieces))) wide (stand text (front ++ piece) pieces past later),
+      subst (λ n. AreSlices text (with_offsets n (map encode_utf8_all pieces))) wide (stand text (front ++ piece) pieces past later),
     )
 
-pub all_pieces : (text : List ℕ) → IsUtf8 text → ArePieces text (with_offsets 0 (word_bounds text))
+pub slices : PiecesAreSlices
 unfolding segments
-all_pieces text u =
+slices text u =
     let whole = cut_bytes is_word_break [] (chars text) [] ∙ encodes-chars text u in
     stand text [] (cut is_word_break [] (chars text) []) (sym whole) (subst IsUtf8 (sym whole) u)
+
+pub join : PiecesJoin
+unfolding segments
+join text u = cut_bytes is_word_break [] (chars text) [] ∙ encodes-chars text u
