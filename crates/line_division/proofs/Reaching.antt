@@ -1,5 +1,5 @@
 -- How far lines reach, and which of them need not be tried.
-use Rattle.std.proofs.Common.{◌≡◌, ℕ, ◌+◌, ◌-◌, ◌*◌, ◌<◌, ◌≤◌, ◌==◌, if◌then◌else◌, Bool, true, false, List, ◌∷◌, length, take, drop, sym, ap, slice_index_or, subst, ◌∙◌, arith, inl, inr}
+use Rattle.std.proofs.Common.{◌≡◌, ℕ, ◌+◌, ◌-◌, ◌*◌, ◌<◌, ◌≤◌, ◌==◌, if◌then◌else◌, Bool, true, false, Option, List, ◌∷◌, length, take, drop, sym, ap, slice_index_or, subst, ◌∙◌, arith, inl, inr}
 use Rattle.std.specs.Bool.{MatchBool}
 use Rattle.std.specs.List.{sum_by, slice_range}
 use Rattle.std.proofs.lemmas.Bool.{cases_lt, cases_eq}
@@ -82,36 +82,36 @@ most_all stretches i most past before k =
 -- ---- lines that need not be tried
 
 -- A choice costs no more than any division whose first line ends after a place.
-abbrev pub IsLeastAfter : List Stretch → ℕ → ℕ → ℕ → ℕ → Cost → Type 0
-IsLeastAfter stretches columns last_columns start place least =
-    (end : ℕ) (row : List ℕ) → place < end → Divides stretches columns start (end ∷ row) → CostsNoMore least (cost_of stretches columns last_columns start (end ∷ row))
+abbrev pub IsLeastAfter : List Stretch → ℕ → ℕ → Option ℕ → ℕ → ℕ → ℕ → Cost → Type 0
+IsLeastAfter stretches columns last_columns ladder run start place least =
+    (end : ℕ) (row : List ℕ) → place < end → Divides stretches columns start (end ∷ row) → CostsNoMore least (cost_of stretches columns last_columns ladder run start (end ∷ row))
 
 -- No line fits that goes further than lines reach.
-pub least_beyond : (stretches : List Stretch) (columns last_columns start last : ℕ) (least : Cost) → start ≤ last → IsBeyond stretches columns start last
-    → IsLeastAfter stretches columns last_columns start (last + 1) least
-least_beyond stretches columns last_columns start last least le beyond end row after divides =
+pub least_beyond : (stretches : List Stretch) (columns last_columns : ℕ) (ladder : Option ℕ) (run start last : ℕ) (least : Cost) → start ≤ last → IsBeyond stretches columns start last
+    → IsLeastAfter stretches columns last_columns ladder run start (last + 1) least
+least_beyond stretches columns last_columns ladder run start last least le beyond end row after divides =
     elim divides.1 [
       | inl fit ↦ absurd (omega (arith, fit, beyond (end - 1) (omega arith) (let within = divides_within stretches columns end row divides.2 in omega (arith, within, after))))
       | inr alone ↦ absurd (omega (arith, alone, after, le))
     ]
 
 -- One more end is tried, and the better one kept.
-pub least_tried : (stretches : List Stretch) (columns last_columns : ℕ) (choices : List Choice) (start last : ℕ) (old : Cost) (other : Choice)
-    → IsLeastAfter stretches columns last_columns start (last + 1) old → IsMade stretches columns last_columns choices start other → other.end ≡ last + 1 → AreBest stretches columns last_columns choices (start + 1)
-    → (kept : Cost) → CostsNoMore kept old → CostsNoMore kept other.cost → IsLeastAfter stretches columns last_columns start last kept
-least_tried stretches columns last_columns choices start last old other before made ends best kept no_more no_more_either end row after divides =
+pub least_tried : (stretches : List Stretch) (columns last_columns : ℕ) (ladder : Option ℕ) (choices : List Choice) (run start last : ℕ) (old : Cost) (other : Choice)
+    → IsLeastAfter stretches columns last_columns ladder run start (last + 1) old → IsMade stretches columns last_columns ladder choices run start other → other.end ≡ last + 1 → AreBest stretches columns last_columns ladder choices start run
+    → (kept : Cost) → CostsNoMore kept old → CostsNoMore kept other.cost → IsLeastAfter stretches columns last_columns ladder run start last kept
+least_tried stretches columns last_columns ladder choices run start last old other before made ends best kept no_more no_more_either end row after divides =
     elim (cases_lt (last + 1) end) [
-      | inl later ↦ no_more_along kept old (cost_of stretches columns last_columns start (end ∷ row)) no_more (before end row later divides)
+      | inl later ↦ no_more_along kept old (cost_of stretches columns last_columns ladder run start (end ∷ row)) no_more (before end row later divides)
       | inr here ↦
           let same : other.end ≡ end = omega (arith, here, after, ends) in
-          subst (λ e. CostsNoMore kept (cost_of stretches columns last_columns start (e ∷ row))) same
-          (no_more_along kept other.cost (cost_of stretches columns last_columns start (other.end ∷ row)) no_more_either (made_least stretches columns last_columns choices start other row made best (subst (λ e. Divides stretches columns e row) (sym same) divides.2)))
+          subst (λ e. CostsNoMore kept (cost_of stretches columns last_columns ladder run start (e ∷ row))) same
+          (no_more_along kept other.cost (cost_of stretches columns last_columns ladder run start (other.end ∷ row)) no_more_either (made_least stretches columns last_columns ladder choices run run start other row made best (subst (λ e. Divides stretches columns e row) (sym same) divides.2)))
     ]
 
 -- One more end is no choice, since its line doesn't fit.
-pub least_wide : (stretches : List Stretch) (columns last_columns start last : ℕ) (old : Cost) → start < last → IsLeastAfter stretches columns last_columns start (last + 1) old
-    → columns < line_width stretches start (last + 1) → IsLeastAfter stretches columns last_columns start last old
-least_wide stretches columns last_columns start last old lt before wide end row after divides =
+pub least_wide : (stretches : List Stretch) (columns last_columns : ℕ) (ladder : Option ℕ) (run start last : ℕ) (old : Cost) → start < last → IsLeastAfter stretches columns last_columns ladder run start (last + 1) old
+    → columns < line_width stretches start (last + 1) → IsLeastAfter stretches columns last_columns ladder run start last old
+least_wide stretches columns last_columns ladder run start last old lt before wide end row after divides =
     elim (cases_lt (last + 1) end) [
       | inl later ↦ before end row later divides
       | inr here ↦ elim divides.1 [
@@ -120,16 +120,16 @@ least_wide stretches columns last_columns start last old lt before wide end row 
       ]
     ]
 
-pub least_less : (stretches : List Stretch) (columns last_columns start place : ℕ) (old kept : Cost) → CostsNoMore kept old → IsLeastUpTo stretches columns last_columns start place old
-    → IsLeastUpTo stretches columns last_columns start place kept
-least_less stretches columns last_columns start place old kept no_more before end row le divides =
-    no_more_along kept old (cost_of stretches columns last_columns start (end ∷ row)) no_more (before end row le divides)
+pub least_less : (stretches : List Stretch) (columns last_columns : ℕ) (ladder : Option ℕ) (run start place : ℕ) (old kept : Cost) → CostsNoMore kept old → IsLeastUpTo stretches columns last_columns ladder run start place old
+    → IsLeastUpTo stretches columns last_columns ladder run start place kept
+least_less stretches columns last_columns ladder run start place old kept no_more before end row le divides =
+    no_more_along kept old (cost_of stretches columns last_columns ladder run start (end ∷ row)) no_more (before end row le divides)
 
 -- All lines were tried.
-pub least_all : (stretches : List Stretch) (columns last_columns start : ℕ) (least : Cost) → start < length stretches → IsLeastUpTo stretches columns last_columns start (start + 1) least
-    → IsLeastAfter stretches columns last_columns start (start + 1) least → IsLeast stretches columns last_columns start least
-least_all stretches columns last_columns start least lt alone after =
-    least_at_last stretches columns last_columns start least lt (λ end row divides. elim (cases_lt (start + 1) end) [
+pub least_all : (stretches : List Stretch) (columns last_columns : ℕ) (ladder : Option ℕ) (run start : ℕ) (least : Cost) → start < length stretches → IsLeastUpTo stretches columns last_columns ladder run start (start + 1) least
+    → IsLeastAfter stretches columns last_columns ladder run start (start + 1) least → IsLeast stretches columns last_columns ladder run start least
+least_all stretches columns last_columns ladder run start least lt alone after =
+    least_at_last stretches columns last_columns ladder run start least lt (λ end row divides. elim (cases_lt (start + 1) end) [
       | inl later ↦ after end row later divides
       | inr here ↦ alone end row here divides
     ])
@@ -150,20 +150,21 @@ no_wider stretches most start last end closing lt le within =
     ]
 
 -- The columns that they lack alone cost as much as the best line.
-pub least_enough : (stretches : List Stretch) (columns last_columns most start last widest : ℕ) (least : Cost) → IsMostClosing stretches most → start < length stretches → last + 1 < length stretches
+pub least_enough : (stretches : List Stretch) (columns last_columns : ℕ) (ladder : Option ℕ) (run most start last widest : ℕ) (least : Cost) → IsMostClosing stretches most → start < length stretches → last + 1 < length stretches
     → widest ≡ (stretch_at stretches start).opening + sum_by joined_width (slice_range stretches start last) + (stretch_at stretches last).width + most
-    → least.excess ≡ 0 → least.spent ≤ (columns - widest) * (columns - widest) → IsLeastAfter stretches columns last_columns start (last + 1) least → IsLeast stretches columns last_columns start least
-least_enough stretches columns last_columns most start last widest least closing within inner is none enough after =
-    least_at_last stretches columns last_columns start least within (λ end row divides. elim (cases_lt (last + 1) end) [
+    → least.excess ≡ 0 → least.over ≡ 0 → least.spent ≤ (columns - widest) * (columns - widest) → IsLeastAfter stretches columns last_columns ladder run start (last + 1) least → IsLeast stretches columns last_columns ladder run start least
+least_enough stretches columns last_columns ladder run most start last widest least closing within inner is none none_over enough after =
+    least_at_last stretches columns last_columns ladder run start least within (λ end row divides. elim (cases_lt (last + 1) end) [
       | inl later ↦ after end row later divides
       | inr here ↦
           let narrow = no_wider stretches most start last end closing divides.0 here (omega arith) in
           let not_last : (end == length stretches) ≡ false = grind (arith, here, inner) in
           let wanted : wanted_columns stretches columns last_columns end ≡ columns = ap (λ b. if b then last_columns else columns) not_last in
           let lacked = mul-le (columns - widest) (columns - widest) (wanted_columns stretches columns last_columns end - line_width stretches start end) (wanted_columns stretches columns last_columns end - line_width stretches start end) (omega (arith, narrow, is, wanted)) (omega (arith, narrow, is, wanted)) in
-          let spent : least.spent ≤ (cost_of stretches columns last_columns start (end ∷ row)).spent = omega (arith, enough, lacked) in
-          elim (cases_eq (cost_of stretches columns last_columns start (end ∷ row)).excess 0) [
-            | inl same ↦ inr (omega (arith, none, same), spent)
+          let all = cost_of stretches columns last_columns ladder run start (end ∷ row) in
+          let spent : least.spent ≤ all.spent = omega (arith, enough, lacked) in
+          elim (cases_eq all.excess 0) [
+            | inl same ↦ inr (omega (arith, none, same), elim (cases_eq all.over 0) [ inl fewest ↦ inr (omega (arith, none_over, fewest), spent) | inr more ↦ inl (omega (arith, none_over, more)) ])
             | inr some ↦ inl (omega (arith, none, some))
           ]
     ])

@@ -3,11 +3,15 @@
 //! From the last stretch to the first, the best line to begin with it is sought, and kept with what it and all lines
 //! after it cost. Only lines that fit are tried, the longest first, and the one that holds this stretch alone. Shorter
 //! lines are not tried once the columns that they lack cost more than the best line.
+//!
+//! The cost of lines depends on the hyphens that stand in a row before them. So with a ladder of n lines the best line is
+//! sought n + 1 times: after a run of 0 to n hyphens. After a longer run it is that after n. Without a ladder it is
+//! sought once.
 
 ghost use Rattle.std.specs.Prelude.{◌≡◌, ◌+◌, ◌-◌, ◌*◌, ◌^◌, ◌<◌, ◌≤◌, true, IfOk, MatchBool, length};
-ghost use Rattle.line_division.specs.Lines.{line_width, joined_width, wanted_columns, line_cost};
-ghost use Rattle.line_division.specs.Division.{MayStand, Divides, CostsLeast, FitsIfAny};
-ghost use Rattle.line_division.specs.Private.Best.{IsLeast, IsSmall, IsMade, AreBest};
+ghost use Rattle.line_division.specs.Lines.{line_width, joined_width, wanted_columns, hyphens_to, line_over, line_cost};
+ghost use Rattle.line_division.specs.Division.{MayStand, Divides, CostsLeast, FitsIfAny, KeepsLadderIfAny};
+ghost use Rattle.line_division.specs.Private.Best.{runs, run_of, IsLeast, IsSmall, IsMade, AreBest};
 ghost use Rattle.line_division.specs.Private.Reaches.{GoesPast, IsMostClosing, IsReach, Stays};
 
 use crate::cost::Cost;
@@ -43,11 +47,59 @@ fn square_lacked(wanted: u16, wide: u64) -> u64
     free * free
 }
 
-// Returns the cost of a line of such a width.
+// Returns how many runs of hyphens are told apart.
+fn runs(ladder: Option<u8>) -> usize
+    ensures value { result ≡ runs ladder }
+    ensures some { 1 ≤ result }
+    ensures small { result ≤ 2 ^ 8 }
+{
+    match ladder {
+        Some(most) => usize::from(most) + 1,
+        None => 1,
+    }
+}
+
+// Returns the run that stands for so many hyphens in a row.
+fn run_of(ladder: Option<u8>, hyphens: usize) -> usize
+    ensures value { result ≡ run_of ladder hyphens }
+    ensures known { result < runs ladder }
+{
+    let runs = runs(ladder);
+    if hyphens < runs { hyphens } else { runs - 1 }
+}
+
+// Returns the hyphens in a row at a line's end, after such a run.
+fn hyphens_to(stretches: &[Stretch], run: usize, end: usize) -> usize
+    requires small { run < 2 ^ 8 }
+    requires some { 1 ≤ end }
+    requires within { end ≤ length stretches.now }
+    ensures { result ≡ hyphens_to stretches.now run end }
+{
+    if stretches[end - 1].hyphenated {
+        run + 1
+    } else {
+        0
+    }
+}
+
+// Returns 1 for a line at whose end more hyphens stand in a row than the ladder may have, and else 0.
+fn line_over(ladder: Option<u8>, hyphens: usize) -> u64
+    ensures value { result ≡ line_over ladder hyphens }
+    ensures small { result ≤ 1 }
+{
+    match ladder {
+        Some(most) => u64::from(usize::from(most) < hyphens),
+        None => 0,
+    }
+}
+
+// Returns the cost of a line of such a width, at whose end so many hyphens stand in a row.
 fn line_cost(
     stretches: &[Stretch],
     columns: u16,
     last_columns: u16,
+    ladder: Option<u8>,
+    hyphens: usize,
     start: usize,
     end: usize,
     wide: u64,
@@ -55,15 +107,26 @@ fn line_cost(
     requires order { start < end }
     requires within { end ≤ length stretches.now }
     requires wide { wide ≡ line_width stretches.now start end }
-    ensures value { result ≡ line_cost stretches.now columns last_columns start end }
+    ensures value { result ≡ line_cost stretches.now columns last_columns ladder hyphens start end }
     ensures excess { result.excess ≤ wide }
+    ensures over { result.over ≤ 1 }
     ensures spent { result.spent < 2 ^ 33 }
 {
     let wanted = wanted_columns(stretches, columns, last_columns, end);
     Cost {
         excess: wide.saturating_sub(u64::from(columns)),
+        over: line_over(ladder, hyphens),
         spent: square_lacked(wanted, wide) + widened(stretches[end - 1].price),
     }
+}
+
+// Returns where the choice for a place after a run is kept.
+fn choice_place(ladder: Option<u8>, run: usize, place: usize) -> usize
+    requires run { run < runs ladder }
+    requires place { place ≤ 2 ^ 30 }
+    ensures value { result ≡ place * runs ladder + run }
+{
+    place * runs(ladder) + run
 }
 
 // Returns the line of such a width, followed by the best lines after it.
@@ -71,24 +134,38 @@ fn choose(
     stretches: &[Stretch],
     columns: u16,
     last_columns: u16,
+    ladder: Option<u8>,
     choices: &[Choice],
+    run: usize,
     start: usize,
     end: usize,
     wide: u64,
 ) -> Choice
     requires count { length stretches.now < 2 ^ 30 }
+    requires run { run < runs ladder }
     requires order { start < end }
     requires within { end ≤ length stretches.now }
     requires wide { wide ≡ line_width stretches.now start end }
     requires narrow { wide < 2 ^ 34 }
     requires stands { MayStand stretches.now columns start end }
-    requires best { AreBest stretches.now columns last_columns choices.now (start + 1) }
-    ensures made { IsMade stretches.now columns last_columns choices.now start result }
+    requires best { AreBest stretches.now columns last_columns ladder choices.now start run }
+    ensures made { IsMade stretches.now columns last_columns ladder choices.now run start result }
     ensures small { IsSmall result.cost (length stretches.now - start) }
     ensures end { result.end ≡ end }
 {
-    let line = line_cost(stretches, columns, last_columns, start, end, wide);
-    let cost = line.plus(choices[end].cost);
+    let hyphens = hyphens_to(stretches, run, end);
+    let line = line_cost(
+        stretches,
+        columns,
+        last_columns,
+        ladder,
+        hyphens,
+        start,
+        end,
+        wide,
+    );
+    let after = choice_place(ladder, run_of(ladder, hyphens), end);
+    let cost = line.plus(choices[after].cost);
     Choice { cost, end }
 }
 
@@ -142,13 +219,14 @@ fn reach_from(stretches: &[Stretch], columns: u16, start: usize, later: Reach) -
 
 // Tests whether a cost is no more than that of any line but the last one, if it has at most such a width.
 fn is_enough(best: Cost, columns: u16, widest: u64) -> bool
-    ensures { result ≡ true → (best.excess ≡ 0) × (best.spent ≤ (columns - widest) * (columns - widest)) }
+    ensures { result ≡ true → (best.excess ≡ 0) × (best.over ≡ 0)
+        × (best.spent ≤ (columns - widest) * (columns - widest)) }
 {
     let lacked = square_lacked(columns, widest);
-    best.excess == 0 && best.spent <= lacked
+    best.excess == 0 && best.over == 0 && best.spent <= lacked
 }
 
-// Returns the line that is best to begin at a place, where the best ones after it are known.
+// Returns the line that is best to begin at a place after a run of hyphens, where the best ones after it are known.
 //
 // The lines that fit are tried from the longest one on, until one is so short that the columns which it lacks alone cost
 // as much as the best line so far.
@@ -156,20 +234,23 @@ fn best_line(
     stretches: &[Stretch],
     columns: u16,
     last_columns: u16,
+    ladder: Option<u8>,
     closing: u64,
     choices: &[Choice],
+    run: usize,
     start: usize,
     reach: Reach,
 ) -> Choice
     requires count { length stretches.now < 2 ^ 30 }
+    requires run { run < runs ladder }
     requires start { start < length stretches.now }
     requires closing { IsMostClosing stretches.now closing }
     requires narrow { closing < 2 ^ 32 }
-    requires best { AreBest stretches.now columns last_columns choices.now (start + 1) }
+    requires best { AreBest stretches.now columns last_columns ladder choices.now start run }
     requires reach { IsReach stretches.now columns start reach }
     requires within { reach.last < length stretches.now }
-    ensures least { IsLeast stretches.now columns last_columns start result.cost }
-    ensures made { IsMade stretches.now columns last_columns choices.now start result }
+    ensures least { IsLeast stretches.now columns last_columns ladder run start result.cost }
+    ensures made { IsMade stretches.now columns last_columns ladder choices.now run start result }
     ensures small { IsSmall result.cost (length stretches.now - start) }
 {
     let first = &stretches[start];
@@ -179,7 +260,9 @@ fn best_line(
         stretches,
         columns,
         last_columns,
+        ladder,
         choices,
+        run,
         start,
         start + 1,
         wide,
@@ -200,7 +283,9 @@ fn best_line(
                 stretches,
                 columns,
                 last_columns,
+                ladder,
                 choices,
+                run,
                 start,
                 last + 1,
                 wide,
@@ -230,15 +315,54 @@ fn most_closing(stretches: &[Stretch]) -> u64
     most
 }
 
-// Returns the best line to begin at each place.
+// Puts in the lines that are best to begin at a place, one after each run of hyphens.
+fn put_best_lines(
+    stretches: &[Stretch],
+    columns: u16,
+    last_columns: u16,
+    ladder: Option<u8>,
+    closing: u64,
+    choices: &mut Vec<Choice>,
+    start: usize,
+    reach: Reach,
+)
+    requires count { length stretches.now < 2 ^ 30 }
+    requires start { start < length stretches.now }
+    requires closing { IsMostClosing stretches.now closing }
+    requires narrow { closing < 2 ^ 32 }
+    requires best { AreBest stretches.now columns last_columns ladder choices.old.items start 0 }
+    requires reach { IsReach stretches.now columns start reach }
+    requires within { reach.last < length stretches.now }
+    ensures { AreBest stretches.now columns last_columns ladder choices.new.items start (runs ladder) }
+{
+    for run in 0..runs(ladder) {
+        let best = best_line(
+            stretches,
+            columns,
+            last_columns,
+            ladder,
+            closing,
+            choices,
+            run,
+            start,
+            reach,
+        );
+        let place = choice_place(ladder, run, start);
+        choices[place] = best;
+    }
+}
+
+// Returns the best line to begin at each place, after each run of hyphens.
 fn best_lines(
     alloc: Global,
     stretches: &[Stretch],
     columns: u16,
     last_columns: u16,
+    ladder: Option<u8>,
 ) -> Result<Vec<Choice>, AllocError>
     requires count { length stretches.now < 2 ^ 30 }
-    ensures { IfOk result (λ choices. AreBest stretches.now columns last_columns choices.items 0) }
+    ensures { IfOk result (λ choices.
+        AreBest stretches.now columns last_columns ladder choices.items 0 (runs ladder)) }
 {
     let count = stretches.len();
     let closing = most_closing(stretches);
@@ -246,23 +370,23 @@ fn best_lines(
         cost: Cost::NONE,
         end: count,
     };
-    let mut choices = vec![in alloc; none; count + 1]?;
+    let mut choices = vec![in alloc; none; (count + 1) * runs(ladder)]?;
     let mut reach = Reach {
         last: count,
         joined: 0,
     };
     for start in (0..count).rev() {
         reach = reach_from(stretches, columns, start, reach);
-        let best = best_line(
+        put_best_lines(
             stretches,
             columns,
             last_columns,
+            ladder,
             closing,
-            &choices,
+            &mut choices,
             start,
             reach,
         );
-        choices[start] = best;
     }
     Ok(choices)
 }
@@ -270,25 +394,32 @@ fn best_lines(
 /// Returns the ends of the lines of a paragraph, divided so that it costs the least.
 ///
 /// An end is the number of stretches before it. Each line has at most so many columns, or holds one stretch. No such
-/// division of the paragraph has less excess, and none of the same excess spends less. Where several cost the least, it
-/// is not said which one is returned. The last line lacks columns only where it has fewer than `last_columns`. Where the
-/// paragraph can be divided into lines that fit, each line fits. The only error is that memory was refused.
+/// division of the paragraph has less excess. None with the same excess has fewer lines over the ladder: lines at whose
+/// ends more hyphens stand in a row than `ladder`. None that is the same in both spends less. Where several cost the
+/// least, it is not said which one is returned. The last line lacks columns only where it has fewer than `last_columns`.
+///
+/// Where the paragraph can be divided into lines that fit, each line fits. Where these can end in at most `ladder`
+/// hyphens in a row, they do. The only error is that memory was refused.
 pub fn even_ends(
     alloc: Global,
     stretches: &[Stretch],
     columns: u16,
     last_columns: u16,
+    ladder: Option<u8>,
 ) -> Result<Vec<usize>, AllocError>
     requires count { length stretches.now < 2 ^ 30 }
     ensures divides { IfOk result (λ ends. Divides stretches.now columns 0 ends.items) }
-    ensures least { IfOk result (λ ends. CostsLeast stretches.now columns last_columns ends.items) }
+    ensures least { IfOk result (λ ends. CostsLeast stretches.now columns last_columns ladder ends.items) }
     ensures fits { IfOk result (λ ends. FitsIfAny stretches.now columns ends.items) }
+    ensures ladder { IfOk result (λ ends. KeepsLadderIfAny stretches.now columns ladder ends.items) }
 {
-    let choices = best_lines(alloc, stretches, columns, last_columns)?;
+    let choices = best_lines(alloc, stretches, columns, last_columns, ladder)?;
     let mut ends = Vec::new(alloc);
     let mut start = 0;
+    let mut run = 0;
     while start < stretches.len() {
-        start = choices[start].end;
+        start = choices[choice_place(ladder, run, start)].end;
+        run = run_of(ladder, hyphens_to(stretches, run, start));
         ends.push(start)?;
     }
     Ok(ends)

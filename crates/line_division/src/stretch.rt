@@ -10,7 +10,7 @@ ghost use Rattle.std.specs.Prelude.{◌≡◌, ◌^◌, ◌<◌};
 /// ```
 ///
 /// A word before a space has a joint of 1 and no closing. A syllable before a break has no joint, and a closing of 1
-/// for its hyphen. The indent of a line is in the opening of each stretch with which it could begin.
+/// for its hyphen, and is `hyphenated`. The indent of a line is in the opening of each stretch with which it could begin.
 #[derive(Clone, Copy, Debug)]
 pub struct Stretch {
     /// Those of the text that is set before it where a line begins with it.
@@ -23,6 +23,8 @@ pub struct Stretch {
     pub closing: u32,
     /// The cost of a line's end after it.
     pub price: u32,
+    /// Whether a line that ends with it ends in a hyphen.
+    pub hyphenated: bool,
 }
 
 // Returns columns or a price as a number that leaves room for sums.

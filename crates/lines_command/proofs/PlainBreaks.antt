@@ -1,5 +1,5 @@
 -- The breaks of a standard dictionary change no letters.
-use Rattle.std.proofs.Common.{◌≡◌, ℕ, ◌==◌, Bool, true, false, cond, List, [], length, map, filter, Option, Some, None, refl}
+use Rattle.std.proofs.Common.{◌≡◌, ℕ, ◌==◌, true, false, cond, List, [], length, map, Option, Some, None, refl}
 use Rattle.std.specs.FinMap as finite
 use Rattle.std.specs.List.{All}
 use Rattle.std.specs.Option.{option_map, option_and_then, option_map_or, unwrap_or}
@@ -7,7 +7,7 @@ use Rattle.std.proofs.lemmas.List.Elements.{All-nil, All-map, All-filter}
 use Rattle.hyphenation_breaks.specs.Break.{Break, Change, plain_break}
 use Rattle.hyphenation_breaks.specs.Dictionary.{Contents, Patterns, entries_of_keys}
 use Rattle.hyphenation_hyphenator.specs.Folding.{fold_case}
-use Rattle.hyphenation_hyphenator.specs.Opportunities.{no_change, within, winning_break, breaks_at_odd_values, standard_rules, breaks_within, by_exception, by_patterns, boundaries_by, opportunities_in, opportunities, break_carried_back, breaks_as_written, all_breaks_of}
+use Rattle.hyphenation_hyphenator.specs.Opportunities.{no_change, within, winning_break, breaks_at_odd_values, standard_rules, breaks_within, boundaries_by, opportunities_in, opportunities, break_carried_back, breaks_as_written, all_breaks_of}
 use Rattle.hyphenation_hyphenator.specs.SoftHyphens.{soft_hyphens}
 use Rattle.paragraphs.specs.Words.{IsPlain, ArePlain}
 

@@ -27,7 +27,7 @@ pub const NAME: &str = "hyphenate-lines";
 
 /// The usage, for `--help` and for arguments of no form.
 pub const USAGE: &str =
-    "usage: hyphenate-lines [OPTION..] CODE PATH < TEXT\n       hyphenate-lines --help\n       hyphenate-lines --version\n       OPTION: --width N, --even, --price P, --last N, --indent TEXT, --first TEXT\n";
+    "usage: hyphenate-lines [OPTION..] CODE PATH < TEXT\n       hyphenate-lines --help\n       hyphenate-lines --version\n       OPTION: --width N, --even, --price P, --last N, --indent TEXT, --first TEXT,\n               --ladder N (1 to 255, only with --even)\n";
 
 /// The message if memory was refused.
 pub const NO_MEMORY: &str = "hyphenate-lines: no memory\n";

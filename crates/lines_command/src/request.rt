@@ -1,7 +1,7 @@
 //! Parses the arguments of the program.
 
 ghost use Rattle.std.specs.Prelude.{◌≡◌, ◌^◌, option_map};
-ghost use Rattle.lines_command.specs.Arguments.{number_below, with_value, parsed_args, positional, style_for, aim_for};
+ghost use Rattle.lines_command.specs.Arguments.{number_below, ladder_of, with_value, parsed_args, positional, style_for, aim_for};
 ghost use Rattle.lines_command.specs.Private.Requests.{parsed_options, parsed_request};
 ghost use Rattle.paragraphs.specs.Styles.{style_of};
 
@@ -18,6 +18,8 @@ pub struct Options<'w> {
     pub even: bool,
     /// The columns below which the last line of a paragraph lacks some.
     pub last_columns: u16,
+    /// How many lines in a row may end in a hyphen, if it is limited.
+    pub ladder: Option<u8>,
     /// The cost of a line's end at a break of a word.
     pub price: u32,
     /// The text before the first line of a paragraph, if it is not that of the others.
@@ -42,6 +44,17 @@ fn number_to_65535(text: &str) -> Option<u16>
     u16::try_from(number).ok()
 }
 
+// A number from 1 to 255.
+fn ladder_of(text: &str) -> Option<u8>
+    ensures { result ≡ ladder_of text.now }
+{
+    let number = number_of(text.as_bytes())?;
+    if number == 0 {
+        return None;
+    }
+    u8::try_from(number).ok()
+}
+
 // A number below 2^32.
 fn number_in_32_bits(text: &str) -> Option<u32>
     ensures { result ≡ number_below (2 ^ 32) text.now }
@@ -56,6 +69,7 @@ impl<'w> Options<'w> {
         columns: 72,
         even: false,
         last_columns: 0,
+        ladder: None,
         price: 0,
         first: None,
         indent: "",
@@ -72,6 +86,12 @@ impl<'w> Options<'w> {
             let last_columns = number_to_65535(value)?;
             Some(Options {
                 last_columns,
+                ..self
+            })
+        } else if name == "--ladder" {
+            let most = ladder_of(value)?;
+            Some(Options {
+                ladder: Some(most),
                 ..self
             })
         } else if name == "--price" {
@@ -110,6 +130,7 @@ impl<'w> Options<'w> {
         if self.even {
             Aim::Even {
                 last_columns: self.last_columns,
+                ladder: self.ladder,
             }
         } else {
             Aim::Full
@@ -117,7 +138,7 @@ impl<'w> Options<'w> {
     }
 }
 
-// The request of the arguments after the options, `CODE PATH`.
+// The request of the arguments after the options, `CODE PATH`. A ladder is for even lines alone.
 fn positional<'w>(
     options: Options<'w>,
     code: &str,
@@ -128,6 +149,9 @@ fn positional<'w>(
         ≡ positional (parsed_options options.entry) code.now path.now others.now }
 {
     if !others.is_empty() {
+        return None;
+    }
+    if options.ladder.is_some() && !options.even {
         return None;
     }
     Some(Request {

@@ -23,13 +23,13 @@ wide_cons s (t ∷ ss) some = refl
 pub tail_width_cons : (p : Setting) (ps : List Setting) → 0 < length ps → tail_width (map stretch_of (p ∷ ps)) ≡ joined_width (stretch_of p) + tail_width (map stretch_of ps)
 tail_width_cons p ps some = wide_cons (stretch_of p) (map stretch_of ps) (omega (arith, some, length-map ps stretch_of))
 
-tail_text_append : (g h : List Setting) → 0 < length h → tail_text (g ++ h) ≡ flat_map shown_text g ++ tail_text h
+pub tail_text_append : (g h : List Setting) → 0 < length h → tail_text (g ++ h) ≡ flat_map shown_text g ++ tail_text h
 tail_text_append [] h some = refl
 tail_text_append (p ∷ g) h some =
     tail_text_cons p (g ++ h) (omega (arith, some, length-append g h))
     ∙ ap (λ s. shown_text p ++ s) (tail_text_append g h some) ∙ sym (append_assoc (shown_text p) (flat_map shown_text g) (tail_text h))
 
-tail_width_append : (g h : List Stretch) → 0 < length h → tail_width (g ++ h) ≡ sum_by joined_width g + tail_width h
+pub tail_width_append : (g h : List Stretch) → 0 < length h → tail_width (g ++ h) ≡ sum_by joined_width g + tail_width h
 tail_width_append [] h some = sym (zero-add (tail_width h))
 tail_width_append (s ∷ g) h some =
     let rest = tail_width_append g h some in
@@ -271,7 +271,7 @@ entries_joined (e ∷ es) are =
     let joined = are.0.0.joined in
     omega (arith, parted, later, joined, sum_by-cons joined_width (stretch_of e.part) (map stretch_of (parts_in es)))
 
-first_of_both : (g h : List Setting) → 0 < length g → setting_at (g ++ h) 0 ≡ setting_at g 0
+pub first_of_both : (g h : List Setting) → 0 < length g → setting_at (g ++ h) 0 ≡ setting_at g 0
 first_of_both [] h some = absurd (omega (arith, some))
 first_of_both (p ∷ g) h some = refl
 

@@ -1,4 +1,3 @@
-pub mod Pieces
 pub mod PlainParts
 pub mod SetLines
 pub mod ShiftedBreaks
@@ -11,3 +10,4 @@ pub mod Groups
 pub mod WholeWords
 pub mod MixedParts
 pub mod FullLines
+pub mod PlainWords

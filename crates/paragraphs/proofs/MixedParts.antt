@@ -1,6 +1,6 @@
 -- Parts that are added to others.
 use Rattle.std.proofs.Common.{◌≡◌, ℕ, zero, suc, ◌+◌, ◌<◌, ◌≤◌, inl, inr, Bool, true, false, true≢false, List, [], ◌∷◌, ◌++◌, length, map, take, replicate, sym, ap, subst, refl, ◌∙◌, arith, append_assoc, append-nil}
-use Rattle.std.specs.List.{list_all, slice_index_or}
+use Rattle.std.specs.List.{flat_map, slice_index_or}
 use Rattle.std.proofs.lemmas.Grind.{flat_map-append}
 use Rattle.std.proofs.lemmas.List.{map-append}
 use Rattle.std.proofs.lemmas.Bool.{cases_lt}
@@ -13,9 +13,9 @@ use Rattle.paragraphs.specs.declared.mixed.Mixed.{Mixed}
 use Rattle.paragraphs.specs.Private.MixedParts.{Adds, AddsUpTo}
 use Rattle.paragraphs.specs.Private.PartSettings.{settings_of}
 use Rattle.paragraphs.specs.Private.Entries.{Entry, whole_at, EndBeforeParts, AreEntries, wholes_in, parts_in, settings_in, AreMixed, AddsMixed}
-use Rattle.paragraphs.specs.Private.Printable.{is_printable}
+use Rattle.paragraphs.specs.Private.Plain.{IsRow}
 use Rattle.paragraphs.proofs.Groups.{stands_for_itself}
-use Rattle.paragraphs.proofs.WholeWords.{whole_word_stands}
+use Rattle.paragraphs.proofs.WholeWords.{whole_words_stand}
 
 entries_append : (es fs : List Entry) → AreEntries es → AreEntries fs → AreEntries (es ++ fs)
 entries_append [] fs left right = right
@@ -69,16 +69,19 @@ adds_parts old_wholes new_wholes old_parts new_parts ps wholes parts = record {
   settings = itself_settings ps;
 }
 
-pub adds_word : (old_wholes new_wholes : List Bool) (old_parts new_parts : List Setting) (indent word : List ℕ) → list_all is_printable word ≡ true
-    → new_wholes ≡ old_wholes ++ true ∷ [] → new_parts ≡ old_parts ++ record { opening = indent; text = word; joint = 32 ∷ []; closing = []; price = 0 } ∷ []
-    → (breaks_of : List ℕ → List Break) (style : Style) → AddsMixed old_wholes old_parts new_wholes new_parts (word_parts breaks_of style indent word)
-adds_word old_wholes new_wholes old_parts new_parts indent word all wholes parts breaks_of style = record {
-  entries = record { whole = true; part = record { opening = indent; text = word; joint = 32 ∷ []; closing = []; price = 0 }; group = word_parts breaks_of style indent word } ∷ [];
-  each = ((whole_word_stands breaks_of style indent word all, λ unbroken. absurd (true≢false unbroken)), tt);
-  wholes = wholes;
-  parts = parts;
-  settings = sym (append-nil (word_parts breaks_of style indent word));
-}
+pub adds_words : (old_wholes new_wholes : List Bool) (old_parts new_parts : List Setting) (indent text : List ℕ)
+    → new_wholes ≡ old_wholes ++ true ∷ [] → new_parts ≡ old_parts ++ record { opening = indent; text = text; joint = 32 ∷ []; closing = []; price = 0 } ∷ []
+    → (row : List (List ℕ)) → IsRow row text → (breaks_of : List ℕ → List Break) (style : Style)
+    → AddsMixed old_wholes old_parts new_wholes new_parts (flat_map (word_parts breaks_of style indent) row)
+adds_words old_wholes new_wholes old_parts new_parts indent text wholes parts row is breaks_of style =
+    let group = flat_map (word_parts breaks_of style indent) row in
+    record {
+      entries = record { whole = true; part = record { opening = indent; text = text; joint = 32 ∷ []; closing = []; price = 0 }; group = group } ∷ [];
+      each = ((whole_words_stand breaks_of style indent text row is, λ unbroken. absurd (true≢false unbroken)), tt);
+      wholes = wholes;
+      parts = parts;
+      settings = sym (append-nil group);
+    }
 
 -- ---- tests
 
@@ -110,14 +113,26 @@ one_more_narrow wholes stretches i here before k lt =
 pub adds_up_none : (breaks_of : List ℕ → List Break) (style : Style) (mixed : Mixed) (words : List (List ℕ)) → AddsUpTo breaks_of style mixed mixed words words
 adds_up_none breaks_of style mixed words = record { added = []; made = refl; adds = adds_none mixed.wholes.items (settings_of mixed.parts.items) }
 
-pub adds_up_more : (breaks_of : List ℕ → List Break) (style : Style) (old middle new : Mixed) (words rest after : List (List ℕ)) (word : List ℕ) → AddsUpTo breaks_of style old middle words rest
-    → rest ≡ word ∷ after → Adds middle new (word_parts breaks_of style style.indent word) → AddsUpTo breaks_of style old new words after
-adds_up_more breaks_of style old middle new words rest after word before is adds = record {
-  added = before.added ++ word_parts breaks_of style style.indent word;
-  made = append_assoc before.added (word_parts breaks_of style style.indent word) (other_parts breaks_of style after)
-      ∙ ap (λ r. before.added ++ other_parts breaks_of style r) (sym is) ∙ before.made;
-  adds = adds_both old.wholes.items middle.wholes.items new.wholes.items (settings_of old.parts.items) (settings_of middle.parts.items) (settings_of new.parts.items) before.added (word_parts breaks_of style style.indent word) before.adds adds;
+pub adds_up_both : (breaks_of : List ℕ → List Break) (style : Style) (old middle new : Mixed) (words rest after : List (List ℕ)) → AddsUpTo breaks_of style old middle words rest
+    → AddsUpTo breaks_of style middle new rest after → AddsUpTo breaks_of style old new words after
+adds_up_both breaks_of style old middle new words rest after first second = record {
+  added = first.added ++ second.added;
+  made = append_assoc first.added second.added (other_parts breaks_of style after) ∙ ap (λ s. first.added ++ s) second.made ∙ first.made;
+  adds = adds_both old.wholes.items middle.wholes.items new.wholes.items (settings_of old.parts.items) (settings_of middle.parts.items) (settings_of new.parts.items) first.added second.added first.adds second.adds;
 }
+
+pub adds_up_row : (breaks_of : List ℕ → List Break) (style : Style) (old new : Mixed) (words row after : List (List ℕ)) → words ≡ row ++ after
+    → Adds old new (other_parts breaks_of style row) → AddsUpTo breaks_of style old new words after
+adds_up_row breaks_of style old new words row after is adds = record {
+  added = other_parts breaks_of style row;
+  made = sym (flat_map-append (word_parts breaks_of style style.indent) row after) ∙ ap (other_parts breaks_of style) (sym is);
+  adds = adds;
+}
+
+pub adds_up_word : (breaks_of : List ℕ → List Break) (style : Style) (old new : Mixed) (words after : List (List ℕ)) (word : List ℕ) → words ≡ word ∷ after
+    → Adds old new (word_parts breaks_of style style.indent word) → AddsUpTo breaks_of style old new words after
+adds_up_word breaks_of style old new words after word is adds =
+    adds_up_row breaks_of style old new words (word ∷ []) after is (subst (Adds old new) (sym (append-nil (word_parts breaks_of style style.indent word))) adds)
 
 pub adds_up_all : (breaks_of : List ℕ → List Break) (style : Style) (old new : Mixed) (words rest : List (List ℕ)) → AddsUpTo breaks_of style old new words rest → rest ≡ []
     → Adds old new (other_parts breaks_of style words)

@@ -40,7 +40,7 @@ divides_rise stretches columns start (end ∷ row) divides = (divides.0, divides
 
 pub aimed_divides : (aim : Aim) (stretches : List Stretch) (columns : ℕ) (row : List ℕ) → IsAimedAt aim stretches columns row → Divides stretches columns 0 row
 aimed_divides Full stretches columns row aimed = aimed.divides
-aimed_divides (Even last_columns) stretches columns row aimed = aimed.divides
+aimed_divides (Even last_columns ladder) stretches columns row aimed = aimed.divides
 
 pub length-set_stretches : (parts : List Part) → length (map stretch_of (settings_of parts)) ≡ length parts
 length-set_stretches parts = length-map (settings_of parts) stretch_of ∙ length-map parts setting_of

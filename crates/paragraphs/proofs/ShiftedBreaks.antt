@@ -5,11 +5,11 @@ use Rattle.std.proofs.lemmas.Bool.{cases_lt}
 use Rattle.std.proofs.lemmas.List.Edits.{get_or-between}
 use Rattle.hyphenation_breaks.specs.Break.{Break, begin_of, end_of}
 use Rattle.hyphenation_segments.specs.Fits.{FitsFrom, BreakFitsAfter}
-use Rattle.paragraphs.specs.Private.Pieces.{IsPieceOf}
+use Rattle.word_pieces.specs.Pieces.{IsSlice}
 use Rattle.paragraphs.specs.Words.{set_off}
 
 -- A character boundary of a piece is one of the word.
-pub in_piece : (word : List ℕ) (x : ℕ × List ℕ) (b : ℕ) → IsPieceOf word x → IsCharBoundary x.1 b → IsCharBoundary word (x.0 + b)
+pub in_piece : (word : List ℕ) (x : ℕ × List ℕ) (b : ℕ) → IsSlice word x → IsCharBoundary x.1 b → IsCharBoundary word (x.0 + b)
 in_piece word x b is at =
     elim (cases_lt b (length x.1)) [
       | inr last ↦ subst (λ n. IsCharBoundary word (x.0 + n)) (omega (arith, at.0)) is.end
@@ -19,12 +19,12 @@ in_piece word x b is at =
     ]
 
 -- Both ends of a range that stands in a piece are character boundaries of the word.
-pub begin_in_word : (word : List ℕ) (x : ℕ × List ℕ) (b : Break) → IsPieceOf word x → BreakFitsAfter x.1 0 0 b → IsCharBoundary word (begin_of (set_off x.0 b))
+pub begin_in_word : (word : List ℕ) (x : ℕ × List ℕ) (b : Break) → IsSlice word x → BreakFitsAfter x.1 0 0 b → IsCharBoundary word (begin_of (set_off x.0 b))
 begin_in_word word x b is stands =
     let same : x.0 + begin_of b ≡ begin_of (set_off x.0 b) = omega (arith, stands.within) in
     subst (IsCharBoundary word) same (in_piece word x (begin_of b) is stands.begin)
 
-pub end_in_word : (word : List ℕ) (x : ℕ × List ℕ) (b : Break) → IsPieceOf word x → BreakFitsAfter x.1 0 0 b → IsCharBoundary word (end_of (set_off x.0 b))
+pub end_in_word : (word : List ℕ) (x : ℕ × List ℕ) (b : Break) → IsSlice word x → BreakFitsAfter x.1 0 0 b → IsCharBoundary word (end_of (set_off x.0 b))
 end_in_word word x b is stands =
     let same : x.0 + end_of b ≡ end_of (set_off x.0 b) = omega arith in
     subst (IsCharBoundary word) same (in_piece word x (end_of b) is stands.end)

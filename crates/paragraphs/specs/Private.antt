@@ -3,7 +3,7 @@ pub mod Added
 pub mod Ends
 pub mod Open
 pub mod PartSettings
-pub mod Pieces
 pub mod Entries
 pub mod MixedParts
 pub mod Printable
+pub mod Plain

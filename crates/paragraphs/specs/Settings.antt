@@ -27,7 +27,7 @@ shown text = encode_utf8_all (filter (λ c. not (is_soft_hyphen c)) (chars text)
 abbrev pub columns_of : List ℕ → ℕ
 columns_of text = str_width false (chars text)
 
--- The columns of a part.
+-- The columns of a part. A line that ends with it ends in a hyphen if a text is set after it.
 abbrev pub stretch_of : Setting → Stretch
 stretch_of part = record {
   opening = columns_of part.opening;
@@ -35,6 +35,7 @@ stretch_of part = record {
   joint = columns_of (shown part.joint);
   closing = columns_of part.closing;
   price = part.price;
+  hyphenated = nat_lt 0 (length part.closing);
 }
 
 -- A part without texts.

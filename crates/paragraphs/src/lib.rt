@@ -4,9 +4,11 @@
 //! gives, or those whose cost is least ([`Aim`]). Widths are columns of a terminal.
 #![tactic(auto)]
 
+mod length;
 mod mixed;
 mod page;
 mod part;
+mod plain;
 mod setting;
 mod shown;
 mod style;

@@ -2,138 +2,110 @@
 //!
 //! A line that holds as much as fits ends within the first word that does not fit whole, or before it. So the breaks of
 //! the other words are not needed. Which words to leave whole is a guess, and the lines are used only where it was right:
-//! where no line ends before a word that was left whole.
+//! where no line ends before words that were left whole. Those that stand one space apart are one part.
 
-ghost use Rattle.std.specs.Prelude.{◌≡◌, ◌≤◌, true, false, All, IfOk, OnOk, length, map, replicate};
+ghost use Rattle.std.specs.Prelude.{◌≡◌, ◌≤◌, ◌++◌, true, false, All, IfOk, OnOk, length, map, replicate};
 ghost use Rattle.std.specs.List.{list_all};
 ghost use Rattle.std.specs.String.{string_bytes};
 ghost use Rattle.paragraphs.specs.Private.Entries.{AreSettled, EndBeforeParts, HaveNarrowClosings, whole_at};
-ghost use Rattle.paragraphs.specs.Private.MixedParts.{StandForAll, Adds, AddsWhole, FillAll};
+ghost use Rattle.paragraphs.specs.Private.MixedParts.{StandForAll, Adds, AddsWhole, AddsRuns, FillAll};
 ghost use Rattle.paragraphs.specs.Private.PartSettings.{settings_of, IsShort};
 ghost use Rattle.paragraphs.specs.Private.Printable.{is_printable};
 ghost use Rattle.paragraphs.specs.Styles.{style_of};
 ghost use Rattle.paragraphs.specs.Words.{word_parts, other_parts, parts_of};
 ghost use Rattle.text_paragraphs.specs.Words.{words};
 
-use crate::part::{Part, is_short};
+use crate::length::is_short;
+use crate::part::Part;
+use crate::plain::{next_word, split_run};
 use crate::setting::{lines, stretch, stretches};
-use crate::shown::is_printable;
 use crate::style::Style;
 use crate::word::push_word;
 use hyphenation_hyphenator::hyphenator::Hyphenator;
 use line_division::laws::furthest_ends_are_fewest;
 use line_division::{Stretch, greedy_ends};
 use std::alloc::{AllocError, Global};
-use text_paragraphs::split_word;
 
 // Parts of which some are whole words.
 #[derive(Drop)]
 pub(crate) struct Mixed<'t> {
     // The parts.
     pub(crate) parts: Vec<Part<'t>>,
-    // Whether each of them is a whole word.
+    // Whether each of them is whole words.
     pub(crate) wholes: Vec<bool>,
     // The columns of the line that is being filled, with its last joint: a guess.
-    joined: u32,
+    joined: usize,
 }
 
-// Adds columns to columns.
-fn with_columns(columns: u32, stretch: &Stretch) -> u32 {
-    columns
-        .saturating_add(stretch.width)
-        .saturating_add(stretch.joint)
-}
-
-// Returns the columns of the stretches from a start on, as they begin a line.
-fn columns_from(stretches: &[Stretch], start: usize) -> u32 {
-    let mut columns = 0;
-    for (place, stretch) in stretches.iter().enumerate() {
-        if place == start {
-            columns = stretch.opening;
-        }
-        if start <= place {
-            columns = with_columns(columns, stretch);
-        }
-    }
-    columns
-}
-
-// Returns the columns of the line that goes on after some parts, where the line before them has such columns.
+// Returns the columns of a line that goes on after some parts, where the line before them has such columns. Where the line
+// does not fit, the next one begins.
 fn joined_after(
     alloc: Global,
     parts: &[Part],
     columns: u16,
-    joined: u32,
-) -> Result<u32, AllocError> {
-    let mut all = Vec::new(alloc);
-    if joined > 0 {
-        all.push(Stretch {
-            opening: 0,
-            width: joined - 1,
-            joint: 1,
-            closing: 0,
-            price: 0,
-        })?;
-    }
+    joined: usize,
+) -> Result<usize, AllocError> {
+    let mut joined = joined;
     for part in parts {
         if is_short(part) {
-            all.push(stretch(alloc, part)?)?;
+            let stretch = stretch(alloc, part)?;
+            let begun = if joined == 0 || !fits_after(&stretch, columns, joined) {
+                stretch.opening as usize
+            } else {
+                joined
+            };
+            joined = begun
+                .saturating_add(stretch.width as usize)
+                .saturating_add(stretch.joint as usize);
         }
     }
-    let ends = greedy_ends(alloc, &all, columns)?;
-    let count = ends.len();
-    let start = if count < 2 { 0 } else { ends[count - 2] };
-    Ok(columns_from(&all, start))
+    Ok(joined)
 }
 
-// Adds a word whole. A line that begins with it has this indent.
+// Tests whether a line of such columns fits with one more stretch at its end.
+fn fits_after(stretch: &Stretch, columns: u16, joined: usize) -> bool {
+    joined
+        .saturating_add(stretch.width as usize)
+        .saturating_add(stretch.closing as usize)
+        <= usize::from(columns)
+}
+
+// Adds words that stand one space apart in a text, as one whole. A line that begins with them has this indent.
 fn push_whole<'t>(
     alloc: Global,
     indent: &'t str,
-    word: &'t str,
+    text: &'t str,
     mixed: &mut Mixed<'t>,
 ) -> Result<(), AllocError>
-    requires { list_all is_printable word.now ≡ true }
-    ensures { OnOk result (AddsWhole mixed.old mixed.new indent.now word.now) }
+    requires { list_all is_printable text.now ≡ true }
+    ensures { OnOk result (AddsWhole mixed.old mixed.new indent.now text.now) }
 {
     mixed.parts.push(Part {
         indent,
         after: String::new(alloc),
-        text: word,
+        text,
         joint: " ",
         before: String::new(alloc),
         hyphen: "",
         price: 0,
+        plain: true,
     })?;
     mixed.wholes.push(true)?;
-    let columns = u32::try_from(word.len()).unwrap_or(u32::MAX);
-    mixed.joined = mixed.joined.saturating_add(columns).saturating_add(1);
+    mixed.joined = mixed.joined.saturating_add(text.len()).saturating_add(1);
     Ok(())
 }
 
-// Returns for each part that it is no whole word.
-fn falses(alloc: Global, parts: &[Part]) -> Result<Vec<bool>, AllocError>
-    ensures { IfOk result (λ wholes. wholes.items ≡ replicate (length parts.now) false) }
+// Adds for so many parts that they are no whole words.
+fn push_falses(wholes: &mut Vec<bool>, count: usize) -> Result<(), AllocError>
+    ensures { OnOk result (wholes.new.items ≡ wholes.old.items ++ replicate count false) }
 {
-    let wholes = vec![in alloc; false; parts.len()]?;
-    Ok(wholes)
-}
-
-// Adds parts that are no whole words.
-fn push_parts<'t>(
-    alloc: Global,
-    mut parts: Vec<Part<'t>>,
-    mixed: &mut Mixed<'t>,
-) -> Result<(), AllocError>
-    ensures { OnOk result (Adds mixed.old mixed.new (settings_of parts.entry.items)) }
-{
-    let mut wholes = falses(alloc, &parts)?;
-    mixed.wholes.append(&mut wholes)?;
-    mixed.parts.append(&mut parts)?;
+    for _place in 0..count {
+        wholes.push(false)?;
+    }
     Ok(())
 }
 
-// Adds the parts of a word.
+// Adds the parts of a word. The list is for the breaks of its pieces.
 fn push_broken<'t, 'h, H: Hyphenator<'h>>(
     alloc: Global,
     dictionary: &'h H,
@@ -141,74 +113,82 @@ fn push_broken<'t, 'h, H: Hyphenator<'h>>(
     indent: &'t str,
     word: &'t str,
     columns: u16,
+    breaks: &mut Vec<H::Opportunity>,
     mixed: &mut Mixed<'t>,
 ) -> Result<(), AllocError>
     ensures { OnOk result (Adds mixed.old mixed.new
         (word_parts (H.breaks_of dictionary.now) (style_of style.now) indent.now word.now)) }
 {
-    let mut parts = Vec::new(alloc);
-    let mut breaks = Vec::new(alloc);
+    let before = mixed.parts.len();
     push_word(
         alloc,
         dictionary,
         style,
         indent,
         word,
-        &mut breaks,
-        &mut parts,
+        breaks,
+        &mut mixed.parts,
     )?;
-    mixed.joined = joined_after(alloc, &parts, columns, mixed.joined)?;
-    push_parts(alloc, parts, mixed)?;
+    let made = &mixed.parts[before..];
+    let count = made.len();
+    mixed.joined = joined_after(alloc, made, columns, mixed.joined)?;
+    push_falses(&mut mixed.wholes, count)?;
     Ok(())
 }
 
-// Tests whether a word of printable ASCII seems to fit after such columns of a line.
-fn seems_to_fit(word: &str, columns: u16, joined: u32) -> bool
-    ensures { result ≡ true → list_all is_printable word.now ≡ true }
-{
-    joined > 0
-        && (joined as usize).saturating_add(word.len()) <= usize::from(columns)
-        && is_printable(word)
+// Returns the columns that a line of such columns has left.
+fn columns_left(columns: u16, joined: usize) -> usize {
+    usize::from(columns).saturating_sub(joined)
 }
 
-// Adds a word, whole where it seems to fit.
-fn push_mixed<'t, 'h, H: Hyphenator<'h>>(
+// Adds the first words of a text whole, as long as they seem to fit, and returns the text after them. None of them is the
+// first one of its paragraph.
+fn push_runs<'t>(
     alloc: Global,
-    dictionary: &'h H,
     style: &Style<'t>,
-    indent: &'t str,
-    word: &'t str,
+    text: &'t str,
     columns: u16,
     mixed: &mut Mixed<'t>,
-) -> Result<(), AllocError>
-    ensures { OnOk result (Adds mixed.old mixed.new
-        (word_parts (H.breaks_of dictionary.now) (style_of style.now) indent.now word.now)) }
+) -> Result<&'t str, AllocError>
+    ensures adds { IfOk result (λ rest.
+        AddsRuns (style_of style.now) mixed.old mixed.new (words text.now) (words rest.now)) }
+    ensures no_longer { IfOk result (λ rest. length rest.now ≤ length text.now) }
 {
-    if seems_to_fit(word, columns, mixed.joined) {
-        push_whole(alloc, indent, word, mixed)?;
-        return Ok(());
+    let mut rest = text;
+    while let Some((run, after)) = split_run(rest, columns_left(columns, mixed.joined)) {
+        push_whole(alloc, style.indent, run, mixed)?;
+        rest = after;
     }
-    push_broken(alloc, dictionary, style, indent, word, columns, mixed)?;
-    Ok(())
+    Ok(rest)
 }
 
-// Adds all words of a text, none of which is the first one of its paragraph.
-#[tactic(auto, using(crate::proofs::MixedParts::adds_up_more, crate::proofs::MixedParts::adds_up_none, crate::proofs::MixedParts::adds_up_all))]
+// Adds all words of a text, none of which is the first one of its paragraph. The list is for the breaks of their pieces.
+#[tactic(auto, using(crate::proofs::MixedParts::adds_up_all))]
 fn push_others<'t, 'h, H: Hyphenator<'h>>(
     alloc: Global,
     dictionary: &'h H,
     style: &Style<'t>,
     text: &'t str,
     columns: u16,
+    breaks: &mut Vec<H::Opportunity>,
     mixed: &mut Mixed<'t>,
 ) -> Result<(), AllocError>
     ensures { OnOk result (Adds mixed.old mixed.new
         (other_parts (H.breaks_of dictionary.now) (style_of style.now) (words text.now))) }
 {
-    let mut rest = text;
-    while let Some((word, after)) = split_word(rest) {
-        push_mixed(alloc, dictionary, style, style.indent, word, columns, mixed)?;
-        rest = after;
+    let mut rest = push_runs(alloc, style, text, columns, mixed)?;
+    while let Some((word, after)) = next_word(rest) {
+        push_broken(
+            alloc,
+            dictionary,
+            style,
+            style.indent,
+            word,
+            columns,
+            breaks,
+            mixed,
+        )?;
+        rest = push_runs(alloc, style, after, columns, mixed)?;
     }
     Ok(())
 }
@@ -230,19 +210,29 @@ pub(crate) fn mixed_of<'t, 'h, H: Hyphenator<'h>>(
         wholes: Vec::new(alloc),
         joined: 0,
     };
-    let Some((first, rest)) = split_word(text) else {
+    let Some((first, rest)) = next_word(text) else {
         return Ok(mixed);
     };
-    push_mixed(
+    let mut breaks = Vec::new(alloc);
+    push_broken(
         alloc,
         dictionary,
         style,
         style.first,
         first,
         columns,
+        &mut breaks,
         &mut mixed,
     )?;
-    push_others(alloc, dictionary, style, rest, columns, &mut mixed)?;
+    push_others(
+        alloc,
+        dictionary,
+        style,
+        rest,
+        columns,
+        &mut breaks,
+        &mut mixed,
+    )?;
     Ok(mixed)
 }
 

@@ -1,8 +1,8 @@
 //! The parts of which the lines of a paragraph are made.
 
-ghost use Rattle.std.specs.Prelude.{◌≡◌};
+ghost use Rattle.std.specs.Prelude.{◌≡◌, true};
 ghost use Rattle.std.specs.List.{list_all};
-ghost use Rattle.paragraphs.specs.Private.PartSettings.{is_short_part};
+ghost use Rattle.paragraphs.specs.Private.Printable.{is_printable};
 
 // A text between two neighbouring places at which a line may end.
 //
@@ -29,26 +29,8 @@ pub struct Part<'t> {
     pub hyphen: &'t str,
     // The cost of a line's end after it.
     pub price: u32,
-}
-
-// Tests whether no text of a part is too long to be measured.
-pub(crate) fn is_short(part: &Part) -> bool
-    ensures { result ≡ is_short_part part.now }
-{
-    part.indent.len() + part.after.len() < 1 << 31
-        && part.text.len() < 1 << 31
-        && part.joint.len() < 1 << 31
-        && part.before.len() + part.hyphen.len() < 1 << 31
-}
-
-// Tests whether all parts are short.
-pub(crate) fn are_short(parts: &[Part]) -> bool
-    ensures { result ≡ list_all is_short_part parts.now }
-{
-    for part in parts {
-        if !is_short(part) {
-            return false;
-        }
-    }
-    true
+    // Whether its text and its joint are known to be of printable ASCII.
+    pub plain: bool,
+    ghost text_printable: { plain ≡ true → list_all is_printable text.now ≡ true },
+    ghost joint_printable: { plain ≡ true → list_all is_printable joint.now ≡ true },
 }

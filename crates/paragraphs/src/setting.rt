@@ -21,11 +21,24 @@ pub enum Aim {
     /// The sum of the costs of all lines is least.
     ///
     /// A line costs the square of the columns that it lacks, and its price where it ends at a break of a word. The last
-    /// line lacks columns only where it has fewer than `last_columns`.
-    Even { last_columns: u16 },
+    /// line lacks columns only where it has fewer than `last_columns`. Before all else, at most `ladder` lines in a row
+    /// end in a hyphen, where lines that fit can be had so.
+    Even {
+        last_columns: u16,
+        ladder: Option<u8>,
+    },
+}
+
+// Returns the columns of a text in a terminal, by the tables of Unicode.
+fn columns_by_tables(text: &str) -> u32
+    requires { length text.now < 2 ^ 31 }
+    ensures { result ≡ columns_of text.now }
+{
+    text.width() as u32
 }
 
 // Returns the columns of a text in a terminal.
+#[inline(always)]
 fn columns_of(text: &str) -> u32
     requires { length text.now < 2 ^ 31 }
     ensures { result ≡ columns_of text.now }
@@ -33,7 +46,7 @@ fn columns_of(text: &str) -> u32
     if is_printable(text) {
         return text.len() as u32;
     }
-    text.width() as u32
+    columns_by_tables(text)
 }
 
 // Returns the columns of a text without its soft hyphens.
@@ -51,7 +64,18 @@ fn columns_shown(alloc: Global, text: &str) -> Result<u32, AllocError>
     Ok(columns_of(text))
 }
 
+// Returns the columns of two texts as one.
+fn columns_of_joined(alloc: Global, first: &str, second: &str) -> Result<u32, AllocError>
+    requires { length first.now + length second.now < 2 ^ 31 }
+    ensures { IfOk result (λ columns. columns ≡ columns_of (first.now ++ second.now)) }
+{
+    let mut both = String::from_str(alloc, first)?;
+    both.push_str(second)?;
+    Ok(columns_of(&both))
+}
+
 // Returns the columns of a text with another one after it.
+#[inline(always)]
 fn columns_of_both(alloc: Global, first: &str, second: &str) -> Result<u32, AllocError>
     requires { length first.now + length second.now < 2 ^ 31 }
     ensures { IfOk result (λ columns. columns ≡ columns_of (first.now ++ second.now)) }
@@ -62,9 +86,23 @@ fn columns_of_both(alloc: Global, first: &str, second: &str) -> Result<u32, Allo
     if second.is_empty() {
         return Ok(columns_of(first));
     }
-    let mut both = String::from_str(alloc, first)?;
-    both.push_str(second)?;
-    Ok(columns_of(&both))
+    columns_of_joined(alloc, first, second)
+}
+
+// Returns the columns of a part's text, and those of its joint.
+#[inline(always)]
+#[tactic(auto, using(crate::proofs::Printable::printable_columns_shown))]
+fn columns_inside(alloc: Global, part: &Part) -> Result<(u32, u32), AllocError>
+    requires { IsShort part.now }
+    ensures { IfOk result (λ x. (x.0 ≡ columns_of (shown (part.now).text.now)) × (x.1 ≡ columns_of (shown (part.now).joint.now))) }
+{
+    if part.plain {
+        return Ok((part.text.len() as u32, part.joint.len() as u32));
+    }
+    Ok((
+        columns_shown(alloc, part.text)?,
+        columns_shown(alloc, part.joint)?,
+    ))
 }
 
 // Returns the columns of a part.
@@ -72,12 +110,14 @@ pub(crate) fn stretch(alloc: Global, part: &Part) -> Result<Stretch, AllocError>
     requires { IsShort part.now }
     ensures { IfOk result (λ stretch. stretch ≡ stretch_of (setting_of part.now)) }
 {
+    let (width, joint) = columns_inside(alloc, part)?;
     Ok(Stretch {
         opening: columns_of_both(alloc, part.indent, &part.after)?,
-        width: columns_shown(alloc, part.text)?,
-        joint: columns_shown(alloc, part.joint)?,
+        width,
+        joint,
         closing: columns_of_both(alloc, &part.before, part.hyphen)?,
         price: part.price,
+        hyphenated: part.before.len() + part.hyphen.len() > 0,
     })
 }
 
@@ -93,11 +133,23 @@ pub(crate) fn stretches(alloc: Global, parts: &[Part]) -> Result<Vec<Stretch>, A
     Ok(all)
 }
 
-// Returns the text before a line that begins with a part.
-fn opening(alloc: Global, part: &Part) -> Result<String, AllocError>
+// Returns about the number of bytes of a line that holds such parts.
+fn bytes_of(parts: &[Part]) -> usize {
+    let mut bytes: usize = 8;
+    for part in parts {
+        bytes = bytes
+            .saturating_add(part.text.len())
+            .saturating_add(part.joint.len());
+    }
+    bytes
+}
+
+// Returns the text before a line that begins with a part. There is room for so many bytes.
+fn opening(alloc: Global, part: &Part, bytes: usize) -> Result<String, AllocError>
     ensures { IfOk result (λ opening. string_bytes opening ≡ (setting_of part.now).opening) }
 {
-    let mut opening = String::from_str(alloc, part.indent)?;
+    let mut opening = String::with_capacity(alloc, bytes)?;
+    opening.push_str(part.indent)?;
     opening.push_str(&part.after)?;
     Ok(opening)
 }
@@ -106,8 +158,26 @@ fn opening(alloc: Global, part: &Part) -> Result<String, AllocError>
 fn push_joined(line: &mut String, part: &Part) -> Result<(), AllocError>
     ensures { OnOk result (string_bytes line.new ≡ string_bytes line.old ++ shown_text (setting_of part.now)) }
 {
+    if part.plain {
+        line.push_str(part.text)?;
+        line.push_str(part.joint)?;
+        return Ok(());
+    }
     push_shown(line, part.text)?;
     push_shown(line, part.joint)?;
+    Ok(())
+}
+
+// Appends the text of a part.
+#[tactic(auto, using(crate::proofs::Printable::printable_shown))]
+fn push_text(line: &mut String, part: &Part) -> Result<(), AllocError>
+    ensures { OnOk result (string_bytes line.new ≡ string_bytes line.old ++ shown (part.now).text.now) }
+{
+    if part.plain {
+        line.push_str(part.text)?;
+        return Ok(());
+    }
+    push_shown(line, part.text)?;
     Ok(())
 }
 
@@ -115,7 +185,7 @@ fn push_joined(line: &mut String, part: &Part) -> Result<(), AllocError>
 fn push_last(line: &mut String, part: &Part) -> Result<(), AllocError>
     ensures { OnOk result (string_bytes line.new ≡ string_bytes line.old ++ last_text (setting_of part.now)) }
 {
-    push_shown(line, part.text)?;
+    push_text(line, part)?;
     line.push_str(&part.before)?;
     line.push_str(part.hyphen)?;
     Ok(())
@@ -127,7 +197,7 @@ fn line(alloc: Global, parts: &[Part], start: usize, end: usize) -> Result<Strin
     requires within { end ≤ length parts.now }
     ensures { IfOk result (λ line. string_bytes line ≡ line_text (settings_of parts.now) start end) }
 {
-    let mut line = opening(alloc, &parts[start])?;
+    let mut line = opening(alloc, &parts[start], bytes_of(&parts[start..end]))?;
     for part in &parts[start..end - 1] {
         push_joined(&mut line, part)?;
     }
@@ -145,7 +215,7 @@ pub(crate) fn lines(
     requires { Rise 0 (length parts.now) ends.now }
     ensures { IfOk result (λ lines. map string_bytes lines.items ≡ lines_to (settings_of parts.now) 0 ends.now) }
 {
-    let mut lines = Vec::new(alloc);
+    let mut lines = Vec::with_capacity(alloc, ends.len())?;
     let mut start = 0;
     for end in ends {
         lines.push(line(alloc, parts, start, *end)?)?;
@@ -169,8 +239,11 @@ fn ends(
             let ends = greedy_ends(alloc, stretches, columns)?;
             Ok(ends)
         }
-        Aim::Even { last_columns } => {
-            let ends = even_ends(alloc, stretches, columns, last_columns)?;
+        Aim::Even {
+            last_columns,
+            ladder,
+        } => {
+            let ends = even_ends(alloc, stretches, columns, last_columns, ladder)?;
             Ok(ends)
         }
     }

@@ -10,14 +10,15 @@ ghost use Rattle.paragraphs.specs.Styles.{style_of};
 ghost use Rattle.paragraphs.specs.Words.{other_parts, parts_of};
 ghost use Rattle.text_paragraphs.specs.Words.{words};
 
+use crate::length::are_short;
 use crate::mixed::{NotFull, full_lines, mixed_of};
-use crate::part::{Part, are_short};
+use crate::part::Part;
+use crate::plain::next_word;
 use crate::setting::{Aim, set};
 use crate::style::Style;
 use crate::word::push_word;
 use hyphenation_hyphenator::hyphenator::Hyphenator;
 use std::alloc::{AllocError, Global};
-use text_paragraphs::split_word;
 
 // Adds the parts of all words of a text, none of which is the first one of its paragraph.
 fn push_others<'t, 'h, H: Hyphenator<'h>>(
@@ -32,7 +33,7 @@ fn push_others<'t, 'h, H: Hyphenator<'h>>(
         (other_parts (H.breaks_of dictionary.now) (style_of style.now) (words text.now))) }
 {
     let mut rest = text;
-    while let Some((word, after)) = split_word(rest) {
+    while let Some((word, after)) = next_word(rest) {
         push_word(alloc, dictionary, style, style.indent, word, breaks, parts)?;
         rest = after;
     }
@@ -49,8 +50,8 @@ fn parts_of<'t, 'h, H: Hyphenator<'h>>(
     ensures { IfOk result (λ parts.
         settings_of parts.items ≡ parts_of (H.breaks_of dictionary.now) (style_of style.now) (words text.now)) }
 {
-    let mut parts = Vec::new(alloc);
-    let Some((first, rest)) = split_word(text) else {
+    let mut parts = Vec::with_capacity(alloc, text.len() / 6)?;
+    let Some((first, rest)) = next_word(text) else {
         return Ok(parts);
     };
     let mut breaks = Vec::new(alloc);

@@ -1,20 +1,23 @@
 //! The parts of words.
 
-ghost use Rattle.std.specs.Prelude.{◌≡◌, ◌≤◌, ◌∷◌, [], None, IfOk, OnOk};
+ghost use Rattle.std.specs.Prelude.{◌≡◌, ◌≤◌, ◌∷◌, [], None, true, IfOk, OnOk};
+ghost use Rattle.std.specs.List.{list_all};
 ghost use Rattle.std.specs.Str.{IsCharBoundary};
 ghost use Rattle.hyphenation_breaks.specs.Break.{left_of, begin_of, end_of};
 ghost use Rattle.paragraphs.specs.Private.Open.{Passes, PassesPiece, AddsParts, next_then};
-ghost use Rattle.paragraphs.specs.Private.Pieces.{IsPieceOf};
+ghost use Rattle.paragraphs.specs.Private.Printable.{is_printable};
 ghost use Rattle.paragraphs.specs.Styles.{style_of};
 ghost use Rattle.paragraphs.specs.Words.{set_off, word_parts};
-ghost use Rattle.word_pieces.specs.Pieces.{piece_indices_left};
+ghost use Rattle.word_pieces.specs.Pieces.{piece_indices_left, IsSlice};
 
 use crate::part::Part;
+use crate::shown::is_printable;
 use crate::style::Style;
 use hyphenation_breaks::breaks::Break;
 use hyphenation_hyphenator::hyphenator::Hyphenator;
 use std::alloc::{AllocError, Global};
 use word_pieces::WordPieceIndices;
+use word_pieces::laws::pieces_are_slices;
 
 // The part that is being made.
 #[derive(Drop)]
@@ -29,15 +32,18 @@ struct Open<'t> {
 
 // Passes a break of a piece of a word: the part that is being made ends there, where some of the word is on either
 // side.
+#[tactic(auto, using(crate::proofs::Printable::printable_between))]
 fn pass_break<'t, B: Break>(
     alloc: Global,
     style: &Style<'t>,
     word: &'t str,
+    plain: bool,
     offset: usize,
     b: &B,
     parts: &mut Vec<Part<'t>>,
     current: Open<'t>,
 ) -> Result<Open<'t>, AllocError>
+    requires plain { plain ≡ true → list_all is_printable word.now ≡ true }
     requires within { left_of (B.meaning b.now).change ≤ (B.meaning b.now).place }
     requires from { IsCharBoundary word.now current.from }
     requires begin { IsCharBoundary word.now (begin_of (set_off offset (B.meaning b.now))) }
@@ -59,6 +65,7 @@ fn pass_break<'t, B: Break>(
         before: String::from_str(alloc, b.before())?,
         hyphen: "-",
         price: style.price,
+        plain,
     })?;
     Ok(Open {
         indent: style.indent,
@@ -73,13 +80,15 @@ fn pass_piece<'t, 'h, H: Hyphenator<'h>>(
     dictionary: &'h H,
     style: &Style<'t>,
     word: &'t str,
+    plain: bool,
     offset: usize,
     piece: &str,
     breaks: &mut Vec<H::Opportunity>,
     parts: &mut Vec<Part<'t>>,
     current: Open<'t>,
 ) -> Result<Open<'t>, AllocError>
-    requires piece { IsPieceOf word.now (offset, piece.now) }
+    requires plain { plain ≡ true → list_all is_printable word.now ≡ true }
+    requires piece { IsSlice word.now (offset, piece.now) }
     requires from { IsCharBoundary word.now current.from }
     ensures goes { IfOk result (PassesPiece style.now word.now (H.breaks_of dictionary.now)
         (offset, piece.now) parts.old.items current.entry parts.new.items) }
@@ -88,7 +97,7 @@ fn pass_piece<'t, 'h, H: Hyphenator<'h>>(
     let mut current = current;
     dictionary.breaks_into(piece, breaks)?;
     for b in breaks.iter() {
-        current = pass_break(alloc, style, word, offset, b, parts, current)?;
+        current = pass_break(alloc, style, word, plain, offset, b, parts, current)?;
     }
     Ok(current)
 }
@@ -102,6 +111,7 @@ fn next_piece<'t>(pieces: &mut WordPieceIndices<'t>) -> Option<(usize, &'t str)>
 }
 
 // Adds the parts of a word. A line that begins with the word has this indent. The list is for the breaks of its pieces.
+#[tactic(auto, using(crate::proofs::Printable::printable_drop))]
 pub(crate) fn push_word<'t, 'h, H: Hyphenator<'h>>(
     alloc: Global,
     dictionary: &'h H,
@@ -114,6 +124,8 @@ pub(crate) fn push_word<'t, 'h, H: Hyphenator<'h>>(
     ensures { OnOk result (AddsParts parts.old.items parts.new.items
         (word_parts (H.breaks_of dictionary.now) (style_of style.now) indent.now word.now)) }
 {
+    pieces_are_slices();
+    let plain = is_printable(word);
     let mut current = Open {
         indent,
         after: String::new(alloc),
@@ -122,7 +134,7 @@ pub(crate) fn push_word<'t, 'h, H: Hyphenator<'h>>(
     let mut pieces = WordPieceIndices::new(word);
     while let Some((offset, piece)) = next_piece(&mut pieces) {
         current = pass_piece(
-            alloc, dictionary, style, word, offset, piece, breaks, parts, current,
+            alloc, dictionary, style, word, plain, offset, piece, breaks, parts, current,
         )?;
     }
     let last = Part {
@@ -133,6 +145,7 @@ pub(crate) fn push_word<'t, 'h, H: Hyphenator<'h>>(
         before: String::new(alloc),
         hyphen: "",
         price: 0,
+        plain,
     };
     parts.push(last)?;
     Ok(())

@@ -89,6 +89,14 @@ fn full_lines_hold_as_much_as_fits(rt: HostRuntime) -> Result<(), Fail> {
     expect_lines(rt.alloc(), Aim::Full, &FULL)
 }
 
+// Even lines, the last of which has no fewer columns for nothing, and no more hyphens in a row than a ladder has.
+fn even(last_columns: u16, ladder: Option<u8>) -> Aim {
+    Aim::Even {
+        last_columns,
+        ladder,
+    }
+}
+
 const DEAR: Style = Style {
     first: "",
     indent: "",
@@ -105,7 +113,7 @@ const EVEN: [(&str, Style, u16, &str); 3] = [
 
 #[test]
 fn even_lines_cost_the_least(rt: HostRuntime) -> Result<(), Fail> {
-    expect_lines(rt.alloc(), Aim::Even { last_columns: 0 }, &EVEN)
+    expect_lines(rt.alloc(), even(0, None), &EVEN)
 }
 
 // With six columns wanted `bb` alone costs 16, and `aaa bb` leaves nothing free.
@@ -116,7 +124,32 @@ const LAST: [(&str, Style, u16, &str); 2] = [
 
 #[test]
 fn a_short_last_line_costs(rt: HostRuntime) -> Result<(), Fail> {
-    expect_lines(rt.alloc(), Aim::Even { last_columns: 8 }, &LAST)
+    expect_lines(rt.alloc(), even(8, None), &LAST)
+}
+
+// By a search over all divisions: each of these is the only one that costs so little.
+const LADDERS: [(Option<u8>, &str); 4] = [
+    (None, "the hyphena-|tion hyphena-|tion hyphena-|tion|"),
+    (Some(2), "the hyphen-|ation hy-|phenation|hyphenation|"),
+    (Some(1), "the hy-|phenation|hyphenation|hyphenation|"),
+    (Some(0), "the|hyphenation|hyphenation|hyphenation|"),
+];
+
+#[test]
+fn at_most_so_many_lines_in_a_row_end_in_a_hyphen(rt: HostRuntime) -> Result<(), Fail> {
+    let text = "the hyphenation hyphenation hyphenation";
+    for (ladder, wanted) in &LADDERS {
+        expect_lines(rt.alloc(), even(0, *ladder), &[(text, PLAIN, 13, *wanted)])?;
+    }
+    Ok(())
+}
+
+// Each division of these columns has two hyphens in a row.
+const NARROW: [(&str, Style, u16, &str); 1] = [("hyphenation", PLAIN, 6, "hy-|phena-|tion|")];
+
+#[test]
+fn lines_are_set_where_none_keep_to_a_ladder(rt: HostRuntime) -> Result<(), Fail> {
+    expect_lines(rt.alloc(), even(0, Some(1)), &NARROW)
 }
 
 const CHANGED: [(u16, &str); 3] = [
@@ -149,6 +182,7 @@ fn word(width: u32) -> Stretch {
         joint: 1,
         closing: 0,
         price: 0,
+        hyphenated: false,
     }
 }
 
@@ -161,7 +195,7 @@ fn expect_ends(ends: Result<Vec<usize>, AllocError>, wanted: [usize; 3]) -> Resu
 #[test]
 fn stretches_are_divided(rt: HostRuntime) -> Result<(), Fail> {
     let words = [word(3), word(2), word(2), word(5)];
-    expect_ends(even_ends(rt.alloc(), &words, 6, 0), [1, 3, 4])?;
+    expect_ends(even_ends(rt.alloc(), &words, 6, 0, None), [1, 3, 4])?;
     expect_ends(greedy_ends(rt.alloc(), &words, 6), [2, 3, 4])
 }
 

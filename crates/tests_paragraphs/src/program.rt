@@ -77,6 +77,17 @@ fn even_lines_are_made(rt: HostRuntime) -> Result<(), Fail> {
 }
 
 #[test]
+fn a_ladder_is_taken(rt: HostRuntime) -> Result<(), Fail> {
+    expect_ending(
+        &rt,
+        FIRKIN,
+        &["--ladder", "1", "--even", "--width", "9", "en-gb"],
+        "of firkins firkins",
+        (0, "of fir-\nkins\nfirkins\n", ""),
+    )
+}
+
+#[test]
 fn the_dictionary_says_its_kind(rt: HostRuntime) -> Result<(), Fail> {
     expect_ending(
         &rt,
@@ -87,13 +98,16 @@ fn the_dictionary_says_its_kind(rt: HostRuntime) -> Result<(), Fail> {
     )
 }
 
-const REFUSED: [&[&str]; 6] = [
+const REFUSED: [&[&str]; 9] = [
     &[],
     &["en-gb", "another"],
     &["--width", "65536", "en-gb"],
     &["--width", "en-gb"],
     &["--narrow", "9", "en-gb"],
     &["EN"],
+    &["--ladder", "2", "en-gb"],
+    &["--even", "--ladder", "0", "en-gb"],
+    &["--even", "--ladder", "256", "en-gb"],
 ];
 
 #[test]

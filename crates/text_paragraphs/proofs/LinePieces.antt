@@ -1,11 +1,10 @@
 -- The lines of a text, and the words in them.
-use Rattle.std.proofs.Common.{◌≡◌, ℕ, ◌<◌, ◌==◌, ◌&&◌, lit<, true, false, not, cond, List, [], ◌∷◌, ◌++◌, length, get_or, map, chars, encode_utf8, sym, ap, subst, refl, ◌∙◌, arith, inl, inr, append_assoc, append-nil}
-use Rattle.std.specs.List.{All, list_all, flat_map, slice_split, onto_first}
+use Rattle.std.proofs.Common.{◌≡◌, ℕ, ◌<◌, ◌&&◌, lit<, true, false, not, cond, List, [], ◌∷◌, ◌++◌, length, get_or, chars, encode_utf8, sym, ap, subst, refl, ◌∙◌, arith, inl, inr, append_assoc, append-nil}
+use Rattle.std.specs.List.{All, list_all, flat_map, onto_first}
 use Rattle.std.specs.Str.{IsUtf8, encode_utf8_all, all_scalars}
-use Rattle.std.specs.Char.{IsScalar}
-use Rattle.std.proofs.lemmas.Bool.{and_parts, not-true, not_from_false, cases_eq, cases_Bool, ne_eqb, eqb-true}
+use Rattle.std.proofs.lemmas.Bool.{and_parts, cases_eq, ne_eqb, eqb-true}
 use Rattle.std.proofs.lemmas.List.Elements.{All-nil, All-cons, All-head, All-tail, All-append, All-push, All-same, All-from_get_or}
-use Rattle.std.proofs.lemmas.List.Splits.{slice_split-cons_no, slice_split-cons_yes}
+use Rattle.std.proofs.lemmas.List.Splits.{slice_split-cons_no}
 use Rattle.std.proofs.lemmas.Str.{chars-append, IsUtf8-encode, chars-encodes, chars-nil, scalars-chars, encodes-chars, encode_ascii, inside_one}
 use Rattle.text_paragraphs.specs.Words.{is_gap, if_any, words_after, words}
 use Rattle.text_paragraphs.proofs.WordLists.{some_any}

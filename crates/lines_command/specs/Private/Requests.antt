@@ -10,6 +10,7 @@ parsed_options options = record {
   columns = options.columns;
   even = options.even;
   last_columns = options.last_columns;
+  ladder = options.ladder;
   price = options.price;
   first = option_map (λ text. text.now) options.first;
   indent = options.indent.now;

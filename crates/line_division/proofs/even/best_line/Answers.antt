@@ -16,8 +16,8 @@ loop-last-init c =
       within = c.requires.within;
       joined = omega (arith, reach.joined, c.widened-opening.ensures.value);
       small_sum = omega (arith, reach.small, c.widened-opening.ensures.small, c.ranges.columns.fits);
-      alone = least_alone c.args.stretches.now c.args.columns c.args.last_columns c.args.choices.now c.args.start c.choose-best.result c.choose-best.ensures.made c.choose-best.ensures.end c.requires.best;
-      after = least_beyond c.args.stretches.now c.args.columns c.args.last_columns c.args.start c.args.reach.last c.choose-best.result.cost reach.from reach.beyond;
+      alone = least_alone c.args.stretches.now c.args.columns c.args.last_columns c.args.ladder c.args.choices.now c.args.run c.args.start c.choose-best.result c.choose-best.ensures.made c.choose-best.ensures.end c.requires.best;
+      after = least_beyond c.args.stretches.now c.args.columns c.args.last_columns c.args.ladder c.args.run c.args.start c.args.reach.last c.choose-best.result.cost reach.from reach.beyond;
       made = c.choose-best.ensures.made;
       small = c.choose-best.ensures.small;
     }
@@ -26,8 +26,8 @@ pub returns-then-is_enough-clause-least : goal.returns-then-is_enough-clause-lea
 returns-then-is_enough-clause-least c =
     let before = c.loop-last.invariant in
     let enough = c.is_enough.ensures c.if-is_enough.true in
-    least_enough c.args.stretches.now c.args.columns c.args.last_columns c.args.closing c.args.start c.loop-last.last (c.loop-last.joined + c.widened-in-loop-last.result + c.args.closing) c.loop-last.best.cost c.requires.closing c.requires.start c.if-last-stretches.true
-    (omega (arith, before.joined, c.widened-in-loop-last.ensures.value)) enough.0 enough.1 before.after
+    least_enough c.args.stretches.now c.args.columns c.args.last_columns c.args.ladder c.args.run c.args.closing c.args.start c.loop-last.last (c.loop-last.joined + c.widened-in-loop-last.result + c.args.closing) c.loop-last.best.cost c.requires.closing c.requires.start c.if-last-stretches.true
+    (omega (arith, before.joined, c.widened-in-loop-last.ensures.value)) enough.0 enough.1 enough.2 before.after
 
 pub overflow_sub-joined : goal.overflow_sub-joined
 overflow_sub-joined c =
@@ -39,6 +39,8 @@ loop-last-preserved c =
     let stretches = c.args.stretches.now in
     let columns = c.args.columns in
     let last_columns = c.args.last_columns in
+    let ladder = c.args.ladder in
+    let run = c.args.run in
     let choices = c.args.choices.now in
     let start = c.args.start in
     let last = c.loop-last.last in
@@ -52,42 +54,42 @@ loop-last-preserved c =
       | then-wide-from+then-is_less w ↦
           let other = w.choose-other.result in
           let less = told_less other.cost best w.is_less.result w.is_less.ensures w.if-is_less.true in
-          let after = least_tried stretches columns last_columns choices start last best other before.after w.choose-other.ensures.made w.choose-other.ensures.end c.requires.best other.cost less (no_more_here other.cost) in
+          let after = least_tried stretches columns last_columns ladder choices run start last best other before.after w.choose-other.ensures.made w.choose-other.ensures.end c.requires.best other.cost less (no_more_here other.cost) in
           record {
             from = omega (arith, c.loop-last-test.true);
             within = omega (arith, before.within);
             joined = joined;
             small_sum = small_sum;
-            alone = subst (λ b. IsLeastUpTo stretches columns last_columns start (start + 1) b.cost) (sym w.best-is) (least_less stretches columns last_columns start (start + 1) best other.cost less before.alone);
-            after = subst (λ b. IsLeastAfter stretches columns last_columns start (last - 1 + 1) b.cost) (sym w.best-is) (subst (λ p. IsLeastAfter stretches columns last_columns start p other.cost) place after);
-            made = subst (λ b. IsMade stretches columns last_columns choices start b) (sym w.best-is) w.choose-other.ensures.made;
+            alone = subst (λ b. IsLeastUpTo stretches columns last_columns ladder run start (start + 1) b.cost) (sym w.best-is) (least_less stretches columns last_columns ladder run start (start + 1) best other.cost less before.alone);
+            after = subst (λ b. IsLeastAfter stretches columns last_columns ladder run start (last - 1 + 1) b.cost) (sym w.best-is) (subst (λ p. IsLeastAfter stretches columns last_columns ladder run start p other.cost) place after);
+            made = subst (λ b. IsMade stretches columns last_columns ladder choices run start b) (sym w.best-is) w.choose-other.ensures.made;
             small = subst (λ b. IsSmall b.cost (length stretches - start)) (sym w.best-is) w.choose-other.ensures.small;
           }
       | then-wide-from+else-is_less w ↦
           let other = w.choose-other.result in
           let more_or_same = told_no_less other.cost best w.is_less.result w.is_less.ensures w.if-is_less.false in
-          let after = least_tried stretches columns last_columns choices start last best other before.after w.choose-other.ensures.made w.choose-other.ensures.end c.requires.best best (no_more_here best) more_or_same in
+          let after = least_tried stretches columns last_columns ladder choices run start last best other before.after w.choose-other.ensures.made w.choose-other.ensures.end c.requires.best best (no_more_here best) more_or_same in
           record {
             from = omega (arith, c.loop-last-test.true);
             within = omega (arith, before.within);
             joined = joined;
             small_sum = small_sum;
-            alone = subst (λ b. IsLeastUpTo stretches columns last_columns start (start + 1) b.cost) (sym w.best-is) before.alone;
-            after = subst (λ b. IsLeastAfter stretches columns last_columns start (last - 1 + 1) b.cost) (sym w.best-is) (subst (λ p. IsLeastAfter stretches columns last_columns start p best) place after);
-            made = subst (λ b. IsMade stretches columns last_columns choices start b) (sym w.best-is) before.made;
+            alone = subst (λ b. IsLeastUpTo stretches columns last_columns ladder run start (start + 1) b.cost) (sym w.best-is) before.alone;
+            after = subst (λ b. IsLeastAfter stretches columns last_columns ladder run start (last - 1 + 1) b.cost) (sym w.best-is) (subst (λ p. IsLeastAfter stretches columns last_columns ladder run start p best) place after);
+            made = subst (λ b. IsMade stretches columns last_columns ladder choices run start b) (sym w.best-is) before.made;
             small = subst (λ b. IsSmall b.cost (length stretches - start)) (sym w.best-is) before.small;
           }
       | else-wide-from w ↦
           let wide : columns < line_width stretches start (last + 1) = omega (arith, width_to stretches start last, before.joined, c.widened-in-loop-last.ensures.value, c.widened-in-loop-last-2.ensures.value, c.from.ensures, w.if-wide-from.false) in
-          let after = least_wide stretches columns last_columns start last best c.loop-last-test.true before.after wide in
+          let after = least_wide stretches columns last_columns ladder run start last best c.loop-last-test.true before.after wide in
           record {
             from = omega (arith, c.loop-last-test.true);
             within = omega (arith, before.within);
             joined = joined;
             small_sum = small_sum;
-            alone = subst (λ b. IsLeastUpTo stretches columns last_columns start (start + 1) b.cost) (sym w.best-is) before.alone;
-            after = subst (λ b. IsLeastAfter stretches columns last_columns start (last - 1 + 1) b.cost) (sym w.best-is) (subst (λ p. IsLeastAfter stretches columns last_columns start p best) place after);
-            made = subst (λ b. IsMade stretches columns last_columns choices start b) (sym w.best-is) before.made;
+            alone = subst (λ b. IsLeastUpTo stretches columns last_columns ladder run start (start + 1) b.cost) (sym w.best-is) before.alone;
+            after = subst (λ b. IsLeastAfter stretches columns last_columns ladder run start (last - 1 + 1) b.cost) (sym w.best-is) (subst (λ p. IsLeastAfter stretches columns last_columns ladder run start p best) place after);
+            made = subst (λ b. IsMade stretches columns last_columns ladder choices run start b) (sym w.best-is) before.made;
             small = subst (λ b. IsSmall b.cost (length stretches - start)) (sym w.best-is) before.small;
           }
     ]
@@ -96,5 +98,5 @@ pub returns-clause-least : goal.returns-clause-least
 returns-clause-least c =
     let before = c.loop-last.invariant in
     let same : c.loop-last.last ≡ c.args.start = omega (arith, before.from, c.loop-last-test.false) in
-    least_all c.args.stretches.now c.args.columns c.args.last_columns c.args.start c.loop-last.best.cost c.requires.start before.alone
-    (subst (λ p. IsLeastAfter c.args.stretches.now c.args.columns c.args.last_columns c.args.start (p + 1) c.loop-last.best.cost) same before.after)
+    least_all c.args.stretches.now c.args.columns c.args.last_columns c.args.ladder c.args.run c.args.start c.loop-last.best.cost c.requires.start before.alone
+    (subst (λ p. IsLeastAfter c.args.stretches.now c.args.columns c.args.last_columns c.args.ladder c.args.run c.args.start (p + 1) c.loop-last.best.cost) same before.after)

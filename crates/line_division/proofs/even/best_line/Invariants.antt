@@ -13,9 +13,9 @@ invariant-loop-last l = record {
   within : l.last < length l.stretches;
   joined : l.joined ≡ (stretch_at l.stretches l.start).opening + sum_by joined_width (slice_range l.stretches l.start l.last);
   small_sum : l.joined < 2 ^ 34;
-  alone : IsLeastUpTo l.stretches l.columns l.last_columns l.start (l.start + 1) l.best.cost;
-  after : IsLeastAfter l.stretches l.columns l.last_columns l.start (l.last + 1) l.best.cost;
-  made : IsMade l.stretches l.columns l.last_columns l.choices l.start l.best;
+  alone : IsLeastUpTo l.stretches l.columns l.last_columns l.ladder l.run l.start (l.start + 1) l.best.cost;
+  after : IsLeastAfter l.stretches l.columns l.last_columns l.ladder l.run l.start (l.last + 1) l.best.cost;
+  made : IsMade l.stretches l.columns l.last_columns l.ladder l.choices l.run l.start l.best;
   small : IsSmall l.best.cost (length l.stretches - l.start);
 }
 

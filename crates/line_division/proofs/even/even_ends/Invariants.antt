@@ -1,4 +1,5 @@
-use Rattle.std.proofs.Common.{◌-◌, ◌≤◌, length}
+use Rattle.std.proofs.Common.{◌-◌, ◌<◌, ◌≤◌, length}
+use Rattle.line_division.specs.Private.Best.{runs}
 use Rattle.line_division.proofs.Least.{GoesOn}
 use Rattle.line_division.proofs.even.even_ends.Given as goal
 
@@ -6,7 +7,8 @@ use Rattle.line_division.proofs.even.even_ends.Given as goal
 abbrev pub invariant-loop-start : goal.invariant-loop-start
 invariant-loop-start l = record {
   within : l.start ≤ length l.stretches;
-  goes : GoesOn l.stretches l.columns l.last_columns l.choices.items l.start l.ends.items;
+  known : l.run < runs l.ladder;
+  goes : GoesOn l.stretches l.columns l.last_columns l.ladder l.choices.items l.run l.start l.ends.items;
 }
 
 abbrev pub decreases-loop-start : goal.decreases-loop-start

@@ -1,4 +1,4 @@
-use Rattle.std.proofs.Common.{map, sym, ap, ◌∙◌}
+use Rattle.std.proofs.Common.{map, ap}
 use Rattle.std.specs.String.{string_bytes}
 use Rattle.hyphenation_grammar.specs.Reading.{extended_contents}
 use Rattle.lines_command.specs.Arguments.{aim_for, style_for}

@@ -1,4 +1,4 @@
-use Rattle.std.proofs.Common.{map, sym, ap, ◌∙◌}
+use Rattle.std.proofs.Common.{map, ap}
 use Rattle.std.specs.String.{string_bytes}
 use Rattle.hyphenation_grammar.specs.Reading.{standard_contents}
 use Rattle.lines_command.proofs.PlainBreaks.{standard_plain}

@@ -9,7 +9,7 @@ use Rattle.paragraphs.proofs.mixed.push_others.Given as goal
 -- The words so far were added.
 abbrev pub invariant-loop-word : goal.invariant-loop-word
 invariant-loop-word g l = record {
-  goes : AddsUpTo (g.H.Hyphenator.breaks_of l.dictionary) (style_of l.style) l.initial.mixed l.mixed (words l.text) (words l.rest);
+  goes : AddsUpTo (g.H.Hyphenator.breaks_of l.dictionary) (style_of l.style) l.fn.mixed l.mixed (words l.text) (words l.rest);
   text : shadow (Utf8 l.rest);
 }
 

@@ -3,7 +3,7 @@ use Rattle.std.specs.String.{string_bytes}
 use Rattle.std.proofs.lemmas.List.{map-append}
 use Rattle.paragraphs.specs.Settings.{Setting}
 use Rattle.paragraphs.specs.Private.PartSettings.{setting_of, settings_of}
-use Rattle.paragraphs.proofs.MixedParts.{adds_word}
+use Rattle.paragraphs.proofs.MixedParts.{adds_words}
 use Rattle.paragraphs.proofs.mixed.push_whole.Goals as goal
 
 pub returns : goal.returns
@@ -11,8 +11,8 @@ returns c =
     let old = c.args.mixed.now in
     let indent = c.args.indent.now in
     let before = settings_of old.parts.items in
-    let made : Setting = record { opening = indent; text = c.args.word.now; joint = 32 ∷ []; closing = []; price = 0 } in
-    adds_word old.wholes.items c.push-2.new.self.items before (settings_of c.push.new.self.items) indent c.args.word.now c.requires c.in_ok-push-2.ensures.items
+    let made : Setting = record { opening = indent; text = c.args.text.now; joint = 32 ∷ []; closing = []; price = 0 } in
+    adds_words old.wholes.items c.push-2.new.self.items before (settings_of c.push.new.self.items) indent c.args.text.now c.in_ok-push-2.ensures.items
     (ap settings_of c.in_ok-push.ensures.items ∙ map-append setting_of old.parts.items _
     ∙ ap (λ o. before ++ record made { opening = indent ++ o; closing = string_bytes c.new-2.result ++ [] } ∷ []) c.new.ensures.bytes
     ∙ ap (λ b. before ++ record made { opening = indent ++ []; closing = b ++ [] } ∷ []) c.new-2.ensures.bytes

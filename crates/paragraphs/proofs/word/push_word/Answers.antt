@@ -5,7 +5,7 @@ use Rattle.std.proofs.lemmas.Str.{IsCharBoundary-start}
 use Rattle.paragraphs.specs.Private.PartSettings.{settings_of}
 use Rattle.paragraphs.specs.Styles.{style_of}
 use Rattle.paragraphs.specs.Words.{breaks_in, word_breaks, parts_from}
-use Rattle.paragraphs.proofs.Pieces.{ArePieces, all_pieces}
+use Rattle.word_pieces.specs.Pieces.{AreSlices}
 use Rattle.paragraphs.proofs.word.push_word.Goals as goal
 
 pub loop-offset-init : goal.loop-offset-init
@@ -21,6 +21,6 @@ loop-offset-init g c =
           ap (λ ps. made ++ parts_from style word (indent ++ string_bytes c.new.result) 0 (flat_map (breaks_in breaks_of) ps)) left
           ∙ ap (λ o. made ++ parts_from style word (indent ++ o) 0 (word_breaks breaks_of word)) c.new.ensures.bytes
           ∙ ap (λ o. made ++ parts_from style word o 0 (word_breaks breaks_of word)) (append-nil indent);
-      pieces = subst (ArePieces word) (sym left) (all_pieces word c.utf8.word);
+      pieces = subst (AreSlices word) (sym left) (c.pieces_are_slices.ensures.slices word c.utf8.word);
       from = IsCharBoundary-start word c.utf8.word;
     }

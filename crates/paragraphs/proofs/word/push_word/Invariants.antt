@@ -1,12 +1,11 @@
 use Rattle.std.proofs.Common.{◌≡◌, ◌++◌, length}
 use Rattle.std.specs.List.{flat_map}
 use Rattle.std.specs.Str.{IsCharBoundary}
-use Rattle.word_pieces.specs.Pieces.{piece_indices_left}
+use Rattle.word_pieces.specs.Pieces.{piece_indices_left, AreSlices}
 use Rattle.paragraphs.specs.Words.{breaks_in, word_parts}
 use Rattle.paragraphs.specs.Private.PartSettings.{settings_of}
 use Rattle.paragraphs.specs.Styles.{style_of}
 use Rattle.paragraphs.specs.Private.Open.{settings_with}
-use Rattle.paragraphs.proofs.Pieces.{ArePieces}
 use Rattle.paragraphs.proofs.word.push_word.Given as goal
 
 -- The parts that are made, with those that the pieces to come give, are those of the whole word.
@@ -16,7 +15,7 @@ invariant-loop-offset g l =
     record {
       goes : settings_with (style_of l.style) l.word l.parts.items l.current (flat_map (breaks_in breaks_of) (piece_indices_left l.pieces))
           ≡ settings_of l.initial.parts.items ++ word_parts breaks_of (style_of l.style) l.indent l.word;
-      pieces : ArePieces l.word (piece_indices_left l.pieces);
+      pieces : AreSlices l.word (piece_indices_left l.pieces);
       from : IsCharBoundary l.word l.current.from;
     }
 

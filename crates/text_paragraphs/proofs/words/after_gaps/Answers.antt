@@ -1,6 +1,5 @@
-use Rattle.std.proofs.Common.{◌≡◌, ◌≤◌, ◌∙◌, length, sym, arith}
-use Rattle.text_paragraphs.proofs.WordLists.{gap_first, begins_no_gap, begins_none}
-use Rattle.text_paragraphs.specs.Private.Cuts.{is_word_part}
+use Rattle.std.proofs.Common.{◌∙◌, sym, arith}
+use Rattle.text_paragraphs.proofs.WordLists.{gap_first}
 use Rattle.text_paragraphs.proofs.words.after_gaps.Goals as goal
 
 pub split_char-requires-text-text : goal.split_char-requires-text-text

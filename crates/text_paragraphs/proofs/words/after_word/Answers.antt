@@ -1,4 +1,4 @@
-use Rattle.std.proofs.Common.{◌≡◌, ◌∙◌, sym}
+use Rattle.std.proofs.Common.{sym}
 use Rattle.text_paragraphs.proofs.WordLists.{cut_none, cut_more}
 use Rattle.text_paragraphs.proofs.words.after_word.Goals as goal
 

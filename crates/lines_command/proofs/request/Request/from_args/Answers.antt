@@ -1,4 +1,4 @@
-use Rattle.std.proofs.Common.{◌≡◌, sym, ap, ◌∙◌}
+use Rattle.std.proofs.Common.{sym, ap, ◌∙◌}
 use Rattle.std.specs.Prelude.{codes}
 use Rattle.hyphenation_grammar.specs.Lines.{starts_with}
 use Rattle.lines_command.specs.Private.Requests.{parsed_options}

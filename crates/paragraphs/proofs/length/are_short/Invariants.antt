@@ -1,7 +1,7 @@
 use Rattle.std.proofs.Common.{◌≡◌, true, take}
 use Rattle.std.specs.List.{list_all}
 use Rattle.paragraphs.specs.Private.PartSettings.{is_short_part}
-use Rattle.paragraphs.proofs.part.are_short.Given as goal
+use Rattle.paragraphs.proofs.length.are_short.Given as goal
 
 -- The parts so far are short.
 abbrev pub invariant-loop-part : goal.invariant-loop-part

@@ -3,7 +3,7 @@ use Rattle.std.specs.List.{list_all}
 use Rattle.std.proofs.lemmas.List.{take_all}
 use Rattle.paragraphs.specs.Private.PartSettings.{is_short_part}
 use Rattle.paragraphs.proofs.ShortParts.{one_more_short, one_not_short}
-use Rattle.paragraphs.proofs.part.are_short.Goals as goal
+use Rattle.paragraphs.proofs.length.are_short.Goals as goal
 
 pub loop-part-preserved : goal.loop-part-preserved
 loop-part-preserved c =

@@ -1,0 +1,10 @@
+use Rattle.std.proofs.Common.{◌-◌, ◌≤◌, length}
+use Rattle.paragraphs.specs.Private.Plain.{is_plain, EachBetween}
+use Rattle.paragraphs.proofs.plain.past_plain.Given as goal
+
+-- The bytes so far are plain.
+abbrev pub invariant-bytes : goal.invariant-bytes
+invariant-bytes l = (l.start ≤ l.at) × (l.at ≤ length l.bytes) × EachBetween is_plain l.bytes l.start l.at
+
+abbrev pub decreases-bytes : goal.decreases-bytes
+decreases-bytes l = length l.bytes - l.at

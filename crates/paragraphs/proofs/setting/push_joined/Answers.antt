@@ -1,0 +1,16 @@
+use Rattle.std.proofs.Common.{◌≡◌, true, ◌++◌, ap, sym, ◌∙◌, append_assoc, rules}
+use Rattle.std.specs.String.{string_bytes}
+use Rattle.paragraphs.specs.Settings.{shown}
+use Rattle.paragraphs.proofs.Printable.{printable_shown}
+use Rattle.paragraphs.proofs.setting.push_joined.Goals as goal
+
+pub returns-then-part : goal.returns-then-part
+returns-then-part c =
+    let part = c.args.part.now in
+    let line = string_bytes c.args.line.now in
+    let text = part.text.now in
+    let joint = part.joint.now in
+    let plain : part.plain ≡ true = search rules in
+    c.in_ok-push_str-2.ensures.bytes ∙ ap (λ s. s ++ joint) c.in_ok-push_str.ensures.bytes ∙ append_assoc line text joint
+    ∙ ap (λ s. line ++ (s ++ joint)) (sym (printable_shown text (part.text_printable plain)))
+    ∙ ap (λ s. line ++ (shown text ++ s)) (sym (printable_shown joint (part.joint_printable plain)))
