@@ -4,13 +4,16 @@ Usage: explanations.py PROGRAM FOLDER. The last line is `N passed, M failed`.
 
 Each dictionary is asked about many words at once, as lines for programs and as pictures. The lines must be exactly those
 of this script, which looks each text between two places up among the keys. Each letter of a picture must be below the same
-letter of the frame. Without spaces a picture must have the texts of this script.
+letter of the frame. Without spaces a picture must have the texts of this script. A document in SVG must be XML with a group
+for each word and a text for each row, whose letters and values are at the columns and in the classes of this script.
 """
 
 import pathlib
 import random
 import subprocess
 import sys
+import unicodedata
+import xml.etree.ElementTree
 
 DICTIONARIES = 60
 WORDS = 40
@@ -18,6 +21,9 @@ WORDS = 40
 FOLDED = {"A": "a", "B": "b", "É": "é", "İ": "i", "ẞ": "ß", "Ⱥ": "ⱥ"}
 LETTERS = "aabbciéßⱥ"
 SOFT_HYPHEN = "\u00ad"
+# Letters for drawings alone: a wide one, a mark without columns, and what XML escapes or forbids.
+DRAWN = "の\u0301<>&\"'\x01\x0b\ufffe\uffff"
+SVG = "{http://www.w3.org/2000/svg}"
 
 
 def size(text):
@@ -227,6 +233,95 @@ def misplaced(facts, picture):
             place += size(c)
 
 
+def columns_of(c):
+    if c == SOFT_HYPHEN or unicodedata.combining(c):
+        return 0
+    # (Python takes noncharacters for wide ones)
+    return 2 if unicodedata.east_asian_width(c) in "WF" and c not in "\ufffe\uffff" else 1
+
+
+def shown(text):
+    return "".join("\ufffd" if c < " " or c in "\ufffe\uffff" else c for c in text)
+
+
+class Drawing:
+    """The rows of a drawing: for each the pieces, each with its class, its middle or begin in pixels, and its text."""
+
+    def __init__(self, facts):
+        self.facts = facts
+        self.column = {}
+        column = 1
+        for place, c in zip(places_of(facts.framed.decode()), [*facts.framed.decode(), ""]):
+            self.column[place] = column
+            column += 1 + (columns_of(c) if c else 0)
+        hyphenated = facts.hyphenated()
+        self.word_column = self.column[1] + 1
+        end = self.word_column + sum(columns_of(c) for c in hyphenated)
+        self.note_x = 12 * (max(self.column[len(facts.framed)], end) + 1)
+
+    def letters(self, start, text, values):
+        """The pieces of a text at a place of the frame, with values by its places, each with its class."""
+        place, made = 0, []
+        for c in [*text, ""]:
+            at = self.column[start + place]
+            if place in values:
+                kind, value = values[place]
+                made.append((kind, str(12 * at + 6), str(value)))
+            if c and columns_of(c) == 0 and place > 0 and place not in values:
+                made[-1] = (*made[-1][:2], made[-1][2] + shown(c))
+            elif c:
+                made.append((None, str(12 * (at + 1) + 6 * columns_of(c)), shown(c)))
+            place += size(c)
+        return made
+
+    def note(self, text):
+        return [("note", str(self.note_x), shown(text))] if text else []
+
+    def kind(self, value, at):
+        scores = self.facts.scores
+        boundary = at in places_of(self.facts.folded)
+        wins = boundary and 0 < at <= len(scores) and scores[at - 1][0] == value
+        return ("odd" if value % 2 else "even") + (" wins" if wins else "")
+
+    def rows(self):
+        facts = self.facts
+        yield [*self.letters(0, facts.framed.decode(), {})]
+        for start, end, entries in facts.rows:
+            values = {place: (self.kind(value, start + place - 1), value) for place, value, _ in entries}
+            notes = "".join(facts.note(value, change) for _, value, change in entries)
+            yield [*self.letters(start, facts.framed[start:end].decode(), values), *self.note(notes)]
+        places = places_of(facts.folded)
+        values = {i + 1: (self.kind(value, 0), value) for i, (value, _) in enumerate(facts.scores) if i + 1 in places}
+        notes = "the greatest value of each place" + "".join(facts.note(*score) for score in facts.scores)
+        yield [*self.letters(1, facts.folded, values), *self.note(notes)]
+        decided = facts.picture().rsplit("  ", 1)[1].rstrip("\n")
+        yield [("word", str(12 * self.word_column), shown(facts.hyphenated())), *self.note(decided)]
+
+
+def undrawn(all_facts, document):
+    """The faults of a document in SVG."""
+    root = xml.etree.ElementTree.fromstring(document)
+    groups = root.findall(SVG + "g")
+    if root.tag != SVG + "svg" or len(groups) != len(all_facts) or root.find(SVG + "title") is None:
+        yield "not a group for each word"
+    above = 0
+    for facts, group in zip(all_facts, groups):
+        rows = [*Drawing(facts).rows()]
+        texts = group.findall(SVG + "text")
+        found = [[(span.get("class"), span.get("x"), span.text or "") for span in text] for text in texts]
+        if found != rows:
+            yield facts.word, found, rows
+        if [text.get("y") for text in texts] != [str(24 * i + 18) for i in range(len(rows))]:
+            yield facts.word, "rows are not below one another"
+        if group.get("transform") != f"translate(0 {24 * above})":
+            yield facts.word, group.get("transform")
+        if group.findtext(SVG + "title") != shown(f"{facts.word}: {facts.hyphenated()}"):
+            yield facts.word, group.findtext(SVG + "title")
+        above += len(rows) + 1
+    if not root.get("viewBox").endswith(f" {24 * above}"):
+        yield "the height", root.get("viewBox")
+
+
 def main():
     program, folder = sys.argv[1], pathlib.Path(sys.argv[2])
     passed = failed = 0
@@ -248,7 +343,7 @@ def main():
         words += list(dictionary.exceptions)
         all_facts = [Facts(dictionary, word) for word in words]
 
-        def run(*options):
+        def run(*options, words=words):
             found = subprocess.run([program, *options, dictionary.kind, "x", path, *words], capture_output=True, check=False)
             check(found.returncode == 0, number, options, found.returncode, found.stderr.decode())
             return found.stdout.decode()
@@ -263,6 +358,9 @@ def main():
             check(spaceless == facts.picture().strip("\n").replace(" ", ""), number, repr(picture), "and not", repr(facts.picture()))
             for line in misplaced(facts, picture):
                 check(False, number, facts.word, "a letter is not below itself:", line)
+        drawn = words + [random_text(random_of, letters + DRAWN, 1, 9) for _ in range(WORDS)]
+        wrong = [*undrawn([Facts(dictionary, word) for word in drawn], run("--svg", words=drawn))]
+        check(not wrong, number, "drawing:", *wrong[:3])
     check(passed > DICTIONARIES * WORDS, "too few checks")
     print(f"{passed} passed, {failed} failed")
     sys.exit(1 if failed else 0)

@@ -19,9 +19,9 @@ done <<'LIST'
 hyphenate           standard:4+:input:3 extended:4+:input:3 score:5:-:4 fill:4:input:3
 hyphenate-canonical up-to=67108864 standard:1:input:- extended:1:input:-
 hyphenate-convert   *:5+:-:5+
-hyphenate-explain   --plain up-to=8192 standard:3:input:3 extended:3:input:3 standard:4+:-:3 extended:4+:-:3
+hyphenate-explain   --plain --svg up-to=8192 standard:3:input:3 extended:3:input:3 standard:4+:-:3 extended:4+:-:3
 hyphenate-html      --lang=CODE=PATH --dictionaries=PATH --language=CODE --mark=MARK --class=CLASS --min-word=N *:0:input:-
-hyphenate-lines     --width=N --price=P --last=N --indent=TEXT --first=TEXT *:2:input:2
+hyphenate-lines     --even --width=N --price=P --last=N --ladder=N --indent=TEXT --first=TEXT *:2:input:2
 LIST
 
 # crate_of NAME: the crate of a program, in `crate`; libhyphenation is the static library for C.

@@ -1,12 +1,12 @@
 -- How runs end, by the words that are given.
-use Rattle.std.proofs.Common.{◌≡◌, ℕ, ◌<◌, List, [], ◌∷◌, length, map, refl, sym, ap, subst, arith}
-use Rattle.std.specs.Prelude.{Option, None, Some, Result, Ok, Err, IfErr, IfOk, IsUtf8}
+use Rattle.std.proofs.Common.{◌≡◌, ℕ, ◌<◌, List, [], ◌∷◌, length, refl, arith}
+use Rattle.std.specs.Prelude.{Option, Result, Ok, Err, IfErr}
 use Rattle.std.specs.Borrow.{Bor}
-use Rattle.hyphenation.specs.Engine.{JudgesText, BeforeReading, IsTextError}
+use Rattle.hyphenation.specs.Engine.{JudgesText, IsTextError}
 use Rattle.hyphenation_breaks.specs.Borrowed.{texts_now}
 use Rattle.hyphenation.specs.declared.engine.RunError.{RunError}
 use Rattle.hyphenation.specs.declared.engine.RunError.TheVariants.{Dictionary, Edit, TextNotUtf8, Input, Output, Memory}
-use Rattle.explain_command.specs.Explained.{AreExplained, ExplainsWords}
+use Rattle.explain_command.specs.Explained.{ExplainsWords}
 use Rattle.explain_command.specs.Statuses.{HasNoEdit, EndsFor}
 
 -- An input that was judged as a text.
@@ -30,6 +30,6 @@ ends_unread [] input unread r some kept u = absurd (omega arith)
 ends_unread (w ∷ ws) input unread r some kept u = (kept, u)
 
 -- The words that are given are explained.
-pub explains_given : (explains : List ℕ → List ℕ → Type 0) (words : List (List ℕ)) (text : List ℕ) → AreExplained explains words text → ExplainsWords explains words text
+pub explains_given : (explains : List (List ℕ) → List ℕ → Type 0) (words : List (List ℕ)) (text : List ℕ) → explains words text → ExplainsWords explains words text
 explains_given explains [] text h = ([], h)
 explains_given explains (w ∷ ws) text h = h

@@ -1,12 +1,12 @@
 -- The text of one word more.
-use Rattle.std.proofs.Common.{◌≡◌, ℕ, suc, zero, ◌+◌, ◌<◌, List, [], ◌∷◌, ◌++◌, length, map, take, get_or, cond, eqb, refl, sym, ap, subst, ◌∙◌, append_assoc, arith, length-take-le, Bool, false}
+use Rattle.std.proofs.Common.{◌≡◌, ℕ, suc, zero, ◌+◌, ◌<◌, List, [], ◌∷◌, ◌++◌, length, take, get_or, cond, eqb, refl, sym, ap, subst, ◌∙◌, append_assoc, arith, length-take-le, Bool, false}
 use Rattle.std.specs.Borrow.{Bor}
 use Rattle.std.specs.List.{AllZip, join_with_byte}
 use Rattle.std.proofs.lemmas.Bool.Decides.{nat_tests}
 use Rattle.std.proofs.lemmas.List.{length-map, map_push, take_more}
 use Rattle.std.proofs.lemmas.List.Elements.{AllZip-push, length_all_zip}
 use Rattle.hyphenation_breaks.specs.Borrowed.{texts_now}
-use Rattle.explain_command.specs.Explained.{AreExplained}
+use Rattle.explain_command.specs.Explained.{AreJoined}
 use Rattle.explain_command.specs.Private.Joined.{gap_before}
 
 -- One text more.
@@ -23,10 +23,10 @@ after (x ∷ xs) (suc i) y e =
     joined_more 10 x xs y ∙ ap (λ (b : Bool). join_with_byte 10 (x ∷ xs) ++ (cond b [] (10 ∷ []) ++ y)) (sym later)
 
 -- The text of the word at i, after those before it.
-pub explained_more : (explains : List ℕ → List ℕ → Type 0) (words : List (Bor (List ℕ))) (i : ℕ) (d : Bor (List ℕ)) (text next piece : List ℕ) → i < length words
-    → AreExplained explains (texts_now (take i words)) text → explains (get_or words i d).now piece → next ≡ text ++ (gap_before i ++ piece)
-    → AreExplained explains (texts_now (take (i + 1) words)) next
-explained_more explains words i d text next piece lt (texts, zip, is) right push =
+pub joined_word : (explains : List ℕ → List ℕ → Type 0) (words : List (Bor (List ℕ))) (i : ℕ) (d : Bor (List ℕ)) (text next piece : List ℕ) → i < length words
+    → AreJoined explains (texts_now (take i words)) text → explains (get_or words i d).now piece → next ≡ text ++ (gap_before i ++ piece)
+    → AreJoined explains (texts_now (take (i + 1) words)) next
+joined_word explains words i d text next piece lt (texts, zip, is) right push =
     let word : Bor (List ℕ) = get_or words i d in
     let words_are : texts_now (take (i + 1) words) ≡ texts_now (take i words) ++ word.now ∷ [] =
     ap texts_now (take_more words i d lt) ∙ map_push (λ (w : Bor (List ℕ)). w.now) (take i words) word in

@@ -1,2 +1,3 @@
 pub mod Joined
 pub mod Endings
+pub mod Drawings

@@ -6,7 +6,7 @@ use Rattle.hyphenation_grammar.specs.Form.{kind_of_name}
 use Rattle.hyphenation_grammar.specs.Lines.{is_same}
 use Rattle.hyphenation_grammar.specs.declared.form.Kind.{Kind}
 use Rattle.explanations.specs.declared.style.Style.{Style}
-use Rattle.explanations.specs.declared.style.Style.TheVariants.{Picture, Lines}
+use Rattle.explanations.specs.declared.style.Style.TheVariants.{Picture, Lines, Svg}
 
 -- Arguments: the style, the kind of the dictionary, the code of its language, its path, and words.
 pub record ParsedArgs : Type 0 where
@@ -25,7 +25,10 @@ styled_args style (kind ∷ code ∷ path ∷ words) = option_and_then
     (kind_of_name kind.now)
 styled_args style _ = None
 
--- All arguments: lines after `--plain`, else pictures.
+-- All arguments: lines after `--plain`, a drawing after `--svg`, else pictures.
 abbrev pub parsed_args : List (Bor (List ℕ)) → Option ParsedArgs
-parsed_args (first ∷ rest) = if is_same first.now (codes "--plain") then styled_args Lines rest else styled_args Picture (first ∷ rest)
+parsed_args (first ∷ rest) =
+    if is_same first.now (codes "--plain") then styled_args Lines rest
+    else if is_same first.now (codes "--svg") then styled_args Svg rest
+    else styled_args Picture (first ∷ rest)
 parsed_args [] = None

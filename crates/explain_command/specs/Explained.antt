@@ -10,18 +10,31 @@ use Rattle.hyphenation_hyphenator.specs.Fitting.{fitted_breaks_of}
 use Rattle.hyphenation_hyphenator.specs.Opportunities.{no_change, own_break, standard_rules, extended_rules, all_breaks_of}
 use Rattle.hyphenation_load.specs.Load.{AppendsTo}
 use Rattle.hyphenation_score.specs.Scoring.{own_change}
-use Rattle.explanations.specs.Texts.{Explains}
+use Rattle.explanations.specs.Svg.{Drawn, document_of}
+use Rattle.explanations.specs.Texts.{Explains, IsDrawn}
 use Rattle.explanations.specs.declared.style.Style.{Style}
+use Rattle.explanations.specs.declared.style.Style.TheVariants.{Picture, Lines, Svg}
 
 -- The text has a text for each word, which explains it, in the order of the words, and an empty line between two.
-abbrev pub AreExplained : (List ℕ → List ℕ → Type 0) → List (List ℕ) → List ℕ → Type 0
-AreExplained explains words text =
+abbrev pub AreJoined : (List ℕ → List ℕ → Type 0) → List (List ℕ) → List ℕ → Type 0
+AreJoined explains words text =
     (texts : List (List ℕ)) × AllZip explains words texts × (text ≡ join_with_byte line_feed texts)
 
+-- The text is one document with a drawing for each word, which explains it, in the order of the words.
+abbrev pub AreDrawn : (List ℕ → Drawn → Type 0) → List (List ℕ) → List ℕ → Type 0
+AreDrawn draws words text = (drawings : List Drawn) × AllZip draws words drawings × (text ≡ document_of drawings)
+
+-- The text explains the words in this style, by what explains a word and by what draws it.
+abbrev pub AreExplained : (Style → List ℕ → List ℕ → Type 0) → (List ℕ → Drawn → Type 0) → Style → List (List ℕ) → List ℕ
+    → Type 0
+AreExplained explains draws Picture words text = AreJoined (explains Picture) words text
+AreExplained explains draws Lines words text = AreJoined (explains Lines) words text
+AreExplained explains draws Svg words text = AreDrawn draws words text
+
 -- The text explains the given words or, without any, some words.
-abbrev pub ExplainsWords : (List ℕ → List ℕ → Type 0) → List (List ℕ) → List ℕ → Type 0
-ExplainsWords explains [] text = (words : List (List ℕ)) × AreExplained explains words text
-ExplainsWords explains (word ∷ words) text = AreExplained explains (word ∷ words) text
+abbrev pub ExplainsWords : (List (List ℕ) → List ℕ → Type 0) → List (List ℕ) → List ℕ → Type 0
+ExplainsWords explains [] text = (words : List (List ℕ)) × explains words text
+ExplainsWords explains (word ∷ words) text = explains (word ∷ words) text
 
 -- The text explains a word by the dictionary of that kind that bytes give.
 abbrev pub explains_by : Kind → List ℕ → Style → List ℕ → List ℕ → Type 0
@@ -30,9 +43,17 @@ explains_by Standard bytes style word text = Explains no_change plain_break (sta
 explains_by Extended bytes style word text = Explains own_change own_break (extended_contents bytes) style word
     (fitted_breaks_of (extended_rules (extended_contents bytes)) word) text
 
+-- The drawing explains a word by the dictionary of that kind that bytes give.
+abbrev pub draws_by : Kind → List ℕ → List ℕ → Drawn → Type 0
+draws_by Standard bytes word drawing = IsDrawn no_change plain_break (standard_contents bytes) word
+    (all_breaks_of (standard_rules (standard_contents bytes)) word) drawing
+draws_by Extended bytes word drawing = IsDrawn own_change own_break (extended_contents bytes) word
+    (fitted_breaks_of (extended_rules (extended_contents bytes)) word) drawing
+
 -- If the bytes of a dictionary of that kind are known, the text explains the given words by it or, without any, some words.
 abbrev pub ExplainsBy : Kind → Style → List (List ℕ) → Option (List ℕ) → List ℕ → Type 0
-ExplainsBy kind style words known text = IfSome known (λ bytes. ExplainsWords (explains_by kind bytes style) words text)
+ExplainsBy kind style words known text = IfSome known
+    (λ bytes. ExplainsWords (AreExplained (explains_by kind bytes) (draws_by kind bytes) style) words text)
 
 -- Such a text was appended to the contents of a writer.
 abbrev pub WritesExplained : {W : Type 0} → Kind → Style → List (List ℕ) → Option (List ℕ) → (W → Option (List ℕ)) → W → W

@@ -33,7 +33,7 @@ pub const NAME: &str = "hyphenate-explain";
 
 /// The usage, for `--help` and for arguments of no form.
 pub const USAGE: &str =
-    "usage: hyphenate-explain [--plain] KIND CODE PATH [WORD..]\n       hyphenate-explain --help\n       hyphenate-explain --version\n       KIND: standard or extended. Without a WORD, the words of standard input are explained\n";
+    "usage: hyphenate-explain [--plain | --svg] KIND CODE PATH [WORD..]\n       hyphenate-explain --help\n       hyphenate-explain --version\n       KIND: standard or extended. Without a WORD, the words of standard input are explained\n";
 
 /// The message if memory was refused.
 pub const NO_MEMORY: &str = "hyphenate-explain: no memory\n";
@@ -48,7 +48,7 @@ fn run_request<F: Files, I: Read, O: Write>(
 ) -> Result<(), RunError>
     ensures ended { EndsFor (texts_now request.now.words.now) (I.remaining input.old) (input.new ≡ input.old) result }
     ensures untouched { BeforeWriting result (output.new ≡ output.old) }
-    ensures whole { OnOk result ((text : List ℕ) × AppendsTo O.contents output.old output.new text) }
+    ensures appends_some_text { OnOk result ((text : List ℕ) × AppendsTo O.contents output.old output.new text) }
 {
     let mut dictionary = fs::open(rt, request.path).map_err(opening_error)?;
     run_explain(
@@ -140,7 +140,7 @@ pub fn answer<F: Files, I: Read, O: Write, E: Write>(
     ensures ended { help_or_version NAME.now VERSION.now USAGE.now args.now ≡ None →
         EndsForArgs args.now (I.remaining input.old) (input.new ≡ input.old) result }
     ensures untouched { BeforeOutput result (output.new ≡ output.old) }
-    ensures written { result ≡ 0 → (text : List ℕ) × AppendsTo O.contents output.old output.new text }
+    ensures appends_some_text { result ≡ 0 → (text : List ℕ) × AppendsTo O.contents output.old output.new text }
 {
     if let Some(status) = write_help_or_version(NAME, USAGE, args, output) {
         return status;

@@ -19,13 +19,14 @@ pub(crate) struct Request<'w> {
 }
 
 impl<'w> Request<'w> {
-    // The request, if the arguments have the form. A first argument `--plain` always chooses lines.
+    // The request, if the arguments have the form. A first argument `--plain` always chooses lines, and `--svg` a drawing.
     pub(crate) fn from_args(args: &'w [&'w str]) -> Option<Request<'w>>
         ensures { MatchOption result (parsed_args args.now ≡ None)
             (λ request. parsed_args args.now ≡ Some (parsed_request request)) }
     {
         match args.split_first() {
             Some((first, rest)) if *first == "--plain" => Self::with_style(Style::Lines, rest),
+            Some((first, rest)) if *first == "--svg" => Self::with_style(Style::Svg, rest),
             _ => Self::with_style(Style::Picture, args),
         }
     }

@@ -1,14 +1,16 @@
 //! A run, from the bytes of a dictionary to the text that is written.
 
-ghost use Rattle.std.specs.Prelude.{◌≡◌, ◌++◌, ℕ, List, IfErr, IfOk, OnOk};
+ghost use Rattle.std.specs.Prelude.{◌≡◌, ◌++◌, ℕ, List, IfErr, IfOk, OnOk, map};
+ghost use Rattle.std.specs.List.{AllZip};
 ghost use Rattle.hyphenation_load.specs.Load.{AppendsTo};
 ghost use Rattle.hyphenation.specs.Engine.{BeforeWriting, JudgesDictionary, IsUnwritten, IsTextError, JudgesText};
 ghost use Rattle.hyphenation_breaks.specs.Borrowed.{texts_now};
-ghost use Rattle.explain_command.specs.Explained.{AreExplained, ExplainsWords, ExplainsBy, WritesExplained};
+ghost use Rattle.explanations.specs.Drawings.{drawn};
+ghost use Rattle.explain_command.specs.Explained.{AreDrawn, AreExplained, AreJoined, ExplainsWords, ExplainsBy, WritesExplained};
 ghost use Rattle.explain_command.specs.Private.Joined.{gap_before};
 ghost use Rattle.explain_command.specs.Statuses.{EndsFor};
 
-use explanations::{Explain, Style};
+use explanations::{Drawing, Explain, Style, document};
 use hyphenation::engine::{Kind, RunError, read_input};
 use hyphenation::extended::Extended;
 use hyphenation::load::Load;
@@ -27,13 +29,13 @@ fn push_after(text: &mut Vec<u8>, index: usize, explanation: &[u8]) -> Result<()
 }
 
 // Returns the texts that explain words, with an empty line between two. The only error is out of memory.
-fn explained<D: Explain>(
+fn joined<D: Explain>(
     alloc: Global,
     dictionary: &D,
     style: Style,
     words: &[&str],
 ) -> Result<Vec<u8>, AllocError>
-    ensures { IfOk result (λ text. AreExplained (D.explains dictionary.now style) (texts_now words.now) text.items) }
+    ensures { IfOk result (λ text. AreJoined (D.explains dictionary.now style) (texts_now words.now) text.items) }
 {
     let mut text = Vec::new(alloc);
     for (index, word) in words.iter().enumerate() {
@@ -41,6 +43,51 @@ fn explained<D: Explain>(
         push_after(&mut text, index, &explanation)?;
     }
     Ok(text)
+}
+
+// Returns the drawings that explain words. The only error is out of memory.
+fn drawings_of<D: Explain>(
+    alloc: Global,
+    dictionary: &D,
+    words: &[&str],
+) -> Result<Vec<Drawing>, AllocError>
+    ensures { IfOk result (λ drawings.
+        AllZip (D.draws dictionary.now) (texts_now words.now) (map drawn drawings.items)) }
+{
+    let mut drawings = Vec::new(alloc);
+    for word in words {
+        drawings.push(dictionary.drawing(alloc, word)?)?;
+    }
+    Ok(drawings)
+}
+
+// Returns the document of the drawings that explain words. The only error is out of memory.
+fn drawn_words<D: Explain>(
+    alloc: Global,
+    dictionary: &D,
+    words: &[&str],
+) -> Result<Vec<u8>, AllocError>
+    ensures { IfOk result (λ text. AreDrawn (D.draws dictionary.now) (texts_now words.now) text.items) }
+{
+    let drawings = drawings_of(alloc, dictionary, words)?;
+    document(alloc, &drawings)
+}
+
+// Returns the text that explains words in a style. The only error is out of memory.
+fn explained<D: Explain>(
+    alloc: Global,
+    dictionary: &D,
+    style: Style,
+    words: &[&str],
+) -> Result<Vec<u8>, AllocError>
+    ensures { IfOk result (λ text. AreExplained (D.explains dictionary.now) (D.draws dictionary.now) style
+        (texts_now words.now) text.items) }
+{
+    match style {
+        Style::Picture => joined(alloc, dictionary, Style::Picture, words),
+        Style::Lines => joined(alloc, dictionary, Style::Lines, words),
+        Style::Svg => drawn_words(alloc, dictionary, words),
+    }
 }
 
 // Returns the texts that explain the words of an input, which white space parts.
@@ -53,7 +100,8 @@ fn explained_input<D: Explain, I: Read>(
     ensures judged { JudgesText (I.remaining input.old) result }
     ensures text_error { IfErr result IsTextError }
     ensures text { IfOk result (λ text.
-        (words : List (List ℕ)) × AreExplained (D.explains dictionary.now style) words text.items) }
+        (words : List (List ℕ))
+        × AreExplained (D.explains dictionary.now) (D.draws dictionary.now) style words text.items) }
 {
     let text = read_input(alloc, input)?;
     let words: Vec<&str> = text.split_whitespace().collect(alloc)?;
@@ -71,7 +119,8 @@ fn explained_words<D: Explain, I: Read>(
     ensures ended { EndsFor (texts_now words.now) (I.remaining input.old) (input.new ≡ input.old) result }
     ensures text_error { IfErr result IsTextError }
     ensures text { IfOk result (λ text.
-        ExplainsWords (D.explains dictionary.now style) (texts_now words.now) text.items) }
+        ExplainsWords (AreExplained (D.explains dictionary.now) (D.draws dictionary.now) style)
+        (texts_now words.now) text.items) }
 {
     if words.is_empty() {
         return explained_input(alloc, dictionary, style, input);
@@ -141,6 +190,7 @@ fn text_by<D: Read, I: Read>(
 
 /// Loads a dictionary of that kind and language, and writes a text that explains each word, in a style.
 ///
+/// With `Style::Svg` it is one document, with a drawing for each word below the one before.
 /// Without any word, those of an input are explained, which is read to its end and must be UTF-8. Nothing is written before
 /// the whole text is there. The errors are `Dictionary`, `TextNotUtf8`, `Input`, `Output` and `Memory`.
 ///
@@ -164,7 +214,7 @@ pub fn run_explain<D: Read, I: Read, O: Write>(
     ensures ended { EndsFor (texts_now words.now) (I.remaining input.old) (input.new ≡ input.old) result }
     ensures written { OnOk result (WritesExplained kind style (texts_now words.now) (D.remaining dictionary.old)
         O.contents output.old output.new) }
-    ensures whole { OnOk result ((text : List ℕ) × AppendsTo O.contents output.old output.new text) }
+    ensures appends_some_text { OnOk result ((text : List ℕ) × AppendsTo O.contents output.old output.new text) }
     ensures untouched { BeforeWriting result (output.new ≡ output.old) }
 {
     let text = text_by(alloc, kind, lang, style, words, dictionary, input)?;

@@ -16,7 +16,8 @@ use Rattle.hyphenation_score.specs.Scoring.{frame, winners, score_of_winner}
 use Rattle.explanations.specs.Decisions.{decision_by}
 use Rattle.explanations.specs.Private.Facts.{facts_of}
 use Rattle.explanations.specs.Rows.{row_of, AreAllOccurrences, LiesWithin}
-use Rattle.explanations.specs.Texts.{AreFacts, Explains, IsTextOf}
+use Rattle.explanations.specs.Svg.{Drawn}
+use Rattle.explanations.specs.Texts.{AreFacts, Explains, IsDrawn, IsTextOf, drawing_of}
 use Rattle.explanations.specs.declared.explanation.Explanation.{Explanation}
 use Rattle.explanations.specs.declared.style.Style.{Style}
 use Rattle.explanations.proofs.RowsSoFar.{all_within}
@@ -61,4 +62,13 @@ module _ {C B : Type 0} (change_of : C → Option Change) (break_of : B → Brea
         facts = facts_of change_of break_of e minima word breaks;
         right = right_facts minima breaks m;
         text_is = subst (λ (bs : List Break). IsTextOf style change_of (facts_of change_of break_of e minima word bs) text.items) same t;
+      }) h
+
+  pub draws_word : {D E : Type 0} (v : D → Drawn) (minima : ℕ × ℕ) (breaks known : List Break) (r : Result D E) → minima ≡ (contents.left, contents.right) → known ≡ breaks
+      → IfOk r (λ d. v d ≡ drawing_of change_of (facts_of change_of break_of e minima word known)) → IfOk r (λ d. IsDrawn change_of break_of contents word breaks (v d))
+  draws_word v minima breaks known r m same h = IfOk-weaker r (λ d. v d ≡ drawing_of change_of (facts_of change_of break_of e minima word known)) (λ d. IsDrawn change_of break_of contents word breaks (v d))
+      (λ d t. record {
+        facts = facts_of change_of break_of e minima word breaks;
+        right = right_facts minima breaks m;
+        drawing_is = subst (λ (bs : List Break). v d ≡ drawing_of change_of (facts_of change_of break_of e minima word bs)) same t;
       }) h

@@ -4,3 +4,5 @@ pub mod Spaces
 pub mod Walks
 pub mod Scores
 pub mod Explaining
+pub mod Drawings
+pub mod Mapped

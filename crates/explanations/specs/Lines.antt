@@ -1,9 +1,8 @@
 -- The facts about a word's breaks as lines for programs. A line has a name and fields, each field after a tab.
-use Rattle.std.specs.Prelude.{ℕ, ◌+◌, List, [], ◌∷◌, ◌++◌, codes, map, Option, Some, None, decimal, slice_range, flat_map}
+use Rattle.std.specs.Prelude.{ℕ, ◌+◌, List, [], ◌∷◌, ◌++◌, codes, Option, Some, None, decimal, slice_range, flat_map}
 use Rattle.hyphenation_breaks.specs.Ascii.{tab, line_feed, comma}
 use Rattle.hyphenation_breaks.specs.Break.{Break, Change}
 use Rattle.hyphenation_breaks.specs.declared.entry.Entry.{Entry}
-use Rattle.hyphenation_segments.specs.Segments.{marked_word}
 use Rattle.hyphenation_score.specs.Scoring.{Scored}
 use Rattle.explanations.specs.Rows.{PatternRow}
 use Rattle.explanations.specs.declared.explanation.Decision.{Decision}

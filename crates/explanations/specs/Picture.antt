@@ -1,5 +1,5 @@
 -- The facts about a word's breaks as a picture for people: lines whose spaces put each letter below itself.
-use Rattle.std.specs.Prelude.{ℕ, ◌+◌, ◌-◌, ◌==◌, if◌then◌else◌, not, List, [], ◌∷◌, ◌++◌, length, codes, map, filter, find, Option, Some, None, option_map, decimal, slice_get, slice_range, flat_map}
+use Rattle.std.specs.Prelude.{ℕ, ◌+◌, ◌-◌, ◌==◌, if◌then◌else◌, not, List, [], ◌∷◌, ◌++◌, length, codes, filter, find, Option, Some, None, option_map, decimal, slice_get, slice_range, flat_map}
 use Rattle.std.specs.List.{range_with_len}
 use Rattle.std.specs.Option.{option_map_or}
 use Rattle.hyphenation_breaks.specs.Ascii.{space, line_feed}

@@ -2,3 +2,4 @@
 pub mod Walking
 pub mod Drawing
 pub mod Facts
+pub mod Pieces

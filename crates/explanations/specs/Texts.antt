@@ -1,5 +1,5 @@
 -- All facts about a word's breaks, and their text.
-use Rattle.std.specs.Prelude.{◌≡◌, ℕ, List, [], ◌∷◌, ◌++◌, codes, map, Option, Some, option_map, flat_map}
+use Rattle.std.specs.Prelude.{◌≡◌, ℕ, ◌+◌, ◌*◌, List, [], ◌∷◌, ◌++◌, length, chars, codes, map, max, Option, Some, option_map, flat_map}
 use Rattle.std.specs.FinMap as finite
 use Rattle.hyphenation_breaks.specs.Ascii.{line_feed}
 use Rattle.hyphenation_breaks.specs.Break.{Break, Change}
@@ -12,11 +12,12 @@ use Rattle.hyphenation_score.specs.Scoring.{Scored, frame, scores}
 use Rattle.hyphenation_segments.specs.Segments.{marked_word}
 use Rattle.explanations.specs.Decisions.{decision_by}
 use Rattle.explanations.specs.Lines.{named_line, text_line, pattern_line, score_fields, bound_fields, number_field, exception_line, decision_name, place_field}
-use Rattle.explanations.specs.Picture.{without_spaces, row_line, score_line, break_line_of}
+use Rattle.explanations.specs.Picture.{without_spaces, row_line, score_line, break_line_of, decision_text}
 use Rattle.explanations.specs.Rows.{PatternRow, AreAllOccurrences}
+use Rattle.explanations.specs.Svg.{Drawn, columns_from, note_column, word_column, word_title, frame_row, pattern_rows, scores_row, row_element, breaks_row, scores_note, longest_note, document_of}
 use Rattle.explanations.specs.declared.explanation.Decision.{Decision}
 use Rattle.explanations.specs.declared.style.Style.{Style}
-use Rattle.explanations.specs.declared.style.Style.TheVariants.{Picture, Lines}
+use Rattle.explanations.specs.declared.style.Style.TheVariants.{Picture, Lines, Svg}
 
 -- The facts: the word, its folded word, the rows of the patterns that occur in its frame, the score of each place, the
 -- minima and the bounds, soft hyphens, listed breaks, the fact that decides, and the breaks of the word as written.
@@ -74,10 +75,38 @@ picture_of change_of facts =
     frame_line facts.folded ++ (flat_map (row_line change_of (frame facts.folded)) facts.rows
     ++ (score_line facts.folded facts.scores ++ break_line_of (hyphenated facts) facts.decision facts.minima))
 
+-- The elements of a drawing, by the columns of the frame and the place of the notes.
+abbrev pub drawn_rows : {C : Type 0} → (C → Option Change) → List ℕ → ℕ → Facts C → List ℕ
+drawn_rows change_of columns note_x facts =
+    word_title facts.word (hyphenated facts) ++ (frame_row columns (frame facts.folded)
+    ++ (pattern_rows change_of columns note_x facts.folded facts.scores 1 facts.rows
+    ++ (scores_row columns note_x facts.folded facts.scores (length facts.rows + 1)
+    ++ row_element (length facts.rows + 2) (breaks_row (12 * word_column columns) (hyphenated facts) note_x
+    (decision_text facts.decision facts.minima)))))
+
+-- The number of bytes of the longest note.
+abbrev pub longest_of : {C : Type 0} → (C → Option Change) → Facts C → ℕ
+longest_of change_of facts =
+    max (longest_note change_of facts.rows) (max (length (scores_note facts.scores)) (length (decision_text facts.decision facts.minima)))
+
+-- The drawing, by the columns of the frame and the place of the notes. It has 9 pixels for each byte of the longest note.
+abbrev pub drawing_at : {C : Type 0} → (C → Option Change) → List ℕ → ℕ → Facts C → Drawn
+drawing_at change_of columns note_x facts = record {
+  rows = length facts.rows + 3;
+  width = note_x + 9 * longest_of change_of facts + 12;
+  svg = drawn_rows change_of columns note_x facts;
+}
+
+-- The drawing.
+abbrev pub drawing_of : {C : Type 0} → (C → Option Change) → Facts C → Drawn
+drawing_of change_of facts = drawing_at change_of (columns_from 1 (chars (frame facts.folded)))
+    (12 * note_column (columns_from 1 (chars (frame facts.folded))) (frame facts.folded) (hyphenated facts)) facts
+
 -- The text is that of the facts in this style. A picture may have any spaces.
 abbrev pub IsTextOf : {C : Type 0} → Style → (C → Option Change) → Facts C → List ℕ → Type 0
 IsTextOf Lines change_of facts text = text ≡ lines_of change_of facts
 IsTextOf Picture change_of facts text = without_spaces text ≡ without_spaces (picture_of change_of facts)
+IsTextOf Svg change_of facts text = text ≡ document_of (drawing_of change_of facts ∷ [])
 
 -- The text explains a word by the contents of a dictionary, by which the word has these breaks.
 pub record Explains {C B : Type 0} (change_of : C → Option Change) (break_of : B → Break) (contents : Contents C B)
@@ -85,3 +114,10 @@ pub record Explains {C B : Type 0} (change_of : C → Option Change) (break_of :
   pub facts : Facts C
   pub right : AreFacts change_of break_of contents word breaks facts
   pub text_is : IsTextOf style change_of facts text
+
+-- The drawing explains a word by the contents of a dictionary, by which the word has these breaks.
+pub record IsDrawn {C B : Type 0} (change_of : C → Option Change) (break_of : B → Break) (contents : Contents C B)
+    (word : List ℕ) (breaks : List Break) (drawing : Drawn) : Type 0 where
+  pub facts : Facts C
+  pub right : AreFacts change_of break_of contents word breaks facts
+  pub drawing_is : drawing ≡ drawing_of change_of facts

@@ -13,15 +13,23 @@
 //! ```
 #![tactic(auto)]
 
+mod columns;
 mod explanation;
 mod layout;
 mod lines;
+mod marks;
+mod notes;
+mod numbers;
 mod pattern_rows;
 mod picture;
 mod style;
+mod svg;
+mod svg_document;
+mod svg_pieces;
 mod texts;
 
 pub use explanation::{Decision, Explanation, explain};
 pub use pattern_rows::{Row, rows};
 pub use style::Style;
+pub use svg_document::{Drawing, document};
 pub use texts::Explain;

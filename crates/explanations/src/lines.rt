@@ -18,6 +18,13 @@ use hyphenation_breaks::entry::{Entry, Listing, Payload};
 use hyphenation_breaks::extended::Subregion;
 use std::alloc::AllocError;
 
+// Appends bytes.
+pub(crate) fn append(text: &mut Vec<u8>, bytes: &[u8]) -> Result<(), AllocError>
+    ensures { OnOk result (text.new.items ≡ text.old.items ++ bytes.now) }
+{
+    text.extend_from_slice(bytes)
+}
+
 // Appends a number in decimal.
 pub(crate) fn push_number(text: &mut Vec<u8>, number: usize) -> Result<(), AllocError>
     ensures { OnOk result (text.new.items ≡ text.old.items ++ decimal number) }

@@ -9,18 +9,16 @@ ghost use Rattle.hyphenation_breaks.specs.Ascii.{line_feed};
 ghost use Rattle.hyphenation_breaks.specs.Break.{is_boundary};
 ghost use Rattle.hyphenation_score.specs.Scoring.{score_of_winner, value_of};
 ghost use Rattle.explanations.specs.Picture.{without_spaces, value_text, letters_with, entry_value, score_value};
-ghost use Rattle.explanations.specs.Picture.{noted_value, halves_of, replaced_by, change_note, entry_note, score_note, row_line, score_line};
-ghost use Rattle.explanations.specs.Picture.{decision_text, with_minima, break_line_of};
+ghost use Rattle.explanations.specs.Picture.{entry_note, score_note, row_line, score_line, decision_text, break_line_of};
 ghost use Rattle.explanations.specs.Private.Drawing.{Draws, scores_by};
 ghost use Rattle.explanations.specs.Rows.{row_of, LiesWithin};
 
 use crate::explanation::Decision;
 use crate::layout::{Layout, columns_of_value};
 use crate::lines::push_number;
+use crate::notes::{push_decision_text, push_entry_notes, push_score_notes};
 use crate::pattern_rows::Row;
-use hyphenation_breaks::breaks::Break;
 use hyphenation_breaks::entry::{Entry, Payload};
-use hyphenation_breaks::extended::Subregion;
 use std::alloc::AllocError;
 
 // Appends spaces.
@@ -98,7 +96,7 @@ pub(crate) fn push_frame_line(
 }
 
 // Returns the value that entries have at a place.
-fn entry_value<C>(entries: &[Entry<C>], place: usize) -> Option<u8>
+pub(crate) fn entry_value<C>(entries: &[Entry<C>], place: usize) -> Option<u8>
     ensures { result ≡ entry_value entries.now place }
 {
     for entry in entries {
@@ -128,58 +126,8 @@ fn push_key<C>(
     Ok(())
 }
 
-// Appends a value before its change.
-fn push_noted_value(text: &mut Vec<u8>, value: u8) -> Result<(), AllocError>
-    ensures { OnOk result (Draws text.old.items text.new.items (noted_value value)) }
-{
-    push_bytes(text, b"  ")?;
-    push_decimal(text, usize::from(value))?;
-    push_bytes(text, b": ")
-}
-
-// Appends the halves of a change.
-fn push_halves(text: &mut Vec<u8>, change: &Subregion) -> Result<(), AllocError>
-    ensures { OnOk result (Draws text.old.items text.new.items (halves_of (Option.Some change.now))) }
-{
-    let made = (0, Some(change));
-    push_bytes(text, made.before().as_bytes())?;
-    push_bytes(text, b"-")?;
-    push_bytes(text, made.after().as_bytes())
-}
-
-// Appends the numbers of bytes that a change replaces.
-fn push_replaced(text: &mut Vec<u8>, change: &Subregion) -> Result<(), AllocError>
-    ensures { OnOk result (Draws text.old.items text.new.items (replaced_by change.now)) }
-{
-    push_bytes(text, b" for ")?;
-    push_decimal(text, change.left)?;
-    push_bytes(text, b"+")?;
-    push_decimal(text, change.right)
-}
-
-// Appends the change that a value makes.
-fn push_some_change(text: &mut Vec<u8>, value: u8, change: &Subregion) -> Result<(), AllocError>
-    ensures { OnOk result (Draws text.old.items text.new.items
-        (change_note value (Option.Some change.now))) }
-{
-    push_noted_value(text, value)?;
-    push_halves(text, change)?;
-    push_replaced(text, change)?;
-    push_bytes(text, b" bytes")
-}
-
-// Appends the change that a value makes, or nothing without one.
-fn push_change(text: &mut Vec<u8>, value: u8, change: Option<&Subregion>) -> Result<(), AllocError>
-    ensures { OnOk result (Draws text.old.items text.new.items
-        (change_note value (option_copied change.entry))) }
-{
-    match change {
-        Some(change) => push_some_change(text, value, change),
-        None => Ok(()),
-    }
-}
-
 // Appends the changes that the values of entries make.
+#[tactic(auto, using(crate::proofs::Spaces::joined))]
 fn push_entry_changes<C: Payload>(
     text: &mut Vec<u8>,
     entries: &[Entry<C>],
@@ -187,10 +135,7 @@ fn push_entry_changes<C: Payload>(
     ensures { OnOk result (Draws text.old.items text.new.items
         (flat_map (entry_note C.change_of) entries.now)) }
 {
-    for entry in entries {
-        push_change(text, entry.value, entry.change.as_change())?;
-    }
-    Ok(())
+    push_entry_notes(text, entries)
 }
 
 // Appends the line of a pattern that occurs in the frame.
@@ -246,7 +191,11 @@ fn is_boundary(word: &str, place: usize) -> bool
 }
 
 // Returns the value of a word's place between two characters, by the winners of the places from place 1 on.
-fn score_value<C: Payload>(word: &str, winners: &[Option<&Entry<C>>], place: usize) -> Option<u8>
+pub(crate) fn score_value<C: Payload>(
+    word: &str,
+    winners: &[Option<&Entry<C>>],
+    place: usize,
+) -> Option<u8>
     ensures { result ≡ score_value word.now (scores_by C.change_of winners.now) place }
 {
     if !is_boundary(word, place) {
@@ -294,21 +243,8 @@ fn push_scored_word<C: Payload>(
     push_spaces(text, layout.rest_after_word())
 }
 
-// Appends the change of a winner.
-fn push_winner_change<C: Payload>(
-    text: &mut Vec<u8>,
-    winner: Option<&Entry<C>>,
-) -> Result<(), AllocError>
-    ensures { OnOk result (Draws text.old.items text.new.items
-        (score_note (score_of_winner C.change_of (option_copied winner.entry)))) }
-{
-    match winner {
-        Some(entry) => push_change(text, entry.value, entry.change.as_change()),
-        None => Ok(()),
-    }
-}
-
 // Appends the changes of winners.
+#[tactic(auto, using(crate::proofs::Spaces::joined))]
 fn push_winner_changes<C: Payload>(
     text: &mut Vec<u8>,
     winners: &[Option<&Entry<C>>],
@@ -316,10 +252,7 @@ fn push_winner_changes<C: Payload>(
     ensures { OnOk result (Draws text.old.items text.new.items
         (flat_map score_note (scores_by C.change_of winners.now))) }
 {
-    for winner in winners {
-        push_winner_change(text, *winner)?;
-    }
-    Ok(())
+    push_score_notes(text, winners)
 }
 
 // Appends the line of a word's scores.
@@ -338,21 +271,8 @@ pub(crate) fn push_score_line<C: Payload>(
     push_bytes(text, b"\n")
 }
 
-// Appends a text and the minima.
-fn push_with_minima(
-    text: &mut Vec<u8>,
-    before: &[u8],
-    minima: (usize, usize),
-) -> Result<(), AllocError>
-    ensures { OnOk result (Draws text.old.items text.new.items (with_minima before.now minima)) }
-{
-    push_bytes(text, before)?;
-    push_decimal(text, minima.0)?;
-    push_bytes(text, b" and ")?;
-    push_decimal(text, minima.1)
-}
-
 // Appends the fact that decides, in words.
+#[tactic(auto, using(crate::proofs::Spaces::joined))]
 fn push_decision(
     text: &mut Vec<u8>,
     decision: Decision,
@@ -360,19 +280,7 @@ fn push_decision(
 ) -> Result<(), AllocError>
     ensures { OnOk result (Draws text.old.items text.new.items (decision_text decision minima)) }
 {
-    match decision {
-        Decision::SoftHyphens => push_bytes(
-            text,
-            b"its own soft hyphens, whatever patterns and minima say",
-        ),
-        Decision::TooShort => push_with_minima(text, b"too few characters for the minima ", minima),
-        Decision::Exception => push_with_minima(
-            text,
-            b"the breaks of an exception within the minima ",
-            minima,
-        ),
-        Decision::Patterns => push_with_minima(text, b"odd values within the minima ", minima),
-    }
+    push_decision_text(text, decision, minima)
 }
 
 // Appends a word with its breaks, below the word.

@@ -7,4 +7,6 @@ pub enum Style {
     Picture,
     /// Lines for programs: a name, and fields after tabs.
     Lines,
+    /// A document in SVG: the picture, for readers of pages.
+    Svg,
 }

@@ -1,23 +1,29 @@
 //! The text that explains a word, in either style.
 
-ghost use Rattle.std.specs.Prelude.{◌≡◌, ◌++◌, ℕ, List, IfOk, OnOk, length, map, codes};
+ghost use Rattle.std.specs.Prelude.{◌≡◌, ◌∷◌, ◌++◌, [], ℕ, List, IfOk, OnOk, length, map, codes};
 ghost use Rattle.std.specs.List.{All};
 ghost use Rattle.std.specs.String.{string_bytes};
 ghost use Rattle.hyphenation_segments.specs.Segments.{marked_word};
 ghost use Rattle.hyphenation_score.specs.Scoring.{frame};
 ghost use Rattle.explanations.specs.Private.Drawing.{Draws};
 ghost use Rattle.explanations.specs.Rows.{row_of, LiesWithin};
-ghost use Rattle.explanations.specs.Texts.{Explains, IsTextOf};
-ghost use Rattle.explanations.specs.Private.Facts.{facts_of, lines_by, picture_by};
+ghost use Rattle.explanations.specs.Drawings.{drawn};
+ghost use Rattle.explanations.specs.Texts.{Explains, IsDrawn, IsTextOf};
+ghost use Rattle.explanations.specs.Private.Facts.{AddsRows, document_by, drawing_by, drawn_by, facts_of, lines_by};
+ghost use Rattle.explanations.specs.Private.Facts.{longest_by, picture_by};
 
+use crate::columns::{columns_of, note_column};
 use crate::explanation::{Explanation, explain};
 use crate::layout::Layout;
 use crate::lines::{
     name_of, push_bounds_line, push_breaks_line, push_exception, push_minima_line, push_patterns,
     push_places_line, push_score_fields, push_text_line,
 };
+use crate::numbers::{product, sum};
 use crate::picture::{push_break_line, push_frame_line, push_rows, push_score_line};
 use crate::style::Style;
+use crate::svg::{push_breaks_row, push_frame_row, push_pattern_rows, push_scores_row, push_title};
+use crate::svg_document::{Drawing, document};
 use hyphenation_breaks::breaks::Break;
 use hyphenation_breaks::entry::{Listing, Payload};
 use hyphenation_dictionary::dictionary::{Dictionary, Extended, Standard};
@@ -87,6 +93,123 @@ fn push_picture<C: Payload, B: Listing, O: Break>(
     push_break_line(text, hyphenated, facts.decision, minima, &layout)
 }
 
+// Appends the elements of a drawing, and returns the number of bytes of the longest note.
+fn push_drawn_rows<C: Payload, B: Listing, O: Break>(
+    alloc: Global,
+    text: &mut Vec<u8>,
+    columns: &[usize],
+    note_x: usize,
+    facts: &Explanation<'_, C, B>,
+    minima: (usize, usize),
+    word: &str,
+    breaks: &[O],
+    hyphenated: &str,
+) -> Result<usize, AllocError>
+    requires framed { string_bytes facts.now.framed ≡ frame (string_bytes facts.now.folded) }
+    requires within { All (LiesWithin (string_bytes facts.now.framed)) (map row_of facts.now.rows.items) }
+    requires hyphenated { hyphenated.now ≡ marked_word (codes "-") word.now (map O.meaning breaks.now) }
+    ensures rows { OnOk result (AddsRows C.change_of B.meaning O.meaning facts.now minima word.now breaks.now columns.now
+        note_x text.old.items text.new.items) }
+    ensures longest { IfOk result (λ bytes. bytes ≡ longest_by C.change_of B.meaning facts.now minima
+        word.now (map O.meaning breaks.now)) }
+{
+    let framed = facts.framed.as_bytes();
+    let folded = facts.folded.as_str();
+    let number = sum(facts.rows.len(), 1)?;
+    push_title(text, word, hyphenated)?;
+    push_frame_row(alloc, text, columns, framed)?;
+    let of_rows = push_pattern_rows(
+        alloc,
+        text,
+        columns,
+        note_x,
+        framed,
+        folded,
+        &facts.winners,
+        &facts.rows,
+    )?;
+    let of_scores = push_scores_row(alloc, text, columns, note_x, folded, &facts.winners, number)?;
+    let of_breaks = push_breaks_row(
+        alloc,
+        text,
+        columns,
+        note_x,
+        hyphenated,
+        facts.decision,
+        minima,
+        sum(number, 1)?,
+    )?;
+    Ok(of_rows.max(of_scores.max(of_breaks)))
+}
+
+// Returns the drawing of an explanation, by the columns of the frame and the place of the notes.
+fn drawing_at<C: Payload, B: Listing, O: Break>(
+    alloc: Global,
+    columns: &[usize],
+    note_x: usize,
+    facts: &Explanation<'_, C, B>,
+    minima: (usize, usize),
+    word: &str,
+    breaks: &[O],
+    hyphenated: &str,
+) -> Result<Drawing, AllocError>
+    requires framed { string_bytes facts.now.framed ≡ frame (string_bytes facts.now.folded) }
+    requires within { All (LiesWithin (string_bytes facts.now.framed)) (map row_of facts.now.rows.items) }
+    requires hyphenated { hyphenated.now ≡ marked_word (codes "-") word.now (map O.meaning breaks.now) }
+    ensures { IfOk result (λ drawing. drawn drawing ≡ drawn_by C.change_of B.meaning facts.now
+        minima word.now (map O.meaning breaks.now) columns.now note_x) }
+{
+    let rows = sum(facts.rows.len(), 3)?;
+    let mut svg = Vec::new(alloc);
+    let longest = push_drawn_rows(
+        alloc, &mut svg, columns, note_x, facts, minima, word, breaks, hyphenated,
+    )?;
+    let width = sum(sum(note_x, product(9, longest)?)?, 12)?;
+    Ok(Drawing { rows, width, svg })
+}
+
+// Returns the drawing of an explanation. The only error is out of memory.
+fn drawing_by<C: Payload, B: Listing, O: Break>(
+    alloc: Global,
+    facts: &Explanation<'_, C, B>,
+    minima: (usize, usize),
+    word: &str,
+    breaks: &[O],
+    hyphenated: &str,
+) -> Result<Drawing, AllocError>
+    requires framed { string_bytes facts.now.framed ≡ frame (string_bytes facts.now.folded) }
+    requires within { All (LiesWithin (string_bytes facts.now.framed)) (map row_of facts.now.rows.items) }
+    requires hyphenated { hyphenated.now ≡ marked_word (codes "-") word.now (map O.meaning breaks.now) }
+    ensures { IfOk result (λ drawing. drawn drawing ≡ drawing_by C.change_of B.meaning facts.now minima
+        word.now (map O.meaning breaks.now)) }
+{
+    let framed = facts.framed.as_str();
+    let columns = columns_of(alloc, framed)?;
+    let note_x = product(12, note_column(&columns, framed, hyphenated)?)?;
+    drawing_at(
+        alloc, &columns, note_x, facts, minima, word, breaks, hyphenated,
+    )
+}
+
+// Returns the document of an explanation's drawing. The only error is out of memory.
+fn document_by<C: Payload, B: Listing, O: Break>(
+    alloc: Global,
+    facts: &Explanation<'_, C, B>,
+    minima: (usize, usize),
+    word: &str,
+    breaks: &[O],
+    hyphenated: &str,
+) -> Result<Vec<u8>, AllocError>
+    requires framed { string_bytes facts.now.framed ≡ frame (string_bytes facts.now.folded) }
+    requires within { All (LiesWithin (string_bytes facts.now.framed)) (map row_of facts.now.rows.items) }
+    requires hyphenated { hyphenated.now ≡ marked_word (codes "-") word.now (map O.meaning breaks.now) }
+    ensures { IfOk result (λ text. text.items ≡ document_by C.change_of B.meaning facts.now minima
+        word.now (map O.meaning breaks.now)) }
+{
+    let drawing = drawing_by(alloc, facts, minima, word, breaks, hyphenated)?;
+    document(alloc, &[drawing])
+}
+
 // Returns the text of an explanation in a style. The only error is out of memory.
 fn styled<C: Payload, B: Listing, O: Break>(
     alloc: Global,
@@ -113,6 +236,7 @@ fn styled<C: Payload, B: Listing, O: Break>(
             push_picture(alloc, &mut text, facts, minima, word, breaks, hyphenated)?;
             Ok(text)
         }
+        Style::Svg => document_by(alloc, facts, minima, word, breaks, hyphenated),
     }
 }
 
@@ -140,13 +264,32 @@ fn text_of<C: Payload, B: Listing, O: Break>(
     )
 }
 
+// Returns the drawing of a word with known breaks. The only error is out of memory.
+fn drawing_of<C: Payload, B: Listing, O: Break>(
+    alloc: Global,
+    dictionary: &Dictionary<C, B>,
+    word: &Word<'_, O>,
+) -> Result<Drawing, AllocError>
+    ensures { IfOk result (λ drawing. IsDrawn C.change_of B.meaning dictionary.now word.now.text.now
+        (map O.meaning word.now.breaks.items) (drawn drawing)) }
+{
+    let hyphenated = hyphenated(alloc, word)?;
+    let facts = explain(alloc, dictionary, word.text)?;
+    let minima = dictionary.minima();
+    drawing_by(alloc, &facts, minima, word.text, &word.breaks, &hyphenated)
+}
+
 /// A dictionary of either kind, which explains the breaks of words.
 pub trait Explain {
     ghost use Rattle.std.specs.Prelude.{ℕ, List};
+    ghost use Rattle.explanations.specs.Drawings.{drawn};
+    ghost use Rattle.explanations.specs.Svg.{Drawn};
     ghost use Rattle.explanations.specs.declared.style.Style.{Style};
 
     /// Whether a text explains a word in a style.
     ghost explains: { Self → Style → List ℕ → List ℕ → Type 0 };
+    /// Whether a drawing explains a word.
+    ghost draws: { Self → List ℕ → Drawn → Type 0 };
 
     /// Returns the text that explains a word as written: the patterns that occur in it, its scores, the facts that
     /// decide, and the word with a hyphen at each of its breaks.
@@ -158,19 +301,37 @@ pub trait Explain {
     /// ```
     fn explanation(&self, alloc: Global, style: Style, word: &str) -> Result<Vec<u8>, AllocError>
         ensures { IfOk result (λ text. explains self.now style word.now text.items) };
+
+    /// Returns the drawing of a word in SVG, which [`document`](crate::document) puts into a document.
+    ///
+    /// The only error is out of memory.
+    ///
+    /// ```text
+    /// dictionary.drawing(alloc, "firkins")?.rows    // 8: the lines of the picture drawn above
+    /// ```
+    fn drawing(&self, alloc: Global, word: &str) -> Result<Drawing, AllocError>
+        ensures { IfOk result (λ drawing. draws self.now word.now (drawn drawing)) };
 }
 
 impl Explain for Standard {
     ghost use Rattle.hyphenation_breaks.specs.Break.{plain_break};
     ghost use Rattle.hyphenation_hyphenator.specs.Opportunities.{no_change, standard_rules, all_breaks_of};
-    ghost use Rattle.explanations.specs.Texts.{Explains};
+    ghost use Rattle.explanations.specs.Texts.{Explains, IsDrawn};
 
     ghost explains = { λ dictionary style word text. Explains no_change plain_break dictionary style word
         (all_breaks_of (standard_rules dictionary) word) text };
 
+    ghost draws = { λ dictionary word drawing. IsDrawn no_change plain_break dictionary word
+        (all_breaks_of (standard_rules dictionary) word) drawing };
+
     fn explanation(&self, alloc: Global, style: Style, word: &str) -> Result<Vec<u8>, AllocError> {
         let word = self.hyphenate(alloc, word)?;
         text_of(alloc, self, style, &word)
+    }
+
+    fn drawing(&self, alloc: Global, word: &str) -> Result<Drawing, AllocError> {
+        let word = self.hyphenate(alloc, word)?;
+        drawing_of(alloc, self, &word)
     }
 }
 
@@ -178,13 +339,21 @@ impl Explain for Extended {
     ghost use Rattle.hyphenation_hyphenator.specs.Fitting.{fitted_breaks_of};
     ghost use Rattle.hyphenation_hyphenator.specs.Opportunities.{own_break, extended_rules};
     ghost use Rattle.hyphenation_score.specs.Scoring.{own_change};
-    ghost use Rattle.explanations.specs.Texts.{Explains};
+    ghost use Rattle.explanations.specs.Texts.{Explains, IsDrawn};
 
     ghost explains = { λ dictionary style word text. Explains own_change own_break dictionary style word
         (fitted_breaks_of (extended_rules dictionary) word) text };
 
+    ghost draws = { λ dictionary word drawing. IsDrawn own_change own_break dictionary word
+        (fitted_breaks_of (extended_rules dictionary) word) drawing };
+
     fn explanation(&self, alloc: Global, style: Style, word: &str) -> Result<Vec<u8>, AllocError> {
         let word = self.hyphenate(alloc, word)?;
         text_of(alloc, self, style, &word)
+    }
+
+    fn drawing(&self, alloc: Global, word: &str) -> Result<Drawing, AllocError> {
+        let word = self.hyphenate(alloc, word)?;
+        drawing_of(alloc, self, &word)
     }
 }

@@ -2,6 +2,8 @@
 #![tactic(auto)]
 
 #[cfg(test)]
+mod drawings;
+#[cfg(test)]
 mod lines;
 #[cfg(test)]
 mod pictures;

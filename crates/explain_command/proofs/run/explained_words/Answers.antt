@@ -2,7 +2,7 @@ use Rattle.std.proofs.Common.{◌≡◌, ◌<◌, ℕ, List, [], Option, sym, su
 use Rattle.std.specs.Prelude.{IfOk}
 use Rattle.std.proofs.lemmas.Result.{err_from_is_err_and}
 use Rattle.hyphenation_breaks.specs.Borrowed.{texts_now}
-use Rattle.explain_command.specs.Explained.{ExplainsWords}
+use Rattle.explain_command.specs.Explained.{AreExplained, ExplainsWords}
 use Rattle.explain_command.specs.Statuses.{EndsFor}
 use Rattle.explain_command.proofs.Endings.{ends_of_input, no_words, ends_unread, explains_given}
 use Rattle.explain_command.proofs.run.explained_words.Goals as goal
@@ -17,7 +17,7 @@ returns-then-is_empty-clause-ended g c =
 pub returns-then-is_empty-clause-text : goal.returns-then-is_empty-clause-text
 returns-then-is_empty-clause-text g c =
     let empty : length c.args.words.now ≡ 0 = search rules in
-    subst (λ (ws : List (List ℕ)). IfOk c.explained_input.result (λ text. ExplainsWords (g.D.Explain.explains c.args.dictionary.now c.args.style) ws text.items)) (sym (no_words c.args.words.now empty))
+    subst (λ (ws : List (List ℕ)). IfOk c.explained_input.result (λ text. ExplainsWords (AreExplained (g.D.Explain.explains c.args.dictionary.now) (g.D.Explain.draws c.args.dictionary.now) c.args.style) ws text.items)) (sym (no_words c.args.words.now empty))
     c.explained_input.ensures.text
 
 pub returns-in_err-explained-clause-ended : goal.returns-in_err-explained-clause-ended
@@ -32,4 +32,4 @@ returns-clause-ended g c =
     ends_unread c.args.words.now _ _ _ some tt refl
 
 pub returns-clause-text : goal.returns-clause-text
-returns-clause-text g c = explains_given (g.D.Explain.explains c.args.dictionary.now c.args.style) (texts_now c.args.words.now) _ c.in_ok-explained.ensures
+returns-clause-text g c = explains_given (AreExplained (g.D.Explain.explains c.args.dictionary.now) (g.D.Explain.draws c.args.dictionary.now) c.args.style) (texts_now c.args.words.now) _ c.in_ok-explained.ensures

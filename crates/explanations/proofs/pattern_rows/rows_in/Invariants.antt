@@ -1,4 +1,4 @@
-use Rattle.std.proofs.Common.{◌≡◌, ℕ, ◌+◌, ◌*◌, ◌<◌, ◌≤◌, length, map}
+use Rattle.std.proofs.Common.{ℕ, ◌+◌, ◌*◌, ◌≤◌, length, map}
 use Rattle.hyphenation_trie.specs.Trie.{entries_of_key}
 use Rattle.explanations.specs.Rows.{row_of, NoKeyIsLonger}
 use Rattle.explanations.specs.Private.Walking.{AreOccurrencesUpTo}

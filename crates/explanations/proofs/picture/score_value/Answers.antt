@@ -1,4 +1,4 @@
-use Rattle.std.proofs.Common.{◌≡◌, ◌∙◌, true, Option, Some, ap}
+use Rattle.std.proofs.Common.{◌≡◌, ◌∙◌, true, Some, ap}
 use Rattle.hyphenation_breaks.specs.Break.{is_boundary}
 use Rattle.explanations.proofs.Scores.{score_known}
 use Rattle.explanations.proofs.picture.score_value.Goals as goal

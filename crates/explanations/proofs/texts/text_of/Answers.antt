@@ -1,7 +1,7 @@
-use Rattle.std.proofs.Common.{◌≡◌, ◌∙◌, List, ℕ, ap, sym, map}
+use Rattle.std.proofs.Common.{◌∙◌, ap, sym, map}
 use Rattle.std.specs.Prelude.{codes}
 use Rattle.hyphenation_segments.specs.Segments.{marked_word}
-use Rattle.explanations.proofs.Explaining.{IsExplanation, rows_within, framed_is, explains_word}
+use Rattle.explanations.proofs.Explaining.{rows_within, framed_is, explains_word}
 use Rattle.explanations.proofs.texts.text_of.Goals as goal
 
 pub styled-requires-clause-framed : goal.styled-requires-clause-framed

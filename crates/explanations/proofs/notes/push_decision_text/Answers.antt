@@ -1,7 +1,7 @@
-use Rattle.explanations.proofs.picture.push_decision.Goals as goal
+use Rattle.explanations.proofs.notes.push_decision_text.Goals as goal
 
 pub returns-in-SoftHyphens : goal.returns-in-SoftHyphens
-returns-in-SoftHyphens c = rw c.in-SoftHyphens.is c.push_bytes.ensures
+returns-in-SoftHyphens c = rw c.in-SoftHyphens.is c.append.ensures
 
 pub returns-in-TooShort : goal.returns-in-TooShort
 returns-in-TooShort c = rw c.in-TooShort.is c.push_with_minima.ensures

@@ -1,7 +1,0 @@
-use Rattle.std.proofs.Common.{take}
-use Rattle.hyphenation_breaks.specs.Borrowed.{texts_now}
-use Rattle.explain_command.specs.Explained.{AreExplained}
-use Rattle.explain_command.proofs.run.explained.Given as goal
-
-abbrev pub invariant-loop-index : goal.invariant-loop-index
-invariant-loop-index g l = AreExplained (g.D.Explain.explains l.dictionary l.style) (texts_now (take l.index l.words)) l.text.items

@@ -1,0 +1,7 @@
+use Rattle.std.proofs.Common.{take}
+use Rattle.hyphenation_breaks.specs.Borrowed.{texts_now}
+use Rattle.explain_command.specs.Explained.{AreJoined}
+use Rattle.explain_command.proofs.run.joined.Given as goal
+
+abbrev pub invariant-loop-index : goal.invariant-loop-index
+invariant-loop-index g l = AreJoined (g.D.Explain.explains l.dictionary l.style) (texts_now (take l.index l.words)) l.text.items

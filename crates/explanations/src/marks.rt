@@ -1,0 +1,108 @@
+//! The values of a drawing: what stands at each place of a row.
+
+ghost use Rattle.std.specs.Prelude.{◌≡◌, ◌+◌, ◌-◌, IfOk, length, option_map};
+ghost use Rattle.explanations.specs.Picture.{entry_value, score_value};
+ghost use Rattle.explanations.specs.Private.Drawing.{scores_by};
+ghost use Rattle.explanations.specs.Private.Pieces.{mark_at};
+ghost use Rattle.explanations.specs.Rows.{row_of};
+ghost use Rattle.explanations.specs.Svg.{no_marks, pattern_mark, row_marks, score_mark, score_marks};
+
+use crate::numbers::sum;
+use crate::pattern_rows::Row;
+use crate::picture::{entry_value, score_value};
+use hyphenation_breaks::entry::{Entry, Payload};
+use std::alloc::{AllocError, Global};
+
+// A value that is drawn.
+#[derive(Clone, Copy)]
+pub(crate) struct Mark {
+    pub(crate) value: u8,
+    // Whether it is the greatest of its place of the word.
+    pub(crate) wins: bool,
+}
+
+// Returns no value for each place of a frame. The only error is out of memory.
+pub(crate) fn no_marks(alloc: Global, framed: &[u8]) -> Result<Vec<Option<Mark>>, AllocError>
+    ensures { IfOk result (λ marks. marks.items ≡ no_marks framed.now) }
+{
+    let mut marks = Vec::new(alloc);
+    for _place in 0..framed.len() + 1 {
+        marks.push(None)?;
+    }
+    Ok(marks)
+}
+
+// Returns a value of a pattern, by the greatest value of its place.
+fn pattern_mark(greatest: Option<u8>, value: u8) -> Mark
+    ensures { result ≡ pattern_mark greatest value }
+{
+    match greatest {
+        Some(greatest) => Mark {
+            value,
+            wins: greatest == value,
+        },
+        None => Mark { value, wins: false },
+    }
+}
+
+// Returns the value of a row at one of its places. The only error is out of memory.
+fn row_mark<C: Payload>(
+    word: &str,
+    winners: &[Option<&Entry<C>>],
+    row: &Row<'_, C>,
+    place: usize,
+) -> Result<Option<Mark>, AllocError>
+    ensures { IfOk result (λ mark. mark ≡ mark_at C.change_of word.now winners.now row.now.start
+        row.now.entries.now place) }
+{
+    let at = sum(row.start, place)?.saturating_sub(1);
+    let greatest = score_value(word, winners, at);
+    match entry_value(row.entries, place) {
+        Some(value) => Ok(Some(pattern_mark(greatest, value))),
+        None => Ok(None),
+    }
+}
+
+// Returns the values of a row at each of its places, by its letters. The only error is out of memory.
+pub(crate) fn row_marks<C: Payload>(
+    alloc: Global,
+    word: &str,
+    winners: &[Option<&Entry<C>>],
+    row: &Row<'_, C>,
+    letters: &[u8],
+) -> Result<Vec<Option<Mark>>, AllocError>
+    requires { row.now.bytes ≡ length letters.now }
+    ensures { IfOk result (λ marks. marks.items
+        ≡ row_marks word.now (scores_by C.change_of winners.now) (row_of row.now)) }
+{
+    let mut marks = Vec::new(alloc);
+    for place in 0..letters.len() + 1 {
+        marks.push(row_mark(word, winners, row, place)?)?;
+    }
+    Ok(marks)
+}
+
+// Returns the greatest value of a place, if it has one.
+fn score_mark<C: Payload>(word: &str, winners: &[Option<&Entry<C>>], place: usize) -> Option<Mark>
+    ensures { result ≡ option_map score_mark (score_value word.now (scores_by C.change_of winners.now) place) }
+{
+    match score_value(word, winners, place) {
+        Some(value) => Some(Mark { value, wins: false }),
+        None => None,
+    }
+}
+
+// Returns the greatest value of each place of a word. The only error is out of memory.
+pub(crate) fn score_marks<C: Payload>(
+    alloc: Global,
+    word: &str,
+    winners: &[Option<&Entry<C>>],
+) -> Result<Vec<Option<Mark>>, AllocError>
+    ensures { IfOk result (λ marks. marks.items ≡ score_marks word.now (scores_by C.change_of winners.now)) }
+{
+    let mut marks = Vec::new(alloc);
+    for place in 0..word.len() + 1 {
+        marks.push(score_mark(word, winners, place))?;
+    }
+    Ok(marks)
+}
