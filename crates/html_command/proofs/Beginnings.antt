@@ -1,6 +1,6 @@
 -- Lists that begin with others, and the languages of a run.
-use Rattle.std.proofs.Common.{◌≡◌, ◌≢◌, ℕ, List, [], ◌∷◌, ◌++◌, map, length, refl, sym, ◌∙◌, ap, append_assoc, append-nil}
-use Rattle.std.specs.Prelude.{Option, None, Some}
+use Rattle.std.proofs.Common.{◌≡◌, ℕ, List, [], ◌∷◌, ◌++◌, map, refl, sym, ◌∙◌, ap, append_assoc, append-nil}
+use Rattle.std.specs.Prelude.{Some}
 use Rattle.html_command.specs.Arguments.{ParsedArgs}
 use Rattle.html_command.specs.Dictionaries.{BeginsWith, HasCodesOf}
 use Rattle.html_command.specs.Private.Requests.{parsed_dictionary}

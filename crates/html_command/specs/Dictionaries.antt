@@ -1,5 +1,5 @@
 -- Dictionaries of either kind, and those of a run.
-use Rattle.std.specs.Prelude.{◌≡◌, ◌≢◌, ℕ, Bool, true, false, ◌||◌, if◌then◌else◌, List, [], ◌++◌, map, slice_index_or, Option, None, Result, Ok, Err}
+use Rattle.std.specs.Prelude.{◌≡◌, ◌≢◌, ℕ, Bool, true, false, ◌||◌, if◌then◌else◌, List, [], ◌++◌, map, slice_index_or, None, Result, Ok, Err}
 use Rattle.std.specs.String.{string_bytes}
 use Rattle.hyphenation_grammar.specs.Form.{head_of}
 use Rattle.hyphenation_grammar.specs.Judging.{refusal_of}

@@ -1,5 +1,5 @@
 -- The pieces of a text are the words between its white space; whole groups.
-use Rattle.std.proofs.Common.{◌≡◌, ◌∙◌, ℕ, ◌+◌, ◌==◌, ◌||◌, ◌⊎◌, inl, inr, Bool, true, false, not, cond, All, subst, if◌then◌else◌, List, [], ◌∷◌, ◌++◌, map, filter, fold, length, refl, sym, ap, append_assoc, arith}
+use Rattle.std.proofs.Common.{◌≡◌, ◌∙◌, ℕ, ◌+◌, ◌==◌, ◌||◌, Bool, true, false, not, cond, All, subst, if◌then◌else◌, List, [], ◌∷◌, ◌++◌, map, filter, fold, length, refl, sym, ap, append_assoc, arith}
 use Rattle.std.specs.Prelude.{◌≢◌}
 use Rattle.std.proofs.lemmas.List.{append-nil}
 use Rattle.std.proofs.lemmas.List.Elements.{All-head, All-tail}
@@ -13,7 +13,7 @@ use Rattle.tex_files.specs.declared.group.Place.TheVariants.{Outside, Before, Wi
 use Rattle.tex_files.specs.TexFiles.{HasNo, HasNoWord, IsOutside, IsInside, IsBlank, is_blank, EndsCommand, spaced, command, line_words, words_from, words_between, tex_words}
 use Rattle.hyphenation_grammar.specs.Tokens.{is_brace}
 use Rattle.pattern_results.specs.Texts.{line_feeds}
-use Rattle.tex_files.proofs.Lexing.{piece, lex, lexed, AllOther, pieces-lex, lex-later, lex-end, lex-other, line_after, other_byte, rest_free, flat4, flat5, flat7}
+use Rattle.tex_files.proofs.Lexing.{piece, lex, lexed, AllOther, pieces-lex, lex-later, lex-end, lex-other, line_after, other_byte, rest_free, flat5, flat7}
 use Rattle.tex_files.proofs.Grouping.{word, picked, found_at, found_later, outside, within, groups-later, closed}
 
 -- ---- Lines.

@@ -1,12 +1,12 @@
 -- A command that opens groups, without a brace after it: the file is read from the text after the command.
-use Rattle.std.proofs.Common.{◌≡◌, ◌∙◌, ℕ, ◌+◌, ◌==◌, ◌||◌, Bool, true, false, if◌then◌else◌, List, [], ◌∷◌, ◌++◌, map, fold, length, refl, sym, ap, arith, Some}
+use Rattle.std.proofs.Common.{◌≡◌, ◌∙◌, ℕ, ◌+◌, ◌==◌, ◌||◌, Bool, true, false, if◌then◌else◌, List, [], ◌∷◌, ◌++◌, fold, length, refl, sym, ap, arith, Some}
 use Rattle.std.proofs.lemmas.List.Folds.{fold_stays}
 use Rattle.std.specs.Prelude.{codes}
 use Rattle.hyphenation_grammar.specs.Lines.{is_same}
 use Rattle.hyphenation_grammar.specs.Tokens.{is_brace}
 use Rattle.pattern_results.specs.Texts.{line_feeds}
 use Rattle.pattern_results.specs.declared.errors.FileCause.TheVariants.{Input}
-use Rattle.tex_files.specs.Groups.{Piece, GroupScan, GroupWord, is_space, place_after, with_piece, with_piece_outside, nothing_scanned, groups, pieces_of}
+use Rattle.tex_files.specs.Groups.{Piece, GroupScan, is_space, place_after, with_piece, with_piece_outside, nothing_scanned, groups, pieces_of}
 use Rattle.tex_files.specs.TexFiles.{HasNo, IsOutside, is_blank, EndsCommand, begins_group, command}
 use Rattle.tex_files.specs.declared.group.Group.{Group}
 use Rattle.tex_files.specs.declared.group.Place.TheVariants.{Outside, Before, Within}

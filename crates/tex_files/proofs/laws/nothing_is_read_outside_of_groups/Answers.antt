@@ -1,4 +1,4 @@
-use Rattle.std.proofs.Common.{◌≡◌, ◌∙◌, ap, sym, List, ℕ, fold, [], ◌++◌, false}
+use Rattle.std.proofs.Common.{◌≡◌, ◌∙◌, ap, sym, List, ℕ, fold, [], false}
 use Rattle.std.proofs.lemmas.List.{append-nil}
 use Rattle.tex_files.specs.Groups.{GroupScan, Piece, pieces_of, with_piece, nothing_scanned}
 use Rattle.tex_files.specs.TexFiles.{IsOutside}
