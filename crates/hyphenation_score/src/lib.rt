@@ -225,9 +225,9 @@ fn scores_in<'d>(
     ensures counts { CountsBy (entries_of_key automaton.now) word.now count.old count.new (IsOk result) }
 {
     let places = word.len().saturating_sub(1);
-    if places <= 32 {
-        // The winners of most words need no allocation.
-        let mut bests: [Option<&'d Entry<Option<Subregion>>>; 32] = [None; 32];
+    if places <= 16 {
+        // The winners of most words need no allocation. So few are set to `None` without a call.
+        let mut bests: [Option<&'d Entry<Option<Subregion>>>; 16] = [None; 16];
         return scores_from(alloc, automaton, word, &mut bests[..places], count);
     }
     let mut bests: Vec<Option<&'d Entry<Option<Subregion>>>> = vec![in alloc; None; places]?;

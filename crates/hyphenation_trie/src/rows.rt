@@ -4,7 +4,7 @@
 //! its owner. A look-up reads one cell. The row of the root is full: where the root has no child, the cell leads back to
 //! the root. So a search that reaches the root ends there without a test.
 
-ghost use Rattle.std.specs.Prelude.{◌≡◌, ◌+◌, ◌<◌, ◌≤◌, ◌≢◌, ℕ, true, false, OnOk, IfOk, IfSome, length, Some, None};
+ghost use Rattle.std.specs.Prelude.{◌≡◌, ◌==◌, ◌+◌, ◌<◌, ◌≤◌, ◌≢◌, ℕ, true, false, OnOk, IfOk, IfSome, length, Some, None};
 ghost use Rattle.hyphenation_trie.specs.Private.Rows.{child_in, AreChildren, OwnsNoChild, IsByteSpan, IsFreeRow, IsFullRow, HasRow, HasRows};
 
 use super::children::Children;
@@ -29,13 +29,24 @@ pub(crate) struct Moves {
     pub(crate) link: u32,
 }
 
+// Tests whether the owner of a cell is this node.
+//
+// The numbers of nodes that a search meets come from 32 bits. The compiler sees it, leaves out the first test, and compares
+// 32 bits in memory.
+#[inline(always)]
+fn is_owner(owner: u32, node: usize) -> bool
+    ensures { result ≡ owner == node }
+{
+    node <= u32::MAX as usize && owner == node as u32
+}
+
 // Returns the child at a byte of a node whose row begins at `base`.
 pub(crate) fn child_at(cells: &[Cell], base: usize, node: usize, byte: u8) -> Option<u32>
     requires { base + 255 < length cells.now }
     ensures { result ≡ child_in cells.now node (base + byte) }
 {
     let cell = &cells[base + byte as usize];
-    if cell.owner as usize == node {
+    if is_owner(cell.owner, node) {
         Some(cell.child)
     } else {
         None

@@ -102,6 +102,30 @@ fn winning_breaks_with_buffer<'h>(
 }
 
 // Puts the breaks within bounds that the patterns of an extended dictionary allow into an empty list, with the changes
+// of the winners. It is kept out of line, since few words are so long that their winners are not set at once.
+#[inline(never)]
+fn winning_breaks_of_long<'h>(
+    patterns: &'h Automaton<Entry<Option<Subregion>>>,
+    word: &str,
+    bounds: (usize, usize),
+    breaks: &mut Vec<(usize, Option<&'h Subregion>)>,
+) -> Result<(), AllocError>
+    requires each_begins_key { EachBeginsKey patterns.now }
+    requires empty { breaks.old.items ≡ [] }
+    ensures { OnOk result (map borrowed_break breaks.new.items
+        ≡ breaks_by_keys own_change (entries_of_key patterns.now) word.now bounds) }
+{
+    let places = word.len().saturating_sub(1);
+    if places <= 32 {
+        let mut winners: [Option<&'h Entry<Option<Subregion>>>; 32] = [None; 32];
+        return winning_breaks_with_buffer(patterns, word, &mut winners[..places], bounds, breaks);
+    }
+    let mut winners: Vec<Option<&'h Entry<Option<Subregion>>>> =
+        vec![in *breaks.allocator(); None; places]?;
+    winning_breaks_with_buffer(patterns, word, &mut winners, bounds, breaks)
+}
+
+// Puts the breaks within bounds that the patterns of an extended dictionary allow into an empty list, with the changes
 // of the winners.
 #[inline(always)]
 pub(super) fn winning_breaks<'h>(
@@ -116,31 +140,12 @@ pub(super) fn winning_breaks<'h>(
         ≡ breaks_by_keys own_change (entries_of_key patterns.now) word.now bounds) }
 {
     let places = word.len().saturating_sub(1);
-    if places <= 32 {
-        // The winners of most words stand on the stack.
-        let mut winners: [Option<&'h Entry<Option<Subregion>>>; 32] = [None; 32];
+    if places <= 16 {
+        // The winners of most words stand on the stack. So few are set to `None` without a call.
+        let mut winners: [Option<&'h Entry<Option<Subregion>>>; 16] = [None; 16];
         return winning_breaks_with_buffer(patterns, word, &mut winners[..places], bounds, breaks);
     }
-    let mut winners: Vec<Option<&'h Entry<Option<Subregion>>>> =
-        vec![in *breaks.allocator(); None; places]?;
-    winning_breaks_with_buffer(patterns, word, &mut winners, bounds, breaks)
-}
-
-// Returns the first place from `first` to `end` that has an odd value, or a place after `end` where none has.
-#[inline(always)]
-fn first_odd_place(values: &[u8], first: usize, end: usize) -> usize
-    requires first_above_zero { 1 ≤ first }
-    requires end_within { end ≤ length values.now }
-    ensures from_first { first ≤ result }
-    ensures to_after_end { first ≤ end + 1 → result ≤ end + 1 }
-    ensures even_before { (p : ℕ) → first ≤ p → p < result → slice_index values.now (p - 1) % 2 ≢ 1 }
-{
-    for place in first..end + 1 {
-        if values[place - 1] % 2 == 1 {
-            return place;
-        }
-    }
-    first.max(end + 1)
+    winning_breaks_of_long(patterns, word, bounds, breaks)
 }
 
 // Puts the places within bounds that have an odd value into an empty list. The values begin with that of place 1.
@@ -156,15 +161,9 @@ fn odd_places(
     // Places outside of the bounds are not read.
     let first = bounds.0.max(1);
     let end = values.len().min(bounds.1);
-    let least = first_odd_place(values, first, end);
-    if end < least {
-        return Ok(());
-    }
-    // Most words have a few breaks, which take memory once.
-    places.reserve_exact((end + 1 - least).min(8))?;
-    for place in least..end + 1 {
+    for place in first..end + 1 {
         if values[place - 1] % 2 == 1 {
-            places.push(place)?;
+            push_with_room(places, place)?;
         }
     }
     Ok(())

@@ -1,10 +1,10 @@
 use Rattle.std.proofs.Common.{length, ◌∙◌, arith}
 use Rattle.hyphenation_hyphenator.proofs.OddPlaces.{within_alone, outside, next_odd, next_even, even_none, test_of}
 use Rattle.hyphenation_hyphenator.proofs.hyphenator.pattern_breaks.odd_places.Goals as goal
-use Rattle.hyphenation_hyphenator.proofs.hyphenator.pattern_breaks.odd_places.Goals.{then-values-place-eq1+in_ok-push, else-values-place-eq1}
+use Rattle.hyphenation_hyphenator.proofs.hyphenator.pattern_breaks.odd_places.Goals.{then-values-place-eq1+in_ok-push_with_room, else-values-place-eq1}
 
 pub loop-place-init : goal.loop-place-init
-loop-place-init c = c.reserve_exact.ensures.items ∙ c.requires ∙ even_none c.args.values.now c.args.bounds c.max-first.result c.first_odd_place-least.result c.first_odd_place-least.ensures.even_before
+loop-place-init c = c.requires ∙ even_none c.args.values.now c.args.bounds c.max-first.result c.max-first.result (λ p low high. absurd (omega arith))
 
 pub loop-place-preserved : goal.loop-place-preserved
 loop-place-preserved c =
@@ -14,7 +14,7 @@ loop-place-preserved c =
     let end = c.min-end.result in
     let at = c.loop-place.place in
     elim c.if-values-place-eq1.branch [
-      | then-values-place-eq1+in_ok-push w ↦ rw (w.places-is, w.in_ok-push.ensures.items)
+      | then-values-place-eq1+in_ok-push_with_room w ↦ rw (w.places-is, w.in_ok-push_with_room.ensures)
           (next_odd values items c.args.bounds first end at c.max-first.ensures c.min-end.ensures (omega arith) (omega arith) c.loop-place.invariant w.if-values-place-eq1.true)
       | else-values-place-eq1 w ↦ rw w.places-is
           (next_even values items c.args.bounds first end at c.max-first.ensures c.min-end.ensures (omega arith) (omega arith) c.loop-place.invariant w.if-values-place-eq1.false)
@@ -26,16 +26,5 @@ returns c =
     let first = c.max-first.result in
     let end = c.min-end.result in
     c.loop-place.invariant
-    ∙ within_alone (test_of values c.args.bounds) first end c.loop-place.place (length values) (omega arith) (omega arith) (omega arith) (omega arith) (λ le. let high = c.first_odd_place-least.ensures.to_after_end le in c.loop-place.auto.place-end high)
-    (λ p one out. outside values c.args.bounds first end p c.max-first.ensures c.min-end.ensures one out)
-
-pub returns-then-end-least : goal.returns-then-end-least
-returns-then-end-least c =
-    let values = c.args.values.now in
-    let first = c.max-first.result in
-    let end = c.min-end.result in
-    let least = c.first_odd_place-least.result in
-    c.requires
-    ∙ even_none values c.args.bounds first least c.first_odd_place-least.ensures.even_before
-    ∙ within_alone (test_of values c.args.bounds) first end least (length values) (omega arith) (omega arith) (omega arith) (omega arith) c.first_odd_place-least.ensures.to_after_end
+    ∙ within_alone (test_of values c.args.bounds) first end c.loop-place.place (length values) (omega arith) (omega arith) (omega arith) (omega arith) c.loop-place.auto.place-end
     (λ p one out. outside values c.args.bounds first end p c.max-first.ensures c.min-end.ensures one out)
