@@ -136,3 +136,8 @@ line_more text at e some = (more_lines text at e, shorter text (at + 1) (omega a
   where
     shorter : (text : List ℕ) (k : ℕ) → 0 < k → 0 < length text → length (take (length text - k) (drop k text)) < length text
     shorter text k pos some = omega (arith, pos, some, ap length (take_rest text k), length-drop k text)
+
+-- a text with a line feed is not empty
+pub not_empty : (text : List ℕ) (at : ℕ) → Some at ≡ position (λ b. eqb b 10) text → 0 < length text
+not_empty [] at e = absurd cc
+not_empty (b ∷ rest) at e = omega arith

@@ -1,9 +1,9 @@
 -- The results of one pass over a token. hyphenation_reader proves them equal to Items and Judging.
-use Rattle.std.specs.Prelude.{ℕ, ◌==◌, ◌-◌, ◌||◌, ◌&&◌, nat_lt, Bool, true, false, if◌then◌else◌, List, [], ◌∷◌, ◌++◌, length, fold, take, slice_index_or, Option, Some, None, is_some, option_map, option_and_then}
+use Rattle.std.specs.Prelude.{◌≡◌, ℕ, ◌<◌, ◌==◌, ◌-◌, ◌||◌, ◌&&◌, nat_lt, Bool, true, false, if◌then◌else◌, List, [], ◌∷◌, ◌++◌, length, fold, take, codes, slice_index_or, Option, Some, None, is_some, option_map, option_and_then}
 use Rattle.std.specs.List.{list_all}
 use Rattle.std.specs.declared.vec.Vec.{Vec}
 use Rattle.hyphenation_breaks.specs.Break.{Change, is_boundary}
-use Rattle.hyphenation_grammar.specs.Lines.{is_number, number, number_of}
+use Rattle.hyphenation_grammar.specs.Lines.{between_spaces, is_number, number, number_of, strip_prefix}
 use Rattle.hyphenation_grammar.specs.Tokens.{is_readable, parts_of, pattern_bytes, pattern_escapes, step_at, text_spelt, unescape_byte}
 use Rattle.hyphenation_grammar.specs.declared.pattern.PatternToken.{PatternToken}
 use Rattle.hyphenation_grammar.specs.declared.tokens.LaterToken.{LaterToken}
@@ -84,6 +84,15 @@ pattern_view p = record {
 -- The contents of a whole token; none if an escape is bad.
 abbrev pub read_pattern : Version → List ℕ → Option ReadPattern
 read_pattern version token = option_map (fold (with_spelt version) nothing_read) (pattern_bytes version token)
+
+-- A text is one token, not empty, with these contents in each version.
+abbrev pub IsPatternToken : ReadPattern → List ℕ → Type 0
+IsPatternToken pattern text =
+    (0 < length text) × (between_spaces text ≡ text ∷ []) × ((version : Version) → Some pattern ≡ read_pattern version text)
+
+-- If a line begins with `p `, the text after it is such a token.
+abbrev pub IsPatternLine : ReadPattern → List ℕ → Type 0
+IsPatternLine pattern line = (text : List ℕ) → Some text ≡ strip_prefix (codes "p ") line → IsPatternToken pattern text
 
 -- A part of a later token.
 abbrev pub part_at : List (List ℕ) → ℕ → List ℕ

@@ -1,7 +1,7 @@
 //! Lines of a dictionary text, the numbers in them, and the three head lines.
 
 ghost use Rattle.std.specs.Prelude.{◌≡◌, ◌==◌, ◌^◌, ◌<◌, ◌∷◌, [], IsUtf8, IfOk, IfSome, IfNone, position, length};
-ghost use Rattle.std.specs.Prelude.{map, option_map, nat_lt, true, if◌then◌else◌, Some, None};
+ghost use Rattle.std.specs.Prelude.{take, map, option_map, nat_lt, true, if◌then◌else◌, Some, None};
 ghost use Rattle.std.specs.List.{list_all};
 ghost use Rattle.std.specs.Str.{is_utf8};
 ghost use Rattle.hyphenation_breaks.specs.Borrowed.{texts_now};
@@ -30,8 +30,20 @@ pub fn next_line(text: &[u8]) -> Option<(&[u8], &[u8])>
     }
     match find_line_feed(text) {
         None => Some((text, &text[text.len()..])),
-        Some(at) => Some((&text[..at], &text[at + 1..])),
+        Some(at) => Some(cut_at_line_feed(text, at)),
     }
+}
+
+// Returns the first line of a text and the rest after it, given the place of the first line feed, in bytes.
+#[inline(always)]
+pub(crate) fn cut_at_line_feed(text: &[u8], at: usize) -> (&[u8], &[u8])
+    requires { Some at ≡ position (λ b. b == line_feed) text.now }
+    ensures first { lines_of text.now ≡ result.0.now ∷ lines_of result.1.now }
+    ensures utf8 { IsUtf8 text.now → IsUtf8 result.0.now × IsUtf8 result.1.now }
+    ensures shorter { length result.1.now < length text.now }
+    ensures line { result.0.now ≡ take at text.now }
+{
+    (&text[..at], &text[at + 1..])
 }
 
 // Returns the place of the first line feed, in bytes.

@@ -11,7 +11,7 @@ ghost use Rattle.hyphenation_reader.specs.Private.Judging.{early_cause};
 ghost use Rattle.hyphenation_grammar.specs.Lines.{between_spaces, strip_prefix, tokens_after};
 ghost use Rattle.hyphenation_reader.specs.Private.Matched.{ascend, cause_before_match, head_change_at, have_values};
 ghost use Rattle.hyphenation_reader.specs.Private.Matched.{suits_form_in_pattern, tail_after, pending};
-ghost use Rattle.hyphenation_grammar.specs.Parsed.{pattern_view};
+ghost use Rattle.hyphenation_grammar.specs.Parsed.{IsPatternLine, IsPatternToken, pattern_view};
 ghost use Rattle.hyphenation_reader.specs.Private.Parsed.{exception_parts, no_later, pattern_parts, read_later};
 ghost use Rattle.hyphenation_reader.specs.Private.Parsed.{later_view};
 ghost use Rattle.hyphenation_reader.specs.Private.LineAnswers.{ReturnsPattern, ReturnsListed, ReturnsException, IsItemIn};
@@ -23,7 +23,7 @@ use hyphenation_breaks::extended::Subregion;
 use hyphenation_grammar::Cause;
 use hyphenation_grammar::form::{Form, Kind, Version};
 use hyphenation_grammar::lines::{first_token, is_utf8, starts_with, strip_prefix};
-use hyphenation_grammar::pattern::{PatternToken, read_ordinary_pattern, read_pattern};
+use hyphenation_grammar::pattern::{PatternToken, read_pattern};
 use hyphenation_grammar::tokens::{LaterToken, is_boundary, later_token, string_of};
 use hyphenation_trie::to_u32;
 use std::alloc::{AllocError, Global};
@@ -70,16 +70,18 @@ impl<C: Drop> LineBuffers<C> {
 }
 
 // Returns the item that a line after the third spells, or the first test that it fails by itself, in a text of a form.
-// Such lines are judged alike whatever their numbers. `known` says that the caller knows the line to be UTF-8. The only
-// error is memory.
+// Such lines are judged alike whatever their numbers. `known` says that the caller knows the line to be UTF-8. `is_read` says
+// that the line is that of the pattern in the buffers. The only error is memory.
 pub(crate) fn item_of<C: Payload, B: Listing>(
     alloc: Global,
     form: Form,
     line: &[u8],
     known: bool,
+    is_read: bool,
     buffers: &mut LineBuffers<C>,
 ) -> Result<Result<Item<B>, Cause>, AllocError>
     requires utf8 { known ≡ true → IsUtf8 line.now }
+    requires read { is_read ≡ true → IsPatternLine (pattern_view buffers.old.pattern) line.now }
     ensures passes { IfOk result (λ found. OnOk found (own_cause form 4 line.now ≡ None)) }
     ensures says { IfOk result (λ found. IfOk found (λ item.
         IsItemIn buffers.new form.version C.payload_of B.listing_of item line.now)) }
@@ -89,7 +91,7 @@ pub(crate) fn item_of<C: Payload, B: Listing>(
         return Ok(Err(cause));
     }
     match strip_prefix(b"p ", line) {
-        Some(text) => pattern_item(alloc, form, text, buffers),
+        Some(text) => pattern_item(alloc, form, text, is_read, buffers),
         None => match strip_prefix(b"e ", line) {
             Some(text) => exception_item::<C, B>(alloc, form, text),
             None => Ok(Ok(Item::Nothing)),
@@ -131,17 +133,20 @@ fn is_known(line: &[u8]) -> bool
 }
 
 // Returns the item of a `p` line, given the text after `p `, or the first test that it fails. Its key and its entries are
-// left in the buffers.
+// left in the buffers. `is_read` says that the buffers have the contents of the text, which is one token.
 fn pattern_item<C: Payload, B: Listing>(
     alloc: Global,
     form: Form,
     text: &[u8],
+    is_read: bool,
     buffers: &mut LineBuffers<C>,
 ) -> Result<Result<Item<B>, Cause>, AllocError>
-    requires { IsUtf8 text.now }
+    requires utf8 { IsUtf8 text.now }
+    requires read { is_read ≡ true → IsPatternToken (pattern_view buffers.old.pattern) text.now }
     ensures { IfOk result (λ found. ReturnsPattern buffers.new form C.payload_of B.listing_of text.now found) }
 {
-    let Some(later) = pattern_parts(alloc, form.version, text, &mut buffers.pattern)? else {
+    let Some(later) = pattern_parts(alloc, form.version, text, is_read, &mut buffers.pattern)?
+    else {
         return Ok(Err(Cause::Token));
     };
     if let Some(cause) = pattern_cause(form, &buffers.pattern, &later) {
@@ -160,15 +165,16 @@ fn pattern_parts(
     alloc: Global,
     version: Version,
     text: &[u8],
+    is_read: bool,
     pattern: &mut PatternToken,
 ) -> Result<Option<Later>, AllocError>
-    requires { IsUtf8 text.now }
+    requires utf8 { IsUtf8 text.now }
+    requires read { is_read ≡ true → IsPatternToken (pattern_view pattern.old) text.now }
     ensures { IfOk result (λ found.
         option_map (λ later. (pattern_view pattern.new, later_view later)) found
         ≡ pattern_parts version (between_spaces text.now)) }
 {
-    // Most patterns have one token alone, without escapes and braces.
-    if read_ordinary_pattern(text, pattern)? {
+    if is_read {
         return Ok(Some(Later::none(alloc)));
     }
     let (first, later) = first_token(text);

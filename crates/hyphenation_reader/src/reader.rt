@@ -10,6 +10,7 @@ ghost use Rattle.hyphenation_grammar.specs.Form.{form_of};
 ghost use Rattle.hyphenation_grammar.specs.Lines.{lines_of, language_of, minima_of};
 ghost use Rattle.hyphenation_grammar.specs.Judging.{own_cause, fault_after, refusal_of};
 ghost use Rattle.hyphenation_reader.specs.Private.Judging.{cause_before_token};
+ghost use Rattle.hyphenation_grammar.specs.Parsed.{IsPatternLine, pattern_view};
 ghost use Rattle.hyphenation_grammar.specs.Reading.{items_of_lines, contents_in, contents_of, standard_contents};
 ghost use Rattle.hyphenation_grammar.specs.Reading.{extended_contents};
 ghost use Rattle.hyphenation_reader.specs.Refusals.{IsRefusal};
@@ -29,6 +30,7 @@ use hyphenation_dictionary::parts;
 use hyphenation_grammar::Cause;
 use hyphenation_grammar::form::{Form, Kind, Version};
 use hyphenation_grammar::lines::{is_head, is_utf8, language_of, minima_of, next_line, version_by};
+use hyphenation_grammar::pattern::next_line_reading;
 use hyphenation_trie::Trie;
 use std::alloc::{AllocError, Global};
 
@@ -163,23 +165,25 @@ impl<C: Payload, B: Listing> Builder<C, B> {
 }
 
 // Returns the item of the line of that number, which must be above 3, or its refusal. The buffers have a pattern's key and
-// entries.
+// entries. `is_read` says that the line is that of the pattern in the buffers.
 fn item_at<C: Payload, B: Listing>(
     alloc: Global,
     form: Form,
     number: usize,
     line: &[u8],
     known: bool,
+    is_read: bool,
     buffers: &mut LineBuffers<C>,
 ) -> Result<Item<B>, Refusal>
     requires utf8 { known ≡ true → IsUtf8 line.now }
+    requires read { is_read ≡ true → IsPatternLine (pattern_view buffers.old.pattern) line.now }
     requires past_head { 3 < number }
     ensures passes { OnOk result (own_cause form number line.now ≡ None) }
     ensures says { IfOk result (λ item.
         IsItemIn buffers.new form.version C.payload_of B.listing_of item line.now) }
     ensures refused { IfErr result (λ refusal. IsRefusal refusal (at_number number (own_cause form number line.now))) }
 {
-    match item_of(alloc, form, line, known, buffers)? {
+    match item_of(alloc, form, line, known, is_read, buffers)? {
         Ok(item) => Ok(item),
         Err(cause) => Err(Refusal::Fault {
             line: number,
@@ -320,8 +324,8 @@ fn add_lines<C: Payload, B: Listing>(
     let known = is_utf8(bytes);
     let mut rest = after_head;
     let mut count: usize = 3;
-    while let Some((line, after)) = next_line(rest) {
-        let item = item_at(alloc, form, count + 1, line, known, &mut buffers)?;
+    while let Some((line, after, is_read)) = next_line_reading(rest, &mut buffers.pattern) {
+        let item = item_at(alloc, form, count + 1, line, known, is_read, &mut buffers)?;
         if let Some(cause) = builder.add(item, &mut buffers)? {
             return Err(Refusal::Fault {
                 line: count + 1,

@@ -1,5 +1,4 @@
-use Rattle.std.proofs.Common.{arith}
-use Rattle.hyphenation_grammar.proofs.LinesSplit.{last_line, line_more, filled, ended-utf8, nothing-utf8}
+use Rattle.hyphenation_grammar.proofs.LinesSplit.{last_line, filled, nothing-utf8}
 use Rattle.hyphenation_grammar.proofs.lines.next_line.Goals as goal
 
 pub returns-in-None-clause-first : goal.returns-in-None-clause-first
@@ -8,14 +7,5 @@ returns-in-None-clause-first c = (last_line c.args.text.now (filled _ c.is_empty
 pub returns-in-None-clause-shorter : goal.returns-in-None-clause-shorter
 returns-in-None-clause-shorter c = (last_line c.args.text.now (filled _ c.is_empty.result c.is_empty.ensures c.if-is_empty.false) c.in-None.ensures).1
 
-pub returns-in-Some-clause-first : goal.returns-in-Some-clause-first
-returns-in-Some-clause-first c = (line_more c.args.text.now c.in-Some.at c.in-Some.ensures (filled _ c.is_empty.result c.is_empty.ensures c.if-is_empty.false)).0
-
-pub returns-in-Some-clause-shorter : goal.returns-in-Some-clause-shorter
-returns-in-Some-clause-shorter c = (line_more c.args.text.now c.in-Some.at c.in-Some.ensures (filled _ c.is_empty.result c.is_empty.ensures c.if-is_empty.false)).1
-
 pub returns-in-None-clause-utf8 : goal.returns-in-None-clause-utf8
 returns-in-None-clause-utf8 c = λ u. (u, nothing-utf8 c.args.text.now)
-
-pub returns-in-Some-clause-utf8 : goal.returns-in-Some-clause-utf8
-returns-in-Some-clause-utf8 c = ended-utf8 10 (omega arith) c.args.text.now c.in-Some.at c.in-Some.ensures

@@ -7,7 +7,10 @@ pub returns-in-Some-clause-refused : goal.returns-in-Some-clause-refused
 returns-in-Some-clause-refused g c = early c.args.form 4 c.args.line.now c.in-Some.cause c.in-Some.ensures
 
 pub pattern_item-requires : goal.pattern_item-requires
-pattern_item-requires g c = pattern-utf8 c.args.form 4 c.args.line.now c.in-Some-strip_prefix.text.now c.early_cause.result c.in_default.not-Some c.early_cause.ensures c.in-Some-strip_prefix.ensures
+pattern_item-requires g c = record {
+  utf8 = pattern-utf8 c.args.form 4 c.args.line.now c.in-Some-strip_prefix.text.now c.early_cause.result c.in_default.not-Some c.early_cause.ensures c.in-Some-strip_prefix.ensures;
+  read = λ is. c.requires.read is c.in-Some-strip_prefix.text.now c.in-Some-strip_prefix.ensures;
+}
 
 pub exception_item-requires : goal.exception_item-requires
 exception_item-requires g c = exception-utf8 c.args.form 4 c.args.line.now c.in-Some-strip_prefix-2.text.now c.early_cause.result c.in_default.not-Some c.early_cause.ensures c.in-Some-strip_prefix-2.ensures

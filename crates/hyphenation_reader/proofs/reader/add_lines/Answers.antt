@@ -57,4 +57,4 @@ returns-clause-spelt g c =
     c.loop-line.invariant.spelt ∙ ap (items_of_lines c.args.form.version g.C.Payload.payload_of g.B.Listing.listing_of) (ended (lines_of c.args.bytes.now) c.loop-line.count c.loop-line.invariant.within none)
 
 pub item_at-requires : goal.item_at-requires
-item_at-requires g c = record { utf8 = λ known. (c.in-Some.ensures.utf8 (c.loop-line.invariant.utf8 known)).0; past_head = omega (arith, c.loop-line.invariant.past) }
+item_at-requires g c = record { utf8 = λ known. (c.in-Some.ensures.utf8 (c.loop-line.invariant.utf8 known)).0; read = c.in-Some.ensures.read; past_head = omega (arith, c.loop-line.invariant.past) }
