@@ -5,3 +5,4 @@ mod LetterRuns
 mod PlainWalks
 mod Bounds
 mod Slices
+mod Letters

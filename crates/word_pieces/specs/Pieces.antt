@@ -1,8 +1,9 @@
 -- The pieces that the iterators have left.
 -- Source of word bounds: UAX #29, Unicode Text Segmentation, as the kit's crate `unicode_segmentation` states it.
 
-use Rattle.std.specs.Prelude.{◌≡◌, ℕ, ◌+◌, ◌≤◌, List, [], ◌∷◌, ◌++◌, length, slice_range, All}
-use Rattle.std.specs.List.{concat}
+use Rattle.std.specs.Prelude.{◌≡◌, ℕ, ◌+◌, ◌<◌, ◌≤◌, true, List, [], ◌∷◌, ◌++◌, length, slice_range, All}
+use Rattle.std.specs.Char.{is_ascii_alphabetic}
+use Rattle.std.specs.List.{concat, list_all}
 use Rattle.std.specs.Str.{IsUtf8, IsCharBoundary}
 use Rattle.unicode_segmentation.specs.Segments.{segments_between, with_offsets}
 use Rattle.unicode_segmentation.specs.Word.{is_word_break, word_bounds}
@@ -47,3 +48,7 @@ PiecesAreSlices = (text : List ℕ) → IsUtf8 text → AreSlices text (with_off
 -- The pieces of each text join to it.
 abbrev pub PiecesJoin : Type 0
 PiecesJoin = (text : List ℕ) → IsUtf8 text → concat (word_bounds text) ≡ text
+
+-- A text of letters of ASCII is one piece.
+abbrev pub LettersAreOnePiece : Type 0
+LettersAreOnePiece = (text : List ℕ) → 0 < length text → list_all is_ascii_alphabetic text ≡ true → word_bounds text ≡ text ∷ []

@@ -2,7 +2,7 @@
 //!
 //! Each function here does nothing: its contract is a law, which the check proves.
 
-ghost use Rattle.word_pieces.specs.Pieces.{PiecesAreSlices, PiecesJoin};
+ghost use Rattle.word_pieces.specs.Pieces.{PiecesAreSlices, PiecesJoin, LettersAreOnePiece};
 
 /// Each piece is a slice of its text between two character boundaries, and the pieces follow one another.
 ///
@@ -10,4 +10,9 @@ ghost use Rattle.word_pieces.specs.Pieces.{PiecesAreSlices, PiecesJoin};
 pub fn pieces_are_slices()
     ensures slices { PiecesAreSlices }
     ensures join { PiecesJoin }
+{}
+
+/// A text of letters of ASCII is one piece, if it is not empty.
+pub fn letters_are_one_piece()
+    ensures { LettersAreOnePiece }
 {}
