@@ -61,19 +61,6 @@ made_least stretches columns last_columns ladder choices known run start choice 
     subst (λ c. CostsNoMore c (cost_of stretches columns last_columns ladder run start (choice.end ∷ row))) (sym made.sum)
     (no_more_together line (choice_at ladder choices later choice.end).cost (cost_of stretches columns last_columns ladder hyphens choice.end row) then_exact)
 
--- A choice costs no more than any division whose first line ends no later than a place.
-abbrev pub IsLeastUpTo : List Stretch → ℕ → ℕ → Option ℕ → ℕ → ℕ → ℕ → Cost → Type 0
-IsLeastUpTo stretches columns last_columns ladder run start last least =
-    (end : ℕ) (row : List ℕ) → end ≤ last → Divides stretches columns start (end ∷ row) → CostsNoMore least (cost_of stretches columns last_columns ladder run start (end ∷ row))
-
--- The first line ends with its first stretch.
-pub least_alone : (stretches : List Stretch) (columns last_columns : ℕ) (ladder : Option ℕ) (choices : List Choice) (run start : ℕ) (choice : Choice)
-    → IsMade stretches columns last_columns ladder choices run start choice → choice.end ≡ start + 1 → AreBest stretches columns last_columns ladder choices start run
-    → IsLeastUpTo stretches columns last_columns ladder run start (start + 1) choice.cost
-least_alone stretches columns last_columns ladder choices run start choice made alone best end row le divides =
-    let same : choice.end ≡ end = omega (arith, divides.0) in
-    subst (λ e. CostsNoMore choice.cost (cost_of stretches columns last_columns ladder run start (e ∷ row))) same (made_least stretches columns last_columns ladder choices run run start choice row made best (subst (λ e. Divides stretches columns e row) (sym same) divides.2))
-
 -- A cost that is no dearer up to the last end is least.
 pub least_at_last : (stretches : List Stretch) (columns last_columns : ℕ) (ladder : Option ℕ) (run start : ℕ) (least : Cost) → start < length stretches → ((end : ℕ) (row : List ℕ) → Divides stretches columns start (end ∷ row) → CostsNoMore least (cost_of stretches columns last_columns ladder run start (end ∷ row))) → IsLeast stretches columns last_columns ladder run start least
 least_at_last stretches columns last_columns ladder run start least lt up [] divides = absurd (omega (arith, divides))

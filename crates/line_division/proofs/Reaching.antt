@@ -1,5 +1,5 @@
 -- How far lines reach, and which of them need not be tried.
-use Rattle.std.proofs.Common.{◌≡◌, ℕ, ◌+◌, ◌-◌, ◌*◌, ◌<◌, ◌≤◌, ◌==◌, if◌then◌else◌, Bool, true, false, Option, List, ◌∷◌, length, take, drop, sym, ap, slice_index_or, subst, ◌∙◌, arith, inl, inr}
+use Rattle.std.proofs.Common.{◌≡◌, ℕ, ◌+◌, ◌-◌, ◌*◌, ◌<◌, ◌≤◌, ◌==◌, if◌then◌else◌, Bool, true, false, Option, List, ◌∷◌, length, take, drop, sym, ap, slice_index_or, subst, refl, ◌∙◌, arith, inl, inr}
 use Rattle.std.specs.Bool.{MatchBool}
 use Rattle.std.specs.List.{sum_by, slice_range}
 use Rattle.std.proofs.lemmas.Bool.{cases_lt, cases_eq}
@@ -8,13 +8,16 @@ use Rattle.std.proofs.lemmas.Nat.{mul-le}
 use Rattle.line_division.specs.declared.stretch.Stretch.{Stretch}
 use Rattle.line_division.specs.declared.cost.Cost.{Cost}
 use Rattle.line_division.specs.declared.even.Choice.{Choice}
-use Rattle.line_division.specs.Cost.{CostsNoMore}
-use Rattle.line_division.specs.Lines.{no_stretch, stretch_at, joined_width, line_width, wanted_columns}
-use Rattle.line_division.specs.Division.{Divides, cost_of}
-use Rattle.line_division.specs.Private.Best.{IsLeast, IsMade, AreBest}
-use Rattle.line_division.specs.Private.Reaches.{IsMostClosing}
+use Rattle.line_division.specs.declared.even.Reach.{Reach}
+use Rattle.line_division.specs.Cost.{nothing, together, CostsNoMore}
+use Rattle.line_division.specs.Lines.{no_stretch, stretch_at, joined_width, line_width, wanted_columns, hyphens_to, line_cost}
+use Rattle.line_division.specs.Division.{MayStand, Divides, cost_of}
+use Rattle.line_division.specs.Greedy.{IsFurthest}
+use Rattle.line_division.specs.Private.Best.{no_choice, choice_at, runs, run_of, IsLeast, IsMade, IsKnown, AreBest, IsFloor}
+use Rattle.line_division.specs.Private.Reaches.{IsMostClosing, IsReach}
 use Rattle.line_division.proofs.Widths.{joined_more, joined_parts, joined_up}
-use Rattle.line_division.proofs.Least.{IsLeastUpTo, no_more_along, made_least, least_at_last, divides_within}
+use Rattle.line_division.proofs.Least.{nothing_least, no_more_along, made_least, least_at_last, divides_within}
+use Rattle.line_division.proofs.Runs.{run_within, run_same, place_within}
 
 -- The sum over no stretch.
 pub joined_none : (stretches : List Stretch) (start : ℕ) → sum_by joined_width (slice_range stretches start start) ≡ 0
@@ -86,15 +89,6 @@ abbrev pub IsLeastAfter : List Stretch → ℕ → ℕ → Option ℕ → ℕ �
 IsLeastAfter stretches columns last_columns ladder run start place least =
     (end : ℕ) (row : List ℕ) → place < end → Divides stretches columns start (end ∷ row) → CostsNoMore least (cost_of stretches columns last_columns ladder run start (end ∷ row))
 
--- No line fits that goes further than lines reach.
-pub least_beyond : (stretches : List Stretch) (columns last_columns : ℕ) (ladder : Option ℕ) (run start last : ℕ) (least : Cost) → start ≤ last → IsBeyond stretches columns start last
-    → IsLeastAfter stretches columns last_columns ladder run start (last + 1) least
-least_beyond stretches columns last_columns ladder run start last least le beyond end row after divides =
-    elim divides.1 [
-      | inl fit ↦ absurd (omega (arith, fit, beyond (end - 1) (omega arith) (let within = divides_within stretches columns end row divides.2 in omega (arith, within, after))))
-      | inr alone ↦ absurd (omega (arith, alone, after, le))
-    ]
-
 -- One more end is tried, and the better one kept.
 pub least_tried : (stretches : List Stretch) (columns last_columns : ℕ) (ladder : Option ℕ) (choices : List Choice) (run start last : ℕ) (old : Cost) (other : Choice)
     → IsLeastAfter stretches columns last_columns ladder run start (last + 1) old → IsMade stretches columns last_columns ladder choices run start other → other.end ≡ last + 1 → AreBest stretches columns last_columns ladder choices start run
@@ -120,19 +114,11 @@ least_wide stretches columns last_columns ladder run start last old lt before wi
       ]
     ]
 
-pub least_less : (stretches : List Stretch) (columns last_columns : ℕ) (ladder : Option ℕ) (run start place : ℕ) (old kept : Cost) → CostsNoMore kept old → IsLeastUpTo stretches columns last_columns ladder run start place old
-    → IsLeastUpTo stretches columns last_columns ladder run start place kept
-least_less stretches columns last_columns ladder run start place old kept no_more before end row le divides =
-    no_more_along kept old (cost_of stretches columns last_columns ladder run start (end ∷ row)) no_more (before end row le divides)
-
 -- All lines were tried.
-pub least_all : (stretches : List Stretch) (columns last_columns : ℕ) (ladder : Option ℕ) (run start : ℕ) (least : Cost) → start < length stretches → IsLeastUpTo stretches columns last_columns ladder run start (start + 1) least
-    → IsLeastAfter stretches columns last_columns ladder run start (start + 1) least → IsLeast stretches columns last_columns ladder run start least
-least_all stretches columns last_columns ladder run start least lt alone after =
-    least_at_last stretches columns last_columns ladder run start least lt (λ end row divides. elim (cases_lt (start + 1) end) [
-      | inl later ↦ after end row later divides
-      | inr here ↦ alone end row here divides
-    ])
+pub least_all : (stretches : List Stretch) (columns last_columns : ℕ) (ladder : Option ℕ) (run start : ℕ) (least : Cost) → start < length stretches
+    → IsLeastAfter stretches columns last_columns ladder run start start least → IsLeast stretches columns last_columns ladder run start least
+least_all stretches columns last_columns ladder run start least lt after =
+    least_at_last stretches columns last_columns ladder run start least lt (λ end row divides. after end row divides.0 divides)
 
 -- A line that ends no later has no more columns than the longest one before its closing, and the most that a closing has.
 pub no_wider : (stretches : List Stretch) (most start last end : ℕ) → IsMostClosing stretches most → start < end → end ≤ last + 1 → last < length stretches
@@ -149,11 +135,33 @@ no_wider stretches most start last end closing lt le within =
           omega (arith, own, more, sum, up)
     ]
 
--- The columns that they lack alone cost as much as the best line.
-pub least_enough : (stretches : List Stretch) (columns last_columns : ℕ) (ladder : Option ℕ) (run most start last widest : ℕ) (least : Cost) → IsMostClosing stretches most → start < length stretches → last + 1 < length stretches
+-- A line and what comes after it cost no less than the floor and a part of what the line spends.
+pub no_more_above : (best floor line rest : Cost) (part : ℕ) → best.excess ≡ floor.excess → best.over ≡ floor.over → best.spent ≤ floor.spent + part → part ≤ line.spent → CostsNoMore floor rest
+    → CostsNoMore best (together line rest)
+no_more_above best floor line rest part excess over spent up h =
+    elim h [
+      | inl less ↦ inl (omega (arith, less, excess))
+      | inr same ↦ elim (cases_eq line.excess 0) [
+        | inr some ↦ inl (omega (arith, excess, same.0, some))
+        | inl none ↦ inr (
+          omega (arith, excess, same.0, none),
+          elim same.1 [
+            | inl fewer ↦ inl (omega (arith, over, fewer))
+            | inr as_many ↦ elim (cases_eq line.over 0) [
+              | inr more ↦ inl (omega (arith, over, as_many.0, more))
+              | inl no_more ↦ inr (omega (arith, over, as_many.0, no_more), omega (arith, spent, up, as_many.1))
+            ]
+          ],
+        )
+      ]
+    ]
+
+-- The columns that they lack, and the floor, cost as much as the best line.
+pub least_enough : (stretches : List Stretch) (columns last_columns : ℕ) (ladder : Option ℕ) (run most start last widest upto : ℕ) (floor least : Cost) → IsMostClosing stretches most → start < length stretches → last + 1 < length stretches
     → widest ≡ (stretch_at stretches start).opening + sum_by joined_width (slice_range stretches start last) + (stretch_at stretches last).width + most
-    → least.excess ≡ 0 → least.over ≡ 0 → least.spent ≤ (columns - widest) * (columns - widest) → IsLeastAfter stretches columns last_columns ladder run start (last + 1) least → IsLeast stretches columns last_columns ladder run start least
-least_enough stretches columns last_columns ladder run most start last widest least closing within inner is none none_over enough after =
+    → IsFloor stretches columns last_columns ladder (start + 1) upto floor → last + 1 ≤ upto
+    → least.excess ≡ floor.excess → least.over ≡ floor.over → least.spent ≤ floor.spent + (columns - widest) * (columns - widest) → IsLeastAfter stretches columns last_columns ladder run start (last + 1) least → IsLeast stretches columns last_columns ladder run start least
+least_enough stretches columns last_columns ladder run most start last widest upto floor least closing within inner is below high same_excess same_over enough after =
     least_at_last stretches columns last_columns ladder run start least within (λ end row divides. elim (cases_lt (last + 1) end) [
       | inl later ↦ after end row later divides
       | inr here ↦
@@ -161,14 +169,99 @@ least_enough stretches columns last_columns ladder run most start last widest le
           let not_last : (end == length stretches) ≡ false = grind (arith, here, inner) in
           let wanted : wanted_columns stretches columns last_columns end ≡ columns = ap (λ b. if b then last_columns else columns) not_last in
           let lacked = mul-le (columns - widest) (columns - widest) (wanted_columns stretches columns last_columns end - line_width stretches start end) (wanted_columns stretches columns last_columns end - line_width stretches start end) (omega (arith, narrow, is, wanted)) (omega (arith, narrow, is, wanted)) in
-          let all = cost_of stretches columns last_columns ladder run start (end ∷ row) in
-          let spent : least.spent ≤ all.spent = omega (arith, enough, lacked) in
-          elim (cases_eq all.excess 0) [
-            | inl same ↦ inr (omega (arith, none, same), elim (cases_eq all.over 0) [ inl fewest ↦ inr (omega (arith, none_over, fewest), spent) | inr more ↦ inl (omega (arith, none_over, more)) ])
-            | inr some ↦ inl (omega (arith, none, some))
-          ]
+          let hyphens = hyphens_to stretches run end in
+          let line = line_cost stretches columns last_columns ladder hyphens start end in
+          let rest = cost_of stretches columns last_columns ladder hyphens end row in
+          let all = below (run_of ladder hyphens) end (run_within ladder hyphens) (omega (arith, divides.0)) (omega (arith, here, high)) row divides.2 in
+          let then_exact : CostsNoMore floor rest = subst (λ c. CostsNoMore floor c) (run_same stretches columns last_columns ladder hyphens end row) all in
+          no_more_above least floor line rest ((columns - widest) * (columns - widest)) same_excess same_over enough (omega (arith, lacked)) then_exact
     ])
 
--- The first of two facts that a test tells.
+-- ---- the longest line
+
+-- No line ends after the longest one.
+pub least_longest : (stretches : List Stretch) (columns last_columns : ℕ) (ladder : Option ℕ) (choices : List Choice) (run start last : ℕ) (choice : Choice)
+    → IsMade stretches columns last_columns ladder choices run start choice → choice.end ≡ last + 1 → AreBest stretches columns last_columns ladder choices start run → IsFurthest stretches columns start (last + 1)
+    → IsLeastAfter stretches columns last_columns ladder run start last choice.cost
+least_longest stretches columns last_columns ladder choices run start last choice made ends best longest end row after divides =
+    elim (cases_lt (last + 1) end) [
+      | inl later ↦ elim divides.1 [
+        | inl fit ↦ absurd (omega (arith, later, longest.furthest end divides.0 (divides_within stretches columns end row divides.2) fit))
+        | inr alone ↦ absurd (omega (arith, later, alone, longest.after))
+      ]
+      | inr here ↦
+          let same : choice.end ≡ end = omega (arith, here, after, ends) in
+          subst (λ e. CostsNoMore choice.cost (cost_of stretches columns last_columns ladder run start (e ∷ row))) same
+          (made_least stretches columns last_columns ladder choices run run start choice row made best (subst (λ e. Divides stretches columns e row) (sym same) divides.2))
+    ]
+
+-- ---- floors
+
+-- Nothing costs less than no lines.
+pub floor_none : (stretches : List Stretch) (columns last_columns : ℕ) (ladder : Option ℕ) (first last : ℕ) → IsFloor stretches columns last_columns ladder first last nothing
+floor_none stretches columns last_columns ladder first last r e few low high row divides = nothing_least (cost_of stretches columns last_columns ladder r e row)
+
+no_more_after : (floor line rest : Cost) → CostsNoMore floor rest → CostsNoMore floor (together line rest)
+no_more_after floor line rest h = no_more_above floor floor line rest 0 refl refl (omega arith) (omega arith) h
+
+-- A line ends no later than after the last stretch that it reaches.
+ends_within : (stretches : List Stretch) (columns start last end : ℕ) → start ≤ last → IsBeyond stretches columns start last → start < end → end ≤ length stretches → MayStand stretches columns start end → end ≤ last + 1
+ends_within stretches columns start last end from beyond after within stands =
+    elim (cases_lt (last + 1) end) [
+      | inr here ↦ here
+      | inl later ↦ elim stands [
+        | inl fit ↦ absurd (omega (arith, fit, beyond (end - 1) (omega (arith, later)) (omega (arith, within, after))))
+        | inr alone ↦ absurd (omega (arith, alone, later, from))
+      ]
+    ]
+
+-- A floor of all places that a line reaches is one of the place where it begins.
+pub floor_earlier : (stretches : List Stretch) (columns last_columns : ℕ) (ladder : Option ℕ) (start upto : ℕ) (reach : Reach) (floor : Cost) → start < length stretches → IsReach stretches columns start reach → reach.last + 1 ≤ upto
+    → IsFloor stretches columns last_columns ladder (start + 1) upto floor → IsFloor stretches columns last_columns ladder start (reach.last + 1) floor
+floor_earlier stretches columns last_columns ladder start upto reach floor within reaches down below r e few low high =
+    elim (cases_lt start e) [
+      | inl later ↦ below r e few (omega (arith, later)) (omega (arith, high, down))
+      | inr here ↦
+          let same : start ≡ e = omega (arith, low, here) in
+          subst (λ p. IsLeast stretches columns last_columns ladder r p floor) same
+          (least_at_last stretches columns last_columns ladder r start floor within (λ end row divides.
+          let hyphens = hyphens_to stretches r end in
+          let line = line_cost stretches columns last_columns ladder hyphens start end in
+          let rest = cost_of stretches columns last_columns ladder hyphens end row in
+          let high_end = ends_within stretches columns start reach.last end reaches.from reaches.beyond divides.0 (divides_within stretches columns end row divides.2) divides.1 in
+          let all = below (run_of ladder hyphens) end (run_within ladder hyphens) (omega (arith, divides.0)) (omega (arith, high_end, down)) row divides.2 in
+          let exact : CostsNoMore floor rest = subst (λ c. CostsNoMore floor c) (run_same stretches columns last_columns ladder hyphens end row) all in
+          no_more_after floor line rest exact))
+    ]
+
+-- The least cost of all choices from a place on, up to those after another, is a floor.
+pub floor_all : (stretches : List Stretch) (columns last_columns : ℕ) (ladder : Option ℕ) (choices : List Choice) (start last : ℕ) (floor : Cost) → last ≤ length stretches
+    → AreBest stretches columns last_columns ladder choices start (runs ladder)
+    → ((k : ℕ) → start * runs ladder ≤ k → k < (last + 1) * runs ladder → CostsNoMore floor (slice_index_or choices k no_choice).cost)
+    → IsFloor stretches columns last_columns ladder start last floor
+floor_all stretches columns last_columns ladder choices start last floor within best below r e few low high row divides =
+    let known : IsKnown ladder start (runs ladder) r e = (few, elim (cases_eq start e) [ inl same ↦ inr (same, few) | inr other ↦ inl (omega (arith, low, other)) ]) in
+    let rows = mul-le start (runs ladder) e (runs ladder) low (omega arith) in
+    let own = below (e * runs ladder + r) (omega (arith, rows)) (place_within last e r (runs ladder) high few) in
+    no_more_along floor (choice_at ladder choices r e).cost (cost_of stretches columns last_columns ladder r e row) own (best.least r e known (omega (arith, high, within)) row divides)
+
+-- One more choice is no cheaper than a floor.
+pub floor_more : (choices : List Choice) (first k : ℕ) (choice : Choice) (old new : Cost) → k < length choices → choice ≡ slice_index_or choices k choice
+    → CostsNoMore new old → CostsNoMore new choice.cost
+    → ((j : ℕ) → first ≤ j → j < k → CostsNoMore old (slice_index_or choices j no_choice).cost)
+    → (j : ℕ) → first ≤ j → j < k + 1 → CostsNoMore new (slice_index_or choices j no_choice).cost
+floor_more choices first k choice old new lt is no_more here before j low less =
+    elim (cases_lt j k) [
+      | inl earlier ↦ no_more_along new old (slice_index_or choices j no_choice).cost no_more (before j low earlier)
+      | inr later ↦
+          let same : k ≡ j = omega (arith, later, less) in
+          let read : choice ≡ slice_index_or choices k no_choice = is ∙ get_or_default choices k choice no_choice lt in
+          subst (λ p. CostsNoMore new (slice_index_or choices p no_choice).cost) same (subst (λ c. CostsNoMore new c.cost) read here)
+    ]
+
+-- The facts that a test tells.
 pub told_true : (A B : Type 0) (b : Bool) → MatchBool b A B → b ≡ true → A
 told_true A B b told is = subst (λ v. MatchBool v A B) is told
+
+pub told_false : (A B : Type 0) (b : Bool) → MatchBool b A B → b ≡ false → B
+told_false A B b told is = subst (λ v. MatchBool v A B) is told

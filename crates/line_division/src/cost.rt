@@ -23,7 +23,15 @@ impl Cost {
         spent: 0,
     };
 
+    // A cost that no other exceeds.
+    pub(crate) const MOST: Cost = Cost {
+        excess: u64::MAX,
+        over: u64::MAX,
+        spent: u64::MAX,
+    };
+
     // The cost of both together.
+    #[inline(always)]
     pub(crate) fn plus(self, other: Cost) -> Cost
         requires excess { self.excess + other.excess < 2 ^ 64 }
         requires over { self.over + other.over < 2 ^ 64 }
@@ -38,6 +46,7 @@ impl Cost {
     }
 
     // Tests whether it is less than another.
+    #[inline(always)]
     pub(crate) fn is_less(self, other: Cost) -> bool
         ensures { MatchBool result (CostsNoMore self other) (CostsNoMore other self) }
     {

@@ -1,17 +1,21 @@
 //! The division whose cost is least.
 //!
 //! From the last stretch to the first, the best line to begin with it is sought, and kept with what it and all lines
-//! after it cost. Only lines that fit are tried, the longest first, and the one that holds this stretch alone. Shorter
-//! lines are not tried once the columns that they lack cost more than the best line.
+//! after it cost. Only lines that fit are tried, the longest first, and the one that holds this stretch alone. All
+//! lines after an end that is in reach cost at least a floor. Shorter lines are not tried once the columns that they lack,
+//! added to the floor, cost as much as the best line. A floor of all places in reach is one of the places before them
+//! too. So it is sought anew but once in the length of a line.
 //!
 //! The cost of lines depends on the hyphens that stand in a row before them. So with a ladder of n lines the best line is
 //! sought n + 1 times: after a run of 0 to n hyphens. After a longer run it is that after n. Without a ladder it is
 //! sought once.
 
-ghost use Rattle.std.specs.Prelude.{◌≡◌, ◌+◌, ◌-◌, ◌*◌, ◌^◌, ◌<◌, ◌≤◌, true, IfOk, MatchBool, length};
-ghost use Rattle.line_division.specs.Lines.{line_width, joined_width, wanted_columns, hyphens_to, line_over, line_cost};
+ghost use Rattle.std.specs.Prelude.{◌≡◌, ◌+◌, ◌-◌, ◌*◌, ◌^◌, ◌<◌, ◌≤◌, ◌⊎◌, true, IfOk, MatchBool, length, sum_by, slice_range};
+ghost use Rattle.line_division.specs.Lines.{stretch_at, line_width, joined_width, wanted_columns, hyphens_to, line_over, line_cost};
 ghost use Rattle.line_division.specs.Division.{MayStand, Divides, CostsLeast, FitsIfAny, KeepsLadderIfAny};
-ghost use Rattle.line_division.specs.Private.Best.{runs, run_of, IsLeast, IsSmall, IsMade, AreBest};
+ghost use Rattle.line_division.specs.Cost.{CostsNoMore};
+ghost use Rattle.line_division.specs.Greedy.{IsFurthest};
+ghost use Rattle.line_division.specs.Private.Best.{runs, run_of, IsLeast, IsSmall, IsMade, AreBest, IsFloor};
 ghost use Rattle.line_division.specs.Private.Reaches.{GoesPast, IsMostClosing, IsReach, Stays};
 
 use crate::cost::Cost;
@@ -28,6 +32,7 @@ struct Choice {
 }
 
 // Returns the columns that a line should have at least.
+#[inline(always)]
 fn wanted_columns(stretches: &[Stretch], columns: u16, last_columns: u16, end: usize) -> u16
     ensures { result ≡ wanted_columns stretches.now columns last_columns end }
 {
@@ -39,6 +44,7 @@ fn wanted_columns(stretches: &[Stretch], columns: u16, last_columns: u16, end: u
 }
 
 // Returns the square of the columns that a line of such a width lacks.
+#[inline(always)]
 fn square_lacked(wanted: u16, wide: u64) -> u64
     ensures value { result ≡ (wanted - wide) * (wanted - wide) }
     ensures small { result < 2 ^ 32 }
@@ -48,6 +54,7 @@ fn square_lacked(wanted: u16, wide: u64) -> u64
 }
 
 // Returns how many runs of hyphens are told apart.
+#[inline(always)]
 fn runs(ladder: Option<u8>) -> usize
     ensures value { result ≡ runs ladder }
     ensures some { 1 ≤ result }
@@ -60,6 +67,7 @@ fn runs(ladder: Option<u8>) -> usize
 }
 
 // Returns the run that stands for so many hyphens in a row.
+#[inline(always)]
 fn run_of(ladder: Option<u8>, hyphens: usize) -> usize
     ensures value { result ≡ run_of ladder hyphens }
     ensures known { result < runs ladder }
@@ -69,6 +77,7 @@ fn run_of(ladder: Option<u8>, hyphens: usize) -> usize
 }
 
 // Returns the hyphens in a row at a line's end, after such a run.
+#[inline(always)]
 fn hyphens_to(stretches: &[Stretch], run: usize, end: usize) -> usize
     requires small { run < 2 ^ 8 }
     requires some { 1 ≤ end }
@@ -83,6 +92,7 @@ fn hyphens_to(stretches: &[Stretch], run: usize, end: usize) -> usize
 }
 
 // Returns 1 for a line at whose end more hyphens stand in a row than the ladder may have, and else 0.
+#[inline(always)]
 fn line_over(ladder: Option<u8>, hyphens: usize) -> u64
     ensures value { result ≡ line_over ladder hyphens }
     ensures small { result ≤ 1 }
@@ -94,6 +104,7 @@ fn line_over(ladder: Option<u8>, hyphens: usize) -> u64
 }
 
 // Returns the cost of a line of such a width, at whose end so many hyphens stand in a row.
+#[inline(always)]
 fn line_cost(
     stretches: &[Stretch],
     columns: u16,
@@ -121,6 +132,7 @@ fn line_cost(
 }
 
 // Returns where the choice for a place after a run is kept.
+#[inline(always)]
 fn choice_place(ladder: Option<u8>, run: usize, place: usize) -> usize
     requires run { run < runs ladder }
     requires place { place ≤ 2 ^ 30 }
@@ -130,6 +142,7 @@ fn choice_place(ladder: Option<u8>, run: usize, place: usize) -> usize
 }
 
 // Returns the line of such a width, followed by the best lines after it.
+#[inline(always)]
 fn choose(
     stretches: &[Stretch],
     columns: u16,
@@ -179,6 +192,7 @@ struct Reach {
 }
 
 // Returns the columns of a stretch that is not the last one of its line.
+#[inline(always)]
 fn joined_width(stretch: &Stretch) -> u64
     ensures value { result ≡ joined_width stretch.now }
     ensures small { result < 2 ^ 33 }
@@ -187,6 +201,7 @@ fn joined_width(stretch: &Stretch) -> u64
 }
 
 // Tests whether a stretch goes past the columns of a line, or is none.
+#[inline(always)]
 fn goes_past(stretches: &[Stretch], columns: u16, last: usize, joined: u64) -> bool
     requires { joined < 2 ^ 34 }
     ensures { MatchBool result (GoesPast stretches.now columns last joined) (Stays stretches.now columns last joined) }
@@ -199,11 +214,13 @@ fn goes_past(stretches: &[Stretch], columns: u16, last: usize, joined: u64) -> b
 }
 
 // Returns how far the lines that begin at a place reach, where it is known for those that begin a stretch later.
+#[inline(always)]
 fn reach_from(stretches: &[Stretch], columns: u16, start: usize, later: Reach) -> Reach
     requires start { start < length stretches.now }
     requires later { IsReach stretches.now columns (start + 1) later }
     ensures reach { IsReach stretches.now columns start result }
     ensures within { result.last < length stretches.now }
+    ensures earlier { result.last ≤ later.last }
 {
     let mut last = later.last;
     let mut joined = later.joined + joined_width(&stretches[start]);
@@ -217,19 +234,90 @@ fn reach_from(stretches: &[Stretch], columns: u16, start: usize, later: Reach) -
     Reach { last, joined }
 }
 
-// Tests whether a cost is no more than that of any line but the last one, if it has at most such a width.
-fn is_enough(best: Cost, columns: u16, widest: u64) -> bool
-    ensures { result ≡ true → (best.excess ≡ 0) × (best.over ≡ 0)
-        × (best.spent ≤ (columns - widest) * (columns - widest)) }
+// Returns a cost that is no more than either.
+#[inline(always)]
+fn lesser(one: Cost, other: Cost) -> Cost
+    ensures first { CostsNoMore result one }
+    ensures second { CostsNoMore result other }
+{
+    if other.is_less(one) { other } else { one }
+}
+
+// Returns a cost that no lines from a place fall below, nor from any after it up to another.
+fn floor_of(
+    stretches: &[Stretch],
+    columns: u16,
+    last_columns: u16,
+    ladder: Option<u8>,
+    choices: &[Choice],
+    start: usize,
+    last: usize,
+) -> Cost
+    requires count { length stretches.now < 2 ^ 30 }
+    requires order { start ≤ last }
+    requires within { last ≤ length stretches.now }
+    requires best { AreBest stretches.now columns last_columns ladder choices.now start (runs ladder) }
+    ensures { IsFloor stretches.now columns last_columns ladder start last result }
+{
+    let mut floor = Cost::MOST;
+    for place in choice_place(ladder, 0, start)..choice_place(ladder, 0, last + 1) {
+        floor = lesser(floor, choices[place].cost);
+    }
+    floor
+}
+
+// Returns the last stretch of the longest line that begins at a place and fits, or else that place.
+#[inline(always)]
+fn longest_line(stretches: &[Stretch], columns: u16, start: usize, reach: Reach) -> Reach
+    requires start { start < length stretches.now }
+    requires reach { IsReach stretches.now columns start reach }
+    requires within { reach.last < length stretches.now }
+    ensures furthest { IsFurthest stretches.now columns start (result.last + 1) }
+    ensures joined { result.joined ≡ (stretch_at stretches.now start).opening
+        + sum_by joined_width (slice_range stretches.now start result.last) }
+    ensures small { result.joined < 2 ^ 33 }
+    ensures upto { result.last ≤ reach.last }
+{
+    let mut last = reach.last;
+    let mut joined = widened(stretches[start].opening) + reach.joined;
+    while start < last {
+        let stretch = &stretches[last];
+        let wide = joined + widened(stretch.width) + widened(stretch.closing);
+        if wide <= u64::from(columns) {
+            return Reach { last, joined };
+        }
+        last -= 1;
+        joined -= joined_width(&stretches[last]);
+    }
+    Reach { last, joined }
+}
+
+// Tests whether a line of such a width may stand.
+#[inline(always)]
+fn may_stand(columns: u16, start: usize, last: usize, wide: u64) -> bool
+    requires { start ≤ last }
+    ensures { MatchBool result ((wide ≤ columns) ⊎ (last ≡ start)) ((columns < wide) × (start < last)) }
+{
+    last == start || wide <= u64::from(columns)
+}
+
+// Tests whether a cost is no more than that of any line but the last one, if it has at most such a width, and lines
+// cost at least a floor after it.
+#[inline(always)]
+fn is_enough(best: Cost, floor: Cost, columns: u16, widest: u64) -> bool
+    ensures { result ≡ true → (best.excess ≡ floor.excess) × (best.over ≡ floor.over)
+        × (best.spent ≤ floor.spent + (columns - widest) * (columns - widest)) }
 {
     let lacked = square_lacked(columns, widest);
-    best.excess == 0 && best.over == 0 && best.spent <= lacked
+    let above = best.spent.saturating_sub(floor.spent);
+    above <= lacked && best.excess == floor.excess && best.over == floor.over
 }
 
 // Returns the line that is best to begin at a place after a run of hyphens, where the best ones after it are known.
 //
-// The lines that fit are tried from the longest one on, until one is so short that the columns which it lacks alone cost
-// as much as the best line so far.
+// The lines that may stand are tried from the longest one on. None is tried that is so short that the columns which it
+// lacks, added to the floor, cost as much as the best line so far.
+#[inline(always)]
 fn best_line(
     stretches: &[Stretch],
     columns: u16,
@@ -240,6 +328,7 @@ fn best_line(
     run: usize,
     start: usize,
     reach: Reach,
+    floor: Cost,
 ) -> Choice
     requires count { length stretches.now < 2 ^ 30 }
     requires run { run < runs ladder }
@@ -249,13 +338,16 @@ fn best_line(
     requires best { AreBest stretches.now columns last_columns ladder choices.now start run }
     requires reach { IsReach stretches.now columns start reach }
     requires within { reach.last < length stretches.now }
+    requires floor { IsFloor stretches.now columns last_columns ladder (start + 1) (reach.last + 1) floor }
     ensures least { IsLeast stretches.now columns last_columns ladder run start result.cost }
     ensures made { IsMade stretches.now columns last_columns ladder choices.now run start result }
     ensures small { IsSmall result.cost (length stretches.now - start) }
 {
-    let first = &stretches[start];
-    let opening = widened(first.opening);
-    let wide = opening + widened(first.width) + widened(first.closing);
+    let longest = longest_line(stretches, columns, start, reach);
+    let mut last = longest.last;
+    let mut joined = longest.joined;
+    let ending = &stretches[last];
+    let wide = joined + widened(ending.width) + widened(ending.closing);
     let mut best = choose(
         stretches,
         columns,
@@ -264,21 +356,19 @@ fn best_line(
         choices,
         run,
         start,
-        start + 1,
+        last + 1,
         wide,
     );
-    let mut last = reach.last;
-    let mut joined = opening + reach.joined;
     while start < last {
+        last -= 1;
         let stretch = &stretches[last];
+        joined -= joined_width(stretch);
         let reached = joined + widened(stretch.width);
-        if last + 1 < stretches.len() {
-            if is_enough(best.cost, columns, reached + closing) {
-                return best;
-            }
+        if is_enough(best.cost, floor, columns, reached + closing) {
+            return best;
         }
         let wide = reached + widened(stretch.closing);
-        if wide <= u64::from(columns) {
+        if may_stand(columns, start, last, wide) {
             let other = choose(
                 stretches,
                 columns,
@@ -294,8 +384,6 @@ fn best_line(
                 best = other;
             }
         }
-        last -= 1;
-        joined -= joined_width(&stretches[last]);
     }
     best
 }
@@ -316,6 +404,7 @@ fn most_closing(stretches: &[Stretch]) -> u64
 }
 
 // Puts in the lines that are best to begin at a place, one after each run of hyphens.
+#[inline(always)]
 fn put_best_lines(
     stretches: &[Stretch],
     columns: u16,
@@ -325,6 +414,7 @@ fn put_best_lines(
     choices: &mut Vec<Choice>,
     start: usize,
     reach: Reach,
+    floor: Cost,
 )
     requires count { length stretches.now < 2 ^ 30 }
     requires start { start < length stretches.now }
@@ -333,6 +423,7 @@ fn put_best_lines(
     requires best { AreBest stretches.now columns last_columns ladder choices.old.items start 0 }
     requires reach { IsReach stretches.now columns start reach }
     requires within { reach.last < length stretches.now }
+    requires floor { IsFloor stretches.now columns last_columns ladder (start + 1) (reach.last + 1) floor }
     ensures { AreBest stretches.now columns last_columns ladder choices.new.items start (runs ladder) }
 {
     for run in 0..runs(ladder) {
@@ -346,6 +437,7 @@ fn put_best_lines(
             run,
             start,
             reach,
+            floor,
         );
         let place = choice_place(ladder, run, start);
         choices[place] = best;
@@ -353,6 +445,7 @@ fn put_best_lines(
 }
 
 // Returns the best line to begin at each place, after each run of hyphens.
+#[inline(always)]
 fn best_lines(
     alloc: Global,
     stretches: &[Stretch],
@@ -375,6 +468,8 @@ fn best_lines(
         last: count,
         joined: 0,
     };
+    let mut floor = Cost::NONE;
+    let mut renewed = count;
     for start in (0..count).rev() {
         reach = reach_from(stretches, columns, start, reach);
         put_best_lines(
@@ -386,9 +481,41 @@ fn best_lines(
             &mut choices,
             start,
             reach,
+            floor,
         );
+        if reach.last < renewed {
+            floor = floor_of(
+                stretches,
+                columns,
+                last_columns,
+                ladder,
+                &choices,
+                start,
+                reach.last + 1,
+            );
+            renewed = start;
+        }
     }
     Ok(choices)
+}
+
+// Returns the best line to begin at each place, after each run of hyphens. Without a ladder, as most often, there is one at
+// each place, and the code is compiled for that alone.
+fn best_lines_for(
+    alloc: Global,
+    stretches: &[Stretch],
+    columns: u16,
+    last_columns: u16,
+    ladder: Option<u8>,
+) -> Result<Vec<Choice>, AllocError>
+    requires count { length stretches.now < 2 ^ 30 }
+    ensures { IfOk result (λ choices.
+        AreBest stretches.now columns last_columns ladder choices.items 0 (runs ladder)) }
+{
+    match ladder {
+        None => best_lines(alloc, stretches, columns, last_columns, None),
+        Some(_) => best_lines(alloc, stretches, columns, last_columns, ladder),
+    }
 }
 
 /// Returns the ends of the lines of a paragraph, divided so that it costs the least.
@@ -413,7 +540,7 @@ pub fn even_ends(
     ensures fits { IfOk result (λ ends. FitsIfAny stretches.now columns ends.items) }
     ensures ladder { IfOk result (λ ends. KeepsLadderIfAny stretches.now columns ladder ends.items) }
 {
-    let choices = best_lines(alloc, stretches, columns, last_columns, ladder)?;
+    let choices = best_lines_for(alloc, stretches, columns, last_columns, ladder)?;
     let mut ends = Vec::new(alloc);
     let mut start = 0;
     let mut run = 0;

@@ -57,3 +57,8 @@ pub record AreBest (stretches : List Stretch) (columns last_columns : ℕ) (ladd
   pub made : (r e : ℕ) → IsKnown ladder low known r e → e < length stretches
       → IsMade stretches columns last_columns ladder choices r e (choice_at ladder choices r e)
   pub last : (r : ℕ) → r < runs ladder → (choice_at ladder choices r (length stretches)).cost ≡ nothing
+
+-- No division from a place to another, both among them, costs less than a floor, after any run.
+abbrev pub IsFloor : List Stretch → ℕ → ℕ → Option ℕ → ℕ → ℕ → Cost → Type 0
+IsFloor stretches columns last_columns ladder first last floor = (r e : ℕ) → r < runs ladder → first ≤ e → e ≤ last
+    → IsLeast stretches columns last_columns ladder r e floor

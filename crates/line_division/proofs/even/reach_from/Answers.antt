@@ -11,6 +11,7 @@ loop-last-init c =
     record {
       from = omega (arith, later.from);
       within = later.within;
+      earlier = omega arith;
       joined = omega (arith, front, later.joined, c.joined_width.ensures.value);
       small_sum = omega (arith, later.small, c.joined_width.ensures.small);
       beyond = beyond_earlier stretches c.args.columns c.args.start c.args.later.last (omega (arith, later.from)) later.beyond;
@@ -30,6 +31,7 @@ loop-last-preserved c =
     record {
       from = omega (arith, c.loop-last-test.true);
       within = omega (arith, before.within);
+      earlier = omega (arith, before.earlier);
       joined = omega (arith, back, before.joined, c.joined_width-joined.ensures.value);
       small_sum = omega (arith, before.small_sum);
       beyond = beyond_less stretches c.args.columns c.args.start c.loop-last.last before.beyond (λ lt. omega (arith, past lt, before.joined));

@@ -9,6 +9,7 @@ abbrev pub invariant-loop-last : goal.invariant-loop-last
 invariant-loop-last l = record {
   from : l.start ≤ l.last;
   within : l.last ≤ length l.stretches;
+  earlier : l.last ≤ l.fn.later.last;
   joined : l.joined ≡ sum_by joined_width (slice_range l.stretches l.start l.last);
   small_sum : l.joined < 2 ^ 34;
   beyond : IsBeyond l.stretches l.columns l.start l.last;
