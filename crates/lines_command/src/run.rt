@@ -59,9 +59,11 @@ impl From<Error> for Failure {
 }
 
 impl From<FillError> for Failure {
-    ghost use Rattle.std.specs.Prelude.{⊤};
+    ghost use Rattle.std.specs.Prelude.{◌≡◌};
+    ghost use Rattle.lines_command.specs.declared.run.Failure.TheVariants.{Memory, TooLong};
+    ghost use Rattle.paragraphs.specs.declared.text.FillError.TheVariants.{Memory as NoMemory, TooLong as LongParagraph};
 
-    ghost from_gives = { λ _ _. ⊤ };
+    ghost from_gives = { λ error result. (error ≡ NoMemory → result ≡ Memory) × (error ≡ LongParagraph → result ≡ TooLong) };
 
     fn from(error: FillError) -> Failure {
         match error {
@@ -202,11 +204,20 @@ fn lines_by<I: Read>(
     }
 }
 
+// Returns the number of bytes of lines, each with a line feed after it.
+fn bytes_of(lines: &[String]) -> usize {
+    let mut bytes: usize = 0;
+    for line in lines {
+        bytes = bytes.saturating_add(line.len()).saturating_add(1);
+    }
+    bytes
+}
+
 // Returns lines as one text, each with a line feed after it.
 fn page_of(alloc: Global, lines: &[String]) -> Result<String, AllocError>
     ensures { IfOk result (λ page. string_bytes page ≡ flat_map ended (map string_bytes lines.now)) }
 {
-    let mut page = String::new(alloc);
+    let mut page = String::with_capacity(alloc, bytes_of(lines))?;
     for line in lines {
         page.push_str(line)?;
         page.push('\n')?;

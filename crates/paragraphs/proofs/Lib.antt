@@ -11,3 +11,5 @@ pub mod WholeWords
 pub mod MixedParts
 pub mod FullLines
 pub mod PlainWords
+mod OnePiece
+mod BareParts

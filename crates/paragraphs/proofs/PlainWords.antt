@@ -1,5 +1,6 @@
 -- The first words of a text, where they are of printable ASCII.
 use Rattle.std.proofs.Common.{◌≡◌, ℕ, suc, ◌+◌, ◌-◌, ◌<◌, ◌≤◌, ◌&&◌, Bool, true, false, cond, List, [], ◌∷◌, ◌++◌, length, get_or, take, drop, slice_range, chars, encode_utf8, inl, inr, sym, ap, ap₂, subst, refl, ◌∙◌, arith, append_assoc, append-nil, length-append, length-drop}
+use Rattle.std.specs.Char.{is_ascii_alphabetic}
 use Rattle.std.specs.List.{list_all}
 use Rattle.std.specs.Str.{IsCharBoundary, IsUtf8}
 use Rattle.std.proofs.lemmas.Bool.{and_parts, ne_eqb, cases_lt}
@@ -9,7 +10,7 @@ use Rattle.std.proofs.lemmas.List.Folds.{drop_split}
 use Rattle.std.proofs.lemmas.Str.{chars-append, chars-nil, chars-IsAscii, encode_ascii, IsUtf8-from_ascii, IsCharBoundary-after_ascii}
 use Rattle.std.proofs.lemmas.Str.Ascii.{IsAscii-nil, IsAscii-cons}
 use Rattle.std.proofs.Math.Seq.{take-append_seam}
-use Rattle.paragraphs.specs.Private.Plain.{is_plain, is_ascii_gap, EachBetween, EndsAt, IsPlainWord, in_a_row, IsRun}
+use Rattle.paragraphs.specs.Private.Plain.{is_plain, is_ascii_gap, AreLetters, EachBetween, EndsAt, IsPlainWord, in_a_row, IsRun}
 use Rattle.paragraphs.specs.Private.Printable.{is_printable}
 use Rattle.paragraphs.proofs.Printable.{both_printable}
 use Rattle.text_paragraphs.specs.Words.{is_gap, if_any, words_after, words}
@@ -63,6 +64,27 @@ all_plain_printable [] all = refl
 all_plain_printable (x ∷ xs) all =
     let both = and_parts (is_plain x) (list_all is_plain xs) all in
     ap (λ t. t && list_all is_printable xs) (plain_printable x both.0) ∙ all_plain_printable xs both.1
+
+letter_plain : (b : ℕ) → is_ascii_alphabetic b ≡ true → is_plain b ≡ true
+letter_plain b is = grind (arith, nat_tests)
+
+pub letters_plain : (bytes : List ℕ) (start end : ℕ) → EachBetween is_ascii_alphabetic bytes start end → EachBetween is_plain bytes start end
+letters_plain bytes start end each k from lt = letter_plain (get_or bytes k 0) (each k from lt)
+
+-- Bytes are plain up to a place, and from there on.
+pub plain_on : (bytes : List ℕ) (start known end : ℕ) → EachBetween is_plain bytes start known → EachBetween is_plain bytes known end → EachBetween is_plain bytes start end
+plain_on bytes start known end before after k from lt =
+    elim (cases_lt k known) [
+      | inl early ↦ before k from early
+      | inr late ↦ after k late lt
+    ]
+
+pub letters_between : (bytes : List ℕ) (start end : ℕ) → start < end → end ≤ length bytes → EachBetween is_ascii_alphabetic bytes start end → AreLetters (slice_range bytes start end)
+letters_between bytes start end some within each =
+    (omega (arith, some, within, length-take (end - start) (drop start bytes), length-drop start bytes), all_between is_ascii_alphabetic bytes start end within each)
+
+pub plain_word_printable : (bytes : List ℕ) (start end : ℕ) → IsPlainWord bytes start end → list_all is_printable (slice_range bytes start end) ≡ true
+plain_word_printable bytes start end is = all_plain_printable (slice_range bytes start end) (all_between is_plain bytes start end is.within is.plain)
 
 -- ---- words
 

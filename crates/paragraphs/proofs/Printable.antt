@@ -1,5 +1,5 @@
 -- Texts of printable ASCII are shown as they are, a column for each byte.
-use Rattle.std.proofs.Common.{◌≡◌, ℕ, ◌+◌, ◌-◌, zero, suc, ◌<◌, ◌&&◌, if◌then◌else◌, true, false, not, List, [], ◌∷◌, ◌++◌, length, filter, take, drop, slice_range, ap, ap₂, refl, ◌∙◌, arith}
+use Rattle.std.proofs.Common.{◌≡◌, ℕ, ◌+◌, ◌-◌, zero, suc, ◌<◌, ◌&&◌, if◌then◌else◌, Bool, true, false, not, List, [], ◌∷◌, ◌++◌, length, get_or, filter, take, drop, slice_range, ap, ap₂, refl, ◌∙◌, arith}
 use Rattle.std.specs.List.{list_all}
 use Rattle.std.specs.Str.{encode_utf8_all}
 use Rattle.std.proofs.lemmas.Bool.{and_parts}
@@ -10,6 +10,7 @@ use Rattle.std.proofs.lemmas.Str.Ascii.{IsAscii-nil, IsAscii-cons}
 use Rattle.std.specs.Prelude.{IsAscii}
 use Rattle.unicode_width.specs.Width.{plain, step, past_emoji, read_before, str_width}
 use Rattle.paragraphs.specs.Private.Printable.{is_printable}
+use Rattle.paragraphs.specs.Private.PartSettings.{hyphen_if}
 use Rattle.paragraphs.specs.Settings.{is_soft_hyphen, shown, columns_of}
 
 below_128 : (c : ℕ) → is_printable c ≡ true → c < 128
@@ -75,3 +76,19 @@ both_printable xs ys left right = list_all-append is_printable xs ys ∙ ap₂ (
 
 pub printable_between : (text : List ℕ) (a b : ℕ) → list_all is_printable text ≡ true → list_all is_printable (slice_range text a b) ≡ true
 printable_between text a b all = printable_take (drop a text) (b - a) (printable_drop text a all)
+
+-- A hyphen is one column.
+pub hyphen_columns : (before : List ℕ) (hyphenated : Bool) → length before ≡ 0 → columns_of (before ++ hyphen_if hyphenated) ≡ (if hyphenated then 1 else 0)
+hyphen_columns [] true none = printable_columns (hyphen_if true) refl
+hyphen_columns [] false none = printable_columns (hyphen_if false) refl
+hyphen_columns (b ∷ bs) hyphenated none = absurd (omega (arith, none))
+
+-- One byte that is a space.
+pub one_space : (text : List ℕ) → length text ≡ 1 → get_or text 0 0 ≡ 32 → text ≡ 32 ∷ []
+one_space [] one is = absurd (omega (arith, one))
+one_space (c ∷ []) one is = ap (λ b. b ∷ []) is
+one_space (c ∷ d ∷ cs) one is = absurd (omega (arith, one))
+
+pub no_bytes : (text : List ℕ) → length text ≡ 0 → text ≡ []
+no_bytes [] none = refl
+no_bytes (c ∷ cs) none = absurd (omega (arith, none))

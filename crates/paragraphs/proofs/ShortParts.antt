@@ -8,9 +8,9 @@ use Rattle.std.proofs.lemmas.List.Elements.{All-nil, All-cons}
 use Rattle.std.proofs.lemmas.List.Folds.{list_all_more, list_all_at, list_all-map}
 use Rattle.paragraphs.specs.declared.part.Part.{Part}
 use Rattle.paragraphs.specs.Settings.{Setting, is_short, IsTooLong}
-use Rattle.paragraphs.specs.Private.PartSettings.{setting_of, settings_of, is_short_part, IsShort}
+use Rattle.paragraphs.specs.Private.PartSettings.{hyphen_if, setting_of, settings_of, is_short_part, IsShort}
 
-short_part : (part : Part) → is_short (setting_of part) ≡ true → IsShort part
+pub short_part : (part : Part) → is_short (setting_of part) ≡ true → IsShort part
 short_part part short =
     let s = setting_of part in
     let opening = nat_lt (length s.opening) (2 ^ 31) in
@@ -23,7 +23,7 @@ short_part part short =
       omega (arith, ltb-true (length s.opening) (2 ^ 31) two.0, length-append part.indent.now (string_bytes part.after)),
       ltb-true (length s.text) (2 ^ 31) two.1,
       ltb-true (length s.joint) (2 ^ 31) three.1,
-      omega (arith, ltb-true (length s.closing) (2 ^ 31) all.1, length-append (string_bytes part.before) part.hyphen.now),
+      omega (arith, ltb-true (length s.closing) (2 ^ 31) all.1, length-append (string_bytes part.before) (hyphen_if part.hyphenated)),
     )
 
 pub all_short : (parts : List Part) → list_all is_short_part parts ≡ true → All IsShort parts

@@ -1,7 +1,6 @@
 //! Parts that are short enough to be measured.
 
 ghost use Rattle.std.specs.Prelude.{◌≡◌};
-ghost use Rattle.std.specs.List.{list_all};
 ghost use Rattle.paragraphs.specs.Private.PartSettings.{is_short_part};
 
 use crate::part::Part;
@@ -13,17 +12,5 @@ pub(crate) fn is_short(part: &Part) -> bool
     part.indent.len() + part.after.len() < 1 << 31
         && part.text.len() < 1 << 31
         && part.joint.len() < 1 << 31
-        && part.before.len() + part.hyphen.len() < 1 << 31
-}
-
-// Tests whether all parts are short.
-pub(crate) fn are_short(parts: &[Part]) -> bool
-    ensures { result ≡ list_all is_short_part parts.now }
-{
-    for part in parts {
-        if !is_short(part) {
-            return false;
-        }
-    }
-    true
+        && part.before.len() + usize::from(part.hyphenated) < 1 << 31
 }

@@ -4,18 +4,18 @@
 //! the other words are not needed. Which words to leave whole is a guess, and the lines are used only where it was right:
 //! where no line ends before words that were left whole. Those that stand one space apart are one part.
 
-ghost use Rattle.std.specs.Prelude.{◌≡◌, ◌≤◌, ◌++◌, true, false, All, IfOk, OnOk, length, map, replicate};
+ghost use Rattle.std.specs.Prelude.{◌≡◌, ◌≤◌, ◌++◌, true, false, IfOk, OnOk, length, map, replicate};
 ghost use Rattle.std.specs.List.{list_all};
 ghost use Rattle.std.specs.String.{string_bytes};
 ghost use Rattle.paragraphs.specs.Private.Entries.{AreSettled, EndBeforeParts, HaveNarrowClosings, whole_at};
 ghost use Rattle.paragraphs.specs.Private.MixedParts.{StandForAll, Adds, AddsWhole, AddsRuns, FillAll};
-ghost use Rattle.paragraphs.specs.Private.PartSettings.{settings_of, IsShort};
+ghost use Rattle.paragraphs.specs.Private.PartSettings.{settings_of};
+ghost use Rattle.paragraphs.specs.Private.Plain.{AreLetters};
 ghost use Rattle.paragraphs.specs.Private.Printable.{is_printable};
 ghost use Rattle.paragraphs.specs.Styles.{style_of};
 ghost use Rattle.paragraphs.specs.Words.{word_parts, other_parts, parts_of};
 ghost use Rattle.text_paragraphs.specs.Words.{words};
 
-use crate::length::is_short;
 use crate::part::Part;
 use crate::plain::{next_word, split_run};
 use crate::setting::{lines, stretch, stretches};
@@ -47,8 +47,7 @@ fn joined_after(
 ) -> Result<usize, AllocError> {
     let mut joined = joined;
     for part in parts {
-        if is_short(part) {
-            let stretch = stretch(alloc, part)?;
+        if let Some(stretch) = stretch(alloc, part)? {
             let begun = if joined == 0 || !fits_after(&stretch, columns, joined) {
                 stretch.opening as usize
             } else {
@@ -86,7 +85,7 @@ fn push_whole<'t>(
         text,
         joint: " ",
         before: String::new(alloc),
-        hyphen: "",
+        hyphenated: false,
         price: 0,
         plain: true,
     })?;
@@ -112,10 +111,14 @@ fn push_broken<'t, 'h, H: Hyphenator<'h>>(
     style: &Style<'t>,
     indent: &'t str,
     word: &'t str,
+    plain: bool,
+    letters: bool,
     columns: u16,
     breaks: &mut Vec<H::Opportunity>,
     mixed: &mut Mixed<'t>,
 ) -> Result<(), AllocError>
+    requires plain { plain ≡ true → list_all is_printable word.now ≡ true }
+    requires letters { letters ≡ true → AreLetters word.now }
     ensures { OnOk result (Adds mixed.old mixed.new
         (word_parts (H.breaks_of dictionary.now) (style_of style.now) indent.now word.now)) }
 {
@@ -126,6 +129,8 @@ fn push_broken<'t, 'h, H: Hyphenator<'h>>(
         style,
         indent,
         word,
+        plain,
+        letters,
         breaks,
         &mut mixed.parts,
     )?;
@@ -177,18 +182,20 @@ fn push_others<'t, 'h, H: Hyphenator<'h>>(
         (other_parts (H.breaks_of dictionary.now) (style_of style.now) (words text.now))) }
 {
     let mut rest = push_runs(alloc, style, text, columns, mixed)?;
-    while let Some((word, after)) = next_word(rest) {
+    while let Some(word) = next_word(rest) {
         push_broken(
             alloc,
             dictionary,
             style,
             style.indent,
-            word,
+            word.text,
+            word.plain,
+            word.letters,
             columns,
             breaks,
             mixed,
         )?;
-        rest = push_runs(alloc, style, after, columns, mixed)?;
+        rest = push_runs(alloc, style, word.after, columns, mixed)?;
     }
     Ok(())
 }
@@ -210,16 +217,18 @@ pub(crate) fn mixed_of<'t, 'h, H: Hyphenator<'h>>(
         wholes: Vec::new(alloc),
         joined: 0,
     };
-    let Some((first, rest)) = next_word(text) else {
+    let Some(first) = next_word(text) else {
         return Ok(mixed);
     };
-    let mut breaks = Vec::new(alloc);
+    let mut breaks = Vec::with_capacity(alloc, 16)?;
     push_broken(
         alloc,
         dictionary,
         style,
         style.first,
-        first,
+        first.text,
+        first.plain,
+        first.letters,
         columns,
         &mut breaks,
         &mut mixed,
@@ -228,7 +237,7 @@ pub(crate) fn mixed_of<'t, 'h, H: Hyphenator<'h>>(
         alloc,
         dictionary,
         style,
-        rest,
+        first.after,
         columns,
         &mut breaks,
         &mut mixed,
@@ -295,9 +304,10 @@ pub(crate) enum NotFull {
 }
 
 impl From<AllocError> for NotFull {
-    ghost use Rattle.std.specs.Prelude.{⊤};
+    ghost use Rattle.std.specs.Prelude.{◌≡◌};
+    ghost use Rattle.paragraphs.specs.declared.mixed.NotFull.TheVariants.{Memory};
 
-    ghost from_gives = { λ _ _. ⊤ };
+    ghost from_gives = { λ _ result. result ≡ Memory };
 
     fn from(_error: AllocError) -> NotFull {
         NotFull::Memory
@@ -312,12 +322,14 @@ pub(crate) fn full_lines(
     wholes: &[bool],
     columns: u16,
 ) -> Result<Vec<String>, NotFull>
-    requires { All IsShort parts.now }
     ensures { IfOk result (λ lines.
         FillAll wholes.now (settings_of parts.now) columns (map string_bytes lines.items)) }
 {
     furthest_ends_are_fewest();
-    let stretches = stretches(alloc, parts)?;
+    let made = stretches(alloc, parts)?;
+    let Some(stretches) = made else {
+        return Err(NotFull::Unsettled);
+    };
     let row = greedy_ends(alloc, &stretches, columns)?;
     if !are_settled(wholes, &stretches, &row) {
         return Err(NotFull::Unsettled);

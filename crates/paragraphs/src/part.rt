@@ -7,7 +7,7 @@ ghost use Rattle.paragraphs.specs.Private.Printable.{is_printable};
 // A text between two neighbouring places at which a line may end.
 //
 // ```text
-//     indent after | text | before hyphen     where a line holds it alone
+//     indent after | text | before -          where a line holds it alone
 //                    text | joint | ..        where the line goes on after it
 // ```
 //
@@ -25,8 +25,8 @@ pub struct Part<'t> {
     pub joint: &'t str,
     // The first half of the change after it.
     pub before: String,
-    // The hyphen of a line that ends with it, if it needs one.
-    pub hyphen: &'t str,
+    // Whether a line that ends with it ends in a hyphen.
+    pub hyphenated: bool,
     // The cost of a line's end after it.
     pub price: u32,
     // Whether its text and its joint are known to be of printable ASCII.

@@ -2,8 +2,11 @@
 //!
 //! They are found byte by byte. Where they stand one space apart, they are one slice of the text.
 
-ghost use Rattle.std.specs.Prelude.{◌≡◌, ◌∷◌, ◌+◌, ◌<◌, ◌≤◌, [], MatchOption, IfSome, length};
-ghost use Rattle.paragraphs.specs.Private.Plain.{is_plain, is_ascii_gap, EachBetween, IsPlainWord, IsRun, BeginsWith};
+ghost use Rattle.std.specs.Prelude.{◌≡◌, ◌∷◌, ◌+◌, ◌<◌, ◌≤◌, [], true, MatchOption, IfSome, length};
+ghost use Rattle.std.specs.Char.{is_ascii_alphabetic};
+ghost use Rattle.std.specs.List.{list_all};
+ghost use Rattle.paragraphs.specs.Private.Plain.{is_plain, is_ascii_gap, AreLetters, EachBetween, IsPlainWord, IsRun, BeginsWith};
+ghost use Rattle.paragraphs.specs.Private.Printable.{is_printable};
 ghost use Rattle.text_paragraphs.specs.Words.{words};
 
 use text_paragraphs::split_word;
@@ -51,13 +54,30 @@ fn past_gaps(bytes: &[u8]) -> usize
     at
 }
 
-// Returns the end of the word from a place on, if it is plain.
+// Passes letters of ASCII from a place on.
 #[inline(always)]
-fn plain_end(bytes: &[u8], start: usize) -> Option<usize>
+fn past_letters(bytes: &[u8], start: usize) -> usize
     requires { start ≤ length bytes.now }
+    ensures within { (start ≤ result) × (result ≤ length bytes.now) }
+    ensures each { EachBetween is_ascii_alphabetic bytes.now start result }
+{
+    let mut at = start;
+    'bytes: while at < bytes.len() && bytes[at].is_ascii_alphabetic() {
+        at += 1;
+    }
+    at
+}
+
+// Returns the end of the word from a place on, if it is plain. The bytes before a later place are known to be.
+#[inline(always)]
+#[tactic(auto, using(crate::proofs::PlainWords::plain_on))]
+fn plain_end(bytes: &[u8], start: usize, known: usize) -> Option<usize>
+    requires start { start ≤ known }
+    requires within { known ≤ length bytes.now }
+    requires plain { EachBetween is_plain bytes.now start known }
     ensures { IfSome result (λ end. IsPlainWord bytes.now start end) }
 {
-    let end = past_plain(bytes, start);
+    let end = past_plain(bytes, known);
     if end == start {
         return None;
     }
@@ -67,26 +87,56 @@ fn plain_end(bytes: &[u8], start: usize) -> Option<usize>
     Some(end)
 }
 
-// Returns the first word of a text, if it is plain, with the text after it.
-fn split_plain(text: &str) -> Option<(&str, &str)>
-    ensures word { IfSome result (λ x. words text.now ≡ x.0.now ∷ words x.1.now) }
-    ensures less { IfSome result (λ x. length x.1.now < length text.now) }
+// The first word of a text.
+#[derive(Drop)]
+pub(crate) struct Word<'t> {
+    // Its text.
+    pub(crate) text: &'t str,
+    // Whether it is known to be of printable ASCII.
+    pub(crate) plain: bool,
+    // Whether it is known to be of letters of ASCII alone.
+    pub(crate) letters: bool,
+    // The text after it.
+    pub(crate) after: &'t str,
+    ghost printable: { plain ≡ true → list_all is_printable text.now ≡ true },
+    ghost alphabetic: { letters ≡ true → AreLetters text.now },
+}
+
+// Returns the first word of a text, if it is plain.
+#[inline(always)]
+fn split_plain(text: &str) -> Option<Word>
+    ensures word { IfSome result (λ word. words text.now ≡ word.text.now ∷ words word.after.now) }
+    ensures less { IfSome result (λ word. length word.after.now < length text.now) }
 {
     let bytes = text.as_bytes();
     let start = past_gaps(bytes);
-    let end = plain_end(bytes, start)?;
-    Some((&text[start..end], &text[end..]))
+    let letters_end = past_letters(bytes, start);
+    let end = plain_end(bytes, start, letters_end)?;
+    Some(Word {
+        text: &text[start..end],
+        plain: true,
+        letters: end == letters_end,
+        after: &text[end..],
+    })
 }
 
-// Returns the first word of a text with the text after it.
-pub(crate) fn next_word(text: &str) -> Option<(&str, &str)>
-    ensures word { MatchOption result (words text.now ≡ []) (λ x. words text.now ≡ x.0.now ∷ words x.1.now) }
-    ensures less { IfSome result (λ x. length x.1.now < length text.now) }
+// Returns the first word of a text.
+#[inline(always)]
+pub(crate) fn next_word(text: &str) -> Option<Word>
+    ensures word { MatchOption result (words text.now ≡ [])
+        (λ word. words text.now ≡ word.text.now ∷ words word.after.now) }
+    ensures less { IfSome result (λ word. length word.after.now < length text.now) }
 {
-    if let Some(parts) = split_plain(text) {
-        return Some(parts);
+    if let Some(word) = split_plain(text) {
+        return Some(word);
     }
-    split_word(text)
+    let (word, after) = split_word(text)?;
+    Some(Word {
+        text: word,
+        plain: false,
+        letters: false,
+        after,
+    })
 }
 
 // Returns the end of the plain word from a place on, if it is at most so far.
@@ -95,7 +145,7 @@ fn plain_end_within(bytes: &[u8], start: usize, most: usize) -> Option<usize>
     requires { start ≤ length bytes.now }
     ensures { IfSome result (λ end. IsPlainWord bytes.now start end) }
 {
-    let end = plain_end(bytes, start)?;
+    let end = plain_end(bytes, start, start)?;
     if most < end {
         return None;
     }

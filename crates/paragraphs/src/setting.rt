@@ -1,12 +1,14 @@
 //! Lines of parts.
 
-ghost use Rattle.std.specs.Prelude.{◌≡◌, ℕ, ◌+◌, ◌*◌, ◌-◌, ◌^◌, ◌<◌, ◌≤◌, ◌++◌, List, IfOk, OnOk, All, length, map};
+ghost use Rattle.std.specs.Prelude.{◌≡◌, ℕ, ◌+◌, ◌*◌, ◌-◌, ◌^◌, ◌<◌, ◌≤◌, ◌++◌, List, true, false, if◌then◌else◌, IfOk, OnOk, MatchOption, length, map};
+ghost use Rattle.std.specs.List.{list_all};
 ghost use Rattle.std.specs.String.{string_bytes};
 ghost use Rattle.paragraphs.specs.Aims.{IsAimedAt, IsSet};
 ghost use Rattle.paragraphs.specs.Private.Ends.{Rise};
-ghost use Rattle.paragraphs.specs.Private.PartSettings.{setting_of, settings_of, IsShort};
+ghost use Rattle.paragraphs.specs.Private.PartSettings.{hyphen_if, setting_of, settings_of, is_short_part, IsShort, IsBare};
 ghost use Rattle.paragraphs.specs.Settings.{columns_of, shown, stretch_of, shown_text, last_text, line_text, lines_to};
 
+use crate::length::is_short;
 use crate::part::Part;
 use crate::shown::{has_soft_hyphen, is_printable, push_shown, shown};
 use line_division::{Stretch, even_ends, greedy_ends};
@@ -105,8 +107,37 @@ fn columns_inside(alloc: Global, part: &Part) -> Result<(u32, u32), AllocError>
     ))
 }
 
-// Returns the columns of a part.
-pub(crate) fn stretch(alloc: Global, part: &Part) -> Result<Stretch, AllocError>
+// Returns the hyphen of a line's end, or an empty text.
+#[inline(always)]
+fn hyphen_if(hyphenated: bool) -> &'static str
+    ensures { result.now ≡ hyphen_if hyphenated }
+{
+    if hyphenated { "-" } else { "" }
+}
+
+// Returns the columns of the hyphen of a line's end, if it has one.
+#[inline(always)]
+fn columns_of_hyphen(hyphenated: bool) -> u32
+    ensures { result ≡ (if hyphenated then 1 else 0) }
+{
+    if hyphenated { 1 } else { 0 }
+}
+
+// Returns the columns of the text that is set after a part where a line ends with it: half of a change, and a hyphen.
+#[inline(always)]
+#[tactic(auto, using(crate::proofs::Printable::hyphen_columns))]
+fn closing_columns(alloc: Global, before: &str, hyphenated: bool) -> Result<u32, AllocError>
+    requires { length before.now + length (hyphen_if hyphenated) < 2 ^ 31 }
+    ensures { IfOk result (λ columns. columns ≡ columns_of (before.now ++ hyphen_if hyphenated)) }
+{
+    if before.is_empty() {
+        return Ok(columns_of_hyphen(hyphenated));
+    }
+    columns_of_joined(alloc, before, hyphen_if(hyphenated))
+}
+
+// Returns the columns of a part that is short.
+fn columns_of_part(alloc: Global, part: &Part) -> Result<Stretch, AllocError>
     requires { IsShort part.now }
     ensures { IfOk result (λ stretch. stretch ≡ stretch_of (setting_of part.now)) }
 {
@@ -115,22 +146,72 @@ pub(crate) fn stretch(alloc: Global, part: &Part) -> Result<Stretch, AllocError>
         opening: columns_of_both(alloc, part.indent, &part.after)?,
         width,
         joint,
-        closing: columns_of_both(alloc, &part.before, part.hyphen)?,
+        closing: closing_columns(alloc, &part.before, part.hyphenated)?,
         price: part.price,
-        hyphenated: part.before.len() + part.hyphen.len() > 0,
+        hyphenated: part.hyphenated || !part.before.is_empty(),
     })
 }
 
-// Returns the columns of all parts.
-pub(crate) fn stretches(alloc: Global, parts: &[Part]) -> Result<Vec<Stretch>, AllocError>
-    requires { All IsShort parts.now }
-    ensures { IfOk result (λ v. v.items ≡ map stretch_of (settings_of parts.now)) }
+// Tests whether a part is of printable ASCII, without an indent and without a change, and short, as most parts are.
+#[inline(always)]
+fn is_bare(part: &Part) -> bool
+    ensures { result ≡ true → IsBare part.now }
+{
+    part.plain
+        && part.indent.is_empty()
+        && part.after.is_empty()
+        && part.before.is_empty()
+        && part.text.len() < 1 << 31
+        && part.joint.len() < 1 << 31
+}
+
+// Returns the bytes of a text that is short.
+#[inline(always)]
+fn short_len(text: &str) -> u32
+    requires { length text.now < 2 ^ 31 }
+    ensures { result ≡ length text.now }
+{
+    text.len() as u32
+}
+
+// Returns the columns of a part, or `None` where it is too long to be measured.
+#[inline(always)]
+#[tactic(auto, using(crate::proofs::BareParts::bare_stretch, crate::proofs::ShortParts::short_part))]
+pub(crate) fn stretch(alloc: Global, part: &Part) -> Result<Option<Stretch>, AllocError>
+    ensures { IfOk result (λ made. MatchOption made (is_short_part part.now ≡ false)
+        (λ stretch. stretch ≡ stretch_of (setting_of part.now))) }
+{
+    if is_bare(part) {
+        return Ok(Some(Stretch {
+            opening: 0,
+            width: short_len(part.text),
+            joint: short_len(part.joint),
+            closing: columns_of_hyphen(part.hyphenated),
+            price: part.price,
+            hyphenated: part.hyphenated,
+        }));
+    }
+    if !is_short(part) {
+        return Ok(None);
+    }
+    let stretch = columns_of_part(alloc, part)?;
+    Ok(Some(stretch))
+}
+
+// Returns the columns of all parts, or `None` where one is too long to be measured.
+pub(crate) fn stretches(alloc: Global, parts: &[Part]) -> Result<Option<Vec<Stretch>>, AllocError>
+    ensures { IfOk result (λ made. MatchOption made (list_all is_short_part parts.now ≡ false)
+        (λ v. v.items ≡ map stretch_of (settings_of parts.now))) }
 {
     let mut all = Vec::with_capacity(alloc, parts.len())?;
     for part in parts {
-        all.push(stretch(alloc, part)?)?;
+        let made = stretch(alloc, part)?;
+        match made {
+            Some(stretch) => all.push(stretch)?,
+            None => return Ok(None),
+        }
     }
-    Ok(all)
+    Ok(Some(all))
 }
 
 // Returns about the number of bytes of a line that holds such parts.
@@ -154,13 +235,30 @@ fn opening(alloc: Global, part: &Part, bytes: usize) -> Result<String, AllocErro
     Ok(opening)
 }
 
+// Appends the joint of a part. Most are a space, or empty.
+#[inline(always)]
+fn push_joint(line: &mut String, joint: &str) -> Result<(), AllocError>
+    ensures { OnOk result (string_bytes line.new ≡ string_bytes line.old ++ joint.now) }
+{
+    let bytes = joint.as_bytes();
+    if bytes.len() == 0 {
+        return Ok(());
+    }
+    if bytes.len() == 1 && bytes[0] == b' ' {
+        line.push(' ')?;
+        return Ok(());
+    }
+    line.push_str(joint)?;
+    Ok(())
+}
+
 // Appends a part that is not the last one of its line.
 fn push_joined(line: &mut String, part: &Part) -> Result<(), AllocError>
     ensures { OnOk result (string_bytes line.new ≡ string_bytes line.old ++ shown_text (setting_of part.now)) }
 {
     if part.plain {
         line.push_str(part.text)?;
-        line.push_str(part.joint)?;
+        push_joint(line, part.joint)?;
         return Ok(());
     }
     push_shown(line, part.text)?;
@@ -187,7 +285,7 @@ fn push_last(line: &mut String, part: &Part) -> Result<(), AllocError>
 {
     push_text(line, part)?;
     line.push_str(&part.before)?;
-    line.push_str(part.hyphen)?;
+    line.push_str(hyphen_if(part.hyphenated))?;
     Ok(())
 }
 
@@ -249,19 +347,19 @@ fn ends(
     }
 }
 
-// Returns the lines of a paragraph that is made of such parts.
+// Returns the lines of a paragraph that is made of such parts, which have such columns.
 pub(crate) fn set(
     alloc: Global,
     parts: &[Part],
+    stretches: &[Stretch],
     columns: u16,
     aim: Aim,
 ) -> Result<Vec<String>, AllocError>
     requires count { length parts.now < 2 ^ 30 }
-    requires short { All IsShort parts.now }
+    requires measured { stretches.now ≡ map stretch_of (settings_of parts.now) }
     ensures { IfOk result (λ lines. IsSet aim (settings_of parts.now) columns (map string_bytes lines.items)) }
 {
-    let stretches = stretches(alloc, parts)?;
-    let row = ends(alloc, &stretches, columns, aim)?;
+    let row = ends(alloc, stretches, columns, aim)?;
     let lines = lines(alloc, parts, &row)?;
     Ok(lines)
 }

@@ -10,11 +10,10 @@ ghost use Rattle.paragraphs.specs.Styles.{style_of};
 ghost use Rattle.paragraphs.specs.Words.{other_parts, parts_of};
 ghost use Rattle.text_paragraphs.specs.Words.{words};
 
-use crate::length::are_short;
 use crate::mixed::{NotFull, full_lines, mixed_of};
 use crate::part::Part;
 use crate::plain::next_word;
-use crate::setting::{Aim, set};
+use crate::setting::{Aim, set, stretches};
 use crate::style::Style;
 use crate::word::push_word;
 use hyphenation_hyphenator::hyphenator::Hyphenator;
@@ -33,9 +32,19 @@ fn push_others<'t, 'h, H: Hyphenator<'h>>(
         (other_parts (H.breaks_of dictionary.now) (style_of style.now) (words text.now))) }
 {
     let mut rest = text;
-    while let Some((word, after)) = next_word(rest) {
-        push_word(alloc, dictionary, style, style.indent, word, breaks, parts)?;
-        rest = after;
+    while let Some(word) = next_word(rest) {
+        push_word(
+            alloc,
+            dictionary,
+            style,
+            style.indent,
+            word.text,
+            word.plain,
+            word.letters,
+            breaks,
+            parts,
+        )?;
+        rest = word.after;
     }
     Ok(())
 }
@@ -50,21 +59,30 @@ fn parts_of<'t, 'h, H: Hyphenator<'h>>(
     ensures { IfOk result (λ parts.
         settings_of parts.items ≡ parts_of (H.breaks_of dictionary.now) (style_of style.now) (words text.now)) }
 {
-    let mut parts = Vec::with_capacity(alloc, text.len() / 6)?;
-    let Some((first, rest)) = next_word(text) else {
+    let mut parts = Vec::with_capacity(alloc, text.len() / 3)?;
+    let Some(first) = next_word(text) else {
         return Ok(parts);
     };
-    let mut breaks = Vec::new(alloc);
+    let mut breaks = Vec::with_capacity(alloc, 16)?;
     push_word(
         alloc,
         dictionary,
         style,
         style.first,
-        first,
+        first.text,
+        first.plain,
+        first.letters,
         &mut breaks,
         &mut parts,
     )?;
-    push_others(alloc, dictionary, style, rest, &mut breaks, &mut parts)?;
+    push_others(
+        alloc,
+        dictionary,
+        style,
+        first.after,
+        &mut breaks,
+        &mut parts,
+    )?;
     Ok(parts)
 }
 
@@ -100,9 +118,6 @@ fn full_lines_of<'h, H: Hyphenator<'h>>(
         (map string_bytes lines.items)) }
 {
     let mixed = mixed_of(alloc, dictionary, style, text, columns)?;
-    if !are_short(&mixed.parts) {
-        return Err(NotFull::Unsettled);
-    }
     let lines = full_lines(alloc, &mixed.parts, &mixed.wholes, columns)?;
     Ok(lines)
 }
@@ -125,11 +140,14 @@ fn fill_all<'h, H: Hyphenator<'h>>(
     if parts.len() >= 1 << 30 {
         return Err(FillError::TooLong);
     }
-    if !are_short(&parts) {
-        return Err(FillError::TooLong);
+    let made = stretches(alloc, &parts)?;
+    match made {
+        Some(stretches) => {
+            let lines = set(alloc, &parts, &stretches, columns, aim)?;
+            Ok(lines)
+        }
+        None => Err(FillError::TooLong),
     }
-    let lines = set(alloc, &parts, columns, aim)?;
-    Ok(lines)
 }
 
 /// Returns the lines of a paragraph: its words with one space between them, broken where a line ends.

@@ -4,20 +4,21 @@ ghost use Rattle.std.specs.Prelude.{◌≡◌, ◌≤◌, ◌∷◌, [], None, t
 ghost use Rattle.std.specs.List.{list_all};
 ghost use Rattle.std.specs.Str.{IsCharBoundary};
 ghost use Rattle.hyphenation_breaks.specs.Break.{left_of, begin_of, end_of};
-ghost use Rattle.paragraphs.specs.Private.Open.{Passes, PassesPiece, AddsParts, next_then};
+ghost use Rattle.paragraphs.specs.Private.Open.{Passes, PassesPiece, PassesAll, AddsParts, next_then};
+ghost use Rattle.paragraphs.specs.Private.Plain.{AreLetters};
 ghost use Rattle.paragraphs.specs.Private.Printable.{is_printable};
 ghost use Rattle.paragraphs.specs.Styles.{style_of};
 ghost use Rattle.paragraphs.specs.Words.{set_off, word_parts};
 ghost use Rattle.word_pieces.specs.Pieces.{piece_indices_left, IsSlice};
 
 use crate::part::Part;
-use crate::shown::is_printable;
 use crate::style::Style;
 use hyphenation_breaks::breaks::Break;
 use hyphenation_hyphenator::hyphenator::Hyphenator;
 use std::alloc::{AllocError, Global};
+use std::mem;
 use word_pieces::WordPieceIndices;
-use word_pieces::laws::pieces_are_slices;
+use word_pieces::laws::{letters_are_one_piece, pieces_are_slices};
 
 // The part that is being made.
 #[derive(Drop)]
@@ -32,6 +33,7 @@ struct Open<'t> {
 
 // Passes a break of a piece of a word: the part that is being made ends there, where some of the word is on either
 // side.
+#[inline(always)]
 #[tactic(auto, using(crate::proofs::Printable::printable_between))]
 fn pass_break<'t, B: Break>(
     alloc: Global,
@@ -41,40 +43,40 @@ fn pass_break<'t, B: Break>(
     offset: usize,
     b: &B,
     parts: &mut Vec<Part<'t>>,
-    current: Open<'t>,
-) -> Result<Open<'t>, AllocError>
+    current: &mut Open<'t>,
+) -> Result<(), AllocError>
     requires plain { plain ≡ true → list_all is_printable word.now ≡ true }
     requires within { left_of (B.meaning b.now).change ≤ (B.meaning b.now).place }
-    requires from { IsCharBoundary word.now current.from }
+    requires from { IsCharBoundary word.now current.old.from }
     requires begin { IsCharBoundary word.now (begin_of (set_off offset (B.meaning b.now))) }
     requires end { IsCharBoundary word.now (end_of (set_off offset (B.meaning b.now))) }
-    ensures goes { IfOk result (λ next. Passes style.now word.now (set_off offset (B.meaning b.now) ∷ [])
-        parts.old.items current.entry parts.new.items next) }
-    ensures from { IfOk result (λ next. IsCharBoundary word.now next.from) }
+    ensures goes { OnOk result (Passes style.now word.now (set_off offset (B.meaning b.now) ∷ [])
+        parts.old.items current.old parts.new.items current.new) }
+    ensures from { OnOk result (IsCharBoundary word.now current.new.from) }
 {
     let (left, right) = b.range().unwrap();
     let (begin, end) = (offset + left, offset + right);
     if begin <= current.from || word.len() <= end {
-        return Ok(current);
+        return Ok(());
     }
+    let after = mem::replace(&mut current.after, String::from_str(alloc, b.after())?);
     parts.push(Part {
         indent: current.indent,
-        after: current.after,
+        after,
         text: &word[current.from..begin],
         joint: &word[begin..end],
         before: String::from_str(alloc, b.before())?,
-        hyphen: "-",
+        hyphenated: true,
         price: style.price,
         plain,
     })?;
-    Ok(Open {
-        indent: style.indent,
-        after: String::from_str(alloc, b.after())?,
-        from: end,
-    })
+    current.indent = style.indent;
+    current.from = end;
+    Ok(())
 }
 
 // Passes the breaks of a piece of a word. They replace those in the list.
+#[inline(always)]
 fn pass_piece<'t, 'h, H: Hyphenator<'h>>(
     alloc: Global,
     dictionary: &'h H,
@@ -85,21 +87,20 @@ fn pass_piece<'t, 'h, H: Hyphenator<'h>>(
     piece: &str,
     breaks: &mut Vec<H::Opportunity>,
     parts: &mut Vec<Part<'t>>,
-    current: Open<'t>,
-) -> Result<Open<'t>, AllocError>
+    part: &mut Open<'t>,
+) -> Result<(), AllocError>
     requires plain { plain ≡ true → list_all is_printable word.now ≡ true }
     requires piece { IsSlice word.now (offset, piece.now) }
-    requires from { IsCharBoundary word.now current.from }
-    ensures goes { IfOk result (PassesPiece style.now word.now (H.breaks_of dictionary.now)
-        (offset, piece.now) parts.old.items current.entry parts.new.items) }
-    ensures from { IfOk result (λ next. IsCharBoundary word.now next.from) }
+    requires from { IsCharBoundary word.now part.old.from }
+    ensures goes { OnOk result (PassesPiece style.now word.now (H.breaks_of dictionary.now)
+        (offset, piece.now) parts.old.items part.old parts.new.items part.new) }
+    ensures from { OnOk result (IsCharBoundary word.now part.new.from) }
 {
-    let mut current = current;
     dictionary.breaks_into(piece, breaks)?;
     for b in breaks.iter() {
-        current = pass_break(alloc, style, word, plain, offset, b, parts, current)?;
+        pass_break(alloc, style, word, plain, offset, b, parts, part)?;
     }
-    Ok(current)
+    Ok(())
 }
 
 // Takes the next piece of a word, and returns it with the place where it begins.
@@ -110,7 +111,68 @@ fn next_piece<'t>(pieces: &mut WordPieceIndices<'t>) -> Option<(usize, &'t str)>
     pieces.next()
 }
 
-// Adds the parts of a word. A line that begins with the word has this indent. The list is for the breaks of its pieces.
+// Passes the breaks of all pieces of a word, one by one.
+fn pass_each_piece<'t, 'h, H: Hyphenator<'h>>(
+    alloc: Global,
+    dictionary: &'h H,
+    style: &Style<'t>,
+    word: &'t str,
+    plain: bool,
+    breaks: &mut Vec<H::Opportunity>,
+    parts: &mut Vec<Part<'t>>,
+    current: &mut Open<'t>,
+) -> Result<(), AllocError>
+    requires plain { plain ≡ true → list_all is_printable word.now ≡ true }
+    requires from { IsCharBoundary word.now current.old.from }
+    ensures goes { OnOk result (PassesAll style.now word.now (H.breaks_of dictionary.now)
+        parts.old.items current.old parts.new.items current.new) }
+    ensures from { OnOk result (IsCharBoundary word.now current.new.from) }
+{
+    pieces_are_slices();
+    let mut pieces = WordPieceIndices::new(word);
+    while let Some((offset, piece)) = next_piece(&mut pieces) {
+        pass_piece(
+            alloc, dictionary, style, word, plain, offset, piece, breaks, parts, current,
+        )?;
+    }
+    Ok(())
+}
+
+// Passes the breaks of all pieces of a word. One of letters of ASCII alone is one piece.
+#[inline(always)]
+fn pass_pieces<'t, 'h, H: Hyphenator<'h>>(
+    alloc: Global,
+    dictionary: &'h H,
+    style: &Style<'t>,
+    word: &'t str,
+    plain: bool,
+    letters: bool,
+    breaks: &mut Vec<H::Opportunity>,
+    parts: &mut Vec<Part<'t>>,
+    current: &mut Open<'t>,
+) -> Result<(), AllocError>
+    requires plain { plain ≡ true → list_all is_printable word.now ≡ true }
+    requires letters { letters ≡ true → AreLetters word.now }
+    requires from { IsCharBoundary word.now current.old.from }
+    ensures goes { OnOk result (PassesAll style.now word.now (H.breaks_of dictionary.now)
+        parts.old.items current.old parts.new.items current.new) }
+    ensures from { OnOk result (IsCharBoundary word.now current.new.from) }
+{
+    pieces_are_slices();
+    letters_are_one_piece();
+    if letters {
+        pass_piece(
+            alloc, dictionary, style, word, plain, 0, word, breaks, parts, current,
+        )?;
+        return Ok(());
+    }
+    pass_each_piece(
+        alloc, dictionary, style, word, plain, breaks, parts, current,
+    )
+}
+
+// Adds the parts of a word. A line that begins with the word has this indent. It is said whether the word is known to be of
+// printable ASCII, and of letters of ASCII alone. The list is for the breaks of its pieces.
 #[tactic(auto, using(crate::proofs::Printable::printable_drop))]
 pub(crate) fn push_word<'t, 'h, H: Hyphenator<'h>>(
     alloc: Global,
@@ -118,32 +180,39 @@ pub(crate) fn push_word<'t, 'h, H: Hyphenator<'h>>(
     style: &Style<'t>,
     indent: &'t str,
     word: &'t str,
+    plain: bool,
+    letters: bool,
     breaks: &mut Vec<H::Opportunity>,
     parts: &mut Vec<Part<'t>>,
 ) -> Result<(), AllocError>
+    requires plain { plain ≡ true → list_all is_printable word.now ≡ true }
+    requires letters { letters ≡ true → AreLetters word.now }
     ensures { OnOk result (AddsParts parts.old.items parts.new.items
         (word_parts (H.breaks_of dictionary.now) (style_of style.now) indent.now word.now)) }
 {
-    pieces_are_slices();
-    let plain = is_printable(word);
     let mut current = Open {
         indent,
         after: String::new(alloc),
         from: 0,
     };
-    let mut pieces = WordPieceIndices::new(word);
-    while let Some((offset, piece)) = next_piece(&mut pieces) {
-        current = pass_piece(
-            alloc, dictionary, style, word, plain, offset, piece, breaks, parts, current,
-        )?;
-    }
+    pass_pieces(
+        alloc,
+        dictionary,
+        style,
+        word,
+        plain,
+        letters,
+        breaks,
+        parts,
+        &mut current,
+    )?;
     let last = Part {
         indent: current.indent,
         after: current.after,
         text: &word[current.from..],
         joint: " ",
         before: String::new(alloc),
-        hyphen: "",
+        hyphenated: false,
         price: 0,
         plain,
     };

@@ -29,6 +29,16 @@ fn push_if_any(all: &mut Vec<String>, gathered: String) -> Result<(), AllocError
     Ok(())
 }
 
+// Makes room for some lines like the first one, where nothing is gathered yet.
+fn make_room(gathered: &mut String, line: &str) -> Result<(), AllocError>
+    ensures { OnOk result (string_bytes gathered.new ≡ string_bytes gathered.old) }
+{
+    if gathered.is_empty() {
+        gathered.reserve(line.len().min(256) * 8)?;
+    }
+    Ok(())
+}
+
 // Passes a line: a blank one ends the paragraph that is gathered, and any other goes on with it.
 fn pass_line(all: &mut Vec<String>, gathered: &mut String, line: &str) -> Result<(), AllocError>
     ensures { OnOk result (PassesLine (texts_of all.old.items) (string_bytes gathered.old) line.now
@@ -39,6 +49,7 @@ fn pass_line(all: &mut Vec<String>, gathered: &mut String, line: &str) -> Result
         push_if_any(all, mem::replace(gathered, String::new(alloc)))?;
         return Ok(());
     }
+    make_room(gathered, line)?;
     gathered.push_str(line)?;
     gathered.push('\n')?;
     Ok(())

@@ -1,5 +1,5 @@
 -- A word of which some parts are made.
-use Rattle.std.specs.Prelude.{◌≡◌, ℕ, List, ◌∷◌, ◌++◌, Option, Some, None}
+use Rattle.std.specs.Prelude.{◌≡◌, ℕ, List, [], ◌∷◌, ◌++◌, Option, Some, None}
 use Rattle.std.specs.Borrow.{Bor}
 use Rattle.std.specs.String.{string_bytes}
 use Rattle.hyphenation_breaks.specs.Break.{Break}
@@ -9,7 +9,7 @@ use Rattle.paragraphs.specs.Private.PartSettings.{settings_of}
 use Rattle.paragraphs.specs.Settings.{Setting}
 use Rattle.paragraphs.specs.Styles.{style_of}
 use Rattle.paragraphs.specs.declared.style.Style as code
-use Rattle.paragraphs.specs.Words.{Style, breaks_in, parts_from}
+use Rattle.paragraphs.specs.Words.{Style, breaks_in, word_breaks, parts_from}
 
 -- The parts that are made, and those to come, where these breaks are to come.
 abbrev pub settings_with : Style → List ℕ → List Part → Open → List Break → List Setting
@@ -25,6 +25,11 @@ Passes style word breaks old current new next = (others : List Break)
 abbrev pub PassesPiece : code.Style → List ℕ → (List ℕ → List Break) → ℕ × List ℕ → List Part → Open → List Part → Open → Type 0
 PassesPiece style word breaks_of piece old current new next =
     Passes style word (breaks_in breaks_of piece) old current new next
+
+-- All breaks of the word are passed: with no more to come, the parts are the same.
+abbrev pub PassesAll : code.Style → List ℕ → (List ℕ → List Break) → List Part → Open → List Part → Open → Type 0
+PassesAll style word breaks_of old current new next =
+    settings_with (style_of style) word new next [] ≡ settings_with (style_of style) word old current (word_breaks breaks_of word)
 
 -- Parts were added.
 abbrev pub AddsParts : List Part → List Part → List Setting → Type 0

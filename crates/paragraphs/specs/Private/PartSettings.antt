@@ -1,8 +1,13 @@
 -- The parts that the code holds, as texts.
-use Rattle.std.specs.Prelude.{◌+◌, ◌^◌, ◌<◌, ◌++◌, Bool, List, length, map}
+use Rattle.std.specs.Prelude.{◌≡◌, ℕ, ◌+◌, ◌^◌, ◌<◌, if◌then◌else◌, Bool, true, List, [], ◌∷◌, ◌++◌, length, map}
 use Rattle.std.specs.String.{string_bytes}
+use Rattle.hyphenation_breaks.specs.Ascii.{hyphen}
 use Rattle.paragraphs.specs.declared.part.Part.{Part}
 use Rattle.paragraphs.specs.Settings.{Setting, is_short}
+
+-- The hyphen of a line's end, if there is one.
+abbrev pub hyphen_if : Bool → List ℕ
+hyphen_if hyphenated = if hyphenated then hyphen ∷ [] else []
 
 -- A part as texts.
 abbrev pub setting_of : Part → Setting
@@ -10,7 +15,7 @@ setting_of part = record {
   opening = part.indent.now ++ string_bytes part.after;
   text = part.text.now;
   joint = part.joint.now;
-  closing = string_bytes part.before ++ part.hyphen.now;
+  closing = string_bytes part.before ++ hyphen_if part.hyphenated;
   price = part.price;
 }
 
@@ -18,9 +23,18 @@ setting_of part = record {
 abbrev pub IsShort : Part → Type 0
 IsShort part =
     (length part.indent.now + length (string_bytes part.after) < 2 ^ 31) × (length part.text.now < 2 ^ 31)
-    × (length part.joint.now < 2 ^ 31) × (length (string_bytes part.before) + length part.hyphen.now < 2 ^ 31)
+    × (length part.joint.now < 2 ^ 31) × (length (string_bytes part.before) + length (hyphen_if part.hyphenated) < 2 ^ 31)
 
--- The same as a test.
+-- A part of printable ASCII is short, without an indent and without a change.
+pub record IsBare (part : Part) : Type 0 where
+  pub plain : part.plain ≡ true
+  pub indent : length part.indent.now ≡ 0
+  pub after : length (string_bytes part.after) ≡ 0
+  pub before : length (string_bytes part.before) ≡ 0
+  pub text : length part.text.now < 2 ^ 31
+  pub joint : length part.joint.now < 2 ^ 31
+
+-- No text of a part has 2^31 bytes, as a test.
 abbrev pub is_short_part : Part → Bool
 is_short_part part = is_short (setting_of part)
 

@@ -1,5 +1,6 @@
 -- Words of printable ASCII, one space apart.
 use Rattle.std.specs.Prelude.{◌≡◌, ℕ, ◌<◌, ◌≤◌, ◌==◌, ◌||◌, Bool, true, List, [], ◌∷◌, ◌++◌, length, take, drop, slice_index}
+use Rattle.std.specs.Char.{is_ascii_alphabetic}
 use Rattle.std.specs.Int.{is_in_range}
 use Rattle.std.specs.List.{list_all}
 use Rattle.hyphenation_breaks.specs.Ascii.{space}
@@ -9,6 +10,10 @@ use Rattle.text_paragraphs.specs.Words.{words}
 -- A byte is a printable character of ASCII, but no space.
 abbrev pub is_plain : ℕ → Bool
 is_plain b = is_in_range 0x21 0x7E b
+
+-- A text has some letters of ASCII, and nothing else.
+abbrev pub AreLetters : List ℕ → Type 0
+AreLetters text = (0 < length text) × (list_all is_ascii_alphabetic text ≡ true)
 
 -- A byte is a gap of ASCII.
 abbrev pub is_ascii_gap : ℕ → Bool

@@ -15,8 +15,8 @@ loop-word-preserved g c =
     let breaks_of = g.H.Hyphenator.breaks_of c.args.dictionary.now in
     let style = style_of c.args.style.now in
     let rest = words c.loop-word.rest.now in
-    let after = words c.in-Some.after.now in
-    let word = c.in-Some.word.now in
+    let after = words c.in-Some.word.after.now in
+    let word = c.in-Some.word.text.now in
     record {
       goes =
           adds_up_both breaks_of style c.args.mixed.now c.push_broken.new.mixed c.push_runs-in-Some.new.mixed (words c.args.text.now) after (words c.in_ok-rest-2.rest.now)

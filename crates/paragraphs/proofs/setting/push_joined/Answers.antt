@@ -11,6 +11,6 @@ returns-then-part c =
     let text = part.text.now in
     let joint = part.joint.now in
     let plain : part.plain ≡ true = search rules in
-    c.in_ok-push_str-2.ensures.bytes ∙ ap (λ s. s ++ joint) c.in_ok-push_str.ensures.bytes ∙ append_assoc line text joint
+    c.in_ok-push_joint.ensures ∙ ap (λ s. s ++ joint) c.in_ok-push_str.ensures.bytes ∙ append_assoc line text joint
     ∙ ap (λ s. line ++ (s ++ joint)) (sym (printable_shown text (part.text_printable plain)))
     ∙ ap (λ s. line ++ (shown text ++ s)) (sym (printable_shown joint (part.joint_printable plain)))

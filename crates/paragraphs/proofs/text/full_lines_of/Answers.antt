@@ -15,8 +15,8 @@ returns g c =
     let all = words c.args.text.now in
     let settings = parts_of breaks_of style all in
     let mixed = c.in_ok-mixed.mixed in
-    let there = subst (λ w. AreMixed w (settings_of c.deref-2.result.now) settings) (sym c.deref-3.ensures.value)
-    (subst (λ p. AreMixed mixed.wholes.items (settings_of p) settings) (sym c.deref-2.ensures.value) c.in_ok-mixed.ensures) in
+    let there = subst (λ w. AreMixed w (settings_of c.deref.result.now) settings) (sym c.deref-2.ensures.value)
+    (subst (λ p. AreMixed mixed.wholes.items (settings_of p) settings) (sym c.deref.ensures.value) c.in_ok-mixed.ensures) in
     record {
       set = c.in_ok-lines.ensures settings there;
       keeps = words_kept breaks_of style all;

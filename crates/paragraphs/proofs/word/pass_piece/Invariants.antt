@@ -11,7 +11,7 @@ abbrev pub invariant-loop-b : goal.invariant-loop-b
 invariant-loop-b g l =
     let meaning = g.H.Opportunity.Break.meaning in
     record {
-      goes : (others : List Break) → settings_with (style_of l.style) l.word l.parts.items l.current (map (set_off l.offset) (map meaning (drop l.b-index l.b-items)) ++ others)
-          ≡ settings_with (style_of l.style) l.word l.initial.parts.items l.initial.current (map (set_off l.offset) (map meaning l.b-items) ++ others);
-      from : IsCharBoundary l.word l.current.from;
+      goes : (others : List Break) → settings_with (style_of l.style) l.word l.parts.items l.part (map (set_off l.offset) (map meaning (drop l.b-index l.b-items)) ++ others)
+          ≡ settings_with (style_of l.style) l.word l.initial.parts.items l.initial.part (map (set_off l.offset) (map meaning l.b-items) ++ others);
+      from : IsCharBoundary l.word l.part.from;
     }

@@ -12,7 +12,7 @@ returns c =
     let line = c.args.line.now in
     let new = string_bytes c.push.new.self in
     line_passed (texts_of c.args.all.now.items) gathered line new c.utf8.line (sym c.if-is_blank.ensures)
-    (line_added gathered line (string_bytes c.push_str.new.self) new _ c.in_ok-push_str.ensures.bytes c.in_ok-push.ensures.bytes feed)
+    (line_added gathered line (string_bytes c.push_str.new.self) new _ (c.in_ok-push_str.ensures.bytes ∙ ap (λ g. g ++ line) c.in_ok-make_room.ensures) c.in_ok-push.ensures.bytes feed)
 
 pub returns-then-is_blank : goal.returns-then-is_blank
 returns-then-is_blank c =

@@ -1,0 +1,18 @@
+use Rattle.std.proofs.Common.{sym, ap, subst}
+use Rattle.std.specs.List.{flat_map}
+use Rattle.paragraphs.specs.Private.Open.{settings_with}
+use Rattle.paragraphs.specs.Styles.{style_of}
+use Rattle.paragraphs.specs.Words.{breaks_in}
+use Rattle.word_pieces.specs.Pieces.{AreSlices}
+use Rattle.paragraphs.proofs.word.pass_each_piece.Goals as goal
+
+pub loop-offset-init : goal.loop-offset-init
+loop-offset-init g c =
+    let breaks_of = g.H.Hyphenator.breaks_of c.args.dictionary.now in
+    let word = c.args.word.now in
+    let left = c.new-pieces.ensures.left in
+    record {
+      goes = ap (λ ps. settings_with (style_of c.args.style.now) word c.args.parts.now.items c.args.current.now (flat_map (breaks_in breaks_of) ps)) left;
+      pieces = subst (AreSlices word) (sym left) (c.pieces_are_slices.ensures.slices word c.utf8.word);
+      from = c.requires.from;
+    }

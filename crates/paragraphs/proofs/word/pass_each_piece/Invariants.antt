@@ -1,0 +1,22 @@
+use Rattle.std.proofs.Common.{◌≡◌, length}
+use Rattle.std.specs.List.{flat_map}
+use Rattle.std.specs.Str.{IsCharBoundary}
+use Rattle.word_pieces.specs.Pieces.{piece_indices_left, AreSlices}
+use Rattle.paragraphs.specs.Words.{breaks_in, word_breaks}
+use Rattle.paragraphs.specs.Styles.{style_of}
+use Rattle.paragraphs.specs.Private.Open.{settings_with}
+use Rattle.paragraphs.proofs.word.pass_each_piece.Given as goal
+
+-- The parts that are made, with those that the pieces to come give, stay the same.
+abbrev pub invariant-loop-offset : goal.invariant-loop-offset
+invariant-loop-offset g l =
+    let breaks_of = g.H.Hyphenator.breaks_of l.dictionary in
+    record {
+      goes : settings_with (style_of l.style) l.word l.parts.items l.current (flat_map (breaks_in breaks_of) (piece_indices_left l.pieces))
+          ≡ settings_with (style_of l.style) l.word l.initial.parts.items l.initial.current (word_breaks breaks_of l.word);
+      pieces : AreSlices l.word (piece_indices_left l.pieces);
+      from : IsCharBoundary l.word l.current.from;
+    }
+
+abbrev pub decreases-loop-offset : goal.decreases-loop-offset
+decreases-loop-offset g l = length (piece_indices_left l.pieces)

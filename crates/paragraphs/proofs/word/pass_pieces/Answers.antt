@@ -1,0 +1,22 @@
+use Rattle.std.proofs.Common.{refl, [], ap, subst, ◌∙◌}
+use Rattle.paragraphs.specs.Private.Open.{settings_with}
+use Rattle.paragraphs.specs.Styles.{style_of}
+use Rattle.word_pieces.specs.Pieces.{AreSlices}
+use Rattle.paragraphs.proofs.OnePiece.{one_piece_offsets, whole_breaks}
+use Rattle.paragraphs.proofs.word.pass_pieces.Goals as goal
+
+pub pass_piece-requires : goal.pass_piece-requires
+pass_piece-requires g c κs =
+    let word = c.args.word.now in
+    let are = c.requires.letters c.if-letters.true in
+    let one = c.letters_are_one_piece.ensures word are.0 are.1 in
+    let slice = (subst (AreSlices word) (one_piece_offsets word one) (c.pieces_are_slices.ensures.slices word c.utf8.word)).0 in
+    ((refl, (refl, tt)), (c.requires.plain, (slice, c.requires.from)))
+
+pub returns-then-letters-clause-goes : goal.returns-then-letters-clause-goes
+returns-then-letters-clause-goes g c =
+    let breaks_of = g.H.Hyphenator.breaks_of c.args.dictionary.now in
+    let word = c.args.word.now in
+    let are = c.requires.letters c.if-letters.true in
+    let one = c.letters_are_one_piece.ensures word are.0 are.1 in
+    c.in_ok-pass_piece.ensures.goes [] ∙ ap (settings_with (style_of c.args.style.now) word c.args.parts.now.items c.args.current.now) (whole_breaks breaks_of word one)
