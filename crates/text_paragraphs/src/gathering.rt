@@ -34,7 +34,7 @@ fn make_room(gathered: &mut String, line: &str) -> Result<(), AllocError>
     ensures { OnOk result (string_bytes gathered.new ≡ string_bytes gathered.old) }
 {
     if gathered.is_empty() {
-        gathered.reserve(line.len().min(256) * 8)?;
+        gathered.reserve(line.len().min(256) * 4)?;
     }
     Ok(())
 }
