@@ -59,6 +59,7 @@ fn parts_of<'t, 'h, H: Hyphenator<'h>>(
     ensures { IfOk result (λ parts.
         settings_of parts.items ≡ parts_of (H.breaks_of dictionary.now) (style_of style.now) (words text.now)) }
 {
+    // English prose has a part for every four bytes or so.
     let mut parts = Vec::with_capacity(alloc, text.len() / 3)?;
     let Some(first) = next_word(text) else {
         return Ok(parts);
