@@ -1,5 +1,5 @@
 -- The lines of a text, and the words in them.
-use Rattle.std.proofs.Common.{◌≡◌, ℕ, ◌<◌, ◌&&◌, lit<, true, false, not, cond, List, [], ◌∷◌, ◌++◌, length, get_or, chars, encode_utf8, sym, ap, subst, refl, ◌∙◌, arith, inl, inr, append_assoc, append-nil}
+use Rattle.std.proofs.Common.{◌≡◌, ℕ, ◌&&◌, lit<, true, false, not, cond, List, [], ◌∷◌, ◌++◌, length, get_or, chars, encode_utf8, sym, ap, subst, refl, ◌∙◌, arith, inl, inr, append_assoc, append-nil}
 use Rattle.std.specs.List.{All, list_all, flat_map, onto_first}
 use Rattle.std.specs.Str.{IsUtf8, encode_utf8_all, all_scalars}
 use Rattle.std.proofs.lemmas.Bool.{and_parts, cases_eq, ne_eqb, eqb-true}

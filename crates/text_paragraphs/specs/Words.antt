@@ -1,5 +1,5 @@
 -- The words of a text.
-use Rattle.std.specs.Prelude.{ℕ, ◌==◌, ◌&&◌, ◌||◌, Bool, not, if◌then◌else◌, List, [], ◌∷◌, ◌++◌, length, chars, encode_utf8}
+use Rattle.std.specs.Prelude.{◌≡◌, ℕ, ◌==◌, ◌&&◌, ◌||◌, Bool, not, if◌then◌else◌, List, [], ◌∷◌, ◌++◌, length, chars, encode_utf8}
 use Rattle.std.specs.Char.{is_whitespace}
 
 -- A no-break space: at it no line ends.
@@ -24,3 +24,7 @@ words_after begun (c ∷ cs) =
 -- The words of a text: what stands between its gaps.
 abbrev pub words : List ℕ → List (List ℕ)
 words text = words_after [] (chars text)
+
+-- A text ends in another one.
+abbrev pub EndsIn : List ℕ → List ℕ → Type 0
+EndsIn text rest = (front : List ℕ) × (text ≡ front ++ rest)

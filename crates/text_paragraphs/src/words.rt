@@ -1,7 +1,7 @@
 //! The words of a text, one by one.
 
 ghost use Rattle.std.specs.Prelude.{◌≡◌, ◌∷◌, ◌++◌, ◌<◌, ◌≤◌, [], MatchOption, IfSome, IsUtf8, chars, encode_utf8, length};
-ghost use Rattle.text_paragraphs.specs.Words.{is_gap, words};
+ghost use Rattle.text_paragraphs.specs.Words.{is_gap, words, EndsIn};
 ghost use Rattle.text_paragraphs.specs.Private.Cuts.{begins_with, is_word_part, CutsWord};
 
 /// Tests whether a character is a gap: white space, but no no-break space.
@@ -29,6 +29,7 @@ fn split_char(text: &str) -> Option<(char, &str)>
 fn after_gaps(text: &str) -> &str
     ensures words { words result.now ≡ words text.now }
     ensures begins { begins_with is_word_part (chars result.now) }
+    ensures end { EndsIn text.now result.now }
     ensures no_longer { length result.now ≤ length text.now }
 {
     let mut rest = text;
@@ -56,7 +57,7 @@ fn after_word(text: &str) -> &str
     rest
 }
 
-/// Returns the first word of a text with the text after it, or `None` where it has no word.
+/// Returns the first word of a text with the text after it, or `None` where it has no word. They are the end of the text.
 ///
 /// ```text
 /// split_word(" two firkins")      // Some(("two", " firkins"))
@@ -64,6 +65,7 @@ fn after_word(text: &str) -> &str
 /// ```
 pub fn split_word(text: &str) -> Option<(&str, &str)>
     ensures word { MatchOption result (words text.now ≡ []) (λ x. words text.now ≡ x.0.now ∷ words x.1.now) }
+    ensures end { IfSome result (λ x. EndsIn text.now (x.0.now ++ x.1.now)) }
     ensures less { IfSome result (λ x. length x.1.now < length text.now) }
 {
     let begun = after_gaps(text);

@@ -1,4 +1,4 @@
-use Rattle.std.proofs.Common.{◌∙◌, sym, arith}
+use Rattle.std.proofs.Common.{◌++◌, ◌∙◌, [], encode_utf8, ap, sym, refl, arith, append_assoc}
 use Rattle.text_paragraphs.proofs.WordLists.{gap_first}
 use Rattle.text_paragraphs.proofs.words.after_gaps.Goals as goal
 
@@ -13,4 +13,11 @@ loop-c-preserved c =
       passed = gap_first rest after c.in-Some.c c.in-Some.ensures.chars (sym c.if-not-is_gap.ensures) ∙ c.loop-c.invariant.passed;
       utf8 = c.in-Some.ensures.utf8;
       no_longer = omega (arith, c.in-Some.ensures.less, c.loop-c.invariant.no_longer);
+      end =
+          let front = c.loop-c.invariant.end.0 in
+          let first = encode_utf8 c.in-Some.c in
+          (front ++ first, c.loop-c.invariant.end.1 ∙ ap (λ r. front ++ r) c.in-Some.ensures.read ∙ sym (append_assoc front first after));
     }
+
+pub loop-c-init : goal.loop-c-init
+loop-c-init c = record { passed = refl; utf8 = c.utf8.text; no_longer = omega arith; end = ([], refl) }

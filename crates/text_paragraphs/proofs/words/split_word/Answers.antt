@@ -1,5 +1,6 @@
-use Rattle.std.proofs.Common.{◌≡◌, ◌+◌, ◌-◌, ◌∷◌, ◌∙◌, length, drop, sym, ap, subst, arith, length-append}
+use Rattle.std.proofs.Common.{◌≡◌, ◌+◌, ◌-◌, ◌∷◌, ◌++◌, ◌∙◌, length, drop, sym, ap, subst, arith, length-append}
 use Rattle.std.specs.Str.{IsCharBoundary}
+use Rattle.std.proofs.lemmas.List.{take-append-drop}
 use Rattle.std.proofs.lemmas.Str.{IsCharBoundary-at_seam}
 use Rattle.text_paragraphs.specs.Words.{words}
 use Rattle.text_paragraphs.proofs.WordLists.{no_word, one_word}
@@ -25,3 +26,13 @@ returns-clause-word c =
     one_word c.args.text.now begun rest c.after_gaps-begun.ensures.words c.after_word-rest.ensures.cut c.after_word-rest.ensures.begins (omega (arith, c.if-length-eq0.false))
     ∙ ap (λ w. w ∷ words (drop (length begun - length rest) begun)) (sym c.split_at.ensures.front)
     ∙ ap (λ r. c.split_at.result.0.now ∷ words r) (sym c.split_at.ensures.back)
+
+pub returns-clause-end : goal.returns-clause-end
+returns-clause-end c =
+    let begun = c.after_gaps-begun.result.now in
+    let rest = c.after_word-rest.result.now in
+    let at = length begun - length rest in
+    let end = c.after_gaps-begun.ensures.end in
+    let both : begun ≡ c.split_at.result.0.now ++ c.split_at.result.1.now =
+    sym (take-append-drop at begun) ∙ ap (λ w. w ++ drop at begun) (sym c.split_at.ensures.front) ∙ ap (λ r. c.split_at.result.0.now ++ r) (sym c.split_at.ensures.back) in
+    (end.0, end.1 ∙ ap (λ b. end.0 ++ b) both)
