@@ -1,7 +1,8 @@
 -- The line that is best to begin at a place, and the best ones after it.
 use Rattle.std.specs.Bool.{MatchBool}
-use Rattle.std.proofs.Common.{◌≡◌, ℕ, ◌+◌, ◌-◌, ◌*◌, ◌<◌, ◌≤◌, ◌⊎◌, Bool, true, false, Option, List, [], ◌∷◌, ◌++◌, length, set, length-set, append_assoc, append-nil, slice_index_or, sym, ap, subst, refl, ◌∙◌, arith, inl, inr}
+use Rattle.std.proofs.Common.{◌≡◌, ℕ, ◌+◌, ◌-◌, ◌*◌, ◌/◌, ◌%◌, ◌<◌, ◌≤◌, ◌⊎◌, Bool, true, false, Option, List, [], ◌∷◌, ◌++◌, length, set, length-set, append_assoc, append-nil, slice_index_or, sym, ap, subst, refl, ◌∙◌, arith, inl, inr}
 use Rattle.std.proofs.lemmas.Bool.{cases_eq}
+use Rattle.std.proofs.lemmas.Nat.{div-add-mod', div_below, le-div, mod_below}
 use Rattle.std.proofs.lemmas.List.{get_or-set_same, get_or-set_other, get_or_default}
 use Rattle.line_division.specs.declared.stretch.Stretch.{Stretch}
 use Rattle.line_division.specs.declared.cost.Cost.{Cost}
@@ -46,6 +47,18 @@ known_after ladder low known run place after within = (within, inl after)
 pub known_all : (ladder : Option ℕ) (run place : ℕ) → run < runs ladder → IsKnown ladder 0 (runs ladder) run place
 known_all ladder run place within = (within, elim (cases_eq 0 place) [ inl first ↦ inr (first, within) | inr later ↦ inl (omega (arith, later)) ])
 
+-- A choice that is kept between two places is known, where all are known from the first place on.
+pub known_between : (ladder : Option ℕ) (start last at : ℕ) → start * runs ladder ≤ at → at < (last + 1) * runs ladder
+    → IsKnown ladder start (runs ladder) (at % runs ladder) (at / runs ladder) × (at / runs ladder ≤ last) × (at ≡ at / runs ladder * runs ladder + at % runs ladder)
+known_between ladder start last at from upto =
+    let run = mod_below at (runs ladder) (runs_some ladder) in
+    let low = le-div start at (runs ladder) (runs_some ladder) from in
+    let high = div_below at (runs ladder) (last + 1) (runs_some ladder) upto in (
+      (run, elim (cases_eq start (at / runs ladder)) [ inl same ↦ inr (same, run) | inr other ↦ inl (omega (arith, low, other)) ]),
+      omega (arith, high),
+      sym (div-add-mod' at (runs ladder)),
+    )
+
 -- A line that is followed by the best ones costs no more than with any others.
 pub made_least : (stretches : List Stretch) (columns last_columns : ℕ) (ladder : Option ℕ) (choices : List Choice) (known run start : ℕ) (choice : Choice) (row : List ℕ)
     → IsMade stretches columns last_columns ladder choices run start choice → AreBest stretches columns last_columns ladder choices start known → Divides stretches columns choice.end row
@@ -85,6 +98,17 @@ nothing_least one =
       | inl none ↦ inr (omega (arith, none), elim (cases_eq one.over 0) [ inl fewest ↦ inr (omega (arith, fewest), omega arith) | inr some ↦ inl (omega (arith, some)) ])
       | inr some ↦ inl (omega (arith, some))
     ]
+
+-- All that are kept between two places are small.
+pub small_between : (stretches : List Stretch) (columns last_columns : ℕ) (ladder : Option ℕ) (choices : List Choice) (start last at : ℕ) → AreBest stretches columns last_columns ladder choices start (runs ladder)
+    → last ≤ length stretches → start * runs ladder ≤ at → at < (last + 1) * runs ladder → IsSmall (slice_index_or choices at no_choice).cost (length stretches)
+small_between stretches columns last_columns ladder choices start last at best within from upto =
+    let place = at / runs ladder in
+    let run = at % runs ladder in
+    let known = known_between ladder start last at from upto in
+    let small = best.small run place known.0 (omega (arith, known.1, within)) in
+    subst (λ i. IsSmall (slice_index_or choices i no_choice).cost (length stretches)) (sym known.2)
+    (omega (arith, small.0), omega (arith, small.1), omega (arith, small.2))
 
 -- Where no line is left to begin.
 pub best_at_end : (stretches : List Stretch) (columns last_columns : ℕ) (ladder : Option ℕ) (choices : List Choice) (known : ℕ) → length choices ≡ (length stretches + 1) * runs ladder

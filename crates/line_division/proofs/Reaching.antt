@@ -1,9 +1,9 @@
 -- How far lines reach, and which of them need not be tried.
-use Rattle.std.proofs.Common.{◌≡◌, ℕ, ◌+◌, ◌-◌, ◌*◌, ◌<◌, ◌≤◌, ◌==◌, if◌then◌else◌, Bool, true, false, Option, List, ◌∷◌, length, take, drop, sym, ap, slice_index_or, subst, refl, ◌∙◌, arith, inl, inr}
+use Rattle.std.proofs.Common.{◌≡◌, ℕ, ◌+◌, ◌-◌, ◌*◌, ◌<◌, ◌≤◌, ◌==◌, if◌then◌else◌, Bool, true, false, Option, List, ◌∷◌, length, take, drop, sym, ap, slice_index_or, subst, refl, arith, inl, inr}
 use Rattle.std.specs.Bool.{MatchBool}
 use Rattle.std.specs.List.{sum_by, slice_range}
 use Rattle.std.proofs.lemmas.Bool.{cases_lt, cases_eq}
-use Rattle.std.proofs.lemmas.List.{get_or_past, get_or_default}
+use Rattle.std.proofs.lemmas.List.{get_or_past}
 use Rattle.std.proofs.lemmas.Nat.{mul-le}
 use Rattle.line_division.specs.declared.stretch.Stretch.{Stretch}
 use Rattle.line_division.specs.declared.cost.Cost.{Cost}
@@ -16,7 +16,7 @@ use Rattle.line_division.specs.Greedy.{IsFurthest}
 use Rattle.line_division.specs.Private.Best.{no_choice, choice_at, runs, run_of, IsLeast, IsMade, IsKnown, AreBest, IsFloor}
 use Rattle.line_division.specs.Private.Reaches.{IsMostClosing, IsReach}
 use Rattle.line_division.proofs.Widths.{joined_more, joined_parts, joined_up}
-use Rattle.line_division.proofs.Least.{nothing_least, no_more_along, made_least, least_at_last, divides_within}
+use Rattle.line_division.proofs.Least.{no_more_here, nothing_least, no_more_along, made_least, least_at_last, divides_within}
 use Rattle.line_division.proofs.Runs.{run_within, run_same, place_within}
 
 -- The sum over no stretch.
@@ -62,24 +62,21 @@ beyond_less stretches columns start last beyond here k after within =
       | inr other ↦ beyond k (omega arith) within
     ]
 
--- ---- closings
+-- ---- the most that a stretch has
 
-pub most_more : (stretches : List Stretch) (i : ℕ) (item : Stretch) (most new : ℕ) → i < length stretches → item ≡ slice_index_or stretches i item → most ≤ new → item.closing ≤ new
-    → ((k : ℕ) → k < i → (stretch_at stretches k).closing ≤ most) → (k : ℕ) → k < i + 1 → (stretch_at stretches k).closing ≤ new
-most_more stretches i item most new lt is up here before k less =
+pub most_more : (measure : Stretch → ℕ) (stretches : List Stretch) (i most new : ℕ) → most ≤ new → measure (stretch_at stretches i) ≤ new
+    → ((k : ℕ) → k < i → measure (stretch_at stretches k) ≤ most) → (k : ℕ) → k < i + 1 → measure (stretch_at stretches k) ≤ new
+most_more measure stretches i most new up here before k less =
     elim (cases_lt k i) [
       | inl earlier ↦ omega (arith, before k earlier, up)
-      | inr later ↦
-          let same : i ≡ k = omega arith in
-          let read : item ≡ stretch_at stretches i = is ∙ get_or_default stretches i item no_stretch lt in
-          subst (λ p. (stretch_at stretches p).closing ≤ new) same (omega (arith, here, ap (λ s. s.closing) read))
+      | inr later ↦ let same : i ≡ k = omega (arith, later, less) in subst (λ p. measure (stretch_at stretches p) ≤ new) same here
     ]
 
-pub most_all : (stretches : List Stretch) (i most : ℕ) → length stretches ≤ i → ((k : ℕ) → k < i → (stretch_at stretches k).closing ≤ most) → IsMostClosing stretches most
-most_all stretches i most past before k =
+pub most_all : (measure : Stretch → ℕ) (stretches : List Stretch) (i most : ℕ) → measure no_stretch ≡ 0 → length stretches ≤ i → ((k : ℕ) → k < i → measure (stretch_at stretches k) ≤ most) → (k : ℕ) → measure (stretch_at stretches k) ≤ most
+most_all measure stretches i most none past before k =
     elim (cases_lt k i) [
       | inl earlier ↦ before k earlier
-      | inr later ↦ omega (arith, ap (λ s. s.closing) (get_or_past stretches k no_stretch (omega arith)))
+      | inr later ↦ omega (arith, none, ap measure (get_or_past stretches k no_stretch (omega arith)))
     ]
 
 -- ---- lines that need not be tried
@@ -157,24 +154,24 @@ no_more_above best floor line rest part excess over spent up h =
     ]
 
 -- The columns that they lack, and the floor, cost as much as the best line.
-pub least_enough : (stretches : List Stretch) (columns last_columns : ℕ) (ladder : Option ℕ) (run most start last widest upto : ℕ) (floor least : Cost) → IsMostClosing stretches most → start < length stretches → last + 1 < length stretches
-    → widest ≡ (stretch_at stretches start).opening + sum_by joined_width (slice_range stretches start last) + (stretch_at stretches last).width + most
+pub least_enough : (stretches : List Stretch) (columns last_columns : ℕ) (ladder : Option ℕ) (run most start last lacked upto : ℕ) (floor least : Cost) → IsMostClosing stretches most → start < length stretches → last + 1 < length stretches
+    → lacked ≤ columns - ((stretch_at stretches start).opening + sum_by joined_width (slice_range stretches start last) + (stretch_at stretches last).width + most)
     → IsFloor stretches columns last_columns ladder (start + 1) upto floor → last + 1 ≤ upto
-    → least.excess ≡ floor.excess → least.over ≡ floor.over → least.spent ≤ floor.spent + (columns - widest) * (columns - widest) → IsLeastAfter stretches columns last_columns ladder run start (last + 1) least → IsLeast stretches columns last_columns ladder run start least
-least_enough stretches columns last_columns ladder run most start last widest upto floor least closing within inner is below high same_excess same_over enough after =
+    → least.excess ≡ floor.excess → least.over ≡ floor.over → least.spent ≤ floor.spent + lacked * lacked → IsLeastAfter stretches columns last_columns ladder run start (last + 1) least → IsLeast stretches columns last_columns ladder run start least
+least_enough stretches columns last_columns ladder run most start last lacked upto floor least closing within inner is below high same_excess same_over enough after =
     least_at_last stretches columns last_columns ladder run start least within (λ end row divides. elim (cases_lt (last + 1) end) [
       | inl later ↦ after end row later divides
       | inr here ↦
           let narrow = no_wider stretches most start last end closing divides.0 here (omega arith) in
           let not_last : (end == length stretches) ≡ false = grind (arith, here, inner) in
           let wanted : wanted_columns stretches columns last_columns end ≡ columns = ap (λ b. if b then last_columns else columns) not_last in
-          let lacked = mul-le (columns - widest) (columns - widest) (wanted_columns stretches columns last_columns end - line_width stretches start end) (wanted_columns stretches columns last_columns end - line_width stretches start end) (omega (arith, narrow, is, wanted)) (omega (arith, narrow, is, wanted)) in
+          let square = mul-le lacked lacked (wanted_columns stretches columns last_columns end - line_width stretches start end) (wanted_columns stretches columns last_columns end - line_width stretches start end) (omega (arith, narrow, is, wanted)) (omega (arith, narrow, is, wanted)) in
           let hyphens = hyphens_to stretches run end in
           let line = line_cost stretches columns last_columns ladder hyphens start end in
           let rest = cost_of stretches columns last_columns ladder hyphens end row in
           let all = below (run_of ladder hyphens) end (run_within ladder hyphens) (omega (arith, divides.0)) (omega (arith, here, high)) row divides.2 in
           let then_exact : CostsNoMore floor rest = subst (λ c. CostsNoMore floor c) (run_same stretches columns last_columns ladder hyphens end row) all in
-          no_more_above least floor line rest ((columns - widest) * (columns - widest)) same_excess same_over enough (omega (arith, lacked)) then_exact
+          no_more_above least floor line rest (lacked * lacked) same_excess same_over enough (omega (arith, square)) then_exact
     ])
 
 -- ---- the longest line
@@ -245,18 +242,23 @@ floor_all stretches columns last_columns ladder choices start last floor within 
     let own = below (e * runs ladder + r) (omega (arith, rows)) (place_within last e r (runs ladder) high few) in
     no_more_along floor (choice_at ladder choices r e).cost (cost_of stretches columns last_columns ladder r e row) own (best.least r e known (omega (arith, high, within)) row divides)
 
+-- The first choice is no cheaper than its own cost.
+pub floor_first : (choices : List Choice) (from first : ℕ) (floor : Cost) → first ≡ from → floor ≡ (slice_index_or choices first no_choice).cost
+    → (j : ℕ) → from ≤ j → j < first + 1 → CostsNoMore floor (slice_index_or choices j no_choice).cost
+floor_first choices from first floor same is j low less =
+    let here : first ≡ j = omega (arith, same, low, less) in
+    subst (λ p. CostsNoMore floor (slice_index_or choices p no_choice).cost) here (subst (CostsNoMore floor) is (no_more_here floor))
+
 -- One more choice is no cheaper than a floor.
-pub floor_more : (choices : List Choice) (first k : ℕ) (choice : Choice) (old new : Cost) → k < length choices → choice ≡ slice_index_or choices k choice
-    → CostsNoMore new old → CostsNoMore new choice.cost
+pub floor_more : (choices : List Choice) (first k : ℕ) (choice old new : Cost) → choice ≡ (slice_index_or choices k no_choice).cost → CostsNoMore new old → CostsNoMore new choice
     → ((j : ℕ) → first ≤ j → j < k → CostsNoMore old (slice_index_or choices j no_choice).cost)
     → (j : ℕ) → first ≤ j → j < k + 1 → CostsNoMore new (slice_index_or choices j no_choice).cost
-floor_more choices first k choice old new lt is no_more here before j low less =
+floor_more choices first k choice old new is no_more here before j low less =
     elim (cases_lt j k) [
       | inl earlier ↦ no_more_along new old (slice_index_or choices j no_choice).cost no_more (before j low earlier)
       | inr later ↦
           let same : k ≡ j = omega (arith, later, less) in
-          let read : choice ≡ slice_index_or choices k no_choice = is ∙ get_or_default choices k choice no_choice lt in
-          subst (λ p. CostsNoMore new (slice_index_or choices p no_choice).cost) same (subst (λ c. CostsNoMore new c.cost) read here)
+          subst (λ p. CostsNoMore new (slice_index_or choices p no_choice).cost) same (subst (CostsNoMore new) is here)
     ]
 
 -- The facts that a test tells.

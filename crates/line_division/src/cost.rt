@@ -23,13 +23,6 @@ impl Cost {
         spent: 0,
     };
 
-    // A cost that no other exceeds.
-    pub(crate) const MOST: Cost = Cost {
-        excess: u64::MAX,
-        over: u64::MAX,
-        spent: u64::MAX,
-    };
-
     // The cost of both together.
     #[inline(always)]
     pub(crate) fn plus(self, other: Cost) -> Cost

@@ -16,6 +16,7 @@ ghost use Rattle.line_division.specs.Division.{MayStand, Divides, CostsLeast, Fi
 ghost use Rattle.line_division.specs.Cost.{CostsNoMore};
 ghost use Rattle.line_division.specs.Greedy.{IsFurthest};
 ghost use Rattle.line_division.specs.Private.Best.{runs, run_of, IsLeast, IsSmall, IsMade, AreBest, IsFloor};
+ghost use Rattle.line_division.specs.Private.Plain.{AreMost, IsPlain, IsSpentAlone};
 ghost use Rattle.line_division.specs.Private.Reaches.{GoesPast, IsMostClosing, IsReach, Stays};
 
 use crate::cost::Cost;
@@ -141,6 +142,23 @@ fn choice_place(ladder: Option<u8>, run: usize, place: usize) -> usize
     place * runs(ladder) + run
 }
 
+// Returns a cost as it is. Where it is plain, the compiler learns that nothing but what is spent counts.
+#[inline(always)]
+fn as_known(plain: bool, cost: Cost) -> Cost
+    requires { plain ≡ true → IsSpentAlone cost }
+    ensures { result ≡ cost }
+{
+    if plain {
+        Cost {
+            excess: 0,
+            over: 0,
+            spent: cost.spent,
+        }
+    } else {
+        cost
+    }
+}
+
 // Returns the line of such a width, followed by the best lines after it.
 #[inline(always)]
 fn choose(
@@ -148,6 +166,7 @@ fn choose(
     columns: u16,
     last_columns: u16,
     ladder: Option<u8>,
+    plain: bool,
     choices: &[Choice],
     run: usize,
     start: usize,
@@ -161,6 +180,7 @@ fn choose(
     requires wide { wide ≡ line_width stretches.now start end }
     requires narrow { wide < 2 ^ 34 }
     requires stands { MayStand stretches.now columns start end }
+    requires plain { plain ≡ true → IsPlain stretches.now columns ladder }
     requires best { AreBest stretches.now columns last_columns ladder choices.now start run }
     ensures made { IsMade stretches.now columns last_columns ladder choices.now run start result }
     ensures small { IsSmall result.cost (length stretches.now - start) }
@@ -178,7 +198,7 @@ fn choose(
         wide,
     );
     let after = choice_place(ladder, run_of(ladder, hyphens), end);
-    let cost = line.plus(choices[after].cost);
+    let cost = as_known(plain, line.plus(choices[after].cost));
     Choice { cost, end }
 }
 
@@ -239,6 +259,7 @@ fn reach_from(stretches: &[Stretch], columns: u16, start: usize, later: Reach) -
 fn lesser(one: Cost, other: Cost) -> Cost
     ensures first { CostsNoMore result one }
     ensures second { CostsNoMore result other }
+    ensures either { (result ≡ one) ⊎ (result ≡ other) }
 {
     if other.is_less(one) { other } else { one }
 }
@@ -249,6 +270,7 @@ fn floor_of(
     columns: u16,
     last_columns: u16,
     ladder: Option<u8>,
+    plain: bool,
     choices: &[Choice],
     start: usize,
     last: usize,
@@ -256,26 +278,42 @@ fn floor_of(
     requires count { length stretches.now < 2 ^ 30 }
     requires order { start ≤ last }
     requires within { last ≤ length stretches.now }
+    requires plain { plain ≡ true → IsPlain stretches.now columns ladder }
     requires best { AreBest stretches.now columns last_columns ladder choices.now start (runs ladder) }
-    ensures { IsFloor stretches.now columns last_columns ladder start last result }
+    ensures floor { IsFloor stretches.now columns last_columns ladder start last result }
+    ensures low { result.spent ≤ 2 ^ 63 }
 {
-    let mut floor = Cost::MOST;
-    for place in choice_place(ladder, 0, start)..choice_place(ladder, 0, last + 1) {
-        floor = lesser(floor, choices[place].cost);
+    let first = choice_place(ladder, 0, start);
+    let mut floor = as_known(plain, choices[first].cost);
+    for place in first + 1..choice_place(ladder, 0, last + 1) {
+        floor = lesser(floor, as_known(plain, choices[place].cost));
     }
     floor
 }
 
-// Returns the last stretch of the longest line that begins at a place and fits, or else that place.
+// The longest line that begins at a place and fits, or else the one of a single stretch.
+#[derive(Clone, Copy)]
+struct Longest {
+    // Its last stretch.
+    last: usize,
+    // The columns before its last stretch.
+    joined: u64,
+    // All its columns.
+    wide: u64,
+}
+
+// Returns the longest line that begins at a place and fits, or else the one of a single stretch.
 #[inline(always)]
-fn longest_line(stretches: &[Stretch], columns: u16, start: usize, reach: Reach) -> Reach
+fn longest_line(stretches: &[Stretch], columns: u16, start: usize, reach: Reach) -> Longest
     requires start { start < length stretches.now }
     requires reach { IsReach stretches.now columns start reach }
     requires within { reach.last < length stretches.now }
     ensures furthest { IsFurthest stretches.now columns start (result.last + 1) }
     ensures joined { result.joined ≡ (stretch_at stretches.now start).opening
         + sum_by joined_width (slice_range stretches.now start result.last) }
+    ensures wide { result.wide ≡ line_width stretches.now start (result.last + 1) }
     ensures small { result.joined < 2 ^ 33 }
+    ensures narrow { result.wide < 2 ^ 34 }
     ensures upto { result.last ≤ reach.last }
 {
     let mut last = reach.last;
@@ -284,33 +322,38 @@ fn longest_line(stretches: &[Stretch], columns: u16, start: usize, reach: Reach)
         let stretch = &stretches[last];
         let wide = joined + widened(stretch.width) + widened(stretch.closing);
         if wide <= u64::from(columns) {
-            return Reach { last, joined };
+            return Longest { last, joined, wide };
         }
         last -= 1;
         joined -= joined_width(&stretches[last]);
     }
-    Reach { last, joined }
+    let stretch = &stretches[last];
+    let wide = joined + widened(stretch.width) + widened(stretch.closing);
+    Longest { last, joined, wide }
 }
 
 // Tests whether a line of such a width may stand.
 #[inline(always)]
-fn may_stand(columns: u16, start: usize, last: usize, wide: u64) -> bool
-    requires { start ≤ last }
+fn may_stand(columns: u16, plain: bool, start: usize, last: usize, wide: u64) -> bool
+    requires order { start ≤ last }
+    requires plain { plain ≡ true → last ≡ start → wide ≤ columns }
     ensures { MatchBool result ((wide ≤ columns) ⊎ (last ≡ start)) ((columns < wide) × (start < last)) }
 {
-    last == start || wide <= u64::from(columns)
+    wide <= u64::from(columns) || (!plain && last == start)
 }
 
-// Tests whether a cost is no more than that of any line but the last one, if it has at most such a width, and lines
-// cost at least a floor after it.
+// Tests whether a cost is no more than that of any line that lacks at least so many columns, if lines cost at least a floor
+// after it.
 #[inline(always)]
-fn is_enough(best: Cost, floor: Cost, columns: u16, widest: u64) -> bool
+fn is_enough(best: Cost, floor: Cost, lacked: u64) -> bool
+    requires lacked { lacked < 2 ^ 16 }
+    requires low { floor.spent ≤ 2 ^ 63 }
     ensures { result ≡ true → (best.excess ≡ floor.excess) × (best.over ≡ floor.over)
-        × (best.spent ≤ floor.spent + (columns - widest) * (columns - widest)) }
+        × (best.spent ≤ floor.spent + lacked * lacked) }
 {
-    let lacked = square_lacked(columns, widest);
-    let above = best.spent.saturating_sub(floor.spent);
-    above <= lacked && best.excess == floor.excess && best.over == floor.over
+    best.spent <= floor.spent + lacked * lacked
+        && best.excess == floor.excess
+        && best.over == floor.over
 }
 
 // Returns the line that is best to begin at a place after a run of hyphens, where the best ones after it are known.
@@ -323,6 +366,7 @@ fn best_line(
     columns: u16,
     last_columns: u16,
     ladder: Option<u8>,
+    plain: bool,
     closing: u64,
     choices: &[Choice],
     run: usize,
@@ -334,46 +378,48 @@ fn best_line(
     requires run { run < runs ladder }
     requires start { start < length stretches.now }
     requires closing { IsMostClosing stretches.now closing }
-    requires narrow { closing < 2 ^ 32 }
+    requires plain { plain ≡ true → IsPlain stretches.now columns ladder }
     requires best { AreBest stretches.now columns last_columns ladder choices.now start run }
     requires reach { IsReach stretches.now columns start reach }
     requires within { reach.last < length stretches.now }
     requires floor { IsFloor stretches.now columns last_columns ladder (start + 1) (reach.last + 1) floor }
+    requires low { floor.spent ≤ 2 ^ 63 }
     ensures least { IsLeast stretches.now columns last_columns ladder run start result.cost }
     ensures made { IsMade stretches.now columns last_columns ladder choices.now run start result }
     ensures small { IsSmall result.cost (length stretches.now - start) }
 {
+    let room = u64::from(columns).saturating_sub(closing);
     let longest = longest_line(stretches, columns, start, reach);
     let mut last = longest.last;
     let mut joined = longest.joined;
-    let ending = &stretches[last];
-    let wide = joined + widened(ending.width) + widened(ending.closing);
     let mut best = choose(
         stretches,
         columns,
         last_columns,
         ladder,
+        plain,
         choices,
         run,
         start,
         last + 1,
-        wide,
+        longest.wide,
     );
     while start < last {
         last -= 1;
         let stretch = &stretches[last];
-        joined -= joined_width(stretch);
-        let reached = joined + widened(stretch.width);
-        if is_enough(best.cost, floor, columns, reached + closing) {
+        let reached = joined - widened(stretch.joint);
+        if is_enough(best.cost, floor, room.saturating_sub(reached)) {
             return best;
         }
         let wide = reached + widened(stretch.closing);
-        if may_stand(columns, start, last, wide) {
+        joined = reached - widened(stretch.width);
+        if may_stand(columns, plain, start, last, wide) {
             let other = choose(
                 stretches,
                 columns,
                 last_columns,
                 ladder,
+                plain,
                 choices,
                 run,
                 start,
@@ -388,19 +434,96 @@ fn best_line(
     best
 }
 
-// Returns a number that no closing of a stretch exceeds.
-fn most_closing(stretches: &[Stretch]) -> u64
-    ensures most { IsMostClosing stretches.now result }
-    ensures small { result < 2 ^ 32 }
+// The most columns that parts of stretches have.
+#[derive(Clone, Copy)]
+struct Widest {
+    opening: u32,
+    width: u32,
+    closing: u32,
+}
+
+// Returns the greater of two numbers.
+#[inline(always)]
+fn greater(one: u32, other: u32) -> u32
+    ensures first { one ≤ result }
+    ensures second { other ≤ result }
+    ensures either { (result ≡ one) ⊎ (result ≡ other) }
 {
-    let mut most = 0;
+    if one < other { other } else { one }
+}
+
+// Returns the most columns that parts of stretches have. Each part is compared by itself, since the compiler then compares
+// those of several stretches at once.
+#[inline(always)]
+fn widest_of(stretches: &[Stretch]) -> Widest
+    ensures { AreMost stretches.now result }
+{
+    let mut most = Widest {
+        opening: 0,
+        width: 0,
+        closing: 0,
+    };
     for stretch in stretches {
-        let closing = widened(stretch.closing);
-        if most < closing {
-            most = closing;
-        }
+        most = Widest {
+            opening: greater(most.opening, stretch.opening),
+            width: greater(most.width, stretch.width),
+            closing: greater(most.closing, stretch.closing),
+        };
     }
     most
+}
+
+// Tests whether it is seen that no stretch alone is too wide for a line.
+#[inline(always)]
+fn each_fits(widest: Widest, columns: u16) -> bool
+    ensures { result ≡ true → widest.opening + widest.width + widest.closing ≤ columns }
+{
+    let most = widened(widest.opening) + widened(widest.width) + widened(widest.closing);
+    most <= u64::from(columns)
+}
+
+// Puts in the line that is best to begin at a place after a run of hyphens.
+#[inline(always)]
+fn put_best_line(
+    stretches: &[Stretch],
+    columns: u16,
+    last_columns: u16,
+    ladder: Option<u8>,
+    plain: bool,
+    closing: u64,
+    choices: &mut Vec<Choice>,
+    run: usize,
+    start: usize,
+    reach: Reach,
+    floor: Cost,
+)
+    requires count { length stretches.now < 2 ^ 30 }
+    requires run { run < runs ladder }
+    requires start { start < length stretches.now }
+    requires closing { IsMostClosing stretches.now closing }
+    requires plain { plain ≡ true → IsPlain stretches.now columns ladder }
+    requires best { AreBest stretches.now columns last_columns ladder choices.old.items start run }
+    requires reach { IsReach stretches.now columns start reach }
+    requires within { reach.last < length stretches.now }
+    requires floor { IsFloor stretches.now columns last_columns ladder (start + 1) (reach.last + 1) floor }
+    requires low { floor.spent ≤ 2 ^ 63 }
+    ensures { AreBest stretches.now columns last_columns ladder choices.new.items start (run + 1) }
+{
+    let best = best_line(
+        stretches,
+        columns,
+        last_columns,
+        ladder,
+        plain,
+        closing,
+        choices,
+        run,
+        start,
+        reach,
+        floor,
+    );
+    let place = choice_place(ladder, run, start);
+    choices[place] = best;
 }
 
 // Puts in the lines that are best to begin at a place, one after each run of hyphens.
@@ -410,6 +533,7 @@ fn put_best_lines(
     columns: u16,
     last_columns: u16,
     ladder: Option<u8>,
+    plain: bool,
     closing: u64,
     choices: &mut Vec<Choice>,
     start: usize,
@@ -419,28 +543,46 @@ fn put_best_lines(
     requires count { length stretches.now < 2 ^ 30 }
     requires start { start < length stretches.now }
     requires closing { IsMostClosing stretches.now closing }
-    requires narrow { closing < 2 ^ 32 }
+    requires plain { plain ≡ true → IsPlain stretches.now columns ladder }
     requires best { AreBest stretches.now columns last_columns ladder choices.old.items start 0 }
     requires reach { IsReach stretches.now columns start reach }
     requires within { reach.last < length stretches.now }
     requires floor { IsFloor stretches.now columns last_columns ladder (start + 1) (reach.last + 1) floor }
+    requires low { floor.spent ≤ 2 ^ 63 }
     ensures { AreBest stretches.now columns last_columns ladder choices.new.items start (runs ladder) }
 {
-    for run in 0..runs(ladder) {
-        let best = best_line(
+    match ladder {
+        // no loop here, in which the compiler would keep more addresses
+        None => put_best_line(
             stretches,
             columns,
             last_columns,
             ladder,
+            plain,
             closing,
             choices,
-            run,
+            0,
             start,
             reach,
             floor,
-        );
-        let place = choice_place(ladder, run, start);
-        choices[place] = best;
+        ),
+        Some(_) => {
+            for run in 0..runs(ladder) {
+                put_best_line(
+                    stretches,
+                    columns,
+                    last_columns,
+                    ladder,
+                    plain,
+                    closing,
+                    choices,
+                    run,
+                    start,
+                    reach,
+                    floor,
+                );
+            }
+        }
     }
 }
 
@@ -452,13 +594,16 @@ fn best_lines(
     columns: u16,
     last_columns: u16,
     ladder: Option<u8>,
+    plain: bool,
+    closing: u64,
 ) -> Result<Vec<Choice>, AllocError>
     requires count { length stretches.now < 2 ^ 30 }
+    requires plain { plain ≡ true → IsPlain stretches.now columns ladder }
+    requires closing { IsMostClosing stretches.now closing }
     ensures { IfOk result (λ choices.
         AreBest stretches.now columns last_columns ladder choices.items 0 (runs ladder)) }
 {
     let count = stretches.len();
-    let closing = most_closing(stretches);
     let none = Choice {
         cost: Cost::NONE,
         end: count,
@@ -477,6 +622,7 @@ fn best_lines(
             columns,
             last_columns,
             ladder,
+            plain,
             closing,
             &mut choices,
             start,
@@ -489,6 +635,7 @@ fn best_lines(
                 columns,
                 last_columns,
                 ladder,
+                plain,
                 &choices,
                 start,
                 reach.last + 1,
@@ -499,8 +646,10 @@ fn best_lines(
     Ok(choices)
 }
 
-// Returns the best line to begin at each place, after each run of hyphens. Without a ladder, as most often, there is one at
-// each place, and the code is compiled for that alone.
+// Returns the best line to begin at each place, after each run of hyphens.
+//
+// Most often there is no ladder, and no stretch alone is too wide for a line. Then no line has excess or is over the ladder.
+// The code is compiled for that alone too, and for other paragraphs without a ladder.
 fn best_lines_for(
     alloc: Global,
     stretches: &[Stretch],
@@ -512,9 +661,33 @@ fn best_lines_for(
     ensures { IfOk result (λ choices.
         AreBest stretches.now columns last_columns ladder choices.items 0 (runs ladder)) }
 {
+    let widest = widest_of(stretches);
+    let closing = widened(widest.closing);
     match ladder {
-        None => best_lines(alloc, stretches, columns, last_columns, None),
-        Some(_) => best_lines(alloc, stretches, columns, last_columns, ladder),
+        None => {
+            if each_fits(widest, columns) {
+                best_lines(alloc, stretches, columns, last_columns, None, true, closing)
+            } else {
+                best_lines(
+                    alloc,
+                    stretches,
+                    columns,
+                    last_columns,
+                    None,
+                    false,
+                    closing,
+                )
+            }
+        }
+        Some(_) => best_lines(
+            alloc,
+            stretches,
+            columns,
+            last_columns,
+            ladder,
+            false,
+            closing,
+        ),
     }
 }
 

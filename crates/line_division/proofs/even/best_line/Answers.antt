@@ -3,11 +3,9 @@ use Rattle.std.specs.List.{sum_by, slice_range}
 use Rattle.line_division.specs.Lines.{stretch_at, joined_width, line_width}
 use Rattle.line_division.proofs.Least.{no_more_here, told_less, told_no_less}
 use Rattle.line_division.proofs.Reaching.{IsLeastAfter, joined_back, least_longest, least_tried, least_wide, least_all, least_enough, told_true, told_false}
+use Rattle.line_division.proofs.Plain.{plain_stands}
 use Rattle.line_division.proofs.Widths.{width_to}
 use Rattle.line_division.proofs.even.best_line.Goals as goal
-
-pub choose-best-requires-clause-wide : goal.choose-best-requires-clause-wide
-choose-best-requires-clause-wide c = omega (arith, width_to c.args.stretches.now c.args.start c.longest_line-longest.result.last, c.longest_line-longest.ensures.joined, c.widened.ensures.value, c.widened-2.ensures.value)
 
 pub loop-last-init : goal.loop-last-init
 loop-last-init c =
@@ -23,10 +21,25 @@ loop-last-init c =
       small = c.choose-best.ensures.small;
     }
 
+pub overflow_sub-reached : goal.overflow_sub-reached
+overflow_sub-reached c =
+    let before = c.loop-last.invariant in
+    omega (arith, joined_back c.args.stretches.now c.args.start c.loop-last.last c.loop-last-test.true (omega (arith, before.within)), before.joined, c.widened.ensures.value)
+
 pub overflow_sub-joined : goal.overflow_sub-joined
 overflow_sub-joined c =
     let before = c.loop-last.invariant in
-    omega (arith, joined_back c.args.stretches.now c.args.start c.loop-last.last c.loop-last-test.true (omega (arith, before.within)), before.joined, c.joined_width-joined.ensures.value)
+    omega (arith, joined_back c.args.stretches.now c.args.start c.loop-last.last c.loop-last-test.true (omega (arith, before.within)), before.joined, c.widened.ensures.value, c.widened-in-loop-last-2.ensures.value)
+
+pub may_stand-requires-clause-plain : goal.may_stand-requires-clause-plain
+may_stand-requires-clause-plain c = λ is same.
+    let stretches = c.args.stretches.now in
+    let start = c.args.start in
+    let last = c.loop-last.last in
+    let before = c.loop-last.invariant in
+    let back = joined_back stretches start last c.loop-last-test.true (omega (arith, before.within)) in
+    let fit = plain_stands stretches c.args.columns c.args.ladder start (last - 1 + 1) (c.requires.plain is) (inr (omega (arith, same))) in
+    omega (arith, fit, width_to stretches start (last - 1), back, before.joined, c.widened.ensures.value, c.widened-in-loop-last.ensures.value)
 
 pub returns-then-is_enough-clause-least : goal.returns-then-is_enough-clause-least
 returns-then-is_enough-clause-least c =
@@ -41,12 +54,12 @@ returns-then-is_enough-clause-least c =
     let best = c.loop-last.best.cost in
     let before = c.loop-last.invariant in
     let back = joined_back stretches start last c.loop-last-test.true (omega (arith, before.within)) in
-    let joined : c.loop-last.joined - c.joined_width-joined.result ≡ (stretch_at stretches start).opening + sum_by joined_width (slice_range stretches start (last - 1)) = omega (arith, back, before.joined, c.joined_width-joined.ensures.value) in
+    let reached : c.loop-last.joined - c.widened.result ≡ (stretch_at stretches start).opening + sum_by joined_width (slice_range stretches start (last - 1)) + (stretch_at stretches (last - 1)).width = omega (arith, back, before.joined, c.widened.ensures.value) in
     let place : last ≡ last - 1 + 1 = omega (arith, c.loop-last-test.true) in
     let after = subst (λ p. IsLeastAfter stretches columns last_columns ladder run start p best) place before.after in
     let enough = c.is_enough.ensures c.if-is_enough.true in
-    least_enough stretches columns last_columns ladder run c.args.closing start (last - 1) (c.loop-last.joined - c.joined_width-joined.result + c.widened-in-loop-last.result + c.args.closing) (c.args.reach.last + 1) c.args.floor best c.requires.closing c.requires.start (omega (arith, place, before.within))
-    (omega (arith, joined, c.widened-in-loop-last.ensures.value)) c.requires.floor (omega (arith, before.upto)) enough.0 enough.1 enough.2 after
+    least_enough stretches columns last_columns ladder run c.args.closing start (last - 1) c.saturating_sub.result (c.args.reach.last + 1) c.args.floor best c.requires.closing c.requires.start (omega (arith, place, before.within))
+    (omega (arith, reached, c.saturating_sub.ensures, c.saturating_sub-room.ensures, c.from.ensures)) c.requires.floor (omega (arith, before.upto)) enough.0 enough.1 enough.2 after
 
 pub choose-other-requires-clause-wide : goal.choose-other-requires-clause-wide
 choose-other-requires-clause-wide c =
@@ -61,10 +74,10 @@ choose-other-requires-clause-wide c =
     let best = c.loop-last.best.cost in
     let before = c.loop-last.invariant in
     let back = joined_back stretches start last c.loop-last-test.true (omega (arith, before.within)) in
-    let joined : c.loop-last.joined - c.joined_width-joined.result ≡ (stretch_at stretches start).opening + sum_by joined_width (slice_range stretches start (last - 1)) = omega (arith, back, before.joined, c.joined_width-joined.ensures.value) in
+    let reached : c.loop-last.joined - c.widened.result ≡ (stretch_at stretches start).opening + sum_by joined_width (slice_range stretches start (last - 1)) + (stretch_at stretches (last - 1)).width = omega (arith, back, before.joined, c.widened.ensures.value) in
     let place : last ≡ last - 1 + 1 = omega (arith, c.loop-last-test.true) in
     let after = subst (λ p. IsLeastAfter stretches columns last_columns ladder run start p best) place before.after in
-    omega (arith, width_to stretches start (last - 1), joined, c.widened-in-loop-last.ensures.value, c.widened-in-loop-last-2.ensures.value)
+    omega (arith, width_to stretches start (last - 1), reached, c.widened-in-loop-last.ensures.value)
 
 pub choose-other-requires-clause-stands : goal.choose-other-requires-clause-stands
 choose-other-requires-clause-stands c =
@@ -79,12 +92,12 @@ choose-other-requires-clause-stands c =
     let best = c.loop-last.best.cost in
     let before = c.loop-last.invariant in
     let back = joined_back stretches start last c.loop-last-test.true (omega (arith, before.within)) in
-    let joined : c.loop-last.joined - c.joined_width-joined.result ≡ (stretch_at stretches start).opening + sum_by joined_width (slice_range stretches start (last - 1)) = omega (arith, back, before.joined, c.joined_width-joined.ensures.value) in
+    let reached : c.loop-last.joined - c.widened.result ≡ (stretch_at stretches start).opening + sum_by joined_width (slice_range stretches start (last - 1)) + (stretch_at stretches (last - 1)).width = omega (arith, back, before.joined, c.widened.ensures.value) in
     let place : last ≡ last - 1 + 1 = omega (arith, c.loop-last-test.true) in
     let after = subst (λ p. IsLeastAfter stretches columns last_columns ladder run start p best) place before.after in
-    let wide = c.loop-last.joined - c.joined_width-joined.result + c.widened-in-loop-last.result + c.widened-in-loop-last-2.result in
+    let wide = c.loop-last.joined - c.widened.result + c.widened-in-loop-last.result in
     elim (told_true ((wide ≤ columns) ⊎ (last - 1 ≡ start)) ((columns < wide) × (start < last - 1)) c.may_stand.result c.may_stand.ensures c.if-may_stand.true) [
-      | inl fit ↦ inl (omega (arith, fit, width_to stretches start (last - 1), joined, c.widened-in-loop-last.ensures.value, c.widened-in-loop-last-2.ensures.value))
+      | inl fit ↦ inl (omega (arith, fit, width_to stretches start (last - 1), reached, c.widened-in-loop-last.ensures.value))
       | inr same ↦ inr (omega (arith, same))
     ]
 
@@ -101,7 +114,7 @@ loop-last-preserved-then-is_less c =
     let best = c.loop-last.best.cost in
     let before = c.loop-last.invariant in
     let back = joined_back stretches start last c.loop-last-test.true (omega (arith, before.within)) in
-    let joined : c.loop-last.joined - c.joined_width-joined.result ≡ (stretch_at stretches start).opening + sum_by joined_width (slice_range stretches start (last - 1)) = omega (arith, back, before.joined, c.joined_width-joined.ensures.value) in
+    let reached : c.loop-last.joined - c.widened.result ≡ (stretch_at stretches start).opening + sum_by joined_width (slice_range stretches start (last - 1)) + (stretch_at stretches (last - 1)).width = omega (arith, back, before.joined, c.widened.ensures.value) in
     let place : last ≡ last - 1 + 1 = omega (arith, c.loop-last-test.true) in
     let after = subst (λ p. IsLeastAfter stretches columns last_columns ladder run start p best) place before.after in
     let other = c.choose-other.result in
@@ -110,7 +123,7 @@ loop-last-preserved-then-is_less c =
       from = omega (arith, c.loop-last-test.true);
       within = omega (arith, before.within);
       upto = omega (arith, before.upto);
-      joined = joined;
+      joined = omega (arith, reached, c.widened-in-loop-last-2.ensures.value);
       small_sum = omega (arith, before.small_sum);
       after = least_tried stretches columns last_columns ladder choices run start (last - 1) best other after c.choose-other.ensures.made c.choose-other.ensures.end c.requires.best other.cost less (no_more_here other.cost);
       made = c.choose-other.ensures.made;
@@ -130,7 +143,7 @@ loop-last-preserved-else-is_less c =
     let best = c.loop-last.best.cost in
     let before = c.loop-last.invariant in
     let back = joined_back stretches start last c.loop-last-test.true (omega (arith, before.within)) in
-    let joined : c.loop-last.joined - c.joined_width-joined.result ≡ (stretch_at stretches start).opening + sum_by joined_width (slice_range stretches start (last - 1)) = omega (arith, back, before.joined, c.joined_width-joined.ensures.value) in
+    let reached : c.loop-last.joined - c.widened.result ≡ (stretch_at stretches start).opening + sum_by joined_width (slice_range stretches start (last - 1)) + (stretch_at stretches (last - 1)).width = omega (arith, back, before.joined, c.widened.ensures.value) in
     let place : last ≡ last - 1 + 1 = omega (arith, c.loop-last-test.true) in
     let after = subst (λ p. IsLeastAfter stretches columns last_columns ladder run start p best) place before.after in
     let other = c.choose-other.result in
@@ -139,7 +152,7 @@ loop-last-preserved-else-is_less c =
       from = omega (arith, c.loop-last-test.true);
       within = omega (arith, before.within);
       upto = omega (arith, before.upto);
-      joined = joined;
+      joined = omega (arith, reached, c.widened-in-loop-last-2.ensures.value);
       small_sum = omega (arith, before.small_sum);
       after = least_tried stretches columns last_columns ladder choices run start (last - 1) best other after c.choose-other.ensures.made c.choose-other.ensures.end c.requires.best best (no_more_here best) more_or_same;
       made = before.made;
@@ -159,17 +172,17 @@ loop-last-preserved c =
     let best = c.loop-last.best.cost in
     let before = c.loop-last.invariant in
     let back = joined_back stretches start last c.loop-last-test.true (omega (arith, before.within)) in
-    let joined : c.loop-last.joined - c.joined_width-joined.result ≡ (stretch_at stretches start).opening + sum_by joined_width (slice_range stretches start (last - 1)) = omega (arith, back, before.joined, c.joined_width-joined.ensures.value) in
+    let reached : c.loop-last.joined - c.widened.result ≡ (stretch_at stretches start).opening + sum_by joined_width (slice_range stretches start (last - 1)) + (stretch_at stretches (last - 1)).width = omega (arith, back, before.joined, c.widened.ensures.value) in
     let place : last ≡ last - 1 + 1 = omega (arith, c.loop-last-test.true) in
     let after = subst (λ p. IsLeastAfter stretches columns last_columns ladder run start p best) place before.after in
-    let reached = c.loop-last.joined - c.joined_width-joined.result + c.widened-in-loop-last.result + c.widened-in-loop-last-2.result in
-    let no = told_false ((reached ≤ columns) ⊎ (last - 1 ≡ start)) ((columns < reached) × (start < last - 1)) c.may_stand.result c.may_stand.ensures c.if-may_stand.false in
-    let wide : columns < line_width stretches start (last - 1 + 1) = omega (arith, no.0, width_to stretches start (last - 1), joined, c.widened-in-loop-last.ensures.value, c.widened-in-loop-last-2.ensures.value) in
+    let width = c.loop-last.joined - c.widened.result + c.widened-in-loop-last.result in
+    let no = told_false ((width ≤ columns) ⊎ (last - 1 ≡ start)) ((columns < width) × (start < last - 1)) c.may_stand.result c.may_stand.ensures c.if-may_stand.false in
+    let wide : columns < line_width stretches start (last - 1 + 1) = omega (arith, no.0, width_to stretches start (last - 1), reached, c.widened-in-loop-last.ensures.value) in
     record {
       from = omega (arith, c.loop-last-test.true);
       within = omega (arith, before.within);
       upto = omega (arith, before.upto);
-      joined = joined;
+      joined = omega (arith, reached, c.widened-in-loop-last-2.ensures.value);
       small_sum = omega (arith, before.small_sum);
       after = least_wide stretches columns last_columns ladder run start (last - 1) best no.1 after wide;
       made = before.made;

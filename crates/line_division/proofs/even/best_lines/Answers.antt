@@ -26,6 +26,7 @@ loop-start-preserved c =
       reach = c.reach_from-reach.ensures.reach;
       floor = floor_earlier stretches columns last_columns ladder start upto c.reach_from-reach.result c.loop-start.floor (omega (arith, c.reach_from-reach.ensures.reach.from, c.reach_from-reach.ensures.within)) c.reach_from-reach.ensures.reach (omega (arith, c.reach_from-reach.ensures.earlier))
           (subst (λ p. IsFloor stretches columns last_columns ladder p upto c.loop-start.floor) same before.floor);
+      low = before.low;
     }
 
 pub returns : goal.returns

@@ -1,4 +1,4 @@
-use Rattle.std.proofs.Common.{◌+◌}
+use Rattle.std.proofs.Common.{◌+◌, ◌^◌, ◌≤◌}
 use Rattle.line_division.specs.Private.Best.{runs, AreBest, IsFloor}
 use Rattle.line_division.specs.Private.Reaches.{IsReach}
 use Rattle.line_division.proofs.even.best_lines.Given as goal
@@ -9,4 +9,5 @@ invariant-loop-start l = record {
   best : AreBest l.stretches l.columns l.last_columns l.ladder l.choices.items l.start (runs l.ladder);
   reach : IsReach l.stretches l.columns l.start l.reach;
   floor : IsFloor l.stretches l.columns l.last_columns l.ladder l.start (l.reach.last + 1) l.floor;
+  low : l.floor.spent ≤ 2 ^ 63;
 }

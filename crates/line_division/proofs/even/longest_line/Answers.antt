@@ -64,3 +64,11 @@ returns-clause-furthest c =
       stands = inr (omega (arith, before.from, c.loop-last-test.false));
       furthest = λ later after within fit. elim (cases_lt (last + 1) later) [ inl beyond ↦ absurd (omega (arith, before.beyond later beyond within, fit)) | inr here ↦ here ];
     }
+
+pub returns-then-wide-from-clause-wide : goal.returns-then-wide-from-clause-wide
+returns-then-wide-from-clause-wide c =
+    omega (arith, width_to c.args.stretches.now c.args.start c.loop-last.last, c.loop-last.invariant.joined, c.widened-in-loop-last.ensures.value, c.widened-in-loop-last-2.ensures.value)
+
+pub returns-clause-wide : goal.returns-clause-wide
+returns-clause-wide c =
+    omega (arith, width_to c.args.stretches.now c.args.start c.loop-last.last, c.loop-last.invariant.joined, c.widened-2.ensures.value, c.widened-3.ensures.value)
