@@ -13,3 +13,4 @@ pub mod FullLines
 pub mod PlainWords
 mod OnePiece
 mod BareParts
+mod Places

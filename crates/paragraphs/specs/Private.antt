@@ -7,3 +7,4 @@ pub mod Entries
 pub mod MixedParts
 pub mod Printable
 pub mod Plain
+pub mod Places

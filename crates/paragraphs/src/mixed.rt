@@ -84,6 +84,9 @@ fn push_whole<'t>(
         after: String::new(alloc),
         text,
         joint: " ",
+        // The text is a run of words already, so where it stands is of no use.
+        start: 0,
+        end: usize::MAX,
         before: String::new(alloc),
         hyphenated: false,
         price: 0,
@@ -129,6 +132,8 @@ fn push_broken<'t, 'h, H: Hyphenator<'h>>(
         style,
         indent,
         word,
+        0,
+        false,
         plain,
         letters,
         breaks,
@@ -334,6 +339,6 @@ pub(crate) fn full_lines(
     if !are_settled(wholes, &stretches, &row) {
         return Err(NotFull::Unsettled);
     }
-    let lines = lines(alloc, parts, &row)?;
+    let lines = lines(alloc, "", parts, &row)?;
     Ok(lines)
 }

@@ -1,6 +1,6 @@
 //! The parts of which the lines of a paragraph are made.
 
-ghost use Rattle.std.specs.Prelude.{◌≡◌, true};
+ghost use Rattle.std.specs.Prelude.{◌≡◌, ◌<◌, true};
 ghost use Rattle.std.specs.List.{list_all};
 ghost use Rattle.paragraphs.specs.Private.Printable.{is_printable};
 
@@ -23,6 +23,10 @@ pub struct Part<'t> {
     pub text: &'t str,
     // The text between it and the next part of the same line, with soft hyphens.
     pub joint: &'t str,
+    // Where its text begins in the text of the paragraph, and where its joint ends there, in bytes. Where its joint does
+    // not stand there, the end is past that text.
+    pub start: usize,
+    pub end: usize,
     // The first half of the change after it.
     pub before: String,
     // Whether a line that ends with it ends in a hyphen.
@@ -31,6 +35,7 @@ pub struct Part<'t> {
     pub price: u32,
     // Whether its text and its joint are known to be of printable ASCII.
     pub plain: bool,
+    ghost ended: { 0 < end },
     ghost text_printable: { plain ≡ true → list_all is_printable text.now ≡ true },
     ghost joint_printable: { plain ≡ true → list_all is_printable joint.now ≡ true },
 }

@@ -2,12 +2,12 @@
 //!
 //! They are found byte by byte. Where they stand one space apart, they are one slice of the text.
 
-ghost use Rattle.std.specs.Prelude.{◌≡◌, ◌∷◌, ◌+◌, ◌<◌, ◌≤◌, [], true, MatchOption, IfSome, length};
+ghost use Rattle.std.specs.Prelude.{◌≡◌, ◌∷◌, ◌++◌, ◌+◌, ◌<◌, ◌≤◌, [], true, MatchOption, IfSome, length};
 ghost use Rattle.std.specs.Char.{is_ascii_alphabetic};
 ghost use Rattle.std.specs.List.{list_all};
 ghost use Rattle.paragraphs.specs.Private.Plain.{is_plain, is_ascii_gap, AreLetters, EachBetween, IsPlainWord, IsRun, BeginsWith};
 ghost use Rattle.paragraphs.specs.Private.Printable.{is_printable};
-ghost use Rattle.text_paragraphs.specs.Words.{words};
+ghost use Rattle.text_paragraphs.specs.Words.{words, EndsIn};
 
 use text_paragraphs::split_word;
 
@@ -102,10 +102,11 @@ pub(crate) struct Word<'t> {
     ghost alphabetic: { letters ≡ true → AreLetters text.now },
 }
 
-// Returns the first word of a text, if it is plain.
+// Returns the first word of a text, if it is plain. It and what is after it are the end of the text.
 #[inline(always)]
 fn split_plain(text: &str) -> Option<Word>
     ensures word { IfSome result (λ word. words text.now ≡ word.text.now ∷ words word.after.now) }
+    ensures end { IfSome result (λ word. EndsIn text.now (word.text.now ++ word.after.now)) }
     ensures less { IfSome result (λ word. length word.after.now < length text.now) }
 {
     let bytes = text.as_bytes();
@@ -120,11 +121,12 @@ fn split_plain(text: &str) -> Option<Word>
     })
 }
 
-// Returns the first word of a text.
+// Returns the first word of a text. It and what is after it are the end of the text.
 #[inline(always)]
 pub(crate) fn next_word(text: &str) -> Option<Word>
     ensures word { MatchOption result (words text.now ≡ [])
         (λ word. words text.now ≡ word.text.now ∷ words word.after.now) }
+    ensures end { IfSome result (λ word. EndsIn text.now (word.text.now ++ word.after.now)) }
     ensures less { IfSome result (λ word. length word.after.now < length text.now) }
 {
     if let Some(word) = split_plain(text) {

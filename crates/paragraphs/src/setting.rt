@@ -5,6 +5,7 @@ ghost use Rattle.std.specs.List.{list_all};
 ghost use Rattle.std.specs.String.{string_bytes};
 ghost use Rattle.paragraphs.specs.Aims.{IsAimedAt, IsSet};
 ghost use Rattle.paragraphs.specs.Private.Ends.{Rise};
+ghost use Rattle.paragraphs.specs.Private.Places.{StandsIn, AllStandIn, IsSliceOf, GrowsBy, slice_bytes};
 ghost use Rattle.paragraphs.specs.Private.PartSettings.{hyphen_if, setting_of, settings_of, is_short_part, IsShort, IsBare};
 ghost use Rattle.paragraphs.specs.Settings.{columns_of, shown, stretch_of, shown_text, last_text, line_text, lines_to};
 
@@ -174,28 +175,45 @@ fn short_len(text: &str) -> u32
     text.len() as u32
 }
 
-// Returns the columns of a part, or `None` where it is too long to be measured.
+// Returns the columns of a part of printable ASCII, without an indent and without a change.
 #[inline(always)]
-#[tactic(auto, using(crate::proofs::BareParts::bare_stretch, crate::proofs::ShortParts::short_part))]
-pub(crate) fn stretch(alloc: Global, part: &Part) -> Result<Option<Stretch>, AllocError>
+#[tactic(auto, using(crate::proofs::BareParts::bare_stretch))]
+fn bare_stretch(part: &Part) -> Stretch
+    requires { IsBare part.now }
+    ensures { result ≡ stretch_of (setting_of part.now) }
+{
+    Stretch {
+        opening: 0,
+        width: short_len(part.text),
+        joint: short_len(part.joint),
+        closing: columns_of_hyphen(part.hyphenated),
+        price: part.price,
+        hyphenated: part.hyphenated,
+    }
+}
+
+// Returns the columns of a part by its texts, or `None` where it is too long to be measured.
+#[tactic(auto, using(crate::proofs::ShortParts::short_part))]
+fn measured(alloc: Global, part: &Part) -> Result<Option<Stretch>, AllocError>
     ensures { IfOk result (λ made. MatchOption made (is_short_part part.now ≡ false)
         (λ stretch. stretch ≡ stretch_of (setting_of part.now))) }
 {
-    if is_bare(part) {
-        return Ok(Some(Stretch {
-            opening: 0,
-            width: short_len(part.text),
-            joint: short_len(part.joint),
-            closing: columns_of_hyphen(part.hyphenated),
-            price: part.price,
-            hyphenated: part.hyphenated,
-        }));
-    }
     if !is_short(part) {
         return Ok(None);
     }
     let stretch = columns_of_part(alloc, part)?;
     Ok(Some(stretch))
+}
+
+// Returns the columns of a part, or `None` where it is too long to be measured.
+pub(crate) fn stretch(alloc: Global, part: &Part) -> Result<Option<Stretch>, AllocError>
+    ensures { IfOk result (λ made. MatchOption made (is_short_part part.now ≡ false)
+        (λ stretch. stretch ≡ stretch_of (setting_of part.now))) }
+{
+    if is_bare(part) {
+        return Ok(Some(bare_stretch(part)));
+    }
+    measured(alloc, part)
 }
 
 // Returns the columns of all parts, or `None` where one is too long to be measured.
@@ -205,16 +223,21 @@ pub(crate) fn stretches(alloc: Global, parts: &[Part]) -> Result<Option<Vec<Stre
 {
     let mut all = Vec::with_capacity(alloc, parts.len())?;
     for part in parts {
-        let made = stretch(alloc, part)?;
-        match made {
-            Some(stretch) => all.push(stretch)?,
-            None => return Ok(None),
+        // Most parts are bare, and are measured without a copy of what is measured.
+        if is_bare(part) {
+            all.push(bare_stretch(part))?;
+        } else {
+            let made = measured(alloc, part)?;
+            match made {
+                Some(stretch) => all.push(stretch)?,
+                None => return Ok(None),
+            }
         }
     }
     Ok(Some(all))
 }
 
-// Returns about the number of bytes of a line that holds such parts.
+// Returns about the number of bytes that such parts have together.
 fn bytes_of(parts: &[Part]) -> usize {
     let mut bytes: usize = 8;
     for part in parts {
@@ -225,13 +248,40 @@ fn bytes_of(parts: &[Part]) -> usize {
     bytes
 }
 
+// Returns about the number of bytes of a line of a text, from one part to another.
+#[inline(always)]
+fn line_bytes(text: &str, parts: &[Part], start: usize, end: usize) -> usize
+    requires order { start < end }
+    requires within { end ≤ length parts.now }
+{
+    let first = &parts[start];
+    let last = &parts[end - 1];
+    if first.start <= last.start && last.start < text.len() {
+        return (last.start - first.start)
+            .saturating_add(last.text.len())
+            .saturating_add(8);
+    }
+    bytes_of(&parts[start..end])
+}
+
+// Appends a text. Where it is empty, which most are, there is no call.
+#[inline(always)]
+fn push_any(line: &mut String, text: &str) -> Result<(), AllocError>
+    ensures { OnOk result (string_bytes line.new ≡ string_bytes line.old ++ text.now) }
+{
+    if !text.is_empty() {
+        line.push_str(text)?;
+    }
+    Ok(())
+}
+
 // Returns the text before a line that begins with a part. There is room for so many bytes.
 fn opening(alloc: Global, part: &Part, bytes: usize) -> Result<String, AllocError>
     ensures { IfOk result (λ opening. string_bytes opening ≡ (setting_of part.now).opening) }
 {
     let mut opening = String::with_capacity(alloc, bytes)?;
-    opening.push_str(part.indent)?;
-    opening.push_str(&part.after)?;
+    push_any(&mut opening, part.indent)?;
+    push_any(&mut opening, &part.after)?;
     Ok(opening)
 }
 
@@ -266,6 +316,58 @@ fn push_joined(line: &mut String, part: &Part) -> Result<(), AllocError>
     Ok(())
 }
 
+// A slice of a text, by the places where it begins and ends.
+#[derive(Clone, Copy)]
+struct Slice {
+    start: usize,
+    end: usize,
+}
+
+// Appends a slice of a text.
+#[inline(always)]
+fn push_slice(line: &mut String, text: &str, slice: Slice) -> Result<(), AllocError>
+    requires { IsSliceOf text.now slice }
+    ensures { OnOk result (string_bytes line.new ≡ string_bytes line.old ++ slice_bytes text.now slice) }
+{
+    if slice.start < slice.end {
+        line.push_str(&text[slice.start..slice.end])?;
+    }
+    Ok(())
+}
+
+// Appends a part that is not the last one of its line. Parts that stand side by side in a text are appended at once, as a
+// slice of it. This slice is still to be appended.
+#[inline(always)]
+fn push_part(
+    line: &mut String,
+    text: &str,
+    slice: &mut Slice,
+    part: &Part,
+) -> Result<(), AllocError>
+    requires slice { IsSliceOf text.now slice.old }
+    requires stands { StandsIn text.now part.now }
+    ensures slice { OnOk result (IsSliceOf text.now slice.new) }
+    ensures text { OnOk result (GrowsBy text.now (string_bytes line.old) slice.old (string_bytes line.new) slice.new
+        (shown_text (setting_of part.now))) }
+{
+    if part.plain && part.end <= text.len() {
+        if part.start == slice.end {
+            slice.end = part.end;
+            return Ok(());
+        }
+        push_slice(line, text, *slice)?;
+        *slice = Slice {
+            start: part.start,
+            end: part.end,
+        };
+        return Ok(());
+    }
+    push_slice(line, text, *slice)?;
+    *slice = Slice { start: 0, end: 0 };
+    push_joined(line, part)?;
+    Ok(())
+}
+
 // Appends the text of a part.
 #[tactic(auto, using(crate::proofs::Printable::printable_shown))]
 fn push_text(line: &mut String, part: &Part) -> Result<(), AllocError>
@@ -284,39 +386,50 @@ fn push_last(line: &mut String, part: &Part) -> Result<(), AllocError>
     ensures { OnOk result (string_bytes line.new ≡ string_bytes line.old ++ last_text (setting_of part.now)) }
 {
     push_text(line, part)?;
-    line.push_str(&part.before)?;
-    line.push_str(hyphen_if(part.hyphenated))?;
+    push_any(line, &part.before)?;
+    push_any(line, hyphen_if(part.hyphenated))?;
     Ok(())
 }
 
-// Returns the line from a start to an end.
-fn line(alloc: Global, parts: &[Part], start: usize, end: usize) -> Result<String, AllocError>
+// Returns the line from a start to an end. It is said in which text the parts stand.
+fn line(
+    alloc: Global,
+    text: &str,
+    parts: &[Part],
+    start: usize,
+    end: usize,
+) -> Result<String, AllocError>
+    requires stand { AllStandIn text.now parts.now }
     requires order { start < end }
     requires within { end ≤ length parts.now }
     ensures { IfOk result (λ line. string_bytes line ≡ line_text (settings_of parts.now) start end) }
 {
-    let mut line = opening(alloc, &parts[start], bytes_of(&parts[start..end]))?;
+    let mut line = opening(alloc, &parts[start], line_bytes(text, parts, start, end))?;
+    let mut slice = Slice { start: 0, end: 0 };
     for part in &parts[start..end - 1] {
-        push_joined(&mut line, part)?;
+        push_part(&mut line, text, &mut slice, part)?;
     }
+    push_slice(&mut line, text, slice)?;
     let last = &parts[end - 1];
     push_last(&mut line, last)?;
     Ok(line)
 }
 
-// Returns the lines to a row of ends.
+// Returns the lines to a row of ends. It is said in which text the parts stand.
 pub(crate) fn lines(
     alloc: Global,
+    text: &str,
     parts: &[Part],
     ends: &[usize],
 ) -> Result<Vec<String>, AllocError>
-    requires { Rise 0 (length parts.now) ends.now }
+    requires stand { AllStandIn text.now parts.now }
+    requires rise { Rise 0 (length parts.now) ends.now }
     ensures { IfOk result (λ lines. map string_bytes lines.items ≡ lines_to (settings_of parts.now) 0 ends.now) }
 {
     let mut lines = Vec::with_capacity(alloc, ends.len())?;
     let mut start = 0;
     for end in ends {
-        lines.push(line(alloc, parts, start, *end)?)?;
+        lines.push(line(alloc, text, parts, start, *end)?)?;
         start = *end;
     }
     Ok(lines)
@@ -347,19 +460,22 @@ fn ends(
     }
 }
 
-// Returns the lines of a paragraph that is made of such parts, which have such columns.
+// Returns the lines of a paragraph that is made of such parts, which have such columns. It is said in which text the parts
+// stand.
 pub(crate) fn set(
     alloc: Global,
+    text: &str,
     parts: &[Part],
     stretches: &[Stretch],
     columns: u16,
     aim: Aim,
 ) -> Result<Vec<String>, AllocError>
+    requires stand { AllStandIn text.now parts.now }
     requires count { length parts.now < 2 ^ 30 }
     requires measured { stretches.now ≡ map stretch_of (settings_of parts.now) }
     ensures { IfOk result (λ lines. IsSet aim (settings_of parts.now) columns (map string_bytes lines.items)) }
 {
     let row = ends(alloc, stretches, columns, aim)?;
-    let lines = lines(alloc, parts, &row)?;
+    let lines = lines(alloc, text, parts, &row)?;
     Ok(lines)
 }

@@ -1,14 +1,18 @@
 //! The parts of a paragraph, and its lines.
 
-ghost use Rattle.std.specs.Prelude.{◌≡◌, IfOk, IfErr, OnOk, map};
+ghost use Rattle.std.specs.Prelude.{◌≡◌, ◌+◌, ◌-◌, ◌≤◌, ◌++◌, true, IfOk, IfErr, OnOk, length, map};
+ghost use Rattle.std.specs.List.{list_all};
 ghost use Rattle.std.specs.String.{string_bytes};
 ghost use Rattle.paragraphs.specs.Pages.{IsFilled};
 ghost use Rattle.paragraphs.specs.Private.Open.{AddsParts};
 ghost use Rattle.paragraphs.specs.Private.PartSettings.{settings_of};
+ghost use Rattle.paragraphs.specs.Private.Places.{AllStandIn, BeginsWithSpace};
+ghost use Rattle.paragraphs.specs.Private.Plain.{AreLetters};
+ghost use Rattle.paragraphs.specs.Private.Printable.{is_printable};
 ghost use Rattle.paragraphs.specs.Settings.{IsTooLong};
 ghost use Rattle.paragraphs.specs.Styles.{style_of};
-ghost use Rattle.paragraphs.specs.Words.{other_parts, parts_of};
-ghost use Rattle.text_paragraphs.specs.Words.{words};
+ghost use Rattle.paragraphs.specs.Words.{word_parts, other_parts, parts_of};
+ghost use Rattle.text_paragraphs.specs.Words.{words, EndsIn};
 
 use crate::mixed::{NotFull, full_lines, mixed_of};
 use crate::part::Part;
@@ -19,26 +23,88 @@ use crate::word::push_word;
 use hyphenation_hyphenator::hyphenator::Hyphenator;
 use std::alloc::{AllocError, Global};
 
-// Adds the parts of all words of a text, none of which is the first one of its paragraph.
+// Tests whether a text begins with a space.
+#[inline(always)]
+fn begins_with_space(text: &str) -> bool
+    ensures { result ≡ true → BeginsWithSpace text.now }
+{
+    let bytes = text.as_bytes();
+    bytes.len() > 0 && bytes[0] == b' '
+}
+
+// Returns where a word begins in a text, which ends in it and what is after it.
+#[inline(always)]
+fn place_of(text: &str, word: &str, after: &str) -> usize
+    requires { EndsIn text.now (word.now ++ after.now) }
+    ensures value { result ≡ length text.now - length after.now - length word.now }
+    ensures within { result + length word.now ≤ length text.now }
+{
+    text.len() - after.len() - word.len()
+}
+
+// Adds the parts of a word of a text, which ends in it and what is after it.
+#[inline(always)]
+fn push_word_of<'t, 'h, H: Hyphenator<'h>>(
+    alloc: Global,
+    dictionary: &'h H,
+    style: &Style<'t>,
+    indent: &'t str,
+    text: &'t str,
+    word: &'t str,
+    after: &'t str,
+    plain: bool,
+    letters: bool,
+    breaks: &mut Vec<H::Opportunity>,
+    parts: &mut Vec<Part<'t>>,
+) -> Result<(), AllocError>
+    requires ends { EndsIn text.now (word.now ++ after.now) }
+    requires plain { plain ≡ true → list_all is_printable word.now ≡ true }
+    requires letters { letters ≡ true → AreLetters word.now }
+    ensures adds { OnOk result (AddsParts parts.old.items parts.new.items
+        (word_parts (H.breaks_of dictionary.now) (style_of style.now) indent.now word.now)) }
+    ensures places { OnOk result (AllStandIn text.now parts.old.items → AllStandIn text.now parts.new.items) }
+{
+    push_word(
+        alloc,
+        dictionary,
+        style,
+        indent,
+        word,
+        place_of(text, word, after),
+        begins_with_space(after),
+        plain,
+        letters,
+        breaks,
+        parts,
+    )?;
+    Ok(())
+}
+
+// Adds the parts of all words of the end of a text, none of which is the first one of its paragraph.
 fn push_others<'t, 'h, H: Hyphenator<'h>>(
     alloc: Global,
     dictionary: &'h H,
     style: &Style<'t>,
     text: &'t str,
+    end: &'t str,
     breaks: &mut Vec<H::Opportunity>,
     parts: &mut Vec<Part<'t>>,
 ) -> Result<(), AllocError>
-    ensures { OnOk result (AddsParts parts.old.items parts.new.items
-        (other_parts (H.breaks_of dictionary.now) (style_of style.now) (words text.now))) }
+    requires { EndsIn text.now end.now }
+    ensures adds { OnOk result (AddsParts parts.old.items parts.new.items
+        (other_parts (H.breaks_of dictionary.now) (style_of style.now) (words end.now))) }
+    ensures places { OnOk result (AllStandIn text.now parts.old.items → AllStandIn text.now parts.new.items) }
 {
-    let mut rest = text;
+    let mut rest = end;
     while let Some(word) = next_word(rest) {
-        push_word(
+        push_word_of(
             alloc,
             dictionary,
             style,
             style.indent,
+            text,
             word.text,
+            word.after,
             word.plain,
             word.letters,
             breaks,
@@ -56,8 +122,9 @@ fn parts_of<'t, 'h, H: Hyphenator<'h>>(
     style: &Style<'t>,
     text: &'t str,
 ) -> Result<Vec<Part<'t>>, AllocError>
-    ensures { IfOk result (λ parts.
+    ensures parts { IfOk result (λ parts.
         settings_of parts.items ≡ parts_of (H.breaks_of dictionary.now) (style_of style.now) (words text.now)) }
+    ensures places { IfOk result (λ parts. AllStandIn text.now parts.items) }
 {
     // English prose has a part for every four bytes or so.
     let mut parts = Vec::with_capacity(alloc, text.len() / 3)?;
@@ -65,12 +132,14 @@ fn parts_of<'t, 'h, H: Hyphenator<'h>>(
         return Ok(parts);
     };
     let mut breaks = Vec::with_capacity(alloc, 16)?;
-    push_word(
+    push_word_of(
         alloc,
         dictionary,
         style,
         style.first,
+        text,
         first.text,
+        first.after,
         first.plain,
         first.letters,
         &mut breaks,
@@ -80,6 +149,7 @@ fn parts_of<'t, 'h, H: Hyphenator<'h>>(
         alloc,
         dictionary,
         style,
+        text,
         first.after,
         &mut breaks,
         &mut parts,
@@ -144,7 +214,7 @@ fn fill_all<'h, H: Hyphenator<'h>>(
     let made = stretches(alloc, &parts)?;
     match made {
         Some(stretches) => {
-            let lines = set(alloc, &parts, &stretches, columns, aim)?;
+            let lines = set(alloc, text, &parts, &stretches, columns, aim)?;
             Ok(lines)
         }
         None => Err(FillError::TooLong),

@@ -1,10 +1,11 @@
 //! The parts of words.
 
-ghost use Rattle.std.specs.Prelude.{◌≡◌, ◌≤◌, ◌∷◌, [], None, true, IfOk, OnOk};
+ghost use Rattle.std.specs.Prelude.{◌≡◌, ◌+◌, ◌<◌, ◌≤◌, ◌^◌, ◌∷◌, [], None, true, IfOk, OnOk, length};
 ghost use Rattle.std.specs.List.{list_all};
 ghost use Rattle.std.specs.Str.{IsCharBoundary};
 ghost use Rattle.hyphenation_breaks.specs.Break.{left_of, begin_of, end_of};
 ghost use Rattle.paragraphs.specs.Private.Open.{Passes, PassesPiece, PassesAll, AddsParts, next_then};
+ghost use Rattle.paragraphs.specs.Private.Places.{KeepPlaces, PlacesWord, end_of_word};
 ghost use Rattle.paragraphs.specs.Private.Plain.{AreLetters};
 ghost use Rattle.paragraphs.specs.Private.Printable.{is_printable};
 ghost use Rattle.paragraphs.specs.Styles.{style_of};
@@ -39,12 +40,14 @@ fn pass_break<'t, B: Break>(
     alloc: Global,
     style: &Style<'t>,
     word: &'t str,
+    at: usize,
     plain: bool,
     offset: usize,
     b: &B,
     parts: &mut Vec<Part<'t>>,
     current: &mut Open<'t>,
 ) -> Result<(), AllocError>
+    requires at { at + length word.now < 2 ^ 63 }
     requires plain { plain ≡ true → list_all is_printable word.now ≡ true }
     requires within { left_of (B.meaning b.now).change ≤ (B.meaning b.now).place }
     requires from { IsCharBoundary word.now current.old.from }
@@ -53,6 +56,7 @@ fn pass_break<'t, B: Break>(
     ensures goes { OnOk result (Passes style.now word.now (set_off offset (B.meaning b.now) ∷ [])
         parts.old.items current.old parts.new.items current.new) }
     ensures from { OnOk result (IsCharBoundary word.now current.new.from) }
+    ensures places { OnOk result (KeepPlaces at word.now parts.old.items parts.new.items) }
 {
     let (left, right) = b.range().unwrap();
     let (begin, end) = (offset + left, offset + right);
@@ -65,6 +69,8 @@ fn pass_break<'t, B: Break>(
         after,
         text: &word[current.from..begin],
         joint: &word[begin..end],
+        start: at + current.from,
+        end: at + end,
         before: String::from_str(alloc, b.before())?,
         hyphenated: true,
         price: style.price,
@@ -82,6 +88,7 @@ fn pass_piece<'t, 'h, H: Hyphenator<'h>>(
     dictionary: &'h H,
     style: &Style<'t>,
     word: &'t str,
+    at: usize,
     plain: bool,
     offset: usize,
     piece: &str,
@@ -89,16 +96,18 @@ fn pass_piece<'t, 'h, H: Hyphenator<'h>>(
     parts: &mut Vec<Part<'t>>,
     part: &mut Open<'t>,
 ) -> Result<(), AllocError>
+    requires at { at + length word.now < 2 ^ 63 }
     requires plain { plain ≡ true → list_all is_printable word.now ≡ true }
     requires piece { IsSlice word.now (offset, piece.now) }
     requires from { IsCharBoundary word.now part.old.from }
     ensures goes { OnOk result (PassesPiece style.now word.now (H.breaks_of dictionary.now)
         (offset, piece.now) parts.old.items part.old parts.new.items part.new) }
     ensures from { OnOk result (IsCharBoundary word.now part.new.from) }
+    ensures places { OnOk result (KeepPlaces at word.now parts.old.items parts.new.items) }
 {
     dictionary.breaks_into(piece, breaks)?;
     for b in breaks.iter() {
-        pass_break(alloc, style, word, plain, offset, b, parts, part)?;
+        pass_break(alloc, style, word, at, plain, offset, b, parts, part)?;
     }
     Ok(())
 }
@@ -117,22 +126,25 @@ fn pass_each_piece<'t, 'h, H: Hyphenator<'h>>(
     dictionary: &'h H,
     style: &Style<'t>,
     word: &'t str,
+    at: usize,
     plain: bool,
     breaks: &mut Vec<H::Opportunity>,
     parts: &mut Vec<Part<'t>>,
     current: &mut Open<'t>,
 ) -> Result<(), AllocError>
+    requires at { at + length word.now < 2 ^ 63 }
     requires plain { plain ≡ true → list_all is_printable word.now ≡ true }
     requires from { IsCharBoundary word.now current.old.from }
     ensures goes { OnOk result (PassesAll style.now word.now (H.breaks_of dictionary.now)
         parts.old.items current.old parts.new.items current.new) }
     ensures from { OnOk result (IsCharBoundary word.now current.new.from) }
+    ensures places { OnOk result (KeepPlaces at word.now parts.old.items parts.new.items) }
 {
     pieces_are_slices();
     let mut pieces = WordPieceIndices::new(word);
     while let Some((offset, piece)) = next_piece(&mut pieces) {
         pass_piece(
-            alloc, dictionary, style, word, plain, offset, piece, breaks, parts, current,
+            alloc, dictionary, style, word, at, plain, offset, piece, breaks, parts, current,
         )?;
     }
     Ok(())
@@ -145,34 +157,53 @@ fn pass_pieces<'t, 'h, H: Hyphenator<'h>>(
     dictionary: &'h H,
     style: &Style<'t>,
     word: &'t str,
+    at: usize,
     plain: bool,
     letters: bool,
     breaks: &mut Vec<H::Opportunity>,
     parts: &mut Vec<Part<'t>>,
     current: &mut Open<'t>,
 ) -> Result<(), AllocError>
+    requires at { at + length word.now < 2 ^ 63 }
     requires plain { plain ≡ true → list_all is_printable word.now ≡ true }
     requires letters { letters ≡ true → AreLetters word.now }
     requires from { IsCharBoundary word.now current.old.from }
     ensures goes { OnOk result (PassesAll style.now word.now (H.breaks_of dictionary.now)
         parts.old.items current.old parts.new.items current.new) }
     ensures from { OnOk result (IsCharBoundary word.now current.new.from) }
+    ensures places { OnOk result (KeepPlaces at word.now parts.old.items parts.new.items) }
 {
     pieces_are_slices();
     letters_are_one_piece();
     if letters {
         pass_piece(
-            alloc, dictionary, style, word, plain, 0, word, breaks, parts, current,
+            alloc, dictionary, style, word, at, plain, 0, word, breaks, parts, current,
         )?;
         return Ok(());
     }
     pass_each_piece(
-        alloc, dictionary, style, word, plain, breaks, parts, current,
+        alloc, dictionary, style, word, at, plain, breaks, parts, current,
     )
 }
 
-// Adds the parts of a word. A line that begins with the word has this indent. It is said whether the word is known to be of
-// printable ASCII, and of letters of ASCII alone. The list is for the breaks of its pieces.
+// Returns where the joint of a word's last part ends in the text of the paragraph, where the word begins at such a place
+// there. If no space stands after the word, the end is past any text.
+#[inline(always)]
+fn end_of_word(word: &str, at: usize, spaced: bool) -> usize
+    requires { at + length word.now < 2 ^ 63 }
+    ensures end { result ≡ end_of_word at word.now spaced }
+    ensures some { 0 < result }
+{
+    if spaced {
+        at + word.len() + 1
+    } else {
+        usize::MAX
+    }
+}
+
+// Adds the parts of a word. A line that begins with the word has this indent. It is said where the word begins in the text
+// of the paragraph; whether a space stands after it there; and whether it is known to be of printable ASCII, and of
+// letters of ASCII alone. The list is for the breaks of its pieces.
 #[tactic(auto, using(crate::proofs::Printable::printable_drop))]
 pub(crate) fn push_word<'t, 'h, H: Hyphenator<'h>>(
     alloc: Global,
@@ -180,15 +211,19 @@ pub(crate) fn push_word<'t, 'h, H: Hyphenator<'h>>(
     style: &Style<'t>,
     indent: &'t str,
     word: &'t str,
+    at: usize,
+    spaced: bool,
     plain: bool,
     letters: bool,
     breaks: &mut Vec<H::Opportunity>,
     parts: &mut Vec<Part<'t>>,
 ) -> Result<(), AllocError>
+    requires at { at + length word.now < 2 ^ 63 }
     requires plain { plain ≡ true → list_all is_printable word.now ≡ true }
     requires letters { letters ≡ true → AreLetters word.now }
-    ensures { OnOk result (AddsParts parts.old.items parts.new.items
+    ensures adds { OnOk result (AddsParts parts.old.items parts.new.items
         (word_parts (H.breaks_of dictionary.now) (style_of style.now) indent.now word.now)) }
+    ensures places { OnOk result (PlacesWord at word.now spaced parts.old.items parts.new.items) }
 {
     let mut current = Open {
         indent,
@@ -200,6 +235,7 @@ pub(crate) fn push_word<'t, 'h, H: Hyphenator<'h>>(
         dictionary,
         style,
         word,
+        at,
         plain,
         letters,
         breaks,
@@ -211,6 +247,8 @@ pub(crate) fn push_word<'t, 'h, H: Hyphenator<'h>>(
         after: current.after,
         text: &word[current.from..],
         joint: " ",
+        start: at + current.from,
+        end: end_of_word(word, at, spaced),
         before: String::new(alloc),
         hyphenated: false,
         price: 0,

@@ -8,6 +8,7 @@ use Rattle.paragraphs.specs.Private.Ends.{Rise}
 use Rattle.paragraphs.specs.Private.Entries.{AreSettled}
 use Rattle.paragraphs.specs.Private.PartSettings.{settings_of, is_short_part}
 use Rattle.paragraphs.proofs.FullLines.{FurthestLaw, full_set}
+use Rattle.paragraphs.proofs.Places.{none_stand}
 use Rattle.paragraphs.proofs.SetLines.{divides_rise, length-set_stretches}
 use Rattle.paragraphs.proofs.mixed.full_lines.Goals as goal
 
@@ -19,7 +20,10 @@ lines-requires c =
     let row = c.in_ok-row.row.items in
     let read = c.deref.ensures.value ∙ told in
     let divides = subst (λ xs. Divides xs c.args.columns 0 row) read c.in_ok-row.ensures.divides in
-    subst (Rise 0 (length parts)) (sym c.deref-4.ensures.value) (subst (λ n. Rise 0 n row) (length-set_stretches parts) (divides_rise all c.args.columns 0 row divides))
+    record {
+      stand = none_stand parts;
+      rise = subst (Rise 0 (length parts)) (sym c.deref-4.ensures.value) (subst (λ n. Rise 0 n row) (length-set_stretches parts) (divides_rise all c.args.columns 0 row divides));
+    }
 
 pub returns : goal.returns
 returns c = λ settings mixed.

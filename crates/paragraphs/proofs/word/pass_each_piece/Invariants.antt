@@ -5,6 +5,7 @@ use Rattle.word_pieces.specs.Pieces.{piece_indices_left, AreSlices}
 use Rattle.paragraphs.specs.Words.{breaks_in, word_breaks}
 use Rattle.paragraphs.specs.Styles.{style_of}
 use Rattle.paragraphs.specs.Private.Open.{settings_with}
+use Rattle.paragraphs.specs.Private.Places.{KeepPlaces}
 use Rattle.paragraphs.proofs.word.pass_each_piece.Given as goal
 
 -- The parts that are made, with those that the pieces to come give, stay the same.
@@ -16,6 +17,7 @@ invariant-loop-offset g l =
           ≡ settings_with (style_of l.style) l.word l.initial.parts.items l.initial.current (word_breaks breaks_of l.word);
       pieces : AreSlices l.word (piece_indices_left l.pieces);
       from : IsCharBoundary l.word l.current.from;
+      places : KeepPlaces l.at l.word l.initial.parts.items l.parts.items;
     }
 
 abbrev pub decreases-loop-offset : goal.decreases-loop-offset

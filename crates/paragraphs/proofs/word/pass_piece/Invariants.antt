@@ -4,6 +4,7 @@ use Rattle.hyphenation_breaks.specs.Break.{Break}
 use Rattle.paragraphs.specs.Words.{set_off}
 use Rattle.paragraphs.specs.Styles.{style_of}
 use Rattle.paragraphs.specs.Private.Open.{settings_with}
+use Rattle.paragraphs.specs.Private.Places.{KeepPlaces}
 use Rattle.paragraphs.proofs.word.pass_piece.Given as goal
 
 -- The parts that are made, with those that the breaks to come give, stay the same.
@@ -14,4 +15,5 @@ invariant-loop-b g l =
       goes : (others : List Break) → settings_with (style_of l.style) l.word l.parts.items l.part (map (set_off l.offset) (map meaning (drop l.b-index l.b-items)) ++ others)
           ≡ settings_with (style_of l.style) l.word l.initial.parts.items l.initial.part (map (set_off l.offset) (map meaning l.b-items) ++ others);
       from : IsCharBoundary l.word l.part.from;
+      places : KeepPlaces l.at l.word l.initial.parts.items l.parts.items;
     }

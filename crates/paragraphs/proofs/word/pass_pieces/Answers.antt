@@ -11,7 +11,7 @@ pass_piece-requires g c κs =
     let are = c.requires.letters c.if-letters.true in
     let one = c.letters_are_one_piece.ensures word are.0 are.1 in
     let slice = (subst (AreSlices word) (one_piece_offsets word one) (c.pieces_are_slices.ensures.slices word c.utf8.word)).0 in
-    ((refl, (refl, tt)), (c.requires.plain, (slice, c.requires.from)))
+    ((refl, (refl, tt)), (c.requires.at, (c.requires.plain, (slice, c.requires.from))))
 
 pub returns-then-letters-clause-goes : goal.returns-then-letters-clause-goes
 returns-then-letters-clause-goes g c =
