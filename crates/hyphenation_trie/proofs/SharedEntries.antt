@@ -1,5 +1,5 @@
 -- Entries that several nodes have in common.
-use Rattle.std.proofs.Common.{◌≡◌, ℕ, zero, suc, ◌<◌, ◌≤◌, List, [], ◌∷◌, length, map, get_or, set, Option, Some, None, refl, sym, ap, subst, ◌∙◌, arith}
+use Rattle.std.proofs.Common.{◌≡◌, ◌≢◌, ◌-◌, ◌^◌, ℕ, zero, suc, ◌<◌, ◌≤◌, List, [], ◌∷◌, length, map, get_or, set, Option, Some, None, refl, sym, ap, subst, ◌∙◌, arith}
 use Rattle.std.specs.Prelude.{IsSome}
 use Rattle.std.proofs.lemmas.List.{length-map, map-set}
 use Rattle.hyphenation_trie.specs.Private.States.{span_in}
@@ -7,7 +7,7 @@ use Rattle.hyphenation_trie.specs.Private.Trie.{tree_of, texts_of, with_entries,
 use Rattle.hyphenation_trie.specs.Trie.{Tree, IsTrie, node_text, entries_of_key, KeepsNodes}
 use Rattle.hyphenation_trie.specs.declared.state.Span.{Span}
 use Rattle.hyphenation_trie.specs.declared.state.State.{State}
-use Rattle.hyphenation_trie.proofs.States.{entries_of_state, span_of_entries}
+use Rattle.hyphenation_trie.proofs.States.{entries_of_state, span_of_entries, start_of_entries}
 use Rattle.hyphenation_trie.proofs.TrieNodes.{entries_at-here}
 
 -- a list has an element only before its end
@@ -33,6 +33,13 @@ span_there {E} es states i s xs read is =
     let here : entries_there es (span_in s) ≡ Some xs = sym (entries_of_state es states i s (state_there es states i xs is) read) ∙ is in
     let span = span_of_entries es s (subst (λ (o : Option (List E)). IsSome o) (sym here) refl) in
     (span, ap (entries_there es) (sym span) ∙ here)
+
+-- the span of a node with entries begins at a start
+pub span_starts : {E : Type 0} (es : List E) (states : List State) (i : ℕ) (s : State) (xs : List E) → s ≡ get_or states i s → get_or (map (entries_there es) (map span_in states)) i None ≡ Some xs
+    → s.span.start ≢ 2 ^ 32 - 1
+span_starts {E} es states i s xs read is =
+    let here : entries_there es (span_in s) ≡ Some xs = sym (entries_of_state es states i s (state_there es states i xs is) read) ∙ is in
+    start_of_entries es s (subst (λ (o : Option (List E)). IsSome o) (sym here) refl)
 
 -- a node keeps its entries while nodes are added
 pub entries_stay : {E : Type 0} (old mid : Tree E) (i : ℕ) (xs : List E) → IsTrie old → IsTrie mid → ((q : List ℕ) → entries_of_key mid q ≡ entries_of_key old q) → KeepsNodes old mid

@@ -1,11 +1,11 @@
 -- Facts read from the states of nodes, and facts that stay when links are set.
-use Rattle.std.proofs.Common.{◌≡◌, ◌≢◌, ℕ, zero, suc, ◌+◌, ◌<◌, ◌≤◌, true, false, cond, List, [], ◌∷◌, length, map, get_or, set, slice_index, Option, Some, None, refl, sym, ap, subst, ◌∙◌, arith, inl, inr}
-use Rattle.std.specs.Prelude.{IsSome, replicate}
+use Rattle.std.proofs.Common.{◌≡◌, ◌≢◌, ℕ, zero, suc, ◌+◌, ◌-◌, ◌^◌, ◌<◌, ◌≤◌, true, false, cond, List, [], ◌∷◌, length, map, get_or, set, slice_index, Option, Some, None, refl, sym, ap, subst, ◌∙◌, arith, inl, inr}
+use Rattle.std.specs.Prelude.{◌==◌, IsSome, not, replicate}
 use Rattle.std.proofs.Math.Seq.{map-set_same}
-use Rattle.std.proofs.lemmas.Bool.{cases_eq, cond-true, cond-false}
+use Rattle.std.proofs.lemmas.Bool.{cond-true, cond-false, true≢false}
 use Rattle.std.proofs.lemmas.List.{length-map, length-set, get_or-map, map-set, get_or-set_same, get_or-set_other}
 use Rattle.hyphenation_trie.specs.Private.Links.{IsFrozen}
-use Rattle.hyphenation_trie.specs.Private.States.{no_reports, links_with, froms_by, texts_by, span_in, HasStates}
+use Rattle.hyphenation_trie.specs.Private.States.{no_reports, links_with, froms_by, texts_by, is_key, span_in, HasStates}
 use Rattle.hyphenation_trie.specs.Trie.{Tree, node_text, entries_of_key}
 use Rattle.hyphenation_trie.specs.Private.Trie.{tree_of, entries_there, IsWithin, AreWithin}
 use Rattle.hyphenation_trie.specs.declared.state.Span.{Span}
@@ -18,16 +18,13 @@ use Rattle.hyphenation_trie.proofs.TrieNodes.{entries_at-here}
 -- ---- facts read from a state
 
 pub states_within : {E : Type 0} (tree : Tree E) (parents bytes : List ℕ) (states : List State) (moves : List Moves) (reports : List Reports) (cells : List Cell) (bound node : ℕ) → HasStates tree parents bytes states moves reports cells bound → node < length tree.texts → node < length states
-states_within tree parents bytes states moves reports cells bound node has lt = omega (arith, has.depths_of.lengths, length-map states (λ s. s.depth))
+states_within tree parents bytes states moves reports cells bound node has lt = omega (arith, has.states_of)
 
 pub moves_within : {E : Type 0} (tree : Tree E) (parents bytes : List ℕ) (states : List State) (moves : List Moves) (reports : List Reports) (cells : List Cell) (bound node : ℕ) → HasStates tree parents bytes states moves reports cells bound → node < length tree.texts → node < length moves
 moves_within tree parents bytes states moves reports cells bound node has lt = omega (arith, has.frozen.lengths, length-map moves (λ m. m.base))
 
 pub base_is : (moves : List Moves) (node : ℕ) (m : Moves) → node < length moves → m ≡ get_or moves node m → slice_index (map (λ m. m.base) moves) node ≡ m.base
 base_is moves node m lt read = get_or-map (λ m. m.base) moves node m 0 lt ∙ ap (λ m. m.base) (sym read)
-
-pub depth_of_state : (states : List State) (node : ℕ) (s : State) → node < length states → s ≡ get_or states node s → slice_index (map (λ s. s.depth) states) node ≡ s.depth
-depth_of_state states node s lt read = get_or-map (λ s. s.depth) states node s 0 lt ∙ ap (λ s. s.depth) (sym read)
 
 pub link_is : (moves : List Moves) (node : ℕ) (m : Moves) → node < length moves → m ≡ get_or moves node m → slice_index (map (λ m. m.link) moves) node ≡ m.link
 link_is moves node m lt read = get_or-map (λ m. m.link) moves node m 0 lt ∙ ap (λ m. m.link) (sym read)
@@ -38,19 +35,27 @@ span_of_state states node s lt read = get_or-map span_in states node s None lt �
 pub entries_of_state : {E : Type 0} (es : List E) (states : List State) (node : ℕ) (s : State) → node < length states → s ≡ get_or states node s → get_or (map (entries_there es) (map span_in states)) node None ≡ entries_there es (span_in s)
 entries_of_state es states node s lt read = get_or-map (entries_there es) (map span_in states) node None None (omega (arith, length-map states span_in)) ∙ ap (entries_there es) (span_of_state states node s lt read)
 
-pub span_of_key : (s : State) → s.is_key ≡ true → span_in s ≡ Some s.span
-span_of_key s e = cond-true s.is_key (Some s.span) None e
+pub span_of_key : (s : State) → is_key s ≡ true → span_in s ≡ Some s.span
+span_of_key s e = cond-true (is_key s) (Some s.span) None e
 
-pub span_of_none : (s : State) → s.is_key ≡ false → span_in s ≡ None
-span_of_none s e = cond-false s.is_key (Some s.span) None e
+pub span_of_none : (s : State) → is_key s ≡ false → span_in s ≡ None
+span_of_none s e = cond-false (is_key s) (Some s.span) None e
 
 -- a state that has entries is a key's
 pub span_of_entries : {E : Type 0} (es : List E) (s : State) → IsSome (entries_there es (span_in s)) → span_in s ≡ Some s.span
 span_of_entries es s some =
-    elim s.is_key as (λ t. IsSome (entries_there es (cond t (Some s.span) None)) → cond t (Some s.span) None ≡ Some s.span) [
+    elim (is_key s) as (λ t. IsSome (entries_there es (cond t (Some s.span) None)) → cond t (Some s.span) None ≡ Some s.span) [
       | true ↦ λ h. refl
       | false ↦ λ h. absurd cc
     ] some
+
+-- the span of a state with entries begins at a start
+pub start_of_entries : {E : Type 0} (es : List E) (s : State) → IsSome (entries_there es (span_in s)) → s.span.start ≢ 2 ^ 32 - 1
+start_of_entries es s some =
+    elim (is_key s) as (λ t. IsSome (entries_there es (cond t (Some s.span) None)) → is_key s ≡ t → s.span.start ≢ 2 ^ 32 - 1) [
+      | true ↦ λ h e is. true≢false (sym e ∙ ap (λ (n : ℕ). not (n == 2 ^ 32 - 1)) is)
+      | false ↦ λ h. absurd cc
+    ] some refl
 
 -- the span of a key ends within the entries of all keys
 pub key_within : {E : Type 0} (tree : Tree E) (parents bytes : List ℕ) (states : List State) (moves : List Moves) (reports : List Reports) (cells : List Cell) (bound node : ℕ) (s : State) → HasStates tree parents bytes states moves reports cells bound → node < length tree.texts
@@ -76,26 +81,6 @@ spans_within bound [] h i = tt
 spans_within bound (n ∷ ns) h zero = h.0
 spans_within bound (n ∷ ns) h (suc i) = spans_within bound ns h.1 i
 
-pub tree_same : {E : Type 0} (es : List E) (old new : List State) (parents bytes : List ℕ) → map span_in new ≡ map span_in old
-    → tree_of (froms_by parents bytes) (map span_in new) es ≡ tree_of (froms_by parents bytes) (map span_in old) es
-tree_same es old new parents bytes spans = λ k. record { texts = texts_by parents bytes; entries = map (entries_there es) (spans k) }
-
--- a fact of the states before a node and of the state set there is true of one more state
-pub one_more : {X : Type 0} (f : State → X) (d : X) (states : List State) (node : ℕ) (s : State) (asked : ℕ → X) → node < length states → f s ≡ asked node → ((j : ℕ) → j < node → get_or (map f states) j d ≡ asked j)
-    → (j : ℕ) → j < node + 1 → get_or (map f (set states node s)) j d ≡ asked j
-one_more {X} f d states node s asked lt here before j lj = elim (cases_eq j node) [
-  | inl is ↦
-      ap (λ (xs : List X). get_or xs j d) (map-set f states node s)
-      ∙ ap (λ (i : ℕ). get_or (set (map f states) node (f s)) i d) is
-      ∙ get_or-set_same (map f states) node (f s) d (omega (arith, length-map states f))
-      ∙ here
-      ∙ ap asked (sym is)
-  | inr apart ↦
-      ap (λ (xs : List X). get_or xs j d) (map-set f states node s)
-      ∙ get_or-set_other (map f states) node j (f s) d apart
-      ∙ before j (omega arith)
-]
-
 pub reports_none : (n j : ℕ) → get_or (replicate n no_reports) j no_reports ≡ no_reports
 reports_none zero j = refl
 reports_none (suc n) zero = refl
@@ -111,7 +96,7 @@ states_kept tree states moves reports parents bytes cells bound node m x r read 
     record {
       frozen = subst (λ (xs : List ℕ). IsFrozen tree xs cells) (sym bases) has.frozen;
       reports_of = length-set reports node r ∙ has.reports_of;
-      depths_of = has.depths_of;
+      states_of = has.states_of;
       parents_of = has.parents_of;
       within = has.within;
     }

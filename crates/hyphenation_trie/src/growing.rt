@@ -9,7 +9,7 @@ use crate::Automaton;
 use crate::automaton::link_all;
 use crate::children::Children;
 use crate::frozen::{Frozen, Reports};
-use crate::lists::list_of_first;
+use crate::lists::{append_all, list_of_first};
 use crate::nodes_by_depth::NodesByDepth;
 use crate::rows::rows_of;
 use crate::state::{Span, State, entries_in};
@@ -21,7 +21,7 @@ use std::marker::Model;
 pub struct Trie<E> {
     // The children of each node. If keys are inserted in order, each look-up finds the last child or none.
     pub(crate) children: Children,
-    // The states of the nodes. Their spans are known; their depths are set when the trie is frozen.
+    // The states of the nodes.
     pub(crate) states: Vec<State>,
     // The entries of all keys in one list, so that a key needs no allocation of its own. Replaced entries stay here,
     // unused.
@@ -93,6 +93,7 @@ impl<E: Drop> Trie<E> {
     ///
     /// No other key changes. The list of entries is empty then, and can be filled again. The only error is out of
     /// memory, also if the trie would have 2^32 nodes or entries. It leaves each key and the list as they were.
+    #[inline(always)]
     pub fn insert(&mut self, key: &[u8], entries: &mut Vec<E>) -> Result<bool, AllocError>
         ensures key_set { OnOk result (SetsKey self.old self.new key.now entries.old.items) }
         ensures had { IfOk result (λ had. had ≡ is_some (entries_of_key self.old key.now)) }
@@ -148,7 +149,7 @@ impl<E: Drop> Trie<E> {
     {
         if node < self.states.len() {
             let state = self.states[node];
-            if state.is_key {
+            if state.is_key() {
                 return Some(entries_in(&self.entries, state.span));
             }
         }
@@ -244,6 +245,7 @@ impl<E: Drop> Trie<E> {
 
     // Moves entries to a node, in place of the entries that it had, and returns whether its text was a key. The only error is
     // out of memory.
+    #[inline(always)]
     fn set_entries(&mut self, node: u32, entries: &mut Vec<E>) -> Result<bool, AllocError>
         requires { node < length self.old.texts }
         ensures set { OnOk result (self.new ≡ with_entries self.old node entries.old.items) }
@@ -253,7 +255,7 @@ impl<E: Drop> Trie<E> {
         ensures entries_kept_on_error { OnErr result (entries.new.items ≡ entries.old.items) }
     {
         let span = Span::of(self.entries.len(), entries.len())?;
-        self.entries.append(entries)?;
+        append_all(&mut self.entries, entries)?;
         Ok(self.states[node as usize].set_span(span))
     }
 
@@ -290,23 +292,15 @@ impl<E: Drop> Trie<E> {
         // Rows have taken the place of the chains of children, whose memory is free for the lists that come next.
         drop(last);
         drop(before);
-        let levels = NodesByDepth::of(alloc, &parents)?;
+        let NodesByDepth { depths, chains } = NodesByDepth::of(alloc, &parents)?;
         let none = Reports {
             report: 0,
             next_report: 0,
         };
         let reports = vec![in alloc; none; parents.len()]?;
-        let mut trie = Frozen::new(
-            parents,
-            bytes,
-            states,
-            entries,
-            rows,
-            reports,
-            &levels.depths,
-        );
-        link_all(&mut trie, &levels.depths, &levels.chains);
-        Ok(Automaton { trie })
+        let mut trie = Frozen::new(parents, bytes, states, entries, rows, reports);
+        link_all(&mut trie, &depths, &chains);
+        Ok(Automaton { trie, depths })
     }
 }
 

@@ -38,3 +38,22 @@ pub(crate) fn push_both<S: Copy, T: Copy>(
     }
     Ok(())
 }
+
+// Moves all elements of a list to the end of another. The only error is out of memory; then both stay as they were.
+#[inline(always)]
+pub(crate) fn append_all<T: Drop>(to: &mut Vec<T>, from: &mut Vec<T>) -> Result<(), AllocError>
+    ensures appended { OnOk result (to.new.items ≡ to.old.items ++ from.old.items) }
+    ensures emptied { OnOk result (from.new.items ≡ []) }
+    ensures to_unchanged_on_error { OnErr result (to.new.items ≡ to.old.items) }
+    ensures from_unchanged_on_error { OnErr result (from.new.items ≡ from.old.items) }
+{
+    if from.len() != 1 {
+        return to.append(from);
+    }
+    // Most keys have one entry, which is moved without a call.
+    to.reserve(1)?;
+    if let Some(element) = from.pop() {
+        to.push_reserved(element);
+    }
+    Ok(())
+}

@@ -1,6 +1,5 @@
 use Rattle.std.proofs.Common.{arith}
-use Rattle.std.proofs.lemmas.List.{length-map}
 use Rattle.hyphenation_trie.proofs.frozen.Frozen.count.Goals as goal
 
 pub returns : goal.returns
-returns g c = rw (← c.self.view_is) (omega (arith, c.len.ensures, c.self.inside.states.ok.0, c.self.invariant.depths_of.lengths, length-map c.self.inside.states.items (λ s. s.depth)))
+returns g c = rw (← c.self.view_is) (omega (arith, c.len.ensures, c.self.inside.states.ok.0, c.self.invariant.states_of))

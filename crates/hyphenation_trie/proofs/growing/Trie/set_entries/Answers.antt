@@ -18,10 +18,10 @@ pub invariant_of-self-2 : goal.invariant_of-self-2
 invariant_of-self-2 g c =
     let es = c.self.inside.entries.items in
     let xs = c.args.entries.now.items in
-    let bound = length c.append.new.self.items in
-    let grown : bound ≡ length es + length xs = ap length c.in_ok-append.ensures.items ∙ length-append es xs in
-    let start : c.in_ok-span.span.start ≡ length es = omega (arith, c.in_ok-span.ensures.0, c.len.ensures, c.self.inside.entries.ok.0) in
-    let count : c.in_ok-span.span.count ≡ length xs = omega (arith, c.in_ok-span.ensures.1, c.len-2.ensures, c.args.entries.now.ok.0) in
+    let bound = length c.append_all.new.to.items in
+    let grown : bound ≡ length es + length xs = ap length c.in_ok-append_all.ensures.appended ∙ length-append es xs in
+    let start : c.in_ok-span.span.start ≡ length es = omega (arith, c.in_ok-span.ensures.numbers.0, c.len.ensures, c.self.inside.entries.ok.0) in
+    let count : c.in_ok-span.span.count ≡ length xs = omega (arith, c.in_ok-span.ensures.numbers.1, c.len-2.ensures, c.args.entries.now.ok.0) in
     let span : IsWithin bound (Some c.in_ok-span.span) = omega (arith, start, count, grown) in
     held_set _ _ c.self.inside.states.items _ _ (length es) bound c.args.node c.set_span.new.self (omega (arith, grown)) c.self.invariant (subst (λ (s : Option Span). IsWithin bound s) (sym c.set_span.ensures.set) span)
 
@@ -32,9 +32,9 @@ returns-clause-set g c =
     let es = c.self.inside.entries.items in
     let xs = c.args.entries.now.items in
     let x : State = c.set_span.new.self in
-    let start : c.in_ok-span.span.start ≡ length es = omega (arith, c.in_ok-span.ensures.0, c.len.ensures, c.self.inside.entries.ok.0) in
-    let count : c.in_ok-span.span.count ≡ length xs = omega (arith, c.in_ok-span.ensures.1, c.len-2.ensures, c.args.entries.now.ok.0) in
-    ap (λ ys. tree_of froms (map span_in (set states c.args.node x)) ys) c.in_ok-append.ensures.items
+    let start : c.in_ok-span.span.start ≡ length es = omega (arith, c.in_ok-span.ensures.numbers.0, c.len.ensures, c.self.inside.entries.ok.0) in
+    let count : c.in_ok-span.span.count ≡ length xs = omega (arith, c.in_ok-span.ensures.numbers.1, c.len-2.ensures, c.args.entries.now.ok.0) in
+    ap (λ ys. tree_of froms (map span_in (set states c.args.node x)) ys) c.in_ok-append_all.ensures.appended
     ∙ ap (λ (ss : List (Option Span)). tree_of froms ss (es ++ xs)) (map-set span_in states c.args.node x)
     ∙ seen-with froms (map span_in states) es xs c.args.node c.in_ok-span.span.start c.in_ok-span.span.count (span_in x) c.set_span.ensures.set c.self.invariant.within start count
     ∙ ap (λ t. with_entries t c.args.node xs) c.self.view_is

@@ -6,7 +6,7 @@ use Rattle.hyphenation_trie.specs.Private.Trie.{tree_of, with_entries, entries_t
 use Rattle.hyphenation_trie.specs.declared.state.Span.{Span}
 use Rattle.hyphenation_trie.specs.declared.state.State.{State}
 use Rattle.hyphenation_trie.proofs.HeldNodes.{trie_held, node_held, held_set}
-use Rattle.hyphenation_trie.proofs.SharedEntries.{state_there, span_there, seen-shared}
+use Rattle.hyphenation_trie.proofs.SharedEntries.{state_there, span_there, span_starts, seen-shared}
 use Rattle.hyphenation_trie.proofs.States.{span_of_state, spans_within}
 use Rattle.hyphenation_trie.proofs.TrieNodes.{entries_at-here, has_entries}
 use Rattle.hyphenation_trie.proofs.growing.Trie.share_entries.Goals as goal
@@ -20,6 +20,11 @@ pub index_mut-requires : goal.index_mut-requires
 index_mut-requires g c =
     let asked = rw (← c.self.view_is) at c.requires in
     omega (arith, (node_held _ _ _ _ _ _ c.args.node c.self.invariant asked.node).2, c.self.inside.states.ok.0)
+
+pub set_span-requires : goal.set_span-requires
+set_span-requires g c =
+    let asked = rw (← c.self.view_is) at c.requires in
+    span_starts c.self.inside.entries.items c.self.inside.states.items c.args.like c.index.result.now c.args.entries.now c.index.ensures asked.like
 
 pub invariant_of-self : goal.invariant_of-self
 invariant_of-self g c =
