@@ -7,8 +7,8 @@ use Rattle.std.specs.Prelude.{IfSome, codes, position}
 use Rattle.std.specs.List.{list_all, slice_split, onto_first, position_or_len, prefix_len}
 use Rattle.std.specs.Option.{option_map}
 use Rattle.hyphenation_grammar.specs.Lines.{strip_prefix}
-use Rattle.hyphenation_grammar.specs.Parsed.{IsPatternLine, IsPatternToken, ReadPattern, with_spelt}
-use Rattle.hyphenation_grammar.specs.Tokens.{unescape_byte, escaped_bytes_after, pattern_escapes}
+use Rattle.hyphenation_grammar.specs.Parsed.{IsPatternLine, IsPatternToken, ReadPattern, nothing_read, read_pattern, with_spelt}
+use Rattle.hyphenation_grammar.specs.Tokens.{unescape_byte, escaped_bytes_after, pattern_bytes, pattern_escapes}
 use Rattle.hyphenation_grammar.specs.declared.form.Version.{Version}
 use Rattle.hyphenation_grammar.proofs.PatternBytes.{byte_more}
 use Rattle.hyphenation_grammar.specs.Private.Tokens.{is_ordinary}
@@ -86,6 +86,18 @@ pub nothing_left : (n : ℕ) (text : List ℕ) → drop n (take n text) ≡ []
 nothing_left zero text = refl
 nothing_left (suc n) [] = refl
 nothing_left (suc n) (b ∷ rest) = nothing_left n rest
+
+-- what was read of the ordinary bytes before the end of a token is the whole of it
+pub read_to : (found : Option ℕ) (text : List ℕ) (place : ℕ) (old new : ReadPattern) → place ≤ length text → new ≡ old
+    → IfSome found (λ end. (end ≡ place) × (0 < place) × (get_or text place 0 ≡ 10))
+    → ((version : Version) (n : ℕ) → place ≤ n → n ≤ length text → option_map (fold (with_spelt version) old) (escaped_bytes_after (pattern_escapes version) false (drop place (take n text))) ≡ option_map (fold (with_spelt version) nothing_read) (pattern_bytes version (take n text)))
+    → IfSome found (λ end. (version : Version) → Some new ≡ read_pattern version (take end text))
+read_to None text place old new le same h read = tt
+read_to (Some end) text place old new le same h read = λ version.
+    ap (λ (r : ReadPattern). Some r) same
+    ∙ sym (ap (λ (bs : List ℕ). option_map (fold (with_spelt version) old) (escaped_bytes_after (pattern_escapes version) false bs)) (nothing_left place text))
+    ∙ read version place (omega arith) le
+    ∙ ap (λ (k : ℕ). read_pattern version (take k text)) (sym h.0)
 
 -- one ordinary byte more of a token that ends somewhere after it
 pub byte_of_more : (version : Version) (text : List ℕ) (i n : ℕ) (old new : ReadPattern) (whole : Option ReadPattern) → i < n → n ≤ length text → is_ordinary (get_or text i 0) ≡ true

@@ -231,5 +231,6 @@ fn with_digit(value: usize, digit: u8) -> Option<usize>
 pub fn is_utf8(text: &[u8]) -> bool
     ensures { result ≡ is_utf8 text.now }
 {
-    std::str::from_utf8(text).is_ok()
+    // It takes 64 bytes a step. For a text with letters beyond ASCII that is several times as fast as the test of std.
+    simdutf8::basic::from_utf8(text).is_ok()
 }

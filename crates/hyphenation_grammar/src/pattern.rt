@@ -31,10 +31,11 @@ pub struct PatternToken {
 }
 
 impl PatternToken {
-    ghost use Rattle.std.specs.Prelude.{◌≡◌, ◌≢◌, None, Some, IfOk, OnOk, false};
+    ghost use Rattle.std.specs.Prelude.{◌≡◌, ◌≢◌, None, Some, IfOk, OnOk, false, true};
     ghost use Rattle.hyphenation_grammar.specs.Parsed.{is_bad, pattern_view, nothing_read, some_if, with_byte};
     ghost use Rattle.hyphenation_grammar.specs.Parsed.{with_element, with_spelt, with_step};
     ghost use Rattle.hyphenation_grammar.specs.Tokens.{step_inside, step_outside};
+    ghost use Rattle.hyphenation_grammar.specs.Private.Tokens.{is_ordinary};
 
     /// Returns an empty token. It allocates nothing yet.
     pub fn new(alloc: Global) -> Self
@@ -111,6 +112,28 @@ impl PatternToken {
             escaped: false,
         }))?;
         Ok(())
+    }
+
+    // Reads one byte more that is outside braces, if it is ordinary, and returns whether it is. Most bytes are letters from a
+    // to z, which one test tells.
+    #[inline(always)]
+    fn read_if_ordinary(&mut self, byte: u8) -> Result<bool, AllocError>
+        requires { (pattern_view self.old).digits ≡ None }
+        ensures ordinary { IfOk result (λ is_read. is_read ≡ is_ordinary byte) }
+        ensures read { IfOk result (λ read. read ≡ true → (version : Version)
+            → Some (pattern_view self.new) ≡ with_byte version false (pattern_view self.old) byte) }
+        ensures outside { IfOk result (λ is_read. is_read ≡ true → (pattern_view self.new).digits ≡ None) }
+        ensures unread { IfOk result (λ is_read. is_read ≡ false → pattern_view self.new ≡ pattern_view self.old) }
+    {
+        if b'a' <= byte && byte <= b'z' {
+            self.read_ordinary(byte)?;
+            return Ok(true);
+        }
+        if !is_ordinary(byte) {
+            return Ok(false);
+        }
+        self.read_ordinary(byte)?;
+        Ok(true)
     }
 
     // Appends an element.
@@ -312,10 +335,9 @@ fn read_ordinary_token(text: &[u8], pattern: &mut PatternToken) -> Result<Option
     let mut end: usize = 0;
     while end < text.len() {
         let byte = text[end];
-        if !is_ordinary(byte) {
+        if !pattern.read_if_ordinary(byte)? {
             return Ok(end_of_token(end, byte));
         }
-        pattern.read_ordinary(byte)?;
         end += 1;
     }
     Ok(None)

@@ -17,7 +17,7 @@ use hyphenation_breaks::entry::Payload;
 use hyphenation_breaks::language::Language;
 use hyphenation_dictionary::dictionary::{Dictionary, Extended, Standard};
 pub use hyphenation_grammar::{Cause, Error, Result};
-use hyphenation_reader::reader::{Refusal, read_extended, read_standard};
+use hyphenation_reader::reader::{Refusal, take_extended, take_standard};
 use hyphenation_writer::writer::{write_extended, write_standard};
 use std::alloc::{AllocError, Global};
 use std::fs::Files;
@@ -213,7 +213,7 @@ impl Load for Standard {
 
     fn from_read(alloc: Global, read: io::Result<Vec<u8>>) -> Result<Standard> {
         match read {
-            Ok(bytes) => match read_standard(alloc, &bytes) {
+            Ok(bytes) => match take_standard(alloc, bytes) {
                 Ok(dictionary) => Ok(dictionary),
                 Err(refusal) => Err(error_of(refusal)),
             },
@@ -246,7 +246,7 @@ impl Load for Extended {
 
     fn from_read(alloc: Global, read: io::Result<Vec<u8>>) -> Result<Extended> {
         match read {
-            Ok(bytes) => match read_extended(alloc, &bytes) {
+            Ok(bytes) => match take_extended(alloc, bytes) {
                 Ok(dictionary) => Ok(dictionary),
                 Err(refusal) => Err(error_of(refusal)),
             },

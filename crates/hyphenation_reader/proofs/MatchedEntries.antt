@@ -10,17 +10,18 @@ use Rattle.hyphenation_breaks.specs.Break.{Change as Changed, ascend_on, is_boun
 use Rattle.hyphenation_breaks.specs.Invariant.{has_letter}
 use Rattle.hyphenation_grammar.specs.Items.{change_at}
 use Rattle.hyphenation_reader.specs.Private.Matched.{ascend, have_values, pending, head_change_at, tail_after, matched_entries, unmatched_changes, suits_form_in_pattern, cause_before_match}
-use Rattle.hyphenation_grammar.specs.Parsed.{ReadPattern, is_bad, read_pattern}
-use Rattle.hyphenation_reader.specs.Private.Parsed.{ReadLater, no_later, read_later, first_token, pattern_parts}
+use Rattle.hyphenation_grammar.specs.Parsed.{ReadPattern, IsPatternToken, is_bad, read_pattern}
+use Rattle.hyphenation_reader.specs.Private.Parsed.{ReadLater, no_later, read_later, first_token, pattern_parts, both as all}
 use Rattle.hyphenation_reader.specs.Private.LineAnswers.{breaks_listed, entries_of, suits_key, pattern_cause, places_cause}
 use Rattle.hyphenation_grammar.specs.Tokens.{elements_of, values_from, two_values}
 use Rattle.hyphenation_breaks.specs.declared.entry.Entry.{Entry}
 use Rattle.hyphenation_grammar.specs.declared.Cause.{Cause}
 use Rattle.hyphenation_grammar.specs.declared.Cause.TheVariants.{Value as BadValue, Pattern, NoLetters, Number, Place, Change}
 use Rattle.hyphenation_grammar.specs.declared.form.Form.{Form}
+use Rattle.hyphenation_grammar.specs.declared.form.Version.{Version}
 use Rattle.hyphenation_grammar.specs.declared.tokens.PatternElement.{PatternElement}
 use Rattle.hyphenation_grammar.specs.declared.tokens.PatternElement.TheVariants.{Letter, Value}
-use Rattle.hyphenation_reader.proofs.LineCauses.{found_marks, read_marks}
+use Rattle.hyphenation_reader.proofs.LineCauses.{found_marks, read_marks, spaced}
 use Rattle.hyphenation_reader.proofs.ReadTokens.{both_parts}
 
 left : (a b : Bool) → (a && b) ≡ true → a ≡ true
@@ -198,6 +199,13 @@ module _ (values : List (ℕ × ℕ)) (listed : List (ℕ × Option Changed)) (e
       → made ≡ entries_of payload_of values listed
   made_all {C} payload_of made is all =
       sym (append-nil made) ∙ ap (λ (vs : List (ℕ × ℕ)). made ++ matched_entries payload_of vs (pending next rest)) (sym (drop_of_length-le values past)) ∙ is ∙ makes payload_of 0 0 values listed e f all
+
+-- the contents of a token alone
+pub read_alone : (version : Version) (r : ReadPattern) (text : List ℕ) → IsPatternToken r text → pattern_parts version (spaced text) ≡ Some (r, no_later)
+read_alone version r text token =
+    ap (pattern_parts version) token.1
+    ∙ ap (λ (empty : Bool). cond empty None (all (read_pattern version text) (Some no_later))) (exceeds 0 (length text) token.0)
+    ∙ ap (λ (o : Option ReadPattern). all o (Some no_later)) (sym (token.2 version))
 
 -- the values of marks ascend, where no two stand in succession
 values_ascend : (after : Bool) (at : ℕ) (marks : List PatternElement) → two_values after marks ≡ false → ascend (at + cond after 1 0) (values_from at marks) ≡ true

@@ -16,7 +16,7 @@ ghost use Rattle.hyphenation_reader.specs.Private.Edits.{ReadsException};
 ghost use Rattle.hyphenation_reader.specs.Edits.{as_line, after_edit, has_line_feed, is_good_edit, is_sound_line};
 ghost use Rattle.hyphenation_reader.specs.Edits.{is_word_alone, after_addition, after_removal};
 
-use crate::items::exception_of;
+use crate::items::{Later, exception_of};
 use crate::laws::spelt_is_sound;
 use hyphenation_breaks::entry::{Listing, Payload};
 use hyphenation_dictionary::dictionary::Dictionary;
@@ -121,7 +121,8 @@ fn read_exception<B: Listing>(
         kind,
         version: Version::First,
     };
-    match exception_of(alloc, form, exception)? {
+    let mut later = Later::new(alloc);
+    match exception_of(alloc, form, exception, &mut later)? {
         Ok(found) => Ok(Some(found)),
         Err(_) => Ok(None),
     }

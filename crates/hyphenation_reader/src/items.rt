@@ -1,6 +1,6 @@
 //! The item that one line spells, or the first test that the line fails by itself.
 
-ghost use Rattle.std.specs.Prelude.{◌≡◌, ◌==◌, IfOk, IfErr, IfSome, IsTrue, OnOk, None, Some, IsUtf8, List, ℕ, codes};
+ghost use Rattle.std.specs.Prelude.{◌≡◌, ◌==◌, IfOk, IfErr, IfSome, IsTrue, OnOk, None, Some, IsUtf8, List, [], ℕ, codes};
 ghost use Rattle.std.specs.Prelude.{false, is_some, map, nat_lt, option_map, true};
 ghost use Rattle.std.specs.List.{list_all};
 ghost use Rattle.std.specs.Str.{is_utf8};
@@ -11,12 +11,13 @@ ghost use Rattle.hyphenation_reader.specs.Private.Judging.{early_cause};
 ghost use Rattle.hyphenation_grammar.specs.Lines.{between_spaces, strip_prefix, tokens_after};
 ghost use Rattle.hyphenation_reader.specs.Private.Matched.{ascend, cause_before_match, head_change_at, have_values};
 ghost use Rattle.hyphenation_reader.specs.Private.Matched.{suits_form_in_pattern, tail_after, pending};
-ghost use Rattle.hyphenation_grammar.specs.Parsed.{IsPatternLine, IsPatternToken, pattern_view};
+ghost use Rattle.hyphenation_grammar.specs.Parsed.{IsPatternLine, IsPatternToken, later_token, pattern_view, some_if};
+ghost use Rattle.hyphenation_grammar.specs.declared.tokens.LaterToken.TheVariants.{Sound};
 ghost use Rattle.hyphenation_reader.specs.Private.Parsed.{exception_parts, no_later, pattern_parts, read_later};
 ghost use Rattle.hyphenation_reader.specs.Private.Parsed.{later_view};
 ghost use Rattle.hyphenation_reader.specs.Private.LineAnswers.{ReturnsPattern, ReturnsListed, ReturnsException, IsItemIn};
 ghost use Rattle.hyphenation_reader.specs.Private.LineAnswers.{breaks_listed, entries_of, exception_cause};
-ghost use Rattle.hyphenation_reader.specs.Private.LineAnswers.{suits_word, suits_form, places_cause};
+ghost use Rattle.hyphenation_reader.specs.Private.LineAnswers.{suits_word, suits_form, places_cause, token_cause};
 
 use hyphenation_breaks::entry::{Entry, Listing, Payload, has_letter};
 use hyphenation_breaks::extended::Subregion;
@@ -47,15 +48,22 @@ pub(crate) struct LineBuffers<C: Drop> {
     pub pattern: PatternToken,
     // The entries of a key.
     pub entries: Vec<Entry<C>>,
+    // The later tokens of a line.
+    later: Later,
 }
 
 // Does as the derived one would. As a call it is one step in the proof of a function that holds these buffers. The
 // derived one is a step for each buffer, at each way out.
 impl<C: Drop> Drop for LineBuffers<C> {
     fn drop(self) {
-        let LineBuffers { pattern, entries } = self;
+        let LineBuffers {
+            pattern,
+            entries,
+            later,
+        } = self;
         drop(pattern);
         drop(entries);
+        drop(later);
     }
 }
 
@@ -65,6 +73,7 @@ impl<C: Drop> LineBuffers<C> {
         LineBuffers {
             pattern: PatternToken::new(alloc),
             entries: Vec::new(alloc),
+            later: Later::new(alloc),
         }
     }
 }
@@ -93,7 +102,7 @@ pub(crate) fn item_of<C: Payload, B: Listing>(
     match strip_prefix(b"p ", line) {
         Some(text) => pattern_item(alloc, form, text, is_read, buffers),
         None => match strip_prefix(b"e ", line) {
-            Some(text) => exception_item::<C, B>(alloc, form, text),
+            Some(text) => exception_item::<C, B>(alloc, form, text, &mut buffers.later),
             None => Ok(Ok(Item::Nothing)),
         },
     }
@@ -145,10 +154,13 @@ fn pattern_item<C: Payload, B: Listing>(
     requires read { is_read ≡ true → IsPatternToken (pattern_view buffers.old.pattern) text.now }
     ensures { IfOk result (λ found. ReturnsPattern buffers.new form C.payload_of B.listing_of text.now found) }
 {
-    let Some(later) = pattern_parts(alloc, form.version, text, is_read, &mut buffers.pattern)?
-    else {
+    if is_read {
+        return item_of_read(form, text, buffers);
+    }
+    let mut later = Later::new(alloc);
+    if !pattern_parts(alloc, form.version, text, &mut buffers.pattern, &mut later)? {
         return Ok(Err(Cause::Token));
-    };
+    }
     if let Some(cause) = pattern_cause(form, &buffers.pattern, &later) {
         return Ok(Err(cause));
     }
@@ -158,33 +170,84 @@ fn pattern_item<C: Payload, B: Listing>(
     Ok(Ok(Item::Pattern))
 }
 
-// Reads the tokens of a `p` line: the first into `pattern`, and returns the later ones. `None` if one of them can't be
-// read. Inlined: it avoids copying the parsed pattern.
+// Returns the item of a `p` line of one token, whose contents the buffers have, or the first test that it fails. Its entries
+// are left in the buffers. Most `p` lines are read so: without later tokens there are no changes to judge and to match.
+#[inline(always)]
+fn item_of_read<C: Payload, B: Listing>(
+    form: Form,
+    text: &[u8],
+    buffers: &mut LineBuffers<C>,
+) -> Result<Result<Item<B>, Cause>, AllocError>
+    requires { IsPatternToken (pattern_view buffers.old.pattern) text.now }
+    ensures { IfOk result (λ found. ReturnsPattern buffers.new form C.payload_of B.listing_of text.now found) }
+{
+    if let Some(cause) = token_cause(&buffers.pattern) {
+        return Ok(Err(cause));
+    }
+    plain_entries(&buffers.pattern.values, &mut buffers.entries)?;
+    Ok(Ok(Item::Pattern))
+}
+
+// Returns the first test after `Token` that a `p` line without later tokens fails.
+#[inline(always)]
+fn token_cause(pattern: &PatternToken) -> Option<Cause>
+    ensures { result ≡ token_cause (pattern_view pattern.now) }
+{
+    if pattern.is_bad() {
+        return Some(Cause::Value);
+    }
+    if pattern.has_two_values {
+        return Some(Cause::Pattern);
+    }
+    if !has_letter(&pattern.key) {
+        return Some(Cause::NoLetters);
+    }
+    None
+}
+
+// Fills `entries` with the values, each without a change. The only error is out of memory.
+#[inline(always)]
+fn plain_entries<C: Payload>(
+    values: &[(usize, u8)],
+    entries: &mut Vec<Entry<C>>,
+) -> Result<(), AllocError>
+    ensures { OnOk result (entries.new.items ≡ entries_of C.payload_of values.now []) }
+{
+    entries.clear();
+    for value in values {
+        let place = to_u32(value.0)?;
+        entries.push(Entry {
+            place,
+            value: value.1,
+            change: C::from_change(None),
+        })?;
+    }
+    Ok(())
+}
+
+// Reads the tokens of a `p` line: the first into `pattern`, and those after it into `later`. False if one of them can't be
+// read.
 #[inline(always)]
 fn pattern_parts(
     alloc: Global,
     version: Version,
     text: &[u8],
-    is_read: bool,
     pattern: &mut PatternToken,
-) -> Result<Option<Later>, AllocError>
-    requires utf8 { IsUtf8 text.now }
-    requires read { is_read ≡ true → IsPatternToken (pattern_view pattern.old) text.now }
-    ensures { IfOk result (λ found.
-        option_map (λ later. (pattern_view pattern.new, later_view later)) found
+    later: &mut Later,
+) -> Result<bool, AllocError>
+    requires { IsUtf8 text.now }
+    ensures { IfOk result (λ is_read.
+        some_if is_read (pattern_view pattern.new, later_view later.new)
         ≡ pattern_parts version (between_spaces text.now)) }
 {
-    if is_read {
-        return Ok(Some(Later::none(alloc)));
-    }
-    let (first, later) = first_token(text);
+    let (first, after) = first_token(text);
     if first.is_empty() {
-        return Ok(None);
+        return Ok(false);
     }
     if !read_pattern(alloc, version, first, pattern)? {
-        return Ok(None);
+        return Ok(false);
     }
-    later_of(alloc, later)
+    read_later(alloc, after, later)
 }
 
 // Returns the first test after `Token` that a `p` line fails, before its changes are matched with its values. Inlined
@@ -316,55 +379,62 @@ fn exception_item<C: Payload, B: Listing>(
     alloc: Global,
     form: Form,
     text: &[u8],
+    later: &mut Later,
 ) -> Result<Result<Item<B>, Cause>, AllocError>
     requires { IsUtf8 text.now }
     ensures { IfOk result (λ found. ReturnsListed C form C.payload_of B.listing_of text.now found) }
 {
-    match exception_of(alloc, form, text)? {
+    match exception_of(alloc, form, text, later)? {
         Ok((word, listed)) => Ok(Ok(Item::Exception { word, listed })),
         Err(cause) => Ok(Err(cause)),
     }
 }
 
-// Returns the word of an `e` line and its listed breaks, given the text after `e `, or the first test that it fails.
+// Returns the word of an `e` line and its listed breaks, given the text after `e `, or the first test that it fails. `later` is
+// filled anew, and means nothing then.
 pub(crate) fn exception_of<B: Listing>(
     alloc: Global,
     form: Form,
     text: &[u8],
+    later: &mut Later,
 ) -> Result<Result<(String, Vec<B>), Cause>, AllocError>
     requires { IsUtf8 text.now }
     ensures { IfOk result (λ found. (line : List ℕ) → Some text.now ≡ strip_prefix (codes "e ") line
         → ReturnsException form B.listing_of line found) }
 {
-    let Some((word, later)) = exception_parts(alloc, text)? else {
+    let Some(word) = exception_parts(alloc, text, later)? else {
         return Ok(Err(Cause::Token));
     };
-    if let Some(cause) = exception_cause(form, word.as_bytes(), &later) {
+    if let Some(cause) = exception_cause(form, word.as_bytes(), later) {
         return Ok(Err(cause));
     }
-    let listed = listed_of(alloc, later.listed)?;
+    let listed = listed_of(alloc, &mut later.listed)?;
     Ok(Ok((word, listed)))
 }
 
-// Returns the word of an `e` line and its later tokens. `None` if one of them can't be read.
+// Returns the word of an `e` line, and reads the tokens after it into `later`. `None` if one of them can't be read.
 #[inline(always)]
-fn exception_parts(alloc: Global, text: &[u8]) -> Result<Option<(String, Later)>, AllocError>
+fn exception_parts(
+    alloc: Global,
+    text: &[u8],
+    later: &mut Later,
+) -> Result<Option<String>, AllocError>
     requires { IsUtf8 text.now }
     ensures { IfOk result (λ found.
-        option_map (λ x. (string_bytes x.0, later_view x.1)) found
+        option_map (λ word. (string_bytes word, later_view later.new)) found
         ≡ exception_parts (between_spaces text.now)) }
 {
-    let (first, later) = first_token(text);
+    let (first, after) = first_token(text);
     if first.is_empty() {
         return Ok(None);
     }
     let Some(word) = string_of(alloc, first)? else {
         return Ok(None);
     };
-    let Some(later) = later_of(alloc, later)? else {
+    if !read_later(alloc, after, later)? {
         return Ok(None);
-    };
-    Ok(Some((word, later)))
+    }
+    Ok(Some(word))
 }
 
 // Returns the first test after `Token` that an `e` line fails.
@@ -403,23 +473,26 @@ fn suits_word(form: Form, word: &[u8], b: &(usize, Option<Subregion>)) -> bool
     }
 }
 
-// Returns breaks as a dictionary lists them.
+// Returns breaks as a dictionary lists them. Their changes are moved out of `listed`.
 fn listed_of<B: Listing>(
     alloc: Global,
-    listed: Vec<(usize, Option<Subregion>)>,
+    listed: &mut Vec<(usize, Option<Subregion>)>,
 ) -> Result<Vec<B>, AllocError>
-    ensures { IfOk result (λ found. found.items ≡ map B.listing_of (breaks_listed listed.items)) }
+    ensures { IfOk result (λ found. found.items ≡ map B.listing_of (breaks_listed listed.old.items)) }
 {
     let mut found = Vec::with_capacity(alloc, listed.len())?;
-    for (place, change) in listed {
+    for at in 0..listed.len() {
+        let place = listed[at].0;
+        let change = listed[at].1.take();
         found.push(B::from_place(place, change))?;
     }
     Ok(found)
 }
 
-// The later tokens of a line, as far as they are read.
+// The later tokens of a line, as far as they are read. They can be read again and again into one of these, which keeps its
+// list.
 #[derive(Drop)]
-struct Later {
+pub(crate) struct Later {
     // Places with their changes, as far as the parts are numbers.
     listed: Vec<(usize, Option<Subregion>)>,
     // Whether each part is a number that must be one.
@@ -432,8 +505,8 @@ impl Later {
     ghost use Rattle.std.specs.Prelude.{◌≡◌, IfOk, OnOk};
     ghost use Rattle.hyphenation_reader.specs.Private.Parsed.{no_later, later_view, with_token};
 
-    // Returns the contents of no tokens. Nothing is allocated.
-    fn none(alloc: Global) -> Self
+    // Returns the contents of no tokens. Nothing is allocated yet.
+    pub(crate) fn new(alloc: Global) -> Self
         ensures { later_view result ≡ no_later }
     {
         Later {
@@ -443,18 +516,17 @@ impl Later {
         }
     }
 
-    // Returns the contents of no tokens, with room for `count` of them.
-    fn with_room(alloc: Global, count: usize) -> Result<Self, AllocError>
-        ensures { IfOk result (λ later. later_view later ≡ no_later) }
+    // Empties the contents, and keeps the list.
+    fn clear(&mut self)
+        ensures { later_view self.new ≡ no_later }
     {
-        Ok(Later {
-            listed: Vec::with_capacity(alloc, count)?,
-            are_numbers: true,
-            are_sound: true,
-        })
+        self.listed.clear();
+        self.are_numbers = true;
+        self.are_sound = true;
     }
 
     // Appends a token.
+    #[inline(always)]
     fn add(&mut self, token: LaterToken) -> Result<(), AllocError>
         ensures { OnOk result (later_view self.new ≡ with_token (later_view self.old) token) }
     {
@@ -470,26 +542,41 @@ impl Later {
     }
 }
 
-// Reads the tokens after a space, if there is a space. `None` if one of them can't be read.
+// Reads the tokens after a space into `later`, if there is a space. False if one of them can't be read.
 #[inline]
-fn later_of(alloc: Global, after: Option<&[u8]>) -> Result<Option<Later>, AllocError>
+fn read_later(alloc: Global, after: Option<&[u8]>, later: &mut Later) -> Result<bool, AllocError>
     requires { IfSome after (λ text. IsUtf8 text.now) }
-    ensures { IfOk result (λ found.
-        option_map later_view found ≡ read_later no_later (tokens_after (option_map (λ text. text.now) after.entry))) }
+    ensures { IfOk result (λ is_read. some_if is_read (later_view later.new)
+        ≡ read_later no_later (tokens_after (option_map (λ text. text.now) after.entry))) }
 {
-    // A token takes at least two bytes, with the space after it; only the last may take one.
-    let count = after.map_or(0, |text| (text.len() / 2 + 1).min(8));
-    let mut later = Later::with_room(alloc, count)?;
+    later.clear();
     let mut rest = after;
     while let Some(text) = rest {
         let (token, more) = first_token(text);
-        match later_token(alloc, token)? {
-            Some(token) => later.add(token)?,
-            None => return Ok(None),
+        match short_place(token) {
+            Some(place) => later.add(LaterToken::Sound(place, None))?,
+            None => match later_token(alloc, token)? {
+                Some(token) => later.add(token)?,
+                None => return Ok(false),
+            },
         }
         rest = more;
     }
-    Ok(Some(later))
+    Ok(true)
+}
+
+// Returns the place that a later token is, if it is a number of one or two digits. Nearly all places are so short.
+#[inline(always)]
+fn short_place(token: &[u8]) -> Option<usize>
+    ensures { IfSome result (λ place. later_token token.now ≡ Some (Sound place None)) }
+{
+    match token {
+        [ones] if ones.is_ascii_digit() => Some(usize::from(*ones - b'0')),
+        [tens, ones] if *tens != b'0' && tens.is_ascii_digit() && ones.is_ascii_digit() => {
+            Some(usize::from(*tens - b'0') * 10 + usize::from(*ones - b'0'))
+        }
+        _ => None,
+    }
 }
 
 // Returns the first of the tests `Number` and `Place` that later tokens fail. Their places are bytes of the text.

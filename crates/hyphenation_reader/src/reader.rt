@@ -5,7 +5,8 @@ ghost use Rattle.std.specs.Prelude.{◌≡◌, [], None, Some, IfOk, IfErr, IsUt
 ghost use Rattle.std.specs.FinMap as finite;
 ghost use Rattle.std.specs.String.{string_bytes};
 ghost use Rattle.hyphenation_reader.specs.Private.Builder.{HasHead, IsAfterHead, spell_nothing, items_held, no_items};
-ghost use Rattle.hyphenation_reader.specs.Private.Builder.{with_item, repeated_by};
+ghost use Rattle.hyphenation_reader.specs.Private.Builder.{contents_unfrozen, with_item, repeated_by};
+ghost use Rattle.hyphenation_breaks.specs.Invariant.{IsDictionary};
 ghost use Rattle.hyphenation_grammar.specs.Form.{form_of};
 ghost use Rattle.hyphenation_grammar.specs.Lines.{lines_of, language_of, minima_of};
 ghost use Rattle.hyphenation_grammar.specs.Judging.{own_cause, fault_after, refusal_of};
@@ -361,25 +362,73 @@ fn read_lines<C: Payload, B: Listing>(
     Ok(builder)
 }
 
-// Returns the dictionary of an accepted text, given its head and its items.
-fn dictionary_of<C: Payload, B: Listing>(
-    alloc: Global,
+// The parts of the dictionary of an accepted text. Its patterns are not frozen yet, which needs nothing of the text.
+struct Unfrozen<C: Payload, B: Listing> {
+    language: Language,
+    left: u8,
+    right: u8,
+    patterns: Trie<Entry<C>>,
+    exceptions: Exceptions<B>,
+}
+
+// Does as the derived one would, in one step of a proof.
+impl<C: Payload, B: Listing> Drop for Unfrozen<C, B> {
+    fn drop(self) {
+        let Unfrozen {
+            language: _,
+            left: _,
+            right: _,
+            patterns,
+            exceptions,
+        } = self;
+        drop(patterns);
+        drop(exceptions);
+    }
+}
+
+// Returns the parts of the dictionary of an accepted text, given its head and its items.
+fn unfrozen_of<C: Payload, B: Listing>(
     form: Form,
     bytes: &[u8],
     head: Head<'_>,
     builder: Builder<C, B>,
-) -> Result<Dictionary<C, B>, AllocError>
+) -> Unfrozen<C, B>
     requires accepted { fault_after form [] (lines_of bytes.now) ≡ None }
     requires head { HasHead form (lines_of bytes.now) head.language (head.left, head.right) }
     requires spelt { items_held builder ≡ items_of_lines form.version C.payload_of B.listing_of (lines_of bytes.now) }
     requires begins { EachBeginsKey builder.patterns }
-    ensures { IfOk result (λ dictionary. dictionary
-        ≡ contents_in form.version C.payload_of B.listing_of (lines_of bytes.now)) }
+    ensures contents { contents_unfrozen result ≡ contents_in form.version C.payload_of B.listing_of (lines_of bytes.now) }
+    ensures sound { IsDictionary C.change_of B.meaning (contents_unfrozen result) }
+    ensures begins { EachBeginsKey result.patterns }
 {
     let (patterns, exceptions) = builder.into_parts();
     spelt_is_sound();
-    let patterns = patterns.freeze(alloc)?;
-    Ok(parts::dictionary_of(head.language, head.left, head.right, patterns, exceptions))
+    Unfrozen {
+        language: head.language,
+        left: head.left,
+        right: head.right,
+        patterns,
+        exceptions,
+    }
+}
+
+impl<C: Payload, B: Listing> Unfrozen<C, B> {
+    // Returns the dictionary of these parts. The only error is out of memory.
+    fn into_dictionary(self, alloc: Global) -> Result<Dictionary<C, B>, AllocError>
+        requires sound { IsDictionary C.change_of B.meaning (contents_unfrozen self) }
+        requires begins { EachBeginsKey self.patterns }
+        ensures { IfOk result (λ dictionary. dictionary ≡ contents_unfrozen self) }
+    {
+        let Unfrozen {
+            language,
+            left,
+            right,
+            patterns,
+            exceptions,
+        } = self;
+        let patterns = patterns.freeze(alloc)?;
+        Ok(parts::dictionary_of(language, left, right, patterns, exceptions))
+    }
 }
 
 // Returns the form of a text of that kind, whose first line names the version.
@@ -391,6 +440,29 @@ fn form_of(kind: Kind, bytes: &[u8]) -> Form
         None => Version::First,
     };
     Form { kind, version }
+}
+
+// Returns the parts of the dictionary of a text of that kind, or the refusal of the text.
+fn read_unfrozen<C: Payload, B: Listing>(
+    alloc: Global,
+    kind: Kind,
+    bytes: &[u8],
+) -> Result<Unfrozen<C, B>, Refusal>
+    ensures accepted { OnOk result (refusal_of kind bytes.now ≡ None) }
+    ensures contents { IfOk result (λ unfrozen.
+        contents_unfrozen unfrozen ≡ contents_of kind C.payload_of B.listing_of (lines_of bytes.now)) }
+    ensures sound { IfOk result (λ unfrozen. IsDictionary C.change_of B.meaning (contents_unfrozen unfrozen)) }
+    ensures begins { IfOk result (λ unfrozen. EachBeginsKey unfrozen.patterns) }
+    ensures refused { IfErr result (λ refusal. IsRefusal refusal (refusal_of kind bytes.now)) }
+{
+    let form = form_of(kind, bytes);
+    // No `?`: there is no rule for one whose result holds a language and a reference.
+    let head = match read_head(alloc, form, bytes) {
+        Ok(head) => head,
+        Err(refusal) => return Err(refusal),
+    };
+    let builder = read_lines(alloc, form, bytes, head.rest)?;
+    Ok(unfrozen_of(form, bytes, head, builder))
 }
 
 /// Reads a dictionary of a kind from its text, in either version, in one pass. A refusal names the first line that
@@ -406,14 +478,24 @@ pub fn read_text<C: Payload, B: Listing>(
     ensures contents { IfOk result (λ d. d ≡ contents_of kind C.payload_of B.listing_of (lines_of bytes.now)) }
     ensures refused { IfErr result (λ refusal. IsRefusal refusal (refusal_of kind bytes.now)) }
 {
-    let form = form_of(kind, bytes);
-    // No `?`: there is no rule for one whose result holds a language and a reference.
-    let head = match read_head(alloc, form, bytes) {
-        Ok(head) => head,
-        Err(refusal) => return Err(refusal),
-    };
-    let builder = read_lines(alloc, form, bytes, head.rest)?;
-    Ok(dictionary_of(alloc, form, bytes, head, builder)?)
+    let unfrozen = read_unfrozen(alloc, kind, bytes)?;
+    Ok(unfrozen.into_dictionary(alloc)?)
+}
+
+/// Reads a dictionary as [`read_text`] does, and lets the text go as soon as its lines are read. So the memory of the text is
+/// free for the rest of the work.
+pub fn take_text<C: Payload, B: Listing>(
+    alloc: Global,
+    kind: Kind,
+    bytes: Vec<u8>,
+) -> Result<Dictionary<C, B>, Refusal>
+    ensures accepted { OnOk result (refusal_of kind bytes.items ≡ None) }
+    ensures contents { IfOk result (λ d. d ≡ contents_of kind C.payload_of B.listing_of (lines_of bytes.items)) }
+    ensures refused { IfErr result (λ refusal. IsRefusal refusal (refusal_of kind bytes.items)) }
+{
+    let unfrozen = read_unfrozen(alloc, kind, &bytes)?;
+    drop(bytes);
+    Ok(unfrozen.into_dictionary(alloc)?)
 }
 
 /// Reads a standard dictionary from its text. Refused for the first bad line, or if memory runs out.
@@ -432,4 +514,22 @@ pub fn read_extended(alloc: Global, bytes: &[u8]) -> Result<Extended, Refusal>
     ensures refused { IfErr result (λ refusal. IsRefusal refusal (refusal_of Kind.Extended bytes.now)) }
 {
     read_text(alloc, Kind::Extended, bytes)
+}
+
+/// Reads a standard dictionary as [`read_standard`] does, and lets the text go as soon as its lines are read.
+pub fn take_standard(alloc: Global, bytes: Vec<u8>) -> Result<Standard, Refusal>
+    ensures accepted { OnOk result (refusal_of Kind.Standard bytes.items ≡ None) }
+    ensures contents { IfOk result (λ d. d ≡ standard_contents bytes.items) }
+    ensures refused { IfErr result (λ refusal. IsRefusal refusal (refusal_of Kind.Standard bytes.items)) }
+{
+    take_text(alloc, Kind::Standard, bytes)
+}
+
+/// Reads an extended dictionary as [`read_extended`] does, and lets the text go as soon as its lines are read.
+pub fn take_extended(alloc: Global, bytes: Vec<u8>) -> Result<Extended, Refusal>
+    ensures accepted { OnOk result (refusal_of Kind.Extended bytes.items ≡ None) }
+    ensures contents { IfOk result (λ d. d ≡ extended_contents bytes.items) }
+    ensures refused { IfErr result (λ refusal. IsRefusal refusal (refusal_of Kind.Extended bytes.items)) }
+{
+    take_text(alloc, Kind::Extended, bytes)
 }

@@ -4,7 +4,8 @@ use Rattle.std.specs.Prelude.{◌≡◌, ◌+◌, ◌<◌, ◌≤◌, IsUtf8, Bo
 use Rattle.std.specs.FinMap as finite
 use Rattle.std.specs.String.{string_bytes}
 use Rattle.hyphenation_breaks.specs.declared.entry.Entry.{Entry}
-use Rattle.hyphenation_dictionary.specs.Parts.{patterns_of}
+use Rattle.hyphenation_breaks.specs.Dictionary.{Contents}
+use Rattle.hyphenation_dictionary.specs.Parts.{contents_of_parts, patterns_of}
 use Rattle.hyphenation_grammar.specs.Reading.{SpeltItems}
 use Rattle.hyphenation_grammar.specs.Judging.{fault_after, is_item_line}
 use Rattle.std.specs.List.{list_all}
@@ -15,10 +16,15 @@ use Rattle.hyphenation_grammar.specs.declared.Cause.TheVariants.{RepeatedPattern
 use Rattle.hyphenation_reader.specs.declared.items.Item.{Item}
 use Rattle.hyphenation_reader.specs.declared.items.Item.TheVariants.{Nothing, Pattern, Exception}
 use Rattle.hyphenation_reader.specs.declared.reader.Builder.{Builder}
+use Rattle.hyphenation_reader.specs.declared.reader.Unfrozen.{Unfrozen}
 
 -- Keys with their entries, and words with their listed breaks.
 abbrev pub items_held : {C B : Type 0} → Builder C B → SpeltItems C B
 items_held builder = record { patterns = patterns_of builder.patterns; exceptions = builder.exceptions }
+
+-- The dictionary that parts make, once their patterns are frozen.
+abbrev pub contents_unfrozen : {C B : Type 0} → Unfrozen C B → Contents C B
+contents_unfrozen u = contents_of_parts u.language u.left u.right u.patterns u.exceptions
 
 -- No items, as before the first line.
 abbrev pub no_items : {C B : Type 0} → SpeltItems C B

@@ -111,6 +111,13 @@ cause_by fits pattern later =
 abbrev pub pattern_cause : Form → ReadPattern → ReadLater → Option Cause
 pattern_cause form pattern later = cause_by (suits_key form pattern.key pattern.values) pattern later
 
+-- The first test after Token that a `p` line without later tokens fails.
+abbrev pub token_cause : ReadPattern → Option Cause
+token_cause pattern =
+    if is_bad pattern then Some BadValue
+    else (if pattern.has_two_values then Some TwoValues
+    else (if not (has_letter pattern.key) then Some NoLetters else None))
+
 -- The first test after Token that an `e` line fails.
 abbrev pub exception_cause : Form → List ℕ → ReadLater → Option Cause
 exception_cause form word later =

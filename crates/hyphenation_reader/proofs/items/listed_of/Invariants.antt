@@ -1,6 +1,9 @@
-use Rattle.std.proofs.Common.{◌≡◌, ◌++◌, map}
+use Rattle.std.proofs.Common.{◌≡◌, ◌++◌, drop, length, map}
 use Rattle.hyphenation_reader.specs.Private.LineAnswers.{breaks_listed}
 use Rattle.hyphenation_reader.proofs.items.listed_of.Given as goal
 
-abbrev pub invariant-loop-place : goal.invariant-loop-place
-invariant-loop-place g l = l.found.items ++ map g.B.Listing.listing_of (breaks_listed l.place-iterator.rest.items) ≡ map g.B.Listing.listing_of (breaks_listed l.fn.listed.items)
+abbrev pub invariant-loop-at : goal.invariant-loop-at
+invariant-loop-at g l = record {
+  count : length l.listed.items ≡ length l.fn.listed.items;
+  made : l.found.items ++ map g.B.Listing.listing_of (breaks_listed (drop l.at l.listed.items)) ≡ map g.B.Listing.listing_of (breaks_listed l.fn.listed.items);
+}

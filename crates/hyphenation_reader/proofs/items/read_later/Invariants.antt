@@ -3,7 +3,7 @@ use Rattle.std.specs.Prelude.{IsUtf8, IfSome}
 use Rattle.std.specs.Option.{option_map, option_map_or}
 use Rattle.hyphenation_grammar.specs.Lines.{tokens_after}
 use Rattle.hyphenation_reader.specs.Private.Parsed.{no_later, read_later, later_view}
-use Rattle.hyphenation_reader.proofs.items.later_of.Given as goal
+use Rattle.hyphenation_reader.proofs.items.read_later.Given as goal
 
 abbrev pub invariant-loop-rest : goal.invariant-loop-rest
 invariant-loop-rest l = record {
