@@ -1,6 +1,6 @@
 pub mod TextMaps
 pub mod ExceptionsLemmas
-pub mod UsedSlots
+pub mod TaggedSlots
 pub mod InvariantLemmas
 pub mod PatternsLemmas
 pub mod EntryTests

@@ -1,16 +1,16 @@
 //! Exceptions: words, each with a list.
 //!
-//! A table of 16,384 flags, indexed by a cheap hash, answers most look-ups of words that are no exceptions. The other
-//! look-ups ask a hash map.
+//! A table of 16,384 slots, indexed by a cheap hash, answers most look-ups of words that are no exceptions. A slot has a
+//! tag, a further part of the hash. Only words with the tag of their slot ask a hash map.
 
-ghost use Rattle.std.specs.Prelude.{◌≡◌, ◌<◌, true, false, ℕ, List, IfOk, OnOk, OnErr, length, option_copied, replicate, slice_index_or};
+ghost use Rattle.std.specs.Prelude.{◌≡◌, ◌<◌, true, ℕ, List, IfOk, OnOk, OnErr, length, option_copied, replicate, slice_index};
 ghost use Rattle.std.specs.FinMap as finite;
 ghost use Rattle.std.specs.Option.{option_map};
 ghost use Rattle.std.specs.String.{string_bytes};
 ghost use Rattle.hyphenation_breaks.specs.Dictionary.{TextMap};
 ghost use Rattle.hyphenation_dictionary.specs.Private.Views.{exceptions_of};
 ghost use Rattle.hyphenation_dictionary.specs.Parts.{pair_views};
-ghost use Rattle.hyphenation_dictionary.specs.Private.Slots.{slot_count, slot_of, AreUsed};
+ghost use Rattle.hyphenation_dictionary.specs.Private.Slots.{slot_count, hash_of, slot_of, tag_of, stands_for, StandForNoLess, AreTagged};
 
 use std::alloc::{AllocError, Global};
 use std::collections::HashMap;
@@ -19,8 +19,9 @@ use std::marker::Model;
 /// Words, each with a list.
 #[derive(Drop)]
 pub struct Exceptions<B> {
-    // A flag for each slot. The slots of all listed words are used; other slots may be, too.
-    used: Vec<bool>,
+    // The tag of each slot, which stands for each listed word of the slot; it may stand for others, too. It is 0 where no
+    // word of the slot was ever listed.
+    tags: Vec<u8>,
     words: HashMap<String, Vec<B>>,
 }
 
@@ -30,7 +31,7 @@ impl<B> Model for Exceptions<B> {
     ghost use Rattle.std.specs.FinMap as finite;
     ghost use Rattle.hyphenation_breaks.specs.Dictionary.{TextMap};
     ghost use Rattle.hyphenation_dictionary.specs.Private.Views.{exceptions_of};
-    ghost use Rattle.hyphenation_dictionary.specs.Private.Slots.{AreUsed};
+    ghost use Rattle.hyphenation_dictionary.specs.Private.Slots.{AreTagged};
 
     ghost Value = { TextMap (List B) };
 
@@ -38,45 +39,78 @@ impl<B> Model for Exceptions<B> {
 
     ghost view = { λ e. exceptions_of e.words };
 
-    ghost invariant = { λ e. AreUsed e.used.items (exceptions_of e.words) };
+    ghost invariant = { λ e. AreTagged e.tags.items (exceptions_of e.words) };
 }
 
-// The number of slots. With a few thousand words, nine in ten look-ups of other words end at a slot that is not used.
+// The number of slots. With a few thousand words, nine in ten look-ups of other words end at a slot with the tag 0.
 const SLOTS: usize = 16384;
 
-// Returns the slot of a word: a hash of its length and of four of its bytes.
-fn slot_of(word: &[u8]) -> usize
-    ensures value { result ≡ slot_of word.now }
+// The tag of a slot that has words with several tags. It stands for all words.
+const SHARED: u8 = 255;
+
+// Returns a hash of a word, by its first four bytes and its last four. A shorter word has the hash 0: minima leave most
+// such words whole, so that they are not looked up.
+#[tactic(auto, unfolding(crate::specs::Private::Slots::hash_of))]
+fn hash_of(word: &[u8]) -> u32
+    ensures { result ≡ hash_of word.now }
+{
+    let Some((first, _)) = word.split_first_chunk::<4>() else {
+        return 0;
+    };
+    let Some((_, last)) = word.split_last_chunk::<4>() else {
+        return 0;
+    };
+    let early = u32::from_le_bytes(*first).wrapping_mul(0x9E37_79B1);
+    let late = u32::from_le_bytes(*last).wrapping_mul(0x85EB_CA77);
+    early.wrapping_add(late)
+}
+
+// Returns the slot of a word by its hash.
+fn slot_of(hash: u32) -> usize
+    ensures value { result ≡ slot_of hash }
     ensures below { result < slot_count }
 {
-    let count = word.len();
-    if count == 0 {
-        return 0;
-    }
-    let first = word[0] as usize;
-    let middle = word[count / 2] as usize;
-    let quarter = word[count / 4] as usize;
-    let last = word[count - 1] as usize;
-    // A sum of powers of 8 needs shifts and additions alone.
-    ((((last * 8 + quarter) * 8 + middle) * 8 + first) * 8 + count % 64) % SLOTS
+    (hash / 0x4_0000) as usize
 }
 
-// Returns a table of slots that are not used. The only error is out of memory.
-fn unused_slots(alloc: Global, count: usize) -> Result<Vec<bool>, AllocError>
-    ensures { IfOk result (λ v. v.items ≡ replicate count false) }
+// Returns the tag of a word by its hash, from 1 to 128.
+fn tag_of(hash: u32) -> u8
+    ensures value { result ≡ tag_of hash }
+    ensures above_zero { 0 < result }
 {
-    vec![in alloc; false; count]
+    (hash / 0x800 % 128) as u8 + 1
 }
 
-// Sets a slot used.
-fn set_used(used: &mut Vec<bool>, at: usize)
-    requires { at < length used.old.items }
-    ensures same_count { length used.new.items ≡ length used.old.items }
-    ensures used { slice_index_or used.new.items at false ≡ true }
-    ensures others_stay { (i : ℕ) → slice_index_or used.old.items i false ≡ true
-        → slice_index_or used.new.items i false ≡ true }
+// Whether a slot's tag stands for words with a tag of their own.
+fn stands_for(tag: u8, own: u8) -> bool
+    ensures { result ≡ stands_for tag own }
 {
-    used[at] = true;
+    tag == SHARED || tag == own
+}
+
+// Returns a table of slots without words. The only error is out of memory.
+fn empty_slots(alloc: Global, count: usize) -> Result<Vec<u8>, AllocError>
+    ensures { IfOk result (λ v. v.items ≡ replicate count 0) }
+{
+    vec![in alloc; 0u8; count]
+}
+
+// Returns a slot's tag after one more word with a tag of its own.
+fn joined_tag(tag: u8, own: u8) -> u8
+    ensures stands { stands_for result own ≡ true }
+    ensures others_stay { (other : ℕ) → 0 < other → stands_for tag other ≡ true → stands_for result other ≡ true }
+{
+    if tag == 0 || tag == own { own } else { SHARED }
+}
+
+// Lets the tag of a slot stand for words with a tag of their own, too.
+fn set_tag(tags: &mut Vec<u8>, at: usize, own: u8)
+    requires { at < length tags.old.items }
+    ensures same_count { length tags.new.items ≡ length tags.old.items }
+    ensures stands { stands_for (slice_index tags.new.items at) own ≡ true }
+    ensures others_stay { StandForNoLess tags.old.items tags.new.items }
+{
+    tags[at] = joined_tag(tags[at], own);
 }
 
 impl<B: Drop> Exceptions<B> {
@@ -86,9 +120,9 @@ impl<B: Drop> Exceptions<B> {
     pub fn with_room(alloc: Global, count: usize) -> Result<Exceptions<B>, AllocError>
         ensures { IfOk result (λ e. e ≡ finite.empty) }
     {
-        let used = unused_slots(alloc, SLOTS)?;
+        let tags = empty_slots(alloc, SLOTS)?;
         let words = HashMap::with_capacity(alloc, count)?;
-        Ok(Exceptions { used, words })
+        Ok(Exceptions { tags, words })
     }
 
     // Returns the list of a word, if it has one.
@@ -96,7 +130,9 @@ impl<B: Drop> Exceptions<B> {
     pub(crate) fn get(&self, word: &str) -> Option<&[B]>
         ensures { option_copied result ≡ finite.get self.now word.now }
     {
-        if !self.used[slot_of(word.as_bytes())] {
+        let hash = hash_of(word.as_bytes());
+        let tag = self.tags[slot_of(hash)];
+        if tag == 0 || !stands_for(tag, tag_of(hash)) {
             return None;
         }
         self.find(word)
@@ -118,9 +154,9 @@ impl<B: Drop> Exceptions<B> {
         ensures listed_before { IfOk result (λ old. option_map (λ v. v.items) old ≡ finite.get self.old (string_bytes word)) }
         ensures unchanged_on_error { OnErr result (self.new ≡ self.old) }
     {
-        let at = slot_of(word.as_bytes());
+        let hash = hash_of(word.as_bytes());
         let old = self.words.insert(word, listed)?;
-        set_used(&mut self.used, at);
+        set_tag(&mut self.tags, slot_of(hash), tag_of(hash));
         Ok(old)
     }
 
@@ -129,7 +165,7 @@ impl<B: Drop> Exceptions<B> {
         ensures removed { self.new ≡ finite.remove self.old word.now }
         ensures listed_before { option_map (λ v. v.items) result ≡ finite.get self.old word.now }
     {
-        // The slot stays used: another word may have it.
+        // The slot keeps its tag: another word may have it.
         self.words.remove(word)
     }
 

@@ -1,13 +1,13 @@
 use Rattle.std.proofs.Common.{◌∙◌, sym, ap, refl}
 use Rattle.std.specs.Option.{option_map}
 use Rattle.hyphenation_dictionary.proofs.ExceptionsLemmas.{get-exceptions_of, exceptions_of-remove}
-use Rattle.hyphenation_dictionary.proofs.UsedSlots.{used_after_remove}
+use Rattle.hyphenation_dictionary.proofs.TaggedSlots.{tagged_after_remove}
 use Rattle.hyphenation_dictionary.proofs.exceptions.Exceptions.remove.Goals as goal
 
 pub invariant_of-self : goal.invariant_of-self
 invariant_of-self g c =
     let words = exceptions_of-remove c.self.inside.words c.remove.new.self c.args.word.now c.remove.ensures.updates in
-    rw words (used_after_remove c.self.inside.used.items _ c.args.word.now c.self.invariant)
+    rw words (tagged_after_remove c.self.inside.tags.items _ c.args.word.now c.self.invariant)
 
 pub returns-clause-removed : goal.returns-clause-removed
 returns-clause-removed g c =
