@@ -1,39 +1,53 @@
 -- Where a character begins, by its number.
-use Rattle.std.proofs.Common.{◌≡◌, ℕ, ◌+◌, ◌-◌, ◌≤◌, ◌<◌, ◌⊎◌, max, List, [], ◌∷◌, ◌++◌, map, length, chars, encode_utf8, encode_utf8_all, IsUtf8, refl, sym, ap, subst, ◌∙◌, arith, append_assoc, length-append, take, drop, IsCharBoundary, zero-add, Option, Some, None, inl, inr, ◌&&◌, nat_le, nat_lt, if◌then◌else◌}
-use Rattle.std.proofs.lemmas.Str.{IsUtf8-past_char, chars_past_char, IsCharBoundary-at_seam, encodes-append}
+use Rattle.std.proofs.Common.{◌≡◌, ℕ, ◌+◌, ◌-◌, ◌≤◌, ◌<◌, ◌⊎◌, max, List, [], ◌∷◌, ◌++◌, length, chars, encode_utf8, encode_utf8_all, IsUtf8, refl, sym, ap, subst, ◌∙◌, arith, append_assoc, append-nil, length-append, take, take_all, drop, IsCharBoundary, Option, Some, None, inl, inr, ◌&&◌, nat_le, nat_lt, if◌then◌else◌}
+use Rattle.std.proofs.lemmas.List.{take-append-le, nil_from_length}
+use Rattle.std.proofs.lemmas.Str.{IsUtf8-past_char, chars_past_char, chars-nil, IsCharBoundary-at_seam, encodes-append, encodes-chars}
 use Rattle.std.proofs.lemmas.Bool.{le-leb, lt-ltb, lt-leb, le-ltb}
 use Rattle.std.proofs.Math.Bool.{and-false}
 use Rattle.std.proofs.Math.Seq.{take-add}
 use Rattle.hyphenation_hyphenator.specs.Places.{place_of_character}
 use Rattle.hyphenation_hyphenator.specs.Boundaries.{boundaries}
-use Rattle.std.specs.Iterator.{Yields}
-use Rattle.std.specs.Str.Iter.{char_indices_steps, char_indices_rest, char_indices_offset}
 
--- So many characters were taken off the front of the text, which leaves the rest, at the place.
-pub record Passed (text : List ℕ) (from : ℕ) (cs rest : List ℕ) (place : ℕ) : Type 0 where
-  pub bytes : text ≡ encode_utf8_all cs ++ rest
-  pub read : chars text ≡ cs ++ chars rest
+-- So many characters of the text were taken off its front.
+pub record AreFirst (text rest : List ℕ) (count : ℕ) : Type 0 where
+  pub first : List ℕ
+  pub bytes : text ≡ encode_utf8_all first ++ rest
+  pub read : chars text ≡ first ++ chars rest
+  pub long : length first ≡ count
   pub utf8 : IsUtf8 rest
-  pub at : place ≡ from + length (encode_utf8_all cs)
 
-pub passed : (xs : List (ℕ × ℕ)) (s t : _) → IsUtf8 (char_indices_rest s) → Yields char_indices_steps s xs t →
-    Passed (char_indices_rest s) (char_indices_offset s) (map (λ x. x.1) xs) (char_indices_rest t) (char_indices_offset t)
-passed [] s t utf8 same = rw (← same) (record { bytes = refl; read = refl; utf8 = utf8; at = omega arith })
-passed (x ∷ xs) s t utf8 y =
-    let step = y.1 in
-    let more = passed xs y.0 t (IsUtf8-past_char _ _ x.1 utf8 step.1) y.2 in
-    let cs = map (λ (p : ℕ × ℕ). p.1) xs in record {
-      bytes = step.1 ∙ ap (λ l. encode_utf8 x.1 ++ l) more.bytes ∙ sym (append_assoc (encode_utf8 x.1) (encode_utf8_all cs) _);
-      read = chars_past_char _ _ x.1 utf8 step.1 ∙ ap (λ l. x.1 ∷ l) more.read;
-      utf8 = more.utf8;
-      at = omega (arith, more.at, step.2, length-append (encode_utf8 x.1) (encode_utf8_all cs));
+pub none_first : (text : List ℕ) → IsUtf8 text → AreFirst text text 0
+none_first text u = record { first = []; bytes = refl; read = refl; long = refl; utf8 = u }
+
+pub one_first : (text rest back : List ℕ) (c count : ℕ) → rest ≡ encode_utf8 c ++ back → AreFirst text rest count → AreFirst text back (count + 1)
+one_first text rest back c count e h =
+    let written : encode_utf8_all (h.first ++ c ∷ []) ≡ encode_utf8_all h.first ++ encode_utf8 c = encodes-append h.first (c ∷ []) ∙ ap (λ l. encode_utf8_all h.first ++ l) (append-nil (encode_utf8 c)) in
+    record {
+      first = h.first ++ c ∷ [];
+      bytes = h.bytes ∙ ap (λ l. encode_utf8_all h.first ++ l) e ∙ sym (append_assoc (encode_utf8_all h.first) (encode_utf8 c) back) ∙ ap (λ l. l ++ back) (sym written);
+      read = h.read ∙ ap (λ l. h.first ++ l) (chars_past_char rest back c h.utf8 e) ∙ sym (append_assoc h.first (c ∷ []) (chars back));
+      long = omega (arith, h.long, length-append h.first (c ∷ []));
+      utf8 = IsUtf8-past_char rest back c h.utf8 e;
     }
 
-pub taken : {text cs rest : List ℕ} {place : ℕ} (n : ℕ) → Passed text 0 cs rest place → take n (chars text) ≡ cs →
-    (place ≡ length (encode_utf8_all (take n (chars text)))) × IsCharBoundary text place
-taken {text} {cs} {rest} n h e =
-    let at = h.at ∙ zero-add _ in
-    (rw e at, rw at (IsCharBoundary-at_seam text (encode_utf8_all cs) rest h.bytes h.utf8))
+-- The place of the next character is where the rest begins.
+pub first_place : (text rest : List ℕ) (count : ℕ) → AreFirst text rest count → length text - length rest ≡ place_of_character text count
+first_place text rest count h =
+    let front : take count (chars text) ≡ h.first = ap (λ n. take n (chars text)) (sym h.long) ∙ ap (take (length h.first)) h.read ∙ take-append-le (length h.first) h.first (chars rest) (omega arith) ∙ take_all (length h.first) h.first (omega arith) in
+    let size : length text - length rest ≡ length (encode_utf8_all h.first) = omega (arith, ap length h.bytes, length-append (encode_utf8_all h.first) rest) in
+    size ∙ ap (λ cs. length (encode_utf8_all cs)) (sym front)
+
+pub first_boundary : (text rest : List ℕ) (count : ℕ) → AreFirst text rest count → IsCharBoundary text (length text - length rest)
+first_boundary text rest count h =
+    let size : length (encode_utf8_all h.first) ≡ length text - length rest = omega (arith, ap length h.bytes, length-append (encode_utf8_all h.first) rest) in
+    subst (IsCharBoundary text) size (IsCharBoundary-at_seam text (encode_utf8_all h.first) rest h.bytes h.utf8)
+
+-- A text that has no more characters ends before those with greater numbers.
+pub first_few : (text rest : List ℕ) (count number : ℕ) → count < number → length rest ≡ 0 → IsUtf8 text → AreFirst text rest count → length text ≡ place_of_character text number
+first_few text rest count number lt none u h =
+    let nil : length (chars rest) ≡ 0 = ap (λ l. length (chars l)) (nil_from_length rest none) ∙ ap length chars-nil in
+    let few : length (chars text) ≤ number = omega (arith, ap length h.read, length-append h.first (chars rest), h.long) in
+    sym (ap (λ cs. length (encode_utf8_all cs)) (take_all number (chars text) few) ∙ ap length (encodes-chars text u))
 
 -- A character with a lesser number begins no later.
 pub places_ascend : (text : List ℕ) (i j : ℕ) → i ≤ j → place_of_character text i ≤ place_of_character text j

@@ -160,6 +160,16 @@ pair_small b c e =
 pub lower_goes_on : (word : List ℕ) (at : ℕ) → at + 1 < length word → is_ascii_lowercase (slice_index word at) ≡ true → are_common_lowercase (drop at word) ≡ are_common_lowercase (drop (at + 1) word)
 lower_goes_on word at lt lower = after_lower word at lt (lower_below (slice_index word at) lower) lower
 
+-- The rest after two letters of ASCII; the second may be the last byte.
+pub two_letters_go_on : (word : List ℕ) (at : ℕ) → at + 1 < length word → is_ascii_lowercase (slice_index word at) ≡ true → is_ascii_lowercase (slice_index word (at + 1)) ≡ true
+    → are_common_lowercase (drop at word) ≡ are_common_lowercase (drop (at + 2) word)
+two_letters_go_on word at lt first second =
+    lower_goes_on word at lt first
+    ∙ elim (cases_lt (at + 2) (length word)) [
+      | inl more ↦ lower_goes_on word (at + 1) (omega arith) second ∙ ap (λ (k : ℕ). are_common_lowercase (drop k word)) (omega arith)
+      | inr end ↦ one_left word (at + 1) lt (omega arith) ∙ second ∙ sym (none_left word (at + 2) end)
+    ]
+
 pub pair_goes_on : (word : List ℕ) (at : ℕ) → at + 1 < length word → is_common_pair (slice_index word at) (slice_index word (at + 1)) ≡ true → are_common_lowercase (drop at word) ≡ are_common_lowercase (drop (at + 2) word)
 pair_goes_on word at lt pair = let lead = (pair_small (slice_index word at) (slice_index word (at + 1)) pair).0 in after_pair word at lt (omega arith) pair
 

@@ -154,14 +154,16 @@ pub(crate) fn are_common_lowercase(word: &str) -> bool
     let last = bytes.len().saturating_sub(1);
     let mut at = 0;
     while at < last {
-        let first = bytes[at];
+        // Mostly two letters of ASCII stand side by side, or one character of two bytes is next.
+        let (first, second) = (bytes[at], bytes[at + 1]);
         if first.is_ascii_lowercase() {
-            at += 1;
-        } else {
-            if first < 0x80 {
-                return false;
+            if second.is_ascii_lowercase() {
+                at += 2;
+            } else {
+                at += 1;
             }
-            if !is_common_pair(first, bytes[at + 1]) {
+        } else {
+            if !is_common_pair(first, second) {
                 return false;
             }
             at += 2;

@@ -2,7 +2,7 @@
 //!
 //! Each place keeps the greatest value that a key has given it so far, so the order of the keys makes no difference.
 
-ghost use Rattle.std.specs.Prelude.{◌≡◌, ◌+◌, ◌-◌, ◌*◌, ◌<◌, ◌≤◌, ◌^◌, ◌++◌, ◌∷◌, [], ℕ, length, slice_index, IfOk, IsOk};
+ghost use Rattle.std.specs.Prelude.{◌≡◌, ◌+◌, ◌-◌, ◌*◌, ◌<◌, ◌≤◌, ◌^◌, ◌++◌, ◌∷◌, [], ℕ, length, slice_index, take, IfOk, IsOk};
 ghost use Rattle.hyphenation_breaks.specs.Dictionary.{entries_of_keys};
 ghost use Rattle.hyphenation_trie.specs.Links.{IsLongest, keys_in};
 ghost use Rattle.hyphenation_trie.specs.Trie.{node_text, entries_of_key, EachBeginsKey};
@@ -164,26 +164,19 @@ pub fn raise_all<C: Drop>(
     let _last = read_byte(automaton, node, b'.', word.len() + 2, scores, count);
 }
 
-// Returns the values of a word's places. `zeros` must have a 0 for each place, and is filled with the values. The only error
-// is out of memory.
+// Copies the first values of a buffer into a list. The only error is out of memory.
 #[inline(always)]
-fn values_from<C: Drop>(
-    alloc: Global,
-    automaton: &Automaton<Entry<C>>,
-    word: &[u8],
-    zeros: &mut [u8],
-    count: &mut LookUps,
-) -> Result<Vec<u8>, AllocError>
-    requires begins { EachBeginsKey automaton.now }
-    requires made { count.old.made ≤ 2 ^ 64 }
-    requires reported { count.old.reported ≤ 2 ^ 64 }
-    requires places { length zeros.old ≡ length word.now - 1 }
-    requires zeros { (i : ℕ) → i < length zeros.old → slice_index zeros.old i ≡ 0 }
-    ensures values { IfOk result (λ v. v.items ≡ values (entries_of_key automaton.now) word.now) }
-    ensures counts { CountsBy (entries_of_key automaton.now) word.now count.old count.new (IsOk result) }
+fn copied_values(alloc: Global, buffer: &[u8; 64], count: usize) -> Result<Vec<u8>, AllocError>
+    requires { count ≤ 64 }
+    ensures { IfOk result (λ v. v.items ≡ take count buffer.now) }
 {
-    raise_all(automaton, word, zeros, count);
-    Vec::from_slice(alloc, zeros)
+    if count <= 16 {
+        // Sixteen bytes are copied without a call, and so few take no more memory than one.
+        let mut values = Vec::from_slice(alloc, &buffer[..16])?;
+        values.truncate(count);
+        return Ok(values);
+    }
+    Vec::from_slice(alloc, &buffer[..count])
 }
 
 // Returns the values of a word's places, by the automaton of the keys. The only error is out of memory.
@@ -203,8 +196,9 @@ pub(super) fn values_in<C: Drop>(
     let places = word.len().saturating_sub(1);
     if places <= 64 {
         // The values of most words are found on the stack and copied, since that is faster than to fill a list with 0.
-        let mut zeros = [0u8; 64];
-        return values_from(alloc, automaton, word, &mut zeros[..places], count);
+        let mut buffer = [0u8; 64];
+        raise_all(automaton, word, &mut buffer[..places], count);
+        return copied_values(alloc, &buffer, places);
     }
     let mut values = vec![in alloc; 0u8; places]?;
     raise_all(automaton, word, &mut values, count);

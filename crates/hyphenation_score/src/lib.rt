@@ -181,7 +181,8 @@ fn scored_all<'d>(
 {
     let mut all = Vec::with_capacity(alloc, winners.len())?;
     for winner in winners {
-        all.push(scored(*winner))?;
+        // The list has room for all.
+        all.push_reserved(scored(*winner));
     }
     Ok(all)
 }

@@ -1,6 +1,6 @@
 //! The first and the last place at which the minima allow a break.
 
-ghost use Rattle.std.specs.Prelude.{◌≡◌, ◌≤◌, ◌<◌, ◌-◌, IfSome, IfNone, length, chars};
+ghost use Rattle.std.specs.Prelude.{◌≡◌, ◌≤◌, ◌<◌, ◌-◌, IsTrue, IfSome, IfNone, Some, None, false, length, chars};
 ghost use Rattle.std.specs.Str.{IsAscii, IsCharBoundary};
 ghost use Rattle.hyphenation_hyphenator.specs.Boundaries.{boundaries};
 ghost use Rattle.hyphenation_hyphenator.specs.Places.{place_of_character};
@@ -31,17 +31,31 @@ pub fn boundaries_of(minima: (usize, usize), word: &str) -> Option<(usize, usize
     Some((first, last))
 }
 
-// Returns the boundaries of a word of ASCII, whose characters are its bytes.
-pub(super) fn boundaries_of_ascii(minima: (usize, usize), word: &str) -> Option<(usize, usize)>
+// Whether a word of ASCII, whose characters are its bytes, has no boundaries.
+#[inline(always)]
+pub(super) fn is_short_ascii(minima: (usize, usize), word: &str) -> bool
     requires { IsAscii word.now }
-    ensures { result ≡ boundaries minima.0 minima.1 word.now }
+    ensures short { IsTrue result → boundaries minima.0 minima.1 word.now ≡ None }
+    ensures long { result ≡ false → (minima.0 < length word.now) × (minima.1 ≤ length word.now - minima.0) }
 {
     let (left, right) = minima;
     let bytes = word.len();
     if bytes <= left || bytes - left < right {
-        return None;
+        return true;
     }
-    Some((left, bytes - right.max(1)))
+    false
+}
+
+// Returns the boundaries of a word of ASCII that is long enough.
+#[inline(always)]
+pub(super) fn boundaries_of_long_ascii(minima: (usize, usize), word: &str) -> (usize, usize)
+    requires ascii { IsAscii word.now }
+    requires left { minima.0 < length word.now }
+    requires right { minima.1 ≤ length word.now - minima.0 }
+    ensures { boundaries minima.0 minima.1 word.now ≡ Some result }
+{
+    let (left, right) = minima;
+    (left, word.len() - right.max(1))
 }
 
 // Returns the place of a character by its number from 0, or the text's end where there are not so many.
@@ -49,10 +63,15 @@ fn place_of_character(text: &str, number: usize) -> usize
     ensures value { result ≡ place_of_character text.now number }
     ensures boundary { IsCharBoundary text.now result }
 {
-    match text.char_indices().nth(number) {
-        Some((place, _)) => place,
-        None => text.len(),
+    let mut rest = text;
+    for count in 0..number {
+        let mut chars = rest.chars();
+        match chars.next() {
+            Some(_) => rest = chars.as_str(),
+            None => return text.len(),
+        }
     }
+    text.len() - rest.len()
 }
 
 // Returns the place from which on the text has so many characters, or `None` where it has fewer.

@@ -23,7 +23,7 @@ ghost use Rattle.hyphenation_hyphenator.specs.Opportunities.{opportunities, HasB
 ghost use Rattle.hyphenation_hyphenator.specs.Private.Opportunities.{realigned_break};
 
 use super::ascii_lowercase::are_ascii_lowercase;
-use super::boundaries::boundaries_of_ascii;
+use super::boundaries::{boundaries_of_long_ascii, is_short_ascii};
 use super::boundaries_of;
 use super::break_kind::BreakKind;
 use super::pattern_breaks::{is_within, push_with_room};
@@ -207,9 +207,11 @@ fn breaks_of_folded_ascii<'h, F: BreakKind<'h>>(
     ensures { OnOk result (map F.meaning list.new.items
         ≡ kept_opportunities (rules_of F.Payload.change_of F.Listing.meaning dictionary.now) folded.now []) }
 {
-    let Some(bounds) = boundaries_of_ascii(dictionary.minima(), folded) else {
+    let minima = dictionary.minima();
+    if is_short_ascii(minima, folded) {
         return Ok(());
-    };
+    }
+    let bounds = boundaries_of_long_ascii(minima, folded);
     opportunities_in(dictionary, folded, bounds, list)?;
     F::keep_fitting(folded, &[], list)
 }

@@ -1,23 +1,17 @@
-use Rattle.std.proofs.Common.{length, chars, IsUtf8, sym, subst, arith, take_at, take_all, append-nil, ◌≤◌}
-use Rattle.std.proofs.lemmas.Grind.{common_steps}
-use Rattle.std.proofs.lemmas.List.{nil_from_length}
-use Rattle.std.proofs.lemmas.Str.{encodes-chars, chars-nil}
-use Rattle.hyphenation_hyphenator.proofs.CharacterPlaces.{passed, taken}
+use Rattle.std.proofs.Common.{◌≡◌, ◌++◌, ◌∙◌, length, encode_utf8, ap, sym}
+use Rattle.hyphenation_hyphenator.proofs.CharacterPlaces.{one_first, first_place, first_boundary, first_few}
 use Rattle.hyphenation_hyphenator.proofs.hyphenator.boundaries.place_of_character.Goals as goal
-
-pub returns-in-Some : goal.returns-in-Some
-returns-in-Some c =
-    let ran = c.in-Some.ensures.ran in
-    let made = c.char_indices.ensures in
-    let front = rw (made.rest, made.offset) at (passed ran.0 _ ran.1.0 (subst IsUtf8 (sym made.rest) c.utf8.text) ran.1.1) in
-    let both = taken c.args.number front (rw front.read (take_at _ _ _ (grind (arith, common_steps, ran.2)))) in
-    rw ran.1.2.0 (record { value = both.0; boundary = both.1 })
 
 pub returns-in-None-clause-value : goal.returns-in-None-clause-value
 returns-in-None-clause-value c =
-    let ran = c.in-None.ensures.ran in
-    let made = c.char_indices.ensures in
-    let front = rw (made.rest, made.offset) at (passed ran.0 _ ran.1.0 (subst IsUtf8 (sym made.rest) c.utf8.text) ran.1.1) in
-    let read = rw (nil_from_length _ ran.1.2.0, chars-nil, append-nil) at front.read in
-    let few : length (chars c.args.text.now) ≤ c.args.number = rw read (grind (arith, common_steps, ran.2)) in
-    rw (take_all _ _ few, encodes-chars _ c.utf8.text)
+    let none : length c.loop-count.rest.now ≡ 0 = ap length (sym c.chars-chars.ensures.rest) ∙ c.in-None.ensures.steps.0.0 in
+    first_few c.args.text.now c.loop-count.rest.now c.loop-count.count c.args.number c.loop-count-test.true none c.utf8.text c.loop-count.invariant
+
+pub loop-count-preserved : goal.loop-count-preserved
+loop-count-preserved c =
+    let letter = c.in-Some.field-0 in
+    let read = sym c.chars-chars.ensures.rest ∙ c.in-Some.ensures.steps.0 ∙ ap (λ l. encode_utf8 letter ++ l) (sym c.as_str-rest.ensures) in
+    one_first c.args.text.now c.loop-count.rest.now c.as_str-rest.result.now letter c.loop-count.count read c.loop-count.invariant
+
+pub returns-clause-boundary : goal.returns-clause-boundary
+returns-clause-boundary c = first_boundary c.args.text.now c.loop-count.rest.now c.loop-count.count c.loop-count.invariant
