@@ -1,3 +1,4 @@
 pub mod PlainBreaks
 pub mod Pages
 pub mod OptionsTaken
+pub mod Loaded

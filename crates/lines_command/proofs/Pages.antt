@@ -1,10 +1,6 @@
 -- Pages with the same parts.
 use Rattle.std.proofs.Common.{◌≡◌, ℕ, List, subst}
-use Rattle.std.specs.Prelude.{Option}
-use Rattle.hyphenation_breaks.specs.Break.{Break, Change}
-use Rattle.hyphenation_breaks.specs.Dictionary.{Contents}
-use Rattle.hyphenation_hyphenator.specs.Fitting.{fitted_breaks_of}
-use Rattle.hyphenation_hyphenator.specs.Opportunities.{all_breaks_of, standard_rules, extended_rules}
+use Rattle.hyphenation_breaks.specs.Break.{Break}
 use Rattle.paragraphs.specs.Pages.{IsPage}
 use Rattle.paragraphs.specs.Words.{Style}
 use Rattle.paragraphs.specs.declared.setting.Aim.{Aim}
@@ -17,10 +13,3 @@ page_as aim aim_for breaks_of breaks_by style style_for columns text text_of lin
     (subst (λ b. IsPage aim b style_for columns text_of lines) same_breaks
     (subst (λ s. IsPage aim breaks_of s columns text_of lines) same_style
     (subst (λ t. IsPage aim breaks_of style columns t lines) same_text page)))
-
--- The breaks of a dictionary of each kind.
-abbrev pub standard_breaks : Contents (Unit {0}) ℕ → List ℕ → List Break
-standard_breaks dictionary = all_breaks_of (standard_rules dictionary)
-
-abbrev pub extended_breaks : Contents (Option Change) (ℕ × Option Change) → List ℕ → List Break
-extended_breaks dictionary = fitted_breaks_of (extended_rules dictionary)

@@ -6,9 +6,13 @@ use Rattle.std.specs.Option.{option_map, option_and_then, option_map_or, unwrap_
 use Rattle.std.proofs.lemmas.List.Elements.{All-nil, All-map, All-filter}
 use Rattle.hyphenation_breaks.specs.Break.{Break, Change, plain_break}
 use Rattle.hyphenation_breaks.specs.Dictionary.{Contents, Patterns, entries_of_keys}
+use Rattle.hyphenation_grammar.specs.Reading.{standard_contents}
+use Rattle.hyphenation_grammar.specs.declared.form.Kind.{Kind}
+use Rattle.hyphenation_grammar.specs.declared.form.Kind.TheVariants.{Standard, Extended}
 use Rattle.hyphenation_hyphenator.specs.Folding.{fold_case}
 use Rattle.hyphenation_hyphenator.specs.Opportunities.{no_change, within, winning_break, breaks_at_odd_values, standard_rules, breaks_within, boundaries_by, opportunities_in, opportunities, break_carried_back, breaks_as_written, all_breaks_of}
 use Rattle.hyphenation_hyphenator.specs.SoftHyphens.{soft_hyphens}
+use Rattle.lines_command.specs.Written.{breaks_by, PlainIfStandard}
 use Rattle.paragraphs.specs.Words.{IsPlain, ArePlain}
 
 plain_breaks : (places : List ℕ) → All IsPlain (map plain_break places)
@@ -48,5 +52,10 @@ written_plain word folded plain =
       | false ↦ plain_breaks (soft_hyphens word)
     ]
 
-pub standard_plain : {C : Type 0} (contents : Contents C ℕ) → ArePlain (all_breaks_of (standard_rules contents))
+standard_plain : {C : Type 0} (contents : Contents C ℕ) → ArePlain (all_breaks_of (standard_rules contents))
 standard_plain contents word = written_plain word (opportunities (standard_rules contents) (fold_case word)) (opportunities_plain contents (fold_case word))
+
+-- The breaks of a dictionary text of any kind.
+pub plain_by : (kind : Kind) (bytes : List ℕ) → PlainIfStandard kind (breaks_by kind bytes)
+plain_by Standard bytes = standard_plain (standard_contents bytes)
+plain_by Extended bytes = tt

@@ -1,5 +1,5 @@
 -- The output and the statuses of the program `hyphenate-lines`.
-use Rattle.std.specs.Prelude.{◌≡◌, ◌⊎◌, ◌||◌, ℕ, Bool, List, [], if◌then◌else◌, Option, Some, None, IfSome, slice_index_or, ⊤}
+use Rattle.std.specs.Prelude.{◌≡◌, ◌⊎◌, ◌||◌, ℕ, Bool, List, [], if◌then◌else◌, IsUtf8, Option, Some, None, IfSome, slice_index_or, ⊤}
 use Rattle.std.specs.Borrow.{Bor}
 use Rattle.std.specs.Io.KnownBytes.{Appends}
 use Rattle.std.specs.List.{flat_map}
@@ -14,9 +14,9 @@ use Rattle.hyphenation_grammar.specs.declared.form.Version.TheVariants.{First, S
 use Rattle.hyphenation_hyphenator.specs.Fitting.{fitted_breaks_of}
 use Rattle.hyphenation_hyphenator.specs.Opportunities.{all_breaks_of, standard_rules, extended_rules}
 use Rattle.hyphenation_load.specs.Load.{language_of_text, IsAcceptedIn}
-use Rattle.paragraphs.specs.Pages.{IsPage}
+use Rattle.paragraphs.specs.Pages.{IsPage, HasTooLong}
 use Rattle.paragraphs.specs.Words.{ArePlain}
-use Rattle.text_paragraphs.specs.Paragraphs.{ended}
+use Rattle.text_paragraphs.specs.Paragraphs.{ended, paragraphs}
 use Rattle.lines_command.specs.Arguments.{ParsedArgs, parsed_args, style_for, aim_for}
 
 -- The line is the head of an extended dictionary.
@@ -42,11 +42,12 @@ PlainIfStandard Standard breaks_of = ArePlain breaks_of
 PlainIfStandard Extended breaks_of = ⊤
 
 -- These are the lines of a text, by the dictionary of that kind that bytes give. The text is that of the input, if it is
--- known. The dictionary is of the language that the arguments name.
+-- known, and is UTF-8. The dictionary is of the language that the arguments name.
 pub record FillsInput (parsed : ParsedArgs) (kind : Kind) (bytes : List ℕ) (input : Option (List ℕ)) (lines : List (List ℕ)) : Type 0 where
   pub accepted : IsAcceptedIn (refusal_of kind bytes) parsed.code (language_of_text bytes)
   pub text : List ℕ
   pub read : IfSome input (λ known. text ≡ known)
+  pub utf8 : IsUtf8 text
   pub plain : PlainIfStandard kind (breaks_by kind bytes)
   pub filled : IsPage (aim_for parsed.options) (breaks_by kind bytes) (style_for parsed.options) parsed.options.columns text lines
 
@@ -69,6 +70,29 @@ abbrev pub WritesFor : {W : Type 0} → List (Bor (List ℕ)) → Option (List �
 WritesFor args input contents old new =
     (parsed : ParsedArgs) × (parsed_args args ≡ Some parsed) × WritesLines parsed None input contents old new
 
+-- A paragraph of a text is too long, by the dictionary of that kind that bytes give. The text is that of the input, if it
+-- is known, and is UTF-8. The dictionary is of the language that the arguments name.
+pub record HasLongParagraph (parsed : ParsedArgs) (kind : Kind) (bytes : List ℕ) (input : Option (List ℕ)) : Type 0 where
+  pub accepted : IsAcceptedIn (refusal_of kind bytes) parsed.code (language_of_text bytes)
+  pub text : List ℕ
+  pub read : IfSome input (λ known. text ≡ known)
+  pub utf8 : IsUtf8 text
+  pub long : HasTooLong (breaks_by kind bytes) (style_for parsed.options) (paragraphs text)
+
+-- The same, by the dictionary that some bytes give. They are those of the dictionary, if it is known.
+abbrev pub HasLongParagraphBy : ParsedArgs → Option (List ℕ) → Option (List ℕ) → Type 0
+HasLongParagraphBy parsed dictionary input = (bytes : List ℕ) × IfSome dictionary (λ known. bytes ≡ known)
+    × HasLongParagraph parsed (kind_in bytes) bytes input
+
+-- The input, if it is known, is not UTF-8.
+abbrev pub IsNotUtf8 : Option (List ℕ) → Type 0
+IsNotUtf8 input = IfSome input (λ text. ¬ (IsUtf8 text))
+
+-- The input is refused: it is not UTF-8, or a paragraph of it is too long for what the arguments ask for.
+abbrev pub RefusesInput : List (Bor (List ℕ)) → Option (List ℕ) → Type 0
+RefusesInput args input = (parsed : ParsedArgs) × (parsed_args args ≡ Some parsed)
+    × (IsNotUtf8 input ⊎ HasLongParagraphBy parsed None input)
+
 -- If no help was asked for and the arguments have no form, this holds.
 abbrev pub OnNoForm : Option (List ℕ) → Option ParsedArgs → Type 0 → Type 0
 OnNoForm asked parsed P = asked ≡ None → parsed ≡ None → P
@@ -76,6 +100,14 @@ OnNoForm asked parsed P = asked ≡ None → parsed ≡ None → P
 -- If no help was asked for and the status is 0, this holds.
 abbrev pub OnDone : Option (List ℕ) → ℕ → Type 0 → Type 0
 OnDone asked status P = asked ≡ None → status ≡ 0 → P
+
+-- If no help was asked for and the status is 3, this holds.
+abbrev pub OnRefusedDictionary : Option (List ℕ) → ℕ → Type 0 → Type 0
+OnRefusedDictionary asked status P = asked ≡ None → status ≡ 3 → P
+
+-- If no help was asked for and the status is 4, this holds.
+abbrev pub OnRefusedInput : Option (List ℕ) → ℕ → Type 0 → Type 0
+OnRefusedInput asked status P = asked ≡ None → status ≡ 4 → P
 
 -- The statuses.
 -- 0: done. 2: the arguments have no form. 3: the dictionary can't be opened, read or accepted, or is of another language.

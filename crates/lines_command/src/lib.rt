@@ -8,8 +8,9 @@ ghost use Rattle.command_line.specs.About.{help_or_version as asked, WritesHelp}
 ghost use Rattle.command_line.specs.Statuses.{BeforeOutput};
 ghost use Rattle.lines_command.specs.Arguments.{parsed_args};
 ghost use Rattle.lines_command.specs.Private.Requests.{parsed_request};
-ghost use Rattle.lines_command.specs.Private.Statuses.{status_of};
-ghost use Rattle.lines_command.specs.Written.{WritesLines, WritesFor, OnNoForm, OnDone, IsExitStatus};
+ghost use Rattle.lines_command.specs.Private.Statuses.{status_of, JudgesInputOf, BeforeReading};
+ghost use Rattle.lines_command.specs.Written.{WritesLines, WritesFor, RefusesInput, IsExitStatus};
+ghost use Rattle.lines_command.specs.Written.{OnNoForm, OnDone, OnRefusedDictionary, OnRefusedInput};
 
 mod request;
 mod run;
@@ -42,6 +43,8 @@ fn run_request<F: Files, I: Read, O: Write>(
 ) -> Result<(), Failure>
     ensures written { OnOk result (WritesLines (parsed_request request.now) None
         (I.remaining input.old) O.contents output.old output.new) }
+    ensures input { IfErr result (JudgesInputOf (parsed_request request.now) None (I.remaining input.old)) }
+    ensures unread { IfErr result (BeforeReading (input.new ≡ input.old)) }
     ensures untouched { IfErr result (λ failure. (failure ≡ Failure.Writing) ⊎ (output.new ≡ output.old)) }
 {
     let mut dictionary = fs::open(rt, request.path).map_err(dictionary_failure)?;
@@ -96,7 +99,7 @@ fn report<E: Write>(alloc: Global, path: &str, failure: &Failure, errors: &mut E
 /// | 6 | memory was refused |
 ///
 /// A message for any status but 0 is written to `errors`, except if the text of `--help` or `--version` can't be
-/// written. The output is as it was unless the status is 0 or 5.
+/// written. The output is as it was unless the status is 0 or 5, and with status 2 or 3 the input is as it was.
 ///
 /// ```text
 /// let args = ["--width", "40", "en-gb", "examples/firkin.txt"];
@@ -115,6 +118,10 @@ pub fn answer<F: Files, I: Read, O: Write, E: Write>(
         ((result ≡ 2) × (input.new ≡ input.old)) }
     ensures written { OnDone (asked NAME.now VERSION.now USAGE.now args.now) result
         (WritesFor args.now (I.remaining input.old) O.contents output.old output.new) }
+    ensures unread { OnRefusedDictionary (asked NAME.now VERSION.now USAGE.now args.now) result
+        (input.new ≡ input.old) }
+    ensures refused_input { OnRefusedInput (asked NAME.now VERSION.now USAGE.now args.now) result
+        (RefusesInput args.now (I.remaining input.old)) }
     ensures exit_status { asked NAME.now VERSION.now USAGE.now args.now ≡ None → IsExitStatus result }
     ensures untouched { BeforeOutput result (output.new ≡ output.old) }
 {
