@@ -1,14 +1,15 @@
 -- Nodes as they are held while a trie grows, and the children of each along its chain.
-use Rattle.std.proofs.Common.{◌≡◌, ◌≢◌, ℕ, ◌+◌, ◌<◌, List, [], ◌∷◌, ◌++◌, length, map, get_or, set, slice_index, Option, Some, None, refl, sym, ap, subst, ◌∙◌, arith, inl, inr}
+use Rattle.std.proofs.Common.{◌≡◌, ◌≢◌, ℕ, ◌+◌, ◌<◌, ◌≤◌, List, [], ◌∷◌, ◌++◌, length, map, drop, get_or, set, slice_index, Option, Some, None, refl, sym, ap, subst, ◌∙◌, arith, inl, inr}
 use Rattle.std.specs.Prelude.{slice_get}
 use Rattle.std.proofs.lemmas.Bool.{cases_eq, cases_lt}
 use Rattle.std.proofs.lemmas.List.{length-append, length-map, length-set, map_push, get_or-map, get_or_append_left, get_or_push}
 use Rattle.hyphenation_trie.specs.Private.Chains.{IsLastBelow, IsChained}
-use Rattle.hyphenation_trie.specs.Private.Growing.{IsGrowing, IsSought}
+use Rattle.hyphenation_trie.specs.Private.Growing.{IsGrowing, IsOrderedFrom, IsSought}
 use Rattle.hyphenation_trie.specs.Private.Links.{parent_of, byte_of}
+use Rattle.hyphenation_trie.specs.Private.States.{froms_by}
 use Rattle.hyphenation_trie.specs.Private.Trie.{texts_of, AreApart, HasFroms}
 use Rattle.hyphenation_trie.proofs.ChainsGrow.{chained-new, chained-push}
-use Rattle.hyphenation_trie.proofs.FrozenTrie.{HasFroms-grow}
+use Rattle.hyphenation_trie.proofs.FrozenTrie.{HasFroms-grow, byte_here, length-froms_by, parents_by}
 use Rattle.hyphenation_trie.proofs.TrieNodes.{length-texts_of, texts_of-push, last_same, not_empty, root_text, root-push}
 
 -- a text that no node has stays apart from the others
@@ -133,3 +134,68 @@ sought-none froms lasts befores node byte child held at none li j lj e = elim (c
       let same : h.0.0 ≡ node = held.apart h.0.0 node (omega (arith, h.2)) li p.0 in
       at.above j (omega arith) (omega (arith, length-texts_of froms)) (h.1 ∙ ap (λ (x : ℕ). Some (x, h.0.1)) same ∙ ap (λ (x : ℕ). Some (node, x)) p.1)
 ]
+
+-- ---- children in the order of their bytes
+
+pub ordered-new : IsOrderedFrom (0 ∷ []) (0 ∷ []) 0
+ordered-new j k pos lt lk from same = absurd (omega arith)
+
+-- no node after the new one has children yet
+pub ordered-anew : (parents bytes : List ℕ) (i b n : ℕ) → n ≡ length parents → ((j : ℕ) → 0 < j → j < length parents → slice_index parents j < j) → i < length parents
+    → IsOrderedFrom (parents ++ i ∷ []) (bytes ++ b ∷ []) n
+ordered-anew parents bytes i b n is earlier li j k pos lt lk from same = elim (cases_lt k n) [
+  | inl old ↦ absurd (omega (arith, is, old, from, get_or_append_left parents (i ∷ []) 0 k (omega arith), earlier k (omega arith) (omega arith)))
+  | inr new ↦
+      let last : k ≡ n = omega (arith, is, lk, length-append parents (i ∷ [])) in
+      absurd (omega (arith, is, from, li, last, get_or_push parents i 0 k (sym is ∙ sym last)))
+]
+
+-- a child whose byte is no less than the last one's keeps the order
+pub ordered-more : (parents bytes lasts befores : List ℕ) (first i b n : ℕ) → n ≡ length parents → length bytes ≡ length parents → length lasts ≡ length parents → IsChained parents lasts befores → i < length parents
+    → IsOrderedFrom parents bytes first → slice_index bytes (slice_index lasts i) ≤ b → IsOrderedFrom (parents ++ i ∷ []) (bytes ++ b ∷ []) first
+ordered-more parents bytes lasts befores first i b n is count each chained li ordered le j k pos lt lk from same =
+    let up : (m : ℕ) → m < n → slice_index (parents ++ i ∷ []) m ≡ slice_index parents m = λ m lm. get_or_append_left parents (i ∷ []) 0 m (omega arith) in
+    let at : (m : ℕ) → m < n → slice_index (bytes ++ b ∷ []) m ≡ slice_index bytes m = λ m lm. get_or_append_left bytes (b ∷ []) 0 m (omega (arith, count)) in
+    elim (cases_lt k n) [
+      | inl old ↦ omega (arith, at j (omega arith), at k old, ordered j k pos lt (omega arith) (omega (arith, from, up k old)) (sym (up j (omega arith)) ∙ same ∙ up k old))
+      | inr new ↦
+          let last : k ≡ n = omega (arith, is, lk, length-append parents (i ∷ [])) in
+          let parent : slice_index (parents ++ i ∷ []) k ≡ i = get_or_push parents i 0 k (sym is ∙ sym last) in
+          let byte : slice_index (bytes ++ b ∷ []) k ≡ b = get_or_push bytes b 0 k (count ∙ sym is ∙ sym last) in
+          let jn : j < n = omega arith in
+          let mine : slice_index parents j ≡ i = sym (up j jn) ∙ same ∙ parent in
+          let l : ℕ = slice_index lasts i in
+          let h = chained.lasts i (omega (arith, each)) in
+          elim (cases_lt l j) [
+            | inl after ↦ absurd (h.none j after (omega arith) mine)
+            | inr upto ↦
+                let w = h.within (omega arith) in
+                elim (cases_eq j l) [
+                  | inl same_child ↦ omega (arith, at j jn, byte, le, ap (λ (x : ℕ). slice_index bytes x) same_child)
+                  | inr before ↦ omega (arith, at j jn, byte, le, ordered j l pos (omega arith) w.0 (omega (arith, w.1, from, parent)) (mine ∙ sym w.1))
+                ]
+          ]
+    ]
+
+-- the child sought is no sibling before one of a lesser byte, where the children are in order
+pub sought-past : (parents bytes : List ℕ) (first node byte child : ℕ) → parents ≡ 0 ∷ drop 1 parents → bytes ≡ 0 ∷ drop 1 bytes → length bytes ≡ length parents → IsOrderedFrom parents bytes first → first ≤ node
+    → IsSought (froms_by parents bytes) node byte child → 0 < child → slice_index bytes child < byte → IsSought (froms_by parents bytes) node byte 0
+sought-past parents bytes first node byte child p b e ordered le at pos less =
+    let froms : List (Option (ℕ × ℕ)) = froms_by parents bytes in
+    let count : length froms ≡ length parents = length-froms_by parents bytes p e in
+    let up : (m : ℕ) → slice_index (map parent_of froms) m ≡ slice_index parents m = λ m. ap (λ (xs : List ℕ). slice_index xs m) (parents_by parents bytes p e) in
+    let w = at.here pos in
+    let mine : slice_index parents child ≡ node = sym (up child) ∙ w.1 in
+    record {
+      here = λ some. absurd (omega arith);
+      above = λ k low high is.
+          let parent : slice_index parents k ≡ node = sym (up k) ∙ get_or-map parent_of froms k None 0 high ∙ ap parent_of is in
+          let own : slice_index bytes k ≡ byte = sym (byte_here parents bytes k b e high) ∙ ap byte_of is in
+          elim (cases_lt child k) [
+            | inl after ↦ at.above k after high is
+            | inr upto ↦ elim (cases_eq k child) [
+              | inl same ↦ omega (arith, own, less, ap (λ (x : ℕ). slice_index bytes x) same)
+              | inr before ↦ omega (arith, own, less, ordered k child low (omega arith) (omega (arith, count, w.0)) (omega (arith, mine)) (parent ∙ sym mine))
+            ]
+          ];
+    }

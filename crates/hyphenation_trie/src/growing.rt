@@ -19,7 +19,7 @@ use std::marker::Model;
 
 /// Keys, each with its entries, to which more can be added.
 pub struct Trie<E> {
-    // The children of each node. If keys are inserted in order, each look-up finds the last child or none.
+    // The children of each node. If keys are inserted in order, each look-up asks the last child alone.
     pub(crate) children: Children,
     // The states of the nodes.
     pub(crate) states: Vec<State>,
@@ -46,6 +46,7 @@ impl<E: Drop> Drop for Trie<E> {
 impl<E> Model for Trie<E> {
     ghost use Rattle.std.specs.Prelude.{map, length};
     ghost use Rattle.hyphenation_trie.specs.Trie.{Tree};
+    ghost use Rattle.hyphenation_trie.specs.Private.Growing.{IsOrderedFrom};
     ghost use Rattle.hyphenation_trie.specs.Private.States.{froms_by, span_in, IsHeld};
     ghost use Rattle.hyphenation_trie.specs.Private.Trie.{tree_of};
 
@@ -55,8 +56,9 @@ impl<E> Model for Trie<E> {
         (map span_in t.states.items) t.entries.items };
 
     ghost invariant = { λ t.
-        IsHeld t.children.parents.items t.children.bytes.items t.states.items t.children.last.items
-        t.children.before.items (length t.entries.items) };
+        (IsHeld t.children.parents.items t.children.bytes.items t.states.items t.children.last.items
+        t.children.before.items (length t.entries.items))
+        × (IsOrderedFrom t.children.parents.items t.children.bytes.items t.children.in_order_from) };
 }
 
 impl<E: Drop> Trie<E> {
@@ -185,8 +187,13 @@ impl<E: Drop> Trie<E> {
     {
         let mut child = self.children.last[node as usize];
         while child != 0 {
-            if self.children.bytes[child as usize] == byte {
+            let at = self.children.bytes[child as usize];
+            if at == byte {
                 return Some(child);
+            }
+            if at < byte && self.children.in_order_from <= node {
+                // The children before this one have no greater byte.
+                return None;
             }
             child = self.children.before[child as usize];
         }
@@ -288,6 +295,7 @@ impl<E: Drop> Trie<E> {
             bytes,
             last,
             before,
+            in_order_from: _,
         } = children;
         // Rows have taken the place of the chains of children, whose memory is free for the lists that come next.
         drop(last);

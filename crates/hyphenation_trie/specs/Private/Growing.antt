@@ -1,5 +1,5 @@
 -- A growing trie: how its nodes are held, and how a child is found.
-use Rattle.std.specs.Prelude.{◌≡◌, ◌≢◌, ℕ, ◌<◌, List, [], length, map, Option, Some, None, slice_get, slice_index, slice_index_or}
+use Rattle.std.specs.Prelude.{◌≡◌, ◌≢◌, ℕ, ◌<◌, ◌≤◌, List, [], length, map, Option, Some, None, slice_get, slice_index, slice_index_or}
 use Rattle.hyphenation_trie.specs.Private.Chains.{IsChained}
 use Rattle.hyphenation_trie.specs.Private.Links.{parent_of}
 use Rattle.hyphenation_trie.specs.Private.Trie.{texts_of, AreApart, HasFroms}
@@ -12,6 +12,12 @@ pub record IsGrowing (froms : List (Option (ℕ × ℕ))) (lasts befores : List 
   pub from : HasFroms (texts_of froms) froms
   pub nodes : length lasts ≡ length froms
   pub chained : IsChained (map parent_of froms) lasts befores
+
+-- The children of each node from a first one on come in the order of their bytes.
+abbrev pub IsOrderedFrom : List ℕ → List ℕ → ℕ → Type 0
+IsOrderedFrom parents bytes first =
+    (j k : ℕ) → 0 < j → j < k → k < length parents → first ≤ slice_index parents k
+    → slice_index parents j ≡ slice_index parents k → slice_index bytes j ≤ slice_index bytes k
 
 -- A child of a node at a byte is sought along a chain. The member at hand, if any, is a child of the node, and no later
 -- node is the child sought.

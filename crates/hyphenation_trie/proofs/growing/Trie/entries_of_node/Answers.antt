@@ -16,7 +16,7 @@ entries_in-requires g c =
     let states = c.self.inside.states.items in
     let state : State = c.index.result.now in
     let lt : c.args.node < length states = omega (arith, c.if-node-len.true, c.len.ensures, c.self.inside.states.ok.0) in
-    let span = subst (λ (s : Option Span). IsWithin (length es) s) (span_of_state states c.args.node state lt c.index.ensures ∙ span_of_key state (sym c.is_key.ensures ∙ c.if-is_key.true)) (spans_within (length es) (map span_in states) c.self.invariant.within c.args.node) in
+    let span = subst (λ (s : Option Span). IsWithin (length es) s) (span_of_state states c.args.node state lt c.index.ensures ∙ span_of_key state (sym c.is_key.ensures ∙ c.if-is_key.true)) (spans_within (length es) (map span_in states) c.self.invariant.0.within c.args.node) in
     omega (arith, span, ap length c.deref.ensures.value)
 
 pub returns-then-is_key : goal.returns-then-is_key

@@ -12,7 +12,7 @@ use Rattle.hyphenation_trie.proofs.growing.Trie.set_entries.Goals as goal
 pub index_mut-requires : goal.index_mut-requires
 index_mut-requires g c =
     let asked = rw (← c.self.view_is) at c.requires in
-    omega (arith, (node_held _ _ _ _ _ _ c.args.node c.self.invariant asked).2, c.self.inside.states.ok.0)
+    omega (arith, (node_held _ _ _ _ _ _ c.args.node c.self.invariant.0 asked).2, c.self.inside.states.ok.0)
 
 pub invariant_of-self-2 : goal.invariant_of-self-2
 invariant_of-self-2 g c =
@@ -23,7 +23,7 @@ invariant_of-self-2 g c =
     let start : c.in_ok-span.span.start ≡ length es = omega (arith, c.in_ok-span.ensures.numbers.0, c.len.ensures, c.self.inside.entries.ok.0) in
     let count : c.in_ok-span.span.count ≡ length xs = omega (arith, c.in_ok-span.ensures.numbers.1, c.len-2.ensures, c.args.entries.now.ok.0) in
     let span : IsWithin bound (Some c.in_ok-span.span) = omega (arith, start, count, grown) in
-    held_set _ _ c.self.inside.states.items _ _ (length es) bound c.args.node c.set_span.new.self (omega (arith, grown)) c.self.invariant (subst (λ (s : Option Span). IsWithin bound s) (sym c.set_span.ensures.set) span)
+    (held_set _ _ c.self.inside.states.items _ _ (length es) bound c.args.node c.set_span.new.self (omega (arith, grown)) c.self.invariant.0 (subst (λ (s : Option Span). IsWithin bound s) (sym c.set_span.ensures.set) span), c.self.invariant.1)
 
 pub returns-clause-set : goal.returns-clause-set
 returns-clause-set g c =
@@ -36,7 +36,7 @@ returns-clause-set g c =
     let count : c.in_ok-span.span.count ≡ length xs = omega (arith, c.in_ok-span.ensures.numbers.1, c.len-2.ensures, c.args.entries.now.ok.0) in
     ap (λ ys. tree_of froms (map span_in (set states c.args.node x)) ys) c.in_ok-append_all.ensures.appended
     ∙ ap (λ (ss : List (Option Span)). tree_of froms ss (es ++ xs)) (map-set span_in states c.args.node x)
-    ∙ seen-with froms (map span_in states) es xs c.args.node c.in_ok-span.span.start c.in_ok-span.span.count (span_in x) c.set_span.ensures.set c.self.invariant.within start count
+    ∙ seen-with froms (map span_in states) es xs c.args.node c.in_ok-span.span.start c.in_ok-span.span.count (span_in x) c.set_span.ensures.set c.self.invariant.0.within start count
     ∙ ap (λ t. with_entries t c.args.node xs) c.self.view_is
 
 pub returns-clause-had : goal.returns-clause-had
@@ -45,8 +45,8 @@ returns-clause-had g c =
     let froms = froms_by c.self.inside.children.parents.items c.self.inside.children.bytes.items in
     let states = c.self.inside.states.items in
     let es = c.self.inside.entries.items in
-    let lt = (node_held _ _ _ _ _ _ c.args.node c.self.invariant asked).2 in
-    let trie = trie_held _ _ _ _ _ es c.self.invariant in
+    let lt = (node_held _ _ _ _ _ _ c.args.node c.self.invariant.0 asked).2 in
+    let trie = trie_held _ _ _ _ _ es c.self.invariant.0 in
     let s : State = c.index_mut.result.now in
     let read : get_or (map span_in states) c.args.node None ≡ span_in s = get_or-map span_in states c.args.node s None lt ∙ ap span_in (sym c.index_mut.ensures.value) in
     let mine : get_or (map (entries_there es) (map span_in states)) c.args.node None ≡ entries_there es (span_in s) =

@@ -19,7 +19,7 @@ index-requires g c =
 pub index_mut-requires : goal.index_mut-requires
 index_mut-requires g c =
     let asked = rw (← c.self.view_is) at c.requires in
-    omega (arith, (node_held _ _ _ _ _ _ c.args.node c.self.invariant asked.node).2, c.self.inside.states.ok.0)
+    omega (arith, (node_held _ _ _ _ _ _ c.args.node c.self.invariant.0 asked.node).2, c.self.inside.states.ok.0)
 
 pub set_span-requires : goal.set_span-requires
 set_span-requires g c =
@@ -34,8 +34,8 @@ invariant_of-self g c =
     let like : State = c.index.result.now in
     let span = span_there es states c.args.like like c.args.entries.now c.index.ensures asked.like in
     let here : IsWithin (length es) (Some like.span) =
-    subst (λ (s : Option Span). IsWithin (length es) s) (span_of_state states c.args.like like (state_there es states c.args.like c.args.entries.now asked.like) c.index.ensures ∙ span.0) (spans_within (length es) (map span_in states) c.self.invariant.within c.args.like) in
-    held_set _ _ states _ _ (length es) (length es) c.args.node c.set_span.new.self (omega arith) c.self.invariant (subst (λ (s : Option Span). IsWithin (length es) s) (sym c.set_span.ensures.set) here)
+    subst (λ (s : Option Span). IsWithin (length es) s) (span_of_state states c.args.like like (state_there es states c.args.like c.args.entries.now asked.like) c.index.ensures ∙ span.0) (spans_within (length es) (map span_in states) c.self.invariant.0.within c.args.like) in
+    (held_set _ _ states _ _ (length es) (length es) c.args.node c.set_span.new.self (omega arith) c.self.invariant.0 (subst (λ (s : Option Span). IsWithin (length es) s) (sym c.set_span.ensures.set) here), c.self.invariant.1)
 
 pub returns-clause-set : goal.returns-clause-set
 returns-clause-set g c =
@@ -57,8 +57,8 @@ returns-clause-had g c =
     let froms = froms_by c.self.inside.children.parents.items c.self.inside.children.bytes.items in
     let states = c.self.inside.states.items in
     let es = c.self.inside.entries.items in
-    let lt = (node_held _ _ _ _ _ _ c.args.node c.self.invariant asked.node).2 in
-    let trie = trie_held _ _ _ _ _ es c.self.invariant in
+    let lt = (node_held _ _ _ _ _ _ c.args.node c.self.invariant.0 asked.node).2 in
+    let trie = trie_held _ _ _ _ _ es c.self.invariant.0 in
     let s : State = c.index_mut.result.now in
     let read : get_or (map span_in states) c.args.node None ≡ span_in s = get_or-map span_in states c.args.node s None lt ∙ ap span_in (sym c.index_mut.ensures.value) in
     let mine : get_or (map (entries_there es) (map span_in states)) c.args.node None ≡ entries_there es (span_in s) =
