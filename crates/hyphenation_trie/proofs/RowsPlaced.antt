@@ -1,9 +1,11 @@
 -- Rows after one more row is placed.
-use Rattle.std.proofs.Common.{◌≡◌, ◌≢◌, ℕ, zero, suc, ◌+◌, ◌<◌, ◌≤◌, List, [], ◌∷◌, ◌++◌, length, slice_index, Option, Some, None, Result, Ok, Err, refl, sym, subst, ◌∙◌, arith, inl, inr}
-use Rattle.std.proofs.lemmas.Bool.{cases_eq}
+use Rattle.std.proofs.Common.{◌≡◌, ◌≢◌, ℕ, zero, suc, ◌+◌, ◌<◌, ◌≤◌, List, [], ◌∷◌, ◌++◌, length, slice_index, Option, Some, None, Result, Ok, Err, refl, sym, ap, subst, ◌∙◌, arith, inl, inr}
+use Rattle.std.proofs.lemmas.Bool.{cases_eq, cases_lt}
 use Rattle.std.proofs.lemmas.List.{get_or_append_left, get_or_push}
 use Rattle.std.specs.Prelude.{IfOk}
-use Rattle.hyphenation_trie.specs.Private.Rows.{child_in, IsFreeRowBy, HasRowBy}
+use Rattle.hyphenation_trie.specs.Private.Rows.{child_in, IsFreeRowBy, IsOnlyChild, HasRowBy, OwnsNoChild}
+use Rattle.hyphenation_trie.specs.Private.Chains.{IsLastBelow}
+use Rattle.hyphenation_trie.specs.declared.children.Children.{Children}
 use Rattle.hyphenation_trie.specs.declared.rows.Cell.{Cell}
 
 -- the row of a node stays where its cells do
@@ -47,3 +49,40 @@ zero_pushed [] h zero = refl
 zero_pushed [] h (suc j) = refl
 zero_pushed (x ∷ xs) h zero = h 0
 zero_pushed (x ∷ xs) h (suc j) = zero_pushed xs (λ k. h (suc k)) j
+
+-- ---- the row of a node with one child
+
+-- the last child is the only one if there is none before it
+pub only_child : (children : Children) (node last before : ℕ) → IsLastBelow children.parents.items node (length children.parents.items) last → 0 < last → IsLastBelow children.parents.items node last before → before ≡ 0
+    → IsOnlyChild children node last
+only_child children node last before lasts pos befores first = record {
+  within = (pos, (lasts.within pos).0);
+  here = (lasts.within pos).1;
+  only = λ j low lj is. elim (cases_eq j last) [
+    | inl same ↦ same
+    | inr other ↦ elim (cases_lt last j) [
+      | inl after ↦ absurd (lasts.none j after lj is)
+      | inr earlier ↦ absurd (befores.none j (omega arith) (omega arith) is)
+    ]
+  ];
+}
+
+same_some : (a b : ℕ) → Some a ≡ Some b → a ≡ b
+same_some a b e = cc
+
+pub only_row : (children : Children) (old new : List Cell) (base node child at : ℕ) → IsOnlyChild children node child → base + slice_index children.bytes.items child ≡ at → base + 255 < length new → OwnsNoChild old node
+    → child_in new node at ≡ Some child → ((c : ℕ) → c ≢ at → child_in new node c ≡ child_in old node c) → HasRowBy children.parents.items children.bytes.items new base node
+only_row children old new base node child at only there room none written others =
+    let bytes : List ℕ = children.bytes.items in
+    record {
+      room = room;
+      mine = λ j pos lj is.
+          let e = only.only j pos lj is in
+          ap (λ (x : ℕ). child_in new node (base + slice_index bytes x)) e ∙ ap (λ (x : ℕ). child_in new node x) there ∙ written ∙ ap (λ (x : ℕ). Some x) (sym e);
+      only = λ c j is pos. elim (cases_eq c at) [
+        | inl same ↦
+            let e : child ≡ j = same_some child j (sym written ∙ ap (λ (x : ℕ). child_in new node x) (sym same) ∙ is) in
+            (omega (arith, only.within.0), omega (arith, only.within.1), ap (λ (x : ℕ). slice_index children.parents.items x) (sym e) ∙ only.here, same ∙ sym there ∙ ap (λ (x : ℕ). base + slice_index bytes x) e)
+        | inr other ↦ let root = none c j (sym (others c other) ∙ is) in absurd (omega (arith, root.0, root.1))
+      ];
+    }

@@ -5,7 +5,7 @@
 //! the root. So a search that reaches the root ends there without a test.
 
 ghost use Rattle.std.specs.Prelude.{◌≡◌, ◌==◌, ◌+◌, ◌<◌, ◌≤◌, ◌≢◌, ℕ, true, false, OnOk, IfOk, IfSome, length, Some, None};
-ghost use Rattle.hyphenation_trie.specs.Private.Rows.{child_in, AreChildren, OwnsNoChild, IsByteSpan, IsFreeRow, IsFullRow, HasRow, HasRows};
+ghost use Rattle.hyphenation_trie.specs.Private.Rows.{child_in, AreChildren, OwnsNoChild, IsByteSpan, IsFreeRow, IsFullRow, IsOnlyChild, HasRow, HasRows};
 
 use super::children::Children;
 use super::lists::list_of_first;
@@ -81,6 +81,22 @@ fn grow(cells: &mut Vec<Cell>, free: u32, len: usize) -> Result<(), AllocError>
                 child: 0,
             },
         )?;
+    }
+    Ok(())
+}
+
+// The number of free cells from the end of those in use on, once cells are added. A row has 256 cells. With more of them cells
+// are added less often.
+const CELLS_ADDED: usize = 512;
+
+// Adds free cells, so that a row fits after the cells in use, which end at `top`. The only error is out of memory.
+#[inline(always)]
+fn make_room(cells: &mut Vec<Cell>, free: u32, top: usize) -> Result<(), AllocError>
+    ensures longer { length cells.old.items ≤ length cells.new.items }
+    ensures other_owners_stay { (i c : ℕ) → i ≢ free → child_in cells.new.items i c ≡ child_in cells.old.items i c }
+{
+    if cells.len() < top.saturating_add(256) {
+        grow(cells, free, top.saturating_add(CELLS_ADDED))?;
     }
     Ok(())
 }
@@ -199,57 +215,23 @@ fn first_fit(
     None
 }
 
-// Returns the place at which a row of one child takes the cell `at`, if that cell is free.
-fn one_fit(
-    cells: &[Cell],
-    free: u32,
-    at: usize,
-    byte: usize,
-    node: u32,
-    children: &Children,
-) -> Option<usize>
-    requires children { AreChildren children.now }
-    requires node { node < length children.now.parents.items }
-    requires byte { byte ≤ 255 }
-    requires one { IsByteSpan children.now node (byte, byte) }
-    ensures room { IfSome result (λ base. base + 255 < length cells.now) }
-    ensures fits { IfSome result (λ base.
-        IsFreeRow children.now cells.now free base node) }
-{
-    // A row has 256 cells.
-    if at < byte || cells.len().saturating_sub(255) <= at - byte {
-        return None;
-    }
-    if cells[at].owner == free {
-        Some(at - byte)
-    } else {
-        None
-    }
-}
-
-// Returns a place near the first free cells at which the row of a node fits, if one of the tried places does. The least and the
-// greatest byte that lead to a child are known.
+// Returns a place near the first free cells at which the row of a node fits, if one of the tried places does. The least byte
+// that leads to a child is known.
 fn near_fit(
     cells: &[Cell],
     free: u32,
     gaps: Gaps,
-    span: (usize, usize),
+    least: usize,
     node: u32,
     children: &Children,
 ) -> Option<usize>
     requires children { AreChildren children.now }
     requires node { node < length children.now.parents.items }
-    requires least { span.0 ≤ 255 }
-    requires each { IsByteSpan children.now node span }
+    requires least { least ≤ 255 }
     ensures room { IfSome result (λ base. base + 255 < length cells.now) }
     ensures fits { IfSome result (λ base.
         IsFreeRow children.now cells.now free base node) }
 {
-    let (least, greatest) = span;
-    if least == greatest {
-        // It goes into the first free cell.
-        return one_fit(cells, free, gaps.low, least, node, children);
-    }
     let from = gaps
         .top
         .saturating_sub(CELLS_BACK)
@@ -282,7 +264,7 @@ fn find_place(
 {
     let (least, greatest) = byte_span(node, children);
     gaps.low = first_free(cells, free, gaps.low);
-    if let Some(base) = near_fit(cells, free, *gaps, (least, greatest), node, children) {
+    if let Some(base) = near_fit(cells, free, *gaps, least, node, children) {
         let end = base.saturating_add(greatest).saturating_add(1);
         if gaps.top < end {
             gaps.top = end;
@@ -333,11 +315,81 @@ fn find_or_add_place(
     ensures longer { length cells.old.items ≤ length cells.new.items }
     ensures other_owners_stay { (i c : ℕ) → i ≢ free → child_in cells.new.items i c ≡ child_in cells.old.items i c }
 {
-    grow(cells, free, gaps.top.saturating_add(256))?;
+    make_room(cells, free, gaps.top)?;
     if let Some(base) = find_place(cells, free, gaps, node, children) {
         return Ok(base);
     }
     add_row(cells, free)
+}
+
+// Returns where a row begins that has the cell `at` for a byte, if that cell is free and the row within the cells.
+#[inline(always)]
+fn row_around(cells: &[Cell], free: u32, at: usize, byte: u8) -> Option<usize>
+    ensures room { IfSome result (λ base. base + 255 < length cells.now) }
+    ensures fits { IfSome result (λ base. child_in cells.now free (base + byte) ≢ None) }
+{
+    let byte = byte as usize;
+    // A row has 256 cells.
+    if at < byte || cells.len().saturating_sub(255) <= at - byte {
+        return None;
+    }
+    if cells[at].owner == free {
+        Some(at - byte)
+    } else {
+        None
+    }
+}
+
+// Returns a place at which the row of a node with one child fits, given the child's byte: the child takes the first free cell,
+// or else one of a new row after all cells. The only error is out of memory.
+#[inline(always)]
+fn find_cell(
+    cells: &mut Vec<Cell>,
+    free: u32,
+    gaps: &mut Gaps,
+    byte: u8,
+) -> Result<usize, AllocError>
+    ensures room { IfOk result (λ base. base + 255 < length cells.new.items) }
+    ensures fits { IfOk result (λ base. child_in cells.new.items free (base + byte) ≢ None) }
+    ensures longer { length cells.old.items ≤ length cells.new.items }
+    ensures other_owners_stay { (i c : ℕ) → i ≢ free → child_in cells.new.items i c ≡ child_in cells.old.items i c }
+{
+    make_room(cells, free, gaps.top)?;
+    gaps.low = first_free(cells, free, gaps.low);
+    if gaps.top <= gaps.low {
+        gaps.top = gaps.low.saturating_add(1);
+    }
+    if let Some(base) = row_around(cells, free, gaps.low, byte) {
+        return Ok(base);
+    }
+    add_row(cells, free)
+}
+
+// Writes the row of a node that owns no cell and has one child, and returns where the row begins. The only error is out of
+// memory.
+#[inline(always)]
+fn place_only_child(
+    cells: &mut Vec<Cell>,
+    free: u32,
+    gaps: &mut Gaps,
+    node: u32,
+    child: u32,
+    children: &Children,
+) -> Result<u32, AllocError>
+    requires children { AreChildren children.now }
+    requires child { IsOnlyChild children.now node child }
+    requires free { node ≢ free }
+    requires none { OwnsNoChild cells.old.items node }
+    ensures row { IfOk result (λ base.
+        HasRow children.now cells.new.items base node) }
+    ensures longer { length cells.old.items ≤ length cells.new.items }
+    ensures other_owners_stay { (i c : ℕ) → i ≢ free → i ≢ node → child_in cells.new.items i c ≡ child_in cells.old.items i c }
+{
+    let byte = children.bytes[child as usize];
+    let place = find_cell(cells, free, gaps, byte)?;
+    let base = to_u32(place)?;
+    write_cell(cells, free, place + byte as usize, node, child);
+    Ok(base)
 }
 
 // Writes the row of a node that owns no cell, and returns where the row begins. The only error is out of memory.
@@ -358,8 +410,12 @@ fn place_row(
     ensures longer { length cells.old.items ≤ length cells.new.items }
     ensures other_owners_stay { (i c : ℕ) → i ≢ free → i ≢ node → child_in cells.new.items i c ≡ child_in cells.old.items i c }
 {
-    if children.last[node as usize] == 0 {
+    let last = children.last[node as usize];
+    if last == 0 {
         return Ok(0);
+    }
+    if children.before[last as usize] == 0 {
+        return place_only_child(cells, free, gaps, node, last, children);
     }
     let place = find_or_add_place(cells, free, gaps, node, children)?;
     let base = to_u32(place)?;

@@ -71,6 +71,13 @@ IsFreeRow children cells free base node = IsFreeRowBy children.parents.items chi
 abbrev pub HasRow : Children → List Cell → ℕ → ℕ → Type 0
 HasRow children cells base node = HasRowBy children.parents.items children.bytes.items cells base node
 
+-- The node has this child and no other one.
+pub record IsOnlyChild (children : Children) (node child : ℕ) : Type 0 where
+  pub within : (0 < child) × (child < length children.parents.items)
+  pub here : slice_index children.parents.items child ≡ node
+  pub only : (j : ℕ) → 0 < j → j < length children.parents.items → slice_index children.parents.items j ≡ node
+      → j ≡ child
+
 -- Each byte that leads from the node to a child lies between these two.
 abbrev pub IsByteSpan : Children → ℕ → ℕ × ℕ → Type 0
 IsByteSpan children node span =

@@ -1,17 +1,20 @@
 use Rattle.hyphenation_trie.specs.Private.Rows.{child_in}
+use Rattle.hyphenation_trie.specs.Private.Chains.{IsLastBelow}
 use Rattle.hyphenation_trie.proofs.ChainsGrow.{last_read}
-use Rattle.std.proofs.Common.{arith, sym, ap, ◌∙◌}
+use Rattle.hyphenation_trie.proofs.RowsPlaced.{only_child}
+use Rattle.std.proofs.Common.{◌≡◌, ℕ, arith, slice_index, sym, ap, subst, ◌∙◌}
+use Rattle.std.proofs.lemmas.List.{get_or_default}
 use Rattle.std.proofs.lemmas.Grind.{common_steps}
 use Rattle.hyphenation_trie.proofs.rows.place_row.Goals as goal
 
-pub index-requires : goal.index-requires
-index-requires c = grind (arith, common_steps)
+pub index-last-requires : goal.index-last-requires
+index-last-requires c = grind (arith, common_steps)
 
-pub returns-then-index-eq0-clause-longer : goal.returns-then-index-eq0-clause-longer
-returns-then-index-eq0-clause-longer c = grind (arith, common_steps)
+pub returns-then-last-eq0-clause-longer : goal.returns-then-last-eq0-clause-longer
+returns-then-last-eq0-clause-longer c = grind (arith, common_steps)
 
-pub returns-then-index-eq0-clause-other_owners_stay : goal.returns-then-index-eq0-clause-other_owners_stay
-returns-then-index-eq0-clause-other_owners_stay c = grind (arith, common_steps)
+pub returns-then-last-eq0-clause-other_owners_stay : goal.returns-then-last-eq0-clause-other_owners_stay
+returns-then-last-eq0-clause-other_owners_stay c = grind (arith, common_steps)
 
 pub find_or_add_place-requires-clause-children : goal.find_or_add_place-requires-clause-children
 find_or_add_place-requires-clause-children c = grind (arith, common_steps)
@@ -58,9 +61,9 @@ returns-clause-longer c = grind (arith, common_steps)
 pub returns-clause-other_owners_stay : goal.returns-clause-other_owners_stay
 returns-clause-other_owners_stay c = grind (arith, common_steps)
 
-pub returns-then-index-eq0-clause-row : goal.returns-then-index-eq0-clause-row
-returns-then-index-eq0-clause-row c =
-    let last = last_read c.args.children.now.parents.items c.args.children.now.last.items c.args.children.now.before.items c.args.node c.index.result.now c.requires.children.chained (omega (arith, c.requires.node, c.requires.children.nodes)) c.index.ensures in
+pub returns-then-last-eq0-clause-row : goal.returns-then-last-eq0-clause-row
+returns-then-last-eq0-clause-row c =
+    let last = last_read c.args.children.now.parents.items c.args.children.now.last.items c.args.children.now.before.items c.args.node c.index-last.result.now c.requires.children.chained (omega (arith, c.requires.node, c.requires.children.nodes)) c.index-last.ensures in
     record {
       room = c.requires.room;
       mine = λ j pos lj is. absurd (last.none j (omega arith) lj is);
@@ -70,3 +73,22 @@ returns-then-index-eq0-clause-row c =
 pub write_row-requires-clause-none : goal.write_row-requires-clause-none
 write_row-requires-clause-none c = λ at j is.
     c.requires.none at j (sym (c.find_or_add_place.ensures.other_owners_stay c.args.node at c.requires.free) ∙ ap (λ xs. child_in xs c.args.node at) (sym c.deref_mut.ensures.value) ∙ is)
+
+pub index-requires : goal.index-requires
+index-requires c =
+    let last = last_read c.args.children.now.parents.items c.args.children.now.last.items c.args.children.now.before.items c.args.node c.index-last.result.now c.requires.children.chained (omega (arith, c.requires.node, c.requires.children.nodes)) c.index-last.ensures in
+    omega (arith, (last.within (omega arith)).0, c.requires.children.chained.lengths, c.args.children.now.before.ok.0)
+
+pub place_only_child-requires-clause-child : goal.place_only_child-requires-clause-child
+place_only_child-requires-clause-child c =
+    let parents = c.args.children.now.parents.items in
+    let before = c.args.children.now.before.items in
+    let child : ℕ = c.index-last.result.now in
+    let chained = c.requires.children.chained in
+    let last = last_read parents c.args.children.now.last.items before c.args.node child chained (omega (arith, c.requires.node, c.requires.children.nodes)) c.index-last.ensures in
+    let here = last.within (omega arith) in
+    let next : ℕ = c.index.result.now in
+    let read : next ≡ slice_index before child = c.index.ensures ∙ get_or_default before child next 0 (omega (arith, here.0, chained.lengths)) in
+    let chain : IsLastBelow parents c.args.node child next =
+    subst (λ (x : ℕ). IsLastBelow parents c.args.node child x) (sym read) (subst (λ (x : ℕ). IsLastBelow parents x child (slice_index before child)) here.1 (chained.befores child (omega arith) here.0)) in
+    only_child c.args.children.now c.args.node child next last (omega arith) chain (omega arith)
