@@ -152,15 +152,9 @@ further rest at e = by (prefix_len (λ x. not (eqb x 10)) rest) e
 pub feed_further : (text rest : List ℕ) (at : ℕ) → Some rest ≡ strip_prefix (codes "p ") text → Some at ≡ position (λ b. eqb b 10) rest → Some (at + 2) ≡ position (λ b. eqb b 10) text
 feed_further text rest at start e = further rest at e ∙ ap (position (λ b. eqb b 10)) (sym (begins_p text rest start))
 
--- the token of the line that is cut off
-pub token_of_line : (text rest : List ℕ) (at : ℕ) → Some rest ≡ strip_prefix (codes "p ") text → (token : List ℕ) → Some token ≡ strip_prefix (codes "p ") (take (at + 2) text) → token ≡ take at rest
-token_of_line text rest at start token is =
-    let two : at + 2 ≡ suc (suc at) = omega arith in
-    let cut : take (at + 2) text ≡ take (suc (suc at)) text = ap (λ (k : ℕ). take k text) two in
-    let line : take (at + 2) text ≡ 112 ∷ 32 ∷ take at rest = cut ∙ ap (take (suc (suc at))) (begins_p text rest start) in
-    let found : Some token ≡ Some (take at rest) = is ∙ ap (strip_prefix (codes "p ")) line in
-    cc
-
--- that line, where its token was read
+-- the line that is cut off, where its token was read
 pub line_was_read : (pattern : ReadPattern) (text rest : List ℕ) (at : ℕ) → Some rest ≡ strip_prefix (codes "p ") text → IsPatternToken pattern (take at rest) → IsPatternLine pattern (take (at + 2) text)
-line_was_read pattern text rest at start read = λ token is. subst (IsPatternToken pattern) (sym (token_of_line text rest at start token is)) read
+line_was_read pattern text rest at start read =
+    let two : at + 2 ≡ suc (suc at) = omega arith in
+    let line : take (at + 2) text ≡ 112 ∷ 32 ∷ take at rest = ap (λ (k : ℕ). take k text) two ∙ ap (take (suc (suc at))) (begins_p text rest start) in
+    (take at rest, sym (ap (strip_prefix (codes "p ")) line), read)

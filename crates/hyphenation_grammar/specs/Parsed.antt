@@ -90,9 +90,9 @@ abbrev pub IsPatternToken : ReadPattern → List ℕ → Type 0
 IsPatternToken pattern text =
     (0 < length text) × (between_spaces text ≡ text ∷ []) × ((version : Version) → Some pattern ≡ read_pattern version text)
 
--- If a line begins with `p `, the text after it is such a token.
+-- A line is `p ` and such a token.
 abbrev pub IsPatternLine : ReadPattern → List ℕ → Type 0
-IsPatternLine pattern line = (text : List ℕ) → Some text ≡ strip_prefix (codes "p ") line → IsPatternToken pattern text
+IsPatternLine pattern line = (text : List ℕ) × (Some text ≡ strip_prefix (codes "p ") line) × IsPatternToken pattern text
 
 -- A part of a later token.
 abbrev pub part_at : List (List ℕ) → ℕ → List ℕ

@@ -1,15 +1,16 @@
 -- The tests of a line: those before Token, and those from it on.
-use Rattle.std.proofs.Common.{◌≡◌, ◌∙◌, ◌<◌, ℕ, Bool, true, false, cond, eqb, nat_lt, not, ◌&&◌, arith, List, ◌∷◌, [], ◌++◌, drop, Option, Some, None, refl, sym, ap, subst, is_some}
-use Rattle.std.specs.Prelude.{IsUtf8, codes, Result, Ok, Err, MatchResult, IfErr, IfOk, OnOk}
+use Rattle.std.proofs.Common.{◌≡◌, ◌∙◌, ◌<◌, ℕ, Bool, true, false, cond, eqb, nat_lt, not, ◌&&◌, ◌||◌, arith, List, ◌∷◌, [], ◌++◌, drop, length, Option, Some, None, refl, sym, ap, subst, is_some}
+use Rattle.std.specs.Prelude.{◌==◌, IsUtf8, codes, Result, Ok, Err, MatchResult, IfErr, IfOk, OnOk}
 use Rattle.std.specs.Option.{option_or}
 use Rattle.std.specs.Str.{is_utf8}
 use Rattle.std.proofs.lemmas.Bool.{eqb-true}
 use Rattle.std.proofs.lemmas.Bool.Decides.{nat_tests}
-use Rattle.std.proofs.lemmas.Str.{IsUtf8-from_is_utf8, IsUtf8-past_char}
+use Rattle.std.proofs.lemmas.Str.{IsUtf8-from_is_utf8, IsUtf8-past_char, is_utf8-from_IsUtf8}
 use Rattle.std.proofs.lemmas.Str.Ascii.{encode_ascii}
 use Rattle.hyphenation_grammar.specs.declared.form.Form.{Form}
-use Rattle.hyphenation_grammar.specs.Judging.{own_cause, fails}
+use Rattle.hyphenation_grammar.specs.Judging.{own_cause, fails, is_known}
 use Rattle.hyphenation_reader.specs.Private.Judging.{cause_before_token, early_cause}
+use Rattle.hyphenation_grammar.specs.Items.{is_exception_line, is_pattern_line}
 use Rattle.hyphenation_grammar.specs.Lines.{strip_prefix, starts_with}
 use Rattle.hyphenation_reader.specs.Private.LineAnswers.{item_cause}
 use Rattle.hyphenation_grammar.specs.declared.Cause.{Cause}
@@ -108,3 +109,15 @@ after_third form number line late = rw (other 1 (omega arith), other 2 (omega ar
 
 pub alike : (form : Form) (number : ℕ) (line : List ℕ) → 3 < number → own_cause form number line ≡ own_cause form 4 line
 alike form number line late = halves form number line ∙ ap (λ (o : Option Cause). option_or o (item_cause form line)) (after_third form number line late) ∙ sym (halves form 4 line)
+
+-- a `p` line passes the tests before Token
+known_p : (a b d : Bool) → (a || b || (true || d)) ≡ true
+known_p true b d = refl
+known_p false true d = refl
+known_p false false d = refl
+
+pub pattern_passes : (form : Form) (line text : List ℕ) → IsUtf8 line → Some text ≡ strip_prefix (codes "p ") line → None ≡ cause_before_token form 4 line
+pattern_passes form line text u start =
+    let sort : is_pattern_line line ≡ true = (begun (codes "p ") line text start).0 in
+    let known : is_known line ≡ true = ap (λ (t : Bool). length line == 0 || starts_with (codes "#") line || (t || is_exception_line line)) sort ∙ known_p (length line == 0) (starts_with (codes "#") line) (is_exception_line line) in
+    sym (ap (λ (t : Bool). cond (not t) (Some NotUtf8) (cond (not (is_known line)) (Some UnknownLine) None)) (is_utf8-from_IsUtf8 line u) ∙ ap (λ (t : Bool). cond (not t) (Some UnknownLine) None) known)

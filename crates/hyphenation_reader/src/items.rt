@@ -11,11 +11,11 @@ ghost use Rattle.hyphenation_reader.specs.Private.Judging.{early_cause};
 ghost use Rattle.hyphenation_grammar.specs.Lines.{between_spaces, strip_prefix, tokens_after};
 ghost use Rattle.hyphenation_reader.specs.Private.Matched.{ascend, cause_before_match, head_change_at, have_values};
 ghost use Rattle.hyphenation_reader.specs.Private.Matched.{suits_form_in_pattern, tail_after, pending};
-ghost use Rattle.hyphenation_grammar.specs.Parsed.{IsPatternLine, IsPatternToken, later_token, pattern_view, some_if};
+ghost use Rattle.hyphenation_grammar.specs.Parsed.{IsPatternLine, later_token, pattern_view, some_if};
 ghost use Rattle.hyphenation_grammar.specs.declared.tokens.LaterToken.TheVariants.{Sound};
 ghost use Rattle.hyphenation_reader.specs.Private.Parsed.{exception_parts, no_later, pattern_parts, read_later};
 ghost use Rattle.hyphenation_reader.specs.Private.Parsed.{later_view};
-ghost use Rattle.hyphenation_reader.specs.Private.LineAnswers.{ReturnsPattern, ReturnsListed, ReturnsException, IsItemIn};
+ghost use Rattle.hyphenation_reader.specs.Private.LineAnswers.{ReturnsItem, ReturnsPattern, ReturnsListed, ReturnsException, IsItemIn};
 ghost use Rattle.hyphenation_reader.specs.Private.LineAnswers.{breaks_listed, entries_of, exception_cause};
 ghost use Rattle.hyphenation_reader.specs.Private.LineAnswers.{suits_word, suits_form, places_cause, token_cause};
 
@@ -96,11 +96,14 @@ pub(crate) fn item_of<C: Payload, B: Listing>(
         IsItemIn buffers.new form.version C.payload_of B.listing_of item line.now)) }
     ensures refused { IfOk result (λ found. IfErr found (λ cause. own_cause form 4 line.now ≡ Some cause)) }
 {
+    if known && is_read {
+        return item_of_read(form, line, buffers);
+    }
     if let Some(cause) = early_cause(line, known) {
         return Ok(Err(cause));
     }
     match strip_prefix(b"p ", line) {
-        Some(text) => pattern_item(alloc, form, text, is_read, buffers),
+        Some(text) => pattern_item(alloc, form, text, buffers),
         None => match strip_prefix(b"e ", line) {
             Some(text) => exception_item::<C, B>(alloc, form, text, &mut buffers.later),
             None => Ok(Ok(Item::Nothing)),
@@ -142,21 +145,16 @@ fn is_known(line: &[u8]) -> bool
 }
 
 // Returns the item of a `p` line, given the text after `p `, or the first test that it fails. Its key and its entries are
-// left in the buffers. `is_read` says that the buffers have the contents of the text, which is one token.
+// left in the buffers.
 fn pattern_item<C: Payload, B: Listing>(
     alloc: Global,
     form: Form,
     text: &[u8],
-    is_read: bool,
     buffers: &mut LineBuffers<C>,
 ) -> Result<Result<Item<B>, Cause>, AllocError>
-    requires utf8 { IsUtf8 text.now }
-    requires read { is_read ≡ true → IsPatternToken (pattern_view buffers.old.pattern) text.now }
+    requires { IsUtf8 text.now }
     ensures { IfOk result (λ found. ReturnsPattern buffers.new form C.payload_of B.listing_of text.now found) }
 {
-    if is_read {
-        return item_of_read(form, text, buffers);
-    }
     let mut later = Later::new(alloc);
     if !pattern_parts(alloc, form.version, text, &mut buffers.pattern, &mut later)? {
         return Ok(Err(Cause::Token));
@@ -175,11 +173,12 @@ fn pattern_item<C: Payload, B: Listing>(
 #[inline(always)]
 fn item_of_read<C: Payload, B: Listing>(
     form: Form,
-    text: &[u8],
+    line: &[u8],
     buffers: &mut LineBuffers<C>,
 ) -> Result<Result<Item<B>, Cause>, AllocError>
-    requires { IsPatternToken (pattern_view buffers.old.pattern) text.now }
-    ensures { IfOk result (λ found. ReturnsPattern buffers.new form C.payload_of B.listing_of text.now found) }
+    requires { IsPatternLine (pattern_view buffers.old.pattern) line.now }
+    ensures { IfOk result (λ found. ReturnsItem form C.payload_of B.listing_of buffers.new.pattern.key.items
+        buffers.new.entries.items line.now found) }
 {
     if let Some(cause) = token_cause(&buffers.pattern) {
         return Ok(Err(cause));
