@@ -3,7 +3,7 @@
 ghost use Rattle.std.specs.Prelude.{◌≡◌, ◌<◌, ◌≤◌, ◌++◌, [], ◌∷◌, length, slice_index, slice_set, IfOk, OnOk, OnErr};
 
 use super::lists::{list_of_first, push_both};
-use super::to_u32;
+use super::test_u32;
 use std::alloc::{AllocError, Global};
 
 // The parents and the children of all nodes.
@@ -63,7 +63,9 @@ impl Children {
             × (self.new.before.items ≡ self.old.before.items)) }
         ensures same_order_on_error { OnErr result (self.new.in_order_from ≡ self.old.in_order_from) }
     {
-        let child = to_u32(self.before.len())?;
+        let count = self.before.len();
+        test_u32(count)?;
+        let child = count as u32;
         let before = self.last[node as usize];
         let is_out_of_order = byte < self.bytes[before as usize];
         let (parents, bytes) = (self.parents.len(), self.bytes.len());

@@ -23,7 +23,7 @@
 //! grows, and in the automaton.
 #![tactic(auto)]
 
-ghost use Rattle.std.specs.Prelude.{◌≡◌, ◌≤◌, ◌^◌, IfOk, OnErr};
+ghost use Rattle.std.specs.Prelude.{◌≡◌, ◌<◌, ◌≤◌, ◌^◌, IfOk, OnErr, OnOk};
 
 mod automaton;
 mod chains;
@@ -50,8 +50,19 @@ pub fn to_u32(number: usize) -> Result<u32, AllocError>
     ensures same_number { IfOk result (λ held. held ≡ number) }
     ensures refused_from_limit { OnErr result (2 ^ 32 ≤ number) }
 {
+    test_u32(number)?;
+    Ok(number as u32)
+}
+
+/// Tests that a number is below 2^32, with the error of [`to_u32`] if it is not. A number that is tested and then cast takes
+/// fewer instructions than one that is put into a result and taken out again.
+#[inline(always)]
+pub fn test_u32(number: usize) -> Result<(), AllocError>
+    ensures below_limit { OnOk result (number < 2 ^ 32) }
+    ensures refused_from_limit { OnErr result (2 ^ 32 ≤ number) }
+{
     if number <= u32::MAX as usize {
-        Ok(number as u32)
+        Ok(())
     } else {
         Err(AllocError)
     }

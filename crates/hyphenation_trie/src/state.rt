@@ -4,7 +4,7 @@ ghost use Rattle.std.specs.Prelude.{◌≡◌, ◌≢◌, ◌+◌, ◌≤◌, �
 ghost use Rattle.std.specs.List.{slice_range};
 ghost use Rattle.hyphenation_trie.specs.Private.States.{is_key, span_in};
 
-use super::to_u32;
+use super::test_u32;
 use std::alloc::AllocError;
 
 // The entries of a key, as a range of the entries of all keys.
@@ -24,12 +24,16 @@ impl Span {
         ensures numbers { IfOk result (λ span. (span.start ≡ start) × (span.count ≡ count)) }
         ensures is_a_start { IfOk result (λ span. span.start ≢ 2 ^ 32 - 1) }
     {
-        let start = to_u32(start)?;
-        let count = to_u32(count)?;
+        test_u32(start)?;
+        test_u32(count)?;
+        let start = start as u32;
         if start == NO_START {
             return Err(AllocError);
         }
-        Ok(Span { start, count })
+        Ok(Span {
+            start,
+            count: count as u32,
+        })
     }
 }
 
