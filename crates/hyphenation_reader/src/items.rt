@@ -26,7 +26,7 @@ use hyphenation_grammar::form::{Form, Kind, Version};
 use hyphenation_grammar::lines::{first_token, is_utf8, starts_with, strip_prefix};
 use hyphenation_grammar::pattern::{PatternToken, read_pattern};
 use hyphenation_grammar::tokens::{LaterToken, is_boundary, later_token, string_of};
-use hyphenation_trie::to_u32;
+use hyphenation_trie::{test_u32, to_u32};
 use std::alloc::{AllocError, Global};
 use std::vec::IntoIter;
 
@@ -214,9 +214,10 @@ fn plain_entries<C: Payload>(
 {
     entries.clear();
     for value in values {
-        let place = to_u32(value.0)?;
+        let place = value.0;
+        test_u32(place)?;
         entries.push(Entry {
-            place,
+            place: place as u32,
             value: value.1,
             change: C::from_change(None),
         })?;
