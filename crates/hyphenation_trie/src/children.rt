@@ -1,6 +1,7 @@
 //! The edges of a trie's nodes: the parent of each, and the children of each as a chain.
 
 ghost use Rattle.std.specs.Prelude.{◌≡◌, ◌<◌, ◌≤◌, ◌++◌, [], ◌∷◌, length, slice_index, slice_set, IfOk, OnOk, OnErr};
+ghost use Rattle.hyphenation_trie.specs.Private.Rows.{last_byte};
 
 use super::lists::{list_of_first, push_both};
 use super::test_u32;
@@ -53,9 +54,8 @@ impl Children {
             (length self.old.before.items)) }
         ensures before { OnOk result (self.new.before.items ≡ self.old.before.items ++ slice_index self.old.last.items
             node ∷ []) }
-        ensures in_order { OnOk result (slice_index self.old.bytes.items (slice_index self.old.last.items node) ≤ byte
-            → self.new.in_order_from ≡ self.old.in_order_from) }
-        ensures out_of_order { OnOk result (byte < slice_index self.old.bytes.items (slice_index self.old.last.items node)
+        ensures in_order { OnOk result (last_byte self.old node ≤ byte → self.new.in_order_from ≡ self.old.in_order_from) }
+        ensures out_of_order { OnOk result (byte < last_byte self.old node
             → self.new.in_order_from ≡ length self.old.before.items) }
         ensures same_nodes_on_error { OnErr result ((self.new.parents.items ≡ self.old.parents.items)
             × (self.new.bytes.items ≡ self.old.bytes.items)) }

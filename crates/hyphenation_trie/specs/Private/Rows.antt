@@ -63,6 +63,10 @@ abbrev pub AreChildren : Children → Type 0
 AreChildren children =
     AreChildrenBy children.parents.items children.bytes.items children.last.items children.before.items
 
+-- The byte of a node's last child; 0 if it has no child.
+abbrev pub last_byte : Children → ℕ → ℕ
+last_byte children node = slice_index children.bytes.items (slice_index children.last.items node)
+
 -- A row of the node fits there.
 abbrev pub IsFreeRow : Children → List Cell → ℕ → ℕ → ℕ → Type 0
 IsFreeRow children cells free base node = IsFreeRowBy children.parents.items children.bytes.items cells free base node
