@@ -44,6 +44,12 @@ next_left word at lt =
     let after : suc (at + 1) ≡ at + 2 = omega arith in
     sym (drop-cons word (at + 1) 0 lt ∙ ap (λ (k : ℕ). slice_index word (at + 1) ∷ drop k word) after)
 
+-- A word that begins with a byte of ASCII that is no letter.
+pub begins_otherwise : (word : List ℕ) → 0 < length word → slice_index word 0 < 0x80 → is_ascii_lowercase (slice_index word 0) ≡ false → are_common_lowercase word ≡ false
+begins_otherwise [] some below other = absurd (omega arith)
+begins_otherwise (b ∷ []) some below other = other
+begins_otherwise (b ∷ c ∷ bs) some below other = lower_first b c bs below ∙ ap (λ t. t && are_common_lowercase (c ∷ bs)) other
+
 -- The rest after a step of the loop, and the end of the loop.
 pub after_lower : (word : List ℕ) (at : ℕ) → at + 1 < length word → slice_index word at < 0x80 → is_ascii_lowercase (slice_index word at) ≡ true → are_common_lowercase (drop at word) ≡ are_common_lowercase (drop (at + 1) word)
 after_lower word at lt below lower =

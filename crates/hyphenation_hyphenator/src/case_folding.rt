@@ -146,11 +146,27 @@ fn is_common_pair(first: u8, second: u8) -> bool
 
 // Whether a word has common lowercase letters alone. Then it folds to itself, and has no soft hyphen.
 //
-// It reads bytes, since decoding characters takes more than twice as long.
+// Most other words begin with a capital of ASCII, so the first byte is tested before.
+#[inline(always)]
+#[tactic(auto, using(crate::proofs::CommonLowercase::begins_otherwise))]
 pub(crate) fn are_common_lowercase(word: &str) -> bool
     ensures { result ≡ are_common_lowercase word.now }
 {
     let bytes = word.as_bytes();
+    if !bytes.is_empty() && bytes[0] < 0x80 && !bytes[0].is_ascii_lowercase() {
+        return false;
+    }
+    are_common_lowercase_in_turn(bytes)
+}
+
+// Whether a word has common lowercase letters alone, tested from the first one on.
+//
+// It reads bytes, since decoding characters takes more than twice as long. It is kept out of line, since most words do not
+// come to it.
+#[inline(never)]
+fn are_common_lowercase_in_turn(bytes: &[u8]) -> bool
+    ensures { result ≡ are_common_lowercase bytes.now }
+{
     let last = bytes.len().saturating_sub(1);
     let mut at = 0;
     while at < last {

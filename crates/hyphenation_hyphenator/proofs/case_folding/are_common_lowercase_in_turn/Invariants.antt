@@ -1,6 +1,6 @@
 use Rattle.std.proofs.Common.{◌≡◌, ◌≤◌, ◌-◌, drop, length}
 use Rattle.hyphenation_hyphenator.specs.Private.CommonLowercase.{are_common_lowercase}
-use Rattle.hyphenation_hyphenator.proofs.case_folding.are_common_lowercase.Given as goal
+use Rattle.hyphenation_hyphenator.proofs.case_folding.are_common_lowercase_in_turn.Given as goal
 
 abbrev pub invariant-loop-at : goal.invariant-loop-at
 invariant-loop-at l = record {
