@@ -206,6 +206,7 @@ pub trait Hyphenator<'h> {
     ///     line.push_str(segment?.as_str())?;
     /// }
     /// ```
+    #[inline(always)]
     final fn hyphenate<'t>(
         &'h self,
         alloc: Global,

@@ -122,6 +122,7 @@ impl<'h> Hyphenator<'h> for Extended {
         self.remove_exception(word)
     }
 
+    #[inline(always)]
     fn breaks(
         &'h self,
         alloc: Global,
@@ -130,6 +131,7 @@ impl<'h> Hyphenator<'h> for Extended {
         breaks(alloc, self, word)
     }
 
+    #[inline(always)]
     fn breaks_into(
         &'h self,
         word: &str,

@@ -105,12 +105,14 @@ impl<'h> Hyphenator<'h> for Standard {
         self.remove_exception(word)
     }
 
+    #[inline(always)]
     fn breaks(&'h self, alloc: Global, word: &str) -> Result<Vec<usize>, AllocError> {
         self.invariant();
         value_is_borne::<()>();
         breaks(alloc, self, word)
     }
 
+    #[inline(always)]
     fn breaks_into(&'h self, word: &str, breaks: &mut Vec<usize>) -> Result<(), AllocError> {
         self.invariant();
         value_is_borne::<()>();
