@@ -127,6 +127,7 @@ impl<'d> Score<'d> for Standard {
 
     ghost occurring = { λ dictionary word. occurrences (entries_of_keys dictionary) (frame word) };
 
+    #[inline(always)]
     fn score(&'d self, alloc: Global, word: &str) -> Result<Vec<u8>, AllocError>
         ensures places { IfOk result (λ v. length v.items ≡ length word.now - 1) }
         ensures scores { IfOk result (λ v.
@@ -269,6 +270,7 @@ impl<'d> Score<'d> for Extended {
 
     ghost occurring = { λ dictionary word. occurrences (entries_of_keys dictionary) (frame word) };
 
+    #[inline(always)]
     fn score(
         &'d self,
         alloc: Global,
