@@ -136,13 +136,13 @@ fn copied(alloc: Global, text: &[u8]) -> Result<Vec<u8>, AllocError>
 pub(crate) fn text_of(alloc: Global, written: &[u8]) -> Result<Option<Vec<u8>>, AllocError>
     ensures { IfOk result (λ found. option_map (λ v. v.items) found ≡ text_spelt written.now) }
 {
-    if written == b"\\e".as_slice() {
-        return Ok(Some(Vec::new(alloc)));
-    }
     // Most texts have no escape.
     if stand_for_themselves(written) {
         let copy = copied(alloc, written)?;
         return Ok(Some(copy));
+    }
+    if written == b"\\e".as_slice() {
+        return Ok(Some(Vec::new(alloc)));
     }
     unescaped(alloc, written)
 }
