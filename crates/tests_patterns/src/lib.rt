@@ -3,14 +3,4 @@
 #![tactic(auto)]
 
 #[cfg(test)]
-mod charsets;
-#[cfg(test)]
 mod convert;
-#[cfg(test)]
-mod files_of_patterns;
-#[cfg(test)]
-mod libreoffice;
-#[cfg(test)]
-mod long_files;
-#[cfg(test)]
-mod messages;
