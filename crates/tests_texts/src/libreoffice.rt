@@ -188,7 +188,7 @@ const ELEVEN_KINDS: &[u8] =
     b"UTF-8\nCOMPOUNDLEFTHYPHENMIN 3\nNOHYPHEN q\na12b\n.1.\ncd\na3b\nn1o/n=o,1,1,1\nn1p/n=p,1,x\nn1q/n=q=,1,1\n";
 
 // What a file shows, its bytes, and the first line and the number of a note on it; `None` if there is no such note.
-const NOTED: [(&str, &[u8], NoteKind, Option<(usize, u64)>); 38] = [
+const NOTED: [(&str, &[u8], NoteKind, Option<(usize, u64)>); 40] = [
     (
         "no level is noted",
         b"UTF-8\na1b\n",
@@ -266,6 +266,18 @@ const NOTED: [(&str, &[u8], NoteKind, Option<(usize, u64)>); 38] = [
         b"UTF-8\nCOMPOUNDRIGHTHYPHENMIN 3\na1b\n",
         NoteKind::Setting,
         Some((2, 1)),
+    ),
+    (
+        "a change past the letters is noted",
+        b"UTF-8\na1b\nab/c=d,7,1\n",
+        NoteKind::ChangePastKey,
+        Some((3, 1)),
+    ),
+    (
+        "a change without an odd value in its range is noted",
+        b"UTF-8\na1b\nab2c/c=d,1,2\n",
+        NoteKind::ChangeWithoutValue,
+        Some((3, 1)),
     ),
     (
         "a pattern hides a shorter one within it",
