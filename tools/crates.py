@@ -1,4 +1,4 @@
-"""What scripts know of the crates: the lines of crates.txt, and how the toolchain checks one crate over built libraries."""
+"""The crates for scripts: the lines of crates.txt, and how the toolchain checks one crate over built libraries."""
 import os
 import pathlib
 import subprocess
