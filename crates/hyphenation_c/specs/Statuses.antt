@@ -10,7 +10,7 @@ use Rattle.hyphenation_grammar.specs.declared.Cause.TheVariants as causes
 use Rattle.hyphenation_grammar.specs.declared.form.Kind.{Kind}
 use Rattle.hyphenation_grammar.specs.declared.form.Kind.TheVariants.{Standard, Extended}
 use Rattle.hyphenation_hyphenator.specs.Hyphenated.{hyphenated_text}
-use Rattle.line_filling.specs.Lines.{lines_by}
+use Rattle.linefill.specs.Lines.{lines_by}
 use Rattle.hyphenation_c.specs.Dictionaries.{Dictionary, kind_of, given, language_of, minima_of, breaks_by, places_by, values_by, as_change, texts_of, edited, text_of}
 use Rattle.hyphenation_c.specs.declared.changes.BreakChange.{BreakChange}
 

@@ -12,7 +12,7 @@ ghost use Rattle.hyphenation_hyphenator.specs.Fitting.{fitted_breaks_of};
 ghost use Rattle.hyphenation_hyphenator.specs.Hyphenated.{hyphenated_text};
 ghost use Rattle.hyphenation_hyphenator.specs.Opportunities.{no_change, own_break, rules_of, all_breaks_of};
 ghost use Rattle.hyphenation_score.specs.Scoring.{own_change};
-ghost use Rattle.line_filling.specs.Lines.{lines_by};
+ghost use Rattle.linefill.specs.Lines.{lines_by};
 ghost use Rattle.hyphenation_c.specs.Dictionaries.{given, language_of, minima_of, breaks_by, places_by};
 ghost use Rattle.hyphenation_c.specs.Dictionaries.{as_change, texts_of, text_of, dictionary_of};
 ghost use Rattle.hyphenation_c.specs.Statuses.{Finds, FindsBreaks, FindsMarkedText, FindsLines, FindChanges, into};
@@ -32,7 +32,7 @@ use hyphenation_hyphenator::hyphenator::Hyphenator;
 use hyphenation_hyphenator::text::hyphenated_text;
 use hyphenation_load::Load;
 use hyphenation_reader::reader::{Refusal, read_extended, read_standard};
-use line_filling::fill;
+use linefill::fill;
 use std::alloc::{AllocError, Global};
 use std::sync::Arc;
 

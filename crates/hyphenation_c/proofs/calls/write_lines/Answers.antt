@@ -6,7 +6,7 @@ use Rattle.hyphenation_breaks.specs.Break.{plain_break}
 use Rattle.hyphenation_breaks.specs.Dictionary.{Contents}
 use Rattle.hyphenation_writer.specs.Canonical.{with_line_feeds}
 use Rattle.hyphenation_hyphenator.specs.Opportunities.{no_change, rules_of, all_breaks_of}
-use Rattle.line_filling.specs.Lines.{lines_by}
+use Rattle.linefill.specs.Lines.{lines_by}
 use Rattle.hyphenation_c.specs.Dictionaries.{breaks_by, dictionary_of}
 use Rattle.hyphenation_c.specs.Statuses.{Fills, FindsLines}
 use Rattle.hyphenation_c.proofs.Finding.{finds}
