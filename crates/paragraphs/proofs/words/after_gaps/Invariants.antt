@@ -1,7 +1,7 @@
 use Rattle.std.proofs.Common.{◌≡◌, ◌≤◌, length}
 use Rattle.std.specs.Str.{IsUtf8}
-use Rattle.text_paragraphs.specs.Words.{words, EndsIn}
-use Rattle.text_paragraphs.proofs.words.after_gaps.Given as goal
+use Rattle.paragraphs.specs.Words.{words, EndsIn}
+use Rattle.paragraphs.proofs.words.after_gaps.Given as goal
 
 -- Gaps that were passed take no word.
 abbrev pub invariant-loop-c : goal.invariant-loop-c

@@ -6,9 +6,9 @@ use Rattle.std.proofs.lemmas.Bool.{and_parts, cases_eq, ne_eqb, eqb-true}
 use Rattle.std.proofs.lemmas.List.Elements.{All-nil, All-cons, All-head, All-tail, All-append, All-push, All-same, All-from_get_or}
 use Rattle.std.proofs.lemmas.List.Splits.{slice_split-cons_no}
 use Rattle.std.proofs.lemmas.Str.{chars-append, IsUtf8-encode, chars-encodes, chars-nil, scalars-chars, encodes-chars, encode_ascii, inside_one}
-use Rattle.text_paragraphs.specs.Words.{is_gap, if_any, words_after, words}
-use Rattle.text_paragraphs.proofs.WordLists.{some_any}
-use Rattle.text_paragraphs.specs.Paragraphs.{is_line_feed, lines_of, is_blank, ended, gather, IsTextLine, IsParagraph}
+use Rattle.paragraphs.specs.Words.{is_gap, if_any, words_after, words}
+use Rattle.paragraphs.proofs.WordLists.{some_any}
+use Rattle.paragraphs.specs.Paragraphs.{is_line_feed, lines_of, is_blank, ended, gather, IsTextLine, IsParagraph}
 
 -- ---- each line of a text is one line
 

@@ -6,12 +6,12 @@ use Rattle.std.proofs.lemmas.List.Elements.{All-nil, All-same}
 use Rattle.std.specs.List.{flat_map}
 use Rattle.std.specs.Str.Iter.{split_text, split_has_more, split_pattern}
 use Rattle.std.specs.String.{string_bytes}
-use Rattle.text_paragraphs.specs.Words.{words, if_any}
-use Rattle.text_paragraphs.specs.Paragraphs.{gather, lines_of, paragraphs, IsTextLine, IsParagraph}
-use Rattle.text_paragraphs.specs.Private.Gathered.{AreGathered}
-use Rattle.text_paragraphs.proofs.GatheredWords.{nothing_gathered, words_if_any}
-use Rattle.text_paragraphs.proofs.LinePieces.{lines_are_lines, gather_paragraphs, words_of_lines}
-use Rattle.text_paragraphs.proofs.gathering.paragraphs_of.Goals as goal
+use Rattle.paragraphs.specs.Words.{words, if_any}
+use Rattle.paragraphs.specs.Paragraphs.{gather, lines_of, paragraphs, IsTextLine, IsParagraph}
+use Rattle.paragraphs.specs.Private.Gathered.{AreGathered}
+use Rattle.paragraphs.proofs.GatheredWords.{nothing_gathered, words_if_any}
+use Rattle.paragraphs.proofs.LinePieces.{lines_are_lines, gather_paragraphs, words_of_lines}
+use Rattle.paragraphs.proofs.gathering.paragraphs_of.Goals as goal
 
 pub loop-line-init : goal.loop-line-init
 loop-line-init c = record {

@@ -2,9 +2,9 @@ use Rattle.std.proofs.Common.{◌≡◌, ◌+◌, ◌-◌, ◌∷◌, ◌++◌, 
 use Rattle.std.specs.Str.{IsCharBoundary}
 use Rattle.std.proofs.lemmas.List.{take-append-drop}
 use Rattle.std.proofs.lemmas.Str.{IsCharBoundary-at_seam}
-use Rattle.text_paragraphs.specs.Words.{words}
-use Rattle.text_paragraphs.proofs.WordLists.{no_word, one_word}
-use Rattle.text_paragraphs.proofs.words.split_word.Goals as goal
+use Rattle.paragraphs.specs.Words.{words}
+use Rattle.paragraphs.proofs.WordLists.{no_word, one_word}
+use Rattle.paragraphs.proofs.words.split_word.Goals as goal
 
 pub split_at-requires : goal.split_at-requires
 split_at-requires c =

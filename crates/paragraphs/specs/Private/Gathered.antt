@@ -3,8 +3,8 @@ use Rattle.std.specs.Prelude.{◌≡◌, ℕ, List, [], ◌∷◌, ◌++◌, map
 use Rattle.std.specs.String.{string_bytes}
 use Rattle.std.specs.declared.string.String.{String}
 use Rattle.std.specs.List.{flat_map}
-use Rattle.text_paragraphs.specs.Words.{words}
-use Rattle.text_paragraphs.specs.Paragraphs.{gather}
+use Rattle.paragraphs.specs.Words.{words}
+use Rattle.paragraphs.specs.Paragraphs.{gather}
 
 -- Paragraphs as texts.
 abbrev pub texts_of : {Z : Type 0} → List (String Z) → List (List ℕ)

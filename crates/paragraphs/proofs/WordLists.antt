@@ -5,8 +5,8 @@ use Rattle.std.specs.Str.{IsUtf8}
 use Rattle.std.proofs.lemmas.Bool.{and_parts, both_ways, not-true, not_from_false, ne_eqb}
 use Rattle.std.proofs.lemmas.List.{nil_from_length, take-append-le, drop-append-le, take_all, drop_all}
 use Rattle.std.proofs.lemmas.Str.{chars-append, chars-nil, chars_past_char, encode_ascii, IsUtf8-encode}
-use Rattle.text_paragraphs.specs.Words.{is_gap, if_any, words_after, words}
-use Rattle.text_paragraphs.specs.Private.Cuts.{begins_with, is_word_part, CutsWord}
+use Rattle.paragraphs.specs.Words.{is_gap, if_any, words_after, words}
+use Rattle.paragraphs.specs.Private.Cuts.{begins_with, is_word_part, CutsWord}
 
 -- A gap parts the words before it from those after it.
 pub words_parted : (begun xs : List ℕ) (c : ℕ) (ys : List ℕ) → is_gap c ≡ true

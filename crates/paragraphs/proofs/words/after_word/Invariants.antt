@@ -1,7 +1,7 @@
 use Rattle.std.proofs.Common.{length}
 use Rattle.std.specs.Str.{IsUtf8}
-use Rattle.text_paragraphs.specs.Private.Cuts.{CutsWord}
-use Rattle.text_paragraphs.proofs.words.after_word.Given as goal
+use Rattle.paragraphs.specs.Private.Cuts.{CutsWord}
+use Rattle.paragraphs.proofs.words.after_word.Given as goal
 
 -- The text that was passed is a beginning of its first word.
 abbrev pub invariant-loop-c : goal.invariant-loop-c

@@ -4,10 +4,10 @@ use Rattle.std.specs.List.{flat_map}
 use Rattle.std.specs.Str.{IsUtf8}
 use Rattle.std.proofs.lemmas.Grind.{flat_map-append}
 use Rattle.std.proofs.lemmas.Str.{chars-nil}
-use Rattle.text_paragraphs.specs.Words.{if_any, words, words_after}
-use Rattle.text_paragraphs.specs.Paragraphs.{is_blank, ended, gather}
-use Rattle.text_paragraphs.specs.Private.Gathered.{AreGathered, PassesLine}
-use Rattle.text_paragraphs.proofs.WordLists.{some_any, gaps_no_word, line_parted}
+use Rattle.paragraphs.specs.Words.{if_any, words, words_after}
+use Rattle.paragraphs.specs.Paragraphs.{is_blank, ended, gather}
+use Rattle.paragraphs.specs.Private.Gathered.{AreGathered, PassesLine}
+use Rattle.paragraphs.proofs.WordLists.{some_any, gaps_no_word, line_parted}
 
 no_words : words [] ≡ []
 no_words = ap (words_after []) chars-nil

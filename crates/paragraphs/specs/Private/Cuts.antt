@@ -1,6 +1,6 @@
 -- How a text is cut at its first gap.
 use Rattle.std.specs.Prelude.{◌≡◌, ℕ, Bool, true, not, List, [], ◌∷◌, ◌++◌, chars, ⊤}
-use Rattle.text_paragraphs.specs.Words.{is_gap, words_after}
+use Rattle.paragraphs.specs.Words.{is_gap, words_after}
 
 -- A character is part of a word.
 abbrev pub is_word_part : ℕ → Bool

@@ -1,6 +1,6 @@
 use Rattle.std.proofs.Common.{sym}
-use Rattle.text_paragraphs.proofs.WordLists.{cut_none, cut_more}
-use Rattle.text_paragraphs.proofs.words.after_word.Goals as goal
+use Rattle.paragraphs.proofs.WordLists.{cut_none, cut_more}
+use Rattle.paragraphs.proofs.words.after_word.Goals as goal
 
 pub split_char-requires-text-text : goal.split_char-requires-text-text
 split_char-requires-text-text c = λ _. c.loop-c.invariant.utf8

@@ -1,6 +1,6 @@
 use Rattle.std.proofs.Common.{◌≡◌, ◌++◌, ◌∙◌, encode_utf8, ap, sym}
 use Rattle.std.proofs.lemmas.Str.{chars_past_char}
-use Rattle.text_paragraphs.proofs.words.split_char.Goals as goal
+use Rattle.paragraphs.proofs.words.split_char.Goals as goal
 
 pub returns-clause-chars : goal.returns-clause-chars
 returns-clause-chars c =

@@ -1,10 +1,10 @@
 use Rattle.std.proofs.Common.{◌++◌, ap, sym, ◌∙◌}
 use Rattle.std.specs.String.{string_bytes}
-use Rattle.text_paragraphs.specs.Words.{if_any}
-use Rattle.text_paragraphs.specs.Private.Gathered.{texts_of}
-use Rattle.text_paragraphs.proofs.WordLists.{feed}
-use Rattle.text_paragraphs.proofs.GatheredWords.{blank_passed, line_passed, line_added}
-use Rattle.text_paragraphs.proofs.gathering.pass_line.Goals as goal
+use Rattle.paragraphs.specs.Words.{if_any}
+use Rattle.paragraphs.specs.Private.Gathered.{texts_of}
+use Rattle.paragraphs.proofs.WordLists.{feed}
+use Rattle.paragraphs.proofs.GatheredWords.{blank_passed, line_passed, line_added}
+use Rattle.paragraphs.proofs.gathering.pass_line.Goals as goal
 
 pub returns : goal.returns
 returns c =

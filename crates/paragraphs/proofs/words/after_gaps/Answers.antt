@@ -1,6 +1,6 @@
 use Rattle.std.proofs.Common.{◌++◌, ◌∙◌, [], encode_utf8, ap, sym, refl, arith, append_assoc}
-use Rattle.text_paragraphs.proofs.WordLists.{gap_first}
-use Rattle.text_paragraphs.proofs.words.after_gaps.Goals as goal
+use Rattle.paragraphs.proofs.WordLists.{gap_first}
+use Rattle.paragraphs.proofs.words.after_gaps.Goals as goal
 
 pub split_char-requires-text-text : goal.split_char-requires-text-text
 split_char-requires-text-text c = λ _. c.loop-c.invariant.utf8

@@ -1,8 +1,8 @@
 use Rattle.std.proofs.Common.{◌≡◌, ℕ, List, [], ◌++◌, map}
 use Rattle.std.specs.String.{string_bytes}
-use Rattle.text_paragraphs.specs.Paragraphs.{gather}
-use Rattle.text_paragraphs.specs.Private.Gathered.{AreGathered}
-use Rattle.text_paragraphs.proofs.gathering.paragraphs_of.Given as goal
+use Rattle.paragraphs.specs.Paragraphs.{gather}
+use Rattle.paragraphs.specs.Private.Gathered.{AreGathered}
+use Rattle.paragraphs.proofs.gathering.paragraphs_of.Given as goal
 
 -- Whatever lines follow, those so far are gathered, with all their words.
 abbrev pub invariant-loop-line : goal.invariant-loop-line

@@ -1,7 +1,7 @@
 -- The paragraphs of a text.
 use Rattle.std.specs.Prelude.{◌≡◌, ℕ, ◌<◌, ◌==◌, Bool, false, not, if◌then◌else◌, List, [], ◌∷◌, ◌++◌, All, IsTrue, length, chars}
 use Rattle.std.specs.List.{flat_map, list_all, slice_split}
-use Rattle.text_paragraphs.specs.Words.{is_gap, if_any}
+use Rattle.paragraphs.specs.Words.{is_gap, if_any}
 
 -- A byte is a line feed.
 abbrev pub is_line_feed : ℕ → Bool

@@ -1,8 +1,8 @@
 //! The words of a text, one by one.
 
 ghost use Rattle.std.specs.Prelude.{◌≡◌, ◌∷◌, ◌++◌, ◌<◌, ◌≤◌, [], MatchOption, IfSome, IsUtf8, chars, encode_utf8, length};
-ghost use Rattle.text_paragraphs.specs.Words.{is_gap, words, EndsIn};
-ghost use Rattle.text_paragraphs.specs.Private.Cuts.{begins_with, is_word_part, CutsWord};
+ghost use Rattle.paragraphs.specs.Words.{is_gap, words, EndsIn};
+ghost use Rattle.paragraphs.specs.Private.Cuts.{begins_with, is_word_part, CutsWord};
 
 /// Tests whether a character is a gap: white space, but no no-break space.
 ///

@@ -3,9 +3,9 @@
 ghost use Rattle.std.specs.Prelude.{◌≡◌, ◌++◌, All, IfOk, OnOk, map};
 ghost use Rattle.std.specs.List.{flat_map};
 ghost use Rattle.std.specs.String.{string_bytes};
-ghost use Rattle.text_paragraphs.specs.Words.{words, if_any};
-ghost use Rattle.text_paragraphs.specs.Paragraphs.{is_blank, paragraphs, IsParagraph};
-ghost use Rattle.text_paragraphs.specs.Private.Gathered.{texts_of, PassesLine};
+ghost use Rattle.paragraphs.specs.Words.{words, if_any};
+ghost use Rattle.paragraphs.specs.Paragraphs.{is_blank, paragraphs, IsParagraph};
+ghost use Rattle.paragraphs.specs.Private.Gathered.{texts_of, PassesLine};
 
 use crate::words::is_gap;
 use std::alloc::{AllocError, Global};
