@@ -2,8 +2,8 @@
 
 use hyphenation_breaks::language::Language;
 use hyphenation_writer::writer::write_standard;
-use pattern_files::errors::{ConvertError, FileCause};
-use pattern_files::libreoffice::convert_dic;
+use libreoffice_files::dic::convert_dic;
+use pattern_results::errors::{ConvertError, FileCause};
 use std::alloc::Global;
 use std::test::Fail;
 use test_support::{expect_equal_bytes, expect_equal_in};

@@ -4,15 +4,16 @@ use hyphenation_breaks::extended::Subregion;
 use hyphenation_breaks::language::Language;
 use hyphenation_dictionary::dictionary::{Extended, Standard};
 use hyphenation_writer::writer::{write_extended, write_standard};
-use pattern_files::convert::{Converted, convert, convert_with_notes};
-use pattern_files::errors::{ConvertError, FileCause};
-use pattern_files::group::{File, Form, Group};
-use pattern_files::head_minima::minima_for;
-use pattern_files::libreoffice::convert_dic;
-use pattern_files::notes::NoteKind;
+use libreoffice_files::dic::convert_dic;
+use pattern_results::converted::Converted;
+use pattern_results::errors::{ConvertError, FileCause};
+use pattern_results::notes::NoteKind;
 use std::alloc::Global;
 use std::test::Fail;
 use test_support::{expect_equal, expect_equal_bytes, expect_equal_in};
+use tex_files::convert::{convert, convert_with_notes};
+use tex_files::group::{File, Form, Group};
+use tex_files::head_minima::minima_for;
 
 // The text of the standard dictionary that files give; nothing if they are refused.
 fn standard_text(alloc: Global, files: &[File<'_>]) -> Result<Vec<u8>, Fail> {

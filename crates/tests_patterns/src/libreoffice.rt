@@ -3,8 +3,8 @@
 use hyphenation_breaks::extended::Subregion;
 use hyphenation_breaks::language::Language;
 use hyphenation_writer::writer::{write_extended, write_standard};
-use pattern_files::libreoffice::convert_dic;
-use pattern_files::notes::{Note, NoteKind};
+use libreoffice_files::dic::convert_dic;
+use pattern_results::notes::{Note, NoteKind};
 use std::alloc::Global;
 use std::test::Fail;
 use test_support::{expect_equal_bytes, expect_equal_in};

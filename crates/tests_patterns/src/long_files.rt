@@ -3,12 +3,12 @@
 use hyphenation_breaks::language::Language;
 use hyphenation_dictionary::dictionary::Standard;
 use hyphenation_writer::writer::write_standard;
-use pattern_files::convert::convert;
-use pattern_files::errors::ConvertError;
-use pattern_files::group::{File, Form, Group};
+use pattern_results::errors::ConvertError;
 use std::alloc::{AllocError, Global};
 use std::test::Fail;
 use test_support::expect;
+use tex_files::convert::convert;
+use tex_files::group::{File, Form, Group};
 
 // Writes a line for each three letters in order, between a head and a tail.
 fn push_lines(text: &mut String, head: &str, tail: &str) -> Result<(), AllocError> {

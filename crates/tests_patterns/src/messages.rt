@@ -1,7 +1,7 @@
 //! The messages of all errors and notes.
 
-use pattern_files::errors::FileCause;
-use pattern_files::notes::NoteKind;
+use pattern_results::errors::FileCause;
+use pattern_results::notes::NoteKind;
 use std::fmt::Display;
 use std::test::Fail;
 use test_support::expect_equal_in;

@@ -3,6 +3,8 @@
 #![tactic(auto)]
 
 #[cfg(test)]
+mod calls_of_c;
+#[cfg(test)]
 mod first_example;
 #[cfg(test)]
 mod names;
