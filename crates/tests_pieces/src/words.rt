@@ -26,25 +26,72 @@ fn expect_as_by_the_kit(text: &str) -> Result<(), Fail> {
     expect(wanted.next().is_none(), text)
 }
 
-const TEXTS: &[(&str, &str)] = &[
-    ("", ""),
-    ("a", "[a]"),
-    ("It can't be.", "[It][ ][can't][ ][be][.]"),
-    ("the dogs' bone", "[the][ ][dogs]['][ ][bone]"),
-    ("'tis 'so'", "['][tis][ ]['][so][']"),
-    ("e.g. 3.14, 1,000;", "[e.g][.][ ][3.14][,][ ][1,000][;]"),
+// What is shown, the text, and its pieces.
+const TEXTS: &[(&str, &str, &str)] = &[
+    ("the empty text has no piece", "", ""),
+    ("a letter is a piece", "a", "[a]"),
     (
+        "an apostrophe between letters parts no word",
+        "It can't be.",
+        "[It][ ][can't][ ][be][.]",
+    ),
+    (
+        "an apostrophe after a word is a piece",
+        "the dogs' bone",
+        "[the][ ][dogs]['][ ][bone]",
+    ),
+    (
+        "an apostrophe before a word is a piece",
+        "'tis 'so'",
+        "['][tis][ ]['][so][']",
+    ),
+    (
+        "a stop or a comma between digits, and a stop between letters, part no word",
+        "e.g. 3.14, 1,000;",
+        "[e.g][.][ ][3.14][,][ ][1,000][;]",
+    ),
+    (
+        "a colon joins letters alone, a comma digits alone, and a stop no letter to a digit",
         "a:b 1:2 a,b a.1",
         "[a:b][ ][1][:][2][ ][a][,][b][ ][a][.][1]",
     ),
-    ("a_b1 _ x2y", "[a_b1][ ][_][ ][x2y]"),
-    ("a  b   ", "[a][  ][b][   ]"),
-    ("a\r\nb\n\nc\r", "[a][\r\n][b][\n][\n][c][\r]"),
-    ("a \n b\t\tc", "[a][ ][\n][ ][b][\t][\t][c]"),
-    ("(\"a-b\")", "[(][\"][a][-][b][\"][)]"),
-    ("«don’t»", "[«][don’t][»]"),
-    ("a\u{ad}b naïve", "[a\u{ad}b][ ][naïve]"),
     (
+        "letters, digits and `_` are one word",
+        "a_b1 _ x2y",
+        "[a_b1][ ][_][ ][x2y]",
+    ),
+    (
+        "spaces in a row are one piece",
+        "a  b   ",
+        "[a][  ][b][   ]",
+    ),
+    (
+        "each line end is a piece",
+        "a\r\nb\n\nc\r",
+        "[a][\r\n][b][\n][\n][c][\r]",
+    ),
+    (
+        "line ends and tabs part spaces",
+        "a \n b\t\tc",
+        "[a][ ][\n][ ][b][\t][\t][c]",
+    ),
+    (
+        "a hyphen, a quotation mark and a parenthesis are pieces",
+        "(\"a-b\")",
+        "[(][\"][a][-][b][\"][)]",
+    ),
+    (
+        "a curved apostrophe between letters parts no word",
+        "«don’t»",
+        "[«][don’t][»]",
+    ),
+    (
+        "a soft hyphen parts no word",
+        "a\u{ad}b naïve",
+        "[a\u{ad}b][ ][naïve]",
+    ),
+    (
+        "curved quotation marks and dashes are pieces",
         "“Go,” he said—once.",
         "[“][Go][,][”][ ][he][ ][said][—][once][.]",
     ),
@@ -52,8 +99,8 @@ const TEXTS: &[(&str, &str)] = &[
 
 #[test]
 fn texts_are_cut_as_the_rules_say(rt: HostRuntime) -> Result<(), Fail> {
-    for (text, wanted) in TEXTS {
-        expect_text_in(*text, shown(rt.alloc(), text), wanted)?;
+    for (shows, text, wanted) in TEXTS {
+        expect_text_in(*shows, shown(rt.alloc(), text), wanted)?;
         expect_as_by_the_kit(text)?;
     }
     Ok(())
@@ -89,25 +136,67 @@ fn any_four_characters_are_cut_as_by_the_kit(rt: HostRuntime) -> Result<(), Fail
     Ok(())
 }
 
-// A text, a place, and the first piece that is to come after those before the place were passed.
-const PASSED: &[(&str, usize, usize, &str)] = &[
-    ("to be or not", 7, 6, "or"),
-    ("to be or not", 6, 6, "or"),
-    ("to be or not", 5, 3, "be"),
-    ("to be or not", 2, 0, "to"),
-    ("to be or not", 100, 9, "not"),
-    ("to “be or” not", 12, 9, "or"),
-    ("tobe", 3, 0, "tobe"),
-    ("a b", 2, 2, "b"),
+// What is shown, a text, a place, and the first piece that is to come after those before the place were passed.
+const PASSED: &[(&str, &str, usize, usize, &str)] = &[
+    (
+        "a place within a word leaves the word",
+        "to be or not",
+        7,
+        6,
+        "or",
+    ),
+    (
+        "a place before a word leaves the word",
+        "to be or not",
+        6,
+        6,
+        "or",
+    ),
+    (
+        "a place after a word leaves it, and not those before it",
+        "to be or not",
+        5,
+        3,
+        "be",
+    ),
+    (
+        "a place after the first word passes nothing",
+        "to be or not",
+        2,
+        0,
+        "to",
+    ),
+    (
+        "a place after the text leaves the last word",
+        "to be or not",
+        100,
+        9,
+        "not",
+    ),
+    (
+        "a place within a quotation mark leaves the word before it",
+        "to “be or” not",
+        12,
+        9,
+        "or",
+    ),
+    (
+        "a place within the only word passes nothing",
+        "tobe",
+        3,
+        0,
+        "tobe",
+    ),
+    ("a place before the last letter leaves it", "a b", 2, 2, "b"),
 ];
 
 #[test]
 fn pieces_before_a_place_are_passed(rt: HostRuntime) -> Result<(), Fail> {
     let _ = rt;
-    for (text, place, offset, piece) in PASSED {
+    for (shows, text, place, offset, piece) in PASSED {
         let mut pieces = WordPieceIndices::new(text);
         pieces.pass_before(*place);
-        expect_equal_in(*text, &pieces.next(), &Some((*offset, *piece)))?;
+        expect_equal_in(*shows, &pieces.next(), &Some((*offset, *piece)))?;
     }
     Ok(())
 }
