@@ -3,10 +3,12 @@
 #![tactic(auto)]
 
 #[cfg(test)]
-mod changed_scores;
-#[cfg(test)]
 mod comparison;
 #[cfg(test)]
 mod long_patterns;
 #[cfg(test)]
-mod scores;
+mod long_words;
+#[cfg(test)]
+mod look_ups;
+#[cfg(test)]
+mod values;
