@@ -4,113 +4,145 @@ use hyphenation_hyphenator::case_folding::{Shift, realign, refold};
 use std::alloc::{AllocError, Global};
 use std::borrow::CowStr;
 use std::test::Fail;
-use test_support::{expect, expect_equal, expect_equal_in};
+use test_support::{expect_equal, expect_equal_in, expect_text_in};
 use ucd_age::Age;
 
-// Whether a word folds to this text with these shifts, each with the place from which it holds and its bytes.
-fn folds_to(
-    alloc: Global,
-    word: &str,
-    folded: &str,
-    shifts: &[(usize, isize)],
-) -> Result<bool, AllocError> {
-    let (text, found) = refold(alloc, word)?;
-    Ok(text.as_str() == folded && are_shifts(&found, shifts))
+// A word in small letters, whether it is borrowed or owned, and its shifts, each as the place from which it holds and its
+// bytes.
+fn folded(alloc: Global, word: &str) -> Result<String, AllocError> {
+    let (text, shifts) = refold(alloc, word)?;
+    let mut all = String::from_str(
+        alloc,
+        match &text {
+            CowStr::Borrowed(_) => "borrowed ",
+            CowStr::Owned(_) => "owned ",
+        },
+    )?;
+    all.push_str(text.as_str())?;
+    for shift in &shifts {
+        all.push_str(&format!(in alloc; " {}:{}", shift.index, shift.delta)?)?;
+    }
+    Ok(all)
 }
 
-fn are_shifts(found: &[Shift], shifts: &[(usize, isize)]) -> bool {
-    found.len() == shifts.len()
-        && found
-            .iter()
-            .zip(shifts)
-            .all(|(a, b)| (a.index, a.delta) == *b)
-}
-
-fn is_borrowed(alloc: Global, word: &str) -> Result<bool, AllocError> {
-    let (text, _) = refold(alloc, word)?;
-    Ok(matches!(text, CowStr::Borrowed(_)))
-}
+// What is shown, the word, and the word in small letters.
+const FOLDED: &[(&str, &str, &str)] = &[
+    (
+        "two letters that lose bytes shift the places after both",
+        "İẞab",
+        "owned ißab 0:-1 1:-2",
+    ),
+    (
+        "a letter that loses two bytes shifts the places after it by two",
+        "\u{212a}ilim",
+        "owned kilim 0:-2",
+    ),
+    (
+        "a letter that gains a byte shifts the places after it the other way",
+        "ȺAB",
+        "owned ⱥab 0:1",
+    ),
+    (
+        "two shifts that differ in their sign add up",
+        "aȺİb",
+        "owned aⱥib 1:1 4:0",
+    ),
+    (
+        "letters of as many bytes shift nothing, and a sigma is the same at the end",
+        "ΑΣ",
+        "owned ασ",
+    ),
+    ("a dot above a capital stays", "I\u{307}", "owned i\u{307}"),
+    ("the empty word is borrowed", "", "borrowed "),
+    (
+        "a word in small letters is borrowed",
+        "kilim",
+        "borrowed kilim",
+    ),
+    (
+        "a dot above a small letter stays",
+        "i\u{307}",
+        "borrowed i\u{307}",
+    ),
+    (
+        "a titlecase letter is not Uppercase, so that it stays",
+        "\u{1c5}",
+        "borrowed \u{1c5}",
+    ),
+    ("a sharp s stays", "ß", "borrowed ß"),
+    (
+        "a Cherokee capital is Uppercase, and its own folding",
+        "\u{13a0}",
+        "owned \u{13a0}",
+    ),
+];
 
 #[test]
 fn words_fold_with_their_shifts(rt: HostRuntime) -> Result<(), Fail> {
-    expect(
-        folds_to(rt.alloc(), "İẞab", "ißab", &[(0, -1), (1, -2)])?,
-        "İẞab folds to ißab",
-    )?;
-    expect(
-        folds_to(rt.alloc(), "\u{212a}ilim", "kilim", &[(0, -2)])?,
-        "\u{212a}ilim folds to kilim",
-    )?;
-    expect(
-        folds_to(rt.alloc(), "ȺAB", "ⱥab", &[(0, 1)])?,
-        "ȺAB folds to ⱥab",
-    )?;
-    expect(
-        folds_to(rt.alloc(), "aȺİb", "aⱥib", &[(1, 1), (4, 0)])?,
-        "aȺİb folds to aⱥib",
-    )
-}
-
-#[test]
-fn words_of_as_many_bytes_fold_without_shifts(rt: HostRuntime) -> Result<(), Fail> {
-    expect(folds_to(rt.alloc(), "ΑΣ", "ασ", &[])?, "ΑΣ folds to ασ")?;
-    expect(
-        folds_to(rt.alloc(), "I\u{307}", "i\u{307}", &[])?,
-        "I\u{307} folds to i\u{307}",
-    )
-}
-
-#[test]
-fn words_without_uppercase_are_borrowed(rt: HostRuntime) -> Result<(), Fail> {
-    // U+01C5 is titlecase, so it is not Uppercase.
-    for word in ["", "kilim", "i\u{307}", "\u{1c5}", "ß"] {
-        expect(
-            folds_to(rt.alloc(), word, word, &[])?,
-            format_args!("{word:?} folds to itself"),
-        )?;
-        expect(
-            is_borrowed(rt.alloc(), word)?,
-            format_args!("{word:?} is borrowed"),
-        )?;
+    for (shows, word, wanted) in FOLDED {
+        expect_text_in(*shows, folded(rt.alloc(), word), wanted)?;
     }
     Ok(())
 }
 
-#[test]
-fn words_with_uppercase_are_owned(rt: HostRuntime) -> Result<(), Fail> {
-    for word in ["I\u{307}", "ΑΣ", "\u{13a0}"] {
-        expect(
-            !is_borrowed(rt.alloc(), word)?,
-            format_args!("{word:?} is not borrowed"),
-        )?;
-    }
-    Ok(())
-}
+// The shifts of `İẞab`. Its bytes end at 2, 5, 6 and 7, those of `ißab` at 1, 3, 4 and 5.
+const TWO_SHIFTS: &[Shift] = &[
+    Shift {
+        index: 0,
+        delta: -1,
+    },
+    Shift {
+        index: 1,
+        delta: -2,
+    },
+];
+
+const GAINED: &[Shift] = &[Shift { index: 0, delta: 2 }];
+
+const LOST: &[Shift] = &[Shift {
+    index: 0,
+    delta: -2,
+}];
+
+// What is shown, the shifts, a place in small letters, and the place in the word as it is written.
+const CARRIED_BACK: &[(&str, &[Shift], usize, usize)] = &[
+    ("place 0 stays", TWO_SHIFTS, 0, 0),
+    (
+        "a place after one shift is carried back by it",
+        TWO_SHIFTS,
+        1,
+        2,
+    ),
+    (
+        "a place after two shifts is carried back by both",
+        TWO_SHIFTS,
+        3,
+        5,
+    ),
+    (
+        "a later place is carried back by the same bytes",
+        TWO_SHIFTS,
+        4,
+        6,
+    ),
+    ("the end is carried back to the end", TWO_SHIFTS, 5, 7),
+    ("no place is carried back below 0", GAINED, 1, 0),
+    (
+        "no place is carried back beyond the greatest number",
+        LOST,
+        usize::MAX,
+        usize::MAX,
+    ),
+    ("a place without shifts stays", &[], 1, 1),
+];
 
 #[test]
 fn places_are_carried_back(rt: HostRuntime) -> Result<(), Fail> {
-    // The bytes of `İẞab` end at 2, 5, 6 and 7, those of `ißab` at 1, 3, 4 and 5.
-    let (_, shifts) = refold(rt.alloc(), "İẞab")?;
-    for (folded, written) in [(0, 0), (1, 2), (3, 5), (4, 6), (5, 7)] {
-        expect_equal_in(
-            format_args!("place {folded}"),
-            &realign(folded, &shifts),
-            &written,
-        )?;
+    let _ = rt;
+    for (shows, shifts, folded, written) in CARRIED_BACK {
+        expect_equal_in(*shows, &realign(*folded, shifts), written)?;
     }
     Ok(())
-}
-
-#[test]
-fn realigned_places_are_held_at_the_ends(rt: HostRuntime) -> Result<(), Fail> {
-    let grown = [Shift { index: 0, delta: 2 }];
-    let shrunk = [Shift {
-        index: 0,
-        delta: -2,
-    }];
-    expect_equal(&realign(1, &grown), &0)?;
-    expect_equal(&realign(usize::MAX, &shrunk), &usize::MAX)?;
-    expect_equal(&realign(1, &[]), &1)
 }
 
 // All characters of Unicode 14.0, in order.

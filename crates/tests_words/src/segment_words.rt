@@ -3,41 +3,70 @@
 use hyphenation_hyphenator::hyphenator::boundaries_of;
 use hyphenation_segments::Word;
 use std::test::Fail;
-use test_support::{expect, expect_equal};
+use test_support::{expect, expect_equal, expect_equal_in};
+
+// What is shown, the minima, the word, and its first and last place.
+const BOUNDARIES: &[(&str, (usize, usize), &str, Option<(usize, usize)>)] = &[
+    (
+        "the last place leaves as many letters as the right minimum",
+        (2, 3),
+        "firkin",
+        Some((2, 3)),
+    ),
+    (
+        "minima count characters, and places bytes",
+        (2, 2),
+        "éééé",
+        Some((4, 4)),
+    ),
+    (
+        "a word of fewer characters than both minima has no boundaries",
+        (2, 3),
+        "éééé",
+        None,
+    ),
+    (
+        "a word of as many characters as its minima has no boundaries",
+        (3, 0),
+        "abc",
+        None,
+    ),
+    (
+        "a word of one character more has one place",
+        (3, 0),
+        "abcd",
+        Some((3, 3)),
+    ),
+    ("the empty word has no boundaries", (0, 0), "", None),
+];
 
 #[test]
 fn boundaries_count_characters(rt: HostRuntime) -> Result<(), Fail> {
-    expect_equal(&boundaries_of((2, 3), "firkin"), &Some((2, 3)))?;
-    expect_equal(&boundaries_of((2, 2), "éééé"), &Some((4, 4)))?;
-    expect_equal(&boundaries_of((2, 3), "éééé"), &None)
+    let _ = rt;
+    for (shows, minima, word, wanted) in BOUNDARIES {
+        expect_equal_in(*shows, &boundaries_of(*minima, word), wanted)?;
+    }
+    Ok(())
 }
 
-#[test]
-fn a_word_of_as_many_characters_as_its_minima_has_no_boundaries(
-    rt: HostRuntime,
-) -> Result<(), Fail> {
-    expect_equal(&boundaries_of((3, 0), "abc"), &None)?;
-    expect_equal(&boundaries_of((3, 0), "abcd"), &Some((3, 3)))?;
-    expect_equal(&boundaries_of((0, 0), ""), &None)
-}
+// What is shown, the text, the breaks, and whether they fit it.
+const FITTED: &[(&str, &str, &[usize], bool)] = &[
+    ("places that ascend fit", "hyphenation", &[2, 6, 7], true),
+    ("the first and the last place fit", "ab", &[0, 1, 2], true),
+    ("no place has to be there", "", &[], true),
+    ("a place within a character does not fit", "é", &[1], false),
+    ("a place that repeats does not fit", "ab", &[1, 1], false),
+    ("places that descend do not fit", "ab", &[2, 1], false),
+    ("a place beyond the end does not fit", "ab", &[3], false),
+];
 
 #[test]
 fn breaks_fit_a_text_where_they_ascend_on_its_characters(rt: HostRuntime) -> Result<(), Fail> {
-    expect(
-        Word::fits("hyphenation", &[2, 6, 7]),
-        "hyphenation at 2, 6 and 7",
-    )?;
-    expect(Word::fits("ab", &[0, 1, 2]), "ab at 0, 1 and 2")?;
-    let none: [usize; 0] = [];
-    expect(Word::fits("", &none), "the empty word at no place")
-}
-
-#[test]
-fn breaks_that_repeat_or_cut_a_character_fit_no_text(rt: HostRuntime) -> Result<(), Fail> {
-    expect(!Word::fits("é", &[1]), "é not at 1")?;
-    expect(!Word::fits("ab", &[1, 1]), "ab not at 1 twice")?;
-    expect(!Word::fits("ab", &[2, 1]), "ab not at 2 before 1")?;
-    expect(!Word::fits("ab", &[3]), "ab not at 3")
+    let _ = rt;
+    for (shows, text, breaks, fits) in FITTED {
+        expect_equal_in(*shows, &Word::fits(text, breaks), fits)?;
+    }
+    Ok(())
 }
 
 #[test]
