@@ -25,7 +25,8 @@ fn languages_shown(alloc: Global, form: Form, page: &str) -> Result<String, Allo
     Ok(all)
 }
 
-// What is shown, the form of the page, the page, and its texts. Optional tags (13.1.2.4), and scopes (13.2.4.2).
+// Optional tags (13.1.2.4), scopes (13.2.4.2), and elements that are left alone. Each row has its sentence, the form of
+// the page, the page, and its texts.
 const LANGUAGES: &[(&str, Form, &str, &str)] = &[
     (
         "a paragraph ends before the next one, and before a division",

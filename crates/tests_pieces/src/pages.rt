@@ -44,7 +44,7 @@ const XML: &[Form] = &[Form::Xml];
 
 const BOTH: &[Form] = &[Form::Html, Form::Xml];
 
-// What is shown, the forms in which the page is cut, the page, and its pieces.
+// Each row has its sentence, the forms in which the page is cut, the page, and its pieces.
 const CUT: &[(&str, &[Form], &str, &str)] = &[
     ("the empty page has no piece", BOTH, "", ""),
     ("words and spaces are one text", BOTH, "a b", "t[a b]"),
@@ -222,7 +222,7 @@ fn pages_are_cut_as_their_form_says(rt: HostRuntime) -> Result<(), Fail> {
     Ok(())
 }
 
-// What is shown, the page, and its form before its pieces.
+// Each row has its sentence, the page, and its form before its pieces.
 const TOLD: &[(&str, &str, &str)] = &[
     (
         "a declaration tells XML",

@@ -10,8 +10,8 @@ fn read_text(alloc: Global, value: &str) -> Result<String, AllocError> {
     String::from_utf8_lossy(alloc, &read)
 }
 
-// What is shown, the value of an attribute, and the text that is read of it. `html.unescape` of Python gives the same,
-// but for those without `;` before a letter, a digit or `=`, and `&eacute;`.
+// Each row has its sentence, the value of an attribute, and the text that is read of it. `html.unescape` of Python
+// gives the same, but for those without `;` before a letter, a digit or `=`, and `&eacute;`.
 const READ: &[(&str, &str, &str)] = &[
     ("an empty value is empty", "", ""),
     (

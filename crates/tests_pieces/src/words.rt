@@ -26,7 +26,7 @@ fn expect_as_by_the_kit(text: &str) -> Result<(), Fail> {
     expect(wanted.next().is_none(), text)
 }
 
-// What is shown, the text, and its pieces.
+// Each row has its sentence, the text, and its pieces.
 const TEXTS: &[(&str, &str, &str)] = &[
     ("the empty text has no piece", "", ""),
     ("a letter is a piece", "a", "[a]"),
@@ -136,7 +136,7 @@ fn any_four_characters_are_cut_as_by_the_kit(rt: HostRuntime) -> Result<(), Fail
     Ok(())
 }
 
-// What is shown, a text, a place, and the first piece that is to come after those before the place were passed.
+// Each row has its sentence, a text, a place, and the first piece to come after those before the place were passed.
 const PASSED: &[(&str, &str, usize, usize, &str)] = &[
     (
         "a place within a word leaves the word",

@@ -451,8 +451,8 @@ fn edit_long_word<K: Kind>(
     Ok(())
 }
 
-// Compares words of 62 to 67 bytes, those of 64 and 65 bytes also after an edit. Words of more than 64 bytes take another
-// path than shorter ones.
+// Compares words of 62 to 67 bytes, those of 64 and 65 bytes also after an edit. Words of more than 64 bytes take
+// another path than shorter ones.
 fn compare_long_words<K: Kind>(
     alloc: Global,
     random: &mut Random,

@@ -1,5 +1,5 @@
-//! Tests of the values of words by dictionaries of both kinds, and of the look-ups that they take. Values and breaks are
-//! also compared with those of a reference implementation. No clause says what they show.
+//! Tests of the values of words by dictionaries of both kinds, and of the look-ups that they take. Values and breaks
+//! are also compared with those of a reference implementation. No clause says what they show.
 #![tactic(auto)]
 
 #[cfg(test)]

@@ -9,27 +9,21 @@ use test_support::{expect, repeated};
 // Ten dots and a letter: each dot of a word of dots begins this key, or continues it.
 const DOTS: &str = "p ..........1a\n";
 
-// What is shown, the lines of a text, a piece and how often it stands in the word, and values, how often they stand in
-// the word's, and the last of these.
-const LONG: &[(&str, &str, &str, usize, &str, usize, &str)] = &[
+// Each row has its sentence, the lines of a text, a piece of the word with its number, and values with their number and
+// the last ones.
+const LONG: &[(&str, &str, (&str, usize), (&str, usize, &str))] = &[
     // 9,999 places: 4,999 pairs and the last one.
     (
         "a word of 10,000 bytes is scored",
         "p a1b\n",
-        "ab",
-        5_000,
-        "1 0 ",
-        4_999,
-        "1 ,",
+        ("ab", 5_000),
+        ("1 0 ", 4_999, "1 ,"),
     ),
     (
         "100,000 dots have no value",
         DOTS,
-        ".",
-        100_000,
-        "0 ",
-        99_999,
-        ",",
+        (".", 100_000),
+        ("0 ", 99_999, ","),
     ),
 ];
 
@@ -50,11 +44,9 @@ fn has_values(
 
 #[test]
 fn long_words_have_their_values(rt: HostRuntime) -> Result<(), Fail> {
-    for (shows, lines, piece, times, value, values, last) in LONG {
+    for (shows, lines, word, values) in LONG {
         for head in BOTH {
-            let word = (*piece, *times);
-            let values = (*value, *values, *last);
-            expect(has_values(rt.alloc(), head, lines, word, values)?, *shows)?;
+            expect(has_values(rt.alloc(), head, lines, *word, *values)?, *shows)?;
         }
     }
     Ok(())
@@ -63,7 +55,7 @@ fn long_words_have_their_values(rt: HostRuntime) -> Result<(), Fail> {
 fn expect_few_look_ups_for_dots(alloc: Global, head: &str) -> Result<(), Fail> {
     let word = repeated(alloc, ".", 100_000)?;
     let count = look_ups_by(alloc, head, DOTS, &word)?;
-    expect_look_ups(head, &count, 100_002, 200_004, 0)
+    expect_look_ups("100,000 dots", &count, 100_002, 200_004, 0)
 }
 
 // The upper bound is twice the number of the frame's bytes.

@@ -132,7 +132,7 @@ const EXTENDED_VERSION_2: &[&str] = &["hyphenation 2 extended\nlanguage en-us\nm
 /// Twenty letters.
 pub const TWENTY: &str = "aaaaaaaaaaaaaaaaaaaa";
 
-// What is shown, the heads of texts, their other lines, words, and the values of these.
+// Each row has its sentence, the heads of texts, their other lines, words, and the values of these.
 const VALUES: &[(&str, &[&str], &str, &[&str], &str)] = &[
     (
         "the greatest value decides each place",
@@ -363,7 +363,7 @@ const VALUES: &[(&str, &[&str], &str, &[&str], &str)] = &[
         "11,1,0,1,x ,",
     ),
     (
-        "of equal values the winner is that of the key that starts first",
+        "among equal values the key that starts first wins",
         EXTENDED,
         "p a1b\np ca1bd 2,1,0,1,x\n",
         &["cabd"],
@@ -377,7 +377,7 @@ const VALUES: &[(&str, &[&str], &str, &[&str], &str)] = &[
         "0 1 0 ,",
     ),
     (
-        "of keys that start alike the winner is the shortest",
+        "among keys that start alike the shortest wins",
         EXTENDED,
         "p a1b 1,1,0,1,x\np a1bd\n",
         &["abd"],

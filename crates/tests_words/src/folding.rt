@@ -7,7 +7,7 @@ use std::test::Fail;
 use test_support::{expect_equal, expect_equal_in, expect_text_in};
 use ucd_age::Age;
 
-// A word in small letters, whether it is borrowed or owned, and its shifts, each as the place from which it holds and its
+// Whether a folded word is borrowed or owned, the word, and its shifts, each as the place from which it holds and its
 // bytes.
 fn folded(alloc: Global, word: &str) -> Result<String, AllocError> {
     let (text, shifts) = refold(alloc, word)?;
@@ -25,7 +25,7 @@ fn folded(alloc: Global, word: &str) -> Result<String, AllocError> {
     Ok(all)
 }
 
-// What is shown, the word, and the word in small letters.
+// Each row has its sentence, the word, and the word in small letters.
 const FOLDED: &[(&str, &str, &str)] = &[
     (
         "two letters that lose bytes shift the places after both",
@@ -104,7 +104,7 @@ const LOST: &[Shift] = &[Shift {
     delta: -2,
 }];
 
-// What is shown, the shifts, a place in small letters, and the place in the word as it is written.
+// Each row has its sentence, the shifts, a place in small letters, and the place in the word as it is written.
 const CARRIED_BACK: &[(&str, &[Shift], usize, usize)] = &[
     ("place 0 stays", TWO_SHIFTS, 0, 0),
     (

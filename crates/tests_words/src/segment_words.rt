@@ -5,7 +5,7 @@ use hyphenation_segments::Word;
 use std::test::Fail;
 use test_support::{expect, expect_equal, expect_equal_in};
 
-// What is shown, the minima, the word, and its first and last place.
+// Each row has its sentence, the minima, the word, and its first and last place.
 const BOUNDARIES: &[(&str, (usize, usize), &str, Option<(usize, usize)>)] = &[
     (
         "the last place leaves as many letters as the right minimum",
@@ -49,7 +49,7 @@ fn boundaries_count_characters(rt: HostRuntime) -> Result<(), Fail> {
     Ok(())
 }
 
-// What is shown, the text, the breaks, and whether they fit it.
+// Each row has its sentence, the text, the breaks, and whether they fit it.
 const FITTED: &[(&str, &str, &[usize], bool)] = &[
     ("places that ascend fit", "hyphenation", &[2, 6, 7], true),
     ("the first and the last place fit", "ab", &[0, 1, 2], true),

@@ -412,7 +412,7 @@ fn appended(alloc: Global, text: &str, breaks: &[usize]) -> Result<String, Alloc
     Ok(page)
 }
 
-// What is asked of a text and its breaks, by the function that answers it.
+// A question to a text with breaks. The function `answer` names the one that answers it.
 #[derive(Clone, Copy)]
 enum Asked {
     Segments,
@@ -449,7 +449,7 @@ fn answer(alloc: Global, asked: Asked, text: &str, breaks: &[usize]) -> Result<S
     }
 }
 
-// What is shown, the question, the text and its breaks, and the answer.
+// Each row has its sentence, the question, the text and its breaks, and the answer.
 const ANSWERS: &[(&str, Asked, &str, &[usize], &str)] = &[
     (
         "a text is cut at its breaks",

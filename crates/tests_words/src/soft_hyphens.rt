@@ -10,7 +10,7 @@ fn found(alloc: Global, word: &str) -> Result<String, AllocError> {
     format!(in alloc; "{places:?}")
 }
 
-// What is shown, the word, and the places of its soft hyphens.
+// Each row has its sentence, the word, and the places of its soft hyphens.
 const SOFT_HYPHENS: &[(&str, &str, &str)] = &[
     (
         "each soft hyphen is found",
