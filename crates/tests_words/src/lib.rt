@@ -7,6 +7,14 @@ mod exceptions;
 #[cfg(test)]
 mod files;
 #[cfg(test)]
+mod folding;
+#[cfg(test)]
 mod loaded;
+#[cfg(test)]
+mod segment_words;
+#[cfg(test)]
+mod segments;
+#[cfg(test)]
+mod soft_hyphens;
 #[cfg(test)]
 mod words;

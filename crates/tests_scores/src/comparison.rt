@@ -1,11 +1,10 @@
-//! The library compared with the reference implementation.
+//! The library compared with the reference implementation, over random dictionaries and words.
 
+use crate::values::Scored;
 use hyphenation_breaks::breaks::Break;
 use hyphenation_breaks::extended::Subregion;
 use hyphenation_dictionary::dictionary::{Extended, Standard};
 use hyphenation_hyphenator::hyphenator::Hyphenator;
-use hyphenation_load::Load;
-use hyphenation_score::Score;
 use std::alloc::{AllocError, Global};
 use std::test::Fail;
 use test_reference::dictionary::{ExpectedBreak, ReferenceDictionary};
@@ -154,7 +153,7 @@ struct Edit {
 }
 
 // A kind of dictionary, compared with the reference.
-trait Kind: Load + Drop {
+trait Kind: Scored {
     // Its name in line 1 of a text.
     fn name() -> &'static str;
 
@@ -168,13 +167,6 @@ trait Kind: Load + Drop {
         reference: &ReferenceDictionary,
         word: &str,
     ) -> Result<bool, AllocError>;
-
-    // The values of the word's places, each with its change.
-    fn scores(
-        &self,
-        alloc: Global,
-        word: &str,
-    ) -> Result<Vec<(u8, Option<&Subregion>)>, AllocError>;
 
     // Lists the breaks for the word, and returns whether the word was an exception.
     fn add(&mut self, alloc: Global, word: &str, breaks: &[ExpectedBreak]) -> Result<bool, Fail>;
@@ -200,18 +192,6 @@ impl Kind for Standard {
     ) -> Result<bool, AllocError> {
         let found = self.hyphenate(alloc, word)?;
         are_reference_breaks(alloc, &found.breaks, reference, word)
-    }
-
-    fn scores(
-        &self,
-        alloc: Global,
-        word: &str,
-    ) -> Result<Vec<(u8, Option<&Subregion>)>, AllocError> {
-        let mut scores = Vec::new(alloc);
-        for value in self.score(alloc, word)? {
-            scores.push((value, None))?;
-        }
-        Ok(scores)
     }
 
     fn add(&mut self, alloc: Global, word: &str, breaks: &[ExpectedBreak]) -> Result<bool, Fail> {
@@ -268,14 +248,6 @@ impl Kind for Extended {
     ) -> Result<bool, AllocError> {
         let found = self.hyphenate(alloc, word)?;
         are_reference_breaks(alloc, &found.breaks, reference, word)
-    }
-
-    fn scores(
-        &self,
-        alloc: Global,
-        word: &str,
-    ) -> Result<Vec<(u8, Option<&Subregion>)>, AllocError> {
-        self.score(alloc, word)
     }
 
     fn add(&mut self, alloc: Global, word: &str, breaks: &[ExpectedBreak]) -> Result<bool, Fail> {
@@ -479,8 +451,8 @@ fn edit_long_word<K: Kind>(
     Ok(())
 }
 
-// Compares words of 62 to 67 bytes, those of 64 and 65 bytes also after an edit. Words of more than 64 bytes take another
-// path than shorter ones.
+// Compares words of 62 to 67 bytes, those of 64 and 65 bytes also after an edit. Words of more than 64 bytes take
+// another path than shorter ones.
 fn compare_long_words<K: Kind>(
     alloc: Global,
     random: &mut Random,

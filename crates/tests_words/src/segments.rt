@@ -18,7 +18,7 @@ use std::alloc::{AllocError, Global};
 use std::iter::Copied;
 use std::slice;
 use std::test::Fail;
-use test_support::expect_text;
+use test_support::expect_text_in;
 
 // Callers of the iterators, which are proved with the tests.
 
@@ -210,16 +210,6 @@ fn joined_by_bars(alloc: Global, text: &str, breaks: &[usize]) -> Result<String,
     Ok(joined)
 }
 
-#[test]
-fn a_word_is_cut_at_its_breaks(rt: HostRuntime) -> Result<(), Fail> {
-    expect_text(
-        joined_by_bars(rt.alloc(), "hyphenation", &[2, 6, 7]),
-        "hy|phen|a|tion",
-    )?;
-    expect_text(joined_by_bars(rt.alloc(), "ab", &[0, 2]), "|ab|")?;
-    expect_text(joined_by_bars(rt.alloc(), "", &[]), "")
-}
-
 // The segments of a word with their marks, and a space between each two.
 fn joined_by_spaces(alloc: Global, text: &str, breaks: &[usize]) -> Result<String, Fail> {
     let list = all_marked(alloc, word_of(alloc, text, breaks)?)?;
@@ -233,28 +223,14 @@ fn joined_by_spaces(alloc: Global, text: &str, breaks: &[usize]) -> Result<Strin
     Ok(joined)
 }
 
-#[test]
-fn a_mark_stands_after_each_segment_but_the_last(rt: HostRuntime) -> Result<(), Fail> {
-    expect_text(
-        joined_by_spaces(rt.alloc(), "hyphenation", &[2, 6, 7]),
-        "hy- phen- a- tion",
-    )?;
-    expect_text(
-        joined_by_spaces(rt.alloc(), "anfractuous", &[2, 6, 8]),
-        "an- frac- tu- ous",
-    )?;
-    expect_text(joined_by_spaces(rt.alloc(), "firkin", &[3]), "fir- kin")?;
-    expect_text(joined_by_spaces(rt.alloc(), "bevies", &[]), "bevies")
-}
-
 // The next segment with its mark.
 fn next<I: Texts>(items: &mut Hyphenating<'_, I>) -> Result<String, Fail> {
     Ok(items.next().ok_or("none")??)
 }
 
 // The first item of a word, the second one with a new mark, and the segment after it.
-fn with_new_mark(alloc: Global) -> Result<String, Fail> {
-    let word = word_of(alloc, "hyphenation", &[2, 6, 7])?;
+fn with_new_mark(alloc: Global, text: &str, breaks: &[usize]) -> Result<String, Fail> {
+    let word = word_of(alloc, text, breaks)?;
     let mut items = word.iter();
     let first = next(&mut items)?;
     items.mark_with("=");
@@ -263,25 +239,15 @@ fn with_new_mark(alloc: Global) -> Result<String, Fail> {
     Ok(format!(in alloc; "{first} {second} {third}")?)
 }
 
-#[test]
-fn a_new_mark_holds_for_the_segments_to_come(rt: HostRuntime) -> Result<(), Fail> {
-    expect_text(with_new_mark(rt.alloc()), "hy- phen= a")
-}
-
 // The first item of a word, and the number of the items of a copy that is made then, with their text.
-fn copy_midway(alloc: Global) -> Result<String, Fail> {
-    let word = word_of(alloc, "hyphenation", &[2, 6, 7])?;
+fn copy_midway(alloc: Global, text: &str, breaks: &[usize]) -> Result<String, Fail> {
+    let word = word_of(alloc, text, breaks)?;
     let mut items = word.iter();
     let first = next(&mut items)?;
     let copy = items.clone()?;
     let left = copy.len();
     let joined = marked_text(alloc, copy)?;
     Ok(format!(in alloc; "{first} {left} {joined}")?)
-}
-
-#[test]
-fn a_copy_has_the_segments_to_come(rt: HostRuntime) -> Result<(), Fail> {
-    expect_text(copy_midway(rt.alloc()), "hy- 3 phen-a-tion")
 }
 
 // Writes a returned item, and the number of the remaining ones.
@@ -309,26 +275,10 @@ fn trace_segments<B: Breaks<Item = usize>>(
     Ok(output)
 }
 
-// The items that the segments of a word return at this many calls.
-fn trace_word(alloc: Global, text: &str, breaks: &[usize], times: usize) -> Result<String, Fail> {
+// The items that the segments of a word return at three calls.
+fn trace_word(alloc: Global, text: &str, breaks: &[usize]) -> Result<String, Fail> {
     let word = word_of(alloc, text, breaks)?;
-    Ok(trace_segments(alloc, word.iter().segments(), times)?)
-}
-
-#[test]
-fn a_word_without_breaks_is_one_segment(rt: HostRuntime) -> Result<(), Fail> {
-    expect_text(
-        trace_word(rt.alloc(), "bevies", &[], 3),
-        "bevies 0,none 0,none 0,",
-    )
-}
-
-#[test]
-fn each_segment_leaves_one_less(rt: HostRuntime) -> Result<(), Fail> {
-    expect_text(
-        trace_word(rt.alloc(), "hypha", &[2], 3),
-        "hy 1,pha 0,none 0,",
-    )
+    Ok(trace_segments(alloc, word.iter().segments(), 3)?)
 }
 
 // The size hints of a word's segments, before the first one and after each.
@@ -361,33 +311,13 @@ fn size_hints<B: Breaks<Item = usize>>(
     Ok(output)
 }
 
-#[test]
-fn size_hints_count_the_segments_to_come(rt: HostRuntime) -> Result<(), Fail> {
-    expect_text(
-        size_hints_of_word(rt.alloc(), "bevies", &[]),
-        "(1, Some(1)) (0, Some(0)) ",
-    )?;
-    expect_text(
-        size_hints_of_word(rt.alloc(), "hypha", &[2]),
-        "(2, Some(2)) (1, Some(1)) (0, Some(0)) ",
-    )
-}
-
-// The items that the segments of `ab` return, where the break at 1 repeats.
-fn trace_repeating_break(alloc: Global) -> Result<String, Fail> {
-    if Word::fits("ab", &[1]) {
-        Ok(trace_segments(alloc, Segments::new("ab", repeating_break(1)), 7)?)
+// The items that the segments of a text return at seven calls, where the break at this place repeats.
+fn trace_repeating_break(alloc: Global, text: &str, place: usize) -> Result<String, Fail> {
+    if Word::fits(text, &[place]) {
+        Ok(trace_segments(alloc, Segments::new(text, repeating_break(place)), 7)?)
     } else {
         Err(Fail::from("the break does not fit"))
     }
-}
-
-#[test]
-fn breaks_are_asked_nothing_after_their_end(rt: HostRuntime) -> Result<(), Fail> {
-    expect_text(
-        trace_repeating_break(rt.alloc()),
-        "a 1,b 0,none 0,none 0,none 0,none 0,none 0,",
-    )
 }
 
 // The items that changed segments return at seven calls, each with the number of the remaining ones.
@@ -407,23 +337,15 @@ fn trace_changed_segments<B: Breaks>(
     Ok(output)
 }
 
-// The items that the changed segments of `ab` return, where the break at 1 repeats.
-fn trace_changed_repeating_break(alloc: Global) -> Result<String, Fail> {
-    let pair: (usize, Option<&Subregion>) = (1, None);
-    if Word::fits("ab", &[pair]) {
-        let segments = SegmentsExt::new(alloc, "ab", repeating_break(pair));
+// The items that the changed segments of a text return at seven calls, where the break at this place repeats.
+fn trace_changed_repeating_break(alloc: Global, text: &str, place: usize) -> Result<String, Fail> {
+    let pair: (usize, Option<&Subregion>) = (place, None);
+    if Word::fits(text, &[pair]) {
+        let segments = SegmentsExt::new(alloc, text, repeating_break(pair));
         Ok(trace_changed_segments(alloc, segments)?)
     } else {
         Err(Fail::from("the break does not fit"))
     }
-}
-
-#[test]
-fn changed_breaks_are_asked_nothing_after_their_end(rt: HostRuntime) -> Result<(), Fail> {
-    expect_text(
-        trace_changed_repeating_break(rt.alloc()),
-        "a 1,b 0,none 0,none 0,none 0,none 0,none 0,",
-    )
 }
 
 // The items that marked segments return at this many calls, each with the number of the remaining ones.
@@ -443,82 +365,238 @@ fn trace_marked_segments<I: Texts>(
     Ok(output)
 }
 
-// The items that the marked segments of `ab` return, where the break at 1 repeats.
-fn trace_marked_repeating_break(alloc: Global) -> Result<String, Fail> {
-    if Word::fits("ab", &[1]) {
-        let items = Hyphenating::new(alloc, Segments::new("ab", repeating_break(1)));
+// The items that the marked segments of a text return at seven calls, where the break at this place repeats.
+fn trace_marked_repeating_break(alloc: Global, text: &str, place: usize) -> Result<String, Fail> {
+    if Word::fits(text, &[place]) {
+        let items = Hyphenating::new(alloc, Segments::new(text, repeating_break(place)));
         Ok(trace_marked_segments(alloc, items, 7)?)
     } else {
         Err(Fail::from("the break does not fit"))
     }
 }
 
-#[test]
-fn marked_segments_ask_nothing_after_their_end(rt: HostRuntime) -> Result<(), Fail> {
-    expect_text(
-        trace_marked_repeating_break(rt.alloc()),
-        "a- 1,b 0,none 0,none 0,none 0,none 0,none 0,",
-    )
-}
-
-// The items that the marked segments of `hyphenation` return, of which the last but one is refused.
-fn trace_refused_segment(alloc: Global) -> Result<String, Fail> {
-    let word = word_of(alloc, "hyphenation", &[2, 6, 7])?;
+// The items that the marked segments of a word return at five calls, of which the last but one is refused.
+fn trace_refused_segment(alloc: Global, text: &str, breaks: &[usize]) -> Result<String, Fail> {
+    let word = word_of(alloc, text, breaks)?;
     let items = Hyphenating::new(alloc, SegmentsWithRefusal(word.iter().segments()));
     Ok(trace_marked_segments(alloc, items, 5)?)
 }
 
-#[test]
-fn a_refusal_stands_in_its_place(rt: HostRuntime) -> Result<(), Fail> {
-    expect_text(
-        trace_refused_segment(rt.alloc()),
-        "hy- 3,phen- 2,refused 1,tion 0,none 0,",
-    )
-}
-
-// The joined segments of `hyphenation`, their number, and the number that a caller promises.
-fn join_and_count(alloc: Global) -> Result<String, Fail> {
-    let breaks = vec![in alloc; 2, 6, 7]?;
-    if Word::fits("hyphenation", &breaks) {
-        let joined = joined_segments(alloc, "hyphenation", &breaks)?;
-        let all = all_segments(alloc, "hyphenation", &breaks)?.len();
-        let number = number_of_segments("hyphenation", breaks);
+// The joined segments of a text, their number, and the number that a caller promises.
+fn join_and_count(alloc: Global, text: &str, breaks: &[usize]) -> Result<String, Fail> {
+    if Word::fits(text, breaks) {
+        let joined = joined_segments(alloc, text, breaks)?;
+        let all = all_segments(alloc, text, breaks)?.len();
+        let number = number_of_segments(text, Vec::from_slice(alloc, breaks)?);
         Ok(format!(in alloc; "{joined} {all} {number}")?)
     } else {
         Err(Fail::from("the breaks do not fit"))
     }
 }
 
-#[test]
-fn segments_join_to_the_word_and_are_one_more_than_its_breaks(rt: HostRuntime) -> Result<(), Fail> {
-    expect_text(join_and_count(rt.alloc()), "hyphenation 4 4")
-}
-
-// The joined items of `firkin` with a mark, their number, and the number that a caller promises.
-fn mark_and_count(alloc: Global) -> Result<String, Fail> {
-    let word = word_of(alloc, "firkin", &[3])?;
+// The joined items of a word with a mark, their number, and the number that a caller promises.
+fn mark_and_count(alloc: Global, text: &str, breaks: &[usize]) -> Result<String, Fail> {
+    let word = word_of(alloc, text, breaks)?;
     let number = number_of_marked_segments(&word);
     let joined = marked_word(alloc, word.try_clone(alloc)?, "=")?;
     let all = all_items(alloc, word)?.len();
     Ok(format!(in alloc; "{joined} {all} {number}")?)
 }
 
-#[test]
-fn marked_segments_join_to_the_marked_word(rt: HostRuntime) -> Result<(), Fail> {
-    expect_text(mark_and_count(rt.alloc()), "fir=kin 2 2")
-}
-
-// A text with a word of three breaks appended to it.
-fn appended(alloc: Global) -> Result<String, AllocError> {
+// A parenthesis with a text and its marks appended to it.
+fn appended(alloc: Global, text: &str, breaks: &[usize]) -> Result<String, AllocError> {
     let mut page = String::from_str(alloc, "(")?;
-    let breaks = [2usize, 6, 7];
-    if Word::fits("hyphenation", &breaks) {
-        push_marked_text(&mut page, "hyphenation", &breaks, "-")?;
+    if Word::fits(text, breaks) {
+        push_marked_text(&mut page, text, breaks, "-")?;
     }
     Ok(page)
 }
 
+// A question to a text with breaks. The function `answer` names the one that answers it.
+#[derive(Clone, Copy)]
+enum Asked {
+    Segments,
+    Marked,
+    NewMark,
+    CopyMidway,
+    Calls,
+    SizeHints,
+    Repeating,
+    ChangedRepeating,
+    MarkedRepeating,
+    Refused,
+    Joined,
+    MarkedWord,
+    Appended,
+}
+
+fn answer(alloc: Global, asked: Asked, text: &str, breaks: &[usize]) -> Result<String, Fail> {
+    let first = breaks.first().copied().unwrap_or(0);
+    match asked {
+        Asked::Segments => joined_by_bars(alloc, text, breaks),
+        Asked::Marked => joined_by_spaces(alloc, text, breaks),
+        Asked::NewMark => with_new_mark(alloc, text, breaks),
+        Asked::CopyMidway => copy_midway(alloc, text, breaks),
+        Asked::Calls => trace_word(alloc, text, breaks),
+        Asked::SizeHints => size_hints_of_word(alloc, text, breaks),
+        Asked::Repeating => trace_repeating_break(alloc, text, first),
+        Asked::ChangedRepeating => trace_changed_repeating_break(alloc, text, first),
+        Asked::MarkedRepeating => trace_marked_repeating_break(alloc, text, first),
+        Asked::Refused => trace_refused_segment(alloc, text, breaks),
+        Asked::Joined => join_and_count(alloc, text, breaks),
+        Asked::MarkedWord => mark_and_count(alloc, text, breaks),
+        Asked::Appended => Ok(appended(alloc, text, breaks)?),
+    }
+}
+
+// Each row has its sentence, the question, the text and its breaks, and the answer.
+const ANSWERS: &[(&str, Asked, &str, &[usize], &str)] = &[
+    (
+        "a text is cut at its breaks",
+        Asked::Segments,
+        "hyphenation",
+        &[2, 6, 7],
+        "hy|phen|a|tion",
+    ),
+    (
+        "a break at the head or at the end leaves an empty segment there",
+        Asked::Segments,
+        "ab",
+        &[0, 2],
+        "|ab|",
+    ),
+    (
+        "the empty text is one empty segment",
+        Asked::Segments,
+        "",
+        &[],
+        "",
+    ),
+    (
+        "a mark stands after each segment but the last",
+        Asked::Marked,
+        "hyphenation",
+        &[2, 6, 7],
+        "hy- phen- a- tion",
+    ),
+    (
+        "each break has its mark",
+        Asked::Marked,
+        "anfractuous",
+        &[2, 6, 8],
+        "an- frac- tu- ous",
+    ),
+    (
+        "one break has one mark",
+        Asked::Marked,
+        "firkin",
+        &[3],
+        "fir- kin",
+    ),
+    (
+        "a text without breaks has no mark",
+        Asked::Marked,
+        "bevies",
+        &[],
+        "bevies",
+    ),
+    (
+        "a new mark holds for the segments to come",
+        Asked::NewMark,
+        "hyphenation",
+        &[2, 6, 7],
+        "hy- phen= a",
+    ),
+    (
+        "a copy has the segments to come",
+        Asked::CopyMidway,
+        "hyphenation",
+        &[2, 6, 7],
+        "hy- 3 phen-a-tion",
+    ),
+    (
+        "a text without breaks is one segment",
+        Asked::Calls,
+        "bevies",
+        &[],
+        "bevies 0,none 0,none 0,",
+    ),
+    (
+        "each segment leaves one less",
+        Asked::Calls,
+        "hypha",
+        &[2],
+        "hy 1,pha 0,none 0,",
+    ),
+    (
+        "a size hint counts the only segment until it is returned",
+        Asked::SizeHints,
+        "bevies",
+        &[],
+        "(1, Some(1)) (0, Some(0)) ",
+    ),
+    (
+        "size hints count the segments to come",
+        Asked::SizeHints,
+        "hypha",
+        &[2],
+        "(2, Some(2)) (1, Some(1)) (0, Some(0)) ",
+    ),
+    (
+        "breaks are asked nothing after their end",
+        Asked::Repeating,
+        "ab",
+        &[1],
+        "a 1,b 0,none 0,none 0,none 0,none 0,none 0,",
+    ),
+    (
+        "changed breaks are asked nothing after their end",
+        Asked::ChangedRepeating,
+        "ab",
+        &[1],
+        "a 1,b 0,none 0,none 0,none 0,none 0,none 0,",
+    ),
+    (
+        "marked segments ask nothing after their end",
+        Asked::MarkedRepeating,
+        "ab",
+        &[1],
+        "a- 1,b 0,none 0,none 0,none 0,none 0,none 0,",
+    ),
+    (
+        "a refusal stands in its place",
+        Asked::Refused,
+        "hyphenation",
+        &[2, 6, 7],
+        "hy- 3,phen- 2,refused 1,tion 0,none 0,",
+    ),
+    (
+        "segments join to the text and are one more than its breaks",
+        Asked::Joined,
+        "hyphenation",
+        &[2, 6, 7],
+        "hyphenation 4 4",
+    ),
+    (
+        "marked segments join to the marked text",
+        Asked::MarkedWord,
+        "firkin",
+        &[3],
+        "fir=kin 2 2",
+    ),
+    (
+        "marked segments of a text are appended to another",
+        Asked::Appended,
+        "hyphenation",
+        &[2, 6, 7],
+        "(hy-phen-a-tion",
+    ),
+];
+
 #[test]
-fn marked_segments_of_a_text_are_appended(rt: HostRuntime) -> Result<(), Fail> {
-    expect_text(appended(rt.alloc()), "(hy-phen-a-tion")
+fn segments_and_marks_are_those_of_the_breaks(rt: HostRuntime) -> Result<(), Fail> {
+    for (shows, asked, text, breaks, wanted) in ANSWERS {
+        expect_text_in(*shows, answer(rt.alloc(), *asked, text, breaks), wanted)?;
+    }
+    Ok(())
 }
