@@ -155,7 +155,7 @@ fn changes_stand_at_the_breaks_of_words(rt: HostRuntime) -> Result<(), Fail> {
     expect_rows_of_extended(rt.alloc(), ROWS)
 }
 
-// The place of the only break that a dictionary allows in a word in small letters, with the left and right of its change.
+// The place of the only break that a dictionary allows in a word in small letters, and the left and right of its change.
 fn left_and_right(
     alloc: Global,
     dictionary: &Extended,

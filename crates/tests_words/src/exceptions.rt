@@ -155,7 +155,8 @@ pub fn firkin_with_exception(alloc: Global) -> Result<Standard, Fail> {
     Ok(firkin)
 }
 
-// What it shows, a question to the dictionary of `firkin` with the place 3 added for `firkins`, and the answer.
+// A sentence of what it shows, a question to the dictionary of `firkin` with the place 3 added for `firkins`, and the
+// answer.
 const ADDED: &[(&str, Question<'static>, &str)] = &[
     (
         "an added word decides alone",

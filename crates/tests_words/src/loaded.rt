@@ -15,8 +15,8 @@ const ELEVEN: &str = "p a{11}b\np a5b.";
 
 const TWELVE: &str = "p a{12}b\np .a{11}b";
 
-// What it shows, the lines of a standard dictionary of version 2 with the minima 1 and 1, a question to it, and the
-// answer.
+// A sentence of what it shows, lines of a standard dictionary of version 2, a question to it, and the answer. Its
+// minima are 1 and 1.
 const VERSION_2: &[(&str, &str, Question<'static>, &str)] = &[
     (
         "a number in braces is one value",

@@ -29,7 +29,7 @@ fn a_word_of_10_000_bytes_is_broken_within_each_pair(rt: HostRuntime) -> Result<
     )
 }
 
-// What it shows, a line, and two letters of which each pair becomes `x` and `y`, with a break between them.
+// A sentence of what it shows, a line, and two letters. Each pair of them becomes `x` and `y`, with a break between.
 const PAIRS: [(&str, &str, &str); 2] = [
     (
         "a break within each pair is changed",
@@ -55,7 +55,8 @@ fn a_word_of_10_000_bytes_is_fitted(rt: HostRuntime) -> Result<(), Fail> {
     Ok(())
 }
 
-// What it shows, the number of letters `a` of a key with the value 1 in its middle, that of a word, and its breaks.
+// A sentence of what it shows, the number of letters of a key, that of a word, and its breaks. All letters are `a`, and
+// the key has the value 1 in its middle.
 const KEYS: [(&str, usize, usize, &str); 6] = [
     (
         "a key of 1,000 letters is not in a word of 999",

@@ -244,8 +244,8 @@ fn unusual_words_are_broken_alike_by_both_kinds(rt: HostRuntime) -> Result<(), F
     expect_rows_of_both(rt.alloc(), ROWS)
 }
 
-// What it shows, the minima, the number of letters of a word, and its breaks, where a pattern allows one between each
-// two letters.
+// A sentence of what it shows, the minima, a number of letters, and the breaks of a word of so many. A pattern allows a
+// break between each two letters.
 const LETTERS: &[(&str, &str, usize, &str)] = &[
     (
         "the greatest minima leave 509 letters no break",
