@@ -17,6 +17,8 @@ mod long_words;
 #[cfg(test)]
 mod questions;
 #[cfg(test)]
+mod segment_words;
+#[cfg(test)]
 mod segments;
 #[cfg(test)]
 mod soft_hyphens;
