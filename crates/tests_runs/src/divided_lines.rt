@@ -226,16 +226,29 @@ const DIVIDED: [(&str, &str, Style, u16, Aim, &str); 19] = [
     ),
 ];
 
+// Fails unless a text has these lines by the dictionary with one exception.
+fn expect_divided(
+    alloc: Global,
+    shows: &str,
+    text: &str,
+    style: &Style,
+    columns: u16,
+    aim: Aim,
+    wanted: &str,
+) -> Result<(), Fail> {
+    let dictionary: Standard = load(alloc, HYPHENATION)?;
+    let lines = fill_text(alloc, &dictionary, style, text, columns, aim);
+    expect_text_in(
+        format_args!("{shows}, in {columns} columns"),
+        with_bars(alloc, lines),
+        wanted,
+    )
+}
+
 #[test]
 fn a_text_has_the_lines_of_its_aim(rt: HostRuntime) -> Result<(), Fail> {
-    let dictionary: Standard = load(rt.alloc(), HYPHENATION)?;
     for (shows, text, style, columns, aim, wanted) in &DIVIDED {
-        let lines = fill_text(rt.alloc(), &dictionary, style, text, *columns, *aim);
-        expect_text_in(
-            format_args!("{shows}: {text:?} in {columns}"),
-            with_bars(rt.alloc(), lines),
-            wanted,
-        )?;
+        expect_divided(rt.alloc(), shows, text, style, *columns, *aim, wanted)?;
     }
     Ok(())
 }
@@ -294,7 +307,7 @@ fn expect_changed(
     let dictionary: Extended = load(alloc, dictionary)?;
     let lines = fill(alloc, &dictionary, &PLAIN, text, columns, Aim::Full);
     expect_text_in(
-        format_args!("{shows}: {text:?} in {columns}"),
+        format_args!("{shows}, in {columns} columns"),
         with_bars(alloc, lines),
         wanted,
     )
@@ -325,17 +338,15 @@ const LONG: [(&str, Aim, usize); 3] = [
 
 #[test]
 fn a_long_paragraph_is_divided(rt: HostRuntime) -> Result<(), Fail> {
-    let dictionary: Standard = load(rt.alloc(), HYPHENATION)?;
     for (shows, aim, times) in &LONG {
         let text = repeated(rt.alloc(), "aa bb ", *times)?;
         let wanted = repeated(rt.alloc(), "aa bb|", *times)?;
-        let lines = fill(rt.alloc(), &dictionary, &PLAIN, &text, 5, *aim);
-        expect_text_in(*shows, with_bars(rt.alloc(), lines), &wanted)?;
+        expect_divided(rt.alloc(), shows, &text, &PLAIN, 5, *aim, &wanted)?;
     }
     Ok(())
 }
 
-// Whether each text has room for few more than four times its bytes.
+// Whether each text has room for at most four times its bytes and 64 more.
 fn have_little_room(texts: &[String]) -> bool {
     for text in texts {
         if text.capacity() > text.len().saturating_mul(4).saturating_add(64) {
@@ -355,17 +366,22 @@ fn expect_little_room(alloc: Global, shows: &str, aim: Aim) -> Result<(), Fail> 
     }
 }
 
+// Fails unless the paragraph of one line of this many bytes has little room.
+fn expect_little_room_for_line(alloc: Global, bytes: usize) -> Result<(), Fail> {
+    let line = repeated(alloc, "a", bytes)?;
+    let paragraphs = paragraphs_of(alloc, &line)?;
+    expect(
+        paragraphs.len() == 1 && have_little_room(&paragraphs),
+        format_args!("a paragraph of a line of {bytes} bytes"),
+    )
+}
+
 #[test]
-fn texts_have_little_more_room_than_for_their_bytes(rt: HostRuntime) -> Result<(), Fail> {
+fn lines_and_paragraphs_have_little_more_room_than_they_need(rt: HostRuntime) -> Result<(), Fail> {
     expect_little_room(rt.alloc(), "full lines", Aim::Full)?;
     expect_little_room(rt.alloc(), "even lines", EVEN)?;
     for bytes in [1, 60, 300, 5_000] {
-        let line = repeated(rt.alloc(), "a", bytes)?;
-        let paragraphs = paragraphs_of(rt.alloc(), &line)?;
-        expect(
-            paragraphs.len() == 1 && have_little_room(&paragraphs),
-            format_args!("a paragraph of a line of {bytes} bytes"),
-        )?;
+        expect_little_room_for_line(rt.alloc(), bytes)?;
     }
     Ok(())
 }

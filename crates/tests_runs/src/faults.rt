@@ -1,7 +1,7 @@
 //! Readers and writers that fail: each error is returned as it was, nothing is written before it is known, and the sizes
 //! of reads and writes change nothing.
 
-use crate::runs::{HYPHENS, LINES, Task, run_task};
+use crate::runs::{HYPHENS, TWO_LETTERS, Task, run_task};
 use hyphenation::engine::Kind;
 use std::alloc::Global;
 use std::io;
@@ -306,8 +306,8 @@ fn a_read_that_fails_ends_a_run_unless_it_was_interrupted(rt: HostRuntime) -> Re
     Ok(())
 }
 
-// What each shows, its task, the dictionary and the input, the code of the write of each number that fails, and how the run
-// ends. With the last number all bytes but the last one of this text are written, or all.
+// What each shows, its task, the dictionary and the input, the code of the write that fails, which is another one in each
+// run, how each run ends, and the whole text.
 const FAILING_WRITES: [(&str, Task, &str, &[u8], i32, &str, &[u8]); 5] = [
     (
         "a pipe that breaks has a beginning of a text",
@@ -321,7 +321,7 @@ const FAILING_WRITES: [(&str, Task, &str, &[u8], i32, &str, &[u8]); 5] = [
     (
         "a pipe that breaks has a beginning of lines",
         Task::Lines(10),
-        LINES,
+        TWO_LETTERS,
         b"I know noble accents",
         BROKEN_PIPE,
         "output: Some(32)",
@@ -450,7 +450,7 @@ const UNWRITTEN: [(&str, Task, &str, (&str, Reads), (&[u8], Reads), &str); 13] =
         "a dictionary that fails is told before a text that fails",
         Task::Lines(10),
         "en-us",
-        (LINES, Reads::FailFrom(60, CONNECTION_RESET)),
+        (TWO_LETTERS, Reads::FailFrom(60, CONNECTION_RESET)),
         (b"", FIRST_FAILS),
         "dictionary: Some(104)",
     ),
@@ -474,7 +474,7 @@ const UNWRITTEN: [(&str, Task, &str, (&str, Reads), (&[u8], Reads), &str); 13] =
         "a text that fails is told before its bytes are judged",
         Task::Lines(10),
         "en-us",
-        (LINES, WHOLE),
+        (TWO_LETTERS, WHOLE),
         (b"noble \xff", Reads::FailFrom(4, CONNECTION_RESET)),
         "input: Some(104)",
     ),
@@ -482,7 +482,7 @@ const UNWRITTEN: [(&str, Task, &str, (&str, Reads), (&[u8], Reads), &str); 13] =
         "a text that is not UTF-8 has no lines",
         Task::Lines(10),
         "en-us",
-        (LINES, WHOLE),
+        (TWO_LETTERS, WHOLE),
         (b"noble \xff", WHOLE),
         "TextNotUtf8",
     ),
@@ -490,7 +490,7 @@ const UNWRITTEN: [(&str, Task, &str, (&str, Reads), (&[u8], Reads), &str); 13] =
         "nothing is written for the empty text",
         Task::Lines(10),
         "en-us",
-        (LINES, WHOLE),
+        (TWO_LETTERS, WHOLE),
         (b"", WHOLE),
         "written",
     ),

@@ -1,6 +1,6 @@
 //! Lines of a column width: worked examples, and the number of lines against all divisions.
 
-use crate::runs::LINES;
+use crate::runs::TWO_LETTERS;
 use hyphenation::Standard;
 use linefill::fill;
 use std::alloc::{AllocError, Global};
@@ -92,78 +92,84 @@ const FILLED: [(&str, &str, &str, usize, &str); 20] = [
     ("the empty text has no lines", THREE_LETTERS, "", 5, ""),
     (
         "a text that fits is one line",
-        LINES,
+        TWO_LETTERS,
         NOBLE,
         20,
         "I know noble accents",
     ),
     (
         "a text that is one column too wide is broken in its last word",
-        LINES,
+        TWO_LETTERS,
         NOBLE,
         19,
         "I know noble ac-|cents",
     ),
     (
         "two spaces end a line where both fit",
-        LINES,
+        TWO_LETTERS,
         "a  b",
         3,
         "a  |b",
     ),
-    ("a hyphen counts as a column", LINES, "noble", 3, "no-|ble"),
+    (
+        "a hyphen counts as a column",
+        TWO_LETTERS,
+        "noble",
+        3,
+        "no-|ble",
+    ),
     (
         "a part of a word that is too wide is a line all the same",
-        LINES,
+        TWO_LETTERS,
         "noble",
         2,
         "no-|ble",
     ),
     (
         "a space after the last word counts",
-        LINES,
+        TWO_LETTERS,
         "noble ",
         5,
         "no-|ble ",
     ),
     (
         "columns are characters, and not bytes",
-        LINES,
+        TWO_LETTERS,
         "größe äö",
         4,
         "grö-|ße |äö",
     ),
     (
         "a soft hyphen at a word's beginning is no cut",
-        LINES,
+        TWO_LETTERS,
         "\u{ad}ri\u{ad}bo nu",
         4,
         "\u{ad}ri-|\u{ad}bo |nu",
     ),
     (
         "a line that ends at a space before a soft hyphen has no hyphen",
-        LINES,
+        TWO_LETTERS,
         "a \u{ad}b",
         2,
         "a |\u{ad}b",
     ),
     (
         "a line that ends at a line feed before a soft hyphen has a hyphen",
-        LINES,
+        TWO_LETTERS,
         "a\n\u{ad}b",
         3,
         "a\n-|\u{ad}b",
     ),
     (
         "a line feed ends no line, and counts as a column",
-        LINES,
+        TWO_LETTERS,
         "lucid\nlucid",
         7,
         "lu-|cid\nlu-|cid",
     ),
     (
         "a word that can't be broken is a line",
-        LINES,
+        TWO_LETTERS,
         "unbreakable",
         3,
         "unbreakable",
@@ -174,7 +180,7 @@ const FILLED: [(&str, &str, &str, usize, &str); 20] = [
 fn lines_end_at_the_greatest_cut_that_fits_or_at_the_least(rt: HostRuntime) -> Result<(), Fail> {
     for (shows, dictionary, text, columns, lines) in &FILLED {
         expect_text_in(
-            format_args!("{shows}: {text:?} in {columns}"),
+            format_args!("{shows}, in {columns} columns"),
             filled_with_bars(rt.alloc(), dictionary, text, *columns),
             lines,
         )?;
@@ -239,7 +245,7 @@ fn widths_with_fewest_lines(
     text: &str,
     cuts: &[usize],
 ) -> Result<Option<usize>, Fail> {
-    let dictionary: Standard = load(alloc, LINES)?;
+    let dictionary: Standard = load(alloc, TWO_LETTERS)?;
     let mut widths: usize = 0;
     for columns in 0..=text.chars().count() {
         match is_fewest(alloc, &dictionary, text, cuts, columns)? {

@@ -85,8 +85,8 @@ const VERSE: &str =
 const LAKE: &str =
     "hyphenation 1 standard\nlanguage en-us\nminima 2 3\ne burning 4\ne sulphur 3\ne unconsumed 2 5\n";
 
-/// A dictionary of the words of a verse, and of one with letters of two bytes.
-pub(crate) const LINES: &str =
+/// A dictionary whose minima leave two letters after the last break of a word.
+pub(crate) const TWO_LETTERS: &str =
     "hyphenation 1 standard\nlanguage en-us\nminima 2 2\ne noble 2\ne accents 2\ne lucid 2\ne inescapable 2\ne größe 4\n";
 
 const LATER_CHANGE: &str =
@@ -237,7 +237,7 @@ const WRITTEN: [(&str, Task, &str, &str, &str, &str); 20] = [
         "each line is written with a line feed",
         Task::Lines(10),
         "en-us",
-        LINES,
+        TWO_LETTERS,
         "I know noble accents",
         "I know no-\nble ac-\ncents\n",
     ),
@@ -245,7 +245,7 @@ const WRITTEN: [(&str, Task, &str, &str, &str, &str); 20] = [
         "a line feed of the text stays, and the line's own comes after it",
         Task::Lines(10),
         "en-us",
-        LINES,
+        TWO_LETTERS,
         "noble\n",
         "noble\n\n",
     ),
@@ -253,7 +253,7 @@ const WRITTEN: [(&str, Task, &str, &str, &str, &str); 20] = [
         "an empty text has no lines",
         Task::Lines(10),
         "en-us",
-        LINES,
+        TWO_LETTERS,
         "",
         "",
     ),
