@@ -77,7 +77,7 @@ fn with_bars(alloc: Global, lines: Result<Vec<String>, FillError>) -> Result<Str
 
 const REPEATED: &str = "the hyphenation hyphenation hyphenation";
 
-// What each shows, the text, its style, the columns, the aim, and the lines.
+// Rows: what each shows, the text, its style, the columns, the aim, and the lines.
 const DIVIDED: [(&str, &str, Style, u16, Aim, &str); 19] = [
     (
         "words have one space between them, and lines hold as much as fits",
@@ -256,7 +256,7 @@ fn a_text_has_the_lines_of_its_aim(rt: HostRuntime) -> Result<(), Fail> {
 // An extended dictionary with a change that is longer than what it takes.
 const LONGER: &str = "hyphenation 1 extended\nlanguage hu\nminima 1 1\ne abc 1 2,0,0,6,xxxxxx\n";
 
-// What each shows, an extended dictionary, the text, the columns, and the lines, which are full.
+// Rows: what each shows, an extended dictionary, the text, the columns, and the lines, which are full.
 const CHANGED: [(&str, &str, &str, u16, &str); 5] = [
     (
         "letters change at each break",
@@ -321,7 +321,7 @@ fn letters_change_where_a_line_ends(rt: HostRuntime) -> Result<(), Fail> {
     Ok(())
 }
 
-// What each shows, the aim, and how often two words stand in a paragraph, which fit a line.
+// Rows: what each shows, the aim, and how often two words stand in a paragraph, which fit a line.
 const LONG: [(&str, Aim, usize); 3] = [
     ("a paragraph of 5,000 words is divided evenly", EVEN, 2_500),
     (

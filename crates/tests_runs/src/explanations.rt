@@ -64,7 +64,7 @@ const DRAWN: &str =
 </svg>
 ";
 
-// What each shows, the dictionary with its kind, the style, the words, and the text.
+// Rows: what each shows, the dictionary with its kind, the style, the words, and the text.
 const EXPLAINED: [(&str, Kind, &str, Style, &[&str], &str); 13] = [
     (
         "rows are below their letters",

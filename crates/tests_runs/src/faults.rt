@@ -87,7 +87,7 @@ const MARKED: &[u8] = b"Fir-kin, fir-k-ins.";
 
 const FILLED: &[u8] = b"Fir-\nkin, \nfirk-\nins.\n";
 
-// What each shows, its task, and the bytes that are written.
+// Rows: what each shows, its task, and the bytes that are written.
 const SHORT_READS: [(&str, Task, &[u8]); 2] = [
     ("hyphens, where so many bytes are read", HYPHENS, MARKED),
     (
@@ -119,9 +119,9 @@ fn the_sizes_of_reads_and_writes_change_nothing(rt: HostRuntime) -> Result<(), F
 // Which of the readers of a run fail.
 #[derive(Clone, Copy)]
 enum Failing {
-    // That of the dictionary; the text's fails at its first read.
+    // The one of the dictionary; the one of the text fails at its first read.
     Dictionary,
-    // That of the text.
+    // The one of the text.
     Input,
     // Both.
     Both,
@@ -138,7 +138,7 @@ fn reads_of(failing: Failing, reads: Reads) -> (Reads, Reads) {
 
 // Runs, in each of which the read of one number fails.
 struct FailingReads {
-    // What they show.
+    // The sentence that they show.
     shows: &'static str,
     task: Task<'static>,
     dictionary: &'static str,
@@ -306,8 +306,8 @@ fn a_read_that_fails_ends_a_run_unless_it_was_interrupted(rt: HostRuntime) -> Re
     Ok(())
 }
 
-// What each shows, its task, the dictionary and the input, the code of the write that fails, which is another one in each
-// run, how each run ends, and the whole text.
+// Rows: what each shows, its task, the dictionary and the input, the code of the write that fails, how the run ends, and
+// the whole text. Each row has a run for each write of that text.
 const FAILING_WRITES: [(&str, Task, &str, &[u8], i32, &str, &[u8]); 5] = [
     (
         "a pipe that breaks has a beginning of a text",
@@ -385,7 +385,7 @@ fn a_write_that_fails_leaves_a_beginning_unless_it_was_interrupted(
     Ok(())
 }
 
-// What each shows, the task and the language, the dictionary and the input with their reads, and how the run ends.
+// Rows: what each shows, the task and the language, the dictionary and the input with their reads, and how the run ends.
 const UNWRITTEN: [(&str, Task, &str, (&str, Reads), (&[u8], Reads), &str); 13] = [
     (
         "a head is judged before edits and the text",

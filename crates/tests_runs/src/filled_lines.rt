@@ -38,7 +38,7 @@ const THREE_LETTERS: &str =
 
 const NOBLE: &str = "I know noble accents";
 
-// What each shows, the dictionary, the text, the columns, and the lines.
+// Rows: what each shows, the dictionary, the text, the columns, and the lines.
 const FILLED: [(&str, &str, &str, usize, &str); 20] = [
     (
         "words are broken where a line has no room for the whole",

@@ -69,7 +69,7 @@ const LONGER: Settings<'static> = Settings {
     skip_capitals: false,
 };
 
-// What each shows, the settings, the page, and the page with its marks.
+// Rows: what each shows, the settings, the page, and the page with its marks.
 const PAGES: [(&str, Settings, &str, &str); 29] = [
     (
         "words of text are broken",

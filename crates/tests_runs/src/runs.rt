@@ -10,7 +10,7 @@ use std::test::Fail;
 use test_dictionaries::{AMERICAN, DOUBLED, FIRKIN, dictionary};
 use test_support::{expect_equal_bytes, expect_text, expect_text_in, repeated};
 
-/// What a run writes.
+/// The text that a run writes.
 #[derive(Clone, Copy)]
 pub(crate) enum Task<'t> {
     /// Its input by a dictionary of a kind, after edits, with a mark.
@@ -95,7 +95,7 @@ const LATER_CHANGE: &str =
 const EARLIER_CHANGE: &str =
     "hyphenation 1 extended\nlanguage hu\nminima 1 1\np a1b 1,1,0,1,x\np a1bd\n";
 
-// What each shows, the task, the language, the dictionary, the input, and what is written.
+// Rows: what each shows, the task, the language, the dictionary, the input, and what is written.
 const WRITTEN: [(&str, Task, &str, &str, &str, &str); 20] = [
     (
         "the words of a verse are broken, and all else stays",
@@ -274,7 +274,7 @@ fn a_run_writes_the_text_of_its_task(rt: HostRuntime) -> Result<(), Fail> {
     Ok(())
 }
 
-// What each shows, the edits, how the run ends, and what it writes of `Firkin, firkins.` by a standard dictionary.
+// Rows: what each shows, the edits, how the run ends, and what it writes of `Firkin, firkins.` by a standard dictionary.
 const EDITED: [(&str, &[&str], &str, &str); 27] = [
     (
         "without edits patterns decide",
@@ -405,7 +405,7 @@ const EDITED: [(&str, &[&str], &str, &str); 27] = [
     ),
 ];
 
-// The same of `Az asszonnyal.` by an extended dictionary.
+// Rows: what each shows, the edits, how the run ends, and what it writes of `Az asszonnyal.` by an extended dictionary.
 const CHANGED: [(&str, &[&str], &str, &str); 9] = [
     (
         "without edits letters change at each break",
@@ -485,8 +485,8 @@ fn edits_are_done_in_order_or_the_first_refused_is_named(rt: HostRuntime) -> Res
     Ok(())
 }
 
-// What each shows, the task, the language, the dictionary, a text and what is written of it, and how often it stands in an
-// input of more than 1,000,000 bytes.
+// Rows: what each shows, the task, the language, the dictionary, a text, what is written of it, and how often it stands in
+// an input of more than 1,000,000 bytes.
 const LONG: [(&str, Task, &str, &str, &str, &str, usize); 3] = [
     (
         "a text of a million bytes is hyphenated",
