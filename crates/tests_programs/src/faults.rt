@@ -1,4 +1,4 @@
-//! What fails in a run of a program, and the inputs and outputs that fail so. Each read and each write moves one byte.
+//! The faults of a run of a program, and the inputs and outputs that fail so. Each read and each write moves one byte.
 
 use std::alloc::Global;
 use std::io;
@@ -15,7 +15,7 @@ pub(crate) const PERMISSION_DENIED: i32 = 13;
 // The code where the disk is full.
 const NO_SPACE: i32 = 28;
 
-/// What fails in a run, and the system's code of the error. Reads and writes are counted from 1.
+/// A fault of a run, with the system's code of the error. Reads and writes are counted from 1.
 #[derive(Clone, Copy)]
 pub(crate) enum Fault {
     Nothing,

@@ -39,7 +39,7 @@ pub(crate) type FailingRun<'r> = (
     &'r str,
 );
 
-/// What a run ends with.
+/// The end of a run.
 #[derive(Drop)]
 struct Ending {
     status: u8,
