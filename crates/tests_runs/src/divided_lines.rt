@@ -2,12 +2,11 @@
 
 use hyphenation_dictionary::dictionary::{Extended, Standard};
 use line_division::{Stretch, even_ends, greedy_ends};
-use paragraphs::{Aim, FillError, Style, fill, fill_text};
+use paragraphs::{Aim, FillError, Style, fill, fill_text, paragraphs_of, split_word};
 use std::alloc::{AllocError, Global};
 use std::test::Fail;
 use test_dictionaries::{DOUBLED, load};
 use test_support::{expect, expect_equal, expect_text_in, repeated};
-use text_paragraphs::{paragraphs_of, split_word};
 
 // A dictionary with one exception.
 const HYPHENATION: &str =
