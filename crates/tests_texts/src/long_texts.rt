@@ -46,12 +46,6 @@ fn ten_keys(alloc: Global) -> Result<String, AllocError> {
     Ok(lines)
 }
 
-#[test]
-fn ten_keys_of_10_000_letters_are_kept(rt: HostRuntime) -> Result<(), Fail> {
-    let is_so = is_kept(rt.alloc(), ten_keys(rt.alloc()))?;
-    expect(is_so, "100,000 nodes")
-}
-
 // The lines of this many exceptions in order, each with one place.
 fn numbered_exceptions(alloc: Global, number: usize) -> Result<String, AllocError> {
     let mut lines = String::new(alloc);
@@ -62,24 +56,10 @@ fn numbered_exceptions(alloc: Global, number: usize) -> Result<String, AllocErro
     Ok(lines)
 }
 
-#[test]
-fn exceptions_of_20_000_words_are_kept(rt: HostRuntime) -> Result<(), Fail> {
-    let is_so = is_kept(rt.alloc(), numbered_exceptions(rt.alloc(), 20_000))?;
-    expect(is_so, "20,000 exceptions")
-}
-
 // The line of the exception of `a`, a space and 5,000 letters.
 fn line_with_escape(alloc: Global) -> Result<String, AllocError> {
     let letters = repeated(alloc, "a", 5_000)?;
     format!(in alloc; "e a\\s{letters} 2\n")
-}
-
-#[test]
-fn a_long_word_with_an_escape_is_kept(rt: HostRuntime) -> Result<(), Fail> {
-    expect(
-        is_kept(rt.alloc(), line_with_escape(rt.alloc()))?,
-        "5,002 letters",
-    )
 }
 
 // Whether a comment of 3,000,000 bytes is read, and nothing of it is written.
@@ -89,10 +69,22 @@ fn is_comment_skipped(alloc: Global) -> Result<bool, Error> {
 }
 
 #[test]
-fn a_comment_of_3_000_000_bytes_is_skipped(rt: HostRuntime) -> Result<(), Fail> {
+fn long_texts_are_written_as_they_stand(rt: HostRuntime) -> Result<(), Fail> {
+    expect(
+        is_kept(rt.alloc(), ten_keys(rt.alloc()))?,
+        "ten keys of 10,000 letters, with 100,000 nodes, are kept",
+    )?;
+    expect(
+        is_kept(rt.alloc(), numbered_exceptions(rt.alloc(), 20_000))?,
+        "20,000 exceptions are kept",
+    )?;
+    expect(
+        is_kept(rt.alloc(), line_with_escape(rt.alloc()))?,
+        "a word of 5,002 letters with an escape is kept",
+    )?;
     expect(
         is_comment_skipped(rt.alloc())?,
-        "one line of 3,000,000 bytes",
+        "a comment of 3,000,000 bytes in one line is skipped",
     )
 }
 

@@ -1,4 +1,4 @@
-//! The messages of all errors and notes.
+//! The messages of all errors and notes of files of patterns.
 
 use pattern_results::errors::FileCause;
 use pattern_results::notes::NoteKind;
@@ -133,17 +133,12 @@ fn expect_message<T: Display>(rt: &HostRuntime, value: &T, wanted: &str) -> Resu
 }
 
 #[test]
-fn each_error_has_its_message(rt: HostRuntime) -> Result<(), Fail> {
+fn each_error_and_each_note_has_its_message(rt: HostRuntime) -> Result<(), Fail> {
     for (cause, wanted) in ERRORS {
         expect_message(&rt, &cause, wanted)?;
     }
-    Ok(())
-}
-
-#[test]
-fn each_note_has_its_message(rt: HostRuntime) -> Result<(), Fail> {
-    for (what, wanted) in NOTES {
-        expect_message(&rt, &what, wanted)?;
+    for (kind, wanted) in NOTES {
+        expect_message(&rt, &kind, wanted)?;
     }
     Ok(())
 }
