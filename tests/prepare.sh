@@ -83,6 +83,15 @@ check() {
   fi
 }
 
+# each_ran: a check that the rows that ran, by the list `ran`, are those that standard input names, a line each.
+ran=()
+each_ran() {
+  local differ
+  differ=$(diff <(LC_ALL=C sort) <(printf '%s\n' "${ran[@]}" | LC_ALL=C sort) |
+    sed -n 's/^< /did not run: /p; s/^> /ran, and is not in the list: /p') || true
+  if [ -z "$differ" ]; then check; else check "$differ"; fi
+}
+
 # end: prints how many checks passed, and ends the script. The status is 1 if one failed.
 end() {
   echo "$passed passed, $failed failed"

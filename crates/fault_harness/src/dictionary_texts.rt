@@ -16,6 +16,9 @@ pub const WORDS: &str =
 pub const CHANGES: &str =
     "hyphenation 1 extended\nlanguage hu\nminima 1 1\n# two kinds\n\ne kilim 2\ne asszonnyal 2,1,2,2,szsz 6,1,2,2,nyny\ne aßb 1 3,2,0,2,ss\np s1szo0\np .fi2\np a1b 1,1,0,1,x\np ca1bd\ne \\e\n";
 
+pub const TWO_KINDS: &str =
+    "hyphenation 1 extended\nlanguage hu\nminima 2 2\n# two kinds\n\ne kilim 2\np s1szo0\np .fi2\np a1b 1,1,0,1,x\ne \\e\n";
+
 /// The list of exceptions has room for nine, so one more makes it grow.
 pub const FULL: &str =
     "hyphenation 1 standard\nlanguage en-us\nminima 2 3\np .fi2\np i2r\np r2k\np r5kin\np k1in\np k2in.\ne a\ne b\ne c\ne d\ne e\ne f\ne g\ne h\ne i\n";
@@ -57,13 +60,14 @@ fn load_any<D: Load + Drop, G: Read, O: Write>(
 
 fn load_in_language<D: Load + Drop, G: Read, O: Write>(
     alloc: Global,
+    language: Language,
     text: &str,
     gate: &mut G,
     output: &mut O,
 ) -> io::Result<()> {
     let mut reader = text.as_bytes();
     pass_gate(gate);
-    let result = D::from_reader(alloc, Language::english_us(), &mut reader);
+    let result = D::from_reader(alloc, language, &mut reader);
     pass_gate(gate);
     match result {
         Ok(dictionary) => write_joined(output, &dictionary.to_text(alloc)?),
@@ -71,19 +75,29 @@ fn load_in_language<D: Load + Drop, G: Read, O: Write>(
     }
 }
 
-/// Makes the call `any_from_reader` or `from_reader`. The latter asks for American English.
+/// Makes the call `any_from_reader`, or `from_reader` with the language that is named last.
 pub fn load<G: Read, O: Write>(
     alloc: Global,
     which: &str,
     gate: &mut G,
     output: &mut O,
 ) -> io::Result<()> {
+    let (english, hungarian) = (Language::english_us(), Language::hungarian());
     match which {
         "standard" => load_any::<Standard, G, O>(alloc, WORDS, gate, output),
-        "standard en-us" => load_in_language::<Standard, G, O>(alloc, WORDS, gate, output),
+        "standard en-us" => {
+            load_in_language::<Standard, G, O>(alloc, english, WORDS, gate, output)
+        }
         "standard faulty" => load_any::<Standard, G, O>(alloc, CHANGES, gate, output),
         "extended" => load_any::<Extended, G, O>(alloc, CHANGES, gate, output),
-        _ => load_in_language::<Extended, G, O>(alloc, CHANGES, gate, output),
+        "extended en-us" => {
+            load_in_language::<Extended, G, O>(alloc, english, CHANGES, gate, output)
+        }
+        "extended hu" => {
+            load_in_language::<Extended, G, O>(alloc, hungarian, CHANGES, gate, output)
+        }
+        "two kinds" => load_any::<Extended, G, O>(alloc, TWO_KINDS, gate, output),
+        _ => load_in_language::<Extended, G, O>(alloc, hungarian, TWO_KINDS, gate, output),
     }
 }
 
@@ -113,6 +127,7 @@ pub fn write<G: Read, O: Write>(
 ) -> io::Result<()> {
     match which {
         "standard" => write_dictionary::<Standard, G, O>(alloc, WORDS, gate, output),
-        _ => write_dictionary::<Extended, G, O>(alloc, CHANGES, gate, output),
+        "extended" => write_dictionary::<Extended, G, O>(alloc, CHANGES, gate, output),
+        _ => write_dictionary::<Extended, G, O>(alloc, TWO_KINDS, gate, output),
     }
 }

@@ -6,7 +6,7 @@ use std::test::Fail;
 use test_dictionaries::text_outcome;
 use test_support::expect_text_in;
 
-/// What a text shows, its lines after a head, and the outcome of loading it: `loaded`, or a line and a cause.
+/// A row: what a text shows, its lines after a head, and the outcome of loading it: `loaded`, or a line and a cause.
 pub type Row = (&'static str, &'static [u8], &'static str);
 
 /// A head, and texts that begin with it.

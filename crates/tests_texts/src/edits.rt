@@ -44,7 +44,7 @@ const BAD: (bool, bool) = (false, false);
 
 const FOR_EXTENDED: (bool, bool) = (false, true);
 
-// What an edit shows, the edit, and for which kinds it is good.
+// Each row: what an edit shows, the edit, and for which kinds it is good.
 const JUDGED: [(&str, &str, (bool, bool)); 37] = [
     ("a word may have no place", "+firkins", GOOD),
     ("a word may have places", "+firkins 3 4", GOOD),
@@ -113,7 +113,7 @@ fn an_edit_is_judged_for_each_kind(rt: HostRuntime) -> Result<(), Fail> {
     Ok(())
 }
 
-// What a word shows, a text, edits and whether each is good, the word, and what is listed for it.
+// Each row: what a word shows, a text, edits and whether each is good, the word, and what is listed for it.
 type Listed = (
     &'static str,
     &'static [u8],

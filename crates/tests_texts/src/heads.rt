@@ -13,7 +13,7 @@ use test_dictionaries::{FIRKIN, SMALLEST, loading_outcome};
 use test_support::expect_text_in;
 use test_support::readers::one_byte_reads;
 
-// What a text shows, its kind, the text, and the language and the minima of its dictionary.
+// Each row: what a text shows, its kind, the text, and the language and the minima of its dictionary.
 const HEADS: [(&str, Kind, &str, &str); 5] = [
     (
         "the least and the greatest minimum are read",
@@ -80,7 +80,7 @@ fn a_head_gives_the_language_and_the_minima(rt: HostRuntime) -> Result<(), Fail>
 // Three head lines and an exception.
 const HUNGARIAN: &[u8] = b"hyphenation 1 standard\nlanguage hu\nminima 2 2\ne ab 1\n";
 
-// The same, extended.
+// The like for an extended dictionary.
 const EXTENDED: &[u8] = b"hyphenation 1 extended\nlanguage hu\nminima 2 2\ne ab 1\n";
 
 // The outcome of loading a text in a language.

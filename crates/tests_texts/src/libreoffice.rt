@@ -12,7 +12,7 @@ use std::alloc::Global;
 use std::test::Fail;
 use test_support::{expect_equal_bytes, expect_equal_in};
 
-// What a file shows, its bytes, and the patterns that it gives.
+// Each row: what a file shows, its bytes, and the patterns that it gives.
 type Row = (&'static str, &'static [u8], &'static str);
 
 // A given left minimum and a right one, the head of the text that is given, and files.
@@ -126,7 +126,7 @@ fn a_file_gives_a_standard_dictionary(rt: HostRuntime) -> Result<(), Fail> {
     Ok(())
 }
 
-// What a file shows, its language, its bytes, and the text of the extended dictionary that it gives, after the head line.
+// Each row: what a file shows, its language, its bytes, and the text of the extended dictionary that it gives, after the head line.
 const EXTENDED: [(&str, &str, &str, &str); 6] = [
     (
         "NOHYPHEN keeps a change of its text",
@@ -187,7 +187,7 @@ fn a_file_gives_an_extended_dictionary(rt: HostRuntime) -> Result<(), Fail> {
 const ELEVEN_KINDS: &[u8] =
     b"UTF-8\nCOMPOUNDLEFTHYPHENMIN 3\nNOHYPHEN q\na12b\n.1.\ncd\na3b\nn1o/n=o,1,1,1\nn1p/n=p,1,x\nn1q/n=q=,1,1\n";
 
-// What a file shows, its bytes, and the first line and the number of a note on it; `None` if there is no such note.
+// Each row: what a file shows, its bytes, and the first line and the number of a note on it; `None` if there is no such note.
 const NOTED: [(&str, &[u8], NoteKind, Option<(usize, u64)>); 40] = [
     (
         "no level is noted",
@@ -450,7 +450,7 @@ fn what_is_left_out_or_decided_is_noted(rt: HostRuntime) -> Result<(), Fail> {
     Ok(())
 }
 
-// What a file shows, its bytes, and the line and the cause of its refusal.
+// Each row: what a file shows, its bytes, and the line and the cause of its refusal.
 const REFUSED: [(&str, &[u8], usize, FileCause); 5] = [
     (
         "a charset is a known one",

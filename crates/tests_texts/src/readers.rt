@@ -25,9 +25,9 @@ const EXTENDED: &[u8] = b"hyphenation 1 extended\nlanguage hu\nminima 2 2\np a1b
 // How often a reader fails.
 #[derive(Clone, Copy)]
 enum Fails {
-    // Of reads of two bytes, the one of the number.
+    // The read of that number fails, and each takes two bytes.
     Once,
-    // Of reads of one byte, the one of the number and all after it.
+    // The read of that number fails, and all after it; each takes one byte.
     FromThen,
 }
 

@@ -35,7 +35,7 @@ fn dictionary_of(alloc: Global, files: Files) -> Result<Standard, ConvertError> 
     convert(alloc, Language::english_us(), 2, 3, &files)
 }
 
-// What files show, the files, and the lines that they give after a head.
+// Each row: what files show, the files, and the lines that they give after a head.
 const GIVEN: [(&str, Files, &str); 3] = [
     (
         "groups of a TeX file give their patterns and exceptions",
@@ -73,7 +73,7 @@ fn files_give_their_patterns_and_exceptions(rt: HostRuntime) -> Result<(), Fail>
     Ok(())
 }
 
-// What files show, the files, and the file, the line and the cause of their refusal.
+// Each row: what files show, the files, and the file, the line and the cause of their refusal.
 const REFUSED: [(&str, Files, usize, usize, FileCause); 14] = [
     (
         "a group is closed",
@@ -190,7 +190,7 @@ fn the_first_fault_of_files_is_reported(rt: HostRuntime) -> Result<(), Fail> {
 const HEAD: &[u8] =
     b"% hyphenmins:\n% typesetting:\n% left: 2\n% right: 3\n% generation:\n% left: 1\n% right: 1\n";
 
-// What heads show, a given left minimum, files, and the minima that count.
+// Each row: what heads show, a given left minimum, files, and the minima that count.
 const MINIMA: [(&str, Option<u8>, Files, Option<(u8, u8)>); 7] = [
     (
         "the minima of typesetting count after those of generation",
@@ -280,7 +280,7 @@ fn notes_of(alloc: Global, files: &[File<'_>]) -> Result<Vec<NoteParts>, Fail> {
     Ok(notes)
 }
 
-// What files show, the files, and all notes on them.
+// Each row: what files show, the files, and all notes on them.
 const NOTED: [(&str, Files, &[NoteParts]); 6] = [
     (
         "repeated keys and words are noted, and capitals",

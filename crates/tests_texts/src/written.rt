@@ -10,7 +10,7 @@ use test_support::readers::one_byte_reads;
 use test_support::writers::failing_at;
 use test_support::{expect, expect_equal_bytes};
 
-// What lines show, the lines that are read, and those that are written.
+// Each row: what lines show, the lines that are read, and those that are written.
 type Row = (&'static str, &'static str, &'static str);
 
 // The first line of a text that is read, the end of its last line, and the first line of the text that is written.
@@ -181,7 +181,7 @@ fn expect_tables<D: Load + Drop>(alloc: Global, tables: &[Table]) -> Result<(), 
     Ok(())
 }
 
-// What a whole text shows, the text that is read, and the one that is written.
+// Each row: what a whole text shows, the text that is read, and the one that is written.
 type Whole = (&'static str, &'static [u8], &'static [u8]);
 
 const WHOLE: [Whole; 6] = [
