@@ -2,7 +2,7 @@
 use Rattle.std.specs.Prelude.{ℕ, List, [], ◌∷◌, ◌++◌}
 use Rattle.hyphenation_breaks.specs.Break.{Break}
 use Rattle.hyphenation_writer.specs.Canonical.{with_line_feeds}
-use Rattle.line_filling.specs.Lines.{lines_by}
+use Rattle.linefill.specs.Lines.{lines_by}
 
 -- The line feed of a paragraph that has no lines.
 abbrev pub empty_line : List ℕ → List ℕ

@@ -18,17 +18,18 @@ use hyphenation_breaks::entry::{Listing, Payload};
 use hyphenation_breaks::extended::Subregion;
 use hyphenation_grammar::form::Kind;
 use hyphenation_load::{Error, Load, is_out_of_memory};
-use pattern_files::convert::{Converted, convert_with_notes};
-use pattern_files::errors::ConvertError;
-use pattern_files::group::{File, Form};
-use pattern_files::head_minima::minima_for;
-use pattern_files::libreoffice::convert_dic;
-use pattern_files::notes::Note;
+use libreoffice_files::dic::convert_dic;
+use pattern_results::converted::Converted;
+use pattern_results::errors::ConvertError;
+use pattern_results::notes::Note;
 use request::{BadArgs, Input, Request, form_of};
 use std::alloc::{AllocError, Global};
 use std::fs::Files;
 use std::io::{Read, Write};
 use std::{fs, io};
+use tex_files::convert::convert_with_notes;
+use tex_files::group::{File, Form};
+use tex_files::head_minima::minima_for;
 
 /// The name of the program.
 pub const NAME: &str = "hyphenate-convert";

@@ -8,7 +8,7 @@ ghost use Rattle.convert_command.specs.Private.Requests.{parsed_request};
 use hyphenation_breaks::language::Language;
 use hyphenation_grammar::form::Kind;
 use hyphenation_grammar::lines::strip_prefix;
-use pattern_files::group::{Form, Group};
+use tex_files::group::{Form, Group};
 
 /// The sort of the files.
 #[derive(Drop)]

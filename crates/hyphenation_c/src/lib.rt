@@ -1,51 +1,22 @@
 //! Hyphenation for C, and for languages that call C: `bindings/c/hyphenation.h` declares and explains the calls.
 //!
-//! A [`handle::Handle`] lies in the caller's memory, and holds one dictionary or none. Each call but
-//! `hyphenation_free` returns a status ([`statuses`]). A call writes what it finds into a buffer of the caller's. If
-//! the buffer is too short, it stays unchanged, and the count says how much room is wanted. No memory passes from one
-//! side to the other.
+//! Each export calls a function of the crate [`c_calls`], which says more of it, and has the same clauses.
 #![tactic(auto)]
 
 ghost use Rattle.std.specs.Prelude.{◌≡◌, None};
-ghost use Rattle.hyphenation_c.specs.Dictionaries.{holds};
-ghost use Rattle.hyphenation_c.specs.Lists.{WritesLists};
-ghost use Rattle.hyphenation_c.specs.Patterns.{LoadsDic};
-ghost use Rattle.hyphenation_c.specs.Statuses.{kind_numbered, Loads, Shares, Edits, WritesLanguage, WritesMinima};
-ghost use Rattle.hyphenation_c.specs.Statuses.{WritesBreaks, WritesValues, Changes, into, loading};
-ghost use Rattle.hyphenation_c.specs.Statuses.{WritesMarkedText, WritesLines, WritesCanonicalText};
-ghost use Rattle.hyphenation_c.specs.TexFiles.{LoadsPatterns, PlacesFault};
+ghost use Rattle.c_calls.specs.Dictionaries.{holds};
+ghost use Rattle.c_calls.specs.Lists.{WritesLists};
+ghost use Rattle.c_calls.specs.Patterns.{LoadsDic};
+ghost use Rattle.c_calls.specs.Statuses.{kind_numbered, Loads, Shares, Edits, WritesLanguage, WritesMinima};
+ghost use Rattle.c_calls.specs.Statuses.{WritesBreaks, WritesValues, Changes, into, loading};
+ghost use Rattle.c_calls.specs.Statuses.{WritesMarkedText, WritesLines, WritesCanonicalText};
+ghost use Rattle.c_calls.specs.TexFiles.{LoadsPatterns, PlacesFault};
 
-pub mod buffers;
-pub mod calls;
-pub mod changes;
-pub mod edits;
-pub mod handle;
-pub mod lists;
-pub mod loaded;
-pub mod numbers;
-pub mod patterns;
-pub mod room;
-pub mod statuses;
-#[cfg(test)]
-mod tests;
-pub mod tex;
-pub mod utf8;
-pub mod values;
-
-use changes::BreakChange;
-use handle::Handle;
-use hyphenation_reader::reader::Refusal;
-use patterns::Failure;
-use statuses::{
-    DONE, NO_DICTIONARY, NO_LANGUAGE, NO_MINIMA, NOT_UTF8, OTHER_KIND, OUT_OF_MEMORY, REFUSED,
-};
+use c_calls::changes::BreakChange;
+use c_calls::handle::Handle;
 use std::alloc::Global;
-use tex::NoDictionary;
 
 /// Loads a dictionary of a kind from its text. It takes the place of the dictionary that the handle held.
-///
-/// The kind is 0 for a standard dictionary, and 1 for an extended one. For a refused text (`REFUSED`) the first faulty
-/// line, counted from 1, and the number of its cause are written. With each status but `DONE` the handle is unchanged.
 #[unsafe(no_mangle)]
 pub extern "C" fn hyphenation_load(
     alloc: Global,
@@ -58,33 +29,10 @@ pub extern "C" fn hyphenation_load(
     ensures loads { Loads (kind_numbered kind) bytes.now
         (loading (holds handle.old) (holds handle.new) (line.old, cause.old) (line.new, cause.new)) result }
 {
-    let Some(kind) = numbers::kind_numbered(kind) else {
-        return OTHER_KIND;
-    };
-    match calls::load(alloc, kind, bytes) {
-        Ok(loaded) => {
-            handle.put(alloc, loaded);
-            DONE
-        }
-        Err(
-            Refusal::Fault {
-                line: at,
-                cause: why,
-            },
-        ) => {
-            *line = at;
-            *cause = numbers::cause_number(why);
-            REFUSED
-        }
-        Err(Refusal::Memory) => OUT_OF_MEMORY,
-    }
+    c_calls::load(alloc, kind, bytes, handle, line, cause)
 }
 
 /// Makes a dictionary of a kind of LibreOffice's `.dic`. It takes the place of the dictionary that the handle held.
-///
-/// The language is a code such as `en-us`. A minimum above 255 is the one that the file says, or 2. For a refused file
-/// (`REFUSED`) the line of its first fault, counted from 1, and the number of its cause, from 21 on, are written. With
-/// each status but `DONE` the handle is unchanged.
 #[unsafe(no_mangle)]
 pub extern "C" fn hyphenation_load_dic(
     alloc: Global,
@@ -100,33 +48,10 @@ pub extern "C" fn hyphenation_load_dic(
     ensures loads { LoadsDic kind left right code.now bytes.now
         (loading (holds handle.old) (holds handle.new) (line.old, cause.old) (line.new, cause.new)) result }
 {
-    let Some(kind) = numbers::kind_numbered(kind) else {
-        return OTHER_KIND;
-    };
-    let left = patterns::minimum_given(left);
-    let right = patterns::minimum_given(right);
-    match patterns::load_dic(alloc, kind, code, left, right, bytes) {
-        Ok(loaded) => {
-            handle.put(alloc, loaded);
-            DONE
-        }
-        Err(Failure::Fault(at, why)) => {
-            *line = at;
-            *cause = patterns::pattern_cause_number(why);
-            REFUSED
-        }
-        Err(Failure::Memory) => OUT_OF_MEMORY,
-        Err(Failure::NotUtf8) => NOT_UTF8,
-        Err(Failure::NotCode) => NO_LANGUAGE,
-    }
+    c_calls::load_dic(alloc, kind, code, left, right, bytes, handle, line, cause)
 }
 
 /// Makes a dictionary of a kind of a TeX file of patterns, or of a plain one, and of a plain file of exceptions.
-///
-/// The form is 0 for a TeX file, and 1 for a plain one. The file of exceptions may be empty. A minimum above 255 is the
-/// one in the head of the TeX file, as those of hyph-utf8 have it; `NO_MINIMA` if none is there. For a refused file
-/// (`REFUSED`) its number is written, which is 0 or 1, with the line of its first fault, counted from 1, and the number
-/// of the cause, from 21 on. With each status but `DONE` the handle is unchanged.
 #[unsafe(no_mangle)]
 pub extern "C" fn hyphenation_load_patterns(
     alloc: Global,
@@ -147,30 +72,9 @@ pub extern "C" fn hyphenation_load_patterns(
     ensures fault { PlacesFault form bytes.entry exceptions.entry (file.old, (line.old, cause.old))
         (file.new, (line.new, cause.new)) result }
 {
-    let Some(kind) = numbers::kind_numbered(kind) else {
-        return OTHER_KIND;
-    };
-    let Some(form) = tex::form_numbered(form) else {
-        return OTHER_KIND;
-    };
-    let left = patterns::minimum_given(left);
-    let right = patterns::minimum_given(right);
-    match tex::load_patterns(alloc, kind, code, left, right, form, bytes, exceptions) {
-        Ok(loaded) => {
-            handle.put(alloc, loaded);
-            DONE
-        }
-        Err(NoDictionary::Fault(number, at, why)) => {
-            *file = number;
-            *line = at;
-            *cause = patterns::pattern_cause_number(why);
-            REFUSED
-        }
-        Err(NoDictionary::Memory) => OUT_OF_MEMORY,
-        Err(NoDictionary::NotUtf8) => NOT_UTF8,
-        Err(NoDictionary::NotCode) => NO_LANGUAGE,
-        Err(NoDictionary::NoMinima) => NO_MINIMA,
-    }
+    c_calls::load_patterns(
+        alloc, kind, form, code, left, right, bytes, exceptions, handle, file, line, cause,
+    )
 }
 
 /// Frees the dictionary that the handle holds, if it holds one. The handle holds none afterwards.
@@ -178,46 +82,24 @@ pub extern "C" fn hyphenation_load_patterns(
 pub extern "C" fn hyphenation_free(alloc: Global, handle: &mut Handle)
     ensures empty { holds handle.new ≡ None }
 {
-    drop(handle.take(alloc));
+    c_calls::free(alloc, handle);
 }
 
 /// Lets another handle hold the same dictionary, for another thread for example. Nothing is copied.
-///
-/// It takes the place of the dictionary that the other handle held. With each status but `DONE` the other handle is
-/// unchanged; this one is so always.
 #[unsafe(no_mangle)]
 pub extern "C" fn hyphenation_share(alloc: Global, handle: &mut Handle, other: &mut Handle) -> u32
     ensures unchanged { holds handle.new ≡ holds handle.old }
     ensures shares { Shares (holds handle.old) (holds other.old) (holds other.new) result }
 {
-    let Some(loaded) = handle.take(alloc) else {
-        return NO_DICTIONARY;
-    };
-    let shared = calls::share(alloc, &loaded);
-    *handle = Handle::of(loaded);
-    match shared {
-        Some(shared) => {
-            other.put(alloc, shared);
-            DONE
-        }
-        None => OUT_OF_MEMORY,
-    }
+    c_calls::share(alloc, handle, other)
 }
 
 /// Edits the exceptions: `+` and an exception as it stands after `e ` in a dictionary text, or `-` and a word.
-///
-/// Other handles with the same dictionary are unchanged: if there are any, this handle holds an edited copy afterwards.
-/// A faulty edit is `REFUSED`. With each status but `DONE` the dictionary is unchanged.
 #[unsafe(no_mangle)]
 pub extern "C" fn hyphenation_edit(alloc: Global, handle: &mut Handle, edit: &[u8]) -> u32
     ensures edits { Edits (holds handle.old) (holds handle.new) edit.now result }
 {
-    let Some(mut loaded) = handle.take(alloc) else {
-        return NO_DICTIONARY;
-    };
-    let status = edits::edit(&mut loaded, alloc, edit);
-    *handle = Handle::of(loaded);
-    status
+    c_calls::edit(alloc, handle, edit)
 }
 
 /// Writes the code of the dictionary's language to the front of a buffer: at most 32 bytes.
@@ -231,12 +113,7 @@ pub extern "C" fn hyphenation_language(
     ensures unchanged { handle.new.slot.kept ≡ handle.old.slot.kept }
     ensures language { WritesLanguage (holds handle.old) code.old code.new count.old count.new result }
 {
-    let Some(loaded) = handle.take(alloc) else {
-        return NO_DICTIONARY;
-    };
-    let status = calls::write_language(&loaded, code, count);
-    *handle = Handle::of(loaded);
-    status
+    c_calls::write_language(alloc, handle, code, count)
 }
 
 /// Writes the least numbers of characters of a word before its first break and after its last one.
@@ -250,14 +127,7 @@ pub extern "C" fn hyphenation_minima(
     ensures unchanged { handle.new.slot.kept ≡ handle.old.slot.kept }
     ensures minima { WritesMinima (holds handle.old) (left.old, right.old) (left.new, right.new) result }
 {
-    let Some(loaded) = handle.take(alloc) else {
-        return NO_DICTIONARY;
-    };
-    let minima = calls::minima_in(&loaded);
-    *handle = Handle::of(loaded);
-    *left = minima.0;
-    *right = minima.1;
-    DONE
+    c_calls::write_minima(alloc, handle, left, right)
 }
 
 /// Writes the places of a word's breaks, in bytes, to the front of a buffer.
@@ -273,20 +143,11 @@ pub extern "C" fn hyphenation_breaks(
     ensures breaks { WritesBreaks (holds handle.old) word.now places.old places.new count.old count.new
         result }
 {
-    let Some(loaded) = handle.take(alloc) else {
-        return NO_DICTIONARY;
-    };
-    let status = calls::write_breaks(&loaded, alloc, word, places, count);
-    *handle = Handle::of(loaded);
-    status
+    c_calls::write_breaks(alloc, handle, word, places, count)
 }
 
 /// Writes the places of the breaks of a list of words to the front of one buffer, and the ends of the words' places to
 /// the front of another one.
-///
-/// The words stand one after the other in a text, and each has its end in it. Places are counted from the begin of their
-/// word, in bytes. The places of a word end where those of the next one begin. A word that ends before it begins, or
-/// after the text, is `BAD_ENDS`.
 #[unsafe(no_mangle)]
 pub extern "C" fn hyphenation_breaks_of_words(
     alloc: Global,
@@ -302,18 +163,10 @@ pub extern "C" fn hyphenation_breaks_of_words(
     ensures list { WritesLists (holds handle.old) text.now ends.now (into list.old list.new count.old count.new)
         (into last.old last.new size.old size.new) result }
 {
-    let Some(loaded) = handle.take(alloc) else {
-        return NO_DICTIONARY;
-    };
-    let status = lists::write_breaks_of_words(&loaded, alloc, text, ends, list, count, last, size);
-    *handle = Handle::of(loaded);
-    status
+    c_calls::write_breaks_of_words(alloc, handle, text, ends, list, count, last, size)
 }
 
 /// Writes the values of a word's places, from place 1 on, to the front of a buffer.
-///
-/// A place is a number of bytes before it. The values are those of the patterns alone, for the word as it is written:
-/// capitals are not made small, and neither the exceptions nor the minima are looked at.
 #[unsafe(no_mangle)]
 pub extern "C" fn hyphenation_values(
     alloc: Global,
@@ -326,12 +179,7 @@ pub extern "C" fn hyphenation_values(
     ensures values { WritesValues (holds handle.old) word.now values.old values.new count.old count.new
         result }
 {
-    let Some(loaded) = handle.take(alloc) else {
-        return NO_DICTIONARY;
-    };
-    let status = values::write_values(&loaded, alloc, word, values, count);
-    *handle = Handle::of(loaded);
-    status
+    c_calls::write_values(alloc, handle, word, values, count)
 }
 
 /// Writes a word's breaks and the changes that they make to the front of one buffer, and the texts of the changes to
@@ -350,12 +198,7 @@ pub extern "C" fn hyphenation_changes(
     ensures changes { Changes (holds handle.old) word.now (into changes.old changes.new count.old count.new)
         (into text.old text.new size.old size.new) result }
 {
-    let Some(loaded) = handle.take(alloc) else {
-        return NO_DICTIONARY;
-    };
-    let status = calls::write_changes(&loaded, alloc, word, changes, count, text, size);
-    *handle = Handle::of(loaded);
-    status
+    c_calls::write_changes(alloc, handle, word, changes, count, text, size)
 }
 
 /// Writes a text with the mark at each break of its words to the front of a buffer.
@@ -372,17 +215,10 @@ pub extern "C" fn hyphenation_text(
     ensures text { WritesMarkedText (holds handle.old) text.now mark.now buffer.old buffer.new count.old
         count.new result }
 {
-    let Some(loaded) = handle.take(alloc) else {
-        return NO_DICTIONARY;
-    };
-    let status = calls::write_text(&loaded, alloc, text, mark, buffer, count);
-    *handle = Handle::of(loaded);
-    status
+    c_calls::write_text(alloc, handle, text, mark, buffer, count)
 }
 
 /// Writes the lines of a text, each with a line feed after it, to the front of a buffer.
-///
-/// A line has at most so many characters, if the text can be divided so. An extended dictionary is `OTHER_KIND`.
 #[unsafe(no_mangle)]
 pub extern "C" fn hyphenation_fill(
     alloc: Global,
@@ -396,12 +232,7 @@ pub extern "C" fn hyphenation_fill(
     ensures lines { WritesLines (holds handle.old) text.now columns buffer.old buffer.new count.old count.new
         result }
 {
-    let Some(loaded) = handle.take(alloc) else {
-        return NO_DICTIONARY;
-    };
-    let status = calls::write_lines(&loaded, alloc, text, columns, buffer, count);
-    *handle = Handle::of(loaded);
-    status
+    c_calls::write_lines(alloc, handle, text, columns, buffer, count)
 }
 
 /// Writes the dictionary's canonical text to the front of a buffer.
@@ -416,10 +247,5 @@ pub extern "C" fn hyphenation_write(
     ensures canonical { WritesCanonicalText (holds handle.old) buffer.old buffer.new count.old count.new
         result }
 {
-    let Some(loaded) = handle.take(alloc) else {
-        return NO_DICTIONARY;
-    };
-    let status = calls::write_canonical_text(&loaded, alloc, buffer, count);
-    *handle = Handle::of(loaded);
-    status
+    c_calls::write_canonical_text(alloc, handle, buffer, count)
 }

@@ -1,1 +1,4 @@
--- Definitions for private functions and proofs. No contract of a public call cites them, so they are not for signing.
+-- Definitions for private functions and proofs. No contract of a public call cites them, so they need no signature.
+pub mod Filling
+pub mod OpenLine
+pub mod WordBreaks

@@ -5,7 +5,7 @@ use Rattle.hyphenation_breaks.specs.Dictionary.{Contents}
 use Rattle.hyphenation_grammar.specs.Reading.{standard_contents}
 use Rattle.hyphenation_hyphenator.specs.Opportunities.{no_change, rules_of, all_breaks_of}
 use Rattle.hyphenation_writer.specs.Canonical.{with_line_feeds}
-use Rattle.line_filling.specs.Lines.{lines_by}
+use Rattle.linefill.specs.Lines.{lines_by}
 
 -- The lines of a text by a standard dictionary, each with a line feed after it.
 abbrev pub filled_text : ℕ → Contents (Unit {0}) ℕ → List ℕ → List ℕ

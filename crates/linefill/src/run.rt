@@ -8,9 +8,9 @@ ghost use Rattle.hyphenation.specs.Engine.{BeforeReading, BeforeWriting, HidesNo
 ghost use Rattle.linefill.specs.Run.{filled_text, fill_output};
 ghost use Rattle.hyphenation_writer.specs.Canonical.{with_line_feeds};
 
+use crate::filling::fill;
 use hyphenation::engine::{Kind, RunError, read_input};
 use hyphenation::{Language, Load, Standard};
-use line_filling::fill;
 use std::alloc::{AllocError, Global};
 use std::io::{Read, Write};
 

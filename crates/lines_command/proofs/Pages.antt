@@ -2,7 +2,7 @@
 use Rattle.std.proofs.Common.{◌≡◌, ℕ, List, subst}
 use Rattle.hyphenation_breaks.specs.Break.{Break}
 use Rattle.paragraphs.specs.Pages.{IsPage}
-use Rattle.paragraphs.specs.Words.{Style}
+use Rattle.paragraphs.specs.Parts.{Style}
 use Rattle.paragraphs.specs.declared.setting.Aim.{Aim}
 
 pub page_as : (aim aim_for : Aim) (breaks_of breaks_by : List ℕ → List Break) (style style_for : Style) (columns : ℕ) (text text_of : List ℕ) (lines : List (List ℕ))

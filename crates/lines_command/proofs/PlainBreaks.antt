@@ -13,7 +13,7 @@ use Rattle.hyphenation_hyphenator.specs.Folding.{fold_case}
 use Rattle.hyphenation_hyphenator.specs.Opportunities.{no_change, within, winning_break, breaks_at_odd_values, standard_rules, breaks_within, boundaries_by, opportunities_in, opportunities, break_carried_back, breaks_as_written, all_breaks_of}
 use Rattle.hyphenation_hyphenator.specs.SoftHyphens.{soft_hyphens}
 use Rattle.lines_command.specs.Written.{breaks_by, PlainIfStandard}
-use Rattle.paragraphs.specs.Words.{IsPlain, ArePlain}
+use Rattle.paragraphs.specs.Parts.{IsPlain, ArePlain}
 
 plain_breaks : (places : List ℕ) → All IsPlain (map plain_break places)
 plain_breaks places = All-map IsPlain plain_break places (λ k d lt. refl)

@@ -3,7 +3,7 @@ use Rattle.std.specs.Prelude.{ℕ, ◌^◌, nat_lt, ◌&&◌, not, Bool, true, f
 use Rattle.std.specs.Borrow.{Bor}
 use Rattle.hyphenation_breaks.specs.Language.{is_code}
 use Rattle.hyphenation_grammar.specs.Lines.{is_same, starts_with, number_of}
-use Rattle.paragraphs.specs.Words.{Style}
+use Rattle.paragraphs.specs.Parts.{Style}
 use Rattle.paragraphs.specs.declared.setting.Aim.{Aim}
 use Rattle.paragraphs.specs.declared.setting.Aim.TheVariants.{Full, Even}
 

@@ -15,8 +15,8 @@ use Rattle.hyphenation_hyphenator.specs.Fitting.{fitted_breaks_of}
 use Rattle.hyphenation_hyphenator.specs.Opportunities.{all_breaks_of, standard_rules, extended_rules}
 use Rattle.hyphenation_load.specs.Load.{language_of_text, IsAcceptedIn}
 use Rattle.paragraphs.specs.Pages.{IsPage, HasTooLong}
-use Rattle.paragraphs.specs.Words.{ArePlain}
-use Rattle.text_paragraphs.specs.Paragraphs.{ended, paragraphs}
+use Rattle.paragraphs.specs.Parts.{ArePlain}
+use Rattle.paragraphs.specs.Paragraphs.{ended, paragraphs}
 use Rattle.lines_command.specs.Arguments.{ParsedArgs, parsed_args, style_for, aim_for}
 
 -- The line is the head of an extended dictionary.

@@ -12,7 +12,7 @@ ghost use Rattle.lines_command.specs.Private.Statuses.{JudgesDictionary, JudgesI
 ghost use Rattle.lines_command.specs.Written.{is_extended_head, kind_by_head, kind_in, FillsInput, ReturnsLines, WritesLines};
 ghost use Rattle.paragraphs.specs.Pages.{HasTooLong, IsPage};
 ghost use Rattle.paragraphs.specs.Styles.{style_of};
-ghost use Rattle.text_paragraphs.specs.Paragraphs.{ended, paragraphs};
+ghost use Rattle.paragraphs.specs.Paragraphs.{ended, paragraphs};
 
 use crate::request::Request;
 use hyphenation_breaks::language::Language;

@@ -14,3 +14,6 @@ pub mod PlainWords
 mod OnePiece
 mod BareParts
 mod Places
+pub mod WordLists
+pub mod LinePieces
+pub mod GatheredWords

@@ -8,7 +8,7 @@ use Rattle.hyphenation_breaks.specs.Break.{Break}
 use Rattle.line_division.specs.declared.stretch.Stretch.{Stretch}
 use Rattle.line_division.specs.Lines.{stretch_at}
 use Rattle.paragraphs.specs.Settings.{Setting}
-use Rattle.paragraphs.specs.Words.{Style, word_parts, other_parts, parts_of}
+use Rattle.paragraphs.specs.Parts.{Style, word_parts, other_parts, parts_of}
 use Rattle.paragraphs.specs.declared.mixed.Mixed.{Mixed}
 use Rattle.paragraphs.specs.Private.MixedParts.{Adds, AddsUpTo}
 use Rattle.paragraphs.specs.Private.PartSettings.{settings_of}

@@ -4,7 +4,7 @@ use Rattle.std.specs.List.{flat_map}
 use Rattle.unicode_segmentation.specs.Segments.{with_offsets}
 use Rattle.unicode_segmentation.specs.Word.{word_bounds}
 use Rattle.hyphenation_breaks.specs.Break.{Break}
-use Rattle.paragraphs.specs.Words.{breaks_in, word_breaks}
+use Rattle.paragraphs.specs.Parts.{breaks_in, word_breaks}
 
 pub one_piece_offsets : (word : List ℕ) → word_bounds word ≡ word ∷ [] → with_offsets 0 (word_bounds word) ≡ (0, word) ∷ []
 unfolding with_offsets

@@ -8,9 +8,9 @@ use Rattle.hyphenation_breaks.specs.Break.{Break}
 use Rattle.paragraphs.specs.declared.setting.Aim.{Aim}
 use Rattle.paragraphs.specs.Pages.{IsFilled, AreFilled, apart, IsPage, HasTooLong}
 use Rattle.paragraphs.specs.Settings.{IsTooLong}
-use Rattle.paragraphs.specs.Words.{Style, parts_of}
-use Rattle.text_paragraphs.specs.Words.{words}
-use Rattle.text_paragraphs.specs.Paragraphs.{paragraphs}
+use Rattle.paragraphs.specs.Parts.{Style, parts_of}
+use Rattle.paragraphs.specs.Words.{words}
+use Rattle.paragraphs.specs.Paragraphs.{paragraphs}
 
 filled_more : (aim : Aim) (breaks_of : List ℕ → List Break) (style : Style) (columns : ℕ) (texts : List (List ℕ)) (rows : List (List (List ℕ))) (text : List ℕ) (lines : List (List ℕ))
     → AreFilled aim breaks_of style columns texts rows → IsFilled aim breaks_of style columns text lines → AreFilled aim breaks_of style columns (texts ++ text ∷ []) (rows ++ lines ∷ [])

@@ -15,7 +15,7 @@ use Rattle.paragraphs.specs.Private.PartSettings.{setting_of}
 use Rattle.paragraphs.specs.Private.Places.{StandsIn, AllStandIn, WordStands, IsSliceOf, end_of_word, slice_bytes}
 use Rattle.paragraphs.proofs.Printable.{printable_shown}
 use Rattle.paragraphs.proofs.ShiftedBreaks.{in_piece}
-use Rattle.text_paragraphs.specs.Words.{EndsIn}
+use Rattle.paragraphs.specs.Words.{EndsIn}
 use Rattle.word_pieces.specs.Pieces.{IsSlice}
 
 -- ---- slices of slices

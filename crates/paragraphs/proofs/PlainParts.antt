@@ -9,7 +9,7 @@ use Rattle.hyphenation_breaks.specs.Break.{Break, end_of, after_of}
 use Rattle.line_division.specs.Greedy.{IsOrderly}
 use Rattle.line_division.specs.Lines.{no_stretch, stretch_at}
 use Rattle.paragraphs.specs.Settings.{Setting, no_setting, setting_at, stretch_of, columns_of}
-use Rattle.paragraphs.specs.Words.{Style, set_off, breaks_in, word_breaks, parts_it, part_at, parts_from, word_parts, parts_of, IsPlain, ArePlain}
+use Rattle.paragraphs.specs.Parts.{Style, set_off, breaks_in, word_breaks, parts_it, part_at, parts_from, word_parts, parts_of, IsPlain, ArePlain}
 
 -- Each of the breaks is plain.
 abbrev EachPlain : List Break → Type 0

@@ -13,7 +13,7 @@ use Rattle.std.proofs.Math.Seq.{take-append_seam}
 use Rattle.paragraphs.specs.Private.Plain.{is_plain, is_ascii_gap, AreLetters, EachBetween, EndsAt, IsPlainWord, in_a_row, IsRun}
 use Rattle.paragraphs.specs.Private.Printable.{is_printable}
 use Rattle.paragraphs.proofs.Printable.{both_printable}
-use Rattle.text_paragraphs.specs.Words.{is_gap, if_any, words_after, words}
+use Rattle.paragraphs.specs.Words.{is_gap, if_any, words_after, words}
 
 -- ---- bytes
 

@@ -6,7 +6,7 @@ use Rattle.std.proofs.lemmas.List.Edits.{get_or-between}
 use Rattle.hyphenation_breaks.specs.Break.{Break, begin_of, end_of}
 use Rattle.hyphenation_segments.specs.Fits.{FitsFrom, BreakFitsAfter}
 use Rattle.word_pieces.specs.Pieces.{IsSlice}
-use Rattle.paragraphs.specs.Words.{set_off}
+use Rattle.paragraphs.specs.Parts.{set_off}
 
 -- A character boundary of a piece is one of the word.
 pub in_piece : (word : List ℕ) (x : ℕ × List ℕ) (b : ℕ) → IsSlice word x → IsCharBoundary x.1 b → IsCharBoundary word (x.0 + b)

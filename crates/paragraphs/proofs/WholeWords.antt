@@ -9,7 +9,7 @@ use Rattle.std.proofs.lemmas.List.Sums.{sum_by-cons, sum_by-append}
 use Rattle.hyphenation_breaks.specs.Break.{Break, begin_of, end_of, after_of}
 use Rattle.line_division.specs.Lines.{joined_width}
 use Rattle.paragraphs.specs.Settings.{Setting, stretch_of, shown, shown_text, columns_of}
-use Rattle.paragraphs.specs.Words.{Style, parts_it, part_at, parts_from, word_parts, word_breaks}
+use Rattle.paragraphs.specs.Parts.{Style, parts_it, part_at, parts_from, word_parts, word_breaks}
 use Rattle.paragraphs.specs.Private.Entries.{StandsFor, tail_text, tail_width}
 use Rattle.paragraphs.specs.Private.Plain.{in_a_row, IsRow}
 use Rattle.paragraphs.specs.Private.Printable.{is_printable}

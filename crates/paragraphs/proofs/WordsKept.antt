@@ -6,7 +6,7 @@ use Rattle.std.proofs.lemmas.Grind.{flat_map-append}
 use Rattle.std.proofs.lemmas.List.Folds.{drop_split}
 use Rattle.hyphenation_breaks.specs.Break.{Break, begin_of, end_of, after_of, before_of}
 use Rattle.paragraphs.specs.Settings.{Setting, joined_text}
-use Rattle.paragraphs.specs.Words.{Style, parts_it, parts_from, word_parts, word_breaks, spaced, KeepWords}
+use Rattle.paragraphs.specs.Parts.{Style, parts_it, parts_from, word_parts, word_breaks, spaced, KeepWords}
 
 -- The parts from a place on, in one line, are the word from there on, and a space.
 kept_from : (style : Style) (word opening : List ℕ) (from : ℕ) (bs : List Break)

@@ -6,7 +6,7 @@ use Rattle.line_division.specs.declared.stretch.Stretch.{Stretch}
 use Rattle.line_division.specs.Division.{Divides, CostsLeast, FitsIfAny, KeepsLadderIfAny, IsFewest}
 use Rattle.line_division.specs.Greedy.{AreFurthest, IsOrderly}
 use Rattle.paragraphs.specs.Settings.{Setting, stretch_of, joined_text, lines_to, unbroken_to}
-use Rattle.paragraphs.specs.Words.{Style, parts_of, ArePlain}
+use Rattle.paragraphs.specs.Parts.{Style, parts_of, ArePlain}
 use Rattle.paragraphs.specs.declared.setting.Aim.{Aim}
 use Rattle.paragraphs.specs.declared.setting.Aim.TheVariants.{Full, Even}
 

@@ -1,6 +1,8 @@
+pub mod Words
+pub mod Paragraphs
 pub mod Settings
 pub mod Aims
-pub mod Words
+pub mod Parts
 pub mod Styles
 pub mod Pages
 pub mod Private

@@ -2,12 +2,12 @@
 use Rattle.std.specs.Prelude.{◌≡◌, ◌⊎◌, ℕ, List, [], ◌∷◌, ◌++◌, ⊤}
 use Rattle.std.specs.List.{flat_map}
 use Rattle.hyphenation_breaks.specs.Break.{Break}
-use Rattle.text_paragraphs.specs.Words.{words}
-use Rattle.text_paragraphs.specs.Paragraphs.{paragraphs}
+use Rattle.paragraphs.specs.Words.{words}
+use Rattle.paragraphs.specs.Paragraphs.{paragraphs}
 use Rattle.paragraphs.specs.declared.setting.Aim.{Aim}
 use Rattle.paragraphs.specs.Aims.{IsSet, IsOrderlyIfPlain}
 use Rattle.paragraphs.specs.Settings.{IsTooLong}
-use Rattle.paragraphs.specs.Words.{Style, parts_of, KeepWords}
+use Rattle.paragraphs.specs.Parts.{Style, parts_of, KeepWords}
 
 -- These are lines of a paragraph, as an aim asks for them, and no word of it is lost. Where no break changes letters, the
 -- paragraph is orderly.

@@ -1,6 +1,6 @@
 -- The style that the code holds, as texts.
 use Rattle.paragraphs.specs.declared.style.Style.{Style}
-use Rattle.paragraphs.specs.Words as words
+use Rattle.paragraphs.specs.Parts as words
 
 -- A style as texts.
 abbrev pub style_of : Style → words.Style

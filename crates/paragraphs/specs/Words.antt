@@ -1,80 +1,30 @@
--- The words of a paragraph, and where they may be broken.
-use Rattle.std.specs.Prelude.{◌≡◌, ℕ, ◌+◌, ◌&&◌, nat_lt, Bool, None, All, if◌then◌else◌, List, [], ◌∷◌, ◌++◌, length, map, drop, slice_range}
-use Rattle.std.specs.List.{flat_map}
-use Rattle.unicode_segmentation.specs.Segments.{with_offsets}
-use Rattle.unicode_segmentation.specs.Word.{word_bounds}
-use Rattle.hyphenation_breaks.specs.Ascii.{space, hyphen}
-use Rattle.hyphenation_breaks.specs.Break.{Break, begin_of, end_of, before_of, after_of}
-use Rattle.paragraphs.specs.Settings.{Setting, joined_text}
+-- The words of a text.
+use Rattle.std.specs.Prelude.{◌≡◌, ℕ, ◌==◌, ◌&&◌, ◌||◌, Bool, not, if◌then◌else◌, List, [], ◌∷◌, ◌++◌, length, chars, encode_utf8}
+use Rattle.std.specs.Char.{is_whitespace}
 
--- A break of a piece that stands after an offset, counted from the beginning of the word.
-abbrev pub set_off : ℕ → Break → Break
-set_off offset b = record { place = offset + b.place; change = b.change }
+-- A no-break space: at it no line ends.
+abbrev pub is_no_break_space : ℕ → Bool
+is_no_break_space c = c == 0xA0 || c == 0x2007 || c == 0x202F
 
--- The breaks of a piece, which stands after an offset.
-abbrev pub breaks_in : (List ℕ → List Break) → ℕ × List ℕ → List Break
-breaks_in breaks_of piece = map (set_off piece.0) (breaks_of piece.1)
+-- A gap between words: white space, but no no-break space.
+abbrev pub is_gap : ℕ → Bool
+is_gap c = is_whitespace c && not (is_no_break_space c)
 
--- The breaks of a word: those of its pieces between word bounds.
-abbrev pub word_breaks : (List ℕ → List Break) → List ℕ → List Break
-word_breaks breaks_of word = flat_map (breaks_in breaks_of) (with_offsets 0 (word_bounds word))
+-- The text alone, or nothing if it is empty.
+abbrev pub if_any : List ℕ → List (List ℕ)
+if_any text = if length text == 0 then [] else text ∷ []
 
--- The indent of the first line, that of the others, and the cost of a line's end at a break of a word.
-pub record Style : Type 0 where
-  pub first : List ℕ
-  pub indent : List ℕ
-  pub price : ℕ
+-- The words of characters, where these bytes of the first word are before them. A gap ends a word, and any other
+-- character goes on with it.
+abbrev pub words_after : List ℕ → List ℕ → List (List ℕ)
+words_after begun [] = if_any begun
+words_after begun (c ∷ cs) =
+    if is_gap c then if_any begun ++ words_after [] cs else words_after (begun ++ encode_utf8 c) cs
 
--- Some of the word is before a break, after the parts that are made already, and some after it.
-abbrev pub parts_it : List ℕ → ℕ → Break → Bool
-parts_it word from b = nat_lt from (begin_of b) && nat_lt (end_of b) (length word)
+-- The words of a text: what stands between its gaps.
+abbrev pub words : List ℕ → List (List ℕ)
+words text = words_after [] (chars text)
 
--- The part of a word from a place up to a break, with this opening.
-abbrev pub part_at : Style → List ℕ → List ℕ → ℕ → Break → Setting
-part_at style word opening from b = record {
-  opening = opening;
-  text = slice_range word from (begin_of b);
-  joint = slice_range word (begin_of b) (end_of b);
-  closing = before_of b.change ++ hyphen ∷ [];
-  price = style.price;
-}
-
--- The parts of a word from a place on, where the first one has this opening: one up to each break, and the last one,
--- with a space between it and the next word.
-abbrev pub parts_from : Style → List ℕ → List ℕ → ℕ → List Break → List Setting
-parts_from style word opening from [] =
-    record { opening = opening; text = drop from word; joint = space ∷ []; closing = []; price = 0 } ∷ []
-parts_from style word opening from (b ∷ bs) =
-    if parts_it word from b
-    then part_at style word opening from b ∷ parts_from style word (style.indent ++ after_of b.change) (end_of b) bs
-    else parts_from style word opening from bs
-
--- The parts of a word, where a line that begins with it has this indent.
-abbrev pub word_parts : (List ℕ → List Break) → Style → List ℕ → List ℕ → List Setting
-word_parts breaks_of style indent word = parts_from style word indent 0 (word_breaks breaks_of word)
-
--- The parts of words, none of which is the first one of its paragraph.
-abbrev pub other_parts : (List ℕ → List Break) → Style → List (List ℕ) → List Setting
-other_parts breaks_of style words = flat_map (word_parts breaks_of style style.indent) words
-
--- The parts of a paragraph, word by word.
-abbrev pub parts_of : (List ℕ → List Break) → Style → List (List ℕ) → List Setting
-parts_of breaks_of style [] = []
-parts_of breaks_of style (word ∷ words) =
-    word_parts breaks_of style style.first word ++ other_parts breaks_of style words
-
--- A break changes nothing.
-abbrev pub IsPlain : Break → Type 0
-IsPlain b = b.change ≡ None
-
--- No break of a word changes letters.
-abbrev pub ArePlain : (List ℕ → List Break) → Type 0
-ArePlain breaks_of = (word : List ℕ) → All IsPlain (breaks_of word)
-
--- A word and a space.
-abbrev pub spaced : List ℕ → List ℕ
-spaced word = word ++ space ∷ []
-
--- The parts of words join to these words, with a space after each.
-abbrev pub KeepWords : (List ℕ → List Break) → Style → List (List ℕ) → Type 0
-KeepWords breaks_of style words = flat_map joined_text (parts_of breaks_of style words) ≡ flat_map spaced words
+-- A text ends in another one.
+abbrev pub EndsIn : List ℕ → List ℕ → Type 0
+EndsIn text rest = (front : List ℕ) × (text ≡ front ++ rest)

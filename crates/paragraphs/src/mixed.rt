@@ -13,8 +13,8 @@ ghost use Rattle.paragraphs.specs.Private.PartSettings.{settings_of};
 ghost use Rattle.paragraphs.specs.Private.Plain.{AreLetters};
 ghost use Rattle.paragraphs.specs.Private.Printable.{is_printable};
 ghost use Rattle.paragraphs.specs.Styles.{style_of};
-ghost use Rattle.paragraphs.specs.Words.{word_parts, other_parts, parts_of};
-ghost use Rattle.text_paragraphs.specs.Words.{words};
+ghost use Rattle.paragraphs.specs.Parts.{word_parts, other_parts, parts_of};
+ghost use Rattle.paragraphs.specs.Words.{words};
 
 use crate::part::Part;
 use crate::plain::{next_word, split_run};

@@ -6,16 +6,16 @@ ghost use Rattle.paragraphs.specs.Pages.{HasTooLong, IsPage};
 ghost use Rattle.paragraphs.specs.Private.Added.{texts_of as texts, AddsLines};
 ghost use Rattle.paragraphs.specs.Settings.{IsTooLong};
 ghost use Rattle.paragraphs.specs.Styles.{style_of};
-ghost use Rattle.paragraphs.specs.Words.{parts_of};
-ghost use Rattle.text_paragraphs.specs.Paragraphs.{paragraphs};
-ghost use Rattle.text_paragraphs.specs.Words.{words};
+ghost use Rattle.paragraphs.specs.Parts.{parts_of};
+ghost use Rattle.paragraphs.specs.Paragraphs.{paragraphs};
+ghost use Rattle.paragraphs.specs.Words.{words};
 
+use crate::gathering::paragraphs_of;
 use crate::setting::Aim;
 use crate::style::Style;
 use crate::text::{FillError, fill};
 use hyphenation_hyphenator::hyphenator::Hyphenator;
 use std::alloc::{AllocError, Global};
-use text_paragraphs::paragraphs_of;
 
 // Appends an empty line.
 fn push_empty_line(alloc: Global, page: &mut Vec<String>) -> Result<(), AllocError>

@@ -7,9 +7,9 @@ ghost use Rattle.std.specs.Char.{is_ascii_alphabetic};
 ghost use Rattle.std.specs.List.{list_all};
 ghost use Rattle.paragraphs.specs.Private.Plain.{is_plain, is_ascii_gap, AreLetters, EachBetween, IsPlainWord, IsRun, BeginsWith};
 ghost use Rattle.paragraphs.specs.Private.Printable.{is_printable};
-ghost use Rattle.text_paragraphs.specs.Words.{words, EndsIn};
+ghost use Rattle.paragraphs.specs.Words.{words, EndsIn};
 
-use text_paragraphs::split_word;
+use crate::words::split_word;
 
 // Tests whether a byte is a printable character of ASCII, but no space.
 #[inline(always)]

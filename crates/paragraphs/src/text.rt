@@ -11,8 +11,8 @@ ghost use Rattle.paragraphs.specs.Private.Plain.{AreLetters};
 ghost use Rattle.paragraphs.specs.Private.Printable.{is_printable};
 ghost use Rattle.paragraphs.specs.Settings.{IsTooLong};
 ghost use Rattle.paragraphs.specs.Styles.{style_of};
-ghost use Rattle.paragraphs.specs.Words.{word_parts, other_parts, parts_of};
-ghost use Rattle.text_paragraphs.specs.Words.{words, EndsIn};
+ghost use Rattle.paragraphs.specs.Parts.{word_parts, other_parts, parts_of};
+ghost use Rattle.paragraphs.specs.Words.{words, EndsIn};
 
 use crate::mixed::{NotFull, full_lines, mixed_of};
 use crate::part::Part;

@@ -9,7 +9,7 @@ ghost use Rattle.paragraphs.specs.Private.Places.{KeepPlaces, PlacesWord, end_of
 ghost use Rattle.paragraphs.specs.Private.Plain.{AreLetters};
 ghost use Rattle.paragraphs.specs.Private.Printable.{is_printable};
 ghost use Rattle.paragraphs.specs.Styles.{style_of};
-ghost use Rattle.paragraphs.specs.Words.{set_off, word_parts};
+ghost use Rattle.paragraphs.specs.Parts.{set_off, word_parts};
 ghost use Rattle.word_pieces.specs.Pieces.{piece_indices_left, IsSlice};
 
 use crate::part::Part;

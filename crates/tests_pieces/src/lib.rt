@@ -1,9 +1,12 @@
-//! Tests of pages that are cut into pieces, and of the elements that are open at their texts.
+//! Tests of pages that are cut into pieces, of the elements that are open at their texts, and of texts that are cut at
+//! word bounds.
 #![tactic(auto)]
 
 #[cfg(test)]
-mod cuttings;
-#[cfg(test)]
 mod open_elements;
 #[cfg(test)]
+mod pages;
+#[cfg(test)]
 mod references;
+#[cfg(test)]
+mod words;

@@ -25,111 +25,171 @@ fn languages_shown(alloc: Global, form: Form, page: &str) -> Result<String, Allo
     Ok(all)
 }
 
-fn expect_languages(alloc: Global, form: Form, cases: &[(&str, &str)]) -> Result<(), Fail> {
-    for (page, wanted) in cases {
-        expect_text_in(*page, languages_shown(alloc, form, page), wanted)?;
-    }
-    Ok(())
-}
-
-// Optional tags (13.1.2.4), and scopes (13.2.4.2).
-const SUPPLIED: &[(&str, &str)] = &[
-    ("<p lang=de>a<p>b<div>c</div>d", "de[a]-[b]-[c]-[d]"),
-    ("<p lang=de>a<em>b<ul><li>c</ul>d", "de[a]de[b]-[c]-[d]"),
+// Optional tags (13.1.2.4), scopes (13.2.4.2), and elements that are left alone. Each row has its sentence, the form of
+// the page, the page, and its texts.
+const LANGUAGES: &[(&str, Form, &str, &str)] = &[
     (
+        "a paragraph ends before the next one, and before a division",
+        Form::Html,
+        "<p lang=de>a<p>b<div>c</div>d",
+        "de[a]-[b]-[c]-[d]",
+    ),
+    (
+        "a list ends a paragraph with the elements in it",
+        Form::Html,
+        "<p lang=de>a<em>b<ul><li>c</ul>d",
+        "de[a]de[b]-[c]-[d]",
+    ),
+    (
+        "an item ends before the next one of its own list",
+        Form::Html,
         "<ul><li lang=de>a<li>b<ul lang=fr><li>c</ul>d</ul>e",
         "de[a]-[b]fr[c]-[d]-[e]",
     ),
     (
+        "a term and a description end before the next one",
+        Form::Html,
         "<dl><dt lang=de>a<dd>b<dd lang=fr>c<dt>d</dl>",
         "de[a]-[b]fr[c]-[d]",
     ),
     (
+        "the caption, the cells, the rows and the bodies of a table end before the next",
+        Form::Html,
         "<table><caption lang=de>a<tr lang=fr><td lang=nl>b<th>c<tr><td>d<tbody><tr><th>e</table>f",
         "de[a]nl[b]fr[c]-[d]-[e]-[f]",
     ),
     (
+        "the head of a table ends before its body, and the body before its foot",
+        Form::Html,
         "<table><thead lang=de><tr><td>a<tbody><tr><td>b<tfoot><tr><td>c</table>",
         "de[a]-[b]-[c]",
     ),
-    ("<table><colgroup lang=de><col><tr><td>a", "-[a]"),
     (
+        "a group of columns ends before a row",
+        Form::Html,
+        "<table><colgroup lang=de><col><tr><td>a",
+        "-[a]",
+    ),
+    (
+        "an option ends before the next one, and a group of them before the next",
+        Form::Html,
         "<select><optgroup lang=de><option lang=fr>a<option>b<optgroup>c</select>",
         "fr(a)de(b)-[c]",
     ),
-    ("<ruby>a<rt lang=de>b<rp>c<rt>d</ruby>", "-[a]de[b]-[c]-[d]"),
     (
+        "ruby texts and their parentheses end before the next",
+        Form::Html,
+        "<ruby>a<rt lang=de>b<rp>c<rt>d</ruby>",
+        "-[a]de[b]-[c]-[d]",
+    ),
+    (
+        "the head ends before the body, whose end tag ends nothing",
+        Form::Html,
         "<head lang=de><meta name=a><body lang=fr>a</body>b",
         "fr[a]fr[b]",
     ),
-    ("<p lang=de><button><p lang=fr>a</button>b", "fr[a]de[b]"),
     (
+        "a paragraph in a button does not end the one around it",
+        Form::Html,
+        "<p lang=de><button><p lang=fr>a</button>b",
+        "fr[a]de[b]",
+    ),
+    (
+        "an end tag in a cell ends nothing around its table",
+        Form::Html,
         "<div lang=de><table><td>a</div>b</table>c</div>d",
         "de[a]de[b]de[c]-[d]",
     ),
     (
+        "an end tag without its start tag ends nothing, and a void element has no text",
+        Form::Html,
         "<i lang=de>a</b>b</i>c<br lang=fr>d<wbr/>e",
         "de[a]de[b]-[c]-[d]-[e]",
     ),
     (
+        "an end tag in an inner list ends no item around it",
+        Form::Html,
         "<ul><li lang=de>a<ul></li>b</ul>c</ul>d",
         "de[a]de[b]de[c]-[d]",
     ),
     (
+        "an end tag in a paragraph ends nothing around it",
+        Form::Html,
         "<span lang=de>a<p lang=fr>b</span>c</p>d</span>e",
         "de[a]fr[b]fr[c]de[d]-[e]",
     ),
-    ("<h2 lang=de>a</h3>b", "de[a]-[b]"),
     (
+        "the end tag of another heading ends a heading",
+        Form::Html,
+        "<h2 lang=de>a</h3>b",
+        "de[a]-[b]",
+    ),
+    (
+        "a slash ends elements of SVG alone",
+        Form::Html,
         "<i lang='de'/>a</i>b<svg lang=fr><g/>c</svg>d",
         "de[a]-[b]fr(c)-[d]",
     ),
-];
-
-#[test]
-fn end_tags_that_a_page_leaves_out_are_supplied(rt: HostRuntime) -> Result<(), Fail> {
-    expect_languages(rt.alloc(), Form::Html, SUPPLIED)
-}
-
-const IN_XML: &[(&str, &str)] = &[
-    ("<p lang='de'>a<p>b</p>c</p>d", "de[a]de[b]de[c]-[d]"),
-    ("<i lang='de'/>a<br lang='fr'>b</br>c", "-[a]fr[b]-[c]"),
     (
+        "a paragraph of XML may stand in another",
+        Form::Xml,
+        "<p lang='de'>a<p>b</p>c</p>d",
+        "de[a]de[b]de[c]-[d]",
+    ),
+    (
+        "a slash ends any element of XML, and any may have a text",
+        Form::Xml,
+        "<i lang='de'/>a<br lang='fr'>b</br>c",
+        "-[a]fr[b]-[c]",
+    ),
+    (
+        "capitals make other names of XML",
+        Form::Xml,
         "<i lang='de'>a</I>b</i>c<i LANG='fr'>d</i>",
         "de[a]de[b]-[c]-[d]",
     ),
-    ("<i lang='de' xml:lang='fr'>a</i>", "fr[a]"),
-];
-
-#[test]
-fn xml_supplies_no_end_tag(rt: HostRuntime) -> Result<(), Fail> {
-    expect_languages(rt.alloc(), Form::Xml, IN_XML)
-}
-
-const LEFT_ALONE: &[(&str, &str)] = &[
     (
+        "in XML `xml:lang` goes before `lang`",
+        Form::Xml,
+        "<i lang='de' xml:lang='fr'>a</i>",
+        "fr[a]",
+    ),
+    (
+        "preformatted text and code are left alone",
+        Form::Html,
         "<pre>a<b>b</b></pre>c<code lang=de>d</CODE>e",
         "-(a)-(b)-[c]de(d)-[e]",
     ),
     (
+        "a class leaves text alone, whatever `translate` says in it",
+        Form::Html,
         "<i class='a apart b'>a<b translate=yes>b</b></i>c<i class=apart-b>d",
         "-(a)-(b)-[c]-[d]",
     ),
     (
+        "`translate` leaves text alone, and takes it back",
+        Form::Html,
         "<i translate=NO>a<b translate=yes>b</b>c</i>d<i translate=x>e",
         "-(a)-[b]-(c)-[d]-[e]",
     ),
     (
+        "in HTML the first `lang` holds, which may be empty",
+        Form::Html,
         "<i xml:lang=fr lang=de>a<b lang=''>b</b></i>c<i lang=de lang=fr>d",
         "de[a][b]-[c]de[d]",
     ),
     (
+        "the texts of MathML and SVG are left alone",
+        Form::Html,
         "<math><mi>a</mi></math>b<svg><title>c</title></svg>d",
         "-(a)-[b]-(c)-[d]",
     ),
 ];
 
 #[test]
-fn elements_attributes_and_classes_leave_text_alone(rt: HostRuntime) -> Result<(), Fail> {
-    expect_languages(rt.alloc(), Form::Html, LEFT_ALONE)
+fn texts_have_the_language_of_the_innermost_open_element(rt: HostRuntime) -> Result<(), Fail> {
+    for (shows, form, page, wanted) in LANGUAGES {
+        expect_text_in(*shows, languages_shown(rt.alloc(), *form, page), wanted)?;
+    }
+    Ok(())
 }

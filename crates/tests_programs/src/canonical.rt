@@ -1,146 +1,93 @@
-//! The outputs, messages and statuses of `hyphenate-canonical`.
+//! `hyphenate-canonical`: the texts that it writes, its messages and statuses.
 
-use canonical_command;
-use canonical_command::{USAGE, answer};
-use command_line::report_bad_args;
-use std::alloc::{AllocError, Global};
-use std::io;
-use std::io::ErrorKind;
+use crate::faults::Fault;
+use crate::harness::{FailingRun, Program, Run, expect_failing_runs, expect_runs};
+use canonical_command::answer;
+use std::alloc::Global;
+use std::fs::Files;
+use std::io::{Read, Write};
 use std::test::Fail;
+use test_support::io_errors::{CONNECTION_RESET, OUT_OF_MEMORY};
 
-const HEAD: &str = "hyphenation 1 standard\nlanguage en-gb\nminima 2 3\n";
+/// The program. It opens no file.
+pub(crate) struct Canonical;
 
-// The arguments and the lines of the input, and the status, the output and the message that are expected.
-#[derive(Clone, Copy)]
-struct Case<'c> {
-    args: &'c [&'c str],
-    lines: &'c str,
-    status: u8,
-    ordered: &'c str,
-    message: &'c str,
-}
-
-// Whether the program has the status, the output and the message of a case.
-fn is_answered(alloc: Global, case: &Case<'_>, mut input: &[u8], ordered: &[u8]) -> bool {
-    let mut output: Vec<u8> = Vec::new(alloc);
-    let mut messages: Vec<u8> = Vec::new(alloc);
-    let status = answer(alloc, case.args, &mut input, &mut output, &mut messages);
-    status == case.status
-        && output.as_slice() == ordered
-        && messages.as_slice() == case.message.as_bytes()
-}
-
-// Whether it has them if both texts begin with three head lines. Nothing is written if the status is not 0.
-fn is_answered_with_head(alloc: Global, case: &Case<'_>) -> Result<bool, AllocError> {
-    let text = format!(in alloc; "{HEAD}{}", case.lines)?;
-    let ordered = format!(in alloc; "{HEAD}{}", case.ordered)?;
-    let ordered = if case.status == 0 {
-        ordered.as_bytes()
-    } else {
-        b""
-    };
-    Ok(is_answered(alloc, case, text.as_bytes(), ordered))
-}
-
-// Fails, with the arguments and the lines, unless each case has its status, output and message.
-fn expect_answers(alloc: Global, cases: &[Case<'_>]) -> Result<(), Fail> {
-    for case in cases {
-        if !is_answered_with_head(alloc, case)? {
-            let (args, lines) = (case.args, case.lines);
-            return Err(Fail::new(format_args!("unexpected result: {args:?} {lines:?}")));
-        }
+impl Program for Canonical {
+    fn answer<F: Files, I: Read, O: Write, E: Write>(
+        &self,
+        _files: &F,
+        alloc: Global,
+        args: &[&str],
+        input: &mut I,
+        output: &mut O,
+        messages: &mut E,
+    ) -> u8 {
+        answer(alloc, args, input, output, messages)
     }
-    Ok(())
 }
+
+const RUNS: &[Run<'static>] = &[
+    (
+        "a text is put in order, and comments are left out",
+        &["standard"],
+        b"hyphenation 1 standard\nlanguage en-gb\nminima 2 3\np r5kin\n# old\ne word 2\np .fi2",
+        0,
+        "hyphenation 1 standard\nlanguage en-gb\nminima 2 3\np .fi2\np r5kin\ne word 2\n",
+        "",
+    ),
+    (
+        "a text that is refused has its line and the reason",
+        &["standard"],
+        b"hyphenation 1 standard\nlanguage en-gb\nminima 2 3\np a1b\np a12b",
+        3,
+        "",
+        "hyphenate-canonical: line 5: two values in one place\n",
+    ),
+    (
+        "a text of the other kind is refused",
+        &["extended"],
+        b"hyphenation 1 standard\nlanguage en-gb\nminima 2 3\np a1b",
+        3,
+        "",
+        "hyphenate-canonical: line 1: not the head of this kind of dictionary\n",
+    ),
+];
+
+// A text in order.
+const ORDERED: &[u8] = b"hyphenation 1 standard\nlanguage en-gb\nminima 2 3\np a1b\n";
+
+const FAILING_RUNS: &[FailingRun<'static>] = &[
+    (
+        "an input that can't be read",
+        Fault::InputRead(30, CONNECTION_RESET),
+        &["standard"],
+        ORDERED,
+        5,
+        "",
+        "hyphenate-canonical: Connection reset by peer (os error 104)\n",
+    ),
+    (
+        "an input that can't be read for want of memory",
+        Fault::InputRead(30, OUT_OF_MEMORY),
+        &["standard"],
+        ORDERED,
+        6,
+        "",
+        "hyphenate-canonical: no memory\n",
+    ),
+    (
+        "an output that is full",
+        Fault::EachWrite,
+        &["standard"],
+        ORDERED,
+        5,
+        "",
+        "hyphenate-canonical: No space left on device (os error 28)\n",
+    ),
+];
 
 #[test]
 fn a_text_is_put_in_order_or_its_error_is_written(rt: HostRuntime) -> Result<(), Fail> {
-    let cases = [
-        Case {
-            args: &["standard"],
-            lines: "p r5kin\n# old\ne word 2\np .fi2",
-            status: 0,
-            ordered: "p .fi2\np r5kin\ne word 2\n",
-            message: "",
-        },
-        Case {
-            args: &["standard"],
-            lines: "p a1b\np a12b",
-            status: 3,
-            ordered: "",
-            message: "hyphenate-canonical: line 5: two values in one place\n",
-        },
-        Case {
-            args: &["extended"],
-            lines: "p a1b",
-            status: 3,
-            ordered: "",
-            message: "hyphenate-canonical: line 1: not the head of this kind of dictionary\n",
-        },
-        Case {
-            args: &["latin"],
-            lines: "",
-            status: 2,
-            ordered: "",
-            message: USAGE,
-        },
-        Case {
-            args: &["standard", "en-gb"],
-            lines: "",
-            status: 2,
-            ordered: "",
-            message: USAGE,
-        },
-    ];
-    expect_answers(rt.alloc(), &cases)
-}
-
-// Whether the program writes this for one argument without reading its input, and ends with 0.
-fn writes(alloc: Global, argument: &str, text: &str) -> bool {
-    let mut input = HEAD.as_bytes();
-    let mut output: Vec<u8> = Vec::new(alloc);
-    let mut messages: Vec<u8> = Vec::new(alloc);
-    let status = answer(alloc, &[argument], &mut input, &mut output, &mut messages);
-    status == 0
-        && input.len() == HEAD.len()
-        && output.as_slice() == text.as_bytes()
-        && messages.is_empty()
-}
-
-#[test]
-fn the_version_and_the_usage_are_written(rt: HostRuntime) -> Result<(), Fail> {
-    let version = "hyphenate-canonical 0.1.0\n";
-    if !writes(rt.alloc(), "--version", version) {
-        return Err(Fail::from("--version has another result"));
-    }
-    let usage =
-        "usage: hyphenate-canonical KIND\n       hyphenate-canonical --help\n       hyphenate-canonical --version\n";
-    if !writes(rt.alloc(), "--help", usage) {
-        return Err(Fail::from("--help has another result"));
-    }
-    Ok(())
-}
-
-// Whether arguments that cannot be read for this error have this status and this message.
-fn has_message(alloc: Global, kind: ErrorKind, status: u8, message: &str) -> bool {
-    let mut messages: Vec<u8> = Vec::new(alloc);
-    let found = report_bad_args(
-        USAGE,
-        canonical_command::NO_MEMORY,
-        &io::Error::from(kind),
-        &mut messages,
-    );
-    found == status && messages.as_slice() == message.as_bytes()
-}
-
-#[test]
-fn arguments_that_cannot_be_read_have_their_message(rt: HostRuntime) -> Result<(), Fail> {
-    let no_memory = "hyphenate-canonical: no memory\n";
-    if !has_message(rt.alloc(), ErrorKind::OutOfMemory, 6, no_memory) {
-        return Err(Fail::from("out of memory has another message"));
-    }
-    if !has_message(rt.alloc(), ErrorKind::InvalidData, 2, USAGE) {
-        return Err(Fail::from("arguments that are not UTF-8 have another message"));
-    }
-    Ok(())
+    expect_runs(rt.alloc(), &Canonical, &[], RUNS)?;
+    expect_failing_runs(rt.alloc(), &Canonical, &[], FAILING_RUNS)
 }

@@ -1,4 +1,5 @@
-//! Tests of the commands of the programs, and of the callers in `callers`. No clause says what they show.
+//! Tests of the programs, by their commands, and of the callers in `callers`. No clause says what they show: which file
+//! is read, and what messages say.
 #![tactic(auto)]
 
 #[cfg(test)]
@@ -10,6 +11,18 @@ mod convert;
 #[cfg(test)]
 mod dictionary_errors;
 #[cfg(test)]
+mod explain;
+#[cfg(test)]
+mod faults;
+#[cfg(test)]
+mod harness;
+#[cfg(test)]
+mod html;
+#[cfg(test)]
 mod hyphenate;
 #[cfg(test)]
+mod lines;
+#[cfg(test)]
 mod memory_files;
+#[cfg(test)]
+mod usage;

@@ -1,38 +1,24 @@
-//! Files in memory, of which an opening or a read fails.
+//! Files in memory, which are read and never written.
 
+use crate::faults::{Fault, NOT_FOUND};
 use std::alloc::Allocator;
 use std::fs::{Files, Metadata, OpenFile, OpenOptions};
 use std::io;
 use std::io::{ErrorKind, Read, Seek, SeekFrom, Write};
-use test_support::readers::take_byte;
+use test_support::io_errors::io_error;
+use test_support::readers::FailingReader;
 
-// Files by their paths, each read a byte at a time.
+/// Files by their paths. Their opening or a read of them may fail.
 #[derive(Clone, Copy)]
 pub(crate) struct MemoryFiles<'b> {
     pub(crate) files: &'b [(&'b str, &'b [u8])],
-    // The error of opening any other path.
-    pub(crate) open_error: ErrorKind,
-    // The read, counted from 1, that fails in each file, and its error.
-    pub(crate) failing_read: usize,
-    pub(crate) read_error: ErrorKind,
+    pub(crate) fault: Fault,
 }
 
-// Files that never fail.
-pub(crate) fn files_without_errors<'b>(files: &'b [(&'b str, &'b [u8])]) -> MemoryFiles<'b> {
-    MemoryFiles {
-        files,
-        open_error: ErrorKind::NotFound,
-        failing_read: usize::MAX,
-        read_error: ErrorKind::Other,
-    }
-}
-
-// A file that is being read.
+/// A file that is being read.
 #[derive(Drop)]
 pub(crate) struct MemoryFile<'b> {
-    left: &'b [u8],
-    failing_read: usize,
-    read_error: ErrorKind,
+    reader: FailingReader<'b>,
 }
 
 fn unsupported<T>() -> io::Result<T> {
@@ -41,11 +27,7 @@ fn unsupported<T>() -> io::Result<T> {
 
 impl Read for MemoryFile<'_> {
     fn read(&mut self, buf: &mut [u8]) -> io::Result<usize> {
-        if self.failing_read <= 1 {
-            return Err(io::Error::from(self.read_error));
-        }
-        self.failing_read -= 1;
-        Ok(take_byte(&mut self.left, buf))
+        self.reader.read(buf)
     }
 }
 
@@ -89,16 +71,17 @@ impl<'b> Files for MemoryFiles<'b> {
     type Dir = MemoryFile<'b>;
 
     fn open_file(&self, _how: &OpenOptions, path: &str) -> io::Result<MemoryFile<'b>> {
+        if let Some(error) = self.fault.opening_error() {
+            return Err(error);
+        }
         for (name, bytes) in self.files {
             if *name == path {
                 return Ok(MemoryFile {
-                    left: bytes,
-                    failing_read: self.failing_read,
-                    read_error: self.read_error,
+                    reader: self.fault.file(bytes),
                 });
             }
         }
-        Err(io::Error::from(self.open_error))
+        Err(io_error(NOT_FOUND))
     }
 
     fn open_dir(&self, _path: &str) -> io::Result<MemoryFile<'b>> {

@@ -1,16 +1,22 @@
-//! Tests of whole runs: their results, and errors of their readers and their writer. Each name of `hyphenation` that
-//! users have is called once. No clause says what they show.
+//! Tests of whole runs and their errors, of lines, paragraphs and pages, and of the texts that explain words. Each name of
+//! `hyphenation` that users have is called once. No clause says what they show.
 #![tactic(auto)]
 
+#[cfg(test)]
+mod calls_of_c;
+#[cfg(test)]
+mod divided_lines;
+#[cfg(test)]
+mod explanations;
+#[cfg(test)]
+mod faults;
+#[cfg(test)]
+mod filled_lines;
 #[cfg(test)]
 mod first_example;
 #[cfg(test)]
 mod names;
 #[cfg(test)]
-mod readers;
-#[cfg(test)]
-mod run_errors;
+mod pages;
 #[cfg(test)]
 mod runs;
-#[cfg(test)]
-mod scores;

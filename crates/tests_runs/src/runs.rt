@@ -1,88 +1,82 @@
-//! Whole texts: the output of a run, and why it writes nothing.
+//! Runs over bytes: how each ends, and what it writes.
 
-use hyphenation::engine::{Kind, RunError, run};
-use hyphenation::load::{Cause, Error};
+use hyphenation::engine::{Kind, RunError, run, run_score};
+use hyphenation::load::Error;
 use hyphenation::{Language, Standard, hyphenate_text};
+use linefill::run_fill;
 use std::alloc::{AllocError, Global};
-use std::fmt::Display;
+use std::io::{Read, Write};
 use std::test::Fail;
-use test_dictionaries::{AMERICAN, DOUBLED, dictionary};
-use test_support::{expect, expect_equal, expect_text, expect_written, repeated};
+use test_dictionaries::{AMERICAN, DOUBLED, FIRKIN, dictionary};
+use test_support::{expect_equal_bytes, expect_text, expect_text_in, repeated};
 
-// The output and the result of a run.
-#[derive(Drop)]
-struct Run {
-    end: Result<(), RunError>,
-    output: Vec<u8>,
+/// The text that a run writes.
+#[derive(Clone, Copy)]
+pub(crate) enum Task<'t> {
+    /// Its input by a dictionary of a kind, after edits, with a mark.
+    Text(Kind, &'t [&'t str], &'t str),
+    /// The lines of its input, of so many columns.
+    Lines(usize),
+    /// The values of a word, by a dictionary of a kind.
+    Values(Kind, &'t str),
 }
 
-impl Run {
-    // Fails, with the case, unless the run succeeded and wrote this text.
-    fn expect_written_text<C: Display + Drop>(self, case: C, text: &str) -> Result<(), Fail> {
-        expect_written(case, &self.end, &self.output, text.as_bytes())
-    }
+/// The task of most runs.
+pub(crate) const HYPHENS: Task<'static> = Task::Text(Kind::Standard, &[], "-");
 
-    // Whether the edit of this number is refused, and nothing is written.
-    fn is_refused_at(self, number: usize) -> bool {
-        matches!(self.end, Err(RunError::Edit(k)) if k == number) && self.output.is_empty()
+// How a run ended: `written`, or the error with its number, or with the code that the system has for it.
+fn ending(alloc: Global, end: &Result<(), RunError>) -> Result<String, AllocError> {
+    match end {
+        Ok(()) => String::from_str(alloc, "written"),
+        Err(RunError::Dictionary(Error::Deserialization { line, cause })) => {
+            format!(in alloc; "dictionary: {line} {cause:?}")
+        }
+        Err(RunError::Dictionary(Error::LanguageMismatch { expected, found })) => {
+            format!(in alloc; "dictionary: {found} for {expected}")
+        }
+        Err(RunError::Dictionary(Error::IO(error))) => {
+            format!(in alloc; "dictionary: {:?}", error.raw_os_error())
+        }
+        Err(RunError::Input(error)) => format!(in alloc; "input: {:?}", error.raw_os_error()),
+        Err(RunError::Output(error)) => format!(in alloc; "output: {:?}", error.raw_os_error()),
+        Err(other) => format!(in alloc; "{other:?}"),
     }
 }
 
-// Runs with a standard dictionary of American English, or with an extended one of Hungarian.
-fn run_by(
+/// Runs in the language of this code, and returns how it ended.
+pub(crate) fn run_task<D: Read, I: Read, O: Write>(
     alloc: Global,
-    kind: Kind,
+    task: Task<'_>,
+    code: &str,
+    dictionary: &mut D,
+    input: &mut I,
+    output: &mut O,
+) -> Result<String, Fail> {
+    let lang = Language::from_code(code).ok_or("a code")?;
+    let end = match task {
+        Task::Text(kind, edits, mark) => {
+            run(alloc, kind, lang, edits, mark, dictionary, input, output)
+        }
+        Task::Lines(columns) => run_fill(alloc, lang, columns, dictionary, input, output),
+        Task::Values(kind, word) => run_score(alloc, kind, lang, word, dictionary, output),
+    };
+    Ok(ending(alloc, &end)?)
+}
+
+// Fails, with what is to be shown, unless a run over texts ends so, and writes this text.
+fn expect_run(
+    alloc: Global,
+    shows: &str,
+    (task, code): (Task<'_>, &str),
     dictionary: &str,
-    edits: &[&str],
-    mark: &str,
-    text: &[u8],
-) -> Run {
-    let language = match kind {
-        Kind::Standard => Language::english_us(),
-        Kind::Extended => Language::hungarian(),
-    };
-    let mut dictionary = dictionary.as_bytes();
-    let mut input = text;
+    input: &str,
+    (end, text): (&str, &str),
+) -> Result<(), Fail> {
     let mut output: Vec<u8> = Vec::new(alloc);
-    let end = run(
-        alloc,
-        kind,
-        language,
-        edits,
-        mark,
-        &mut dictionary,
-        &mut input,
-        &mut output,
-    );
-    Run { end, output }
-}
-
-// Runs after edits: a standard dictionary over `Firkin, firkins.`, or an extended one over `Az asszonnyal.`.
-fn run_after(alloc: Global, kind: Kind, edits: &[&str]) -> Run {
-    let (dictionary, text) = match kind {
-        Kind::Standard => (AMERICAN, "Firkin, firkins."),
-        Kind::Extended => (DOUBLED, "Az asszonnyal."),
-    };
-    run_by(alloc, kind, dictionary, edits, "-", text.as_bytes())
-}
-
-// Fails unless a run after the edits of each case writes its text.
-fn expect_written_after(alloc: Global, kind: Kind, cases: &[(&[&str], &str)]) -> Result<(), Fail> {
-    for (edits, text) in cases {
-        run_after(alloc, kind, edits).expect_written_text(format_args!("{edits:?}"), text)?;
-    }
-    Ok(())
-}
-
-// Fails unless a run after the edits of each case is refused at the edit of its number.
-fn expect_refused_after(alloc: Global, kind: Kind, cases: &[(&[&str], usize)]) -> Result<(), Fail> {
-    for (edits, number) in cases {
-        expect(
-            run_after(alloc, kind, edits).is_refused_at(*number),
-            format_args!("{edits:?}: edit {number} is refused"),
-        )?;
-    }
-    Ok(())
+    let (mut dictionary, mut input) = (dictionary.as_bytes(), input.as_bytes());
+    let found = run_task(alloc, task, code, &mut dictionary, &mut input, &mut output);
+    expect_text_in(shows, found, end)?;
+    expect_equal_bytes(shows, &output, text.as_bytes())
 }
 
 const VERSE: &str =
@@ -91,202 +85,453 @@ const VERSE: &str =
 const LAKE: &str =
     "hyphenation 1 standard\nlanguage en-us\nminima 2 3\ne burning 4\ne sulphur 3\ne unconsumed 2 5\n";
 
-// A dictionary, a mark, a text, and the output.
-const HYPHENATED: [(&str, &str, &str, &str); 8] = [
+/// A dictionary whose minima leave two letters after the last break of a word.
+pub(crate) const TWO_LETTERS: &str =
+    "hyphenation 1 standard\nlanguage en-us\nminima 2 2\ne noble 2\ne accents 2\ne lucid 2\ne inescapable 2\ne größe 4\n";
+
+const LATER_CHANGE: &str =
+    "hyphenation 1 extended\nlanguage hu\nminima 1 1\np a1b\np ca1bd 2,1,0,1,x\n";
+
+const EARLIER_CHANGE: &str =
+    "hyphenation 1 extended\nlanguage hu\nminima 1 1\np a1b 1,1,0,1,x\np a1bd\n";
+
+// Rows: what each shows, the task, the language, the dictionary, the input, and what is written.
+const WRITTEN: [(&str, Task, &str, &str, &str, &str); 20] = [
     (
+        "the words of a verse are broken, and all else stays",
+        HYPHENS,
+        "en-us",
         VERSE,
-        "-",
         "I know noble accents / And lucid, inescapable rhythms; […]",
         "I know no-ble ac-cents / And lu-cid, in-escapable rhythms; […]",
     ),
     (
+        "an empty mark leaves the text as it is",
+        Task::Text(Kind::Standard, &[], ""),
+        "en-us",
         VERSE,
-        "",
         "I know noble accents / And lucid, inescapable rhythms; […]",
         "I know noble accents / And lucid, inescapable rhythms; […]",
     ),
     (
+        "a mark may be a soft hyphen, and capitals are broken",
+        Task::Text(Kind::Standard, &[], "\u{ad}"),
+        "en-us",
         VERSE,
-        "\u{ad}",
         "Noble LUCID\n",
         "No\u{ad}ble LU\u{ad}CID\n",
     ),
     (
+        "a hyphen parts two words",
+        HYPHENS,
+        "en-us",
         LAKE,
-        "-",
         "ever-burning sulphur unconsumed",
         "ever-burn-ing sul-phur un-con-sumed",
     ),
-    (AMERICAN, "-", "Firkin, firkins.", "Fir-kin, fir-k-ins."),
-    (AMERICAN, "-", "", ""),
-    (AMERICAN, "=", "fir\u{ad}kin", "fir=\u{ad}kin"),
     (
+        "words are broken by the patterns in them",
+        HYPHENS,
+        "en-us",
         AMERICAN,
-        "-",
+        "Firkin, firkins.",
+        "Fir-kin, fir-k-ins.",
+    ),
+    (
+        "an empty text stays empty",
+        HYPHENS,
+        "en-us",
+        AMERICAN,
+        "",
+        "",
+    ),
+    (
+        "a soft hyphen is the break of its word, and stays",
+        Task::Text(Kind::Standard, &[], "="),
+        "en-us",
+        AMERICAN,
+        "fir\u{ad}kin",
+        "fir=\u{ad}kin",
+    ),
+    (
+        "a byte order mark, a line's end and NUL stay",
+        HYPHENS,
+        "en-us",
+        AMERICAN,
         "\u{feff}firkin\r\n\0FIRKIN",
         "\u{feff}fir-kin\r\n\0FIR-KIN",
+    ),
+    (
+        "edits may have an empty word and a space, each as an escape",
+        Task::Text(Kind::Standard, &["-\\e", "+a\\sb 1"], "-"),
+        "en-us",
+        AMERICAN,
+        "",
+        "",
+    ),
+    (
+        "the values of a word have a space between them",
+        Task::Values(Kind::Standard, "firkin"),
+        "en-gb",
+        FIRKIN,
+        "",
+        "0 2 5 2 0\n",
+    ),
+    (
+        "a pattern at a word's end does not count within a longer word",
+        Task::Values(Kind::Standard, "firkins"),
+        "en-gb",
+        FIRKIN,
+        "",
+        "0 2 5 1 0 0\n",
+    ),
+    (
+        "a word with capitals is scored as it is handed in",
+        Task::Values(Kind::Standard, "FIRKIN"),
+        "en-gb",
+        FIRKIN,
+        "",
+        "0 0 0 0 0\n",
+    ),
+    (
+        "the empty word has no values",
+        Task::Values(Kind::Standard, ""),
+        "en-gb",
+        FIRKIN,
+        "",
+        "\n",
+    ),
+    (
+        "a value is written without the change of its longer pattern",
+        Task::Values(Kind::Extended, "cabd"),
+        "hu",
+        LATER_CHANGE,
+        "",
+        "0 1 0\n",
+    ),
+    (
+        "capitals are scored as they are by an extended dictionary",
+        Task::Values(Kind::Extended, "CABD"),
+        "hu",
+        LATER_CHANGE,
+        "",
+        "0 0 0\n",
+    ),
+    (
+        "the empty word has no values by an extended dictionary",
+        Task::Values(Kind::Extended, ""),
+        "hu",
+        LATER_CHANGE,
+        "",
+        "\n",
+    ),
+    (
+        "a value is written without the change of its shorter pattern",
+        Task::Values(Kind::Extended, "abd"),
+        "hu",
+        EARLIER_CHANGE,
+        "",
+        "1 0\n",
+    ),
+    (
+        "each line is written with a line feed",
+        Task::Lines(10),
+        "en-us",
+        TWO_LETTERS,
+        "I know noble accents",
+        "I know no-\nble ac-\ncents\n",
+    ),
+    (
+        "a line feed of the text stays, and the line's own comes after it",
+        Task::Lines(10),
+        "en-us",
+        TWO_LETTERS,
+        "noble\n",
+        "noble\n\n",
+    ),
+    (
+        "an empty text has no lines",
+        Task::Lines(10),
+        "en-us",
+        TWO_LETTERS,
+        "",
+        "",
     ),
 ];
 
 #[test]
-fn each_piece_between_word_bounds_is_hyphenated(rt: HostRuntime) -> Result<(), Fail> {
-    for (dictionary, mark, text, wanted) in &HYPHENATED {
-        let finished = run_by(
+fn a_run_writes_the_text_of_its_task(rt: HostRuntime) -> Result<(), Fail> {
+    for (shows, task, code, dictionary, input, text) in &WRITTEN {
+        expect_run(
             rt.alloc(),
-            Kind::Standard,
+            shows,
+            (*task, *code),
             dictionary,
-            &[],
-            mark,
-            text.as_bytes(),
-        );
-        finished.expect_written_text(format_args!("{text:?} with {mark:?}"), wanted)?;
+            input,
+            ("written", *text),
+        )?;
     }
     Ok(())
 }
 
-const EDITED: [(&[&str], &str); 7] = [
-    (&[], "Fir-kin, fir-k-ins."),
-    (&["+firkins 3"], "Fir-kin, fir-kins."),
-    (&["+firkins 3", "-firkins"], "Fir-kin, fir-k-ins."),
-    (&["-firkins", "+firkins 3"], "Fir-kin, fir-kins."),
-    (&["+firkins"], "Fir-kin, firkins."),
-    (&["-other"], "Fir-kin, fir-k-ins."),
+// Rows: what each shows, the edits, how the run ends, and what it writes of `Firkin, firkins.` by a standard dictionary.
+const EDITED: [(&str, &[&str], &str, &str); 27] = [
     (
+        "without edits patterns decide",
+        &[],
+        "written",
+        "Fir-kin, fir-k-ins.",
+    ),
+    (
+        "a word that is added has its breaks alone",
+        &["+firkins 3"],
+        "written",
+        "Fir-kin, fir-kins.",
+    ),
+    (
+        "a word that is added and removed is broken by patterns",
+        &["+firkins 3", "-firkins"],
+        "written",
+        "Fir-kin, fir-k-ins.",
+    ),
+    (
+        "a word that is removed and added has its breaks",
+        &["-firkins", "+firkins 3"],
+        "written",
+        "Fir-kin, fir-kins.",
+    ),
+    (
+        "a word may be added without breaks",
+        &["+firkins"],
+        "written",
+        "Fir-kin, firkins.",
+    ),
+    (
+        "a word that is not there may be removed",
+        &["-other"],
+        "written",
+        "Fir-kin, fir-k-ins.",
+    ),
+    (
+        "the last edit of a word decides",
         &["+firkins 3", "+firkins 4", "+firkin"],
+        "written",
         "Firkin, firk-ins.",
     ),
-];
-
-#[test]
-fn edits_are_done_from_first_to_last(rt: HostRuntime) -> Result<(), Fail> {
-    expect_written_after(rt.alloc(), Kind::Standard, &EDITED)
-}
-
-const REFUSED: [(&[&str], usize); 20] = [
-    (&["+"], 1),
-    (&["-"], 1),
-    (&[""], 1),
-    (&["firkins 3"], 1),
-    (&["+firkins 8"], 1),
-    (&["+firkins 3 3"], 1),
-    (&["+firkins 03"], 1),
-    (&["+firkins x"], 1),
-    (&["+firkins 1,0,0,0,x"], 1),
-    (&["+firkins  3"], 1),
-    (&["+ firkins 3"], 1),
-    (&["+fir\\kins 3"], 1),
-    (&["+fir\nkins 3"], 1),
-    (&["-fir\nkins"], 1),
-    (&["+é 1"], 1),
-    (&["-firkins 3"], 1),
-    (&["-firkins "], 1),
-    (&["-other", "*firkins"], 2),
-    (&["+firkins 3", "-a", "+a\r"], 3),
-    (&["+a", "+b 2", "+c 2"], 2),
-];
-
-#[test]
-fn the_first_refused_edit_is_reported(rt: HostRuntime) -> Result<(), Fail> {
-    expect_refused_after(rt.alloc(), Kind::Standard, &REFUSED)?;
-    let edits = ["-\\e", "+a\\sb 1"];
-    let finished = run_by(rt.alloc(), Kind::Standard, AMERICAN, &edits, "-", b"");
-    finished.expect_written_text(format_args!("{edits:?}"), "")
-}
-
-#[test]
-fn a_dictionary_is_judged_before_edits_and_text(rt: HostRuntime) -> Result<(), Fail> {
-    let finished = run_by(
-        rt.alloc(),
-        Kind::Standard,
-        "",
-        &["+firkins 8"],
-        "-",
-        b"\xff",
-    );
-    expect(
-        matches!(
-            finished.end,
-            Err(RunError::Dictionary(Error::Deserialization {
-                line: 1,
-                cause: Cause::Header
-            }))
-        ),
-        "the head is refused",
-    )?;
-    let other = "hyphenation 1 standard\nlanguage hu\nminima 2 3\n";
-    let finished = run_by(
-        rt.alloc(),
-        Kind::Standard,
-        other,
-        &["+firkins 8"],
-        "-",
-        b"\xff",
-    );
-    expect(
-        matches!(
-            finished.end,
-            Err(RunError::Dictionary(Error::LanguageMismatch { .. }))
-        ),
-        "another language is reported",
-    )
-}
-
-#[test]
-fn edits_are_judged_before_the_text(rt: HostRuntime) -> Result<(), Fail> {
-    let finished = run_by(
-        rt.alloc(),
-        Kind::Standard,
-        AMERICAN,
-        &["+firkins 8"],
-        "-",
-        b"\xff",
-    );
-    expect(finished.is_refused_at(1), "edit 1 is refused")
-}
-
-#[test]
-fn a_text_that_is_not_utf_8_is_refused(rt: HostRuntime) -> Result<(), Fail> {
-    let finished = run_by(
-        rt.alloc(),
-        Kind::Standard,
-        AMERICAN,
-        &["-other"],
-        "-",
-        b"firkin \xff",
-    );
-    expect(
-        matches!(finished.end, Err(RunError::TextNotUtf8)),
-        "the text is not UTF-8",
-    )?;
-    expect_equal(&finished.output.len(), &0)
-}
-
-const CHANGED: [(&[&str], &str); 5] = [
-    (&[], "Az asz-szony-nyal."),
-    (&["+asszonnyal 2,1,2,2,szsz"], "Az asz-szonnyal."),
-    (&["+asszonnyal 3"], "Az ass-zonnyal."),
-    (&["-asszonnyal"], "Az asszonnyal."),
+    ("a word to add is not empty", &["+"], "Edit(1)", ""),
+    ("a word to remove is not empty", &["-"], "Edit(1)", ""),
+    ("an edit is not empty", &[""], "Edit(1)", ""),
+    ("an edit has a sign", &["firkins 3"], "Edit(1)", ""),
+    ("a place lies in its word", &["+firkins 8"], "Edit(1)", ""),
+    ("places ascend", &["+firkins 3 3"], "Edit(1)", ""),
     (
+        "a place has no leading zero",
+        &["+firkins 03"],
+        "Edit(1)",
+        "",
+    ),
+    ("a place is a number", &["+firkins x"], "Edit(1)", ""),
+    (
+        "a standard dictionary takes no change",
+        &["+firkins 1,0,0,0,x"],
+        "Edit(1)",
+        "",
+    ),
+    (
+        "a place has one space before it",
+        &["+firkins  3"],
+        "Edit(1)",
+        "",
+    ),
+    (
+        "a sign has no space after it",
+        &["+ firkins 3"],
+        "Edit(1)",
+        "",
+    ),
+    (
+        "a backslash stands in escapes alone",
+        &["+fir\\kins 3"],
+        "Edit(1)",
+        "",
+    ),
+    (
+        "a word to add has no line feed",
+        &["+fir\nkins 3"],
+        "Edit(1)",
+        "",
+    ),
+    (
+        "a word to remove has no line feed",
+        &["-fir\nkins"],
+        "Edit(1)",
+        "",
+    ),
+    (
+        "a place is between two characters",
+        &["+é 1"],
+        "Edit(1)",
+        "",
+    ),
+    (
+        "a word to remove has no places",
+        &["-firkins 3"],
+        "Edit(1)",
+        "",
+    ),
+    (
+        "a word to remove has no space after it",
+        &["-firkins "],
+        "Edit(1)",
+        "",
+    ),
+    (
+        "an edit with another sign is refused after a good one",
+        &["-other", "*firkins"],
+        "Edit(2)",
+        "",
+    ),
+    (
+        "a word to add has no carriage return",
+        &["+firkins 3", "-a", "+a\r"],
+        "Edit(3)",
+        "",
+    ),
+    (
+        "the first of two refused edits is named",
+        &["+a", "+b 2", "+c 2"],
+        "Edit(2)",
+        "",
+    ),
+];
+
+// Rows: what each shows, the edits, how the run ends, and what it writes of `Az asszonnyal.` by an extended dictionary.
+const CHANGED: [(&str, &[&str], &str, &str); 9] = [
+    (
+        "without edits letters change at each break",
+        &[],
+        "written",
+        "Az asz-szony-nyal.",
+    ),
+    (
+        "a word that is added has its changes alone",
+        &["+asszonnyal 2,1,2,2,szsz"],
+        "written",
+        "Az asz-szonnyal.",
+    ),
+    (
+        "a word may be added whose break changes nothing",
+        &["+asszonnyal 3"],
+        "written",
+        "Az ass-zonnyal.",
+    ),
+    (
+        "a word that is removed is not broken",
+        &["-asszonnyal"],
+        "written",
+        "Az asszonnyal.",
+    ),
+    (
+        "a word that is removed and added has its changes",
         &["-asszonnyal", "+asszonnyal 6,1,2,2,nyny"],
+        "written",
         "Az asszony-nyal.",
+    ),
+    (
+        "a change breaks within its letters",
+        &["+asszonnyal 2,1,2,9,szsz"],
+        "Edit(1)",
+        "",
+    ),
+    (
+        "a change takes no bytes before its word",
+        &["+asszonnyal 2,3,2,2,szsz"],
+        "Edit(1)",
+        "",
+    ),
+    (
+        "a word to remove from an extended dictionary has no places",
+        &["-asszonnyal 2"],
+        "Edit(1)",
+        "",
+    ),
+    (
+        "an edit of an extended dictionary is refused after a good one",
+        &["+asszonnyal 2,1,2,2,szsz", "+a 2"],
+        "Edit(2)",
+        "",
     ),
 ];
 
 #[test]
-fn letters_are_changed_where_a_text_is_broken(rt: HostRuntime) -> Result<(), Fail> {
-    expect_written_after(rt.alloc(), Kind::Extended, &CHANGED)
+fn edits_are_done_in_order_or_the_first_refused_is_named(rt: HostRuntime) -> Result<(), Fail> {
+    for (shows, edits, end, text) in &EDITED {
+        let asked = (Task::Text(Kind::Standard, edits, "-"), "en-us");
+        let wanted = (*end, *text);
+        expect_run(
+            rt.alloc(),
+            shows,
+            asked,
+            AMERICAN,
+            "Firkin, firkins.",
+            wanted,
+        )?;
+    }
+    for (shows, edits, end, text) in &CHANGED {
+        let asked = (Task::Text(Kind::Extended, edits, "-"), "hu");
+        let wanted = (*end, *text);
+        expect_run(rt.alloc(), shows, asked, DOUBLED, "Az asszonnyal.", wanted)?;
+    }
+    Ok(())
 }
 
-const REFUSED_CHANGES: [(&[&str], usize); 4] = [
-    (&["+asszonnyal 2,1,2,9,szsz"], 1),
-    (&["+asszonnyal 2,3,2,2,szsz"], 1),
-    (&["-asszonnyal 2"], 1),
-    (&["+asszonnyal 2,1,2,2,szsz", "+a 2"], 2),
+// Rows: what each shows, the task, the language, the dictionary, a text, what is written of it, and how often it stands in
+// an input of more than 1,000,000 bytes.
+const LONG: [(&str, Task, &str, &str, &str, &str, usize); 3] = [
+    (
+        "a text of a million bytes is hyphenated",
+        HYPHENS,
+        "en-us",
+        AMERICAN,
+        "Firkin, firkins. ",
+        "Fir-kin, fir-k-ins. ",
+        58_824,
+    ),
+    (
+        "a text of a million bytes is hyphenated with changes",
+        Task::Text(Kind::Extended, &[], "-"),
+        "hu",
+        DOUBLED,
+        "Az asszonnyal. ",
+        "Az asz-szony-nyal. ",
+        66_667,
+    ),
+    (
+        "a text of a million bytes is filled: two words have eight characters with the space after the second",
+        Task::Lines(7),
+        "en-us",
+        AMERICAN,
+        "fir ",
+        "fir \n",
+        262_500,
+    ),
 ];
 
 #[test]
-fn edits_of_an_extended_dictionary_are_judged_by_its_kind(rt: HostRuntime) -> Result<(), Fail> {
-    expect_refused_after(rt.alloc(), Kind::Extended, &REFUSED_CHANGES)
+fn a_text_of_a_million_bytes_is_run(rt: HostRuntime) -> Result<(), Fail> {
+    for (shows, task, code, dictionary, piece, written, times) in &LONG {
+        let input = repeated(rt.alloc(), piece, *times)?;
+        let text = repeated(rt.alloc(), written, *times)?;
+        expect_run(
+            rt.alloc(),
+            shows,
+            (*task, *code),
+            dictionary,
+            &input,
+            ("written", text.as_str()),
+        )?;
+    }
+    Ok(())
 }
 
 // A text that three hyphenated ones are appended to.
@@ -304,39 +549,5 @@ fn a_text_is_appended_by_a_loaded_dictionary(rt: HostRuntime) -> Result<(), Fail
     expect_text(
         appended(rt.alloc(), &dictionary),
         "Ale: Fir-kin, fir-k-ins. Firkin",
-    )
-}
-
-// Whether a run over a text, repeated to more than 1,000,000 bytes, writes it broken in the same way each time.
-fn is_long_text_marked(
-    alloc: Global,
-    kind: Kind,
-    text: &str,
-    piece: &str,
-    wanted: &str,
-) -> Result<bool, AllocError> {
-    let times = 1_000_000 / piece.len().max(1) + 1;
-    let input = repeated(alloc, piece, times)?;
-    let wanted = repeated(alloc, wanted, times)?;
-    let finished = run_by(alloc, kind, text, &[], "-", input.as_bytes());
-    let is_long = input.len() > 1_000_000;
-    Ok(finished.end.is_ok() && is_long && finished.output.as_slice() == wanted.as_bytes())
-}
-
-#[test]
-fn a_text_of_a_million_bytes_is_hyphenated(rt: HostRuntime) -> Result<(), Fail> {
-    let (piece, wanted) = ("Firkin, firkins. ", "Fir-kin, fir-k-ins. ");
-    expect(
-        is_long_text_marked(rt.alloc(), Kind::Standard, AMERICAN, piece, wanted)?,
-        "it is run",
-    )
-}
-
-#[test]
-fn a_text_of_a_million_bytes_is_hyphenated_with_changes(rt: HostRuntime) -> Result<(), Fail> {
-    let (piece, wanted) = ("Az asszonnyal. ", "Az asz-szony-nyal. ");
-    expect(
-        is_long_text_marked(rt.alloc(), Kind::Extended, DOUBLED, piece, wanted)?,
-        "it is run",
     )
 }

@@ -1,10 +1,14 @@
-//! Tests of the values of words by dictionaries of both kinds, and of the look-ups that they take. No clause says what
-//! they show.
+//! Tests of the values of words by dictionaries of both kinds, and of the look-ups that they take. Values and breaks
+//! are also compared with those of a reference implementation. No clause says what they show.
 #![tactic(auto)]
 
 #[cfg(test)]
-mod changed_scores;
+mod comparison;
 #[cfg(test)]
 mod long_patterns;
 #[cfg(test)]
-mod scores;
+mod long_words;
+#[cfg(test)]
+mod look_ups;
+#[cfg(test)]
+mod values;

@@ -6,8 +6,11 @@ use std::test::Fail;
 use test_dictionaries::text_outcome;
 use test_support::expect_text_in;
 
-/// Lines, and the outcome of loading a text that ends with them: `loaded`, or a line and a cause.
-pub type Case = (&'static [u8], &'static str);
+/// A row: what a text shows, its lines after a head, and the outcome of loading it: `loaded`, or a line and a cause.
+pub type Row = (&'static str, &'static [u8], &'static str);
+
+/// A head, and texts that begin with it.
+pub type Table = (&'static str, &'static [Row]);
 
 // The outcome of loading a text with this head and these lines.
 fn outcome_of<D: Load + Drop>(
@@ -20,18 +23,16 @@ fn outcome_of<D: Load + Drop>(
     text_outcome::<D>(alloc, &text)
 }
 
-/// Fails unless loading each case's lines after this head, read whole and one byte a read, has the outcome of the case.
-pub fn expect_outcomes<D: Load + Drop>(
-    alloc: Global,
-    head: &str,
-    cases: &[Case],
-) -> Result<(), Fail> {
-    for (lines, wanted) in cases {
-        expect_text_in(
-            lines.escape_ascii(),
-            outcome_of::<D>(alloc, head, lines),
-            wanted,
-        )?;
+/// Fails unless loading each text, read whole and one byte a read, has the outcome of its row.
+pub fn expect_outcomes<D: Load + Drop>(alloc: Global, tables: &[Table]) -> Result<(), Fail> {
+    for (head, rows) in tables {
+        for (shows, lines, wanted) in *rows {
+            expect_text_in(
+                format_args!("{shows}, {}", lines.escape_ascii()),
+                outcome_of::<D>(alloc, head, lines),
+                wanted,
+            )?;
+        }
     }
     Ok(())
 }

@@ -28,74 +28,53 @@ const CAUSES: [(Cause, &str); 14] = [
     (Cause::RepeatedException, "repeated exception"),
 ];
 
-fn displayed<T: Display>(alloc: Global, value: &T) -> Result<String, AllocError> {
-    format!(in alloc; "{value}")
+// Fails unless a value is displayed as this text.
+fn expect_message<T: Display>(alloc: Global, value: &T, wanted: &str) -> Result<(), Fail> {
+    expect_text_in(wanted, format!(in alloc; "{value}"), wanted)
 }
 
 #[test]
 fn each_cause_has_its_message(rt: HostRuntime) -> Result<(), Fail> {
     for (cause, wanted) in &CAUSES {
-        expect_text_in(wanted, displayed(rt.alloc(), cause), wanted)?;
+        expect_message(rt.alloc(), cause, wanted)?;
     }
     Ok(())
 }
 
 #[test]
-fn a_refusal_names_its_line_and_cause(rt: HostRuntime) -> Result<(), Fail> {
-    let refusal = Error::Deserialization {
-        line: 4,
-        cause: Cause::Pattern,
-    };
-    expect_text(
-        displayed(rt.alloc(), &refusal),
-        "line 4: two values in one place",
-    )
-}
-
-#[test]
-fn refused_memory_and_an_io_error_have_their_messages(rt: HostRuntime) -> Result<(), Fail> {
-    expect_text(
-        displayed(rt.alloc(), &Error::Memory(AllocError)),
-        "no memory",
-    )?;
-    expect_text(
-        displayed(rt.alloc(), &Error::IO(io_error(CONNECTION_RESET))),
-        "Connection reset by peer (os error 104)",
-    )
+fn each_error_has_its_message(rt: HostRuntime) -> Result<(), Fail> {
+    let rows = [
+        (
+            Error::Deserialization {
+                line: 4,
+                cause: Cause::Pattern,
+            },
+            "line 4: two values in one place",
+        ),
+        (Error::Memory(AllocError), "no memory"),
+        (
+            Error::IO(io_error(CONNECTION_RESET)),
+            "Connection reset by peer (os error 104)",
+        ),
+        (
+            Error::LanguageMismatch {
+                expected: Language::english_us(),
+                found: Language::hungarian(),
+            },
+            "Language mismatch: attempted to load a dictionary for `en-us`, but found\na dictionary for `hu` instead.",
+        ),
+    ];
+    for (error, wanted) in &rows {
+        expect_message(rt.alloc(), error, wanted)?;
+    }
+    Ok(())
 }
 
 // The longest code, of 32 bytes.
 const LONGEST: &str = "abcdefghijklmnopqrstuvwxyz-12345";
 
-#[test]
-fn the_longest_code_of_a_language_is_displayed(rt: HostRuntime) -> Result<(), Fail> {
-    let language = Language::from_code(LONGEST).ok_or("a code")?;
-    expect_text(displayed(rt.alloc(), &language), LONGEST)
-}
-
-#[test]
-fn another_language_is_named_with_both_codes(rt: HostRuntime) -> Result<(), Fail> {
-    let mismatch = Error::LanguageMismatch {
-        expected: Language::english_us(),
-        found: Language::hungarian(),
-    };
-    expect_text(
-        displayed(rt.alloc(), &mismatch),
-        "Language mismatch: attempted to load a dictionary for `en-us`, but found\na dictionary for `hu` instead.",
-    )
-}
-
 fn debugged<T: Debug>(alloc: Global, value: &T) -> Result<String, AllocError> {
     format!(in alloc; "{value:?}")
-}
-
-#[test]
-fn a_language_is_debugged_by_its_code(rt: HostRuntime) -> Result<(), Fail> {
-    let language = Language::from_code(LONGEST).ok_or("a code")?;
-    expect_text(
-        debugged(rt.alloc(), &language),
-        "Language(\"abcdefghijklmnopqrstuvwxyz-12345\")",
-    )
 }
 
 // The patterns of a text's dictionary as `Debug` shows them.
@@ -107,7 +86,15 @@ fn patterns_debugged(alloc: Global, text: &[u8]) -> Result<String, Error> {
 
 // The nodes are the root, `a` and `ab`.
 #[test]
-fn patterns_are_debugged_by_the_number_of_their_nodes(rt: HostRuntime) -> Result<(), Fail> {
+fn a_language_is_shown_by_its_code_and_patterns_by_their_number_of_nodes(
+    rt: HostRuntime,
+) -> Result<(), Fail> {
+    let language = Language::from_code(LONGEST).ok_or("a code")?;
+    expect_message(rt.alloc(), &language, LONGEST)?;
+    expect_text(
+        debugged(rt.alloc(), &language),
+        "Language(\"abcdefghijklmnopqrstuvwxyz-12345\")",
+    )?;
     expect_text(
         patterns_debugged(rt.alloc(), SMALLEST),
         "Automaton { nodes: 3 }",

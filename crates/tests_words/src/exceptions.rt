@@ -1,56 +1,208 @@
 //! Exceptions, as a text lists them and as callers add and remove them.
 
+use crate::changes::list_changes;
+use crate::questions::Question::{
+    Exception, ExceptionWithin, Marked, Opportunities, OpportunitiesWithin, Places,
+};
+use crate::questions::{
+    Question, Row, answer_of_standard, describe_exception, expect_rows_of_both,
+};
 use hyphenation_dictionary::dictionary::Standard;
 use hyphenation_hyphenator::hyphenator::Hyphenator;
-use hyphenation_load::Error;
 use std::alloc::{AllocError, Global};
 use std::test::Fail;
-use test_dictionaries::{FIRKIN, dictionary, standard};
-use test_questions::{
-    Question, add_firkins, ask, describe_exception, firkin_with_exception, places_of,
-};
-use test_support::{expect_equal, expect_equal_in, expect_text};
+use test_dictionaries::{FIRKIN, dictionary, extended, standard};
+use test_support::{expect_equal_in, expect_text, expect_text_in};
 
-const ANISOTROPIC: &str =
-    "hyphenation 1 standard\nlanguage en-us\nminima 2 3\ne anisotropic 2 5 9\ne ab 1\ne Upper 3\n";
+const ANISOTROPIC: &str = "e anisotropic 2 5 9\ne ab 1\ne Upper 3";
+
+// A pattern whose break the empty list rules out.
+const EMPTY_LIST: &str = "p a1b\ne ab";
+
+const ROWS: &[Row] = &[
+    (
+        "listed places are found within the boundaries",
+        "2 3",
+        ANISOTROPIC,
+        Exception("anisotropic"),
+        "2 5 ",
+    ),
+    (
+        "no place is listed for another word",
+        "2 3",
+        ANISOTROPIC,
+        Exception("other"),
+        "none",
+    ),
+    (
+        "no place is found for a word that the minima leave whole",
+        "2 3",
+        ANISOTROPIC,
+        Exception("ab"),
+        "none",
+    ),
+    (
+        "listed places are found within bounds",
+        "2 3",
+        ANISOTROPIC,
+        ExceptionWithin("anisotropic", (0, 11)),
+        "2 5 9 ",
+    ),
+    (
+        "no listed place is within bounds of which the first is greater",
+        "2 3",
+        ANISOTROPIC,
+        ExceptionWithin("anisotropic", (9, 2)),
+        "",
+    ),
+    (
+        "no place is listed within bounds for another word",
+        "2 3",
+        ANISOTROPIC,
+        ExceptionWithin("other", (0, 5)),
+        "none",
+    ),
+    (
+        "a word that the minima leave whole is listed",
+        "2 3",
+        ANISOTROPIC,
+        ExceptionWithin("ab", (0, 2)),
+        "1 ",
+    ),
+    (
+        "a word that the minima leave whole has no break",
+        "2 3",
+        ANISOTROPIC,
+        Opportunities("ab"),
+        "",
+    ),
+    (
+        "a word with a capital is found as it is listed",
+        "2 3",
+        ANISOTROPIC,
+        ExceptionWithin("Upper", (0, 5)),
+        "3 ",
+    ),
+    (
+        "a word that is listed with a capital is not found in small letters",
+        "2 3",
+        ANISOTROPIC,
+        ExceptionWithin("upper", (0, 5)),
+        "none",
+    ),
+    (
+        "a word with a capital has its listed break as a word in small letters",
+        "1 1",
+        "e Upper 3",
+        Opportunities("Upper"),
+        "3 ",
+    ),
+    (
+        "a word with a capital is broken as its small letters",
+        "1 1",
+        "e Upper 3",
+        Places("Upper upper"),
+        ",,",
+    ),
+    (
+        "a list may be empty",
+        "0 0",
+        EMPTY_LIST,
+        Exception("ab"),
+        "",
+    ),
+    (
+        "a list may be empty where no pattern occurs",
+        "2 2",
+        "p b1c\ne abcd",
+        Exception("abcd"),
+        "",
+    ),
+    (
+        "an empty list rules out the break of a pattern",
+        "0 0",
+        EMPTY_LIST,
+        Marked("ab aab"),
+        "ab aa=b ",
+    ),
+];
 
 #[test]
-fn an_added_word_decides_alone(rt: HostRuntime) -> Result<(), Fail> {
-    let question = Question::Places("firkins FIRKINS firkin");
-    expect_text(
-        ask(rt.alloc(), firkin_with_exception(rt.alloc()), question),
+fn exceptions_are_found_alike_by_both_kinds(rt: HostRuntime) -> Result<(), Fail> {
+    expect_rows_of_both(rt.alloc(), ROWS)
+}
+
+// Lists places for a word if they fit, and describes the old list.
+fn list_places(
+    alloc: Global,
+    dictionary: &mut Standard,
+    word: &str,
+    places: &[usize],
+) -> Result<String, AllocError> {
+    let word = String::from_str(alloc, word)?;
+    if Standard::fits(&word, places) {
+        let places = Vec::from_slice(alloc, places)?;
+        describe_exception(alloc, dictionary.add_exception(word, places)?)
+    } else {
+        String::from_str(alloc, "unfit")
+    }
+}
+
+/// The dictionary of `firkin`, with the place 3 added for `firkins`.
+pub fn firkin_with_exception(alloc: Global) -> Result<Standard, Fail> {
+    let mut firkin = dictionary(alloc, FIRKIN)?;
+    expect_text(list_places(alloc, &mut firkin, "firkins", &[3]), "none")?;
+    Ok(firkin)
+}
+
+// A sentence of what it shows, a question to the dictionary of `firkin` with the place 3 added for `firkins`, and the
+// answer.
+const ADDED: &[(&str, Question<'static>, &str)] = &[
+    (
+        "an added word decides alone",
+        Places("firkins FIRKINS firkin"),
         "3 ,3 ,3 ,",
-    )
-}
-
-// The places that the patterns allow in `firkins` within these bounds, though 3 alone is listed.
-fn pattern_breaks(alloc: Global, bounds: (usize, usize)) -> Result<String, Fail> {
-    ask(
-        alloc,
-        firkin_with_exception(alloc),
-        Question::OpportunitiesWithin("firkins", bounds),
-    )
-}
+    ),
+    (
+        "places of patterns are found within bounds, though one place alone is listed",
+        OpportunitiesWithin("firkins", (0, 7)),
+        "3 4 ",
+    ),
+    (
+        "a place of a pattern is found at its first bound",
+        OpportunitiesWithin("firkins", (4, 6)),
+        "4 ",
+    ),
+    (
+        "a place of a pattern is found at both its bounds",
+        OpportunitiesWithin("firkins", (3, 3)),
+        "3 ",
+    ),
+    (
+        "no place of a pattern is within bounds of which the first is greater",
+        OpportunitiesWithin("firkins", (4, 3)),
+        "",
+    ),
+    (
+        "no place of a pattern is found after the last one",
+        OpportunitiesWithin("firkins", (5, usize::MAX)),
+        "",
+    ),
+];
 
 #[test]
-fn patterns_are_found_within_bounds(rt: HostRuntime) -> Result<(), Fail> {
-    expect_text(pattern_breaks(rt.alloc(), (0, 7)), "3 4 ")?;
-    expect_text(pattern_breaks(rt.alloc(), (4, 6)), "4 ")?;
-    expect_text(pattern_breaks(rt.alloc(), (3, 3)), "3 ")
+fn an_added_word_hides_its_patterns(rt: HostRuntime) -> Result<(), Fail> {
+    let firkin = firkin_with_exception(rt.alloc())?;
+    for (shows, question, wanted) in ADDED {
+        let answer = answer_of_standard(rt.alloc(), &firkin, *question);
+        expect_text_in(shows, answer, wanted)?;
+    }
+    Ok(())
 }
 
-#[test]
-fn no_pattern_is_found_within_other_bounds(rt: HostRuntime) -> Result<(), Fail> {
-    expect_text(pattern_breaks(rt.alloc(), (4, 3)), "")?;
-    expect_text(pattern_breaks(rt.alloc(), (5, usize::MAX)), "")
-}
-
-// The word that is listed, in capitals too, and one that is not.
-const WORDS: &str = "firkins FIRKINS firkin";
-
-// The result of a call, and then the breaks of the words.
+// The result of a call, and then the breaks of the listed word, in capitals too, and of one that is not listed.
 fn with_breaks(alloc: Global, dictionary: &Standard, answer: &str) -> Result<String, AllocError> {
-    let breaks = places_of(alloc, dictionary, WORDS)?;
+    let breaks = answer_of_standard(alloc, dictionary, Places("firkins FIRKINS firkin"))?;
     format!(in alloc; "{answer};{breaks}")
 }
 
@@ -60,7 +212,7 @@ fn after_adding(
     dictionary: &mut Standard,
     place: usize,
 ) -> Result<String, AllocError> {
-    let old = add_firkins(alloc, dictionary, place)?;
+    let old = list_places(alloc, dictionary, "firkins", &[place])?;
     with_breaks(alloc, dictionary, &old)
 }
 
@@ -79,6 +231,25 @@ fn a_word_is_added_twice_and_removed_twice(rt: HostRuntime) -> Result<(), Fail> 
     expect_text(
         after_removing(rt.alloc(), &mut firkin),
         "none;3 4 ,3 4 ,3 ,",
+    )
+}
+
+#[test]
+fn an_empty_list_replaces_another(rt: HostRuntime) -> Result<(), Fail> {
+    let mut dictionary = standard(rt.alloc(), "0 0", "p a1b\ne ab 1")?;
+    expect_text(list_places(rt.alloc(), &mut dictionary, "ab", &[]), "1 ")?;
+    expect_text(
+        answer_of_standard(rt.alloc(), &dictionary, Places("ab aab")),
+        ",2 ,",
+    )
+}
+
+#[test]
+fn an_empty_list_replaces_another_with_a_change(rt: HostRuntime) -> Result<(), Fail> {
+    let mut dictionary = extended(rt.alloc(), "0 0", "p a1b\ne ab 1,1,1,1,xy")?;
+    expect_text(
+        list_changes(rt.alloc(), &mut dictionary, "ab", Vec::new(rt.alloc())),
+        "1,1,1,1,xy ",
     )
 }
 
@@ -103,95 +274,4 @@ fn places_fit_a_word_where_they_ascend_on_its_characters(rt: HostRuntime) -> Res
         )?;
     }
     Ok(())
-}
-
-// The list of an exception within its boundaries.
-fn exception_of(alloc: Global, word: &str) -> Result<String, Fail> {
-    ask(
-        alloc,
-        dictionary(alloc, ANISOTROPIC),
-        Question::Exception(word),
-    )
-}
-
-#[test]
-fn listed_places_are_found_within_the_boundaries(rt: HostRuntime) -> Result<(), Fail> {
-    expect_text(exception_of(rt.alloc(), "anisotropic"), "2 5 ")?;
-    expect_text(exception_of(rt.alloc(), "other"), "none")?;
-    expect_text(exception_of(rt.alloc(), "ab"), "none")
-}
-
-// The list of an exception within these bounds.
-fn exception_within(alloc: Global, word: &str, bounds: (usize, usize)) -> Result<String, Fail> {
-    let question = Question::ExceptionWithin(word, bounds);
-    ask(alloc, dictionary(alloc, ANISOTROPIC), question)
-}
-
-#[test]
-fn listed_places_are_found_within_bounds(rt: HostRuntime) -> Result<(), Fail> {
-    expect_text(
-        exception_within(rt.alloc(), "anisotropic", (0, 11)),
-        "2 5 9 ",
-    )?;
-    expect_text(exception_within(rt.alloc(), "anisotropic", (9, 2)), "")?;
-    expect_text(exception_within(rt.alloc(), "other", (0, 5)), "none")
-}
-
-// The places of a word in small letters.
-fn opportunities_of(alloc: Global, word: &str) -> Result<String, Fail> {
-    ask(
-        alloc,
-        dictionary(alloc, ANISOTROPIC),
-        Question::Opportunities(word),
-    )
-}
-
-#[test]
-fn a_word_that_the_minima_leave_whole_is_listed(rt: HostRuntime) -> Result<(), Fail> {
-    expect_text(exception_within(rt.alloc(), "ab", (0, 2)), "1 ")?;
-    expect_text(opportunities_of(rt.alloc(), "ab"), "")
-}
-
-#[test]
-fn a_word_with_a_capital_is_found_only_as_it_is_listed(rt: HostRuntime) -> Result<(), Fail> {
-    expect_text(exception_within(rt.alloc(), "Upper", (0, 5)), "3 ")?;
-    expect_text(exception_within(rt.alloc(), "upper", (0, 5)), "none")
-}
-
-#[test]
-fn a_word_with_a_capital_is_broken_as_its_small_letters(rt: HostRuntime) -> Result<(), Fail> {
-    let listed = standard(rt.alloc(), "1 1", "e Upper 3");
-    let question = Question::Opportunities("Upper");
-    expect_text(ask(rt.alloc(), listed, question), "3 ")?;
-    let listed = standard(rt.alloc(), "1 1", "e Upper 3");
-    expect_text(
-        ask(rt.alloc(), listed, Question::Places("Upper upper")),
-        ",,",
-    )
-}
-
-// The minima of the dictionary of `firkin`, and the boundaries of words by them.
-fn minima_and_boundaries(
-    alloc: Global,
-) -> Result<((usize, usize), [Option<(usize, usize)>; 2]), Error> {
-    Ok(minima_and_boundaries_of(&dictionary(alloc, FIRKIN)?))
-}
-
-// The minima of a loaded dictionary, and the boundaries of words by them.
-fn minima_and_boundaries_of(
-    dictionary: &Standard,
-) -> ((usize, usize), [Option<(usize, usize)>; 2]) {
-    let bounds = [
-        dictionary.boundaries("firkin"),
-        dictionary.boundaries("fir"),
-    ];
-    (dictionary.unbreakable_chars(), bounds)
-}
-
-#[test]
-fn the_minima_bound_the_places_of_a_word(rt: HostRuntime) -> Result<(), Fail> {
-    expect_equal(
-        &minima_and_boundaries(rt.alloc())?,
-        &((2, 3), [Some((2, 3)), None]),
-    )
 }

@@ -1,12 +1,13 @@
 //! Dictionaries in files.
 
+use crate::questions::Question::{Marked, Places};
+use crate::questions::{ask_extended, ask_standard};
 use hyphenation_breaks::language::Language;
 use hyphenation_dictionary::dictionary::{Extended, Standard};
 use hyphenation_load::{Error, Load};
 use std::fs;
 use std::test::Fail;
 use test_dictionaries::{AMERICAN, DOUBLED, FIRKIN, expect_outcome};
-use test_questions::{Question, ask};
 use test_support::expect_text;
 use test_support::files::new_path;
 
@@ -27,7 +28,7 @@ fn a_standard_dictionary_is_loaded_from_a_file(rt: HostRuntime) -> Result<(), Fa
     let path = new_path(&rt, "standard")?;
     let dictionary = load_standard(&rt, &path, Language::english_us())?;
     expect_text(
-        ask(rt.alloc(), dictionary, Question::Places("firkin")),
+        ask_standard(rt.alloc(), dictionary, Places("firkin")),
         "3 ,",
     )
 }
@@ -102,6 +103,9 @@ fn load_extended(
 fn an_extended_dictionary_is_loaded_from_a_file(rt: HostRuntime) -> Result<(), Fail> {
     let path = new_path(&rt, "extended")?;
     let dictionary = load_extended(&rt, &path, DOUBLED)?;
-    let question = Question::Marked("asszonnyal");
-    expect_text(ask(rt.alloc(), dictionary, question), "asz=szony=nyal ")
+    let question = Marked("asszonnyal");
+    expect_text(
+        ask_extended(rt.alloc(), dictionary, question),
+        "asz=szony=nyal ",
+    )
 }

@@ -1,94 +1,88 @@
-//! Dictionaries that were read from texts: beginnings of a text, texts of version 2, and texts that were written after
-//! an edit.
+//! Dictionaries that were read from texts: texts of version 2, and texts that were written after an edit.
 
+use crate::exceptions::firkin_with_exception;
+use crate::questions::Question::{Marked, Places};
+use crate::questions::{Question, answer_of_standard, ask_standard};
 use hyphenation_breaks::language::Language;
 use hyphenation_dictionary::dictionary::Standard;
 use hyphenation_load::Load;
 use std::alloc::Global;
 use std::test::Fail;
-use test_dictionaries::{SMALLEST, extended_of_version_2, standard_of_version_2};
-use test_questions::{Question, ask, firkin_with_exception, places_of, values_by};
-use test_support::{expect_equal_bytes, expect_text};
+use test_dictionaries::standard_of_version_2;
+use test_support::{expect_equal_bytes, expect_text, expect_text_in};
 
-// The values of `ab` and `ac` by the dictionary of the first bytes of the shortest text.
-fn values_of_beginning(alloc: Global, length: usize) -> Result<String, Fail> {
-    let (mut reader, _) = SMALLEST.split_at(length.min(SMALLEST.len()));
-    let dictionary = Standard::any_from_reader(alloc, &mut reader);
-    ask(alloc, dictionary, Question::Values("ab ac"))
-}
+const ELEVEN: &str = "p a{11}b\np a5b.";
+
+const TWELVE: &str = "p a{12}b\np .a{11}b";
+
+// A sentence of what it shows, lines of a standard dictionary of version 2, a question to it, and the answer. Its
+// minima are 1 and 1.
+const VERSION_2: &[(&str, &str, Question<'static>, &str)] = &[
+    (
+        "a number in braces is one value",
+        ELEVEN,
+        Places("ab abc"),
+        "1 ,1 ,",
+    ),
+    (
+        "a mark stands at a value in braces",
+        ELEVEN,
+        Marked("ab abc"),
+        "a=b a=bc ",
+    ),
+    (
+        "the greater of two values in braces decides",
+        TWELVE,
+        Places("ab"),
+        ",",
+    ),
+    (
+        "no mark stands where the greater of two values is even",
+        TWELVE,
+        Marked("ab"),
+        "ab ",
+    ),
+    (
+        "the greatest value is read",
+        "p a{255}b",
+        Places("ab"),
+        "1 ,",
+    ),
+    (
+        "a mark stands at the greatest value",
+        "p a{255}b",
+        Marked("ab"),
+        "a=b ",
+    ),
+    ("the least value is read", "p a1b", Places("ab"), "1 ,"),
+    (
+        "a mark stands at the least value",
+        "p a1b",
+        Marked("ab"),
+        "a=b ",
+    ),
+    (
+        "a key of escaped braces is one",
+        "p \\{1\\}",
+        Places("{}"),
+        "1 ,",
+    ),
+    (
+        "a mark stands in a key of braces",
+        "p \\{1\\}",
+        Marked("{}"),
+        "{=} ",
+    ),
+];
 
 #[test]
-fn accepted_beginnings_give_what_they_spell(rt: HostRuntime) -> Result<(), Fail> {
-    expect_text(values_of_beginning(rt.alloc(), 48), "0 ,0 ,")?;
-    expect_text(values_of_beginning(rt.alloc(), 49), "0 ,0 ,")?;
-    expect_text(values_of_beginning(rt.alloc(), 52), "0 ,0 ,")?;
-    expect_text(values_of_beginning(rt.alloc(), 53), "1 ,1 ,")?;
-    expect_text(values_of_beginning(rt.alloc(), 54), "1 ,0 ,")
-}
-
-// The values of words, the places of their breaks, and the words with `=` at these, by a dictionary of version 2.
-fn results_in_version_2(alloc: Global, lines: &str, words: &str) -> Result<String, Fail> {
-    let mut found = ask(
-        alloc,
-        standard_of_version_2(alloc, lines),
-        Question::Values(words),
-    )?;
-    push_result(&mut found, alloc, lines, Question::Places(words))?;
-    push_result(&mut found, alloc, lines, Question::Marked(words))?;
-    Ok(found)
-}
-
-// Writes the answer to another question.
-fn push_result(
-    found: &mut String,
-    alloc: Global,
-    lines: &str,
-    question: Question<'_>,
-) -> Result<(), Fail> {
-    found.push_str(&ask(alloc, standard_of_version_2(alloc, lines), question)?)?;
+fn words_are_broken_by_dictionaries_of_version_2(rt: HostRuntime) -> Result<(), Fail> {
+    for (shows, lines, question, wanted) in VERSION_2 {
+        let dictionary = standard_of_version_2(rt.alloc(), lines);
+        let answer = ask_standard(rt.alloc(), dictionary, *question);
+        expect_text_in(shows, answer, wanted)?;
+    }
     Ok(())
-}
-
-#[test]
-fn a_number_in_braces_is_one_value(rt: HostRuntime) -> Result<(), Fail> {
-    expect_text(
-        results_in_version_2(rt.alloc(), "p a{11}b\np a5b.", "ab abc"),
-        "11 ,11 0 ,1 ,1 ,a=b a=bc ",
-    )?;
-    expect_text(
-        results_in_version_2(rt.alloc(), "p a{12}b\np .a{11}b", "ab"),
-        "12 ,,ab ",
-    )
-}
-
-#[test]
-fn the_greatest_and_the_least_value_are_read(rt: HostRuntime) -> Result<(), Fail> {
-    expect_text(
-        results_in_version_2(rt.alloc(), "p a{255}b", "ab"),
-        "255 ,1 ,a=b ",
-    )?;
-    expect_text(
-        results_in_version_2(rt.alloc(), "p a1b", "ab"),
-        "1 ,1 ,a=b ",
-    )
-}
-
-#[test]
-fn a_key_of_braces_is_one_in_both_versions(rt: HostRuntime) -> Result<(), Fail> {
-    expect_text(values_by(rt.alloc(), "p {1}", "{}"), "1 ,")?;
-    expect_text(
-        results_in_version_2(rt.alloc(), "p \\{1\\}", "{}"),
-        "1 ,1 ,{=} ",
-    )
-}
-
-#[test]
-fn an_extended_text_has_changes_at_values_in_braces(rt: HostRuntime) -> Result<(), Fail> {
-    let dictionary = extended_of_version_2(rt.alloc(), "p a{11}b 1,1,0,1,x\np a5bc");
-    expect_text(
-        ask(rt.alloc(), dictionary, Question::Values("ab")),
-        "11,1,0,1,x ,",
-    )
 }
 
 // The text of the dictionary of `firkin` with the place 3 listed for `firkins`.
@@ -113,7 +107,7 @@ fn places_after_rewriting(alloc: Global, words: &str) -> Result<String, Fail> {
     let language = Language::from_code("en-gb").ok_or("a code")?;
     let mut reader = written.as_slice();
     let dictionary = Standard::from_reader(alloc, language, &mut reader)?;
-    let found = places_of(alloc, &dictionary, words)?;
+    let found = answer_of_standard(alloc, &dictionary, Places(words))?;
     Ok(found)
 }
 

@@ -1,130 +1,170 @@
-//! The breaks of words by dictionaries that are read from texts.
+//! The breaks, segments and boundaries of usual words.
 
+use crate::questions::Question::{Boundaries, Items, Marked, Minima, NewMark, Places};
+use crate::questions::{Row, expect_rows_of_both};
 use hyphenation_dictionary::dictionary::Standard;
 use hyphenation_hyphenator::hyphenator::Hyphenator;
 use hyphenation_segments::Word;
-use hyphenation_segments::iter::{Breaks, Hyphenating, Iter, Segments, Texts};
+use hyphenation_segments::iter::Iter;
 use std::alloc::{AllocError, Global};
 use std::test::Fail;
-use test_dictionaries::{FIRKIN, dictionary};
-use test_questions::{Question, ask};
-use test_support::{expect, expect_text};
+use test_dictionaries::standard;
+use test_support::{expect, expect_text_in};
+
+// The patterns that occur in `firkin`.
+const FIRKIN: &str = "p .fi2\np i2r\np r2k\np r5kin\np k1in\np k2in.";
 
 const WORDS: &str =
-    "hyphenation 1 standard\nlanguage en-us\nminima 2 3\ne anfractuous 2 6 8\ne hyphenation 2 6 7\ne anisotropic 2 5 9\ne capital 3 4\ne mucilaginous 2 8\ne micro 2\ne idiom 2\ne bevies\ne hypha 2\n";
+    "e anfractuous 2 6 8\ne hyphenation 2 6 7\ne anisotropic 2 5 9\ne capital 3 4\ne mucilaginous 2 8\ne micro 2\ne idiom 2\ne bevies\ne hypha 2";
 
-const NAMES: &str =
-    "hyphenation 1 standard\nlanguage tr\nminima 2 2\ne ibrahim 2 4\ne ilginç 2\ne kilim 2\n";
+const NAMES: &str = "e ibrahim 2 4\ne ilginç 2\ne kilim 2";
 
-const SHORT: &str = "hyphenation 1 standard\nlanguage x\nminima 1 1\ne ißab 3\ne ⱥab 4\np q1q\n";
+const SHORT: &str = "e ißab 3\ne ⱥab 4\np q1q";
 
-const PATTERNS: &str = "hyphenation 1 standard\nlanguage x\nminima 1 1\np i1l\np ß1a\np ⱥa1b\n";
+const PATTERNS: &str = "p i1l\np ß1a\np ⱥa1b";
 
-// A pattern, with minima that leave two letters before and after each break.
-const TWO_LETTERS: &str = "hyphenation 1 standard\nlanguage en-us\nminima 2 2\np i1l\n";
+const HYPHENATION: &str = "e hyphenation 2 6 7";
 
-// The breaks of words by the dictionary of a text.
-fn places_by(alloc: Global, text: &str, words: &str) -> Result<String, Fail> {
-    ask(alloc, dictionary(alloc, text), Question::Places(words))
-}
-
-#[test]
-fn words_break_at_patterns(rt: HostRuntime) -> Result<(), Fail> {
-    expect_text(
-        places_by(rt.alloc(), FIRKIN, "firkin firkins FIRKINS "),
+const ROWS: &[Row] = &[
+    (
+        "patterns break words, and capitals alike",
+        "2 3",
+        FIRKIN,
+        Places("firkin firkins FIRKINS "),
         "3 ,3 4 ,3 4 ,,",
-    )
-}
-
-#[test]
-fn words_break_at_exceptions_alone(rt: HostRuntime) -> Result<(), Fail> {
-    let words = "anfractuous hyphenation anisotropic bevies hypha";
-    expect_text(
-        places_by(rt.alloc(), WORDS, words),
+    ),
+    (
+        "exceptions break words where they are listed, within the minima",
+        "2 3",
+        WORDS,
+        Places("anfractuous hyphenation anisotropic bevies hypha"),
         "2 6 8 ,2 6 7 ,2 5 ,,2 ,",
-    )
-}
-
-#[test]
-fn capitals_break_where_their_small_letters_do(rt: HostRuntime) -> Result<(), Fail> {
-    expect_text(
-        places_by(rt.alloc(), WORDS, "CAPITAL MİCRO İDİOM MUCİLAGİNOUS"),
+    ),
+    (
+        "capitals break where their small letters do",
+        "2 3",
+        WORDS,
+        Places("CAPITAL MİCRO İDİOM MUCİLAGİNOUS"),
         "3 4 ,3 ,3 ,2 10 ,",
-    )?;
-    expect_text(
-        places_by(rt.alloc(), NAMES, "İbrahim İLGİNÇ \u{212a}ilim"),
+    ),
+    (
+        "the segments of capitals are cut between the same letters",
+        "2 3",
+        WORDS,
+        Marked("CAPITAL MİCRO İDİOM MUCİLAGİNOUS"),
+        "CAP=I=TAL Mİ=CRO İD=İOM MU=CİLAGİ=NOUS ",
+    ),
+    (
+        "capitals of other lengths break where their small letters do",
+        "2 2",
+        NAMES,
+        Places("İbrahim İLGİNÇ \u{212a}ilim"),
         "3 5 ,3 ,4 ,",
-    )
-}
-
-#[test]
-fn places_after_letters_of_another_length_are_carried_back(rt: HostRuntime) -> Result<(), Fail> {
-    expect_text(places_by(rt.alloc(), SHORT, "İẞab ȺAB"), "5 ,3 ,")?;
-    expect_text(
-        places_by(rt.alloc(), PATTERNS, "\u{212a}ilim İẞab ȺAB"),
+    ),
+    (
+        "the segments of capitals of other lengths are cut between the same letters",
+        "2 2",
+        NAMES,
+        Marked("İbrahim İLGİNÇ \u{212a}ilim"),
+        "İb=ra=him İL=GİNÇ \u{212a}i=lim ",
+    ),
+    (
+        "listed places after letters of another length are carried back",
+        "1 1",
+        SHORT,
+        Places("İẞab ȺAB"),
+        "5 ,3 ,",
+    ),
+    (
+        "places of patterns after letters of another length are carried back",
+        "1 1",
+        PATTERNS,
+        Places("\u{212a}ilim İẞab ȺAB"),
         "4 ,5 ,3 ,",
-    )?;
-    expect_text(places_by(rt.alloc(), TWO_LETTERS, "\u{212a}ilim"), "4 ,")
-}
-
-#[test]
-fn soft_hyphens_alone_break_their_word(rt: HostRuntime) -> Result<(), Fail> {
-    let words = "\u{ad}ab fir\u{ad}kin ri\u{ad}bo\u{ad}nu\u{ad}cle\u{ad}ase";
-    expect_text(places_by(rt.alloc(), FIRKIN, words), "0 ,3 ,2 6 10 15 ,")?;
-    expect_text(
-        marked_words(rt.alloc(), words),
+    ),
+    (
+        "a place is carried back where the minima leave two letters before and after each break",
+        "2 2",
+        "p i1l",
+        Places("\u{212a}ilim"),
+        "4 ,",
+    ),
+    (
+        "soft hyphens alone break their word",
+        "2 3",
+        FIRKIN,
+        Places("\u{ad}ab fir\u{ad}kin ri\u{ad}bo\u{ad}nu\u{ad}cle\u{ad}ase"),
+        "0 ,3 ,2 6 10 15 ,",
+    ),
+    (
+        "marks stand before soft hyphens",
+        "2 3",
+        WORDS,
+        Marked("\u{ad}ab fir\u{ad}kin ri\u{ad}bo\u{ad}nu\u{ad}cle\u{ad}ase"),
         "=\u{ad}ab fir=\u{ad}kin ri=\u{ad}bo=\u{ad}nu=\u{ad}cle=\u{ad}ase ",
-    )
-}
-
-// Words with marks at their breaks, by the dictionary of exceptions.
-fn marked_words(alloc: Global, words: &str) -> Result<String, Fail> {
-    ask(alloc, dictionary(alloc, WORDS), Question::Marked(words))
-}
+    ),
+    (
+        "marks stand at the breaks",
+        "2 3",
+        WORDS,
+        Marked("anfractuous hyphenation CAPITAL MUCİLAGİNOUS bevies \u{ad}ab  Hypha"),
+        "an=frac=tu=ous hy=phen=a=tion CAP=I=TAL MU=CİLAGİ=NOUS bevies =\u{ad}ab  Hy=pha ",
+    ),
+    (
+        "the first mark is a hyphen",
+        "2 3",
+        WORDS,
+        Items(None, "Hyphenation"),
+        "Hy-,phen-,a-,tion,",
+    ),
+    (
+        "the mark may be empty",
+        "2 3",
+        HYPHENATION,
+        Items(Some(""), "hyphenation"),
+        "hy,phen,a,tion,",
+    ),
+    (
+        "a new mark holds for the items to come",
+        "2 3",
+        HYPHENATION,
+        NewMark("hyphenation"),
+        "4 hy-,3 phen=,2 a=,1 tion,0 none,0 none,",
+    ),
+    (
+        "the minima are those of the text",
+        "2 3",
+        FIRKIN,
+        Minima,
+        "(2, 3)",
+    ),
+    (
+        "the minima bound the places of a word",
+        "2 3",
+        FIRKIN,
+        Boundaries("firkin"),
+        "Some((2, 3))",
+    ),
+    (
+        "a word shorter than the minima 2 and 3 has no boundaries",
+        "2 3",
+        FIRKIN,
+        Boundaries("fir"),
+        "None",
+    ),
+];
 
 #[test]
-fn marks_stand_at_the_breaks(rt: HostRuntime) -> Result<(), Fail> {
-    let words = "anfractuous hyphenation CAPITAL MUCİLAGİNOUS bevies \u{ad}ab  Hypha";
-    let broken = "an=frac=tu=ous hy=phen=a=tion CAP=I=TAL MU=CİLAGİ=NOUS bevies =\u{ad}ab  Hy=pha ";
-    expect_text(marked_words(rt.alloc(), words), broken)
+fn words_are_broken_alike_by_both_kinds(rt: HostRuntime) -> Result<(), Fail> {
+    expect_rows_of_both(rt.alloc(), ROWS)
 }
 
-fn push_items<I: Texts>(output: &mut String, items: Hyphenating<'_, I>) -> Result<(), AllocError> {
-    for item in items {
-        output.push_str(item?.as_str())?;
-    }
-    Ok(())
-}
-
-// The joined items of a word, whose first mark is `-`.
-fn joined_items(alloc: Global, dictionary: &Standard, word: &str) -> Result<String, AllocError> {
-    let mut joined = String::new(alloc);
-    push_items(&mut joined, dictionary.hyphenate(alloc, word)?.into_iter())?;
-    Ok(joined)
-}
-
-#[test]
-fn the_first_mark_is_a_hyphen(rt: HostRuntime) -> Result<(), Fail> {
-    let dictionary = dictionary(rt.alloc(), WORDS)?;
-    expect_text(
-        joined_items(rt.alloc(), &dictionary, "Hyphenation"),
-        "Hy-phen-a-tion",
-    )
-}
-
-fn push_segments<B: Breaks<Item = usize>>(
-    output: &mut String,
-    segments: Segments<'_, B>,
-) -> Result<(), AllocError> {
-    for segment in segments {
-        output.push_str(segment)?;
-    }
-    Ok(())
-}
-
+// The segments of a word, joined.
 fn joined_segments(alloc: Global, word: &Word<'_, usize>) -> Result<String, AllocError> {
     let mut joined = String::new(alloc);
-    push_segments(&mut joined, word.iter().segments())?;
+    for segment in word.iter().segments() {
+        joined.push_str(segment)?;
+    }
     Ok(joined)
 }
 
@@ -137,23 +177,9 @@ fn segments_join(alloc: Global, dictionary: &Standard, word: &str) -> Result<boo
 
 #[test]
 fn the_segments_of_a_word_join_to_it(rt: HostRuntime) -> Result<(), Fail> {
-    let dictionary = dictionary(rt.alloc(), WORDS)?;
+    let dictionary = standard(rt.alloc(), "2 3", WORDS)?;
     for word in "hyphenation anfractuous unknown İDİOM a\u{ad}b".split(' ') {
         expect(segments_join(rt.alloc(), &dictionary, word)?, word)?;
-    }
-    Ok(())
-}
-
-// Writes the size hints of segments, before each of this many calls.
-fn push_size_hints<B: Breaks<Item = usize>>(
-    hints: &mut String,
-    alloc: Global,
-    segments: &mut Segments<'_, B>,
-    calls: usize,
-) -> Result<(), AllocError> {
-    for _ in 0..calls {
-        push_size_hint(hints, alloc, segments.size_hint())?;
-        let _segment = segments.next();
     }
     Ok(())
 }
@@ -163,29 +189,23 @@ fn size_hints(alloc: Global, dictionary: &Standard, word: &str) -> Result<String
     let found = dictionary.hyphenate(alloc, word)?;
     let mut segments = found.iter().segments();
     let mut hints = String::new(alloc);
-    let calls = found.breaks.len().saturating_add(2);
-    push_size_hints(&mut hints, alloc, &mut segments, calls)?;
+    for _ in 0..found.breaks.len().saturating_add(2) {
+        hints.push_str(&format!(in alloc; "{:?} ", segments.size_hint())?)?;
+        let _segment = segments.next();
+    }
     Ok(hints)
 }
 
-fn push_size_hint(
-    hints: &mut String,
-    alloc: Global,
-    hint: (usize, Option<usize>),
-) -> Result<(), AllocError> {
-    let hint = format!(in alloc; "{hint:?} ")?;
-    hints.push_str(&hint)
-}
+const SIZE_HINTS: [(&str, &str); 2] = [
+    ("bevies", "(1, Some(1)) (0, Some(0)) "),
+    ("hypha", "(2, Some(2)) (1, Some(1)) (0, Some(0)) "),
+];
 
 #[test]
 fn size_hints_count_the_segments_to_come(rt: HostRuntime) -> Result<(), Fail> {
-    let dictionary = dictionary(rt.alloc(), WORDS)?;
-    expect_text(
-        size_hints(rt.alloc(), &dictionary, "bevies"),
-        "(1, Some(1)) (0, Some(0)) ",
-    )?;
-    expect_text(
-        size_hints(rt.alloc(), &dictionary, "hypha"),
-        "(2, Some(2)) (1, Some(1)) (0, Some(0)) ",
-    )
+    let dictionary = standard(rt.alloc(), "2 3", WORDS)?;
+    for (word, wanted) in &SIZE_HINTS {
+        expect_text_in(word, size_hints(rt.alloc(), &dictionary, word), wanted)?;
+    }
+    Ok(())
 }

@@ -4,7 +4,7 @@ use Rattle.std.specs.String.{string_bytes}
 use Rattle.std.specs.declared.string.String.{String}
 use Rattle.hyphenation_breaks.specs.Break.{Break}
 use Rattle.paragraphs.specs.Pages.{IsFilled}
-use Rattle.paragraphs.specs.Words.{Style}
+use Rattle.paragraphs.specs.Parts.{Style}
 use Rattle.paragraphs.specs.declared.setting.Aim.{Aim}
 
 -- Lines as texts.

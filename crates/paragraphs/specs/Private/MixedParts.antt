@@ -9,7 +9,7 @@ use Rattle.paragraphs.specs.Private.Entries.{AreMixed, AddsMixed}
 use Rattle.paragraphs.specs.Private.PartSettings.{settings_of}
 use Rattle.paragraphs.specs.Private.Plain.{IsRow}
 use Rattle.paragraphs.specs.Settings.{Setting}
-use Rattle.paragraphs.specs.Words.{Style, word_parts, other_parts}
+use Rattle.paragraphs.specs.Parts.{Style, word_parts, other_parts}
 
 -- They stand for the parts of a paragraph.
 abbrev pub StandForAll : Mixed → List Setting → Type 0

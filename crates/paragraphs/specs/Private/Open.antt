@@ -9,7 +9,7 @@ use Rattle.paragraphs.specs.Private.PartSettings.{settings_of}
 use Rattle.paragraphs.specs.Settings.{Setting}
 use Rattle.paragraphs.specs.Styles.{style_of}
 use Rattle.paragraphs.specs.declared.style.Style as code
-use Rattle.paragraphs.specs.Words.{Style, breaks_in, word_breaks, parts_from}
+use Rattle.paragraphs.specs.Parts.{Style, breaks_in, word_breaks, parts_from}
 
 -- The parts that are made, and those to come, where these breaks are to come.
 abbrev pub settings_with : Style → List ℕ → List Part → Open → List Break → List Setting

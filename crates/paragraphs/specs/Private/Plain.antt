@@ -5,7 +5,7 @@ use Rattle.std.specs.Int.{is_in_range}
 use Rattle.std.specs.List.{list_all}
 use Rattle.hyphenation_breaks.specs.Ascii.{space}
 use Rattle.paragraphs.specs.Private.Printable.{is_printable}
-use Rattle.text_paragraphs.specs.Words.{words}
+use Rattle.paragraphs.specs.Words.{words}
 
 -- A byte is a printable character of ASCII, but no space.
 abbrev pub is_plain : ℕ → Bool

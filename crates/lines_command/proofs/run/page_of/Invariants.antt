@@ -1,7 +1,7 @@
 use Rattle.std.proofs.Common.{◌≡◌, map, take}
 use Rattle.std.specs.List.{flat_map}
 use Rattle.std.specs.String.{string_bytes}
-use Rattle.text_paragraphs.specs.Paragraphs.{ended}
+use Rattle.paragraphs.specs.Paragraphs.{ended}
 use Rattle.lines_command.proofs.run.page_of.Given as goal
 
 -- The lines so far are on the page.

@@ -1,7 +1,7 @@
 use Rattle.std.proofs.Common.{ap}
 use Rattle.paragraphs.specs.Private.PartSettings.{settings_of}
 use Rattle.paragraphs.specs.Styles.{style_of}
-use Rattle.text_paragraphs.specs.Words.{words}
+use Rattle.paragraphs.specs.Words.{words}
 use Rattle.paragraphs.proofs.MixedParts.{mixed_whole}
 use Rattle.paragraphs.proofs.mixed.mixed_of.Goals as goal
 

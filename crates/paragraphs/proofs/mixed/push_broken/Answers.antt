@@ -2,7 +2,7 @@ use Rattle.std.proofs.Common.{◌≡◌, ◌-◌, ◌++◌, length, take, drop, 
 use Rattle.std.proofs.lemmas.List.{length-map, length-take}
 use Rattle.paragraphs.specs.Private.PartSettings.{setting_of, settings_of}
 use Rattle.paragraphs.specs.Styles.{style_of}
-use Rattle.paragraphs.specs.Words.{word_parts}
+use Rattle.paragraphs.specs.Parts.{word_parts}
 use Rattle.paragraphs.proofs.MixedParts.{adds_parts}
 use Rattle.paragraphs.proofs.mixed.push_broken.Goals as goal
 

@@ -2,7 +2,7 @@ use denote.Shadow.{shadow}
 use denote.Text.{Utf8}
 use Rattle.std.proofs.Common.{length}
 use Rattle.paragraphs.specs.Styles.{style_of}
-use Rattle.text_paragraphs.specs.Words.{words}
+use Rattle.paragraphs.specs.Words.{words}
 use Rattle.paragraphs.specs.Private.MixedParts.{AddsUpTo}
 use Rattle.paragraphs.proofs.mixed.push_others.Given as goal
 

@@ -1,6 +1,6 @@
 use Rattle.std.proofs.Common.{rules, arith}
 use Rattle.paragraphs.specs.Styles.{style_of}
-use Rattle.text_paragraphs.specs.Words.{words}
+use Rattle.paragraphs.specs.Words.{words}
 use Rattle.paragraphs.proofs.MixedParts.{adds_up_none, adds_up_row, adds_up_both}
 use Rattle.paragraphs.proofs.mixed.push_runs.Goals as goal
 

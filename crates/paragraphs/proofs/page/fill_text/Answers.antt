@@ -10,9 +10,9 @@ use Rattle.std.proofs.lemmas.Result.{err_from_is_err_and}
 use Rattle.paragraphs.specs.declared.text.FillError.TheVariants.{TooLong}
 use Rattle.paragraphs.specs.Pages.{HasTooLong}
 use Rattle.paragraphs.specs.Settings.{IsTooLong}
-use Rattle.paragraphs.specs.Words.{parts_of}
-use Rattle.text_paragraphs.specs.Words.{words}
-use Rattle.text_paragraphs.specs.Paragraphs.{paragraphs}
+use Rattle.paragraphs.specs.Parts.{parts_of}
+use Rattle.paragraphs.specs.Words.{words}
+use Rattle.paragraphs.specs.Paragraphs.{paragraphs}
 use Rattle.paragraphs.proofs.page.fill_text.Goals as goal
 
 pub loop-paragraph-preserved : goal.loop-paragraph-preserved

@@ -1,7 +1,7 @@
 use Rattle.std.proofs.Common.{eqb-true, arith, ◌≤◌, ◌∷◌, ◌++◌, ◌∙◌, length, take, drop, ap, sym, subst}
 use Rattle.std.proofs.lemmas.List.{take-append-drop}
 use Rattle.std.proofs.lemmas.List.Folds.{drop_split}
-use Rattle.text_paragraphs.specs.Words.{words}
+use Rattle.paragraphs.specs.Words.{words}
 use Rattle.std.specs.Char.{is_ascii_alphabetic}
 use Rattle.std.specs.List.{list_all}
 use Rattle.paragraphs.specs.Private.Printable.{is_printable}

@@ -1,5 +1,5 @@
 use Rattle.std.proofs.Common.{◌≤◌, ◌++◌, ◌∙◌, length, ap, sym, subst, arith, length-drop}
-use Rattle.text_paragraphs.specs.Words.{words}
+use Rattle.paragraphs.specs.Words.{words}
 use Rattle.paragraphs.specs.Private.Plain.{is_ascii_gap, EachBetween, IsRow, IsRun}
 use Rattle.paragraphs.proofs.PlainWords.{gaps_passed, cut_after_gaps}
 use Rattle.paragraphs.proofs.plain.split_run.Goals as goal

@@ -5,8 +5,8 @@ use Rattle.paragraphs.specs.Aims.{IsSet}
 use Rattle.paragraphs.specs.Settings.{stretch_of}
 use Rattle.paragraphs.specs.Private.PartSettings.{settings_of, is_short_part}
 use Rattle.paragraphs.specs.Styles.{style_of}
-use Rattle.paragraphs.specs.Words.{parts_of}
-use Rattle.text_paragraphs.specs.Words.{words}
+use Rattle.paragraphs.specs.Parts.{parts_of}
+use Rattle.paragraphs.specs.Words.{words}
 use Rattle.paragraphs.proofs.PlainParts.{plain_parts_orderly}
 use Rattle.paragraphs.proofs.ShortParts.{not_all_short}
 use Rattle.paragraphs.proofs.WordsKept.{words_kept}

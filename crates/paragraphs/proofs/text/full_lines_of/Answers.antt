@@ -2,8 +2,8 @@ use Rattle.std.proofs.Common.{sym, subst}
 use Rattle.paragraphs.specs.Private.Entries.{AreMixed}
 use Rattle.paragraphs.specs.Private.PartSettings.{settings_of}
 use Rattle.paragraphs.specs.Styles.{style_of}
-use Rattle.paragraphs.specs.Words.{parts_of}
-use Rattle.text_paragraphs.specs.Words.{words}
+use Rattle.paragraphs.specs.Parts.{parts_of}
+use Rattle.paragraphs.specs.Words.{words}
 use Rattle.paragraphs.proofs.PlainParts.{plain_parts_orderly}
 use Rattle.paragraphs.proofs.WordsKept.{words_kept}
 use Rattle.paragraphs.proofs.text.full_lines_of.Goals as goal

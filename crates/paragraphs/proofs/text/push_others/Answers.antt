@@ -2,8 +2,8 @@ use Rattle.std.proofs.Common.{◌++◌, ap, sym, refl, ◌∙◌, append_assoc, 
 use Rattle.std.specs.List.{flat_map}
 use Rattle.paragraphs.specs.Private.PartSettings.{settings_of}
 use Rattle.paragraphs.specs.Styles.{style_of}
-use Rattle.paragraphs.specs.Words.{word_parts}
-use Rattle.text_paragraphs.specs.Words.{words}
+use Rattle.paragraphs.specs.Parts.{word_parts}
+use Rattle.paragraphs.specs.Words.{words}
 use Rattle.paragraphs.proofs.Places.{ends_after, ends_further}
 use Rattle.paragraphs.proofs.text.push_others.Goals as goal
 

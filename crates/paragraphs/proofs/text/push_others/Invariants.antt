@@ -5,8 +5,8 @@ use Rattle.std.specs.List.{flat_map}
 use Rattle.paragraphs.specs.Private.PartSettings.{settings_of}
 use Rattle.paragraphs.specs.Private.Places.{AllStandIn}
 use Rattle.paragraphs.specs.Styles.{style_of}
-use Rattle.paragraphs.specs.Words.{word_parts}
-use Rattle.text_paragraphs.specs.Words.{words, EndsIn}
+use Rattle.paragraphs.specs.Parts.{word_parts}
+use Rattle.paragraphs.specs.Words.{words, EndsIn}
 use Rattle.paragraphs.proofs.text.push_others.Given as goal
 
 -- The parts that are made, with those of the words to come, are those of all words.

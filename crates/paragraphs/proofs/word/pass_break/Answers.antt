@@ -1,7 +1,7 @@
 use Rattle.std.proofs.Common.{◌≡◌, ◌≤◌, ◌+◌, refl, sym, subst, rules, arith}
 use Rattle.std.specs.Str.{IsCharBoundary}
 use Rattle.hyphenation_breaks.specs.Break.{end_of}
-use Rattle.paragraphs.specs.Words.{set_off}
+use Rattle.paragraphs.specs.Parts.{set_off}
 use Rattle.paragraphs.proofs.Places.{places_pushed}
 use Rattle.paragraphs.proofs.word.pass_break.Goals as goal
 

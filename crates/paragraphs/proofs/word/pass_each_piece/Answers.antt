@@ -2,7 +2,7 @@ use Rattle.std.proofs.Common.{sym, ap, subst, ◌∙◌}
 use Rattle.std.specs.List.{flat_map}
 use Rattle.paragraphs.specs.Private.Open.{settings_with}
 use Rattle.paragraphs.specs.Styles.{style_of}
-use Rattle.paragraphs.specs.Words.{breaks_in}
+use Rattle.paragraphs.specs.Parts.{breaks_in}
 use Rattle.word_pieces.specs.Pieces.{piece_indices_left, AreSlices}
 use Rattle.paragraphs.proofs.word.pass_each_piece.Goals as goal
 

@@ -2,7 +2,7 @@ use Rattle.std.proofs.Common.{◌≡◌, length}
 use Rattle.std.specs.List.{flat_map}
 use Rattle.std.specs.Str.{IsCharBoundary}
 use Rattle.word_pieces.specs.Pieces.{piece_indices_left, AreSlices}
-use Rattle.paragraphs.specs.Words.{breaks_in, word_breaks}
+use Rattle.paragraphs.specs.Parts.{breaks_in, word_breaks}
 use Rattle.paragraphs.specs.Styles.{style_of}
 use Rattle.paragraphs.specs.Private.Open.{settings_with}
 use Rattle.paragraphs.specs.Private.Places.{KeepPlaces}

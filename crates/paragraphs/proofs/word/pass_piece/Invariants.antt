@@ -1,7 +1,7 @@
 use Rattle.std.proofs.Common.{◌≡◌, ◌++◌, List, map, drop}
 use Rattle.std.specs.Str.{IsCharBoundary}
 use Rattle.hyphenation_breaks.specs.Break.{Break}
-use Rattle.paragraphs.specs.Words.{set_off}
+use Rattle.paragraphs.specs.Parts.{set_off}
 use Rattle.paragraphs.specs.Styles.{style_of}
 use Rattle.paragraphs.specs.Private.Open.{settings_with}
 use Rattle.paragraphs.specs.Private.Places.{KeepPlaces}

@@ -1,0 +1,7 @@
+use Rattle.std.proofs.Common.{◌≡◌, map, take}
+use Rattle.std.specs.String.{string_bytes}
+use Rattle.hyphenation_writer.specs.Canonical.{with_line_feeds}
+use Rattle.c_calls.proofs.calls.joined.Given as goal
+
+abbrev pub invariant-loop-line : goal.invariant-loop-line
+invariant-loop-line l = string_bytes l.text ≡ with_line_feeds (map string_bytes (take l.line-index l.lines))

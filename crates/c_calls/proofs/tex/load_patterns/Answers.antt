@@ -1,0 +1,16 @@
+use Rattle.std.proofs.Common.{List, ℕ, ◌∙◌, subst}
+use Rattle.std.specs.Prelude.{IfOk}
+use Rattle.c_calls.specs.Dictionaries.{dictionary_of}
+use Rattle.c_calls.specs.TexFiles.{files_of, IsOfFiles}
+use Rattle.c_calls.proofs.tex.load_patterns.Goals as goal
+
+pub returns-clause-good : goal.returns-clause-good
+returns-clause-good c = c.boxed_from_files.ensures.good
+
+pub returns-clause-contents : goal.returns-clause-contents
+returns-clause-contents c =
+    subst (λ (l : List ℕ). IfOk c.boxed_from_files.result (λ loaded. IsOfFiles c.args.kind l c.args.left c.args.right (files_of c.args.form c.args.bytes c.args.exceptions) (dictionary_of loaded.value)))
+    (c.in-Some.ensures.code ∙ c.in-Ok.ensures.cases.0) c.boxed_from_files.ensures.contents
+
+pub returns-clause-no_dictionary : goal.returns-clause-no_dictionary
+returns-clause-no_dictionary c = c.boxed_from_files.ensures.refused c.args.code.now

@@ -1,0 +1,234 @@
+-- The statuses of the calls: which case each one says, and what a call leaves in the caller's memory then.
+use Rattle.std.specs.Prelude.{◌≡◌, ◌⊎◌, ◌++◌, ◌<◌, ◌≤◌, zero, suc, ℕ, IsTrue, IsFalse, List, length, map, drop, Option, None, Some}
+use mathlib.Core.Logic.{inl, inr}
+use Rattle.std.specs.Str.{IsUtf8}
+use Rattle.hyphenation_writer.specs.Canonical.{with_line_feeds}
+use Rattle.hyphenation_reader.specs.Edits.{is_good_edit}
+use Rattle.hyphenation_grammar.specs.Judging.{refusal_of}
+use Rattle.hyphenation_grammar.specs.declared.Cause.{Cause}
+use Rattle.hyphenation_grammar.specs.declared.Cause.TheVariants as causes
+use Rattle.hyphenation_grammar.specs.declared.form.Kind.{Kind}
+use Rattle.hyphenation_grammar.specs.declared.form.Kind.TheVariants.{Standard, Extended}
+use Rattle.hyphenation_hyphenator.specs.Hyphenated.{hyphenated_text}
+use Rattle.linefill.specs.Lines.{lines_by}
+use Rattle.c_calls.specs.Dictionaries.{Dictionary, kind_of, given, language_of, minima_of, breaks_by, places_by, values_by, as_change, texts_of, edited, text_of}
+use Rattle.c_calls.specs.declared.changes.BreakChange.{BreakChange}
+
+-- ---- Numbers that C passes and reads.
+
+-- 0 is the standard kind, 1 the extended one, and no other number is a kind.
+abbrev pub kind_numbered : ℕ → Option Kind
+kind_numbered zero = Some Standard
+kind_numbered (suc zero) = Some Extended
+kind_numbered _ = None
+
+-- The causes in the order of the tests, from 1 on.
+abbrev pub cause_number : Cause → ℕ
+cause_number causes.NotUtf8 = 1
+cause_number causes.Header = 2
+cause_number causes.Language = 3
+cause_number causes.Minima = 4
+cause_number causes.UnknownLine = 5
+cause_number causes.Token = 6
+cause_number causes.Value = 7
+cause_number causes.Pattern = 8
+cause_number causes.NoLetters = 9
+cause_number causes.Number = 10
+cause_number causes.Place = 11
+cause_number causes.Change = 12
+cause_number causes.RepeatedPattern = 13
+cause_number causes.RepeatedException = 14
+
+-- ---- Calls that write into a buffer, and its length into a count.
+
+-- 0: the buffer begins with all that was found, its rest is unchanged, and the count is the length found. 1: the count
+-- is that length, the buffer is shorter, and it is unchanged.
+abbrev pub Fills : {T : Type 0} → List T → List T → List T → ℕ → ℕ → Type 0
+Fills found old new count zero =
+    (count ≡ length found) × (count ≤ length old) × (new ≡ found ++ drop (length found) old)
+Fills found old new count (suc zero) = (count ≡ length found) × (length old < count) × (new ≡ old)
+Fills found old new count _ = ⊥
+
+-- A buffer and a count are unchanged.
+abbrev pub IsUnchanged : {T : Type 0} → List T → List T → ℕ → ℕ → Type 0
+IsUnchanged old new before after = (new ≡ old) × (after ≡ before)
+
+-- 0 and 1: the arguments are good, and the buffer is filled or too short. 2: out of memory. 4: the arguments are not
+-- good. No other status comes, and from 2 on the buffer and the count are unchanged.
+abbrev pub Finds : {T : Type 0} → Type 0 → List T → List T → List T → ℕ → ℕ → ℕ → Type 0
+Finds Good found old new before after zero = Good × Fills found old new after 0
+Finds Good found old new before after (suc zero) = Good × Fills found old new after 1
+Finds Good found old new before after (suc (suc zero)) = IsUnchanged old new before after
+Finds Good found old new before after (suc (suc (suc (suc zero)))) = ¬ Good × IsUnchanged old new before after
+Finds Good found old new before after _ = ⊥
+
+-- 3: the handle holds no dictionary, and the buffer and the count are unchanged. A handle with a dictionary has the
+-- statuses that are given of this dictionary.
+abbrev pub IfHeld : {T : Type 0} → Option Dictionary → List T → List T → ℕ → ℕ → ℕ → (Dictionary → Type 0) → Type 0
+IfHeld None old new before after status Says = (status ≡ 3) × IsUnchanged old new before after
+IfHeld (Some dictionary) old new before after status Says = Says dictionary
+
+-- The places of a word's breaks.
+abbrev pub FindsBreaks : Dictionary → List ℕ → List ℕ → List ℕ → ℕ → ℕ → ℕ → Type 0
+FindsBreaks dictionary word old new before after status =
+    Finds (IsUtf8 word) (places_by dictionary word) old new before after status
+
+abbrev pub WritesBreaks : Option Dictionary → List ℕ → List ℕ → List ℕ → ℕ → ℕ → ℕ → Type 0
+WritesBreaks holds word old new before after status =
+    IfHeld holds old new before after status
+    (λ dictionary. FindsBreaks dictionary word old new before after status)
+
+-- The values of a word's places, from place 1 on.
+abbrev pub FindsValues : Dictionary → List ℕ → List ℕ → List ℕ → ℕ → ℕ → ℕ → Type 0
+FindsValues dictionary word old new before after status =
+    Finds (IsUtf8 word) (values_by dictionary word) old new before after status
+
+abbrev pub WritesValues : Option Dictionary → List ℕ → List ℕ → List ℕ → ℕ → ℕ → ℕ → Type 0
+WritesValues holds word old new before after status =
+    IfHeld holds old new before after status
+    (λ dictionary. FindsValues dictionary word old new before after status)
+
+-- A text with the mark at each break of its words.
+abbrev pub FindsMarkedText : Dictionary → List ℕ → List ℕ → List ℕ → List ℕ → ℕ → ℕ → ℕ → Type 0
+FindsMarkedText dictionary text mark old new before after status =
+    Finds (IsUtf8 text × IsUtf8 mark) (hyphenated_text (breaks_by dictionary) mark text) old new before after status
+
+abbrev pub WritesMarkedText : Option Dictionary → List ℕ → List ℕ → List ℕ → List ℕ → ℕ → ℕ → ℕ → Type 0
+WritesMarkedText holds text mark old new before after status =
+    IfHeld holds old new before after status
+    (λ dictionary. FindsMarkedText dictionary text mark old new before after status)
+
+-- The lines of a text, each with a line feed after it, by a standard dictionary. 6: the dictionary is an extended one,
+-- and the buffer and the count are unchanged.
+abbrev pub FindsLines : Dictionary → List ℕ → ℕ → List ℕ → List ℕ → ℕ → ℕ → ℕ → Type 0
+FindsLines (inl standard) text columns old new before after status =
+    Finds (IsUtf8 text) (with_line_feeds (lines_by (breaks_by (inl standard)) text columns)) old new before after
+    status
+FindsLines (inr extended) text columns old new before after status = (status ≡ 6) × IsUnchanged old new before after
+
+abbrev pub WritesLines : Option Dictionary → List ℕ → ℕ → List ℕ → List ℕ → ℕ → ℕ → ℕ → Type 0
+WritesLines holds text columns old new before after status =
+    IfHeld holds old new before after status
+    (λ dictionary. FindsLines dictionary text columns old new before after status)
+
+-- The code of the dictionary's language.
+abbrev pub WritesLanguage : Option Dictionary → List ℕ → List ℕ → ℕ → ℕ → ℕ → Type 0
+WritesLanguage holds old new before after status =
+    IfHeld holds old new before after status
+    (λ dictionary. Finds (Unit {0}) (language_of dictionary) old new before after status)
+
+-- The dictionary's canonical text.
+abbrev pub WritesCanonicalText : Option Dictionary → List ℕ → List ℕ → ℕ → ℕ → ℕ → Type 0
+WritesCanonicalText holds old new before after status =
+    IfHeld holds old new before after status
+    (λ dictionary. Finds (Unit {0}) (text_of dictionary) old new before after status)
+
+-- ---- The least numbers of characters, in two numbers of the caller's.
+
+-- 0: the numbers are the dictionary's minima. 3: the handle holds no dictionary, and both numbers are unchanged.
+abbrev pub WritesMinima : Option Dictionary → ℕ × ℕ → ℕ × ℕ → ℕ → Type 0
+WritesMinima None old new status = (status ≡ 3) × (new ≡ old)
+WritesMinima (Some dictionary) old new status = (status ≡ 0) × (new ≡ minima_of dictionary)
+
+-- ---- Calls that write into two buffers.
+
+-- A buffer and a count, before and after a call.
+pub record Buffer (T : Type 0) : Type 0 where
+  pub old : List T
+  pub new : List T
+  pub before : ℕ
+  pub after : ℕ
+
+abbrev pub into : {T : Type 0} → List T → List T → ℕ → ℕ → Buffer T
+into old new before after = record { old = old; new = new; before = before; after = after }
+
+-- Two buffers and their counts are unchanged.
+abbrev pub AreUnchanged : {T U : Type 0} → Buffer T → Buffer U → Type 0
+AreUnchanged b c = IsUnchanged b.old b.new b.before b.after × IsUnchanged c.old c.new c.before c.after
+
+-- 0: both buffers are filled. 1: one of them is too short, both counts are the lengths found, and both buffers are
+-- unchanged.
+abbrev pub FillsBoth : {T U : Type 0} → List T → List U → Buffer T → Buffer U → ℕ → Type 0
+FillsBoth found more b c zero = Fills found b.old b.new b.after 0 × Fills more c.old c.new c.after 0
+FillsBoth found more b c (suc zero) =
+    (b.after ≡ length found) × (c.after ≡ length more) × ((length b.old < b.after) ⊎ (length c.old < c.after))
+    × (b.new ≡ b.old) × (c.new ≡ c.old)
+FillsBoth found more b c _ = ⊥
+
+-- ---- The changes of a word's breaks.
+
+-- 0 and 1: the word is UTF-8, and both buffers are filled, or one is too short. 2: out of memory. 4: the word is not
+-- UTF-8. No other status comes, and from 2 on all is unchanged.
+abbrev pub FindChanges : Dictionary → List ℕ → Buffer BreakChange → Buffer ℕ → ℕ → Type 0
+FindChanges dictionary word changes texts zero =
+    IsUtf8 word
+    × FillsBoth (map as_change (breaks_by dictionary word)) (texts_of (breaks_by dictionary word)) changes texts 0
+FindChanges dictionary word changes texts (suc zero) =
+    IsUtf8 word
+    × FillsBoth (map as_change (breaks_by dictionary word)) (texts_of (breaks_by dictionary word)) changes texts 1
+FindChanges dictionary word changes texts (suc (suc zero)) = AreUnchanged changes texts
+FindChanges dictionary word changes texts (suc (suc (suc (suc zero)))) = ¬ IsUtf8 word × AreUnchanged changes texts
+FindChanges dictionary word changes texts _ = ⊥
+
+abbrev pub Changes : Option Dictionary → List ℕ → Buffer BreakChange → Buffer ℕ → ℕ → Type 0
+Changes None word changes texts status = (status ≡ 3) × AreUnchanged changes texts
+Changes (Some dictionary) word changes texts status = FindChanges dictionary word changes texts status
+
+-- ---- Loading, sharing and editing.
+
+-- The text is refused at this line, for the cause of this number.
+abbrev pub IsRefusedAt : Option (ℕ × Cause) → ℕ × ℕ → Type 0
+IsRefusedAt (Some (line, cause)) place = place ≡ (line, cause_number cause)
+IsRefusedAt None place = ⊥
+
+-- A line with the number of a cause, and the dictionary of the handle, before and after.
+pub record Loading : Type 0 where
+  pub old : Option Dictionary
+  pub new : Option Dictionary
+  pub before : ℕ × ℕ
+  pub after : ℕ × ℕ
+
+abbrev pub loading : Option Dictionary → Option Dictionary → ℕ × ℕ → ℕ × ℕ → Loading
+loading old new before after = record { old = old; new = new; before = before; after = after }
+
+-- 0: the text is accepted, and the handle holds the dictionary that it gives. 2: out of memory. 5: the text is refused
+-- at the line and for the cause that are written. No other status comes. From 1 on the handle is unchanged, and the
+-- line and the cause are written with status 5 alone.
+abbrev pub LoadsAs : Kind → List ℕ → Loading → ℕ → Type 0
+LoadsAs kind bytes l zero =
+    (refusal_of kind bytes ≡ None) × (l.new ≡ Some (given kind bytes)) × (l.after ≡ l.before)
+LoadsAs kind bytes l (suc (suc zero)) = (l.new ≡ l.old) × (l.after ≡ l.before)
+LoadsAs kind bytes l (suc (suc (suc (suc (suc zero))))) =
+    IsRefusedAt (refusal_of kind bytes) l.after × (l.new ≡ l.old)
+LoadsAs kind bytes l _ = ⊥
+
+-- 6: no kind has that number, and all is unchanged. A kind has the statuses above.
+abbrev pub Loads : Option Kind → List ℕ → Loading → ℕ → Type 0
+Loads None bytes l status = (status ≡ 6) × (l.new ≡ l.old) × (l.after ≡ l.before)
+Loads (Some kind) bytes l status = LoadsAs kind bytes l status
+
+-- 0: the other handle holds this handle's dictionary. 2: out of memory. 3: this handle holds no dictionary. No other
+-- status comes, and from 1 on the other handle is unchanged.
+abbrev pub Shares : Option Dictionary → Option Dictionary → Option Dictionary → ℕ → Type 0
+Shares None old new status = (status ≡ 3) × (new ≡ old)
+Shares (Some dictionary) old new zero = new ≡ Some dictionary
+Shares (Some dictionary) old new (suc (suc zero)) = new ≡ old
+Shares (Some dictionary) old new _ = ⊥
+
+-- 0: the edit is good, and is done. 2: out of memory. 4: the edit is not UTF-8. 5: it is UTF-8, and is refused. No
+-- other status comes, and from 1 on the dictionary is unchanged.
+abbrev pub EditsDictionary : Dictionary → Dictionary → List ℕ → ℕ → Type 0
+EditsDictionary old new edit zero =
+    IsUtf8 edit × IsTrue (is_good_edit (kind_of old) edit) × (new ≡ edited old edit)
+EditsDictionary old new edit (suc (suc zero)) = new ≡ old
+EditsDictionary old new edit (suc (suc (suc (suc zero)))) = ¬ IsUtf8 edit × (new ≡ old)
+EditsDictionary old new edit (suc (suc (suc (suc (suc zero))))) =
+    IsUtf8 edit × IsFalse (is_good_edit (kind_of old) edit) × (new ≡ old)
+EditsDictionary old new edit _ = ⊥
+
+-- 3: the handle holds no dictionary, before and after. A dictionary has the statuses above, and the handle still holds
+-- one.
+abbrev pub Edits : Option Dictionary → Option Dictionary → List ℕ → ℕ → Type 0
+Edits None new edit status = (status ≡ 3) × (new ≡ None)
+Edits (Some old) (Some new) edit status = EditsDictionary old new edit status
+Edits (Some old) None edit status = ⊥

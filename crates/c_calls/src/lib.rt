@@ -1,0 +1,400 @@
+//! The calls of C, as functions of Rattle. The crate `hyphenation_c` exports each of them, by a name of its own.
+//!
+//! A [`handle::Handle`] lies in the caller's memory, and holds one dictionary or none. Each call but [`free`] returns a
+//! status ([`statuses`]). A call writes what it finds into a buffer of the caller's. If the buffer is too short, it stays
+//! unchanged, and the count says how much room is wanted. No memory passes from one side to the other.
+//!
+//! The functions here take the dictionary out of its handle and put it back. The modules do the work: [`calls`] and those
+//! below it have a dictionary that is loaded.
+#![tactic(auto)]
+
+ghost use Rattle.std.specs.Prelude.{◌≡◌, None};
+ghost use Rattle.c_calls.specs.Dictionaries.{holds};
+ghost use Rattle.c_calls.specs.Lists.{WritesLists};
+ghost use Rattle.c_calls.specs.Patterns.{LoadsDic};
+ghost use Rattle.c_calls.specs.Statuses.{kind_numbered, Loads, Shares, Edits, WritesLanguage, WritesMinima};
+ghost use Rattle.c_calls.specs.Statuses.{WritesBreaks, WritesValues, Changes, into, loading};
+ghost use Rattle.c_calls.specs.Statuses.{WritesMarkedText, WritesLines, WritesCanonicalText};
+ghost use Rattle.c_calls.specs.TexFiles.{LoadsPatterns, PlacesFault};
+
+pub mod buffers;
+pub mod calls;
+pub mod changes;
+pub mod edits;
+pub mod handle;
+pub mod lists;
+pub mod loaded;
+pub mod numbers;
+pub mod patterns;
+pub mod room;
+pub mod statuses;
+pub mod tex;
+pub mod utf8;
+pub mod values;
+
+use changes::BreakChange;
+use handle::Handle;
+use hyphenation_reader::reader::Refusal;
+use patterns::Failure;
+use statuses::{
+    DONE, NO_DICTIONARY, NO_LANGUAGE, NO_MINIMA, NOT_UTF8, OTHER_KIND, OUT_OF_MEMORY, REFUSED,
+};
+use std::alloc::Global;
+use tex::NoDictionary;
+
+/// Loads a dictionary of a kind from its text. It takes the place of the dictionary that the handle held.
+///
+/// The kind is 0 for a standard dictionary, and 1 for an extended one. For a refused text (`REFUSED`) the first faulty
+/// line, counted from 1, and the number of its cause are written. With each status but `DONE` the handle is unchanged.
+pub fn load(
+    alloc: Global,
+    kind: u32,
+    bytes: &[u8],
+    handle: &mut Handle,
+    line: &mut usize,
+    cause: &mut u32,
+) -> u32
+    ensures loads { Loads (kind_numbered kind) bytes.now
+        (loading (holds handle.old) (holds handle.new) (line.old, cause.old) (line.new, cause.new)) result }
+{
+    let Some(kind) = numbers::kind_numbered(kind) else {
+        return OTHER_KIND;
+    };
+    match calls::load(alloc, kind, bytes) {
+        Ok(loaded) => {
+            handle.put(alloc, loaded);
+            DONE
+        }
+        Err(
+            Refusal::Fault {
+                line: at,
+                cause: why,
+            },
+        ) => {
+            *line = at;
+            *cause = numbers::cause_number(why);
+            REFUSED
+        }
+        Err(Refusal::Memory) => OUT_OF_MEMORY,
+    }
+}
+
+/// Makes a dictionary of a kind of LibreOffice's `.dic`. It takes the place of the dictionary that the handle held.
+///
+/// The language is a code such as `en-us`. A minimum above 255 is the one that the file says, or 2. For a refused file
+/// (`REFUSED`) the line of its first fault, counted from 1, and the number of its cause, from 21 on, are written. With
+/// each status but `DONE` the handle is unchanged.
+pub fn load_dic(
+    alloc: Global,
+    kind: u32,
+    code: &[u8],
+    left: u32,
+    right: u32,
+    bytes: &[u8],
+    handle: &mut Handle,
+    line: &mut usize,
+    cause: &mut u32,
+) -> u32
+    ensures loads { LoadsDic kind left right code.now bytes.now
+        (loading (holds handle.old) (holds handle.new) (line.old, cause.old) (line.new, cause.new)) result }
+{
+    let Some(kind) = numbers::kind_numbered(kind) else {
+        return OTHER_KIND;
+    };
+    let left = patterns::minimum_given(left);
+    let right = patterns::minimum_given(right);
+    match patterns::load_dic(alloc, kind, code, left, right, bytes) {
+        Ok(loaded) => {
+            handle.put(alloc, loaded);
+            DONE
+        }
+        Err(Failure::Fault(at, why)) => {
+            *line = at;
+            *cause = patterns::pattern_cause_number(why);
+            REFUSED
+        }
+        Err(Failure::Memory) => OUT_OF_MEMORY,
+        Err(Failure::NotUtf8) => NOT_UTF8,
+        Err(Failure::NotCode) => NO_LANGUAGE,
+    }
+}
+
+/// Makes a dictionary of a kind of a TeX file of patterns, or of a plain one, and of a plain file of exceptions.
+///
+/// The form is 0 for a TeX file, and 1 for a plain one. The file of exceptions may be empty. A minimum above 255 is the
+/// one in the head of the TeX file, as those of hyph-utf8 have it; `NO_MINIMA` if none is there. For a refused file
+/// (`REFUSED`) its number is written, which is 0 or 1, with the line of its first fault, counted from 1, and the number
+/// of the cause, from 21 on. With each status but `DONE` the handle is unchanged.
+pub fn load_patterns(
+    alloc: Global,
+    kind: u32,
+    form: u32,
+    code: &[u8],
+    left: u32,
+    right: u32,
+    bytes: &[u8],
+    exceptions: &[u8],
+    handle: &mut Handle,
+    file: &mut usize,
+    line: &mut usize,
+    cause: &mut u32,
+) -> u32
+    ensures loads { LoadsPatterns (kind, form) (left, right) code.now bytes.entry exceptions.entry
+        (holds handle.old) (holds handle.new) result }
+    ensures fault { PlacesFault form bytes.entry exceptions.entry (file.old, (line.old, cause.old))
+        (file.new, (line.new, cause.new)) result }
+{
+    let Some(kind) = numbers::kind_numbered(kind) else {
+        return OTHER_KIND;
+    };
+    let Some(form) = tex::form_numbered(form) else {
+        return OTHER_KIND;
+    };
+    let left = patterns::minimum_given(left);
+    let right = patterns::minimum_given(right);
+    match tex::load_patterns(alloc, kind, code, left, right, form, bytes, exceptions) {
+        Ok(loaded) => {
+            handle.put(alloc, loaded);
+            DONE
+        }
+        Err(NoDictionary::Fault(number, at, why)) => {
+            *file = number;
+            *line = at;
+            *cause = patterns::pattern_cause_number(why);
+            REFUSED
+        }
+        Err(NoDictionary::Memory) => OUT_OF_MEMORY,
+        Err(NoDictionary::NotUtf8) => NOT_UTF8,
+        Err(NoDictionary::NotCode) => NO_LANGUAGE,
+        Err(NoDictionary::NoMinima) => NO_MINIMA,
+    }
+}
+
+/// Frees the dictionary that the handle holds, if it holds one. The handle holds none afterwards.
+pub fn free(alloc: Global, handle: &mut Handle)
+    ensures empty { holds handle.new ≡ None }
+{
+    drop(handle.take(alloc));
+}
+
+/// Lets another handle hold the same dictionary, for another thread for example. Nothing is copied.
+///
+/// It takes the place of the dictionary that the other handle held. With each status but `DONE` the other handle is
+/// unchanged; this one is so always.
+pub fn share(alloc: Global, handle: &mut Handle, other: &mut Handle) -> u32
+    ensures unchanged { holds handle.new ≡ holds handle.old }
+    ensures shares { Shares (holds handle.old) (holds other.old) (holds other.new) result }
+{
+    let Some(loaded) = handle.take(alloc) else {
+        return NO_DICTIONARY;
+    };
+    let shared = calls::share(alloc, &loaded);
+    *handle = Handle::of(loaded);
+    match shared {
+        Some(shared) => {
+            other.put(alloc, shared);
+            DONE
+        }
+        None => OUT_OF_MEMORY,
+    }
+}
+
+/// Edits the exceptions: `+` and an exception as it stands after `e ` in a dictionary text, or `-` and a word.
+///
+/// Other handles with the same dictionary are unchanged: if there are any, this handle holds an edited copy afterwards.
+/// A faulty edit is `REFUSED`. With each status but `DONE` the dictionary is unchanged.
+pub fn edit(alloc: Global, handle: &mut Handle, edit: &[u8]) -> u32
+    ensures edits { Edits (holds handle.old) (holds handle.new) edit.now result }
+{
+    let Some(mut loaded) = handle.take(alloc) else {
+        return NO_DICTIONARY;
+    };
+    let status = edits::edit(&mut loaded, alloc, edit);
+    *handle = Handle::of(loaded);
+    status
+}
+
+/// Writes the code of the dictionary's language to the front of a buffer: at most 32 bytes.
+pub fn write_language(alloc: Global, handle: &mut Handle, code: &mut [u8], count: &mut usize) -> u32
+    ensures unchanged { handle.new.slot.kept ≡ handle.old.slot.kept }
+    ensures language { WritesLanguage (holds handle.old) code.old code.new count.old count.new result }
+{
+    let Some(loaded) = handle.take(alloc) else {
+        return NO_DICTIONARY;
+    };
+    let status = calls::write_language(&loaded, code, count);
+    *handle = Handle::of(loaded);
+    status
+}
+
+/// Writes the least numbers of characters of a word before its first break and after its last one.
+pub fn write_minima(alloc: Global, handle: &mut Handle, left: &mut usize, right: &mut usize) -> u32
+    ensures unchanged { handle.new.slot.kept ≡ handle.old.slot.kept }
+    ensures minima { WritesMinima (holds handle.old) (left.old, right.old) (left.new, right.new) result }
+{
+    let Some(loaded) = handle.take(alloc) else {
+        return NO_DICTIONARY;
+    };
+    let minima = calls::minima_in(&loaded);
+    *handle = Handle::of(loaded);
+    *left = minima.0;
+    *right = minima.1;
+    DONE
+}
+
+/// Writes the places of a word's breaks, in bytes, to the front of a buffer.
+pub fn write_breaks(
+    alloc: Global,
+    handle: &mut Handle,
+    word: &[u8],
+    places: &mut [usize],
+    count: &mut usize,
+) -> u32
+    ensures unchanged { handle.new.slot.kept ≡ handle.old.slot.kept }
+    ensures breaks { WritesBreaks (holds handle.old) word.now places.old places.new count.old count.new
+        result }
+{
+    let Some(loaded) = handle.take(alloc) else {
+        return NO_DICTIONARY;
+    };
+    let status = calls::write_breaks(&loaded, alloc, word, places, count);
+    *handle = Handle::of(loaded);
+    status
+}
+
+/// Writes the places of the breaks of a list of words to the front of one buffer, and the ends of the words' places to
+/// the front of another one.
+///
+/// The words stand one after the other in a text, and each has its end in it. Places are counted from the begin of their
+/// word, in bytes. The places of a word end where those of the next one begin. A word that ends before it begins, or
+/// after the text, is `BAD_ENDS`.
+pub fn write_breaks_of_words(
+    alloc: Global,
+    handle: &mut Handle,
+    text: &[u8],
+    ends: &[usize],
+    list: &mut [usize],
+    count: &mut usize,
+    last: &mut [usize],
+    size: &mut usize,
+) -> u32
+    ensures unchanged { handle.new.slot.kept ≡ handle.old.slot.kept }
+    ensures list { WritesLists (holds handle.old) text.now ends.now (into list.old list.new count.old count.new)
+        (into last.old last.new size.old size.new) result }
+{
+    let Some(loaded) = handle.take(alloc) else {
+        return NO_DICTIONARY;
+    };
+    let status = lists::write_breaks_of_words(&loaded, alloc, text, ends, list, count, last, size);
+    *handle = Handle::of(loaded);
+    status
+}
+
+/// Writes the values of a word's places, from place 1 on, to the front of a buffer.
+///
+/// A place is a number of bytes before it. The values are those of the patterns alone, for the word as it is written:
+/// capitals are not made small, and neither the exceptions nor the minima are looked at.
+pub fn write_values(
+    alloc: Global,
+    handle: &mut Handle,
+    word: &[u8],
+    values: &mut [u8],
+    count: &mut usize,
+) -> u32
+    ensures unchanged { handle.new.slot.kept ≡ handle.old.slot.kept }
+    ensures values { WritesValues (holds handle.old) word.now values.old values.new count.old count.new
+        result }
+{
+    let Some(loaded) = handle.take(alloc) else {
+        return NO_DICTIONARY;
+    };
+    let status = values::write_values(&loaded, alloc, word, values, count);
+    *handle = Handle::of(loaded);
+    status
+}
+
+/// Writes a word's breaks and the changes that they make to the front of one buffer, and the texts of the changes to
+/// the front of another one.
+pub fn write_changes(
+    alloc: Global,
+    handle: &mut Handle,
+    word: &[u8],
+    changes: &mut [BreakChange],
+    count: &mut usize,
+    text: &mut [u8],
+    size: &mut usize,
+) -> u32
+    ensures unchanged { handle.new.slot.kept ≡ handle.old.slot.kept }
+    ensures changes { Changes (holds handle.old) word.now (into changes.old changes.new count.old count.new)
+        (into text.old text.new size.old size.new) result }
+{
+    let Some(loaded) = handle.take(alloc) else {
+        return NO_DICTIONARY;
+    };
+    let status = calls::write_changes(&loaded, alloc, word, changes, count, text, size);
+    *handle = Handle::of(loaded);
+    status
+}
+
+/// Writes a text with the mark at each break of its words to the front of a buffer.
+pub fn write_text(
+    alloc: Global,
+    handle: &mut Handle,
+    text: &[u8],
+    mark: &[u8],
+    buffer: &mut [u8],
+    count: &mut usize,
+) -> u32
+    ensures unchanged { handle.new.slot.kept ≡ handle.old.slot.kept }
+    ensures text { WritesMarkedText (holds handle.old) text.now mark.now buffer.old buffer.new count.old
+        count.new result }
+{
+    let Some(loaded) = handle.take(alloc) else {
+        return NO_DICTIONARY;
+    };
+    let status = calls::write_text(&loaded, alloc, text, mark, buffer, count);
+    *handle = Handle::of(loaded);
+    status
+}
+
+/// Writes the lines of a text, each with a line feed after it, to the front of a buffer.
+///
+/// A line has at most so many characters, if the text can be divided so. An extended dictionary is `OTHER_KIND`.
+pub fn write_lines(
+    alloc: Global,
+    handle: &mut Handle,
+    text: &[u8],
+    columns: usize,
+    buffer: &mut [u8],
+    count: &mut usize,
+) -> u32
+    ensures unchanged { handle.new.slot.kept ≡ handle.old.slot.kept }
+    ensures lines { WritesLines (holds handle.old) text.now columns buffer.old buffer.new count.old count.new
+        result }
+{
+    let Some(loaded) = handle.take(alloc) else {
+        return NO_DICTIONARY;
+    };
+    let status = calls::write_lines(&loaded, alloc, text, columns, buffer, count);
+    *handle = Handle::of(loaded);
+    status
+}
+
+/// Writes the dictionary's canonical text to the front of a buffer.
+pub fn write_canonical_text(
+    alloc: Global,
+    handle: &mut Handle,
+    buffer: &mut [u8],
+    count: &mut usize,
+) -> u32
+    ensures unchanged { handle.new.slot.kept ≡ handle.old.slot.kept }
+    ensures canonical { WritesCanonicalText (holds handle.old) buffer.old buffer.new count.old count.new
+        result }
+{
+    let Some(loaded) = handle.take(alloc) else {
+        return NO_DICTIONARY;
+    };
+    let status = calls::write_canonical_text(&loaded, alloc, buffer, count);
+    *handle = Handle::of(loaded);
+    status
+}

@@ -1,0 +1,159 @@
+//! Dictionaries that are made of files of patterns, as LibreOffice has them.
+
+ghost use Rattle.std.specs.Prelude.{◌≡◌, None, IfOk, IfErr, OnOk, option_map};
+ghost use Rattle.std.specs.Str.{IsUtf8};
+ghost use Rattle.hyphenation_breaks.specs.Language.{IsCode};
+ghost use Rattle.pattern_results.specs.Errors.{IsConvertError};
+ghost use Rattle.libreoffice_files.specs.LibreOffice.{contents_of_dic, dic_fault};
+ghost use Rattle.c_calls.specs.Dictionaries.{dictionary_of};
+ghost use Rattle.c_calls.specs.Patterns.{dic_given, minimum_given, failure_of, pattern_cause_number, IsFailure};
+
+use crate::loaded::Loaded;
+use crate::room::Room;
+use hyphenation_breaks::entry::{Listing, Payload};
+use hyphenation_breaks::extended::Subregion;
+use hyphenation_breaks::language::Language;
+use hyphenation_dictionary::dictionary::Dictionary;
+use hyphenation_grammar::form::Kind;
+use libreoffice_files::dic::convert_dic;
+use pattern_results::converted::Converted;
+use pattern_results::errors::{ConvertError, FileCause};
+use std::alloc::Global;
+use std::sync::Arc;
+
+/// Why a file of patterns gives no dictionary.
+#[derive(Drop)]
+pub enum Failure {
+    /// Memory was refused.
+    Memory,
+    /// The code of the language is not UTF-8.
+    NotUtf8,
+    /// The language is no code.
+    NotCode,
+    /// The first fault of the file: its line, counted from 1, and the cause.
+    Fault(usize, FileCause),
+}
+
+/// The number of a cause, from 21 on.
+pub fn pattern_cause_number(cause: FileCause) -> u32
+    ensures { result ≡ pattern_cause_number cause }
+{
+    match cause {
+        FileCause::Command => 21,
+        FileCause::Caret => 22,
+        FileCause::Symbol => 23,
+        FileCause::TwoInOnePlace => 24,
+        FileCause::NoLetters => 25,
+        FileCause::NotUtf8 => 26,
+        FileCause::Input => 27,
+        FileCause::Unclosed => 28,
+        FileCause::Charset => 29,
+        FileCause::NotInCharset => 30,
+        FileCause::Minimum => 31,
+        FileCause::Nothing => 32,
+    }
+}
+
+/// A minimum that is given; none for a number above 255.
+pub fn minimum_given(number: u32) -> Option<u8>
+    ensures { result ≡ minimum_given number }
+{
+    u8::try_from(number).ok()
+}
+
+// The dictionary of a `.dic`, without what there is to note of it.
+fn from_dic<C: Payload, B: Listing>(
+    alloc: Global,
+    language: Language,
+    left: Option<u8>,
+    right: Option<u8>,
+    bytes: &[u8],
+) -> Result<Dictionary<C, B>, ConvertError>
+    ensures good { OnOk result (dic_fault bytes.now ≡ None) }
+    ensures contents { IfOk result (λ d. d ≡ contents_of_dic C.change_of C.payload_of language left right bytes.now) }
+    ensures refused { IfErr result (λ error.
+        IsConvertError error (option_map (λ fault. (0, fault)) (dic_fault bytes.now))) }
+{
+    let Converted { dictionary, .. } = convert_dic(alloc, language, left, right, bytes)?;
+    Ok(dictionary)
+}
+
+// The dictionary of a kind of a `.dic`.
+#[tactic(auto, unfolding(crate::specs::Patterns::dic_given))]
+fn loaded_from_dic(
+    alloc: Global,
+    kind: Kind,
+    language: Language,
+    left: Option<u8>,
+    right: Option<u8>,
+    bytes: &[u8],
+) -> Result<Loaded, ConvertError>
+    ensures good { OnOk result (dic_fault bytes.now ≡ None) }
+    ensures contents { IfOk result (λ loaded. dictionary_of loaded ≡ dic_given kind language left right bytes.now) }
+    ensures refused { IfErr result (λ error.
+        IsConvertError error (option_map (λ fault. (0, fault)) (dic_fault bytes.now))) }
+{
+    match kind {
+        Kind::Standard => {
+            let dictionary = from_dic::<(), usize>(alloc, language, left, right, bytes)?;
+            match Arc::new(alloc, dictionary) {
+                Ok(counted) => Ok(Loaded::Standard(counted, Room::new())),
+                Err(_) => Err(ConvertError::Memory),
+            }
+        }
+        Kind::Extended => {
+            let dictionary = from_dic::<Option<Subregion>, (usize, Option<Subregion>)>(
+                alloc, language, left, right, bytes,
+            )?;
+            match Arc::new(alloc, dictionary) {
+                Ok(counted) => Ok(Loaded::Extended(counted, Room::new())),
+                Err(_) => Err(ConvertError::Memory),
+            }
+        }
+    }
+}
+
+// The failure that an error of converting is.
+fn failure_of(error: ConvertError) -> Failure
+    ensures { result ≡ failure_of error }
+{
+    match error {
+        ConvertError::Memory => Failure::Memory,
+        ConvertError::Fault {
+            file: _,
+            line,
+            cause,
+        } => Failure::Fault(line, cause),
+    }
+}
+
+/// Makes a dictionary of a kind of a `.dic`, in a box.
+#[tactic(auto, using(crate::proofs::Faults::failure_given))]
+pub fn load_dic(
+    alloc: Global,
+    kind: Kind,
+    language: &[u8],
+    left: Option<u8>,
+    right: Option<u8>,
+    bytes: &[u8],
+) -> Result<Box<Loaded>, Failure>
+    ensures code { OnOk result (IsCode language.now) }
+    ensures good { OnOk result (dic_fault bytes.now ≡ None) }
+    ensures contents { IfOk result (λ loaded.
+        dictionary_of loaded.value ≡ dic_given kind language.now left right bytes.now) }
+    ensures failed { IfErr result (λ failure. IsFailure failure language.now (dic_fault bytes.now)) }
+{
+    let Ok(code) = std::str::from_utf8(language) else {
+        return Err(Failure::NotUtf8);
+    };
+    let Some(language) = Language::from_code(code) else {
+        return Err(Failure::NotCode);
+    };
+    match loaded_from_dic(alloc, kind, language, left, right, bytes) {
+        Ok(loaded) => match Box::new(alloc, loaded) {
+            Ok(boxed) => Ok(boxed),
+            Err(_) => Err(Failure::Memory),
+        },
+        Err(error) => Err(failure_of(error)),
+    }
+}

@@ -1,0 +1,150 @@
+//! Dictionaries that are made of TeX files of patterns, and of plain ones.
+
+ghost use Rattle.std.specs.Prelude.{◌≡◌, ℕ, List, None, IfOk, IfErr, OnOk};
+ghost use Rattle.hyphenation_breaks.specs.Language.{IsCode};
+ghost use Rattle.pattern_results.specs.Errors.{IsConvertError};
+ghost use Rattle.tex_files.specs.Converting.{fault_from};
+ghost use Rattle.c_calls.specs.Dictionaries.{dictionary_of};
+ghost use Rattle.c_calls.specs.TexFiles.{form_numbered, files_of, files_given, IsOfFiles, IsNoDictionary};
+
+use crate::loaded::Loaded;
+use crate::room::Room;
+use hyphenation_breaks::extended::Subregion;
+use hyphenation_breaks::language::Language;
+use hyphenation_grammar::form::Kind;
+use pattern_results::errors::{ConvertError, FileCause};
+use std::alloc::Global;
+use std::str;
+use std::sync::Arc;
+use tex_files::convert::convert;
+use tex_files::group::{File, Form, Group};
+use tex_files::head_minima::minima_for;
+
+/// Why files give no dictionary.
+#[derive(Drop)]
+pub enum NoDictionary {
+    /// Memory was refused.
+    Memory,
+    /// The code of the language is not UTF-8.
+    NotUtf8,
+    /// The language is no code.
+    NotCode,
+    /// A minimum is neither given nor in the head of a file.
+    NoMinima,
+    /// The first fault: the file, counted from 0, its line, counted from 1, and the cause.
+    Fault(usize, usize, FileCause),
+}
+
+/// The form of a number: 0 is a TeX file, and 1 a plain file of patterns.
+pub fn form_numbered(number: u32) -> Option<Form>
+    ensures { result ≡ form_numbered number }
+{
+    match number {
+        0 => Some(Form::Tex),
+        1 => Some(Form::Plain(Group::Patterns)),
+        _ => None,
+    }
+}
+
+// The dictionary of a kind of files.
+#[tactic(auto, unfolding(crate::specs::TexFiles::files_given))]
+fn loaded_from_files(
+    alloc: Global,
+    kind: Kind,
+    language: Language,
+    minima: (u8, u8),
+    files: &[File<'_>],
+) -> Result<Loaded, ConvertError>
+    ensures good { OnOk result (fault_from 0 files.now ≡ None) }
+    ensures contents { IfOk result (λ loaded. dictionary_of loaded ≡ files_given kind language minima files.now) }
+    ensures refused { IfErr result (λ error. IsConvertError error (fault_from 0 files.now)) }
+{
+    let (left, right) = minima;
+    match kind {
+        Kind::Standard => {
+            let dictionary = convert::<(), usize>(alloc, language, left, right, files)?;
+            match Arc::new(alloc, dictionary) {
+                Ok(counted) => Ok(Loaded::Standard(counted, Room::new())),
+                Err(_) => Err(ConvertError::Memory),
+            }
+        }
+        Kind::Extended => {
+            let dictionary = convert::<Option<Subregion>, (usize, Option<Subregion>)>(
+                alloc, language, left, right, files,
+            )?;
+            match Arc::new(alloc, dictionary) {
+                Ok(counted) => Ok(Loaded::Extended(counted, Room::new())),
+                Err(_) => Err(ConvertError::Memory),
+            }
+        }
+    }
+}
+
+// The dictionary of a kind of files, in a box. If a file is faulty and minima are missing, the error is the fault.
+#[tactic(auto, using(crate::proofs::OfFiles::minimum_missing))]
+fn boxed_from_files(
+    alloc: Global,
+    kind: Kind,
+    language: Language,
+    left: Option<u8>,
+    right: Option<u8>,
+    files: &[File<'_>],
+) -> Result<Box<Loaded>, NoDictionary>
+    ensures good { OnOk result (fault_from 0 files.now ≡ None) }
+    ensures contents { IfOk result (λ loaded.
+        IsOfFiles kind language left right files.now (dictionary_of loaded.value)) }
+    ensures refused { (code : List ℕ) → IfErr result (λ why. IsNoDictionary why code left right files.now) }
+{
+    let minima = minima_for(left, right, files);
+    match loaded_from_files(alloc, kind, language, minima.unwrap_or((0, 0)), files) {
+        Ok(loaded) => {
+            let Some(_) = minima else {
+                return Err(NoDictionary::NoMinima);
+            };
+            match Box::new(alloc, loaded) {
+                Ok(boxed) => Ok(boxed),
+                Err(_) => Err(NoDictionary::Memory),
+            }
+        }
+        Err(ConvertError::Memory) => Err(NoDictionary::Memory),
+        Err(ConvertError::Fault { file, line, cause }) => Err(NoDictionary::Fault(
+            file, line, cause,
+        )),
+    }
+}
+
+/// Makes a dictionary of a kind of a file of patterns and a plain file of exceptions, in a box.
+///
+/// A minimum that is not given is the one in the head of the file of patterns.
+pub fn load_patterns(
+    alloc: Global,
+    kind: Kind,
+    code: &[u8],
+    left: Option<u8>,
+    right: Option<u8>,
+    form: Form,
+    bytes: &[u8],
+    exceptions: &[u8],
+) -> Result<Box<Loaded>, NoDictionary>
+    ensures code { OnOk result (IsCode code.now) }
+    ensures good { OnOk result (fault_from 0 (files_of form bytes.entry exceptions.entry) ≡ None) }
+    ensures contents { IfOk result (λ loaded. IsOfFiles kind code.now left right
+        (files_of form bytes.entry exceptions.entry) (dictionary_of loaded.value)) }
+    ensures no_dictionary { IfErr result (λ why. IsNoDictionary why code.now left right
+        (files_of form bytes.entry exceptions.entry)) }
+{
+    let Ok(code) = str::from_utf8(code) else {
+        return Err(NoDictionary::NotUtf8);
+    };
+    let Some(language) = Language::from_code(code) else {
+        return Err(NoDictionary::NotCode);
+    };
+    let files = [
+        File { form, bytes },
+        File {
+            form: Form::Plain(Group::Exceptions),
+            bytes: exceptions,
+        },
+    ];
+    boxed_from_files(alloc, kind, language, left, right, &files)
+}

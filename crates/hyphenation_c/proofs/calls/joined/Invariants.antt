@@ -1,7 +1,0 @@
-use Rattle.std.proofs.Common.{◌≡◌, map, take}
-use Rattle.std.specs.String.{string_bytes}
-use Rattle.hyphenation_writer.specs.Canonical.{with_line_feeds}
-use Rattle.hyphenation_c.proofs.calls.joined.Given as goal
-
-abbrev pub invariant-loop-line : goal.invariant-loop-line
-invariant-loop-line l = string_bytes l.text ≡ with_line_feeds (map string_bytes (take l.line-index l.lines))

@@ -1,4 +1,0 @@
-pub mod Cuts
-pub mod Ends
-pub mod Lines
-pub mod Private

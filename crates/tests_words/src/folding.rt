@@ -1,0 +1,174 @@
+//! Words in small letters, with the way back to the word as it is written.
+
+use hyphenation_hyphenator::case_folding::{Shift, realign, refold};
+use std::alloc::{AllocError, Global};
+use std::borrow::CowStr;
+use std::test::Fail;
+use test_support::{expect_equal, expect_equal_in, expect_text_in};
+use ucd_age::Age;
+
+// Whether a folded word is borrowed or owned, the word, and its shifts, each as the place from which it holds and its
+// bytes.
+fn folded(alloc: Global, word: &str) -> Result<String, AllocError> {
+    let (text, shifts) = refold(alloc, word)?;
+    let mut all = String::from_str(
+        alloc,
+        match &text {
+            CowStr::Borrowed(_) => "borrowed ",
+            CowStr::Owned(_) => "owned ",
+        },
+    )?;
+    all.push_str(text.as_str())?;
+    for shift in &shifts {
+        all.push_str(&format!(in alloc; " {}:{}", shift.index, shift.delta)?)?;
+    }
+    Ok(all)
+}
+
+// Each row has its sentence, the word, and the word in small letters.
+const FOLDED: &[(&str, &str, &str)] = &[
+    (
+        "two letters that lose bytes shift the places after both",
+        "İẞab",
+        "owned ißab 0:-1 1:-2",
+    ),
+    (
+        "a letter that loses two bytes shifts the places after it by two",
+        "\u{212a}ilim",
+        "owned kilim 0:-2",
+    ),
+    (
+        "a letter that gains a byte shifts the places after it the other way",
+        "ȺAB",
+        "owned ⱥab 0:1",
+    ),
+    (
+        "two shifts that differ in their sign add up",
+        "aȺİb",
+        "owned aⱥib 1:1 4:0",
+    ),
+    (
+        "letters of as many bytes shift nothing, and a sigma is the same at the end",
+        "ΑΣ",
+        "owned ασ",
+    ),
+    ("a dot above a capital stays", "I\u{307}", "owned i\u{307}"),
+    ("the empty word is borrowed", "", "borrowed "),
+    (
+        "a word in small letters is borrowed",
+        "kilim",
+        "borrowed kilim",
+    ),
+    (
+        "a dot above a small letter stays",
+        "i\u{307}",
+        "borrowed i\u{307}",
+    ),
+    (
+        "a titlecase letter is not Uppercase, so that it stays",
+        "\u{1c5}",
+        "borrowed \u{1c5}",
+    ),
+    ("a sharp s stays", "ß", "borrowed ß"),
+    (
+        "a Cherokee capital is Uppercase, and its own folding",
+        "\u{13a0}",
+        "owned \u{13a0}",
+    ),
+];
+
+#[test]
+fn words_fold_with_their_shifts(rt: HostRuntime) -> Result<(), Fail> {
+    for (shows, word, wanted) in FOLDED {
+        expect_text_in(*shows, folded(rt.alloc(), word), wanted)?;
+    }
+    Ok(())
+}
+
+// The shifts of `İẞab`. Its bytes end at 2, 5, 6 and 7, those of `ißab` at 1, 3, 4 and 5.
+const TWO_SHIFTS: &[Shift] = &[
+    Shift {
+        index: 0,
+        delta: -1,
+    },
+    Shift {
+        index: 1,
+        delta: -2,
+    },
+];
+
+const GAINED: &[Shift] = &[Shift { index: 0, delta: 2 }];
+
+const LOST: &[Shift] = &[Shift {
+    index: 0,
+    delta: -2,
+}];
+
+// Each row has its sentence, the shifts, a place in small letters, and the place in the word as it is written.
+const CARRIED_BACK: &[(&str, &[Shift], usize, usize)] = &[
+    ("place 0 stays", TWO_SHIFTS, 0, 0),
+    (
+        "a place after one shift is carried back by it",
+        TWO_SHIFTS,
+        1,
+        2,
+    ),
+    (
+        "a place after two shifts is carried back by both",
+        TWO_SHIFTS,
+        3,
+        5,
+    ),
+    (
+        "a later place is carried back by the same bytes",
+        TWO_SHIFTS,
+        4,
+        6,
+    ),
+    ("the end is carried back to the end", TWO_SHIFTS, 5, 7),
+    ("no place is carried back below 0", GAINED, 1, 0),
+    (
+        "no place is carried back beyond the greatest number",
+        LOST,
+        usize::MAX,
+        usize::MAX,
+    ),
+    ("a place without shifts stays", &[], 1, 1),
+];
+
+#[test]
+fn places_are_carried_back(rt: HostRuntime) -> Result<(), Fail> {
+    let _ = rt;
+    for (shows, shifts, folded, written) in CARRIED_BACK {
+        expect_equal_in(*shows, &realign(*folded, shifts), written)?;
+    }
+    Ok(())
+}
+
+// All characters of Unicode 14.0, in order.
+fn characters_of_14(alloc: Global) -> Result<String, AllocError> {
+    let mut all = String::new(alloc);
+    for c in '\0'..=char::MAX {
+        if Age::for_char(c).number() <= Age::V14_0.number() {
+            all.push(c)?;
+        }
+    }
+    Ok(all)
+}
+
+// The number of characters that folding changes, and of those whose number of bytes it changes.
+fn changes_by_folding(alloc: Global, all: &str) -> Result<(usize, usize), AllocError> {
+    let (folded, shifts) = refold(alloc, all)?;
+    let pairs = all.chars().zip(folded.as_str().chars());
+    let changed = pairs.filter(|(c, d)| c != d).count();
+    Ok((changed, shifts.len()))
+}
+
+// Python 3.11 has the tables of Unicode 14.0. It has 1402 characters that satisfy `isupper` and that `lower` changes;
+// 25 change their number of bytes. 86 of the 1402 are Cherokee capitals, which are their own simple case folding.
+// `lower` makes two characters of İ, of which the first counts.
+#[test]
+fn the_characters_of_unicode_14_fold(rt: HostRuntime) -> Result<(), Fail> {
+    let all = characters_of_14(rt.alloc())?;
+    expect_equal(&changes_by_folding(rt.alloc(), &all)?, &(1402 - 86, 25))
+}

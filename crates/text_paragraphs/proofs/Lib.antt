@@ -1,3 +1,0 @@
-pub mod WordLists
-pub mod LinePieces
-pub mod GatheredWords
