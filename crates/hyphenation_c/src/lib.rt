@@ -146,8 +146,7 @@ pub extern "C" fn hyphenation_breaks(
     c_calls::write_breaks(alloc, handle, word, places, count)
 }
 
-/// Writes the places of the breaks of a list of words to the front of one buffer, and the ends of the words' places to
-/// the front of another one.
+/// Writes the places of the breaks of a list of words to one buffer, and the ends of the words' places to another one.
 #[unsafe(no_mangle)]
 pub extern "C" fn hyphenation_breaks_of_words(
     alloc: Global,
@@ -182,8 +181,7 @@ pub extern "C" fn hyphenation_values(
     c_calls::write_values(alloc, handle, word, values, count)
 }
 
-/// Writes a word's breaks and the changes that they make to the front of one buffer, and the texts of the changes to
-/// the front of another one.
+/// Writes a word's breaks and the changes that they make to one buffer, and the texts of the changes to another one.
 #[unsafe(no_mangle)]
 pub extern "C" fn hyphenation_changes(
     alloc: Global,

@@ -293,8 +293,8 @@ fn the_language_is_written_by_its_code(rt: HostRuntime) -> Result<(), Fail> {
     expect_equal(&language_of(rt.alloc(), ENGLISH), &(0, 5, *b"en-us"))
 }
 
-// Edits a dictionary that another handle shares: the statuses of sharing and of the edits, and the canonical texts by
-// both handles, one after the other.
+// Edits a dictionary that another handle shares. It writes the canonical texts by both handles, one after the other, and
+// returns the status of each call and the length of the texts.
 fn edited_apart(alloc: Global, text: &mut [u8; 160]) -> ([u32; 6], usize) {
     let (_, mut handle) = load(alloc, 0, ENGLISH);
     let mut other = Handle::empty();
@@ -420,8 +420,8 @@ fn a_list_of_words_is_broken(rt: HostRuntime) -> Result<(), Fail> {
     expect_equal(&found, &wanted)
 }
 
-// A text with a hyphen at each break, by the dictionary of a TeX file and a plain file of exceptions: the status, file,
-// line and cause of loading, then the status, the count and the buffer.
+// A text with a hyphen at each break, by the dictionary of a TeX file and a plain file of exceptions. First comes what
+// loading wrote: the status, the file, the line and the cause. The status, the count and the buffer of the text follow.
 fn marked_by_tex(
     alloc: Global,
     tex: &str,
