@@ -12,7 +12,7 @@ use std::alloc::{AllocError, Global};
 use std::borrow::CowStr;
 use std::test::Fail;
 use test_dictionaries::extended;
-use test_support::{expect, expect_equal, expect_text};
+use test_support::{expect, expect_text};
 
 const MANY: &str =
     "e abcd 2,1,1,1,x\ne bbcd 2,1,1,0,x\ne abcdef 2,1,2,1,x 3,0,1,0,y 5,0,0,0,z\ne bbcdef 2,1,2,1,x 4\ne ßab 3,1,1,1,xy\ne ab 1,1,1,2,a,b\np c1d 1,1,1,2,c,d\ne bb 1,1,1,0,\\e\ne accd 2";
@@ -153,27 +153,6 @@ const ROWS: &[Row] = &[
 #[test]
 fn changes_stand_at_the_breaks_of_words(rt: HostRuntime) -> Result<(), Fail> {
     expect_rows_of_extended(rt.alloc(), ROWS)
-}
-
-// The place of the only break that a dictionary allows in a word in small letters, and the left and right of its change.
-fn left_and_right(
-    alloc: Global,
-    dictionary: &Extended,
-    word: &str,
-) -> Result<Option<(usize, usize, usize)>, AllocError> {
-    Ok(match dictionary.opportunities(alloc, word)?.as_slice() {
-        [(place, Some(change))] => Some((*place, change.left, change.right)),
-        _ => None,
-    })
-}
-
-#[test]
-fn a_range_that_passes_an_edge_is_the_one_of_the_text(rt: HostRuntime) -> Result<(), Fail> {
-    let dictionary = extended(rt.alloc(), "1 1", PAST_THE_EDGE)?;
-    expect_equal(
-        &left_and_right(rt.alloc(), &dictionary, "abc")?,
-        &Some((1, 2, 0)),
-    )
 }
 
 // Whether the breaks that are listed for `abcdef`, but those at a place, fit it.
