@@ -7,7 +7,7 @@ mod calls_of_c;
 #[cfg(test)]
 mod divided_lines;
 #[cfg(test)]
-mod explanations;
+mod explained_words;
 #[cfg(test)]
 mod faults;
 #[cfg(test)]
