@@ -76,8 +76,17 @@ fn with_bars(alloc: Global, lines: Result<Vec<String>, FillError>) -> Result<Str
 
 const REPEATED: &str = "the hyphenation hyphenation hyphenation";
 
-// Rows: what each shows, the text, its style, the columns, the aim, and the lines.
-const DIVIDED: [(&str, &str, Style, u16, Aim, &str); 19] = [
+// A row: what it shows, the text, its style, the columns, the aim, and the lines.
+type Divided = (
+    &'static str,
+    &'static str,
+    Style<'static>,
+    u16,
+    Aim,
+    &'static str,
+);
+
+const DIVIDED: &[Divided] = &[
     (
         "words have one space between them, and lines hold as much as fits",
         " aaa bb\n cc  ddddd\n",
@@ -244,12 +253,17 @@ fn expect_divided(
     )
 }
 
-#[test]
-fn a_text_has_the_lines_of_its_aim(rt: HostRuntime) -> Result<(), Fail> {
-    for (shows, text, style, columns, aim, wanted) in &DIVIDED {
-        expect_divided(rt.alloc(), shows, text, style, *columns, *aim, wanted)?;
+// Fails unless each text has the lines of its row.
+fn expect_each_divided(alloc: Global, rows: &[Divided]) -> Result<(), Fail> {
+    for (shows, text, style, columns, aim, wanted) in rows {
+        expect_divided(alloc, shows, text, style, *columns, *aim, wanted)?;
     }
     Ok(())
+}
+
+#[test]
+fn a_text_has_the_lines_of_its_aim(rt: HostRuntime) -> Result<(), Fail> {
+    expect_each_divided(rt.alloc(), DIVIDED)
 }
 
 // An extended dictionary with a change that is longer than what it takes.

@@ -69,8 +69,10 @@ const LONGER: Settings<'static> = Settings {
     skip_capitals: false,
 };
 
-// Rows: what each shows, the settings, the page, and the page with its marks.
-const PAGES: [(&str, Settings, &str, &str); 29] = [
+// A row: what it shows, the settings, the page, and the page with its marks.
+type Page = (&'static str, Settings<'static>, &'static str, &'static str);
+
+const PAGES: &[Page] = &[
     (
         "words of text are broken",
         VISIBLE,
@@ -242,12 +244,17 @@ const PAGES: [(&str, Settings, &str, &str); 29] = [
     ),
 ];
 
-#[test]
-fn a_page_has_marks_in_its_text_alone(rt: HostRuntime) -> Result<(), Fail> {
-    for (shows, settings, page, wanted) in &PAGES {
-        expect_text_in(*shows, hyphenated(rt.alloc(), settings, page), wanted)?;
+// Fails unless each page has the marks of its row.
+fn expect_each_marked(alloc: Global, rows: &[Page]) -> Result<(), Fail> {
+    for (shows, settings, page, wanted) in rows {
+        expect_text_in(*shows, hyphenated(alloc, settings, page), wanted)?;
     }
     Ok(())
+}
+
+#[test]
+fn a_page_has_marks_in_its_text_alone(rt: HostRuntime) -> Result<(), Fail> {
+    expect_each_marked(rt.alloc(), PAGES)
 }
 
 // A page with its soft hyphens, after two runs.

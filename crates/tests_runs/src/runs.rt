@@ -95,8 +95,17 @@ const LATER_CHANGE: &str =
 const EARLIER_CHANGE: &str =
     "hyphenation 1 extended\nlanguage hu\nminima 1 1\np a1b 1,1,0,1,x\np a1bd\n";
 
-// Rows: what each shows, the task, the language, the dictionary, the input, and what is written.
-const WRITTEN: [(&str, Task, &str, &str, &str, &str); 20] = [
+// A row: what it shows, the task, the language, the dictionary, the input, and what is written.
+type Written = (
+    &'static str,
+    Task<'static>,
+    &'static str,
+    &'static str,
+    &'static str,
+    &'static str,
+);
+
+const WRITTEN: &[Written] = &[
     (
         "the words of a verse are broken, and all else stays",
         HYPHENS,
@@ -259,19 +268,18 @@ const WRITTEN: [(&str, Task, &str, &str, &str, &str); 20] = [
     ),
 ];
 
-#[test]
-fn a_run_writes_the_text_of_its_task(rt: HostRuntime) -> Result<(), Fail> {
-    for (shows, task, code, dictionary, input, text) in &WRITTEN {
-        expect_run(
-            rt.alloc(),
-            shows,
-            (*task, *code),
-            dictionary,
-            input,
-            ("written", *text),
-        )?;
+// Fails unless each run writes the text of its row.
+fn expect_each_written(alloc: Global, rows: &[Written]) -> Result<(), Fail> {
+    for (shows, task, code, dictionary, input, text) in rows {
+        let wanted = ("written", *text);
+        expect_run(alloc, shows, (*task, *code), dictionary, input, wanted)?;
     }
     Ok(())
+}
+
+#[test]
+fn a_run_writes_the_text_of_its_task(rt: HostRuntime) -> Result<(), Fail> {
+    expect_each_written(rt.alloc(), WRITTEN)
 }
 
 // Rows: what each shows, the edits, how the run ends, and what it writes of `Firkin, firkins.` by a standard dictionary.
