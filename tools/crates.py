@@ -51,12 +51,18 @@ def crates_of(root=ROOT):
     return {crate.name: crate for crate in crates}
 
 
+def stop(text):
+    """Ends a script that can't be run, with the status 2."""
+    print(text, file=sys.stderr)
+    sys.exit(2)
+
+
 def kit_folder():
     """The folder of the toolchain."""
     try:
         page = subprocess.run(["rt", "doc"], capture_output=True, text=True, check=True).stdout.strip()
     except (OSError, subprocess.CalledProcessError):
-        sys.exit(f"{sys.argv[0]}: the toolchain is missing: there is no command rt")
+        stop(f"{sys.argv[0]}: the toolchain is missing: there is no command rt")
     return pathlib.Path(page).parent
 
 
@@ -76,11 +82,11 @@ def need_libraries(crates, above):
     for name in order:
         if os.environ.get("AS_BUILT"):
             if not crates[name].library().is_dir():
-                sys.exit(f"{sys.argv[0]}: there is no library {name}: `rt ci` makes it")
+                stop(f"{sys.argv[0]}: there is no library {name}: `rt ci` makes it")
             continue
         ran = subprocess.run(["rt", "lib"], cwd=crates[name].folder, stdin=subprocess.DEVNULL, capture_output=True, text=True)
         if ran.returncode:
-            sys.exit(f"{sys.argv[0]}: the library {name} is not proved:\n{ran.stdout[-2000:]}{ran.stderr[-2000:]}")
+            stop(f"{sys.argv[0]}: the library {name} is not proved:\n{ran.stdout[-2000:]}{ran.stderr[-2000:]}")
 
 
 def lanes(gigabytes, jobs=0):
