@@ -15,7 +15,7 @@ die() {
 }
 
 # needs PROGRAM..: proves and builds the programs that are not current. With AS_BUILT, as ./test sets it, it ends the
-# script instead: ./test takes the programs that `rt ci` has just built, and builds none anew.
+# script instead: ./test takes the programs as they are built, and builds none anew.
 needs() {
   local it file crate
   if [ -z "${AS_BUILT-}" ]; then
