@@ -37,6 +37,7 @@ mod nodes_by_depth;
 pub mod parts;
 mod rows;
 mod state;
+pub mod table;
 
 pub use automaton::Automaton;
 pub use growing::Trie;

@@ -67,4 +67,11 @@ impl LookUps {
     {
         self.reported += 1;
     }
+    // Counts so many reports.
+    pub(crate) fn report_many(&mut self, number: u32)
+        requires { self.old.reported + number < 2 ^ 128 }
+        ensures { self.new ≡ record self.old { reported = self.old.reported + number } }
+    {
+        self.reported += u128::from(number);
+    }
 }

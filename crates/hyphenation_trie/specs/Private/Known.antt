@@ -1,0 +1,81 @@
+-- What is known of the nodes of a trie while a table is made of it.
+use Rattle.std.specs.Prelude.{◌≡◌, ℕ, ◌+◌, ◌*◌, ◌/◌, ◌%◌, ◌<◌, ◌≤◌, ◌==◌, max, List, [], ◌∷◌, ◌++◌, length, filter, slice_index, slice_index_or, Some}
+use Rattle.hyphenation_breaks.specs.Dictionary.{Patterns}
+use Rattle.hyphenation_breaks.specs.declared.entry.Entry.{Entry}
+use Rattle.hyphenation_trie.specs.Links.{EndsWith, IsLongest}
+use Rattle.hyphenation_trie.specs.Trie.{Tree, node_text, entries_of_key}
+use Rattle.hyphenation_trie.specs.Vectors.{AreNearEntries, IsVector, greatest_of, keys_at_end}
+
+-- The new vector is the old one raised to the values of entries of a key with so many bytes.
+pub record IsRaisedBy {C : Type 0} (old new : List ℕ) (entries : List (Entry C)) (bytes : ℕ) : Type 0 where
+  pub lanes : length new ≡ 16
+  pub each : (lane distance : ℕ) → lane + distance ≡ 15
+      → slice_index new lane ≡ max (slice_index old lane) (greatest_of (filter (λ entry. entry.place + distance == bytes) entries))
+
+-- What is known of a text: its vector, the number of keys that end it, and that its entries are near if it is a key.
+pub record IsKnown {C : Type 0} (keys : Patterns C) (text values : List ℕ) (count : ℕ) : Type 0 where
+  pub vector : IsVector keys text values
+  pub counted : count ≡ keys_at_end keys text
+  pub near : (entries : List (Entry C)) → 0 < length text → keys text ≡ Some entries → AreNearEntries entries (length text)
+
+-- What is known of a node is at its number.
+pub record IsKnownNode {C : Type 0} (tree : Tree (Entry C)) (numbers : List ℕ) (vectors : List (List ℕ)) (counts : List ℕ)
+    (node : ℕ) : Type 0 where
+  pub within : slice_index numbers node < length vectors
+  pub known : IsKnown (entries_of_key tree) (node_text tree node) (slice_index_or vectors (slice_index numbers node) [])
+      (slice_index counts (slice_index numbers node))
+
+-- All nodes are known. There are at most 4096 numbers, and that of the root is 0.
+pub record AreKnown {C : Type 0} (tree : Tree (Entry C)) (numbers : List ℕ) (vectors : List (List ℕ)) (counts : List ℕ) : Type 0 where
+  pub nodes : length numbers ≡ length tree.texts
+  pub counts_of : length counts ≡ length vectors
+  pub few : length vectors ≤ 4096
+  pub root : slice_index numbers 0 ≡ 0
+  pub each : (j : ℕ) → j < length tree.texts → IsKnownNode tree numbers vectors counts j
+
+-- The nodes but the root, in the order of their depths.
+pub record AreByDepth (texts : List (List ℕ)) (nodes : List ℕ) : Type 0 where
+  pub within : (i : ℕ) → i < length nodes → (0 < slice_index nodes i) × (slice_index nodes i < length texts)
+  pub all : (j : ℕ) → 0 < j → j < length texts → (i : ℕ) × (i < length nodes) × (slice_index nodes i ≡ j)
+  pub ascend : (i k : ℕ) → i ≤ k → k < length nodes
+      → length (slice_index_or texts (slice_index nodes i) []) ≤ length (slice_index_or texts (slice_index nodes k) [])
+
+-- The classes of the bytes. A byte of a node has a class of its own above 0, and all other bytes have the class 0.
+pub record AreClasses (texts : List (List ℕ)) (classes : List ℕ) (quarter : ℕ) : Type 0 where
+  pub all : length classes ≡ 256
+  pub below : (b : ℕ) → b < 256 → slice_index classes b < quarter * 4
+  pub apart : (b c : ℕ) → b < 256 → c < 256 → slice_index classes b ≡ slice_index classes c → 0 < slice_index classes b → b ≡ c
+  pub used : (j b : ℕ) (front : List ℕ) → j < length texts → b < 256 → slice_index_or texts j [] ≡ front ++ b ∷ [] → 0 < slice_index classes b
+
+-- The node has a child.
+abbrev pub HasChild : {E : Type 0} → Tree E → ℕ → Type 0
+HasChild tree node =
+    (child : ℕ) × (byte : ℕ) × (child < length tree.texts) × (node_text tree child ≡ node_text tree node ++ byte ∷ [])
+
+-- Among the nodes with children whose texts end this text, the node is the one with the longest. It may also be the text's
+-- own node or the root.
+pub record IsLongestInner {E : Type 0} (tree : Tree E) (text : List ℕ) (node : ℕ) : Type 0 where
+  pub within : node < length tree.texts
+  pub ends : EndsWith text (node_text tree node)
+  pub most : (k : ℕ) → k < length tree.texts → HasChild tree k → EndsWith text (node_text tree k)
+      → length (node_text tree k) ≤ length (node_text tree node)
+
+-- A cell for this text: it leads to the row of the longest node with children that ends the text, and holds the number of
+-- the longest node that does.
+pub record IsCellTo {E : Type 0} (tree : Tree E) (numbers rows : List ℕ) (quarter : ℕ) (text : List ℕ) (cell : ℕ) : Type 0 where
+  pub row : ℕ
+  pub within : row < length rows
+  pub next : cell / 4096 ≡ row * quarter
+  pub inner : IsLongestInner tree text (slice_index rows row)
+  pub node : ℕ
+  pub longest : IsLongest tree.texts text node
+  pub number : cell % 4096 ≡ slice_index numbers node
+
+-- The cells are those of the rows of these nodes. The first is that of the root.
+pub record AreRows {E : Type 0} (tree : Tree E) (numbers classes : List ℕ) (quarter : ℕ) (cells rows : List ℕ) : Type 0 where
+  pub has_root : 0 < length rows
+  pub root : slice_index rows 0 ≡ 0
+  pub room : length rows * quarter * 4 ≤ length cells
+  pub each : (row byte : ℕ) → row < length rows → byte < 256
+      → IsCellTo tree numbers rows quarter (node_text tree (slice_index rows row) ++ byte ∷ [])
+      (slice_index cells (row * quarter * 4 + slice_index classes byte))

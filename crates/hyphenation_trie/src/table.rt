@@ -1,0 +1,110 @@
+//! Tables of steps, by which a pass over a text reads one cell for each byte.
+//!
+//! A row of cells stands for a text that begins longer keys, and has a cell for each class of bytes. The cell of a byte leads
+//! to the row of the longest such text that ends the row's text with the byte, and to the vector of that text with the byte:
+//! the greatest values that the keys which end there give to the 16 last places.
+
+ghost use Rattle.std.specs.Prelude.{◌≡◌, ◌+◌, ◌<◌, ◌^◌, ◌++◌, ◌∷◌, [], List, ℕ, length, slice_index, slice_index_or, IfOk, IfSome};
+ghost use Rattle.hyphenation_trie.specs.Tables.{GoesOn, IsRead, IsTableOf};
+ghost use Rattle.hyphenation_trie.specs.Trie.{entries_of_key};
+
+mod classes;
+mod order;
+mod rows;
+mod vectors;
+
+use super::{Automaton, LookUps};
+use classes::classes_of;
+use hyphenation_breaks::entry::Entry;
+use order::nodes_by_depth;
+use rows::cells_of;
+use std::alloc::{AllocError, Global};
+use vectors::{Known, known_of_all};
+
+/// A table of steps of an automaton.
+#[derive(Drop)]
+pub struct Table {
+    /// The cells of all rows. A cell holds where the next row begins, in units of four cells, times 4096, plus the number of
+    /// a vector.
+    pub cells: Vec<u32>,
+    /// The class of each byte.
+    pub classes: Vec<u8>,
+    /// The vectors.
+    pub vectors: Vec<[u8; 16]>,
+    /// For each vector the number of keys that end the texts that it is of.
+    pub counts: Vec<u32>,
+}
+
+impl Table {
+    /// Reads one byte from a row: returns where the next row begins and the number of a vector. Counts one look-up.
+    ///
+    /// The first row begins at 0. Rows begin at units of four cells.
+    #[inline(always)]
+    pub fn step<C: Drop>(
+        &self,
+        automaton: &Automaton<Entry<C>>,
+        start: usize,
+        byte: u8,
+        count: &mut LookUps,
+    ) -> (usize, usize)
+        requires row { (text : List ℕ) × GoesOn (entries_of_key automaton.now) self.now start text }
+        requires room { count.old.made + 1 < 2 ^ 128 }
+        ensures read { (text : List ℕ) → GoesOn (entries_of_key automaton.now) self.now start text
+            → IsRead (entries_of_key automaton.now) self.now (text ++ byte ∷ []) result.0 result.1 }
+        ensures number { result.1 < length self.now.vectors.items }
+        ensures counts { length self.now.counts.items ≡ length self.now.vectors.items }
+        ensures counted { count.new ≡ record count.old { made = count.old.made + 1 } }
+    {
+        count.look_up();
+        let cell = self.cells[start * 4 + self.classes[byte as usize] as usize];
+        ((cell >> 12) as usize, (cell % 4096) as usize)
+    }
+
+    /// Returns the vector of a number, and counts one report for each key that ends the texts that it is of.
+    #[inline(always)]
+    pub fn vector(&self, number: usize, count: &mut LookUps) -> &[u8; 16]
+        requires number { number < length self.now.vectors.items }
+        requires counts { length self.now.counts.items ≡ length self.now.vectors.items }
+        requires room { count.old.reported + 2 ^ 32 < 2 ^ 128 }
+        ensures vector { result.now ≡ slice_index_or self.now.vectors.items number [] }
+        ensures counted { count.new ≡ record count.old
+            { reported = count.old.reported + slice_index self.now.counts.items number } }
+    {
+        count.report_many(self.counts[number]);
+        &self.vectors[number]
+    }
+}
+
+/// Makes a table of an automaton, or returns `None` where there can be none of this form.
+///
+/// That is so if an entry is more than 15 bytes before its key's end, if the rows would have more than 4,194,304 cells, if
+/// there are more than 4,096 vectors, or if all 256 bytes are in keys. The only error is out of memory.
+pub fn make_table<C: Drop>(
+    alloc: Global,
+    automaton: &Automaton<Entry<C>>,
+) -> Result<Option<Table>, AllocError>
+    ensures { IfOk result (λ made. IfSome made (λ table. IsTableOf (entries_of_key automaton.now) table)) }
+{
+    automaton.invariant();
+    let Some((classes, quarter)) = classes_of(alloc, automaton)? else {
+        return Ok(None);
+    };
+    let order = nodes_by_depth(alloc, automaton)?;
+    let Some(known) = known_of_all(alloc, automaton, &order)? else {
+        return Ok(None);
+    };
+    let Known {
+        numbers,
+        vectors,
+        counts,
+    } = known;
+    let Some(cells) = cells_of(alloc, automaton, &order, &numbers, &classes, quarter)? else {
+        return Ok(None);
+    };
+    Ok(Some(Table {
+        cells,
+        classes,
+        vectors,
+        counts,
+    }))
+}
