@@ -18,6 +18,7 @@ use hyphenation_breaks::extended::Subregion;
 use hyphenation_breaks::language::Language;
 use hyphenation_breaks::laws::listed_in_order;
 use hyphenation_trie::Automaton;
+use hyphenation_trie::table::{Table, make_table};
 use std::alloc::{AllocError, Global};
 use std::fmt;
 use std::marker::Model;
@@ -30,6 +31,8 @@ pub struct Dictionary<C: Payload, B: Break> {
     // The least number of characters of a word after its last break.
     pub(crate) right: u8,
     pub(crate) patterns: Automaton<Entry<C>>,
+    // The table of steps of the patterns, once it is made.
+    pub(crate) table: Option<Table>,
     // Words, each with its listed breaks.
     pub(crate) exceptions: Exceptions<B>,
 }
@@ -43,9 +46,11 @@ impl<C: Payload, B: Break> Drop for Dictionary<C, B> {
             left: _,
             right: _,
             patterns,
+            table,
             exceptions,
         } = self;
         drop(patterns);
+        drop(table);
         drop(exceptions);
     }
 }
@@ -60,7 +65,9 @@ impl<C: Payload, B: Break> Model for Dictionary<C, B> {
     ghost use Rattle.hyphenation_breaks.specs.Dictionary.{Contents};
     ghost use Rattle.hyphenation_dictionary.specs.Private.Views.{contents_code};
     ghost use Rattle.hyphenation_dictionary.specs.Parts.{contents_of_parts};
-    ghost use Rattle.hyphenation_trie.specs.Trie.{EachBeginsKey};
+    ghost use Rattle.std.specs.Prelude.{IfSome};
+    ghost use Rattle.hyphenation_trie.specs.Tables.{IsTableOf};
+    ghost use Rattle.hyphenation_trie.specs.Trie.{entries_of_key, EachBeginsKey};
     ghost use Rattle.hyphenation_breaks.specs.Invariant.{IsDictionary};
 
     ghost Value = { Contents C B };
@@ -72,6 +79,7 @@ impl<C: Payload, B: Break> Model for Dictionary<C, B> {
 
     ghost invariant = { λ d.
         EachBeginsKey d.patterns
+        × IfSome d.table (λ table. IsTableOf (entries_of_key d.patterns) table)
         × IsDictionary C.change_of B.meaning
         (contents_of_parts d.language d.left d.right d.patterns d.exceptions) };
 }
@@ -183,6 +191,31 @@ impl<C: Payload, B: Break> Dictionary<C, B> {
         ensures listed_before { option_map (λ v. v.items) result ≡ finite.get self.old.exceptions word.now }
     {
         self.exceptions.remove(word)
+    }
+}
+
+impl Standard {
+    /// Makes the table by which words are scored faster, and returns whether the dictionary has one.
+    ///
+    /// The contents stay as they are, and so does each break. Without a table the patterns are searched by links. A table takes
+    /// memory and time, so it pays for a dictionary that is asked for many words (thousands in English, tens of thousands
+    /// in Hungarian). It can't be made if a value is more than 15 bytes before its key's end, or if it would be too large (16 MB
+    /// of cells). The only error is out of memory; the dictionary can be used on as it was.
+    ///
+    /// ```text
+    /// let mut dictionary = Standard::from_reader(alloc, language, &mut reader)?;
+    /// dictionary.make_table(alloc)?;      // true, but for a dictionary that can have none
+    /// ```
+    pub fn make_table(&mut self, alloc: Global) -> Result<bool, AllocError>
+        ensures { self.new ≡ self.old }
+    {
+        if self.table.is_some() {
+            return Ok(true);
+        }
+        let table = make_table(alloc, &self.patterns)?;
+        let made = table.is_some();
+        self.table = table;
+        Ok(made)
     }
 }
 

@@ -38,6 +38,7 @@ pub fn dictionary_of<C: Payload, B: Break>(
         left,
         right,
         patterns,
+        table: None,
         exceptions,
     }
 }

@@ -5,4 +5,4 @@ use Rattle.hyphenation_dictionary.proofs.dictionary.Dictionary.insert_exception.
 
 pub invariant_of-self-2 : goal.invariant_of-self-2
 invariant_of-self-2 g c =
-    (c.self.invariant.0, rw c.in_ok-old.ensures.listed (IsKept-insert g.C.Payload.change_of g.B.Break.meaning _ (string_bytes c.args.word) c.args.listed.items c.self.invariant.1 (record { utf8 = IsUtf8-string_bytes c.args.word; ascend = c.requires })))
+    (c.self.invariant.0, c.self.invariant.1, rw c.in_ok-old.ensures.listed (IsKept-insert g.C.Payload.change_of g.B.Break.meaning _ (string_bytes c.args.word) c.args.listed.items c.self.invariant.2 (record { utf8 = IsUtf8-string_bytes c.args.word; ascend = c.requires })))
