@@ -54,6 +54,11 @@ int LLVMFuzzerTestOneInput(const uint8_t *data, size_t size) {
   need(is_known(hyphenation_text(&h, word, rest, (const uint8_t *)"-", 1, page, ROOM, &count)));
   need(is_known(hyphenation_fill(&h, word, rest, 8, page, ROOM, &count)));
   need(hyphenation_share(&h, &o) == HYPHENATION_DONE);
+  /* With a table the values are the same. */
+  uint32_t valued = hyphenation_values(&h, word, rest, page, ROOM, &count);
+  need(hyphenation_make_table(&h) == HYPHENATION_DONE);
+  need(hyphenation_values(&h, word, rest, again, ROOM, &texts) == valued);
+  need(valued != HYPHENATION_DONE || (texts == count && !memcmp(page, again, count)));
   status = hyphenation_edit(&o, word, rest);
   need(status == HYPHENATION_REFUSED || is_known(status));
   /* The canonical text is accepted, and is its own canonical text. */

@@ -82,6 +82,7 @@ extern "C" {
     ) -> u32;
     fn hyphenation_free(handle: *mut Raw);
     fn hyphenation_share(handle: *mut Raw, other: *mut Raw) -> u32;
+    fn hyphenation_make_table(handle: *mut Raw) -> u32;
     fn hyphenation_edit(handle: *mut Raw, edit: *const u8, length: usize) -> u32;
     fn hyphenation_language(
         handle: *mut Raw,
@@ -287,6 +288,11 @@ impl Handle {
         let mut other = Raw::NONE;
         let status = unsafe { hyphenation_share(&mut *self.lock(), &mut other) };
         checked(status, 0, 0).map(|()| Handle::of(other))
+    }
+
+    /// Makes the table by which a standard dictionary breaks words faster, if it can have one.
+    pub fn make_table(&mut self) -> Result<(), Failure> {
+        checked(unsafe { hyphenation_make_table(&mut *self.lock()) }, 0, 0)
     }
 
     /// Edits the exceptions.

@@ -17,6 +17,15 @@ impl Standard {
         self.language
     }
 
+    /// Makes a table by which words are broken several times as fast, if the dictionary can have one.
+    ///
+    /// Nothing else changes. It takes memory and time (0.5 MB and less than 1 ms in English, 9 MB and some 10 ms in
+    /// Hungarian), so it is for a dictionary that is asked for thousands of words. Call it before the dictionary is cloned:
+    /// clones that are there stay without a table, and the dictionary is copied for it.
+    pub fn make_table(&mut self) {
+        done(self.handle.make_table())
+    }
+
     /// The places of the breaks of each of the words, in one call.
     pub fn breaks_of_words(&self, words: &[&str]) -> Vec<Vec<usize>> {
         done(self.handle.breaks_of_words(words))

@@ -18,7 +18,7 @@ use std::alloc::{AllocError, Global};
 use std::sync::Arc;
 
 // A copy of a standard dictionary, by its text. The only error is that memory was refused.
-fn copy_of_standard(dictionary: &Standard, alloc: Global) -> Result<Standard, AllocError>
+pub(crate) fn copy_of_standard(dictionary: &Standard, alloc: Global) -> Result<Standard, AllocError>
     ensures { IfOk result (λ copy. copy ≡ dictionary.now) }
 {
     let text = dictionary.to_text(alloc)?;

@@ -7,7 +7,7 @@ ghost use Rattle.std.specs.Prelude.{◌≡◌, None};
 ghost use Rattle.c_calls.specs.Dictionaries.{holds};
 ghost use Rattle.c_calls.specs.Lists.{WritesLists};
 ghost use Rattle.c_calls.specs.Patterns.{LoadsDic};
-ghost use Rattle.c_calls.specs.Statuses.{kind_numbered, Loads, Shares, Edits, WritesLanguage, WritesMinima};
+ghost use Rattle.c_calls.specs.Statuses.{kind_numbered, Loads, Shares, Edits, MakesTable, WritesLanguage, WritesMinima};
 ghost use Rattle.c_calls.specs.Statuses.{WritesBreaks, WritesValues, Changes, into, loading};
 ghost use Rattle.c_calls.specs.Statuses.{WritesMarkedText, WritesLines, WritesCanonicalText};
 ghost use Rattle.c_calls.specs.TexFiles.{LoadsPatterns, PlacesFault};
@@ -100,6 +100,15 @@ pub extern "C" fn hyphenation_edit(alloc: Global, handle: &mut Handle, edit: &[u
     ensures edits { Edits (holds handle.old) (holds handle.new) edit.now result }
 {
     c_calls::edit(alloc, handle, edit)
+}
+
+/// Makes the table by which a standard dictionary breaks words faster, if it can have one.
+#[unsafe(no_mangle)]
+pub extern "C" fn hyphenation_make_table(alloc: Global, handle: &mut Handle) -> u32
+    ensures unchanged { holds handle.new ≡ holds handle.old }
+    ensures status { MakesTable (holds handle.old) result }
+{
+    c_calls::make_table(alloc, handle)
 }
 
 /// Writes the code of the dictionary's language to the front of a buffer: at most 32 bytes.
