@@ -217,6 +217,18 @@ impl Standard {
         self.table = table;
         Ok(made)
     }
+
+    /// Makes the table if it pays for words of so many bytes together, as [`Standard::make_table`] makes it.
+    ///
+    /// It pays where there are four bytes or more for each node of the patterns' trie. In English these are some 40 KB.
+    pub fn make_table_for(&mut self, alloc: Global, bytes: usize) -> Result<bool, AllocError>
+        ensures { self.new ≡ self.old }
+    {
+        if bytes / 4 < self.patterns.nodes() {
+            return Ok(self.table.is_some());
+        }
+        self.make_table(alloc)
+    }
 }
 
 impl<C: Payload, B: Break> fmt::Debug for Dictionary<C, B> {

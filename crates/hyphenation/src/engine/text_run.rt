@@ -61,10 +61,10 @@ pub(super) trait RunDictionary: Drop {
         ensures good { IfOk result (λ good. good ≡ is_good_edit kind edit.now) }
         ensures done { IfOk result (λ good. IsTrue good → self.new ≡ edited self.old edit.now) };
 
-    /// Returns a text with its words hyphenated.
-    fn hyphenated(&self, alloc: Global, mark: &str, text: &str) -> Result<String, AllocError>
+    /// Returns a text with its words hyphenated. A dictionary may make a table for a long text.
+    fn hyphenated(&mut self, alloc: Global, mark: &str, text: &str) -> Result<String, AllocError>
         ensures { IfOk result (λ output. string_bytes output
-            ≡ hyphenated_text (breaks_of self.now) mark.now text.now) };
+            ≡ hyphenated_text (breaks_of self.old) mark.now text.now) };
 }
 
 impl RunDictionary for Standard {
@@ -94,7 +94,8 @@ impl RunDictionary for Standard {
         apply_edit(alloc, Kind::Standard, self, edit)
     }
 
-    fn hyphenated(&self, alloc: Global, mark: &str, text: &str) -> Result<String, AllocError> {
+    fn hyphenated(&mut self, alloc: Global, mark: &str, text: &str) -> Result<String, AllocError> {
+        let _made = self.make_table_for(alloc, text.len())?;
         hyphenated_text(alloc, self, text, mark)
     }
 }
@@ -127,7 +128,7 @@ impl RunDictionary for Extended {
         apply_edit(alloc, Kind::Extended, self, edit)
     }
 
-    fn hyphenated(&self, alloc: Global, mark: &str, text: &str) -> Result<String, AllocError> {
+    fn hyphenated(&mut self, alloc: Global, mark: &str, text: &str) -> Result<String, AllocError> {
         hyphenated_text(alloc, self, text, mark)
     }
 }
