@@ -93,11 +93,12 @@ fn are_reference_breaks<B: Break>(
     Ok(are_expected(found, &reference.breaks(alloc, word)?))
 }
 
-// Counts of what was compared. `removed` counts exceptions that stood in the dictionary, and a long word has 62 to 67
+// Counts of what was compared. `tables` counts dictionaries with a table, `removed` counts exceptions that stood in the dictionary, and a long word has 62 to 67
 // bytes.
 #[derive(Clone, Copy)]
 struct Compared {
     words: u32,
+    tables: u32,
     version_2: u32,
     added: u32,
     changed: u32,
@@ -109,6 +110,10 @@ struct Compared {
 impl Compared {
     fn note_words(&mut self, count: u32) {
         self.words = self.words.saturating_add(count);
+    }
+
+    fn note_table(&mut self, is_made: bool) {
+        self.tables = self.tables.saturating_add(u32::from(is_made));
     }
 
     fn note_text(&mut self, text: &str) {
@@ -136,6 +141,7 @@ impl Compared {
 
 const NOTHING_COMPARED: Compared = Compared {
     words: 0,
+    tables: 0,
     version_2: 0,
     added: 0,
     changed: 0,
@@ -396,6 +402,9 @@ fn compare_dictionary<K: Kind>(
 ) -> Result<(), Fail> {
     let mut reference = random.dictionary(alloc, K::has_changes())?;
     let mut dictionary = load::<K>(alloc, &reference, compared)?;
+    if random.below(2) == 0 {
+        compared.note_table(dictionary.add_table(alloc)?);
+    }
     compare_words(alloc, random, &mut dictionary, &mut reference, compared)
 }
 
@@ -412,7 +421,10 @@ fn compare_dictionaries<K: Kind>(alloc: Global, seed: u64, count: usize) -> Resu
 #[test]
 fn standard_dictionaries_agree_with_the_reference(rt: HostRuntime) -> Result<(), Fail> {
     let compared = compare_dictionaries::<Standard>(rt.alloc(), 1, 2_000)?;
-    expect(compared.is_enough(), "enough is compared")
+    expect(
+        compared.is_enough() && compared.tables > 500,
+        "enough is compared",
+    )
 }
 
 #[test]

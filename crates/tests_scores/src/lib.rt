@@ -11,4 +11,6 @@ mod long_words;
 #[cfg(test)]
 mod look_ups;
 #[cfg(test)]
+mod tables;
+#[cfg(test)]
 mod values;

@@ -8,8 +8,8 @@ use std::test::Fail;
 use test_dictionaries::load;
 use test_support::{expect, expect_equal_in};
 
-// The counts of scoring a word by a loaded dictionary of either kind.
-fn count<'d, D: Score<'d>>(
+/// The counts of scoring a word by a loaded dictionary of either kind.
+pub fn count<'d, D: Score<'d>>(
     alloc: Global,
     dictionary: &'d D,
     word: &str,

@@ -18,6 +18,9 @@ pub trait Scored: Load + Drop {
         alloc: Global,
         word: &str,
     ) -> Result<Vec<(u8, Option<&Subregion>)>, AllocError>;
+
+    /// Makes the table of the dictionary, and returns whether it has one.
+    fn add_table(&mut self, alloc: Global) -> Result<bool, AllocError>;
 }
 
 impl Scored for Standard {
@@ -32,6 +35,10 @@ impl Scored for Standard {
         }
         Ok(scores)
     }
+
+    fn add_table(&mut self, alloc: Global) -> Result<bool, AllocError> {
+        self.make_table(alloc)
+    }
 }
 
 impl Scored for Extended {
@@ -41,6 +48,10 @@ impl Scored for Extended {
         word: &str,
     ) -> Result<Vec<(u8, Option<&Subregion>)>, AllocError> {
         self.score(alloc, word)
+    }
+
+    fn add_table(&mut self, _alloc: Global) -> Result<bool, AllocError> {
+        Ok(false)
     }
 }
 
@@ -86,10 +97,18 @@ fn values_of<D: Scored>(
     Ok(output)
 }
 
-// The values of words by the dictionary of this text.
+// The values of words by the dictionary of this text. If its table gives others, these follow.
 fn values_of_kind<D: Scored>(alloc: Global, text: &str, words: &[&str]) -> Result<String, Fail> {
-    let dictionary = load::<D>(alloc, text)?;
-    Ok(values_of(alloc, &dictionary, words)?)
+    let mut dictionary = load::<D>(alloc, text)?;
+    let mut found = values_of(alloc, &dictionary, words)?;
+    if dictionary.add_table(alloc)? {
+        let by_table = values_of(alloc, &dictionary, words)?;
+        if by_table.as_str() != found.as_str() {
+            found.push_str(" and by the table ")?;
+            found.push_str(&by_table)?;
+        }
+    }
+    Ok(found)
 }
 
 /// Whether a text is that of an extended dictionary.

@@ -1,10 +1,11 @@
 //! The breaks of standard and of extended dictionaries, for code that finds both.
 
-ghost use Rattle.std.specs.Prelude.{◌≡◌, ◌+◌, ◌-◌, ◌<◌, Option, None, OnOk, [], length, map};
+ghost use Rattle.std.specs.Prelude.{◌≡◌, ◌+◌, ◌-◌, ◌<◌, Option, None, IfSome, OnOk, [], length, map, option_copied};
 ghost use Rattle.std.specs.List.Sorted.{IsNonDecreasingBy};
 ghost use Rattle.hyphenation_breaks.specs.Break.{plain_break, break_at};
 ghost use Rattle.hyphenation_hyphenator.specs.Fitting.{kept_breaks};
 ghost use Rattle.hyphenation_hyphenator.specs.Private.Fitting.{range_holds_no_shift, kept_by_shifts};
+ghost use Rattle.hyphenation_trie.specs.Tables.{IsTableOf};
 ghost use Rattle.hyphenation_trie.specs.Trie.{entries_of_key, EachBeginsKey};
 ghost use Rattle.hyphenation_hyphenator.specs.Opportunities.{breaks_within, breaks_at_odd_values, Ascending};
 ghost use Rattle.hyphenation_hyphenator.specs.Private.Opportunities.{borrowed_break, breaks_by_keys};
@@ -16,6 +17,7 @@ use hyphenation_breaks::breaks::Break;
 use hyphenation_breaks::entry::{Entry, Payload};
 use hyphenation_breaks::extended::Subregion;
 use hyphenation_trie::Automaton;
+use hyphenation_trie::table::Table;
 use std::alloc::AllocError;
 
 // The type of the breaks that a kind of dictionary finds.
@@ -26,14 +28,16 @@ pub(crate) trait BreakKind<'h>: Break + Copy {
     // A break as the dictionary's exceptions hold it.
     type Listing: Break;
 
-    // Puts the breaks within bounds that patterns allow into an empty list.
+    // Puts the breaks within bounds that patterns allow into an empty list. The patterns may have a table of steps.
     fn pattern_breaks(
         patterns: &'h Automaton<Entry<Self::Payload>>,
+        table: Option<&'h Table>,
         word: &str,
         bounds: (usize, usize),
         list: &mut Vec<Self>,
     ) -> Result<(), AllocError>
         requires each_begins_key { EachBeginsKey patterns.now }
+        requires table { IfSome (option_copied table.entry) (λ table. IsTableOf (entries_of_key patterns.now) table) }
         requires empty { list.old.items ≡ [] }
         ensures { OnOk result (map Self.meaning list.new.items
             ≡ breaks_by_keys Self.Payload.change_of (entries_of_key patterns.now) word.now bounds) };
@@ -68,11 +72,12 @@ impl<'h> BreakKind<'h> for usize {
     #[inline(always)]
     fn pattern_breaks(
         patterns: &'h Automaton<Entry<()>>,
+        table: Option<&'h Table>,
         word: &str,
         bounds: (usize, usize),
         list: &mut Vec<usize>,
     ) -> Result<(), AllocError> {
-        plain_breaks(patterns, word, bounds, list)
+        plain_breaks(patterns, table, word, bounds, list)
     }
 
     fn from_listed(listed: &'h usize) -> usize {
@@ -110,6 +115,7 @@ impl<'h> BreakKind<'h> for (usize, Option<&'h Subregion>) {
     #[inline(always)]
     fn pattern_breaks(
         patterns: &'h Automaton<Entry<Option<Subregion>>>,
+        _table: Option<&'h Table>,
         word: &str,
         bounds: (usize, usize),
         list: &mut Vec<(usize, Option<&'h Subregion>)>,

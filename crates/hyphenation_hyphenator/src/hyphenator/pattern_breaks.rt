@@ -4,10 +4,11 @@
 //! carry changes.
 
 ghost use Rattle.std.specs.Prelude.{◌≡◌, ◌≢◌, ◌%◌, ◌+◌, ◌-◌, ◌<◌, ◌≤◌, ◌&&◌, ℕ, length, map, filter, slice_index};
-ghost use Rattle.std.specs.Prelude.{OnOk, [], ◌∷◌, ◌++◌, option_copied, Option, None};
+ghost use Rattle.std.specs.Prelude.{IfSome, OnOk, [], ◌∷◌, ◌++◌, option_copied, Option, None};
 ghost use Rattle.std.specs.List.{range_with_len, slice_index_or};
 ghost use Rattle.std.specs.Option.{option_map};
 ghost use Rattle.hyphenation_breaks.specs.Break.{plain_break};
+ghost use Rattle.hyphenation_trie.specs.Tables.{IsTableOf};
 ghost use Rattle.hyphenation_trie.specs.Trie.{entries_of_key, EachBeginsKey};
 ghost use Rattle.hyphenation_score.specs.Scoring.{own_change};
 ghost use Rattle.hyphenation_hyphenator.specs.Opportunities.{is_odd, no_change, within, breaks_within};
@@ -18,8 +19,9 @@ ghost use Rattle.hyphenation_hyphenator.specs.Private.Opportunities.{breaks_at_w
 use hyphenation_breaks::entry::Entry;
 use hyphenation_breaks::extended::Subregion;
 use hyphenation_score::laws::winner_has_value;
-use hyphenation_score::{LookUps, compete_all, raise_all};
+use hyphenation_score::{LookUps, compete_all, put_values};
 use hyphenation_trie::Automaton;
+use hyphenation_trie::table::Table;
 use std::alloc::AllocError;
 
 // Whether a place is within bounds, both included.
@@ -169,47 +171,50 @@ fn odd_places(
     Ok(())
 }
 
-// Puts the places within bounds that patterns allow into an empty list. The buffer has a value for each place, all 0 at
-// first.
+// Puts the places within bounds that patterns allow into an empty list. The list of values has 18 bytes more than the word.
 #[inline(always)]
 fn plain_breaks_with_buffer(
     patterns: &Automaton<Entry<()>>,
+    table: Option<&Table>,
     word: &str,
     values: &mut [u8],
     bounds: (usize, usize),
     places: &mut Vec<usize>,
 ) -> Result<(), AllocError>
     requires each_begins_key { EachBeginsKey patterns.now }
-    requires one_for_each_place { length values.old ≡ length word.now - 1 }
-    requires zeros_at_first { (i : ℕ) → i < length values.old → slice_index values.old i ≡ 0 }
+    requires table { IfSome (option_copied table.entry) (λ table. IsTableOf (entries_of_key patterns.now) table) }
+    requires room { length values.old ≡ length word.now + 18 }
     requires empty { places.old.items ≡ [] }
     ensures { OnOk result (map plain_break places.new.items
         ≡ breaks_by_keys no_change (entries_of_key patterns.now) word.now bounds) }
 {
     let mut count = LookUps::new();
-    raise_all(patterns, word.as_bytes(), values, &mut count);
-    odd_places(values, bounds, places)
+    put_values(patterns, table, word.as_bytes(), values, &mut count);
+    let end = 16 + word.len().saturating_sub(1);
+    odd_places(&values[16..end], bounds, places)
 }
 
 // Puts the places within bounds that the patterns of a standard dictionary allow into an empty list.
 #[inline(always)]
 pub(super) fn plain_breaks(
     patterns: &Automaton<Entry<()>>,
+    table: Option<&Table>,
     word: &str,
     bounds: (usize, usize),
     places: &mut Vec<usize>,
 ) -> Result<(), AllocError>
     requires each_begins_key { EachBeginsKey patterns.now }
+    requires table { IfSome (option_copied table.entry) (λ table. IsTableOf (entries_of_key patterns.now) table) }
     requires empty { places.old.items ≡ [] }
     ensures { OnOk result (map plain_break places.new.items
         ≡ breaks_by_keys no_change (entries_of_key patterns.now) word.now bounds) }
 {
-    let count = word.len().saturating_sub(1);
-    if count <= 64 {
+    let count = word.len();
+    if count <= 62 {
         // The values of most words stand on the stack.
-        let mut values = [0u8; 64];
-        return plain_breaks_with_buffer(patterns, word, &mut values[..count], bounds, places);
+        let mut values = [0u8; 80];
+        return plain_breaks_with_buffer(patterns, table, word, &mut values[..count + 18], bounds, places);
     }
-    let mut values = vec![in *places.allocator(); 0u8; count]?;
-    plain_breaks_with_buffer(patterns, word, &mut values, bounds, places)
+    let mut values = vec![in *places.allocator(); 0u8; count + 18]?;
+    plain_breaks_with_buffer(patterns, table, word, &mut values, bounds, places)
 }

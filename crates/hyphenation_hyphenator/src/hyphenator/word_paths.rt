@@ -32,7 +32,7 @@ use crate::soft_hyphens::soft_hyphen_indices;
 use hyphenation_breaks::breaks::Break;
 use hyphenation_breaks::entry::{Entry, Payload};
 use hyphenation_dictionary::dictionary::Dictionary;
-use hyphenation_dictionary::search::automaton_of;
+use hyphenation_dictionary::search::patterns_of;
 use hyphenation_score::laws::{value_is_borne, winner_is_first};
 use std::alloc::{AllocError, Global};
 use std::str;
@@ -70,7 +70,8 @@ fn patterned_within<'h, F: BreakKind<'h>>(
 {
     dictionary.invariant();
     value_is_borne::<F::Payload>();
-    F::pattern_breaks(automaton_of(dictionary), word, bounds, list)
+    let (patterns, table) = patterns_of(dictionary);
+    F::pattern_breaks(patterns, table, word, bounds, list)
 }
 
 // Finds the breaks that patterns allow from the first bound to the second.
