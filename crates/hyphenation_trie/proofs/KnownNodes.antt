@@ -4,8 +4,7 @@ use Rattle.std.specs.Prelude.{is_some, unwrap_or, count_by, slice_index, slice_i
 use Rattle.std.specs.List.{flat_map, range_with_len}
 use Rattle.std.proofs.lemmas.Bool.{cases_lt, cases_eq, eq-eqb, ne_eqb}
 use Rattle.std.proofs.lemmas.Grind.{fold-append}
-use Rattle.std.proofs.lemmas.List.{length-append, length-replicate, length-take, length-set, get_or_append_left, get_or-set_same, get_or-set_other, get_or_default, get_or-take, map-append, take_more}
-use Rattle.std.proofs.Math.Seq.{get_or-append_seam}
+use Rattle.std.proofs.lemmas.List.{length-replicate, length-take, length-set, get_or-set_same, get_or-set_other, get_or_default, get_or-take, map-append, take_more}
 use Rattle.hyphenation_breaks.specs.Dictionary.{Patterns, greatest}
 use Rattle.hyphenation_breaks.specs.declared.entry.Entry.{Entry}
 use Rattle.hyphenation_trie.specs.Links.{IsLongest}
@@ -208,23 +207,6 @@ module _ {C : Type 0} (tree : Tree (Entry C)) (trie : IsTrie tree) where
 
 -- ---- pairs and their numbers
 
-pub kept_itself : (vectors : List (List ℕ)) (counts : List ℕ) → KeepsPairs vectors counts vectors counts
-kept_itself vectors counts = λ k lt. record { within = lt; vector_is = refl; count_is = refl; }
-
-pub kept_more : (vectors : List (List ℕ)) (counts : List ℕ) (vector : List ℕ) (count : ℕ) → length counts ≡ length vectors → KeepsPairs vectors counts (vectors ++ vector ∷ []) (counts ++ count ∷ [])
-kept_more vectors counts vector count lens = λ k lt. record {
-  within = omega (arith, length-append vectors (vector ∷ []));
-  vector_is = get_or_append_left vectors (vector ∷ []) [] k lt;
-  count_is = get_or_append_left counts (count ∷ []) 0 k (omega arith);
-}
-
-pub pair_added : (vectors : List (List ℕ)) (counts : List ℕ) (vector : List ℕ) (count : ℕ) → length counts ≡ length vectors → IsPairAt (vectors ++ vector ∷ []) (counts ++ count ∷ []) (length vectors) vector count
-pair_added vectors counts vector count lens = record {
-  within = omega (arith, length-append vectors (vector ∷ []));
-  vector_is = get_or-append_seam vectors vector [] [];
-  count_is = ap (λ (i : ℕ). slice_index (counts ++ count ∷ []) i) (sym lens) ∙ get_or-append_seam counts count [] 0;
-}
-
 pub known_at : {C : Type 0} (tree : Tree (Entry C)) (vectors : List (List ℕ)) (counts : List ℕ) (number node : ℕ) (vector : List ℕ) (count : ℕ) → IsPairAt vectors counts number vector count
     → IsKnown (entries_of_key tree) (node_text tree node) vector count → IsKnownAt tree vectors counts number node
 known_at tree vectors counts number node vector count pair known = record {
@@ -239,18 +221,27 @@ node_known : {C : Type 0} (tree : Tree (Entry C)) (numbers : List ℕ) (vectors 
     → IsKnownNode tree numbers vectors counts node
 node_known tree numbers vectors counts node number e at =
     let there : IsKnownAt tree vectors counts (slice_index numbers node) node = subst (λ (k : ℕ). IsKnownAt tree vectors counts k node) (sym e) at in
-    record { within = there.within; known = there.known; }
+    record { within = there.within; known = there.known }
 
-pub known_start : {C : Type 0} (tree : Tree (Entry C)) → IsTrie tree → (order numbers : List ℕ) → numbers ≡ replicate (length tree.texts) 0 → AreKnownTo tree order numbers (replicate 16 0 ∷ []) (0 ∷ []) 0
-known_start tree trie order numbers zeros =
+first_known : {C : Type 0} (tree : Tree (Entry C)) → IsTrie tree → (order numbers : List ℕ) → numbers ≡ replicate (length tree.texts) 0 → AreKnownTo tree order numbers (replicate 16 0 ∷ []) (0 ∷ []) 0
+first_known tree trie order numbers zeros =
     let root : slice_index numbers 0 ≡ 0 = ap (λ (ns : List ℕ). slice_index ns 0) zeros ∙ zero_read (length tree.texts) 0 in
     record {
       nodes = ap length zeros ∙ length-replicate (length tree.texts) 0;
-      pairs = record { counts_of = refl; few = omega arith; };
+      pairs = record { counts_of = refl; few = omega arith };
       root = root;
-      first = node_known tree numbers (replicate 16 0 ∷ []) (0 ∷ []) 0 0 root (record { within = omega arith; known = known_root (entries_of_key tree) (node_text tree 0) (replicate 16 0) 0 trie.root refl (zero_read 16) refl; });
+      first = node_known tree numbers (replicate 16 0 ∷ []) (0 ∷ []) 0 0 root (record { within = omega arith; known = known_root (entries_of_key tree) (node_text tree 0) (replicate 16 0) 0 trie.root refl (zero_read 16) refl });
       each = λ i lt. absurd (omega arith);
     }
+
+-- the root is known by its pair, which is the first one
+pub known_start : {C : Type 0} (tree : Tree (Entry C)) → IsTrie tree → (order numbers : List ℕ) (no_vectors vectors : List (List ℕ)) (n : ℕ) (no_counts counts : List ℕ) → n ≡ length tree.texts → numbers ≡ replicate n 0
+    → no_vectors ≡ [] → vectors ≡ no_vectors ++ replicate 16 0 ∷ [] → no_counts ≡ [] → counts ≡ no_counts ++ 0 ∷ [] → AreKnownTo tree order numbers vectors counts 0
+known_start tree trie order numbers no_vectors vectors n no_counts counts nodes zeros no_vector one_vector no_count one_count =
+    let vectors_are : vectors ≡ replicate 16 0 ∷ [] = one_vector ∙ ap (λ (vs : List (List ℕ)). vs ++ replicate 16 0 ∷ []) no_vector in
+    let counts_are : counts ≡ 0 ∷ [] = one_count ∙ ap (λ (ns : List ℕ). ns ++ 0 ∷ []) no_count in
+    subst (λ (vs : List (List ℕ)). AreKnownTo tree order numbers vs counts 0) (sym vectors_are)
+    (subst (λ (ns : List ℕ). AreKnownTo tree order numbers (replicate 16 0 ∷ []) ns 0) (sym counts_are) (first_known tree trie order numbers (zeros ∙ ap (λ (k : ℕ). replicate {A = ℕ} k 0) nodes)))
 
 module _ {C : Type 0} (tree : Tree (Entry C)) (trie : IsTrie tree) (order : List ℕ) (by_depth : AreByDepth tree.texts order) where
   -- the link of the next node is known

@@ -29,8 +29,11 @@ pub(super) struct Known {
 // The greatest number of pairs of a vector and a count.
 const MOST: usize = 4096;
 
-// The slots by which an equal pair is found: twice as many as pairs, so that a search soon comes to a free one.
+// The number of slots by which an equal pair is found: twice that of pairs, so that a search soon comes to a free one.
 const SLOTS: usize = 8192;
+
+// The number of slots that a search reads at most. A pair that is not found by then is added once more, which is no error.
+const TRIES: usize = 64;
 
 // What a free slot holds: the number of no pair.
 const FREE: u32 = u32::MAX;
@@ -56,18 +59,21 @@ fn raised_by<C>(vector: &[u8; 16], entries: &[Entry<C>], bytes: usize) -> Option
     Some(raised)
 }
 
-// Returns the slot at which the search for a pair begins.
+// Returns the slot at which the search for a pair begins: the highest bits of a product, which all bits of the pair change.
 fn first_slot(vector: &[u8; 16], count: u32) -> usize
     ensures { result < 8192 }
 {
     let bytes = u128::from_le_bytes(*vector);
     let high = (bytes >> 64) as u64;
     let low = (bytes % (1 << 64)) as u64;
-    let mixed = low ^ high.wrapping_mul(0x9e3779b97f4a7c15).wrapping_add(u64::from(count));
+    let mixed = low
+        ^ high
+            .wrapping_mul(0x9e3779b97f4a7c15)
+            .wrapping_add(u64::from(count));
     (mixed.wrapping_mul(0xd6e8feb86659fd93) >> 51) as usize
 }
 
-// Returns the number of an equal pair, or else a slot for it. Slots are hints: each pair found is compared.
+// Returns the number of an equal pair, or else the slot for a new one. A slot is a hint: the pair that it leads to is compared.
 fn find_pair(
     vectors: &[[u8; 16]],
     counts: &[u32],
@@ -81,9 +87,10 @@ fn find_pair(
     ensures slot { IfErr result (λ slot. slot < length slots.now) }
 {
     let first = first_slot(vector, count);
-    for step in 0..SLOTS {
+    for step in 0..TRIES {
         let slot = (first + step) % SLOTS;
         let number = slots[slot] as usize;
+        // The number of no pair is in a free slot.
         if number >= vectors.len() {
             return Err(slot);
         }
@@ -134,8 +141,9 @@ fn link_of<C: Drop>(automaton: &Automaton<Entry<C>>, node: usize) -> usize
     automaton.trie.links(node).link as usize
 }
 
-// Returns the number of a node, given its link and the number of that. A node that is no key has its link's number. `None` if
-// an entry is far from the key's end, or if there are too many pairs. The only error is out of memory.
+// Returns the number of a node, given its link and the link's number. A node that is no key has that number, too. `None` if an
+// entry is more than 15 bytes before the key's end, or past it, or if there would be more than 4,096 pairs. The only error is
+// out of memory.
 fn number_of<C: Drop>(
     automaton: &Automaton<Entry<C>>,
     node: usize,
@@ -187,12 +195,21 @@ pub(super) fn known_of_all<C: Drop>(
     let mut vectors = Vec::new(alloc);
     let mut counts = Vec::new(alloc);
     push_both(&mut vectors, [0u8; 16], &mut counts, 0u32)?;
+    // The root's pair needs no slot: the count of a key is not 0.
     let mut slots = vec![in alloc; FREE; SLOTS]?;
     for node in order {
         let node = *node as usize;
         let link = link_of(automaton, node);
         let number = numbers[link];
-        match number_of(automaton, node, link, number, &mut vectors, &mut counts, &mut slots)? {
+        match number_of(
+            automaton,
+            node,
+            link,
+            number,
+            &mut vectors,
+            &mut counts,
+            &mut slots,
+        )? {
             Some(number) => numbers[node] = number,
             None => return Ok(None),
         }

@@ -1,23 +1,19 @@
-use Rattle.std.proofs.Common.{◌≡◌, ℕ, ◌+◌, List, [], ◌∷◌, ◌++◌, length, replicate, slice_index, sym, ap, subst, ◌∙◌, arith}
+use Rattle.std.proofs.Common.{◌≡◌, ℕ, List, length, slice_index, sym, ap, subst, ◌∙◌, arith}
 use Rattle.std.specs.Prelude.{IfSome}
 use Rattle.std.proofs.lemmas.List.{get_or_default, with_items_is}
-use Rattle.hyphenation_trie.specs.Private.Vectors.{AreKnownTo, ArePairs, IsKnownAt, KeepsPairs}
+use Rattle.hyphenation_trie.specs.Private.Vectors.{ArePairs, IsKnownAt, KeepsPairs}
 use Rattle.hyphenation_trie.proofs.KnownNodes.{known_all, known_more, known_start, link_known}
 use Rattle.hyphenation_trie.proofs.table.vectors.known_of_all.Goals as goal
 
 pub loop-node-init : goal.loop-node-init
-loop-node-init g c =
-    let tree = c.args.automaton.now in
-    let order = c.args.order.now in
-    let numbers : List ℕ = c.in_ok-numbers.numbers.items in
-    let zeros : numbers ≡ replicate (length tree.texts) 0 = c.in_ok-numbers.ensures.items_if_clones_equal (λ y e. e) ∙ ap (λ (n : ℕ). replicate {A = ℕ} n 0) (c.count.ensures ∙ ap (λ t. length t.texts) c.automaton.view_is) in
-    let vectors : c.push_both.new.firsts.items ≡ replicate 16 0 ∷ [] = c.in_ok-push_both.ensures.firsts ∙ ap (λ (vs : List (List ℕ)). vs ++ replicate 16 0 ∷ []) c.new-vectors.ensures.items in
-    let counts : c.push_both.new.seconds.items ≡ 0 ∷ [] = c.in_ok-push_both.ensures.seconds ∙ ap (λ (ns : List ℕ). ns ++ 0 ∷ []) c.new-counts.ensures.items in
-    record {
-      slots = omega (arith, c.in_ok-slots.ensures.len, c.in_ok-slots.slots.ok.0);
-      known = subst (λ (vs : List (List ℕ)). AreKnownTo tree order numbers vs c.push_both.new.seconds.items 0) (sym vectors)
-          (subst (λ (ns : List ℕ). AreKnownTo tree order numbers (replicate 16 0 ∷ []) ns 0) (sym counts) (known_start tree c.invariant.ensures order numbers zeros));
-    }
+loop-node-init g c = record {
+  slots = omega (arith, c.in_ok-slots.ensures.len, c.in_ok-slots.slots.ok.0);
+  known =
+      let tree = c.args.automaton.now in
+      let nodes : c.count.result ≡ length tree.texts = subst (λ t. c.count.result ≡ length t.texts) c.automaton.view_is c.count.ensures in
+      known_start tree c.invariant.ensures c.args.order.now c.in_ok-numbers.numbers.items c.new-vectors.result.items c.push_both.new.firsts.items c.count.result c.new-counts.result.items c.push_both.new.seconds.items nodes
+      (c.in_ok-numbers.ensures.items_if_clones_equal (λ y e. e)) c.new-vectors.ensures.items c.in_ok-push_both.ensures.firsts c.new-counts.ensures.items c.in_ok-push_both.ensures.seconds;
+}
 
 pub index-number-requires : goal.index-number-requires
 index-number-requires g c = omega (arith, c.link_of-link.ensures.within, c.loop-node.invariant.known.nodes, c.loop-node.numbers.ok.0)
@@ -29,7 +25,7 @@ number_of-requires-clause-known g c =
     let link : ℕ = c.link_of-link.result in
     let known = link_known tree c.invariant.ensures c.args.order.now c.requires.order l.numbers.items l.vectors.items l.counts.items l.node-index link c.loop-node-test.true c.link_of-link.ensures l.invariant.known in
     let read : c.index-number.result.now ≡ slice_index l.numbers.items link = c.index-number.ensures ∙ get_or_default l.numbers.items link c.index-number.result.now 0 (omega (arith, c.link_of-link.ensures.within, l.invariant.known.nodes)) in
-    subst (λ (k : ℕ). IsKnownAt tree l.vectors.items l.counts.items k link) (sym read) (record { within = known.within; known = known.known; })
+    subst (λ (k : ℕ). IsKnownAt tree l.vectors.items l.counts.items k link) (sym read) (record { within = known.within; known = known.known })
 
 pub number_of-requires-clause-pairs : goal.number_of-requires-clause-pairs
 number_of-requires-clause-pairs g c = c.loop-node.invariant.known.pairs
