@@ -6,8 +6,10 @@ pub mod GrowingNodes
 pub mod HeldNodes
 pub mod RowsPlaced
 pub mod Suffixes
+pub mod Tails
 pub mod LinksMade
 pub mod FrozenTrie
 pub mod States
 pub mod SharedEntries
 pub mod LookedUp
+pub mod KnownNodes

@@ -6,3 +6,4 @@ pub mod Links
 pub mod Rows
 pub mod States
 pub mod Trie
+pub mod Vectors
