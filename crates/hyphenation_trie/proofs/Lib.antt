@@ -12,3 +12,5 @@ pub mod States
 pub mod SharedEntries
 pub mod LookedUp
 pub mod TableOrder
+pub mod Tails
+pub mod TableSteps
