@@ -14,3 +14,4 @@ pub mod LookedUp
 pub mod TableOrder
 pub mod Tails
 pub mod TableSteps
+pub mod TableMade
