@@ -28,12 +28,14 @@ loop-node-preserved g c =
     let read : c.index.result.now ≡ slice_index old byte = c.index.ensures ∙ get_or_default old byte c.index.result.now 0 (omega (arith, inv.all)) in
     elim c.if-index-eq0.branch [
       | then-index-eq0+else-last w ↦
-          let items : c.if-index-eq0.classes.items ≡ set old byte (c.loop-node.last + 1) = ap (λ (v : Vec ℕ Global). v.items) w.classes-is in
-          let given = classes_given texts old c.loop-node.last m byte small (sym read ∙ w.if-index-eq0.true) inv in
-          let here : slice_index (set old byte (c.loop-node.last + 1)) byte ≡ c.loop-node.last + 1 = get_or-set_same old byte (c.loop-node.last + 1) 0 (omega (arith, inv.all)) in
-          subst (λ (xs : List ℕ). AreClassesTo texts xs c.if-index-eq0.last (m + 1)) (sym items)
-          (subst (λ (k : ℕ). AreClassesTo texts (set old byte (c.loop-node.last + 1)) k (m + 1)) (sym w.last-is)
-          (classes_had texts (set old byte (c.loop-node.last + 1)) (c.loop-node.last + 1) m byte front text (omega (arith, here)) given))
+          let last : ℕ = c.loop-node.last in
+          let next : ℕ = c.if-index-eq0.last in
+          let new : List ℕ = set old byte next in
+          let above : last < next = omega (arith, w.last-is) in
+          let items : c.if-index-eq0.classes.items ≡ new = ap (λ (v : Vec ℕ Global). v.items) w.classes-is ∙ ap (λ (k : ℕ). set old byte k) (sym w.last-is) in
+          let here : slice_index new byte ≡ next = get_or-set_same old byte next 0 (omega (arith, inv.all)) in
+          subst (λ (xs : List ℕ). AreClassesTo texts xs next (m + 1)) (sym items)
+          (classes_had texts new next m byte front text (omega (arith, here, above)) (classes_given texts old last next m byte small above (sym read ∙ w.if-index-eq0.true) inv))
       | else-index-eq0 w ↦
           let items : c.if-index-eq0.classes.items ≡ old = ap (λ (v : Vec ℕ Global). v.items) w.classes-is in
           subst (λ (xs : List ℕ). AreClassesTo texts xs c.if-index-eq0.last (m + 1)) (sym items)
