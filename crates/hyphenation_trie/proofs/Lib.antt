@@ -13,3 +13,6 @@ pub mod States
 pub mod SharedEntries
 pub mod LookedUp
 pub mod KnownNodes
+pub mod TableOrder
+pub mod TableSteps
+pub mod TableMade

@@ -1,7 +1,11 @@
 -- Laws of tries, and of the links between their nodes.
 use Rattle.std.specs.Prelude.{◌≡◌, ℕ, ◌<◌, List, [], ◌∷◌, ◌++◌, length, IsSome}
 use Rattle.hyphenation_trie.specs.Trie.{Tree, node_text, entries_of_key, IsTrie}
+use Rattle.hyphenation_breaks.specs.Dictionary.{Patterns}
 use Rattle.hyphenation_trie.specs.Links.{IsLongest, IsReport}
+use Rattle.hyphenation_trie.specs.Tables.{GoesOn, IsTableOf}
+use Rattle.hyphenation_trie.specs.Vectors.{AreNear}
+use Rattle.hyphenation_trie.specs.declared.table.Table.{Table}
 
 -- Each key is the text of a node.
 abbrev pub KeysHaveNodes : Type 0 → Type 0
@@ -21,3 +25,7 @@ abbrev pub LongestHasReport : Type 0 → Type 0
 LongestHasReport E =
     (tree : Tree E) (text : List ℕ) (node report : ℕ) → IsLongest tree.texts text node
     → IsReport tree (node_text tree node) report → IsReport tree text report
+
+-- The first row of a table goes on from the empty text, and no entry of its keys is far from its key's end.
+abbrev pub TableBegins : Type 0 → Type 0
+TableBegins C = (keys : Patterns C) (table : Table) → IsTableOf keys table → GoesOn keys table 0 [] × AreNear keys

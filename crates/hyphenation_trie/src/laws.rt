@@ -2,7 +2,7 @@
 //!
 //! Each function here does nothing: its contract is a law, which the check proves.
 
-ghost use Rattle.hyphenation_trie.specs.Laws.{KeysHaveNodes, LongestGoesOn, LongestHasReport};
+ghost use Rattle.hyphenation_trie.specs.Laws.{KeysHaveNodes, LongestGoesOn, LongestHasReport, TableBegins};
 
 /// Each key is the text of a node.
 pub fn keys_have_nodes<E>()
@@ -17,4 +17,9 @@ pub fn longest_goes_on<E>()
 /// The longest key that ends a text ends also the longest text of a node that ends it.
 pub fn longest_has_report<E>()
     ensures { LongestHasReport E }
+{}
+
+/// The first row of a table of steps goes on from the empty text, and no entry of the table's keys is far from its key's end.
+pub fn table_begins<C>()
+    ensures { TableBegins C }
 {}

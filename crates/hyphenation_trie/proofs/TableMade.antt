@@ -1,0 +1,101 @@
+-- How a table of steps is made of an automaton: from rows of nodes and what is known of them to a table of keys.
+use Rattle.std.proofs.Common.{◌≡◌, ℕ, ◌+◌, ◌-◌, ◌*◌, ◌/◌, ◌%◌, ◌<◌, ◌≤◌, List, [], ◌∷◌, ◌++◌, length, drop, map, Option, Some, None, refl, sym, ap, subst, ◌∙◌, arith, inl, inr}
+use Rattle.std.specs.Prelude.{IsSome, slice_index, slice_index_or}
+use Rattle.std.proofs.lemmas.Bool.{cases_eq}
+use Rattle.std.proofs.lemmas.List.{length-append, length-drop, length-map, get_or-map, append_assoc, append-nil}
+use Rattle.hyphenation_breaks.specs.declared.entry.Entry.{Entry}
+use Rattle.hyphenation_trie.specs.Links.{EndsWith}
+use Rattle.hyphenation_trie.specs.Private.Known.{AreClasses, AreKnown, AreRows, HasChild, IsCellTo, IsLongestInner}
+use Rattle.hyphenation_trie.specs.Tables.{IsStepTo, IsTable, IsTail, cell_at}
+use Rattle.hyphenation_trie.specs.Trie.{Tree, node_text, entries_of_key, IsTrie}
+use Rattle.hyphenation_trie.specs.Vectors.{AreNear, AreNearEntries, IsVector, greatest_of, keys_at_end}
+use Rattle.hyphenation_trie.specs.declared.table.Table.{Table}
+use Rattle.hyphenation_trie.proofs.KeyNodes.{node_of_key}
+use Rattle.hyphenation_trie.proofs.Tails.{Ends-drop, entries_same, count_same, none_longer}
+use Rattle.hyphenation_trie.proofs.TrieNodes.{last_same}
+
+-- the beginning of a node's text is the text of a node
+prefix_node : {E : Type 0} (tree : Tree E) → IsTrie tree → (rest t : List ℕ) (k : ℕ) → k < length tree.texts → node_text tree k ≡ t ++ rest → (i : ℕ) × (i < length tree.texts) × (node_text tree i ≡ t)
+prefix_node tree trie [] t k lt e = (k, lt, e ∙ append-nil t)
+prefix_node tree trie (b ∷ rest) t k lt e =
+    let up = prefix_node tree trie rest (t ++ b ∷ []) k lt (e ∙ sym (append_assoc t (b ∷ []) rest)) in
+    let long : 0 < length (node_text tree up.0) = omega (arith, ap length up.2, length-append t (b ∷ [])) in
+    elim (cases_eq up.0 0) [
+      | inl is ↦ absurd (omega (arith, long, ap (λ (j : ℕ). length (node_text tree j)) is, ap length trie.root))
+      | inr apart ↦
+          let from = trie.closed up.0 (omega arith) up.1 in
+          (from.0, from.2, (last_same (node_text tree from.0) t from.1 b (sym from.3 ∙ up.2)).0)
+    ]
+
+-- the longest node with children is a tail
+inner_tail : {E : Type 0} (tree : Tree (Entry E)) → IsTrie tree → (text : List ℕ) (node : ℕ) → IsLongestInner tree text node → IsTail (entries_of_key tree) text (node_text tree node)
+inner_tail {E} tree trie text node longest = record {
+  ends = longest.ends;
+  none = λ d low byte rest.
+      let key : List ℕ = drop d text ++ byte ∷ rest in
+      elim (entries_of_key tree key) as (λ o. entries_of_key tree key ≡ o → o ≡ None) [
+        | None ↦ λ is. refl
+        | Some es ↦ λ is.
+            let n = node_of_key tree.texts tree.entries key (subst (λ (o : Option (List (Entry E))). IsSome o) (sym is) refl) in
+            let up = prefix_node tree trie rest (drop d text ++ byte ∷ []) n.0 n.1 (n.2 ∙ sym (append_assoc (drop d text) (byte ∷ []) rest)) in
+            let i = prefix_node tree trie (byte ∷ []) (drop d text) up.0 up.1 up.2 in
+            let child : HasChild tree i.0 = (up.0, byte, up.1, up.2 ∙ ap (λ (x : List ℕ). x ++ byte ∷ []) (sym i.2)) in
+            let most = longest.most i.0 i.1 child (subst (λ (x : List ℕ). EndsWith text x) (sym i.2) (Ends-drop text d (omega arith))) in
+            absurd (omega (arith, ap length i.2, length-drop d text))
+      ] refl;
+}
+
+-- the entries of all keys are near
+all_near : {C : Type 0} (tree : Tree (Entry C)) (numbers : List ℕ) (vectors : List (List ℕ)) (counts : List ℕ) → AreKnown tree numbers vectors counts → AreNear (entries_of_key tree)
+all_near {C} tree numbers vectors counts known = λ text entries long is.
+    let n = node_of_key tree.texts tree.entries text (subst (λ (o : Option (List (Entry C))). IsSome o) (sym is) refl) in
+    let here = (known.each n.0 n.1).known in
+    subst (λ (t : List ℕ). AreNearEntries entries (length t)) n.2 (here.near entries (omega (arith, ap length n.2)) (ap (entries_of_key tree) n.2 ∙ is))
+
+-- the texts of the rows
+abbrev pub row_texts : {E : Type 0} → Tree E → List ℕ → List (List ℕ)
+row_texts tree rows = map (node_text tree) rows
+
+row_text : {E : Type 0} (tree : Tree E) (rows : List ℕ) (row : ℕ) → row < length rows → slice_index_or (row_texts tree rows) row [] ≡ node_text tree (slice_index rows row)
+row_text tree rows row lt = get_or-map (node_text tree) rows row 0 [] lt
+
+module _ {C : Type 0} (tree : Tree (Entry C)) (trie : IsTrie tree) (numbers rows : List ℕ) (quarter : ℕ) (table : Table) (known : AreKnown tree numbers table.vectors.items table.counts.items) where
+  -- the vector and the count of the longest node that ends a text are those of the text
+  known_step : (text : List ℕ) (cell : ℕ) → IsCellTo tree numbers rows quarter text cell → IsStepTo (entries_of_key tree) (row_texts tree rows) quarter table text (cell / 4096) (cell % 4096)
+  known_step text cell to =
+      let keys = entries_of_key tree in
+      let t : List ℕ = node_text tree to.node in
+      let longest = to.longest in
+      let here = known.each to.node longest.within in
+      let none = λ (d : ℕ) (low : d < length text - length t). none_longer tree text to.node d longest low in
+      let vector : IsVector keys text (slice_index_or table.vectors.items (slice_index numbers to.node) []) = record {
+        lanes = here.known.vector.lanes;
+        each = λ lane distance e. here.known.vector.each lane distance e ∙ ap (λ es. greatest_of es) (sym (entries_same keys text t longest.ends none distance));
+      } in
+      record {
+        row = to.row;
+        within = omega (arith, to.within, length-map rows (node_text tree));
+        next_is = to.next;
+        tail = subst (λ (x : List ℕ). IsTail keys text x) (sym (row_text tree rows to.row to.within)) (inner_tail tree trie text (slice_index rows to.row) to.inner);
+        number_of = omega (arith, to.number, here.within);
+        vector = subst (λ (n : ℕ). IsVector keys text (slice_index_or table.vectors.items n [])) (sym to.number) vector;
+        counted = ap (slice_index table.counts.items) to.number ∙ here.known.counted ∙ sym (count_same keys text t longest.ends none);
+      }
+
+  pub table_is : AreClasses tree.texts table.classes.items quarter → AreRows tree numbers table.classes.items quarter table.cells.items rows → IsTable (entries_of_key tree) (row_texts tree rows) quarter table
+  table_is classes made =
+      let many : length (row_texts tree rows) ≡ length rows = length-map rows (node_text tree) in
+      record {
+        near = all_near tree numbers table.vectors.items table.counts.items known;
+        classes = classes.all;
+        below = classes.below;
+        counts = known.counts_of;
+        has_root = omega (arith, made.has_root, many);
+        root = row_text tree rows 0 made.has_root ∙ ap (node_text tree) made.root ∙ trie.root;
+        room = subst (λ (n : ℕ). n * quarter * 4 ≤ length table.cells.items) (sym many) made.room;
+        steps = λ row byte lt small.
+            let within : row < length rows = omega (arith, lt, many) in
+            let cell : ℕ = cell_at table (row * quarter) byte in
+            subst (λ (x : List ℕ). IsStepTo (entries_of_key tree) (row_texts tree rows) quarter table (x ++ byte ∷ []) (cell / 4096) (cell % 4096)) (sym (row_text tree rows row within))
+            (known_step (node_text tree (slice_index rows row) ++ byte ∷ []) cell (made.each row byte within small));
+      }

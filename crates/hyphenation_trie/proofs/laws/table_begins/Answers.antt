@@ -1,0 +1,5 @@
+use Rattle.hyphenation_trie.proofs.TableSteps.{root_goes_on, keys_near}
+use Rattle.hyphenation_trie.proofs.laws.table_begins.Goals as goal
+
+pub returns : goal.returns
+returns g c = λ keys table is. (root_goes_on keys table is, keys_near keys table is)
