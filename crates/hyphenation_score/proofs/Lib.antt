@@ -11,3 +11,5 @@ pub mod WinnerPlaces
 pub mod ValuesInOrder
 pub mod ScoredWinners
 pub mod Counting
+pub mod Lanes
+pub mod TabledPass

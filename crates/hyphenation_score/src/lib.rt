@@ -34,6 +34,7 @@ mod contest;
 mod examples;
 mod greatest;
 pub mod laws;
+mod tabled;
 
 pub use contest::{compete_all, winners, winners_in};
 pub use greatest::raise_all;
