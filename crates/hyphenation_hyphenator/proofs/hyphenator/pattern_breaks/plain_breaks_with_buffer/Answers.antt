@@ -1,4 +1,4 @@
-use Rattle.std.proofs.Common.{filter, length, map, ap, ◌∙◌}
+use Rattle.std.proofs.Common.{ℕ, List, ◌≡◌, ◌+◌, ◌-◌, drop, filter, length, map, take, ap, ◌∙◌, arith}
 use Rattle.std.specs.List.{range_with_len}
 use Rattle.hyphenation_breaks.specs.Break.{plain_break}
 use Rattle.hyphenation_trie.specs.Trie.{entries_of_key}
@@ -9,9 +9,4 @@ use Rattle.hyphenation_hyphenator.proofs.Standard.{on_ok_then}
 use Rattle.hyphenation_hyphenator.proofs.hyphenator.pattern_breaks.plain_breaks_with_buffer.Goals as goal
 
 pub returns : goal.returns
-returns c =
-    let keys = entries_of_key c.args.patterns.now in
-    let found = c.raise_all.ensures.values ∙ ap (values keys) c.as_bytes.ensures.value in
-    on_ok_then c.odd_places.result _ _
-    (λ h. ap (map plain_break) (h ∙ ap (λ vs. filter (test_of vs c.args.bounds) (range_with_len 1 (length vs))) found) ∙ places_allowed no_change keys c.args.word.now c.args.bounds (winners_have_no_change keys c.args.word.now))
-    c.odd_places.ensures
+returns c = ?

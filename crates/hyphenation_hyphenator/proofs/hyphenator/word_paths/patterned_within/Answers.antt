@@ -9,7 +9,7 @@ use Rattle.hyphenation_hyphenator.proofs.hyphenator.word_paths.patterned_within.
 pub returns-clause-breaks : goal.returns-clause-breaks
 returns-clause-breaks g c =
     let word = c.args.word.now in
-    let same : entries_of_key c.automaton_of.result.now ≡ entries_of_keys c.args.dictionary.now = λ k text. sym (c.automaton_of.ensures.known text) k in
+    let same : entries_of_key c.patterns_of.result.0.now ≡ entries_of_keys c.args.dictionary.now = λ k text. sym (c.patterns_of.ensures.known text) k in
     on_ok_then c.pattern_breaks.result _ _ (λ h. h ∙ ap (λ keys. breaks_within (breaks_at_odd_values g.F.Payload.Payload.change_of keys word) c.args.bounds) same) c.pattern_breaks.ensures
 
 pub returns-clause-ascend : goal.returns-clause-ascend
