@@ -14,36 +14,56 @@ use Rattle.hyphenation_trie.proofs.KeyNodes.{node_of_key}
 use Rattle.hyphenation_trie.proofs.Tails.{Ends-drop, entries_same, count_same, none_longer}
 use Rattle.hyphenation_trie.proofs.TrieNodes.{last_same}
 
+-- a node's text without its last byte is the text of a node
+text_above : {E : Type 0} (tree : Tree E) → IsTrie tree → (t : List ℕ) (b k : ℕ) → k < length tree.texts → node_text tree k ≡ t ++ b ∷ [] → (i : ℕ) × (i < length tree.texts) × (node_text tree i ≡ t)
+text_above tree trie t b k lt e =
+    let long : length (node_text tree k) ≡ length t + 1 = ap length e ∙ length-append t (b ∷ []) in
+    elim (cases_eq k 0) [
+      | inl is ↦ absurd (omega (arith, long, ap (λ (j : ℕ). length (node_text tree j)) is, ap length trie.root))
+      | inr apart ↦
+          let from = trie.closed k (omega arith) lt in
+          (from.0, from.2, (last_same (node_text tree from.0) t from.1 b (sym from.3 ∙ e)).0)
+    ]
+
 -- the beginning of a node's text is the text of a node
 prefix_node : {E : Type 0} (tree : Tree E) → IsTrie tree → (rest t : List ℕ) (k : ℕ) → k < length tree.texts → node_text tree k ≡ t ++ rest → (i : ℕ) × (i < length tree.texts) × (node_text tree i ≡ t)
 prefix_node tree trie [] t k lt e = (k, lt, e ∙ append-nil t)
 prefix_node tree trie (b ∷ rest) t k lt e =
     let up = prefix_node tree trie rest (t ++ b ∷ []) k lt (e ∙ sym (append_assoc t (b ∷ []) rest)) in
-    let long : 0 < length (node_text tree up.0) = omega (arith, ap length up.2, length-append t (b ∷ [])) in
-    elim (cases_eq up.0 0) [
-      | inl is ↦ absurd (omega (arith, long, ap (λ (j : ℕ). length (node_text tree j)) is, ap length trie.root))
-      | inr apart ↦
-          let from = trie.closed up.0 (omega arith) up.1 in
-          (from.0, from.2, (last_same (node_text tree from.0) t from.1 b (sym from.3 ∙ up.2)).0)
-    ]
+    text_above tree trie t b up.0 up.1 up.2
 
--- the longest node with children is a tail
-inner_tail : {E : Type 0} (tree : Tree (Entry E)) → IsTrie tree → (text : List ℕ) (node : ℕ) → IsLongestInner tree text node → IsTail (entries_of_key tree) text (node_text tree node)
-inner_tail {E} tree trie text node longest = record {
-  ends = longest.ends;
-  none = λ d low byte rest.
-      let key : List ℕ = drop d text ++ byte ∷ rest in
-      elim (entries_of_key tree key) as (λ o. entries_of_key tree key ≡ o → o ≡ None) [
-        | None ↦ λ is. refl
-        | Some es ↦ λ is.
-            let n = node_of_key tree.texts tree.entries key (subst (λ (o : Option (List (Entry E))). IsSome o) (sym is) refl) in
-            let up = prefix_node tree trie rest (drop d text ++ byte ∷ []) n.0 n.1 (n.2 ∙ sym (append_assoc (drop d text) (byte ∷ []) rest)) in
-            let i = prefix_node tree trie (byte ∷ []) (drop d text) up.0 up.1 up.2 in
-            let child : HasChild tree i.0 = (up.0, byte, up.1, up.2 ∙ ap (λ (x : List ℕ). x ++ byte ∷ []) (sym i.2)) in
-            let most = longest.most i.0 i.1 child (subst (λ (x : List ℕ). EndsWith text x) (sym i.2) (Ends-drop text d (omega arith))) in
-            absurd (omega (arith, ap length i.2, length-drop d text))
-      ] refl;
-}
+-- Among the nodes with children whose texts end a text, the node is the one with the longest.
+module _ {E : Type 0} (tree : Tree (Entry E)) (trie : IsTrie tree) (text : List ℕ) (node : ℕ) (longest : IsLongestInner tree text node) where
+  -- so no node with children has a longer end of the text,
+  no_longer : (d i : ℕ) → d < length text - length (node_text tree node) → i < length tree.texts → node_text tree i ≡ drop d text → HasChild tree i → ⊥
+  no_longer d i low lt is child =
+      let most = longest.most i lt child (subst (λ (x : List ℕ). EndsWith text x) (sym is) (Ends-drop text d (omega arith))) in
+      omega (arith, most, low, ap length is, length-drop d text)
+
+  no_child : (d byte k : ℕ) → d < length text - length (node_text tree node) → k < length tree.texts → node_text tree k ≡ drop d text ++ byte ∷ [] → ⊥
+  no_child d byte k low lt is =
+      let i = text_above tree trie (drop d text) byte k lt is in
+      no_longer d i.0 low i.1 i.2 (k, byte, lt, is ∙ ap (λ (x : List ℕ). x ++ byte ∷ []) (sym i.2))
+
+  -- and no node has a text that is longer still
+  no_node : (d byte : ℕ) (rest : List ℕ) (k : ℕ) → d < length text - length (node_text tree node) → k < length tree.texts → node_text tree k ≡ drop d text ++ byte ∷ rest → ⊥
+  no_node d byte rest k low lt is =
+      let up = prefix_node tree trie rest (drop d text ++ byte ∷ []) k lt (is ∙ sym (append_assoc (drop d text) (byte ∷ []) rest)) in
+      no_child d byte up.0 low up.1 up.2
+
+  -- the node's text is a tail
+  inner_tail : IsTail (entries_of_key tree) text (node_text tree node)
+  inner_tail = record {
+    ends = longest.ends;
+    none = λ d low byte rest.
+        let key : List ℕ = drop d text ++ byte ∷ rest in
+        elim (entries_of_key tree key) as (λ o. entries_of_key tree key ≡ o → o ≡ None) [
+          | None ↦ λ is. refl
+          | Some es ↦ λ is.
+              let n = node_of_key tree.texts tree.entries key (subst (λ (o : Option (List (Entry E))). IsSome o) (sym is) refl) in
+              absurd (no_node d byte rest n.0 low n.1 n.2)
+        ] refl;
+  }
 
 -- the entries of all keys are near
 all_near : {C : Type 0} (tree : Tree (Entry C)) (numbers : List ℕ) (vectors : List (List ℕ)) (counts : List ℕ) → AreKnown tree numbers vectors counts → AreNear (entries_of_key tree)

@@ -67,6 +67,7 @@ impl LookUps {
     {
         self.reported += 1;
     }
+
     // Counts so many reports.
     pub(crate) fn report_many(&mut self, number: u32)
         requires { self.old.reported + number < 2 ^ 128 }
