@@ -2,8 +2,10 @@
 
 import glob
 import os
+import tempfile
 
 import comparison
+from running import ran
 
 PATTERNS = "/usr/share/cargo/registry/hyphenation-*/patterns"
 # The code of a language: its name, its minima for typesetting, and its list of words.
@@ -23,9 +25,9 @@ def pattern_file(code, kind="pat"):
     return found[0]
 
 
-def patterns(code):
-    """The patterns of a language."""
-    with open(pattern_file(code), encoding="utf-8") as file:
+def patterns(code, kind="pat"):
+    """The patterns of a language, of the kind of `pattern_file`."""
+    with open(pattern_file(code, kind), encoding="utf-8") as file:
         return file.read().split()
 
 
@@ -55,6 +57,15 @@ def standard_text(code):
         places = [len("".join(parts[:at]).encode()) for at in range(1, len(parts))]
         lines.append(" ".join(["e", token("".join(parts)), *map(str, places)]) + "\n")
     return "".join(lines)
+
+
+def extended_text(code, convert):
+    """The dictionary text of a language with the patterns that change letters too, by the program hyphenate-convert."""
+    minima = map(str, LANGUAGES[code][1])
+    with tempfile.NamedTemporaryFile("w", suffix=".dic", encoding="utf-8") as dic:
+        dic.write("UTF-8\n" + "".join(pattern + "\n" for pattern in patterns(code, "ext")))
+        dic.flush()
+        return ran([convert, "extended", code, *minima, dic.name]).stdout
 
 
 def lowercase_words(code):

@@ -1,19 +1,37 @@
 """Runs of programs, counted by valgrind, and tables: for the scripts of bench/."""
 
 import os
+import platform
 import re
 import subprocess
 
+ROOT = os.path.dirname(os.path.dirname(os.path.realpath(__file__)))
+BIN = os.environ.get("HYPHENATE_BIN")
 COUNTED = ["valgrind", "--tool=callgrind", "--callgrind-out-file=/dev/null"]
+# Valgrind simulates a predictor of branches too.
+PREDICTED = [*COUNTED, "--branch-sim=yes"]
 
 
 def left_out(what, why):
     print(f"left out: {what}: {why}", flush=True)
 
 
+def built(name):
+    """The file of a program: in the folder HYPHENATE_BIN, else in `out` of its crate."""
+    crate = "hyphenate_program" if name == "hyphenate" else name.replace("-", "_")
+    return os.path.join(BIN, name) if BIN else os.path.join(ROOT, "crates", crate, "out", crate)
+
+
+def processor():
+    """The name of the processor."""
+    with open("/proc/cpuinfo", encoding="utf-8") as lines:
+        models = [line.split(":", 1)[1].strip() for line in lines if line.startswith("model name")]
+    return models[0] if models else platform.machine()
+
+
 def ran(command, **how):
     """The output of a command, or an error with what it said."""
-    done = subprocess.run(command, capture_output=True, text=True, check=False, **how)
+    done = subprocess.run(command, capture_output=True, encoding="utf-8", check=False, **how)
     if done.returncode:
         raise OSError(f"{' '.join(command)} ended with {done.returncode}: {done.stderr.strip()[-500:]}")
     return done
@@ -22,6 +40,12 @@ def ran(command, **how):
 def collected(said):
     """The instructions that valgrind reports."""
     return int(re.search(r"Collected : (\d+)", said).group(1))
+
+
+def predicted(said):
+    """The instructions, the mispredicted branches and the mispredicted indirect jumps of a run with PREDICTED."""
+    found = re.search(r"Events    : Ir Bc Bcm Bi Bim\n.*Collected : (\d+) \d+ (\d+) \d+ (\d+)", said)
+    return [int(number) for number in found.groups()]
 
 
 def counted(command, given=os.devnull):
@@ -34,9 +58,9 @@ def counted(command, given=os.devnull):
     return collected(said), done.stdout
 
 
-def table(heads, rows):
-    """Prints a table of Markdown."""
-    print("| " + " | ".join(heads) + " |\n|---" + "|---:" * (len(heads) - 1) + "|")
-    for row in rows:
-        print("| " + " | ".join(row) + " |")
-    print(flush=True)
+def markdown(heads, rows):
+    """A table of Markdown."""
+    lines = [heads, *rows]
+    text = ["| " + " | ".join(line) + " |\n" for line in lines]
+    text.insert(1, "|---" + "|---:" * (len(heads) - 1) + "|\n")
+    return "".join(text)

@@ -20,7 +20,8 @@ static size_t breaks_of_word(const char *given, size_t length) {
   word[length] = 0;
   if (hnj_hyphen_hyphenate2(dictionary, word, (int)length, hyphens, NULL, &texts, &starts, &cuts) != 0)
     die("a word was refused");
-  for (size_t i = 0; i < length; i++) found += hyphens[i] & 1;
+  /* There is a value for each character, not for each byte, and a NUL behind them. */
+  for (size_t i = 0; hyphens[i]; i++) found += hyphens[i] & 1;
   if (texts) {
     for (size_t i = 0; i < length; i++) free(texts[i]);
     free(texts);
@@ -57,3 +58,5 @@ static size_t breaks_of_text(const char *text, size_t length, char *marked) {
   }
   return found;
 }
+
+int main(int argc, char **argv) { return go_through(argc, argv); }

@@ -2,12 +2,14 @@
  *
  *     PROGRAM DICTIONARY FILE words|text TIMES
  *
- * FILE is a list of words, one a line, or a text. The program goes through all of it TIMES times, and prints how many
- * breaks it found at the last time. */
+ * FILE is a list of words, one a line, or a text. The program goes through all of it TIMES times. It prints how many
+ * breaks it found at the last time, and the nanoseconds of processor time that all of them took. */
 #include <ctype.h>
+#include <stdint.h>
 #include <stdio.h>
 #include <stdlib.h>
 #include <string.h>
+#include <time.h>
 
 /* Each program has these: it loads a dictionary, and returns the number of breaks of a word or of a text. */
 static void load(const char *path);
@@ -42,7 +44,15 @@ static size_t breaks_of_lines(const char *lines, size_t length) {
   return found;
 }
 
-int main(int argc, char **argv) {
+/* The processor time of this process. */
+static uint64_t nanoseconds(void) {
+  struct timespec time;
+  if (clock_gettime(CLOCK_PROCESS_CPUTIME_ID, &time) != 0) die("there is no clock");
+  return (uint64_t)time.tv_sec * 1000000000 + (uint64_t)time.tv_nsec;
+}
+
+/* Each program's `main` calls it. */
+static int go_through(int argc, char **argv) {
   if (argc != 5) die("usage: PROGRAM DICTIONARY FILE words|text TIMES");
   size_t length, found = 0;
   char *given = read_file(argv[2], &length);
@@ -50,8 +60,9 @@ int main(int argc, char **argv) {
   int is_text = strcmp(argv[3], "text") == 0;
   long times = atol(argv[4]);
   load(argv[1]);
+  uint64_t begun = nanoseconds();
   for (long i = 0; i < times; i++)
     found = is_text ? breaks_of_text(given, length, marked) : breaks_of_lines(given, length);
-  printf("%zu\n", found);
+  printf("%zu %llu\n", found, (unsigned long long)(nanoseconds() - begun));
   return 0;
 }
