@@ -12,7 +12,7 @@ use crate::kinds::Kind::{Beyond, Letter, Middle, Space};
 use crate::kinds::{Kind, kind_of, may_be_letter, verdict};
 use std::simd::prelude::*;
 
-// How many bytes are looked at together.
+// The number of bytes that are tested at once.
 const BLOCK: usize = 16;
 
 // Returns where the piece that begins at an offset ends, or `None` where more than a few bytes of ASCII decide it.
@@ -86,8 +86,8 @@ fn past_run(bytes: &[u8], from: usize) -> usize
     at
 }
 
-// Passes the letters with which a block of bytes begins, if the text has a whole block there. Most words end in it, and
-// no branch asks where.
+// Passes the letters with which the next block of bytes begins, or nothing where no whole block is left. Most words end in
+// the block, and no branch depends on where.
 #[inline(always)]
 fn past_letters(bytes: &[u8], from: usize) -> usize
     requires { from ≤ length bytes.now }
@@ -102,7 +102,7 @@ fn past_letters(bytes: &[u8], from: usize) -> usize
     from + first_set(others.to_bitmask())
 }
 
-// Returns the place of the first bit that is set, or that behind the block where none is.
+// Returns the place of the lowest bit that is set, or the size of a block where none is.
 #[inline(always)]
 fn first_set(mask: u64) -> usize
     ensures { result ≡ (if mask == 0 then BLOCK else trailing_zeros w64 mask) }
@@ -124,6 +124,7 @@ fn word_may_go_on(bytes: &[u8], at: usize) -> bool
         return false;
     }
     let next = kind_of(bytes[at]);
+    // All of it is asked, so that no branch depends on the byte after a word.
     may_be_letter(next) | ((next == Middle) & letter_may_follow(bytes, at))
 }
 
