@@ -61,6 +61,16 @@ const TEXTS: &[(&str, &str, &str)] = &[
         "[a_b1][ ][_][ ][x2y]",
     ),
     (
+        "a long word is one piece",
+        "Electroencephalographically_2 so",
+        "[Electroencephalographically_2][ ][so]",
+    ),
+    (
+        "the neighbors of the letters in ASCII end a word",
+        "a@b[c`d{e, and more of the line",
+        "[a][@][b][[][c][`][d][{][e][,][ ][and][ ][more][ ][of][ ][the][ ][line]",
+    ),
+    (
         "spaces in a row are one piece",
         "a  b   ",
         "[a][  ][b][   ]",

@@ -6,3 +6,4 @@ mod PlainWalks
 mod Bounds
 mod Slices
 mod Letters
+mod LetterBlocks

@@ -15,7 +15,7 @@ use Rattle.unicode_segmentation.proofs.TextLemmas.{IsCharAt-first}
 use Rattle.unicode_segmentation.proofs.WordLemmas.{significant-kept}
 use Rattle.word_pieces.specs.declared.kinds.Kind.{Kind}
 use Rattle.word_pieces.specs.declared.kinds.Kind.TheVariants.{Letter, Middle, Beyond}
-use Rattle.word_pieces.specs.Private.Kinds.{kind_of_value, kind_of_byte, is_near, verdict, may_be_letter, letter_may_begin}
+use Rattle.word_pieces.specs.Private.Kinds.{kind_of_value, kind_of_byte, is_near, verdict, may_be_letter, letter_may_begin, may_join_letter, word_may_go_on, IsRun}
 use Rattle.word_pieces.specs.Private.Walks.{IsPlainEnd}
 use Rattle.word_pieces.proofs.Verdicts.{near-kept, no_flag, is_word_break-verdict, is_word_break-middle, verdict-near, near-may_not_join}
 
@@ -139,44 +139,56 @@ module _ (s : List ℕ) (u : IsUtf8 s) where
         walk-no_flag start at Letter w,
       )
 
-  run : (kind : Kind) (n start at : ℕ) → verdict kind kind ≡ Some false → IsPlainWalk s start at kind → at + n ≤ length s
-      → ((k : ℕ) → at ≤ k → k < at + n → kind_of_byte (slice_index s k) ≡ kind) → IsPlainWalk s start (at + n) kind
-  run kind zero start at joins w le all = let same : at ≡ at + 0 = omega arith in subst (λ k. IsPlainWalk s start k kind) same w
-  run kind (suc n) start at joins w le all =
+  run : (n start at : ℕ) → IsPlainWalk s start at Letter → at + n ≤ length s
+      → ((k : ℕ) → at ≤ k → k < at + n → kind_of_byte (slice_index s k) ≡ Letter) → IsPlainWalk s start (at + n) Letter
+  run zero start at w le all = let same : at ≡ at + 0 = omega arith in subst (λ k. IsPlainWalk s start k Letter) same w
+  run (suc n) start at w le all =
       let here = all at (omega arith) (omega arith) in
-      let next : IsPlainWalk s start (at + 1) kind =
-      subst (IsPlainWalk s start (at + 1)) here (IsPlainWalk-step start at kind w (omega arith) (ap (verdict kind) here ∙ joins)) in
+      let next : IsPlainWalk s start (at + 1) Letter =
+      subst (IsPlainWalk s start (at + 1)) here (IsPlainWalk-step start at Letter w (omega arith) (ap (verdict Letter) here)) in
       let same : at + 1 + n ≡ at + suc n = omega arith in
-      subst (λ k. IsPlainWalk s start k kind) same
-      (run kind n start (at + 1) joins next (omega arith) (λ k low high. all k (omega arith) (omega arith)))
+      subst (λ k. IsPlainWalk s start k Letter) same (run n start (at + 1) next (omega arith) (λ k low high. all k (omega arith) (omega arith)))
 
-  -- A walk goes on over bytes of a kind that joins with itself.
-  pub IsPlainWalk-run : (kind : Kind) (start at to : ℕ) → verdict kind kind ≡ Some false → IsPlainWalk s start at kind
-      → (at ≤ to) × (to ≤ length s) → ((k : ℕ) → at ≤ k → k < to → kind_of_byte (slice_index s k) ≡ kind) → IsPlainWalk s start to kind
-  IsPlainWalk-run kind start at to joins w within all =
-      let low : at ≤ to = within.0 in
-      let high : to ≤ length s = within.1 in
-      let same : at + (to - at) ≡ to = omega arith in
-      subst (λ k. IsPlainWalk s start k kind) same
-      (run kind (to - at) start at joins w (omega arith) (λ k lower upper. all k lower (omega arith)))
+  -- A walk from a letter, over a run.
+  pub IsPlainWalk-run : (start to : ℕ) → start < length s → IsCharBoundary s start → kind_of_byte (slice_index s start) ≡ Letter
+      → IsRun s (start + 1) to → IsPlainWalk s start to Letter
+  IsPlainWalk-run start to inside boundary first letters =
+      let low : start + 1 ≤ to = letters.0 in
+      let high : to ≤ length s = letters.1 in
+      let same : start + 1 + (to - (start + 1)) ≡ to = omega arith in
+      let begun : IsPlainWalk s start (start + 1) Letter =
+      subst (IsPlainWalk s start (start + 1)) first (IsPlainWalk-start start inside boundary (ap is_near first)) in
+      subst (λ k. IsPlainWalk s start k Letter) same
+      (run (to - (start + 1)) start (start + 1) begun (omega arith) (λ k lower upper. letters.2 k lower (omega arith)))
 
-  verdict-near_self : (kind : Kind) → verdict kind kind ≡ Some false → is_near kind ≡ true
-  verdict-near_self kind joins = verdict-near kind kind false joins
+  IsPlainEnd-kind : (start at : ℕ) (kind : Kind) → IsPlainWalk s start at Letter → at < length s → kind_of_byte (slice_index s at) ≡ kind
+      → may_join_letter kind (letter_may_begin s (at + 1)) ≡ false → IsPlainEnd s start at
+  IsPlainEnd-kind start at Letter w inside here none = absurd (false≢true (sym none))
+  IsPlainEnd-kind start at Beyond w inside here none = absurd (false≢true (sym none))
+  IsPlainEnd-kind start at Middle w inside here none = IsPlainEnd-middle start at w inside here none
+  IsPlainEnd-kind start at _ w inside here none = IsPlainEnd-verdict start at Letter w inside (ap (verdict Letter) here)
 
-  -- A walk from a byte of a kind that joins with itself, over bytes of that kind.
-  pub IsPlainWalk-first_run : (kind : Kind) (start to : ℕ) → start < length s → IsCharBoundary s start → kind_of_byte (slice_index s start) ≡ kind
-      → verdict kind kind ≡ Some false → (start + 1 ≤ to) × (to ≤ length s)
-      → ((k : ℕ) → start + 1 ≤ k → k < to → kind_of_byte (slice_index s k) ≡ kind) → IsPlainWalk s start to kind
-  IsPlainWalk-first_run kind start to inside boundary first joins within all =
-      let near : is_near (kind_of_byte (slice_index s start)) ≡ true = ap is_near first ∙ verdict-near_self kind joins in
-      IsPlainWalk-run kind start (start + 1) to joins
-      (subst (IsPlainWalk s start (start + 1)) first (IsPlainWalk-start start inside boundary near)) within all
+  -- A piece that begins with a letter ends after a run, if it can't go on there.
+  pub IsPlainEnd-word : (start at : ℕ) → start < length s → IsCharBoundary s start → kind_of_byte (slice_index s start) ≡ Letter
+      → IsRun s (start + 1) at → word_may_go_on s at ≡ false → IsPlainEnd s start at
+  IsPlainEnd-word start at inside boundary first letters ended =
+      let w = IsPlainWalk-run start at inside boundary first letters in
+      let kind = kind_of_byte (slice_index s at) in
+      elim (cases_lt at (length s)) [
+        | inl more ↦
+            IsPlainEnd-kind start at kind w more refl
+            (sym (ap (λ b. b && may_join_letter kind (letter_may_begin s (at + 1))) (lt-ltb at (length s) more)) ∙ ended)
+        | inr end ↦ IsPlainEnd-end start at Letter w end
+      ]
 
--- A run of bytes of a kind, and one byte more.
-pub one_more : (s : List ℕ) (kind : Kind) (from at : ℕ) → ((k : ℕ) → from ≤ k → k < at → kind_of_byte (slice_index s k) ≡ kind)
-    → kind_of_byte (slice_index s at) ≡ kind → (k : ℕ) → from ≤ k → k < at + 1 → kind_of_byte (slice_index s k) ≡ kind
-one_more s kind from at all here k low high =
-    elim (cases_lt k at) [
-      | inl lt ↦ all k low lt
-      | inr ge ↦ let same : at ≡ k = omega arith in subst (λ i. kind_of_byte (slice_index s i) ≡ kind) same here
-    ]
+-- A run, and one byte more.
+pub IsRun-more : (s : List ℕ) (from at : ℕ) → IsRun s from at → at < length s → kind_of_byte (slice_index s at) ≡ Letter → IsRun s from (at + 1)
+IsRun-more s from at letters inside here = (
+  omega (arith, letters.0),
+  omega arith,
+  λ k low high.
+      elim (cases_lt k at) [
+        | inl lt ↦ letters.2 k low lt
+        | inr ge ↦ let same : at ≡ k = omega arith in subst (λ i. kind_of_byte (slice_index s i) ≡ Letter) same here
+      ],
+)

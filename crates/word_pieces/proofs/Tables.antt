@@ -1,22 +1,14 @@
--- The values of the tables.
+-- The values of the table.
 
 use Rattle.std.proofs.Common.{◌≡◌, ℕ, ◌<◌, ◌==◌, nat_lt, cond, slice_index_or, refl, eqb-true}
 use Rattle.ucd_table.proofs.Facts.{Stepped-below}
-use Rattle.ucd_breaks.specs.WordBreak.{word_break, word_break_number}
-use Rattle.ucd_breaks.specs.declared.WordBreak.TheVariants.{Cr}
+use Rattle.ucd_breaks.specs.WordBreak.{word_break}
 use Rattle.ucd_breaks.proofs.Computing.{ucd_breaks}
-use Rattle.ucd_breaks.proofs.WordBreakLemmas.{word_break_stepped, word_break_number_injective}
+use Rattle.ucd_breaks.proofs.WordBreakLemmas.{word_break_stepped}
 use Rattle.word_pieces.specs.declared.kinds.Kind.TheVariants.{Letter, Beyond}
 use Rattle.word_pieces.specs.declared.kinds.TheConstants.{KINDS}
-use Rattle.word_pieces.specs.declared.values.TheConstants.{ASCII}
 use Rattle.word_pieces.specs.Private.Kinds.{kind_of_value, kind_of_byte}
 use Rattle.word_pieces.proofs.EveryValue.{kind_number, kind_number_injective}
-
-pub word_break-ASCII : (c : ℕ) → c < 128 → slice_index_or ASCII c Cr ≡ word_break c
-unfolding ucd_breaks
-word_break-ASCII c below =
-    word_break_number_injective _ _ (eqb-true _ _
-    (Stepped-below word_break word_break_stepped (λ x v. word_break_number (slice_index_or ASCII x Cr) == word_break_number v) 128 refl c below))
 
 pub kind_of_byte-KINDS : (b : ℕ) → b < 256 → slice_index_or KINDS b Letter ≡ kind_of_byte b
 unfolding ucd_breaks

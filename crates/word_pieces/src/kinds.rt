@@ -56,16 +56,26 @@ pub(crate) fn kind_of(byte: u8) -> Kind
     KINDS[byte as usize]
 }
 
+const BOUND: Option<bool> = Some(true);
+
+const JOINT: Option<bool> = Some(false);
+
 // Whether there is a bound between characters of two kinds, or `None` where these alone don't decide it.
 #[inline(always)]
 pub(crate) fn verdict(last: Kind, next: Kind) -> Option<bool>
     ensures { result ≡ verdict last next }
 {
-    match (last, next) {
-        (Beyond, _) | (_, Beyond) | (Letter, Middle) | (Middle, Letter) => None,
-        (Letter, Letter) | (Space, Space) | (Return, Feed) => Some(false),
-        _ => Some(true),
-    }
+    // A row for each kind of the first character, with a column for each kind of the second.
+    static VERDICTS: [[Option<bool>; 7]; 7] = [
+        [JOINT, None, BOUND, BOUND, BOUND, BOUND, None],
+        [None, BOUND, BOUND, BOUND, BOUND, BOUND, None],
+        [BOUND, BOUND, JOINT, BOUND, BOUND, BOUND, None],
+        [BOUND, BOUND, BOUND, BOUND, JOINT, BOUND, None],
+        [BOUND, BOUND, BOUND, BOUND, BOUND, BOUND, None],
+        [BOUND, BOUND, BOUND, BOUND, BOUND, BOUND, None],
+        [None, None, None, None, None, None, None],
+    ];
+    VERDICTS[last as usize][next as usize]
 }
 
 // Whether a character of a kind may be a letter or a number.

@@ -8,6 +8,5 @@ mod kinds;
 pub mod laws;
 mod pieces;
 mod rules;
-mod values;
 
 pub use pieces::{WordPieceIndices, WordPieces};

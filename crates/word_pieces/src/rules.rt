@@ -13,7 +13,6 @@ ghost use Rattle.unicode_segmentation.specs.Word.{break_by_pair, is_ignored, is_
 ghost use Rattle.unicode_segmentation.specs.Word.{significant, starts_with_half_flag, joins, joins_flag, value_at, is_word_break};
 
 use crate::characters::{char_at, split_first_char, split_last_char};
-use crate::values::value_of;
 use ucd_breaks::WordBreak;
 use ucd_breaks::WordBreak::*;
 
@@ -27,12 +26,12 @@ pub(crate) fn first_end(text: &str, start: usize, limit: usize, half_flag: bool)
     ensures flag { result.1 ≡ starts_with_half_flag (significant (chars_before text.now result.0)) }
 {
     let (first, second) = char_at(text, start, limit);
-    let mut last = value_of(first);
+    let mut last = WordBreak::for_char(first);
     let mut half_flag = step(last, half_flag);
     let mut at = past_ascii_letters(text, second, limit, last);
     'chars: while at < limit {
         let (next, end) = char_at(text, at, limit);
-        let right = value_of(next);
+        let right = WordBreak::for_char(next);
         let closes_flag = half_flag && is_regional(right);
         if is_break(&text[..at], last, next, right, &text[end..], closes_flag) {
             break;
@@ -174,7 +173,7 @@ fn first_significant(after: &str) -> WordBreak
 {
     let mut rest = after;
     while let Some((c, back)) = split_first_char(rest) {
-        let value = value_of(c);
+        let value = WordBreak::for_char(c);
         if !is_ignored(value) {
             return value;
         }
@@ -190,7 +189,7 @@ fn last_significant(before: &str) -> (WordBreak, &str)
 {
     let mut rest = before;
     while let Some((c, front)) = split_last_char(rest) {
-        let value = value_of(c);
+        let value = WordBreak::for_char(c);
         if !is_ignored(value) {
             return (value, front);
         }

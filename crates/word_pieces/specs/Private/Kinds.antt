@@ -1,6 +1,6 @@
 -- Kinds of bytes, by the word bounds around them.
 
-use Rattle.std.specs.Prelude.{ℕ, Bool, true, false, Option, Some, None, nat_lt, if◌then◌else◌, ◌&&◌, List, length, slice_index}
+use Rattle.std.specs.Prelude.{◌≡◌, ℕ, ◌+◌, ◌<◌, ◌≤◌, Bool, true, false, Option, Some, None, nat_lt, if◌then◌else◌, ◌&&◌, List, length, slice_index}
 use Rattle.ucd_breaks.specs.WordBreak.{word_break}
 use Rattle.ucd_breaks.specs.declared.WordBreak.{WordBreak}
 use Rattle.ucd_breaks.specs.declared.WordBreak.TheVariants.{Cr, DoubleQuote, ExtendNumLet, ALetter, Lf, MidNumLet, MidLetter, MidNum, Newline, Numeric, SingleQuote, WSegSpace, Other}
@@ -53,3 +53,20 @@ may_be_letter _ = false
 -- A letter or a number may begin at the offset of a text.
 abbrev pub letter_may_begin : List ℕ → ℕ → Bool
 letter_may_begin text at = nat_lt at (length text) && may_be_letter (kind_of_byte (slice_index text at))
+
+-- A letter or a number and a character of the kind may join, where a letter or a number may follow that or not.
+abbrev pub may_join_letter : Kind → Bool → Bool
+may_join_letter Letter _ = true
+may_join_letter Beyond _ = true
+may_join_letter Middle letter_follows = letter_follows
+may_join_letter _ _ = false
+
+-- A piece that ends with a letter or a number at the offset of a text may go on there.
+abbrev pub word_may_go_on : List ℕ → ℕ → Bool
+word_may_go_on text at =
+    nat_lt at (length text) && may_join_letter (kind_of_byte (slice_index text at)) (letter_may_begin text (at + 1))
+
+-- Letters, digits and underscores are all that stands between two offsets of a text.
+abbrev pub IsRun : List ℕ → ℕ → ℕ → Type 0
+IsRun text from to =
+    (from ≤ to) × (to ≤ length text) × ((k : ℕ) → from ≤ k → k < to → kind_of_byte (slice_index text k) ≡ Letter)

@@ -1,4 +1,4 @@
-use Rattle.std.proofs.Common.{◌-◌, ◌<◌, ◌≤◌, length}
+use Rattle.std.proofs.Common.{◌<◌, ◌≤◌, length}
 use Rattle.word_pieces.proofs.ascii.bound_before_letter.Given as goal
 
 abbrev pub invariant-bytes : goal.invariant-bytes

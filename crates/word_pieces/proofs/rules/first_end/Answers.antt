@@ -15,8 +15,8 @@ chars-init c =
     IsWordWalk-letters _ c.utf8.text _ _ c.requires.limit _ _ _ _ (
       IsWalk-start _ _ c.utf8.text _ _ _ _ h c.char_at-first.ensures.within c.requires.limit,
       rw h.before (omega arith),
-      rw h.before c.value_of-last.ensures,
-      rw (h.before, starts_with_half_flag-cons, c.step-half_flag.ensures, c.value_of-last.ensures, c.requires.flag),
+      rw h.before c.for_char-last.ensures,
+      rw (h.before, starts_with_half_flag-cons, c.step-half_flag.ensures, c.for_char-last.ensures, c.requires.flag),
     ) run.within run.letters run.all
 
 pub chars-preserved : goal.chars-preserved
@@ -30,8 +30,8 @@ chars-preserved c =
     IsWordWalk-letters _ c.utf8.text _ _ c.requires.limit _ _ _ _ (
       IsWalk-step _ _ c.utf8.text _ _ _ _ _ c.chars.invariant.0 joined h c.char_at-next.ensures.within c.requires.limit,
       rw h.before (omega arith),
-      rw h.before c.value_of-right.ensures,
-      rw (h.before, starts_with_half_flag-cons, c.step-half_flag-in-chars.ensures, c.value_of-right.ensures, c.chars.invariant.3),
+      rw h.before c.for_char-right.ensures,
+      rw (h.before, starts_with_half_flag-cons, c.step-half_flag-in-chars.ensures, c.for_char-right.ensures, c.chars.invariant.3),
     ) run.within run.letters run.all
 
 pub returns-after-chars-clause-end : goal.returns-after-chars-clause-end

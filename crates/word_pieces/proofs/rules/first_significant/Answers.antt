@@ -7,7 +7,7 @@ use Rattle.word_pieces.proofs.rules.first_significant.Goals as goal
 pub returns-then-not-is_ignored : goal.returns-then-not-is_ignored
 returns-then-not-is_ignored c =
     let kept : is_ignored (word_break c.in-Some.c) ≡ false = cc in
-    rw (c.loop-c.invariant.1, c.in-Some.ensures.0, significant-kept _ _ kept) c.value_of-value.ensures
+    rw (c.loop-c.invariant.1, c.in-Some.ensures.0, significant-kept _ _ kept) c.for_char-value.ensures
 
 pub loop-c-preserved : goal.loop-c-preserved
 loop-c-preserved c =

@@ -7,7 +7,7 @@ use Rattle.word_pieces.proofs.rules.last_significant.Goals as goal
 pub returns-then-not-is_ignored-clause-value : goal.returns-then-not-is_ignored-clause-value
 returns-then-not-is_ignored-clause-value c =
     let kept : is_ignored (word_break c.in-Some.c) ≡ false = cc in
-    rw (c.loop-c.invariant.1, c.in-Some.ensures.0, significant-kept _ _ kept) c.value_of-value.ensures
+    rw (c.loop-c.invariant.1, c.in-Some.ensures.0, significant-kept _ _ kept) c.for_char-value.ensures
 
 pub returns-then-not-is_ignored-clause-rest : goal.returns-then-not-is_ignored-clause-rest
 returns-then-not-is_ignored-clause-rest c =
