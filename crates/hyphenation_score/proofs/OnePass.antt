@@ -73,7 +73,7 @@ piece_is tree t end p at depth o ends le deep is =
 abbrev pub ending_at : {C : Type 0} → Patterns C → List ℕ → ℕ → ℕ → List (Entry C)
 ending_at keys framed p end = flat_map (λ start. bearers_between keys framed p start end) (range_with_len 0 end)
 
-pub flat_map_shift : {A : Type 0} (f g : ℕ → List A) (a b n : ℕ) → ((d : ℕ) → d < n → f (a + d) ≡ g (b + d)) → flat_map f (range_with_len a n) ≡ flat_map g (range_with_len b n)
+flat_map_shift : {A : Type 0} (f g : ℕ → List A) (a b n : ℕ) → ((d : ℕ) → d < n → f (a + d) ≡ g (b + d)) → flat_map f (range_with_len a n) ≡ flat_map g (range_with_len b n)
 flat_map_shift f g a b zero h = refl
 flat_map_shift f g a b (suc n) h =
     let first : f a ≡ g b = ap f (omega arith) ∙ h 0 (omega arith) ∙ ap g (omega arith) in
@@ -250,7 +250,7 @@ one_same p q a b e = elim (p a) as (λ v. p a ≡ v → count_by p (a ∷ []) �
   | false ↦ λ h. none_counted p a h ∙ sym (none_counted q b (sym e ∙ h))
 ] refl
 
-pub count_shift : (p q : ℕ → Bool) (a b n : ℕ) → ((d : ℕ) → d < n → p (a + d) ≡ q (b + d)) → count_by p (range_with_len a n) ≡ count_by q (range_with_len b n)
+count_shift : (p q : ℕ → Bool) (a b n : ℕ) → ((d : ℕ) → d < n → p (a + d) ≡ q (b + d)) → count_by p (range_with_len a n) ≡ count_by q (range_with_len b n)
 count_shift p q a b zero h = refl
 count_shift p q a b (suc n) h =
     let first : p a ≡ q b = ap p (omega arith) ∙ h 0 (omega arith) ∙ ap q (omega arith) in
