@@ -34,10 +34,11 @@ mod contest;
 mod examples;
 mod greatest;
 pub mod laws;
+mod pass;
+mod values;
 
 pub use contest::{compete_all, winners, winners_in};
 pub use greatest::raise_all;
-use greatest::values;
 use hyphenation_breaks::entry::Entry;
 use hyphenation_breaks::extended::Subregion;
 use hyphenation_dictionary::dictionary::{Extended, Standard};
@@ -135,7 +136,7 @@ impl<'d> Score<'d> for Standard {
         ensures values { IfOk result (λ v. v.items ≡ values (entries_of_keys self.now) word.now) }
     {
         let mut count = LookUps::new();
-        values(alloc, self, word, &mut count)
+        values::values(alloc, self, word, &mut count)
     }
 
     fn score_counted(
@@ -152,7 +153,7 @@ impl<'d> Score<'d> for Standard {
         ensures values { IfOk result (λ v. v.items ≡ values (entries_of_keys self.now) word.now) }
         ensures counts { CountsOf self.now word.now count.old count.new (IsOk result) }
     {
-        values(alloc, self, word, count)
+        values::values(alloc, self, word, count)
     }
 
     fn denotes_opportunity(value: u8) -> bool

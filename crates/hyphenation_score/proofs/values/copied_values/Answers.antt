@@ -1,6 +1,6 @@
 use Rattle.std.proofs.Common.{take, ap, ◌∙◌, arith}
 use Rattle.std.proofs.lemmas.List.{take-take}
-use Rattle.hyphenation_score.proofs.greatest.copied_values.Goals as goal
+use Rattle.hyphenation_score.proofs.values.copied_values.Goals as goal
 
 pub returns-then-count-le16 : goal.returns-then-count-le16
 returns-then-count-le16 c =

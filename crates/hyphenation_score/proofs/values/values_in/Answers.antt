@@ -1,7 +1,7 @@
 use Rattle.std.proofs.Common.{ℕ, ◌∙◌, arith, replicate}
 use Rattle.std.proofs.lemmas.List.{length-take, get_or-take, get_or-replicate}
 use Rattle.hyphenation_score.proofs.Counting.{err_not_ok, counts_kept, counts_ended}
-use Rattle.hyphenation_score.proofs.greatest.values_in.Goals as goal
+use Rattle.hyphenation_score.proofs.values.values_in.Goals as goal
 
 pub raise_all-requires-clause-zeros : goal.raise_all-requires-clause-zeros
 raise_all-requires-clause-zeros g c = λ i lt.

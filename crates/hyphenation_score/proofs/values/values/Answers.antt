@@ -7,7 +7,7 @@ use Rattle.hyphenation_score.proofs.NoKeys.{none_at_all}
 use Rattle.hyphenation_score.proofs.Counting.{counts_same}
 use Rattle.hyphenation_score.proofs.OnePass.{values_same, occurrences_same}
 use Rattle.hyphenation_score.proofs.ValuesInOrder.{length-values, ok_same, ok_then}
-use Rattle.hyphenation_score.proofs.greatest.values.Goals as goal
+use Rattle.hyphenation_score.proofs.values.values.Goals as goal
 
 pub returns-clause-values : goal.returns-clause-values
 returns-clause-values g c =
