@@ -1,15 +1,13 @@
 -- The invariant of the pass by a table over the frame of a word.
-use Rattle.std.proofs.Common.{◌≡◌, ℕ, suc, ◌+◌, ◌-◌, ◌*◌, ◌<◌, ◌≤◌, ◌^◌, max, ◌==◌, Bool, false, cond, List, [], ◌∷◌, ◌++◌, length, take, drop, map, filter, Some, None, refl, sym, ap, subst, ◌∙◌, arith, inl, inr, ◌⊎◌, add-one, eqb}
+use Rattle.std.proofs.Common.{◌≡◌, ℕ, suc, ◌+◌, ◌-◌, ◌*◌, ◌<◌, ◌≤◌, ◌^◌, max, ◌==◌, Bool, false, cond, List, [], ◌∷◌, ◌++◌, length, take, drop, map, filter, Some, None, refl, sym, ap, subst, ◌∙◌, arith, inl, inr, ◌⊎◌, eqb}
 use Rattle.std.specs.Prelude.{slice_range, is_some, unwrap_or, count_by, slice_index, slice_index_or}
 use Rattle.std.specs.List.{flat_map, range_with_len, sum_by, IsAmong}
 use Rattle.std.proofs.Math.Nat.{mul-le-mul_right}
 use Rattle.std.proofs.lemmas.Bool.{cases_eq, cases_lt, eq-eqb, ne_eqb}
-use Rattle.std.proofs.lemmas.Grind.{flat_map-append}
-use Rattle.std.proofs.lemmas.List.{append-nil, length-take-le, length-drop, get_or_past, take_more, get_or_append_left, get_or-take, get_or-drop, ext_get_or}
+use Rattle.std.proofs.lemmas.List.{length-take-le, length-drop, get_or_past, take_more, get_or-take, get_or-drop, ext_get_or}
 use Rattle.std.proofs.Math.ListN.{drop_of_length-le}
 use Rattle.std.proofs.lemmas.List.FromFn.{length-range_with_len, length-map-range_with_len, get_or-map-range_with_len}
 use Rattle.std.proofs.lemmas.List.Sums.{count_by-le-length}
-use Rattle.std.proofs.Math.Seq.{get_or-append_seam}
 use Rattle.hyphenation_breaks.specs.Dictionary.{Patterns}
 use Rattle.hyphenation_breaks.specs.declared.entry.Entry.{Entry}
 use Rattle.hyphenation_trie.specs.Counts.{Counts}
@@ -18,18 +16,15 @@ use Rattle.hyphenation_trie.specs.Vectors.{AreNear, IsVector, entries_before, ke
 use Rattle.hyphenation_trie.specs.declared.table.Table.{Table}
 use Rattle.hyphenation_score.specs.Counting.{CountsWithin}
 use Rattle.hyphenation_score.specs.OnePass.{keys_ending, occurrences}
+use Rattle.hyphenation_score.specs.Private.OnePass.{bearers_to, bearers_by_ends}
 use Rattle.hyphenation_score.specs.Scoring.{frame, greatest_value, bearers_between, value_at, values}
 use Rattle.hyphenation_score.proofs.GreatestValues.{greatest_value-append}
-use Rattle.hyphenation_score.proofs.NumberRows.{flat_map_none, range_more}
-use Rattle.hyphenation_score.proofs.OnePass.{slice_is, by_ends, length-frame, sum_more}
-
--- The entries that bear on a place, of all keys that end there in the frame.
-abbrev bearers_to : {C : Type 0} → Patterns C → List ℕ → ℕ → ℕ → List (Entry C)
-bearers_to keys framed p end = flat_map (λ start. bearers_between keys framed p start end) (range_with_len 0 end)
+use Rattle.hyphenation_score.proofs.NumberRows.{flat_map_none}
+use Rattle.hyphenation_score.proofs.OnePass.{slice_is, flat_map_more, by_ends, length-frame, sum_more}
 
 -- The value of a place by the keys that end in the first bytes of the frame.
 abbrev pub value_to : {C : Type 0} → Patterns C → List ℕ → ℕ → ℕ → ℕ
-value_to keys framed p n = greatest_value (flat_map (λ end. bearers_to keys framed p end) (range_with_len 1 n))
+value_to keys framed p n = greatest_value (bearers_by_ends keys framed n p)
 
 -- The first bytes of the frame are read: the row, the last 16 values, and the values that are written.
 pub record Passed {C : Type 0} (keys : Patterns C) (table : Table) (framed : List ℕ) (end row : ℕ) (last vals : List ℕ) (first reported : ℕ) : Type 0 where
@@ -63,8 +58,8 @@ module _ {C : Type 0} (keys : Patterns C) (framed : List ℕ) where
   value_more p n =
       let f = λ (end : ℕ). bearers_to keys framed p end in
       let last : 1 + n ≡ n + 1 = omega arith in
-      ap (λ xs. greatest_value (flat_map f xs)) (range_more 1 n) ∙ ap greatest_value (flat_map-append f (range_with_len 1 n) ((1 + n) ∷ []) ∙ ap (λ ys. flat_map f (range_with_len 1 n) ++ ys) (append-nil (f (1 + n))))
-      ∙ greatest_value-append (flat_map f (range_with_len 1 n)) (f (1 + n)) ∙ ap (λ (k : ℕ). max (value_to keys framed p n) (greatest_value (f k))) last
+      ap greatest_value (flat_map_more f 1 n) ∙ greatest_value-append (flat_map f (range_with_len 1 n)) (f (1 + n))
+      ∙ ap (λ (k : ℕ). max (value_to keys framed p n) (greatest_value (f k))) last
 
   -- a text of the frame is an end of what is read
   piece_is : (start end : ℕ) → end ≤ length framed → slice_range framed start end ≡ drop start (take end framed)
@@ -187,13 +182,6 @@ module _ {C : Type 0} (keys : Patterns C) (framed : List ℕ) where
         }
 
 -- ---- the frame of a word
-
--- The byte of a word, and the dot after it, in the frame.
-pub word_byte : (word : List ℕ) (at : ℕ) → at < length word → slice_index word at ≡ slice_index (frame word) (at + 1)
-word_byte word at lt = sym (get_or_append_left word (46 ∷ []) 0 at lt) ∙ ap (slice_index (frame word)) (sym (add-one at))
-
-pub last_byte : (word : List ℕ) → 46 ≡ slice_index (frame word) (length word + 1)
-last_byte word = sym (get_or-append_seam word 46 [] 0) ∙ ap (slice_index (frame word)) (sym (add-one (length word)))
 
 -- A count has room for the reports of one more byte.
 pub passed_room : {C : Type 0} (keys : Patterns C) (table : Table) (word : List ℕ) (end row : ℕ) (last vals : List ℕ) (first reported : ℕ)

@@ -34,11 +34,14 @@ mod contest;
 mod examples;
 mod greatest;
 pub mod laws;
+mod pass;
 mod tabled;
+mod values;
 
 pub use contest::{compete_all, winners, winners_in};
 pub use greatest::raise_all;
-use greatest::values;
+pub use tabled::{find_values, put_values};
+pub use values::values_of;
 use hyphenation_breaks::entry::Entry;
 use hyphenation_breaks::extended::Subregion;
 use hyphenation_dictionary::dictionary::{Extended, Standard};
@@ -136,7 +139,7 @@ impl<'d> Score<'d> for Standard {
         ensures values { IfOk result (λ v. v.items ≡ values (entries_of_keys self.now) word.now) }
     {
         let mut count = LookUps::new();
-        values(alloc, self, word, &mut count)
+        values::values(alloc, self, word, &mut count)
     }
 
     fn score_counted(
@@ -153,7 +156,7 @@ impl<'d> Score<'d> for Standard {
         ensures values { IfOk result (λ v. v.items ≡ values (entries_of_keys self.now) word.now) }
         ensures counts { CountsOf self.now word.now count.old count.new (IsOk result) }
     {
-        values(alloc, self, word, count)
+        values::values(alloc, self, word, count)
     }
 
     fn denotes_opportunity(value: u8) -> bool
