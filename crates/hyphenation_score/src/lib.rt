@@ -40,8 +40,6 @@ mod values;
 
 pub use contest::{compete_all, winners, winners_in};
 pub use greatest::raise_all;
-pub use tabled::{find_values, put_values};
-pub use values::values_of;
 use hyphenation_breaks::entry::Entry;
 use hyphenation_breaks::extended::Subregion;
 use hyphenation_dictionary::dictionary::{Extended, Standard};
@@ -49,6 +47,8 @@ use hyphenation_dictionary::search::automaton_of;
 use hyphenation_trie::Automaton;
 pub use hyphenation_trie::LookUps;
 use std::alloc::{AllocError, Global};
+pub use tabled::{find_values, put_values};
+pub use values::values_of;
 
 /// A dictionary that scores the places of words by its patterns.
 ///

@@ -64,7 +64,13 @@ pub fn values_of<C: Drop>(
     if word.len() <= 62 {
         // The values of most words are found on the stack and copied, since that is faster than to fill a list with 0.
         let mut buffer = [0u8; 80];
-        put_values(automaton, table, word, &mut buffer[..word.len() + 18], count);
+        put_values(
+            automaton,
+            table,
+            word,
+            &mut buffer[..word.len() + 18],
+            count,
+        );
         return copied_values(alloc, &buffer, places);
     }
     let mut list = vec![in alloc; 0u8; word.len() + 18]?;
