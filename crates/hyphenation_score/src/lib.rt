@@ -18,8 +18,9 @@
 //! give its value. Its key starts first, and is the shortest of those with that start.
 //!
 //! A place is the number of the word's bytes before it, from 1 to the word's length less 1. [`Score`] returns the values,
-//! and [`winners`] the entries that win. Both search the frame in one pass, which meets each key where it ends. Users call
-//! the crate `hyphenation`, which exports this one as its `score`.
+//! and [`winners`] the entries that win. Both search the frame in one pass, which meets each key where it ends. If a standard
+//! dictionary has a table of steps, the pass by it takes all keys that end with a byte at once. Users call the crate
+//! `hyphenation`, which exports this one as its `score`.
 #![tactic(auto)]
 
 ghost use Rattle.std.specs.Prelude.{◌≡◌, ◌↔◌, ◌+◌, ◌-◌, ◌*◌, ◌%◌, ◌≤◌, ◌^◌, ◌<◌, ℕ, None, length, map, option_copied, IfOk, IsOk, IsTrue};
@@ -83,8 +84,9 @@ pub trait Score<'d> {
 
     /// Returns the scores of the places of a word, from place 1 on, and counts what the search does.
     ///
-    /// It counts each look-up of a byte among the children of a node. It counts one report for each occurrence of a key
-    /// in the word's frame. The only error is out of memory; the counts then have what was done before it.
+    /// It counts each look-up of a byte among the children of a node, or in a table of steps. It counts one report for each
+    /// occurrence of a key in the word's frame. The only error is out of memory; the counts then have what was done before
+    /// it.
     ///
     /// ```text
     /// let mut count = LookUps::new();

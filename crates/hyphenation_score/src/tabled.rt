@@ -1,8 +1,9 @@
 //! The values of a word's places by a table of steps, or without one by the links of the automaton.
 //!
 //! With a table the pass reads one cell for each byte of the word's frame. The cell leads to a vector: the greatest values
-//! that the keys which end with the byte give to the last 16 places. The pass keeps the values of these places so far, moves
-//! them by one place with each byte, and raises them to those of the vector. A value that leaves them is not raised again.
+//! that the keys which end with the byte give to the 16 last places. The pass keeps the values of these places in one
+//! register. With each byte it moves them by one place, raises them to those of the vector, and writes them to the list. A
+//! value that is moved out of the register is written for good, since no key that ends later gives one so far back.
 
 ghost use Rattle.std.specs.Prelude.{◌≡◌, ◌+◌, ◌-◌, ◌<◌, ◌≤◌, ◌^◌, ℕ, max, length, drop, take, slice_index, IfSome, option_copied};
 ghost use Rattle.hyphenation_trie.specs.Tables.{IsTableOf};
@@ -66,8 +67,8 @@ fn store(last: u8x16, list: &mut [u8], at: usize)
 
 /// Finds the values of a word's places, in one pass over its frame by a table of the keys.
 ///
-/// The list has 18 bytes more than the word. The values come after its first 16 bytes; all others are overwritten with
-/// anything. Look-ups and reports are counted.
+/// The list has 18 bytes more than the word, and the values come after its first 16 bytes. What the other bytes hold then is
+/// not said. One look-up is counted for each byte of the frame, and one report for each occurrence of a key.
 #[inline(always)]
 pub fn find_values<C: Drop>(
     automaton: &Automaton<Entry<C>>,
@@ -86,7 +87,8 @@ pub fn find_values<C: Drop>(
     ensures counts { CountsBy (entries_of_key automaton.now) word.now count.old count.new (Unit {0}) }
 {
     table_begins::<C>();
-    // The frame has a dot before the word and one after it.
+    // The frame has a dot before the word and one after it. At first the 16 last places reach to before the word, so the list
+    // has room there.
     let (first, number) = table.step(automaton, 0, b'.', count);
     let mut start = first;
     let mut last = u8x16::from_array(*table.vector(number, count));
@@ -124,8 +126,8 @@ fn find_by_links<C: Drop>(
 
 /// Puts the values of a word's places into a list, by a table of the keys if there is one.
 ///
-/// The list has 18 bytes more than the word. The values come after its first 16 bytes; all others may be overwritten with
-/// anything. Each node of the automaton but the root must begin a key. Look-ups and reports are counted.
+/// The list has 18 bytes more than the word, and the values come after its first 16 bytes. What the other bytes hold then is
+/// not said. Each node of the automaton but the root must begin a key. Look-ups and reports are counted.
 #[inline(always)]
 pub fn put_values<C: Drop>(
     automaton: &Automaton<Entry<C>>,
