@@ -46,11 +46,11 @@ counts_same bytes bytes' longest occurring occurring' old new ended same alike c
     subst (λ (n : ℕ). CountsWithin n longest occurring' old new ended) same (subst (λ (n : ℕ). CountsWithin bytes longest n old new ended) alike counts)
 
 -- The counts after the last byte of the frame.
-pub counts_passed : {C : Type 0} (tree : Tree (Entry C)) (word : List ℕ) → IsTrie tree → (node : ℕ) (vals : List ℕ) (old new : Counts) (longest : ℕ)
-    → Passed tree word (length word + 2) node vals old.made old.reported new.made new.reported → IsZeroWithoutKeys (entries_of_key tree) longest
+pub counts_passed : {C S State : Type 0} {meaning : S → State} {after : State → Entry C → State} (tree : Tree (Entry C)) (word : List ℕ) → IsTrie tree → {first slots : List S} {at node : ℕ} (old new : Counts) (longest : ℕ)
+    → Passed meaning after tree word first at node slots old.made old.reported new.made new.reported → at ≡ length word + 2 → IsZeroWithoutKeys (entries_of_key tree) longest
     → CountsWithin (length word) longest (occurrences (entries_of_key tree) (frame word)) old new (Unit {0})
-counts_passed tree word trie node vals old new longest p none =
-    let reported = passed_reported tree word trie node vals _ _ _ _ p in
+counts_passed tree word trie {at = at} old new longest p is none =
+    let reported = passed_reported tree word trie p is in
     record {
       most = elim (cases_eq longest 0) [
         | inl zero_is ↦
@@ -66,6 +66,6 @@ counts_passed tree word trie node vals old new longest p none =
       made_grows = omega (arith, p.least);
       reported_grows = omega (arith, reported);
       reported_at_most = omega (arith, reported);
-      each_byte = λ ended. p.least;
+      each_byte = λ ended. omega (arith, p.least);
       each_occurrence = λ ended. reported;
     }

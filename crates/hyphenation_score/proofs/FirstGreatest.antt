@@ -1,8 +1,9 @@
 -- The first entry of the greatest value, and the greater of two entries.
-use Rattle.std.proofs.Common.{◌≡◌, ℕ, ◌<◌, ◌≤◌, max, Bool, true, false, cond, eqb, ltb, List, [], ◌∷◌, ◌++◌, map, Option, Some, None, refl, sym, ap, ◌∙◌, arith, inl, inr}
-use Rattle.std.specs.Option.{option_map_or}
+use Rattle.std.proofs.Common.{◌≡◌, ℕ, ◌<◌, ◌≤◌, max, Bool, true, false, cond, eqb, List, [], ◌∷◌, ◌++◌, map, Option, Some, None, refl, sym, ap, ◌∙◌, arith, inl, inr}
+use Rattle.std.specs.Option.{option_or}
 use Rattle.std.specs.List.{find}
 use Rattle.std.proofs.lemmas.Bool.{cases_lt, cases_eq, lt-ltb, le-ltb, eqb-true, eq-eqb}
+use Rattle.std.proofs.lemmas.List.Folds.{find-append}
 use Rattle.hyphenation_breaks.specs.declared.entry.Entry.{Entry}
 use Rattle.hyphenation_score.specs.Scoring.{greatest_value, first_greatest, value_of}
 use Rattle.hyphenation_score.specs.Private.Scoring.{greater}
@@ -20,9 +21,6 @@ not_found {C} (e ∷ es) v lt =
       | true ↦ λ is. absurd (omega (arith, eqb-true e.value v is))
       | false ↦ λ is. not_found es v (omega arith)
     ] refl
-
-not_equal : (v : ℕ) → 0 < v → eqb v 0 ≡ false
-not_equal v pos = elim (eqb v 0) as (λ b. eqb v 0 ≡ b → b ≡ false) [ true ↦ λ is. absurd (omega (arith, eqb-true v 0 is)) | false ↦ λ is. refl ] refl
 
 differ : (b : Bool) → b ≡ true → b ≡ false → ⊥
 differ true p q = cc
@@ -44,10 +42,6 @@ is_found {C} (e ∷ es) v is pos =
       | false ↦ λ other. is_found es v (rest_greatest e.value (greatest_value es) v (is ∙ c) other) pos
     ] refl
 
-find-append : {C : Type 0} (p : Entry C → Bool) (xs ys : List (Entry C)) → find p (xs ++ ys) ≡ option_map_or (λ e. Some e) (find p xs) (find p ys)
-find-append p [] ys = refl
-find-append {C} p (x ∷ xs) ys = elim (p x) as (λ b. cond {A = Option (Entry C)} b (Some x) (find p (xs ++ ys)) ≡ option_map_or (λ e. Some e) (cond b (Some x) (find p xs)) (find p ys)) [ true ↦ refl | false ↦ find-append p xs ys ]
-
 abbrev won : {C : Type 0} → ℕ → List (Entry C) → Option (Entry C)
 won v es = cond (eqb v 0) None (find (λ e. eqb e.value v) es)
 
@@ -56,26 +50,8 @@ first_stays {C} v xs ys is = elim (cases_eq v 0) [
   | inl zero_is ↦ let t = eq-eqb v 0 zero_is in ap (λ b. cond {A = Option (Entry C)} b None (find (λ e. eqb e.value v) (xs ++ ys))) t ∙ sym (ap (λ b. cond {A = Option (Entry C)} b None (find (λ e. eqb e.value v) xs)) t)
   | inr pos ↦
       let f = is_found xs v is (omega arith) in
-      ap (cond (eqb v 0) None) (find-append (λ e. eqb e.value v) xs ys ∙ ap (λ (o : Option (Entry C)). option_map_or (λ e. Some e) o (find (λ e. eqb e.value v) ys)) f.1 ∙ sym f.1)
+      ap (cond (eqb v 0) None) (find-append (λ e. eqb e.value v) xs ys ∙ ap (λ (o : Option (Entry C)). option_or o (find (λ e. eqb e.value v) ys)) f.1 ∙ sym f.1)
 ]
-
--- later entries win only by a greater value
-winner-append : {C : Type 0} (xs ys : List (Entry C)) → first_greatest (xs ++ ys) ≡ cond (ltb (greatest_value xs) (greatest_value ys)) (first_greatest ys) (first_greatest xs)
-winner-append {C} xs ys =
-    let a = greatest_value xs in
-    let b = greatest_value ys in
-    let all : greatest_value (xs ++ ys) ≡ max a b = greatest_value-append xs ys in
-    elim (cases_lt a b) [
-      | inl lt ↦
-          let G : greatest_value (xs ++ ys) ≡ b = omega (arith, all) in
-          ap (λ (v : ℕ). won v (xs ++ ys)) G
-          ∙ ap (cond (eqb b 0) None) (find-append (λ e. eqb e.value b) xs ys ∙ ap (λ (o : Option (Entry C)). option_map_or (λ e. Some e) o (find (λ e. eqb e.value b) ys)) (not_found xs b lt))
-          ∙ ap (λ t. cond t (first_greatest ys) (first_greatest xs)) (sym (lt-ltb a b lt))
-      | inr le ↦
-          let G : greatest_value (xs ++ ys) ≡ a = omega (arith, all) in
-          ap (λ (v : ℕ). won v (xs ++ ys)) G ∙ first_stays a xs ys refl
-          ∙ ap (λ t. cond t (first_greatest ys) (first_greatest xs)) (sym (le-ltb a b le))
-    ]
 
 -- the entry found has the value sought
 found_value : {C : Type 0} (es : List (Entry C)) (v : ℕ) (e : Entry C) → find (λ x. eqb x.value v) es ≡ Some e → e.value ≡ v
@@ -85,11 +61,6 @@ found_value {C} (x ∷ es) v e is =
       | true ↦ λ same here. let one : x ≡ e = cc in ap (λ y. y.value) (sym one) ∙ eqb-true x.value v same
       | false ↦ λ other rest. found_value es v e rest
     ] refl is
-
-alone : {C : Type 0} (e : Entry C) → 0 < e.value → won e.value (e ∷ []) ≡ Some e
-alone {C} e pos =
-    let some : eqb e.value 0 ≡ false = not_equal e.value pos in
-    ap (λ b. cond {A = Option (Entry C)} b None (cond (eqb e.value e.value) (Some e) None)) some ∙ ap (λ b. cond {A = Option (Entry C)} b (Some e) None) (eq-eqb e.value e.value refl)
 
 -- there is no first greatest entry if the greatest value is 0
 pub first_none : {C : Type 0} (es : List (Entry C)) → greatest_value es ≡ 0 → first_greatest es ≡ None
@@ -112,26 +83,34 @@ value_of-first es = elim (cases_eq (greatest_value es) 0) [
   | inr some ↦ let f = first_some es (omega arith) in ap value_of f.1 ∙ f.3
 ]
 
-pub first-append : {C : Type 0} (xs ys : List (Entry C)) → first_greatest (xs ++ ys) ≡ greater (first_greatest xs) (first_greatest ys)
-first-append {C} xs ys =
-    winner-append xs ys ∙ ap (λ (v : ℕ). cond (ltb v (greatest_value ys)) (first_greatest ys) (first_greatest xs)) (sym (value_of-first xs))
-    ∙ ap (λ (v : ℕ). cond (ltb (value_of (first_greatest xs)) v) (first_greatest ys) (first_greatest xs)) (sym (value_of-first ys))
-
 pub greater_second : {C : Type 0} (a b : Option (Entry C)) → value_of a < value_of b → greater a b ≡ b
 greater_second a b lt = ap (λ t. cond t b a) (lt-ltb (value_of a) (value_of b) lt)
 
 pub greater_first : {C : Type 0} (a b : Option (Entry C)) → value_of b ≤ value_of a → greater a b ≡ a
 greater_first a b le = ap (λ t. cond t b a) (le-ltb (value_of a) (value_of b) le)
 
-pub greater_none : {C : Type 0} (a : Option (Entry C)) → greater a None ≡ a
-greater_none a = greater_first a None (omega arith)
+-- later entries win only by a greater value
+pub first-append : {C : Type 0} (xs ys : List (Entry C)) → first_greatest (xs ++ ys) ≡ greater (first_greatest xs) (first_greatest ys)
+first-append {C} xs ys =
+    let a = greatest_value xs in
+    let b = greatest_value ys in
+    let all : greatest_value (xs ++ ys) ≡ max a b = greatest_value-append xs ys in
+    elim (cases_lt a b) [
+      | inl lt ↦
+          let most : greatest_value (xs ++ ys) ≡ b = omega (arith, all) in
+          ap (λ (v : ℕ). won v (xs ++ ys)) most
+          ∙ ap (cond (eqb b 0) None) (find-append (λ e. eqb e.value b) xs ys ∙ ap (λ (o : Option (Entry C)). option_or o (find (λ e. eqb e.value b) ys)) (not_found xs b lt))
+          ∙ sym (greater_second (first_greatest xs) (first_greatest ys) (omega (arith, value_of-first xs, value_of-first ys)))
+      | inr le ↦
+          let most : greatest_value (xs ++ ys) ≡ a = omega (arith, all) in
+          ap (λ (v : ℕ). won v (xs ++ ys)) most ∙ first_stays a xs ys refl ∙ sym (greater_first (first_greatest xs) (first_greatest ys) (omega (arith, value_of-first xs, value_of-first ys)))
+    ]
 
-one_value : {C : Type 0} (e : Entry C) → greatest_value (e ∷ []) ≡ e.value
-one_value e = omega arith
-
--- one entry more
-pub greater_one : {C : Type 0} (a : Option (Entry C)) (e : Entry C) → greater a (first_greatest (e ∷ [])) ≡ greater a (Some e)
-greater_one {C} a e = elim (cases_eq e.value 0) [
-  | inl nil ↦ ap (greater a) (first_none (e ∷ []) (one_value e ∙ nil)) ∙ greater_none a ∙ sym (greater_first a (Some e) (omega arith))
-  | inr some ↦ ap (greater a) (ap (λ (v : ℕ). won v (e ∷ [])) (one_value e) ∙ alone e (omega arith))
-]
+-- the first of the greatest gives the greatest value, which is above 0
+pub first_value : {C : Type 0} (es : List (Entry C)) (e : Entry C) → first_greatest es ≡ Some e → (greatest_value es ≡ e.value) × (0 < e.value)
+first_value {C} es e is =
+    let v : greatest_value es ≡ e.value = sym (value_of-first es) ∙ ap value_of is in
+    elim (cases_eq (greatest_value es) 0) [
+      | inl nil ↦ let none : None ≡ Some e = sym (first_none es nil) ∙ is in absurd cc
+      | inr some ↦ (v, omega arith)
+    ]

@@ -1,6 +1,7 @@
 -- The greatest of numbers, and of the values of entries.
-use Rattle.std.proofs.Common.{◌≡◌, ℕ, zero, suc, ◌+◌, ◌<◌, ◌≤◌, max, Bool, true, false, cond, List, [], ◌∷◌, ◌++◌, map, filter, fold, refl, ap, ◌∙◌, arith}
+use Rattle.std.proofs.Common.{◌≡◌, ℕ, zero, suc, ◌+◌, ◌<◌, ◌≤◌, max, Bool, true, false, cond, List, [], ◌∷◌, ◌++◌, map, filter, fold, refl, ap, ◌∙◌, arith, inl, inr}
 use Rattle.std.specs.List.{flat_map, range_with_len}
+use Rattle.std.proofs.lemmas.Bool.{cases_eq}
 use Rattle.std.proofs.lemmas.List.{map-append}
 use Rattle.std.proofs.lemmas.Grind.{fold-append}
 use Rattle.hyphenation_breaks.specs.declared.entry.Entry.{Entry}
@@ -29,3 +30,13 @@ pub greatest_value-within : {C : Type 0} (f : ℕ → List (Entry C)) (a n v : �
 greatest_value-within f a zero v h = omega arith
 greatest_value-within f a (suc n) v h =
     omega (arith, greatest_value-append (f a) (flat_map f (range_with_len (a + 1) n)), h a (omega arith) (omega arith), greatest_value-within f (a + 1) n v (λ k low high. h k (omega arith) (omega arith)))
+
+-- a list of a row has no greater value than the row
+pub row_value : {C : Type 0} (f : ℕ → List (Entry C)) (a n k : ℕ) → a ≤ k → k < a + n → greatest_value (f k) ≤ greatest_value (flat_map f (range_with_len a n))
+row_value f a zero k low high = absurd (omega arith)
+row_value f a (suc n) k low high =
+    let all = greatest_value-append (f a) (flat_map f (range_with_len (a + 1) n)) in
+    elim (cases_eq k a) [
+      | inl is ↦ omega (arith, all, ap (λ (x : ℕ). greatest_value (f x)) is)
+      | inr apart ↦ omega (arith, all, row_value f (a + 1) n k (omega arith) (omega arith))
+    ]

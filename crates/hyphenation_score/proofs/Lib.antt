@@ -3,11 +3,10 @@ pub mod FirstGreatest
 pub mod NumberRows
 pub mod OnePass
 pub mod OnePassInvariant
-pub mod BestAfter
-pub mod WinnerVisits
 pub mod NoKeys
 pub mod Longest
 pub mod WinnerPlaces
+pub mod WinnersMet
 pub mod ValuesInOrder
 pub mod ScoredWinners
 pub mod Counting

@@ -1,9 +1,9 @@
 -- The entries and keys that one pass meets, by the ends of the keys.
-use Rattle.std.proofs.Common.{◌≡◌, ℕ, zero, suc, ◌+◌, ◌-◌, ◌<◌, ◌≤◌, max, ◌==◌, Bool, true, false, cond, List, [], ◌∷◌, ◌++◌, length, take, drop, get_or, filter, Option, Some, None, refl, sym, ap, subst, ◌∙◌, arith, add-zero, zero-add, inl, inr}
+use Rattle.std.proofs.Common.{◌≡◌, ℕ, zero, suc, ◌+◌, ◌-◌, ◌<◌, ◌≤◌, ◌==◌, Bool, true, false, List, [], ◌∷◌, ◌++◌, length, take, drop, get_or, filter, Option, Some, None, refl, sym, ap, subst, ◌∙◌, arith, add-zero, zero-add, inl, inr}
 use Rattle.std.specs.Prelude.{slice_range, IsSome, is_some, unwrap_or, count_by}
-use Rattle.std.specs.List.{flat_map, range_with_len, sum_by}
+use Rattle.std.specs.List.{flat_map, fold, range_with_len, slice_index_or, sum_by}
 use Rattle.std.proofs.lemmas.Bool.{cases_eq}
-use Rattle.std.proofs.lemmas.List.Sums.{sum_by-append}
+use Rattle.std.proofs.lemmas.List.Sums.{fold-append, sum_by-append}
 use Rattle.std.proofs.lemmas.List.{length-append, take_more, length-take, length-drop, append-nil, drop-drop, drop-take}
 use Rattle.std.proofs.lemmas.Grind.{flat_map-append, common_steps}
 use Rattle.hyphenation_breaks.specs.declared.entry.Entry.{Entry}
@@ -13,33 +13,9 @@ use Rattle.hyphenation_trie.specs.Links.{EndsWith, IsLongest, IsReport, keys_in}
 use Rattle.hyphenation_trie.specs.Laws.{KeysHaveNodes}
 use Rattle.hyphenation_score.specs.Scoring.{frame, greatest_value, bearers_between, bearers_from, bearers, values}
 use Rattle.hyphenation_score.specs.OnePass.{keys_ending, occurrences}
-use Rattle.hyphenation_score.specs.Private.OnePass.{entries_of_end, entries_of_ends}
-use Rattle.hyphenation_score.proofs.GreatestValues.{greatest_value-append, greatest_value-within, filter-append}
+use Rattle.hyphenation_score.specs.Private.OnePass.{bearing, entries_of_end, entries_of_ends, bearers_to, bearers_by_ends, AreAfter}
+use Rattle.hyphenation_score.proofs.GreatestValues.{greatest_value-within, row_value, filter-append}
 use Rattle.hyphenation_score.proofs.NumberRows.{range-append, range_more, flat_map_none}
-
--- one more piece of a list of entries
-pub greatest_more : {C : Type 0} (f : ℕ → List (Entry C)) (a n : ℕ) → greatest_value (flat_map f (range_with_len a (n + 1))) ≡ max (greatest_value (flat_map f (range_with_len a n))) (greatest_value (f (a + n)))
-greatest_more f a n =
-    ap (λ xs. greatest_value (flat_map f xs)) (range_more a n) ∙ ap greatest_value (flat_map-append f (range_with_len a n) ((a + n) ∷ []) ∙ ap (λ ys. flat_map f (range_with_len a n) ++ ys) (append-nil (f (a + n))))
-    ∙ greatest_value-append (flat_map f (range_with_len a n)) (f (a + n))
-
-one_value : {C : Type 0} (p : Entry C → Bool) (e : Entry C) → greatest_value (filter p (e ∷ [])) ≡ cond (p e) e.value 0
-one_value {C} p e = elim (p e) as (λ b. greatest_value (cond {A = List (Entry C)} b (e ∷ []) []) ≡ cond b e.value 0) [ true ↦ omega arith | false ↦ refl ]
-
-pub filtered_more : {C : Type 0} (p : Entry C → Bool) (es : List (Entry C)) (k : ℕ) (e : Entry C) → k < length es → e ≡ get_or es k e
-    → greatest_value (filter p (take (k + 1) es)) ≡ max (greatest_value (filter p (take k es))) (cond (p e) e.value 0)
-filtered_more p es k e lt read =
-    let more : take (k + 1) es ≡ take k es ++ e ∷ [] = take_more es k e lt ∙ ap (λ x. take k es ++ x ∷ []) (sym read) in
-    ap (λ xs. greatest_value (filter p xs)) more ∙ ap greatest_value (filter-append p (take k es) (e ∷ []))
-    ∙ greatest_value-append (filter p (take k es)) (filter p (e ∷ [])) ∙ ap (max (greatest_value (filter p (take k es)))) (one_value p e)
-
-max_assoc : (a b c : ℕ) → max (max a b) c ≡ max a (max b c)
-max_assoc a b c = omega arith
-
-pub raised_more : {C : Type 0} (p : Entry C → Bool) (es : List (Entry C)) (k : ℕ) (e : Entry C) (first now next : ℕ) → k < length es → e ≡ get_or es k e
-    → now ≡ max first (greatest_value (filter p (take k es))) → next ≡ max now (cond (p e) e.value 0) → next ≡ max first (greatest_value (filter p (take (k + 1) es)))
-raised_more p es k e first now next lt read a b =
-    b ∙ ap (λ x. max x (cond (p e) e.value 0)) a ∙ max_assoc first (greatest_value (filter p (take k es))) (cond (p e) e.value 0) ∙ ap (max first) (sym (filtered_more p es k e lt read))
 
 -- a text without its first bytes ends the text
 pub Ends-drop : (t : List ℕ) (k : ℕ) → k ≤ length t → EndsWith t (drop k t)
@@ -59,21 +35,31 @@ depth_pos tree trie j pos lj =
     let up = trie.closed j pos lj in
     omega (arith, ap length up.3, length-append (node_text tree up.0) (up.1 ∷ []))
 
--- the entries of a node on the path
-pub piece_is : {C : Type 0} (tree : Tree (Entry C)) (t : List ℕ) (end p at depth : ℕ) (o : Option (List (Entry C))) → EndsWith t (node_text tree at) → length t ≤ end → depth ≡ length (node_text tree at) → o ≡ entries_of_key tree (node_text tree at)
-    → entries_of_end (entries_of_key tree) t end p (length t - length (node_text tree at)) ≡ filter (λ entry. (end - depth) + entry.place == p + 1) (unwrap_or o [])
-piece_is tree t end p at depth o ends le deep is =
-    let n : end - (length t - (length t - length (node_text tree at))) ≡ end - depth = omega (arith, ends.0) in
-    ap (λ (k : ℕ). filter (λ entry. k + entry.place == p + 1) (unwrap_or (entries_of_key tree (drop (length t - length (node_text tree at)) t)) [])) n
-    ∙ ap (λ x. filter (λ entry. (end - depth) + entry.place == p + 1) (unwrap_or x [])) (ap (entries_of_key tree) ends.1 ∙ sym is)
+-- ---- the entries met for each place
+
+-- a list of a row more
+pub flat_map_more : {A : Type 0} (f : ℕ → List A) (a n : ℕ) → flat_map f (range_with_len a (n + 1)) ≡ flat_map f (range_with_len a n) ++ f (a + n)
+flat_map_more f a n = ap (flat_map f) (range_more a n) ∙ flat_map-append f (range_with_len a n) ((a + n) ∷ []) ∙ ap (λ ys. flat_map f (range_with_len a n) ++ ys) (append-nil (f (a + n)))
+
+module _ {C S State : Type 0} (meaning : S → State) (after : State → Entry C → State) (old : List S) where
+  -- where nothing is met the slots are the old ones
+  pub after_none : (f : ℕ → List (Entry C)) → ((p : ℕ) → f p ≡ []) → AreAfter meaning after old f old
+  after_none f none = λ i d lt. sym (ap (fold after (meaning (slice_index_or old i d))) (none (i + 1)))
+
+  -- what is met next comes after what was met
+  pub after_more : (now new : List S) (f g h : ℕ → List (Entry C)) → length now ≡ length old → ((p : ℕ) → h p ≡ f p ++ g p) → AreAfter meaning after old f now → AreAfter meaning after now g new → AreAfter meaning after old h new
+  after_more now new f g h len parts first next = λ i d lt.
+      let start : State = meaning (slice_index_or old i d) in
+      next i d (omega (arith, lt, len)) ∙ ap (λ s. fold after s (g (i + 1))) (first i d lt) ∙ sym (fold-append after start (f (i + 1)) (g (i + 1))) ∙ sym (ap (fold after start) (parts (i + 1)))
+
+-- the entries of a key that bear, one by one
+pub bearing_more : {C : Type 0} (es : List (Entry C)) (k : ℕ) (e : Entry C) (start : ℕ) → k < length es → e ≡ get_or es k e → (p : ℕ) → bearing (take (k + 1) es) start p ≡ bearing (take k es) start p ++ bearing (e ∷ []) start p
+bearing_more es k e start lt read p =
+    ap (λ xs. bearing xs start p) (take_more es k e lt ∙ ap (λ x. take k es ++ x ∷ []) (sym read)) ∙ filter-append (λ entry. start + entry.place == p + 1) (take k es) (e ∷ [])
 
 -- ---- keys by their ends
 
--- the entries of all keys that end there
-abbrev pub ending_at : {C : Type 0} → Patterns C → List ℕ → ℕ → ℕ → List (Entry C)
-ending_at keys framed p end = flat_map (λ start. bearers_between keys framed p start end) (range_with_len 0 end)
-
-pub flat_map_shift : {A : Type 0} (f g : ℕ → List A) (a b n : ℕ) → ((d : ℕ) → d < n → f (a + d) ≡ g (b + d)) → flat_map f (range_with_len a n) ≡ flat_map g (range_with_len b n)
+flat_map_shift : {A : Type 0} (f g : ℕ → List A) (a b n : ℕ) → ((d : ℕ) → d < n → f (a + d) ≡ g (b + d)) → flat_map f (range_with_len a n) ≡ flat_map g (range_with_len b n)
 flat_map_shift f g a b zero h = refl
 flat_map_shift f g a b (suc n) h =
     let first : f a ≡ g b = ap f (omega arith) ∙ h 0 (omega arith) ∙ ap g (omega arith) in
@@ -98,7 +84,7 @@ none_longer {E} tree nodes t node k longest high =
 
 -- the keys that end there end the text of the longest node
 pub ending_is : {C : Type 0} (tree : Tree (Entry C)) → KeysHaveNodes (Entry C) → (framed : List ℕ) (end p node : ℕ) → end ≤ length framed → IsLongest tree.texts (take end framed) node
-    → ending_at (entries_of_key tree) framed p end ≡ entries_of_ends (entries_of_key tree) (node_text tree node) end p
+    → bearers_to (entries_of_key tree) framed p end ≡ entries_of_ends (entries_of_key tree) (node_text tree node) end p
 ending_is {C} tree nodes framed end p node le longest =
     let T : List ℕ = take end framed in
     let t : List ℕ = node_text tree node in
@@ -119,33 +105,18 @@ ending_is {C} tree nodes framed end p node le longest =
 
 -- ---- starts and ends changed about
 
-pub le_gv : {C : Type 0} (f : ℕ → List (Entry C)) (a n k : ℕ) → a ≤ k → k < a + n → greatest_value (f k) ≤ greatest_value (flat_map f (range_with_len a n))
-le_gv f a zero k low high = absurd (omega arith)
-le_gv f a (suc n) k low high =
-    let all = greatest_value-append (f a) (flat_map f (range_with_len (a + 1) n)) in
-    elim (cases_eq k a) [
-      | inl is ↦ omega (arith, all, ap (λ (x : ℕ). greatest_value (f x)) is)
-      | inr apart ↦ omega (arith, all, le_gv f (a + 1) n k (omega arith) (omega arith))
-    ]
-
-both_ways : (a b : ℕ) → a ≤ b → b ≤ a → a ≡ b
-both_ways a b x y = omega arith
-
-le_trans : (a b c : ℕ) → a ≤ b → b ≤ c → a ≤ c
-le_trans a b c x y = omega arith
-
 -- the greatest over all starts and then ends is the greatest over all ends and then starts
 pub by_ends : {C : Type 0} (keys : Patterns C) (framed : List ℕ) (p : ℕ)
-    → greatest_value (flat_map (λ end. ending_at keys framed p end) (range_with_len 1 (length framed))) ≡ greatest_value (bearers keys framed p)
+    → greatest_value (bearers_by_ends keys framed (length framed) p) ≡ greatest_value (bearers keys framed p)
 by_ends keys framed p =
     let n : ℕ = length framed in
     let starts = λ (s : ℕ). bearers_from keys framed p s in
-    let ends = λ (e : ℕ). ending_at keys framed p e in
-    both_ways (greatest_value (flat_map ends (range_with_len 1 n))) (greatest_value (flat_map starts (range_with_len 0 n)))
-    (greatest_value-within ends 1 n _ (λ e low high. greatest_value-within (λ s. bearers_between keys framed p s e) 0 e _ (λ s slow shigh.
-    le_trans _ _ _ (le_gv (λ e. bearers_between keys framed p s e) (s + 1) (n - s) e (omega arith) (omega arith)) (le_gv starts 0 n s (omega arith) (omega arith)))))
-    (greatest_value-within starts 0 n _ (λ s low high. greatest_value-within (λ e. bearers_between keys framed p s e) (s + 1) (n - s) _ (λ e elow ehigh.
-    le_trans _ _ _ (le_gv (λ s. bearers_between keys framed p s e) 0 e s (omega arith) (omega arith)) (le_gv ends 1 n e (omega arith) (omega arith)))))
+    let ends = λ (e : ℕ). bearers_to keys framed p e in
+    let most = greatest_value-within ends 1 n (greatest_value (flat_map starts (range_with_len 0 n))) (λ e low high. greatest_value-within (λ s. bearers_between keys framed p s e) 0 e _ (λ s slow shigh.
+    omega (arith, row_value (λ e. bearers_between keys framed p s e) (s + 1) (n - s) e (omega arith) (omega arith), row_value starts 0 n s (omega arith) (omega arith)))) in
+    let least = greatest_value-within starts 0 n (greatest_value (flat_map ends (range_with_len 1 n))) (λ s low high. greatest_value-within (λ e. bearers_between keys framed p s e) (s + 1) (n - s) _ (λ e elow ehigh.
+    omega (arith, row_value (λ s. bearers_between keys framed p s e) 0 e s (omega arith) (omega arith), row_value ends 1 n e (omega arith) (omega arith)))) in
+    omega (arith, most, least)
 
 -- without keys the root is the only node
 pub alone_is : {E : Type 0} (tree : Tree E) → EachBeginsKey tree → ((q : List ℕ) → entries_of_key tree q ≡ None) → (j : ℕ) → j < length tree.texts → j ≡ 0
@@ -169,43 +140,33 @@ none_next tree t at next ends report k low high =
     let same : drop m (drop 1 (node_text tree at)) ≡ drop k t = drop-drop m 1 (node_text tree at) ∙ ap (drop (1 + m)) (sym ends.1) ∙ drop-drop (1 + m) d0 t ∙ ap (λ (x : ℕ). drop x t) n in
     ap (entries_of_key tree) (sym same) ∙ report.none m (omega (arith, ends.0, report.ends.0, length-drop 1 (node_text tree at)))
 
+-- the entries that bear on the word's place p, of the keys that are this text without fewer than n of its first bytes
+abbrev pub visited : {C : Type 0} → Patterns C → List ℕ → ℕ → ℕ → ℕ → List (Entry C)
+visited keys t end n p = flat_map (λ d. entries_of_end keys t end p d) (range_with_len 0 n)
+
 -- the entries met after one more visit
-pub visited_more : {C : Type 0} (tree : Tree (Entry C)) (t : List ℕ) (end p at to : ℕ) → EndsWith t (node_text tree at) → length (node_text tree to) < length (node_text tree at)
+pub visited_more : {C : Type 0} (tree : Tree (Entry C)) (t : List ℕ) (end at to depth : ℕ) (es : List (Entry C)) → EndsWith t (node_text tree at) → length t ≤ end → depth ≡ length (node_text tree at)
+    → Some es ≡ entries_of_key tree (node_text tree at) → length (node_text tree to) < length (node_text tree at)
     → ((k : ℕ) → length t - length (node_text tree at) < k → k < length t - length (node_text tree to) → entries_of_key tree (drop k t) ≡ None)
-    → flat_map (λ d. entries_of_end (entries_of_key tree) t end p d) (range_with_len 0 (length t - length (node_text tree to)))
-    ≡ flat_map (λ d. entries_of_end (entries_of_key tree) t end p d) (range_with_len 0 ((length t - length (node_text tree at)) + 1))
-visited_more tree t end p at to ends less none =
+    → (p : ℕ) → visited (entries_of_key tree) t end (length t - length (node_text tree to)) p ≡ visited (entries_of_key tree) t end (length t - length (node_text tree at)) p ++ bearing es (end - depth) p
+visited_more tree t end at to depth es ends le deep is less none p =
     let f = λ (d : ℕ). entries_of_end (entries_of_key tree) t end p d in
     let d0 : ℕ = length t - length (node_text tree at) in
     let gap : ℕ = length (node_text tree at) - length (node_text tree to) - 1 in
     let n : length t - length (node_text tree to) ≡ (d0 + 1) + gap = omega (arith, ends.0) in
     let rest : flat_map f (range_with_len (d0 + 1) gap) ≡ [] = flat_map_none f (d0 + 1) gap (λ k low high.
-    ap (λ o. filter (λ entry. (end - (length t - k)) + entry.place == p + 1) (unwrap_or o [])) (none k (omega arith) (omega (arith, ends.0)))) in
+    ap (λ o. bearing (unwrap_or o []) (end - (length t - k)) p) (none k (omega arith) (omega (arith, ends.0)))) in
+    let start : end - (length t - d0) ≡ end - depth = omega (arith, ends.0) in
+    let last : f (0 + d0) ≡ bearing es (end - depth) p =
+    ap f (omega arith) ∙ ap (λ (k : ℕ). bearing (unwrap_or (entries_of_key tree (drop d0 t)) []) k p) start ∙ ap (λ o. bearing (unwrap_or o []) (end - depth) p) (ap (entries_of_key tree) ends.1 ∙ sym is) in
     ap (λ (k : ℕ). flat_map f (range_with_len 0 k)) n ∙ ap (flat_map f) (range-append 0 (d0 + 1) gap) ∙ flat_map-append f (range_with_len 0 (d0 + 1)) (range_with_len (0 + (d0 + 1)) gap)
     ∙ ap (λ (k : ℕ). flat_map f (range_with_len 0 (d0 + 1)) ++ flat_map f (range_with_len k gap)) (omega arith) ∙ ap (λ ys. flat_map f (range_with_len 0 (d0 + 1)) ++ ys) rest ∙ append-nil (flat_map f (range_with_len 0 (d0 + 1)))
-
--- the greatest value after one more visit
-pub visit_more : {C : Type 0} (tree : Tree (Entry C)) (t : List ℕ) (end p at to first now next : ℕ) → EndsWith t (node_text tree at) → length (node_text tree to) < length (node_text tree at)
-    → ((k : ℕ) → length t - length (node_text tree at) < k → k < length t - length (node_text tree to) → entries_of_key tree (drop k t) ≡ None)
-    → now ≡ max first (greatest_value (flat_map (λ d. entries_of_end (entries_of_key tree) t end p d) (range_with_len 0 (length t - length (node_text tree at)))))
-    → next ≡ max now (greatest_value (entries_of_end (entries_of_key tree) t end p (length t - length (node_text tree at))))
-    → next ≡ max first (greatest_value (flat_map (λ d. entries_of_end (entries_of_key tree) t end p d) (range_with_len 0 (length t - length (node_text tree to)))))
-visit_more tree t end p at to first now next ends less none a b =
-    let f = λ (d : ℕ). entries_of_end (entries_of_key tree) t end p d in
-    let d0 : ℕ = length t - length (node_text tree at) in
-    let all = visited_more tree t end p at to ends less none in
-    let last : 0 + d0 ≡ d0 = omega arith in
-    let more = greatest_more f 0 d0 ∙ ap (λ (k : ℕ). max (greatest_value (flat_map f (range_with_len 0 d0))) (greatest_value (f k))) last in
-    omega (arith, ap greatest_value all, more)
+    ∙ flat_map_more f 0 d0 ∙ ap (λ ys. flat_map f (range_with_len 0 d0) ++ ys) last
 
 -- before the first report nothing is met
-pub visited_first : {C : Type 0} (tree : Tree (Entry C)) (t : List ℕ) (end p to : ℕ) → IsReport tree t to → flat_map (λ d. entries_of_end (entries_of_key tree) t end p d) (range_with_len 0 (length t - length (node_text tree to))) ≡ []
-visited_first tree t end p to report = flat_map_none (λ d. entries_of_end (entries_of_key tree) t end p d) 0 (length t - length (node_text tree to)) (λ k low high.
-    ap (λ o. filter (λ entry. (end - (length t - k)) + entry.place == p + 1) (unwrap_or o [])) (report.none k (omega arith)))
-
--- without a first report no value is raised
-pub visit_first : {C : Type 0} (tree : Tree (Entry C)) (t : List ℕ) (end p to first : ℕ) → IsReport tree t to → first ≡ max first (greatest_value (flat_map (λ d. entries_of_end (entries_of_key tree) t end p d) (range_with_len 0 (length t - length (node_text tree to)))))
-visit_first tree t end p to first report = omega (arith, ap greatest_value (visited_first tree t end p to report))
+pub visited_first : {C : Type 0} (tree : Tree (Entry C)) (t : List ℕ) (end to : ℕ) → IsReport tree t to → (p : ℕ) → visited (entries_of_key tree) t end (length t - length (node_text tree to)) p ≡ []
+visited_first tree t end to report p = flat_map_none (λ d. entries_of_end (entries_of_key tree) t end p d) 0 (length t - length (node_text tree to)) (λ k low high.
+    ap (λ o. bearing (unwrap_or o []) (end - (length t - k)) p) (report.none k (omega arith)))
 
 -- ---- the number of visits
 
@@ -250,7 +211,7 @@ one_same p q a b e = elim (p a) as (λ v. p a ≡ v → count_by p (a ∷ []) �
   | false ↦ λ h. none_counted p a h ∙ sym (none_counted q b (sym e ∙ h))
 ] refl
 
-pub count_shift : (p q : ℕ → Bool) (a b n : ℕ) → ((d : ℕ) → d < n → p (a + d) ≡ q (b + d)) → count_by p (range_with_len a n) ≡ count_by q (range_with_len b n)
+count_shift : (p q : ℕ → Bool) (a b n : ℕ) → ((d : ℕ) → d < n → p (a + d) ≡ q (b + d)) → count_by p (range_with_len a n) ≡ count_by q (range_with_len b n)
 count_shift p q a b zero h = refl
 count_shift p q a b (suc n) h =
     let first : p a ≡ q b = ap p (omega arith) ∙ h 0 (omega arith) ∙ ap q (omega arith) in

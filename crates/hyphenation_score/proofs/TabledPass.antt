@@ -1,27 +1,30 @@
 -- The invariant of the pass by a table over the frame of a word.
-use Rattle.std.proofs.Common.{◌≡◌, ℕ, suc, ◌+◌, ◌-◌, ◌*◌, ◌<◌, ◌≤◌, ◌^◌, max, ◌==◌, Bool, false, cond, List, [], ◌∷◌, ◌++◌, length, take, drop, map, filter, Some, None, refl, sym, ap, subst, ◌∙◌, arith, inl, inr, ◌⊎◌, add-one, eqb}
+use Rattle.std.proofs.Common.{◌≡◌, ℕ, suc, ◌+◌, ◌-◌, ◌*◌, ◌<◌, ◌≤◌, ◌^◌, max, ◌==◌, Bool, false, cond, List, [], ◌∷◌, ◌++◌, length, take, drop, map, filter, Some, None, refl, sym, ap, subst, ◌∙◌, arith, inl, inr, ◌⊎◌, eqb}
 use Rattle.std.specs.Prelude.{slice_range, is_some, unwrap_or, count_by, slice_index, slice_index_or}
 use Rattle.std.specs.List.{flat_map, range_with_len, sum_by, IsAmong}
 use Rattle.std.proofs.Math.Nat.{mul-le-mul_right}
 use Rattle.std.proofs.lemmas.Bool.{cases_eq, cases_lt, eq-eqb, ne_eqb}
-use Rattle.std.proofs.lemmas.List.{length-take, length-take-le, length-drop, get_or_past, take_more, get_or_append_left, get_or-take, get_or-drop, ext_get_or}
+use Rattle.std.proofs.lemmas.List.{length-take-le, length-drop, get_or_past, take_more, get_or-take, get_or-drop, ext_get_or}
+use Rattle.std.proofs.Math.ListN.{drop_of_length-le}
 use Rattle.std.proofs.lemmas.List.FromFn.{length-range_with_len, length-map-range_with_len, get_or-map-range_with_len}
 use Rattle.std.proofs.lemmas.List.Sums.{count_by-le-length}
-use Rattle.std.proofs.Math.Seq.{get_or-append_seam}
 use Rattle.hyphenation_breaks.specs.Dictionary.{Patterns}
+use Rattle.hyphenation_breaks.specs.declared.entry.Entry.{Entry}
 use Rattle.hyphenation_trie.specs.Counts.{Counts}
 use Rattle.hyphenation_trie.specs.Tables.{GoesOn, IsRead}
 use Rattle.hyphenation_trie.specs.Vectors.{AreNear, IsVector, entries_before, keys_at_end}
 use Rattle.hyphenation_trie.specs.declared.table.Table.{Table}
 use Rattle.hyphenation_score.specs.Counting.{CountsWithin}
 use Rattle.hyphenation_score.specs.OnePass.{keys_ending, occurrences}
+use Rattle.hyphenation_score.specs.Private.OnePass.{bearers_to, bearers_by_ends}
 use Rattle.hyphenation_score.specs.Scoring.{frame, greatest_value, bearers_between, value_at, values}
+use Rattle.hyphenation_score.proofs.GreatestValues.{greatest_value-append}
 use Rattle.hyphenation_score.proofs.NumberRows.{flat_map_none}
-use Rattle.hyphenation_score.proofs.OnePass.{ending_at, flat_map_shift, count_shift, slice_is, greatest_more, by_ends, length-frame, sum_more}
+use Rattle.hyphenation_score.proofs.OnePass.{slice_is, flat_map_more, by_ends, length-frame, sum_more}
 
 -- The value of a place by the keys that end in the first bytes of the frame.
 abbrev pub value_to : {C : Type 0} → Patterns C → List ℕ → ℕ → ℕ → ℕ
-value_to keys framed p n = greatest_value (flat_map (λ end. ending_at keys framed p end) (range_with_len 1 n))
+value_to keys framed p n = greatest_value (bearers_by_ends keys framed n p)
 
 -- The first bytes of the frame are read: the row, the last 16 values, and the values that are written.
 pub record Passed {C : Type 0} (keys : Patterns C) (table : Table) (framed : List ℕ) (end row : ℕ) (last vals : List ℕ) (first reported : ℕ) : Type 0 where
@@ -51,41 +54,45 @@ filter_none {A} q (x ∷ xs) h =
 
 module _ {C : Type 0} (keys : Patterns C) (framed : List ℕ) where
   -- one more byte of the frame
-  pub value_more : (p n : ℕ) → value_to keys framed p (n + 1) ≡ max (value_to keys framed p n) (greatest_value (ending_at keys framed p (n + 1)))
+  pub value_more : (p n : ℕ) → value_to keys framed p (n + 1) ≡ max (value_to keys framed p n) (greatest_value (bearers_to keys framed p (n + 1)))
   value_more p n =
-      let f = λ (end : ℕ). ending_at keys framed p end in
+      let f = λ (end : ℕ). bearers_to keys framed p end in
       let last : 1 + n ≡ n + 1 = omega arith in
-      greatest_more f 1 n ∙ ap (λ (k : ℕ). max (greatest_value (flat_map f (range_with_len 1 n))) (greatest_value (f k))) last
+      ap greatest_value (flat_map_more f 1 n) ∙ greatest_value-append (flat_map f (range_with_len 1 n)) (f (1 + n))
+      ∙ ap (λ (k : ℕ). max (value_to keys framed p n) (greatest_value (f k))) last
+
+  -- a text of the frame is an end of what is read
+  piece_is : (start end : ℕ) → end ≤ length framed → slice_range framed start end ≡ drop start (take end framed)
+  piece_is start end le = elim (cases_lt end start) [
+    | inl past ↦
+        let none : end - start ≡ 0 = omega arith in
+        ap (λ (k : ℕ). take k (drop start framed)) none ∙ sym (drop_of_length-le (take end framed) {i = start} (omega (arith, length-take-le end framed le)))
+    | inr within ↦ slice_is framed start end (omega arith)
+  ]
 
   -- the entries of the keys that end there, by their distance from the end
-  pub ending_before : (p end distance : ℕ) → end ≤ length framed → p + 1 + distance ≡ end → ending_at keys framed p end ≡ entries_before keys (take end framed) distance
+  pub ending_before : (p end distance : ℕ) → end ≤ length framed → p + 1 + distance ≡ end → bearers_to keys framed p end ≡ entries_before keys (take end framed) distance
   ending_before p end distance le e =
       let T : List ℕ = take end framed in
       let len : length T ≡ end = length-take-le end framed le in
       let f = λ (start : ℕ). bearers_between keys framed p start end in
       let h = λ (d : ℕ). filter (λ entry. d + entry.place + distance == length T) (unwrap_or (keys (drop d T)) []) in
-      ap (λ (k : ℕ). flat_map f (range_with_len 0 k)) (sym len)
-      ∙ flat_map_shift f h 0 0 (length T) (λ d lt.
-      let first : 0 + d ≡ d = omega arith in
-      ap f first
-      ∙ ap (λ x. filter (λ entry. d + entry.place == p + 1) (unwrap_or (keys x) [])) (slice_is framed d end (omega arith))
+      let each : (d : ℕ) → f d ≡ h d = λ d. ap (λ x. filter (λ entry. d + entry.place == p + 1) (unwrap_or (keys x) [])) (piece_is d end le)
       ∙ filter_by (λ entry. d + entry.place == p + 1) (λ entry. d + entry.place + distance == length T) (unwrap_or (keys (drop d T)) [])
-      (λ entry. same_tests (d + entry.place) (p + 1) (d + entry.place + distance) (length T) (λ is. omega arith) (λ is. omega arith))
-      ∙ ap h (sym first))
+      (λ entry. same_tests (d + entry.place) (p + 1) (d + entry.place + distance) (length T) (λ is. omega arith) (λ is. omega arith)) in
+      let same : ◌≡◌ {A = ℕ → List (Entry C)} f h = λ i d. each d i in
+      ap (λ (t : ℕ → List (Entry C)). flat_map t (range_with_len 0 end)) same ∙ ap (λ (k : ℕ). flat_map h (range_with_len 0 k)) (sym len)
 
   pub ending_count : (end : ℕ) → end ≤ length framed → keys_ending keys framed end ≡ keys_at_end keys (take end framed)
   ending_count end le =
       let T : List ℕ = take end framed in
-      let len : length T ≡ end = length-take-le end framed le in
       let f = λ (start : ℕ). is_some (keys (slice_range framed start end)) in
       let h = λ (d : ℕ). is_some (keys (drop d T)) in
-      ap (λ (k : ℕ). count_by f (range_with_len 0 k)) (sym len)
-      ∙ count_shift f h 0 0 (length T) (λ d lt.
-      let first : 0 + d ≡ d = omega arith in
-      ap f first ∙ ap (λ x. is_some (keys x)) (slice_is framed d end (omega arith)) ∙ ap h (sym first))
+      let same : ◌≡◌ {A = ℕ → Bool} f h = λ i d. is_some (keys (piece_is d end le i)) in
+      ap (λ (t : ℕ → Bool). count_by t (range_with_len 0 end)) same ∙ ap (λ (k : ℕ). count_by h (range_with_len 0 k)) (sym (length-take-le end framed le))
 
   -- a key that ends too far after a place, or before it, has no value there
-  pub none_far : AreNear keys → (p end : ℕ) → end ≤ length framed → (p + 16 < end) ⊎ (end ≤ p) → ending_at keys framed p end ≡ []
+  pub none_far : AreNear keys → (p end : ℕ) → end ≤ length framed → (p + 16 < end) ⊎ (end ≤ p) → bearers_to keys framed p end ≡ []
   none_far near p end le far = flat_map_none (λ start. bearers_between keys framed p start end) 0 end (λ start low high.
       let text : List ℕ = slice_range framed start end in
       let len : length text ≡ end - start = ap length (slice_is framed start end (omega arith)) ∙ length-drop start (take end framed) ∙ ap (λ (k : ℕ). k - start) (length-take-le end framed le) in
@@ -99,18 +106,18 @@ module _ {C : Type 0} (keys : Patterns C) (framed : List ℕ) where
   -- before a place no value is known
   pub none_early : AreNear keys → (p n : ℕ) → n ≤ length framed → n ≤ p → value_to keys framed p n ≡ 0
   none_early near p n le early =
-      ap greatest_value (flat_map_none (λ end. ending_at keys framed p end) 1 n (λ end low high. none_far near p end (omega arith) (inr (omega arith))))
+      ap greatest_value (flat_map_none (λ end. bearers_to keys framed p end) 1 n (λ end low high. none_far near p end (omega arith) (inr (omega arith))))
 
   -- a value stays if it is far from the end
   pub value_stays : AreNear keys → (p n : ℕ) → n + 1 ≤ length framed → p + 16 < n + 1 → value_to keys framed p (n + 1) ≡ value_to keys framed p n
   value_stays near p n le far =
-      let none : greatest_value (ending_at keys framed p (n + 1)) ≡ 0 = ap greatest_value (none_far near p (n + 1) le (inl far)) in
+      let none : greatest_value (bearers_to keys framed p (n + 1)) ≡ 0 = ap greatest_value (none_far near p (n + 1) le (inl far)) in
       omega (arith, value_more p n, none)
 
   module _ (table : Table) (near : AreNear keys) where
     -- the vector of a text has the values of the keys that end there
     pub vector_is : (text : List ℕ) (end p lane : ℕ) (vector : List ℕ) → end ≤ length framed → text ≡ take end framed → IsVector keys text vector → lane < 16 → p + 16 ≡ end + lane
-        → slice_index vector lane ≡ greatest_value (ending_at keys framed p end)
+        → slice_index vector lane ≡ greatest_value (bearers_to keys framed p end)
     vector_is text end p lane vector le is v lt e =
         let distance : ℕ = 15 - lane in
         v.each lane distance (omega arith) ∙ ap (λ t. greatest_value (entries_before keys t distance)) is ∙ ap greatest_value (sym (ending_before p end distance le (omega arith)))
@@ -175,13 +182,6 @@ module _ {C : Type 0} (keys : Patterns C) (framed : List ℕ) where
         }
 
 -- ---- the frame of a word
-
--- The byte of a word, and the dot after it, in the frame.
-pub word_byte : (word : List ℕ) (at : ℕ) → at < length word → slice_index word at ≡ slice_index (frame word) (at + 1)
-word_byte word at lt = sym (get_or_append_left word (46 ∷ []) 0 at lt) ∙ ap (slice_index (frame word)) (sym (add-one at))
-
-pub last_byte : (word : List ℕ) → 46 ≡ slice_index (frame word) (length word + 1)
-last_byte word = sym (get_or-append_seam word 46 [] 0) ∙ ap (slice_index (frame word)) (sym (add-one (length word)))
 
 -- A count has room for the reports of one more byte.
 pub passed_room : {C : Type 0} (keys : Patterns C) (table : Table) (word : List ℕ) (end row : ℕ) (last vals : List ℕ) (first reported : ℕ)

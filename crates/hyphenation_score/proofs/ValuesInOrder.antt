@@ -49,10 +49,6 @@ winners_same {C} keys other word same =
 pub ok_same : {X E L : Type 0} (r : Result X E) (f : X → L) (a b : L) → a ≡ b → IfOk r (λ v. f v ≡ a) → IfOk r (λ v. f v ≡ b)
 ok_same r f a b e h = subst (λ x. IfOk r (λ v. f v ≡ x)) e h
 
-pub ok_ap : {X E L M : Type 0} (r : Result X E) (f : X → L) (g : L → M) (a : L) → IfOk r (λ v. f v ≡ a) → IfOk r (λ v. g (f v) ≡ g a)
-ok_ap (Ok x) f g a h = ap g h
-ok_ap (Err e) f g a h = tt
-
 pub ok_then : {X E : Type 0} (r : Result X E) (P Q : X → Type 0) → ((v : X) → P v → Q v) → IfOk r P → IfOk r Q
 ok_then (Ok x) P Q h is = h x is
 ok_then (Err e) P Q h is = tt

@@ -6,10 +6,10 @@ use Rattle.std.proofs.lemmas.Bool.{cases_eq, cases_lt, eqb-true, eq-eqb}
 use Rattle.hyphenation_breaks.specs.Dictionary.{Patterns}
 use Rattle.hyphenation_breaks.specs.declared.entry.Entry.{Entry}
 use Rattle.hyphenation_score.specs.Scoring.{frame, bearers_between, bearers_from, bearers, greatest_value, first_greatest, value_of, value_at, winner_at}
-use Rattle.hyphenation_score.specs.Winners.{Bears, Before, Wins}
+use Rattle.hyphenation_score.specs.Winners.{Bears, Before, Wins, IsPair, IsBest}
 use Rattle.hyphenation_score.specs.Private.Scoring.{greater}
-use Rattle.hyphenation_score.proofs.GreatestValues.{greatest_from, greatest_value-append}
-use Rattle.hyphenation_score.proofs.FirstGreatest.{first-append, first_none, first_some, value_of-first, greater_first, greater_second}
+use Rattle.hyphenation_score.proofs.GreatestValues.{greatest_from, greatest_value-within, row_value}
+use Rattle.hyphenation_score.proofs.FirstGreatest.{first-append, first_none, first_some, first_value, value_of-first, greater_first, greater_second}
 
 -- ---- members of lists
 
@@ -41,16 +41,6 @@ found_kept {C} test asked (x ∷ es) e is =
     ] refl is
 
 -- ---- rows of lists
-
--- a list of a row has no greater value than the row
-pub row_value : {C : Type 0} (f : ℕ → List (Entry C)) (a n k : ℕ) → a ≤ k → k < a + n → greatest_value (f k) ≤ greatest_value (flat_map f (range_with_len a n))
-row_value f a zero k low high = absurd (omega arith)
-row_value f a (suc n) k low high =
-    let all = greatest_value-append (f a) (flat_map f (range_with_len (a + 1) n)) in
-    elim (cases_eq k a) [
-      | inl is ↦ omega (arith, all, ap (λ (x : ℕ). greatest_value (f x)) is)
-      | inr apart ↦ omega (arith, all, row_value f (a + 1) n k (omega arith) (omega arith))
-    ]
 
 -- The first of a row is that of one of its lists, and no list before that has its value.
 pub record IsFirstOf {C : Type 0} (f : ℕ → List (Entry C)) (a n : ℕ) (e : Entry C) (k : ℕ) : Type 0 where
@@ -112,18 +102,11 @@ pub bears_at : {C : Type 0} (keys : Patterns C) (word : List ℕ) (p start end :
 bears_at keys word p start end entry bears =
     omega (arith, bears_from keys word p start end entry bears, row_value (λ s. bearers_from keys (frame word) p s) 0 (length (frame word)) start (omega arith) (omega (arith, bears.not_empty, bears.within)))
 
--- the first greatest entry has a value above 0
-positive : {C : Type 0} (es : List (Entry C)) (e : Entry C) → first_greatest es ≡ Some e → 0 < greatest_value es
-positive es e is = elim (cases_eq (greatest_value es) 0) [
-  | inl nil ↦ let both : None ≡ Some e = sym (first_none es nil) ∙ is in absurd cc
-  | inr some ↦ omega arith
-]
-
 -- the first of an occurrence bears
 first_bears : {C : Type 0} (keys : Patterns C) (word : List ℕ) (p start end : ℕ) (entry : Entry C) → start < end → end ≤ length (frame word) → first_greatest (bearers_between keys (frame word) p start end) ≡ Some entry → Bears keys word p start end entry
 first_bears {C} keys word p start end entry some within is =
-    let pos : 0 < greatest_value (bearers_between keys (frame word) p start end) = positive (bearers_between keys (frame word) p start end) entry is in
-    let f = first_some (bearers_between keys (frame word) p start end) pos in
+    let v = first_value (bearers_between keys (frame word) p start end) entry is in
+    let f = first_some (bearers_between keys (frame word) p start end) (omega arith) in
     let one : f.0 ≡ entry = let both : Some f.0 ≡ Some entry = sym f.1 ∙ is in cc in
     let found : find (λ x. x.value == greatest_value (bearers_between keys (frame word) p start end)) (bearers_between keys (frame word) p start end) ≡ Some entry = f.2 ∙ ap (λ x. Some x) one in
     elim (keys (slice_range (frame word) start end)) as (λ o. keys (slice_range (frame word) start end) ≡ o → find (λ x. x.value == greatest_value (bearers_between keys (frame word) p start end)) (filter (λ e. start + e.place == p + 1) (unwrap_or o [])) ≡ Some entry → Bears keys word p start end entry) [
@@ -133,9 +116,9 @@ first_bears {C} keys word p start end entry some within is =
           record { not_empty = some; within = within; entries = entries; key = e; among = kept.0; place = eqb-true (start + entry.place) (p + 1) kept.1 }
     ] refl found
 
--- the winner wins
-pub winner_wins : {C : Type 0} (keys : Patterns C) (word : List ℕ) (p : ℕ) (entry : Entry C) → winner_at keys word p ≡ Some entry → (start : ℕ) × (end : ℕ) × (Wins keys word p start end entry) × (entry.value ≡ value_at keys word p)
-winner_wins keys word p entry is =
+-- the winner wins, and is the first greatest of its key's entries
+pub winner_found : {C : Type 0} (keys : Patterns C) (word : List ℕ) (p : ℕ) (entry : Entry C) → winner_at keys word p ≡ Some entry → (start : ℕ) × (end : ℕ) × (Wins keys word p start end entry) × (first_greatest (bearers_between keys (frame word) p start end) ≡ Some entry)
+winner_found keys word p entry is =
     let value : entry.value ≡ value_at keys word p = sym (ap value_of is) ∙ value_of-first (bearers keys (frame word) p) in
     let s = row_first (λ start. bearers_from keys (frame word) p start) 0 (length (frame word)) entry is in
     let e = row_first (λ end. bearers_between keys (frame word) p s.0 end) (s.0 + 1) (length (frame word) - s.0) entry s.1.first in
@@ -157,8 +140,13 @@ winner_wins keys word p entry is =
           ]
         ];
       },
-      value,
+      e.1.first,
     )
+
+pub winner_wins : {C : Type 0} (keys : Patterns C) (word : List ℕ) (p : ℕ) (entry : Entry C) → winner_at keys word p ≡ Some entry → (start : ℕ) × (end : ℕ) × (Wins keys word p start end entry) × (entry.value ≡ value_at keys word p)
+winner_wins keys word p entry is =
+    let won = winner_found keys word p entry is in
+    (won.0, won.1, won.2, sym (ap value_of is) ∙ value_of-first (bearers keys (frame word) p))
 
 pub value_borne : {C : Type 0} (keys : Patterns C) (word : List ℕ) (p : ℕ) → (value_at keys word p ≡ 0) ⊎ ((start : ℕ) × (end : ℕ) × (entry : Entry C) × (Bears keys word p start end entry) × (entry.value ≡ value_at keys word p))
 value_borne keys word p = elim (cases_eq (value_at keys word p) 0) [
@@ -190,3 +178,24 @@ only_winner {C} keys word p start end entry pos wins only =
     let at = both_before start end w.0 w.1 (wins.before w.0 w.1 f.0 w.2.bears same) (w.2.before start end entry wins.bears (sym same)) in
     let here : Bears keys word p start end f.0 = subst (λ (x : ℕ). Bears keys word p start x f.0) at.1 (subst (λ (x : ℕ). Bears keys word p x w.1 f.0) at.0 w.2.bears) in
     f.1 ∙ ap (λ x. Some x) (only f.0 here)
+
+-- ---- the best of all pairs
+
+-- the best of all pairs is the winner
+pub best_wins : {C : Type 0} (keys : Patterns C) (word : List ℕ) (p s e : ℕ) (entry : Entry C) → IsBest keys (frame word) p (IsPair (frame word)) s e entry → winner_at keys word p ≡ Some entry
+best_wins {C} keys word p s e entry best =
+    let bears = first_bears keys word p s e entry best.pair.0 best.pair.1 best.first in
+    let v = first_value (bearers_between keys (frame word) p s e) entry best.first in
+    let f = first_some (bearers keys (frame word) p) (omega (arith, bears_at keys word p s e entry bears)) in
+    let w = winner_found keys word p f.0 f.1 in
+    let pair : IsPair (frame word) w.0 w.1 = (w.2.bears.not_empty, w.2.bears.within) in
+    let value = first_value (bearers_between keys (frame word) p w.0 w.1) f.0 w.3 in
+    let same : entry.value ≡ f.0.value = omega (arith, w.2.most s e entry bears, best.most w.0 w.1 pair) in
+    let at = both_before s e w.0 w.1 (best.before w.0 w.1 pair (omega arith)) (w.2.before s e entry bears same) in
+    f.1 ∙ sym w.3 ∙ ap (λ (x : ℕ). first_greatest (bearers_between keys (frame word) p x w.1)) at.0 ∙ ap (λ (x : ℕ). first_greatest (bearers_between keys (frame word) p s x)) at.1 ∙ best.first
+
+-- there is no winner if no pair gives a value
+pub none_wins : {C : Type 0} (keys : Patterns C) (word : List ℕ) (p : ℕ) → ((s e : ℕ) → IsPair (frame word) s e → greatest_value (bearers_between keys (frame word) p s e) ≡ 0) → winner_at keys word p ≡ None
+none_wins keys word p none =
+    let all = greatest_value-within (λ start. bearers_from keys (frame word) p start) 0 (length (frame word)) 0 (λ s low high. greatest_value-within (λ end. bearers_between keys (frame word) p s end) (s + 1) (length (frame word) - s) 0 (λ e elow ehigh. let h = none s e (omega arith, omega arith) in omega arith)) in
+    first_none (bearers keys (frame word) p) (omega arith)

@@ -18,8 +18,9 @@
 //! give its value. Its key starts first, and is the shortest of those with that start.
 //!
 //! A place is the number of the word's bytes before it, from 1 to the word's length less 1. [`Score`] returns the values,
-//! and [`winners`] the entries that win. Both search the frame in one pass, which meets each key where it ends. Users call
-//! the crate `hyphenation`, which exports this one as its `score`.
+//! and [`winners`] the entries that win. Both search the frame in one pass, which meets each key where it ends. If a standard
+//! dictionary has a table of steps, the pass by it takes all keys that end with a byte at once. Users call the crate
+//! `hyphenation`, which exports this one as its `score`.
 #![tactic(auto)]
 
 ghost use Rattle.std.specs.Prelude.{◌≡◌, ◌↔◌, ◌+◌, ◌-◌, ◌*◌, ◌%◌, ◌≤◌, ◌^◌, ◌<◌, ℕ, None, length, map, option_copied, IfOk, IsOk, IsTrue};
@@ -34,11 +35,12 @@ mod contest;
 mod examples;
 mod greatest;
 pub mod laws;
+mod pass;
 mod tabled;
+mod values;
 
 pub use contest::{compete_all, winners, winners_in};
 pub use greatest::raise_all;
-use greatest::values;
 use hyphenation_breaks::entry::Entry;
 use hyphenation_breaks::extended::Subregion;
 use hyphenation_dictionary::dictionary::{Extended, Standard};
@@ -46,6 +48,8 @@ use hyphenation_dictionary::search::automaton_of;
 use hyphenation_trie::Automaton;
 pub use hyphenation_trie::LookUps;
 use std::alloc::{AllocError, Global};
+pub use tabled::{find_values, put_values};
+pub use values::values_of;
 
 /// A dictionary that scores the places of words by its patterns.
 ///
@@ -80,8 +84,9 @@ pub trait Score<'d> {
 
     /// Returns the scores of the places of a word, from place 1 on, and counts what the search does.
     ///
-    /// It counts each look-up of a byte among the children of a node. It counts one report for each occurrence of a key
-    /// in the word's frame. The only error is out of memory; the counts then have what was done before it.
+    /// It counts each look-up of a byte among the children of a node, or in a table of steps. It counts one report for each
+    /// occurrence of a key in the word's frame. The only error is out of memory; the counts then have what was done before
+    /// it.
     ///
     /// ```text
     /// let mut count = LookUps::new();
@@ -136,7 +141,7 @@ impl<'d> Score<'d> for Standard {
         ensures values { IfOk result (λ v. v.items ≡ values (entries_of_keys self.now) word.now) }
     {
         let mut count = LookUps::new();
-        values(alloc, self, word, &mut count)
+        values::values(alloc, self, word, &mut count)
     }
 
     fn score_counted(
@@ -153,7 +158,7 @@ impl<'d> Score<'d> for Standard {
         ensures values { IfOk result (λ v. v.items ≡ values (entries_of_keys self.now) word.now) }
         ensures counts { CountsOf self.now word.now count.old count.new (IsOk result) }
     {
-        values(alloc, self, word, count)
+        values::values(alloc, self, word, count)
     }
 
     fn denotes_opportunity(value: u8) -> bool

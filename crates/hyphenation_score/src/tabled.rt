@@ -1,11 +1,11 @@
 //! The values of a word's places by a table of steps, or without one by the links of the automaton.
 //!
 //! With a table the pass reads one cell for each byte of the word's frame. The cell leads to a vector: the greatest values
-//! that the keys which end with the byte give to the last 16 places. The pass keeps the values of these places so far, moves
-//! them by one place with each byte, and raises them to those of the vector. A value that leaves them is not raised again.
+//! that the keys which end with the byte give to the 16 last places. The pass keeps the values of these places in one
+//! register. With each byte it moves them by one place, raises them to those of the vector, and writes them to the list. A
+//! value that is moved out of the register is written for good, since no key that ends later gives one so far back.
 
-ghost use Rattle.std.specs.Prelude.{◌≡◌, ◌+◌, ◌-◌, ◌<◌, ◌≤◌, ◌^◌, ℕ, max, length, drop, take, slice_index, option_copied, IfOk, IsOk};
-ghost use Rattle.std.specs.Option.{ForSome};
+ghost use Rattle.std.specs.Prelude.{◌≡◌, ◌+◌, ◌-◌, ◌<◌, ◌≤◌, ◌^◌, ℕ, max, length, drop, take, slice_index, IfSome, option_copied};
 ghost use Rattle.hyphenation_trie.specs.Tables.{IsTableOf};
 ghost use Rattle.hyphenation_trie.specs.Trie.{entries_of_key, EachBeginsKey};
 ghost use Rattle.hyphenation_score.specs.Counting.{CountsBy};
@@ -16,7 +16,6 @@ use hyphenation_breaks::entry::Entry;
 use hyphenation_trie::laws::table_begins;
 use hyphenation_trie::table::Table;
 use hyphenation_trie::{Automaton, LookUps};
-use std::alloc::{AllocError, Global};
 use std::simd::prelude::*;
 
 // Moves the lanes by one to the front, with 0 at the end.
@@ -68,8 +67,8 @@ fn store(last: u8x16, list: &mut [u8], at: usize)
 
 /// Finds the values of a word's places, in one pass over its frame by a table of the keys.
 ///
-/// The list has 18 bytes more than the word. The values come after its first 16 bytes; all others are overwritten with
-/// anything. Look-ups and reports are counted.
+/// The list has 18 bytes more than the word, and the values come after its first 16 bytes. What the other bytes hold then is
+/// not said. One look-up is counted for each byte of the frame, and one report for each occurrence of a key.
 #[inline(always)]
 pub fn find_values<C: Drop>(
     automaton: &Automaton<Entry<C>>,
@@ -88,7 +87,8 @@ pub fn find_values<C: Drop>(
     ensures counts { CountsBy (entries_of_key automaton.now) word.now count.old count.new (Unit {0}) }
 {
     table_begins::<C>();
-    // The frame has a dot before the word and one after it.
+    // The frame has a dot before the word and one after it. At first the 16 last places reach to before the word, so the list
+    // has room there.
     let (first, number) = table.step(automaton, 0, b'.', count);
     let mut start = first;
     let mut last = u8x16::from_array(*table.vector(number, count));
@@ -126,8 +126,8 @@ fn find_by_links<C: Drop>(
 
 /// Puts the values of a word's places into a list, by a table of the keys if there is one.
 ///
-/// The list has 18 bytes more than the word. The values come after its first 16 bytes; all others may be overwritten with
-/// anything. Each node of the automaton but the root must begin a key. Look-ups and reports are counted.
+/// The list has 18 bytes more than the word, and the values come after its first 16 bytes. What the other bytes hold then is
+/// not said. Each node of the automaton but the root must begin a key. Look-ups and reports are counted.
 #[inline(always)]
 pub fn put_values<C: Drop>(
     automaton: &Automaton<Entry<C>>,
@@ -137,7 +137,7 @@ pub fn put_values<C: Drop>(
     count: &mut LookUps,
 )
     requires begins { EachBeginsKey automaton.now }
-    requires table { ForSome (option_copied table) (IsTableOf (entries_of_key automaton.now)) }
+    requires table { IfSome (option_copied table) (λ t. IsTableOf (entries_of_key automaton.now) t) }
     requires made { count.old.made ≤ 2 ^ 64 }
     requires reported { count.old.reported ≤ 2 ^ 64 }
     requires room { length list.old ≡ length word.now + 18 }
@@ -149,60 +149,4 @@ pub fn put_values<C: Drop>(
         Some(table) => find_values(automaton, table, word, list, count),
         None => find_by_links(automaton, word, list, count),
     }
-}
-
-// Copies so many values after the first 16 bytes of a buffer into a list. The only error is out of memory.
-#[inline(always)]
-fn copied_values(alloc: Global, buffer: &[u8; 80], count: usize) -> Result<Vec<u8>, AllocError>
-    requires { count ≤ 64 }
-    ensures { IfOk result (λ v. v.items ≡ take count (drop 16 buffer.now)) }
-{
-    if count <= 16 {
-        // Sixteen bytes are copied without a call, and so few take no more memory than one.
-        let mut values = Vec::from_slice(alloc, &buffer[16..32])?;
-        values.truncate(count);
-        return Ok(values);
-    }
-    Vec::from_slice(alloc, &buffer[16..16 + count])
-}
-
-// Returns so many values after the first 16 bytes of a list.
-fn without_front(mut list: Vec<u8>, count: usize) -> Vec<u8>
-    requires { 16 + count ≤ length list.items }
-    ensures { result.items ≡ take count (drop 16 list.items) }
-{
-    list.copy_within(16..16 + count, 0);
-    list.truncate(count);
-    list
-}
-
-/// Returns the values of a word's places, from place 1 on, by a table of the keys if there is one.
-///
-/// Each node of the automaton but the root must begin a key. Look-ups and reports are counted. The only error is out of
-/// memory.
-#[inline(always)]
-pub fn values_of<C: Drop>(
-    alloc: Global,
-    automaton: &Automaton<Entry<C>>,
-    table: Option<&Table>,
-    word: &[u8],
-    count: &mut LookUps,
-) -> Result<Vec<u8>, AllocError>
-    requires begins { EachBeginsKey automaton.now }
-    requires table { ForSome (option_copied table) (IsTableOf (entries_of_key automaton.now)) }
-    requires made { count.old.made ≤ 2 ^ 64 }
-    requires reported { count.old.reported ≤ 2 ^ 64 }
-    ensures values { IfOk result (λ v. v.items ≡ values (entries_of_key automaton.now) word.now) }
-    ensures counts { CountsBy (entries_of_key automaton.now) word.now count.old count.new (IsOk result) }
-{
-    let places = word.len().saturating_sub(1);
-    if word.len() <= 62 {
-        // The values of most words are found on the stack and copied, since that is faster than to fill a list with 0.
-        let mut buffer = [0u8; 80];
-        put_values(automaton, table, word, &mut buffer[..word.len() + 18], count);
-        return copied_values(alloc, &buffer, places);
-    }
-    let mut list = vec![in alloc; 0u8; word.len() + 18]?;
-    put_values(automaton, table, word, &mut list, count);
-    Ok(without_front(list, places))
 }

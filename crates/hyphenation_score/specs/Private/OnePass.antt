@@ -1,35 +1,34 @@
--- The entries that bear on a place, by the ends of their keys.
-use Rattle.std.specs.Prelude.{◌≡◌, ℕ, ◌+◌, ◌-◌, ◌<◌, ◌==◌, if◌then◌else◌, max, List, [], length, drop, filter, slice_index, unwrap_or}
-use Rattle.std.specs.List.{flat_map, range_with_len}
+-- The entries that bear on a place, in the order in which one pass meets them.
+use Rattle.std.specs.Prelude.{◌≡◌, ℕ, ◌+◌, ◌-◌, ◌<◌, ◌==◌, List, [], length, drop, filter, unwrap_or}
+use Rattle.std.specs.List.{flat_map, fold, range_with_len, slice_index_or}
 use Rattle.hyphenation_breaks.specs.Dictionary.{Patterns}
 use Rattle.hyphenation_breaks.specs.declared.entry.Entry.{Entry}
-use Rattle.hyphenation_score.specs.Scoring.{greatest_value}
+use Rattle.hyphenation_score.specs.Scoring.{bearers_between}
+
+-- The entries that bear on the word's place p, of a key with these entries that starts there.
+abbrev pub bearing : {C : Type 0} → List (Entry C) → ℕ → ℕ → List (Entry C)
+bearing entries start p = filter (λ entry. start + entry.place == p + 1) entries
 
 -- A text ends at a place of the frame. The entries that bear on the word's place p, of the key that is this text without
 -- its first d bytes.
 abbrev pub entries_of_end : {C : Type 0} → Patterns C → List ℕ → ℕ → ℕ → ℕ → List (Entry C)
-entries_of_end keys text end p d =
-    filter (λ entry. (end - (length text - d)) + entry.place == p + 1) (unwrap_or (keys (drop d text)) [])
+entries_of_end keys text end p d = bearing (unwrap_or (keys (drop d text)) []) (end - (length text - d)) p
 
 -- The entries that bear on the word's place p, of all keys that end this text.
 abbrev pub entries_of_ends : {C : Type 0} → Patterns C → List ℕ → ℕ → ℕ → List (Entry C)
 entries_of_ends keys text end p = flat_map (λ d. entries_of_end keys text end p d) (range_with_len 0 (length text))
 
--- At each index the value is the old one, raised to this value if it is at this place of a key that starts there.
-abbrev pub AreRaisedTo : List ℕ → ℕ → ℕ → ℕ → List ℕ → Type 0
-AreRaisedTo old start place value new =
-    (i : ℕ) → i < length old
-    → slice_index new i ≡ max (slice_index old i) (if start + place == (i + 1) + 1 then value else 0)
+-- The entries that bear on the word's place p, of all keys that end there in the frame.
+abbrev pub bearers_to : {C : Type 0} → Patterns C → List ℕ → ℕ → ℕ → List (Entry C)
+bearers_to keys framed p end = flat_map (λ start. bearers_between keys framed p start end) (range_with_len 0 end)
 
--- At each index the value is the old one, raised to those of the entries of a key that starts there.
-abbrev pub AreRaised : {C : Type 0} → List ℕ → ℕ → List (Entry C) → List ℕ → Type 0
-AreRaised old start entries new =
-    (i : ℕ) → i < length old
-    → slice_index new i
-    ≡ max (slice_index old i) (greatest_value (filter (λ entry. start + entry.place == (i + 1) + 1) entries))
+-- The entries that bear on the word's place p, of all keys in the first bytes of the frame, in the order of their ends.
+abbrev pub bearers_by_ends : {C : Type 0} → Patterns C → List ℕ → ℕ → ℕ → List (Entry C)
+bearers_by_ends keys framed count p = flat_map (λ end. bearers_to keys framed p end) (range_with_len 1 count)
 
--- At each index the value is the old one, raised to those of the keys that end this text, which ends there in the frame.
-abbrev pub AreRaisedByEnds : {C : Type 0} → List ℕ → Patterns C → List ℕ → ℕ → List ℕ → Type 0
-AreRaisedByEnds old keys text end new =
-    (i : ℕ) → i < length old
-    → slice_index new i ≡ max (slice_index old i) (greatest_value (entries_of_ends keys text end (i + 1)))
+-- At each index the slot's state is the old one after the entries that were met there, given those of each place.
+abbrev pub AreAfter : {C S State : Type 0} → (S → State) → (State → Entry C → State) → List S → (ℕ → List (Entry C))
+    → List S → Type 0
+AreAfter {S = S} meaning after old met new =
+    (i : ℕ) (unused : S) → i < length old
+    → meaning (slice_index_or new i unused) ≡ fold after (meaning (slice_index_or old i unused)) (met (i + 1))

@@ -2,7 +2,8 @@ use Rattle.std.proofs.Common.{◌≡◌, ℕ, ◌+◌, ◌≤◌, ◌∷◌, [],
 use Rattle.hyphenation_trie.specs.Trie.{entries_of_key}
 use Rattle.hyphenation_score.specs.Scoring.{frame}
 use Rattle.hyphenation_score.proofs.OnePass.{length-frame}
-use Rattle.hyphenation_score.proofs.TabledPass.{Passed, passed_first, passed_more, passed_room, passed_values, passed_reported, counts_exact, word_byte, last_byte}
+use Rattle.hyphenation_score.proofs.OnePassInvariant.{word_byte, last_byte}
+use Rattle.hyphenation_score.proofs.TabledPass.{Passed, passed_first, passed_more, passed_room, passed_values, passed_reported, counts_exact}
 use Rattle.hyphenation_score.proofs.tabled.find_values.Goals as goal
 
 pub loop-at-init : goal.loop-at-init
