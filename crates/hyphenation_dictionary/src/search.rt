@@ -1,7 +1,6 @@
 //! The patterns of a dictionary, for the crates that score words.
 
-ghost use Rattle.std.specs.Prelude.{◌≡◌, List, ℕ, option_copied};
-ghost use Rattle.std.specs.Option.{ForSome};
+ghost use Rattle.std.specs.Prelude.{◌≡◌, List, ℕ, IfSome, option_copied};
 ghost use Rattle.hyphenation_breaks.specs.Dictionary.{entries_of_keys};
 ghost use Rattle.hyphenation_trie.specs.Tables.{IsTableOf};
 ghost use Rattle.hyphenation_trie.specs.Trie.{entries_of_key, EachBeginsKey};
@@ -26,7 +25,7 @@ pub fn patterns_of<C: Payload, B: Break>(
 ) -> (&Automaton<Entry<C>>, Option<&Table>)
     ensures known { (text : List ℕ) → entries_of_keys dictionary.now text ≡ entries_of_key result.0.now text }
     ensures begins { EachBeginsKey result.0.now }
-    ensures table { ForSome (option_copied result.1) (IsTableOf (entries_of_key result.0.now)) }
+    ensures table { IfSome (option_copied result.1) (λ table. IsTableOf (entries_of_key result.0.now) table) }
 {
     dictionary.patterns.invariant();
     (&dictionary.patterns, dictionary.table.as_ref())

@@ -1,8 +1,7 @@
 //! The breaks of standard and of extended dictionaries, for code that finds both.
 
-ghost use Rattle.std.specs.Prelude.{◌≡◌, ◌+◌, ◌-◌, ◌<◌, Option, None, OnOk, [], length, map, option_copied};
+ghost use Rattle.std.specs.Prelude.{◌≡◌, ◌+◌, ◌-◌, ◌<◌, Option, None, IfSome, OnOk, [], length, map, option_copied};
 ghost use Rattle.std.specs.List.Sorted.{IsNonDecreasingBy};
-ghost use Rattle.std.specs.Option.{ForSome};
 ghost use Rattle.hyphenation_breaks.specs.Break.{plain_break, break_at};
 ghost use Rattle.hyphenation_hyphenator.specs.Fitting.{kept_breaks};
 ghost use Rattle.hyphenation_hyphenator.specs.Private.Fitting.{range_holds_no_shift, kept_by_shifts};
@@ -38,7 +37,7 @@ pub(crate) trait BreakKind<'h>: Break + Copy {
         list: &mut Vec<Self>,
     ) -> Result<(), AllocError>
         requires each_begins_key { EachBeginsKey patterns.now }
-        requires table { ForSome (option_copied table) (IsTableOf (entries_of_key patterns.now)) }
+        requires table { IfSome (option_copied table) (λ table. IsTableOf (entries_of_key patterns.now) table) }
         requires empty { list.old.items ≡ [] }
         ensures { OnOk result (map Self.meaning list.new.items
             ≡ breaks_by_keys Self.Payload.change_of (entries_of_key patterns.now) word.now bounds) };

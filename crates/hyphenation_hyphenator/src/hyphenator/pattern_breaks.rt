@@ -4,9 +4,9 @@
 //! carry changes.
 
 ghost use Rattle.std.specs.Prelude.{◌≡◌, ◌≢◌, ◌%◌, ◌+◌, ◌-◌, ◌<◌, ◌≤◌, ◌&&◌, ℕ, length, map, filter, slice_index};
-ghost use Rattle.std.specs.Prelude.{OnOk, [], ◌∷◌, ◌++◌, option_copied, Option, None};
+ghost use Rattle.std.specs.Prelude.{IfSome, OnOk, [], ◌∷◌, ◌++◌, option_copied, Option, None};
 ghost use Rattle.std.specs.List.{range_with_len, slice_index_or};
-ghost use Rattle.std.specs.Option.{option_map, ForSome};
+ghost use Rattle.std.specs.Option.{option_map};
 ghost use Rattle.hyphenation_breaks.specs.Break.{plain_break};
 ghost use Rattle.hyphenation_trie.specs.Tables.{IsTableOf};
 ghost use Rattle.hyphenation_trie.specs.Trie.{entries_of_key, EachBeginsKey};
@@ -182,7 +182,7 @@ fn plain_breaks_with_buffer(
     places: &mut Vec<usize>,
 ) -> Result<(), AllocError>
     requires each_begins_key { EachBeginsKey patterns.now }
-    requires table { ForSome (option_copied table) (IsTableOf (entries_of_key patterns.now)) }
+    requires table { IfSome (option_copied table) (λ table. IsTableOf (entries_of_key patterns.now) table) }
     requires room { length values.old ≡ length word.now + 18 }
     requires empty { places.old.items ≡ [] }
     ensures { OnOk result (map plain_break places.new.items
@@ -204,7 +204,7 @@ pub(super) fn plain_breaks(
     places: &mut Vec<usize>,
 ) -> Result<(), AllocError>
     requires each_begins_key { EachBeginsKey patterns.now }
-    requires table { ForSome (option_copied table) (IsTableOf (entries_of_key patterns.now)) }
+    requires table { IfSome (option_copied table) (λ table. IsTableOf (entries_of_key patterns.now) table) }
     requires empty { places.old.items ≡ [] }
     ensures { OnOk result (map plain_break places.new.items
         ≡ breaks_by_keys no_change (entries_of_key patterns.now) word.now bounds) }

@@ -1,4 +1,4 @@
-use Rattle.std.proofs.Common.{ℕ, List, ◌≡◌, ◌+◌, ◌-◌, drop, filter, length, map, take, ap, ◌∙◌, arith}
+use Rattle.std.proofs.Common.{◌≡◌, ℕ, ◌+◌, ◌-◌, List, drop, filter, length, map, take, ap, ◌∙◌, arith}
 use Rattle.std.specs.List.{range_with_len}
 use Rattle.hyphenation_breaks.specs.Break.{plain_break}
 use Rattle.hyphenation_trie.specs.Trie.{entries_of_key}
@@ -9,4 +9,11 @@ use Rattle.hyphenation_hyphenator.proofs.Standard.{on_ok_then}
 use Rattle.hyphenation_hyphenator.proofs.hyphenator.pattern_breaks.plain_breaks_with_buffer.Goals as goal
 
 pub returns : goal.returns
-returns c = ?
+returns c =
+    let keys = entries_of_key c.args.patterns.now in
+    let list : List ℕ = c.put_values.new.list in
+    let count : (16 + c.saturating_sub-end.result) - 16 ≡ length c.as_bytes.result.now - 1 = omega (arith, c.saturating_sub-end.ensures, ap length c.as_bytes.ensures.value) in
+    let found = ap (λ (n : ℕ). take n (drop 16 list)) count ∙ c.put_values.ensures.values ∙ ap (values keys) c.as_bytes.ensures.value in
+    on_ok_then c.odd_places.result _ _
+    (λ h. ap (map plain_break) (h ∙ ap (λ vs. filter (test_of vs c.args.bounds) (range_with_len 1 (length vs))) found) ∙ places_allowed no_change keys c.args.word.now c.args.bounds (winners_have_no_change keys c.args.word.now))
+    c.odd_places.ensures
