@@ -11,3 +11,4 @@ pub mod FrozenTrie
 pub mod States
 pub mod SharedEntries
 pub mod LookedUp
+pub mod TableRows

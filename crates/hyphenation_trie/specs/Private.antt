@@ -5,4 +5,5 @@ pub mod Known
 pub mod Links
 pub mod Rows
 pub mod States
+pub mod TableRows
 pub mod Trie
