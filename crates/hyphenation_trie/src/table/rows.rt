@@ -63,8 +63,9 @@ fn rows_of<E: Drop>(
         if !inner[at] {
             of[at] = of[trie.links(at).link as usize];
         } else if of[at] == 0 {
-            of[at] = to_u32(nodes.len())?;
+            let row = to_u32(nodes.len())?;
             nodes.push(*node)?;
+            of[at] = row;
         }
     }
     Ok(Rows { nodes, of })
