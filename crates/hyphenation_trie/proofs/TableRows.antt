@@ -1,8 +1,8 @@
 -- Rows of a table, and their cells.
-use Rattle.std.proofs.Common.{◌≡◌, ◌≢◌, ℕ, zero, suc, ◌+◌, ◌-◌, ◌*◌, ◌/◌, ◌%◌, ◌^◌, ◌<◌, ◌≤◌, ◌==◌, Bool, true, false, cond, List, [], ◌∷◌, ◌++◌, length, take, drop, set, get_or, slice_index, refl, sym, ap, subst, ◌∙◌, arith, ◌⊎◌, inl, inr}
+use Rattle.std.proofs.Common.{◌≡◌, ◌≢◌, ℕ, zero, suc, ◌+◌, ◌-◌, ◌*◌, ◌/◌, ◌%◌, ◌^◌, ◌<◌, ◌≤◌, Bool, true, false, cond, List, [], ◌∷◌, ◌++◌, length, take, drop, set, get_or, slice_index, sym, ap, subst, ◌∙◌, arith, ◌⊎◌, inl, inr}
 use Rattle.std.specs.Prelude.{slice_index_or, replicate}
 use Rattle.std.proofs.lemmas.Bool.{cases_lt, cases_eq, eq-eqb, ne_eqb}
-use Rattle.std.proofs.lemmas.List.{length-append, length-drop, length-set, get_or-set_same, get_or-set_other, get_or_append_left, get_or_default, get_or_push}
+use Rattle.std.proofs.lemmas.List.{length-append, length-set, get_or-set_same, get_or-set_other, get_or_append_left, get_or_default, get_or_push}
 use Rattle.std.proofs.Math.Nat.{mul-le-mul_right}
 use Rattle.std.proofs.Math.Seq.{take-append_seam}
 use Rattle.hyphenation_trie.specs.Trie.{Tree, node_text, IsTrie}
@@ -11,10 +11,10 @@ use Rattle.hyphenation_trie.specs.Private.Known.{AreByDepth, AreClasses, HasChil
 use Rattle.hyphenation_trie.specs.Private.Links.{HasNoChild}
 use Rattle.hyphenation_trie.specs.Private.States.{LinkedTree, links_of, IsLinked}
 use Rattle.hyphenation_trie.specs.declared.frozen.Links.{Links}
-use Rattle.hyphenation_trie.specs.Private.TableRows.{AreInner, HasRowOf, AreRowNodes, AreRowsOf, cell_of, free_cell, IsChildCell, AreChildCells, link_row, filled, AreFilled}
+use Rattle.hyphenation_trie.specs.Private.TableRows.{AreInner, HasRowOf, AreRowNodes, AreRowsOf, cell_of, free_cell, AreChildCells, link_row, filled, AreFilled}
 use Rattle.hyphenation_trie.proofs.ChainsGrow.{zero_read}
 use Rattle.hyphenation_trie.proofs.LinksMade.{link_less}
-use Rattle.hyphenation_trie.proofs.Suffixes.{depth_pos, parent, length-push, Ends-refl, Ends-nil, Ends-same, Ends-rest, Ends-both, Ends-trans, Ends-whole, Ends-push}
+use Rattle.hyphenation_trie.proofs.Suffixes.{depth_pos, parent, Ends-refl, Ends-nil, Ends-same, Ends-rest, Ends-both, Ends-trans, Ends-whole, Ends-push}
 use Rattle.hyphenation_trie.proofs.TrieNodes.{last_same, not_empty}
 
 -- ---- nodes with children
@@ -321,19 +321,26 @@ children_more {E} tree trie nodes of numbers classes quarter cells node p byte r
           let parts = place_apart r row quarter (slice_index classes b) (slice_index classes byte) (class.below b blt) (class.below byte small) same in
           let bytes : byte ≡ b = class.apart byte b small blt (sym parts.1) (class.used node byte (node_text tree p) lt small is) in
           let nodes_are : slice_index nodes r ≡ p = ap (λ (i : ℕ). slice_index nodes i) parts.0 ∙ mine in
-          inl (node, lt, is ∙ ap (λ (i : ℕ). node_text tree i ++ byte ∷ []) (sym nodes_are) ∙ ap (λ (c : ℕ). node_text tree (slice_index nodes r) ++ c ∷ []) bytes,
-          ap (λ (i : ℕ). slice_index (set cells at value) i) same ∙ get_or-set_same cells at value 0 room)
+          inl (
+            node,
+            lt,
+            is ∙ ap (λ (i : ℕ). node_text tree i ++ byte ∷ []) (sym nodes_are) ∙ ap (λ (c : ℕ). node_text tree (slice_index nodes r) ++ c ∷ []) bytes,
+            ap (λ (i : ℕ). slice_index (set cells at value) i) same ∙ get_or-set_same cells at value 0 room,
+          )
       | inr other ↦
           let stays : slice_index (set cells at value) here ≡ slice_index cells here = get_or-set_other cells at here value 0 other in
           elim (old r b rlt blt) [
             | inl child ↦ inl (child.0, child.1, child.2, stays ∙ child.3)
-            | inr free ↦ inr (stays ∙ free.0, λ j low e. elim (cases_eq j node) [
-              | inl same ↦
-                  let one = one_parent tree trie node p (slice_index nodes r) byte b plt (rows.rows.within r rlt) is (ap (λ (i : ℕ). node_text tree i) (sym same) ∙ e) in
-                  let r_is : r ≡ row = sym (rows.rows.own r rlt) ∙ ap (λ (i : ℕ). slice_index of i) one.0 in
-                  absurd (other (ap (λ (i : ℕ). i * quarter * 4 + slice_index classes b) r_is ∙ ap (λ (c : ℕ). row * quarter * 4 + slice_index classes c) one.1))
-              | inr before ↦ free.1 j (omega arith) e
-            ])
+            | inr free ↦ inr (
+              stays ∙ free.0,
+              λ j low e. elim (cases_eq j node) [
+                | inl same ↦
+                    let one = one_parent tree trie node p (slice_index nodes r) byte b plt (rows.rows.within r rlt) is (ap (λ (i : ℕ). node_text tree i) (sym same) ∙ e) in
+                    let r_is : r ≡ row = sym (rows.rows.own r rlt) ∙ ap (λ (i : ℕ). slice_index of i) one.0 in
+                    absurd (other (ap (λ (i : ℕ). i * quarter * 4 + slice_index classes b) r_is ∙ ap (λ (c : ℕ). row * quarter * 4 + slice_index classes c) one.1))
+                | inr before ↦ free.1 j (omega arith) e
+              ],
+            )
           ]
     ]
 

@@ -9,10 +9,9 @@ ghost use Rattle.hyphenation_trie.specs.Private.Known.{AreByDepth, AreClasses, A
 ghost use Rattle.hyphenation_trie.specs.Private.States.{IsLinked};
 ghost use Rattle.hyphenation_trie.specs.Private.TableRows.{filled, free_cell, link_row, AreChildCells, AreFilled, AreInner, AreRowsOf};
 
-use crate::Automaton;
 use crate::frozen::Frozen;
 use crate::lists::list_of_first;
-use crate::to_u32;
+use crate::{Automaton, to_u32};
 use std::alloc::{AllocError, Global};
 
 // A place is below this, so that a cell holds it in 20 bits beside a number in 12.

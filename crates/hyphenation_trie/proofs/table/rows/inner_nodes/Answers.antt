@@ -1,4 +1,4 @@
-use Rattle.std.proofs.Common.{◌≡◌, ◌<◌, ℕ, true, length, ◌∙◌, arith}
+use Rattle.std.proofs.Common.{ℕ, true, ◌∙◌, arith}
 use Rattle.std.proofs.lemmas.List.{length-set}
 use Rattle.hyphenation_trie.proofs.TableRows.{marked_more, marked_all}
 use Rattle.hyphenation_trie.proofs.table.rows.inner_nodes.Goals as goal

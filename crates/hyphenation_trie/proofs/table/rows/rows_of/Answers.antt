@@ -1,4 +1,4 @@
-use Rattle.std.proofs.Common.{◌≡◌, ◌≢◌, ◌+◌, ◌++◌, [], ◌∷◌, ◌<◌, ℕ, List, Bool, true, false, length, drop, slice_index, set, sym, ap, subst, ◌∙◌, arith}
+use Rattle.std.proofs.Common.{◌≡◌, ◌≢◌, ◌+◌, ◌++◌, [], ◌∷◌, ◌<◌, ℕ, List, true, false, length, drop, slice_index, set, sym, ap, subst, ◌∙◌, arith}
 use Rattle.std.specs.Prelude.{slice_index_or, replicate}
 use Rattle.std.proofs.lemmas.List.{get_or_default}
 use Rattle.hyphenation_trie.specs.Trie.{node_text}
@@ -29,16 +29,18 @@ loop-node-preserved g c =
           let longest : IsLongest tree.texts (drop 1 (node_text tree node)) link = subst (λ x. IsLongest tree.texts (drop 1 (node_text tree node)) x.link) (sym w.links.ensures) (c.requires.linked node within.1).link in
           let read : w.index.result.now ≡ slice_index of link = w.index.ensures ∙ get_or_default of link w.index.result.now 0 (omega (arith, longest.within, inv.rows.rows_of)) in
           let next = numbered_leaf tree trie order marks nodes of at link by c.requires.inner lt leaf longest inv in
+          let now : c.if-not-inner-at.of.items ≡ set of node (slice_index of link) = ap (λ v. v.items) w.of-is ∙ ap (λ (x : ℕ). set of node x) read in
           subst (λ (xs : List ℕ). AreNumbered tree order marks xs c.if-not-inner-at.of.items (at + 1)) (sym (ap (λ v. v.items) w.nodes-is))
-          (subst (λ (xs : List ℕ). AreNumbered tree order marks nodes xs (at + 1)) (sym (ap (λ v. v.items) w.of-is ∙ ap (λ (x : ℕ). set of node x) read)) next)
+          (subst (λ (xs : List ℕ). AreNumbered tree order marks nodes xs (at + 1)) (sym now) next)
       | else-not-inner-at+then-index-eq0+in_ok-row+in_ok-push w ↦
           let mark : slice_index_or marks node false ≡ true = w.if-not-inner-at.false in
           let read : w.index-else-not-inner-at.result.now ≡ slice_index of node = w.index-else-not-inner-at.ensures ∙ get_or_default of node w.index-else-not-inner-at.result.now 0 held in
           let none : slice_index of node ≡ 0 = omega (arith, read, w.if-index-eq0.true) in
           let row : w.in_ok-row.row ≡ length nodes = w.in_ok-row.ensures.same_number ∙ w.len.ensures ∙ c.loop-node.nodes.ok.0 in
           let next = numbered_inner tree trie order marks nodes of at by lt mark none inv in
-          subst (λ (xs : List ℕ). AreNumbered tree order marks xs c.if-not-inner-at.of.items (at + 1)) (sym (ap (λ v. v.items) w.nodes-is ∙ w.in_ok-push.ensures.items))
-          (subst (λ (xs : List ℕ). AreNumbered tree order marks (nodes ++ node ∷ []) xs (at + 1)) (sym (ap (λ v. v.items) w.of-is ∙ ap (λ (x : ℕ). set of node x) row)) next)
+          let more : c.if-not-inner-at.nodes.items ≡ nodes ++ node ∷ [] = ap (λ v. v.items) w.nodes-is ∙ w.in_ok-push.ensures.items in
+          let now : c.if-not-inner-at.of.items ≡ set of node (length nodes) = ap (λ v. v.items) w.of-is ∙ ap (λ (x : ℕ). set of node x) row in
+          subst (λ (xs : List ℕ). AreNumbered tree order marks xs c.if-not-inner-at.of.items (at + 1)) (sym more) (subst (λ (xs : List ℕ). AreNumbered tree order marks (nodes ++ node ∷ []) xs (at + 1)) (sym now) next)
       | else-not-inner-at+else-index-eq0 w ↦
           let read : w.index-else-not-inner-at.result.now ≡ slice_index of node = w.index-else-not-inner-at.ensures ∙ get_or_default of node w.index-else-not-inner-at.result.now 0 held in
           let some : slice_index of node ≢ 0 = λ e. absurd (omega (arith, read, w.if-index-eq0.false, e)) in
