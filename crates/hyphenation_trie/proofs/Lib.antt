@@ -16,3 +16,4 @@ pub mod KnownNodes
 pub mod TableOrder
 pub mod TableSteps
 pub mod TableMade
+pub mod TableRows

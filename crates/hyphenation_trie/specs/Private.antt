@@ -5,5 +5,6 @@ pub mod Known
 pub mod Links
 pub mod Rows
 pub mod States
+pub mod TableRows
 pub mod Trie
 pub mod Vectors

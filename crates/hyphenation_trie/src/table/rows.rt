@@ -1,13 +1,172 @@
 //! The rows of a table: one for the root, and one for each other node with children.
+//!
+//! The cell of a child leads to the child. Where a node has no child at a byte, its cell is that of its link, as the link has
+//! the longest text that ends the node's text and is shorter. So first the cells of all children are set, and then each row
+//! takes its other cells from the row of its link. Rows are in the order of depths, so the row of the link is complete by then.
 
-ghost use Rattle.std.specs.Prelude.{◌≡◌, ◌<◌, ℕ, List, length, slice_index, IfOk, IfSome};
+ghost use Rattle.std.specs.Prelude.{◌≡◌, ◌+◌, ◌*◌, ◌-◌, ◌^◌, ◌<◌, ◌≤◌, ℕ, List, length, slice_index, IfOk, IfSome, OnOk};
 ghost use Rattle.hyphenation_trie.specs.Private.Known.{AreByDepth, AreClasses, AreRows};
+ghost use Rattle.hyphenation_trie.specs.Private.States.{IsLinked};
+ghost use Rattle.hyphenation_trie.specs.Private.TableRows.{filled, free_cell, link_row, AreChildCells, AreFilled, AreInner, AreRowsOf};
 
-use crate::Automaton;
+use crate::frozen::Frozen;
+use crate::lists::list_of_first;
+use crate::{Automaton, to_u32};
 use std::alloc::{AllocError, Global};
 
+// A place is below this, so that a cell holds it in 20 bits beside a number in 12.
+const MAX_PLACES: usize = 1 << 20;
+
+// A cell without a child, before it is filled. No cell of a child is so great, as its place is less than the last one.
+const FREE: u32 = u32::MAX;
+
+// The rows of a table.
+#[derive(Drop)]
+struct Rows {
+    // The node of each row. The first is the root. They are in the order of depths.
+    nodes: Vec<u32>,
+    // For each node the row of the longest node with children that ends its text.
+    of: Vec<u32>,
+}
+
+// Returns for each node whether it has a child. The only error is out of memory.
+fn inner_nodes<E: Drop>(alloc: Global, trie: &Frozen<E>) -> Result<Vec<bool>, AllocError>
+    ensures { IfOk result (λ inner. AreInner trie.now.tree inner.items) }
+{
+    trie.invariant();
+    let mut inner = vec![in alloc; false; trie.count()]?;
+    for node in 1..trie.count() {
+        let (parent, _) = trie.from(node);
+        inner[parent] = true;
+    }
+    Ok(inner)
+}
+
+// Returns the rows, given the nodes by their depths, and whether each has a child. The only error is out of memory.
+fn rows_of<E: Drop>(
+    alloc: Global,
+    trie: &Frozen<E>,
+    order: &[u32],
+    inner: &[bool],
+) -> Result<Rows, AllocError>
+    requires linked { IsLinked trie.now }
+    requires order { AreByDepth trie.now.tree.texts order.now }
+    requires inner { AreInner trie.now.tree inner.now }
+    ensures { IfOk result (λ rows. AreRowsOf trie.now.tree rows.nodes.items rows.of.items) }
+{
+    trie.invariant();
+    let mut nodes = list_of_first(alloc, 1, 0u32)?;
+    let mut of = vec![in alloc; 0u32; trie.count()]?;
+    for node in order {
+        let at = *node as usize;
+        if !inner[at] {
+            of[at] = of[trie.links(at).link as usize];
+        } else if of[at] == 0 {
+            let row = to_u32(nodes.len())?;
+            nodes.push(*node)?;
+            of[at] = row;
+        }
+    }
+    Ok(Rows { nodes, of })
+}
+
+// Returns free cells, after the root's row, whose cells are 0. The only error is out of memory.
+fn free_cells(alloc: Global, places: usize, quarter: usize) -> Result<Vec<u32>, AllocError>
+    requires root { quarter ≤ places }
+    requires places { places < 2 ^ 20 }
+    ensures count { IfOk result (λ cells. length cells.items ≡ places * 4) }
+    ensures root { IfOk result (λ cells. (i : ℕ) → i < quarter * 4 → slice_index cells.items i ≡ 0) }
+    ensures free { IfOk result (λ cells. (i : ℕ) → quarter * 4 ≤ i → i < places * 4
+        → slice_index cells.items i ≡ 2 ^ 32 - 1) }
+{
+    let mut cells = Vec::with_capacity(alloc, places * 4)?;
+    cells.resize(quarter * 4, 0u32)?;
+    cells.resize(places * 4, FREE)?;
+    Ok(cells)
+}
+
+// Returns the cell of a place and a number.
+fn cell_with(place: usize, number: u32) -> u32
+    requires place { place < 2 ^ 20 }
+    requires number { number < 4096 }
+    ensures { result ≡ place * 4096 + number }
+{
+    place as u32 * 4096 + number
+}
+
+// Sets the cells of all children.
+fn set_children<E: Drop>(
+    cells: &mut [u32],
+    trie: &Frozen<E>,
+    rows: &Rows,
+    numbers: &[u32],
+    classes: &[u8],
+    quarter: usize,
+)
+    requires rows { AreRowsOf trie.now.tree rows.now.nodes.items rows.now.of.items }
+    requires nodes { length numbers.now ≡ length trie.now.tree.texts }
+    requires few { (j : ℕ) → j < length trie.now.tree.texts → slice_index numbers.now j < 4096 }
+    requires classes { AreClasses trie.now.tree.texts classes.now quarter }
+    requires places { length rows.now.nodes.items * quarter < 2 ^ 20 }
+    requires count { length cells.old ≡ length rows.now.nodes.items * quarter * 4 }
+    requires free { (row class : ℕ) → row < length rows.now.nodes.items → class < quarter * 4
+        → slice_index cells.old (row * quarter * 4 + class) ≡ free_cell row }
+    ensures count { length cells.new ≡ length cells.old }
+    ensures children { AreChildCells trie.now.tree rows.now.nodes.items rows.now.of.items numbers.now classes.now quarter
+        (length trie.now.tree.texts) cells.new }
+{
+    trie.invariant();
+    for node in 1..trie.count() {
+        let (parent, byte) = trie.from(node);
+        let start = rows.of[parent] as usize * quarter * 4;
+        let place = rows.of[node] as usize * quarter;
+        cells[start + classes[byte as usize] as usize] = cell_with(place, numbers[node]);
+    }
+}
+
+// Returns a cell of a row, given that of the row of its link.
+#[inline(always)]
+fn filled_cell(own: u32, of_link: u32) -> u32
+    ensures { result ≡ filled own of_link }
+{
+    if own == FREE { of_link } else { own }
+}
+
+// Fills the free cells of a row from another row before it.
+fn fill_row(cells: &mut [u32], start: usize, from: usize, width: usize)
+    requires before { from + width ≤ start }
+    requires room { start + width ≤ length cells.old }
+    ensures count { length cells.new ≡ length cells.old }
+    ensures filled { (k : ℕ) → k < width
+        → slice_index cells.new (start + k) ≡ filled (slice_index cells.old (start + k)) (slice_index cells.old (from + k)) }
+    ensures before_stays { (i : ℕ) → i < start → slice_index cells.new i ≡ slice_index cells.old i }
+    ensures after_stays { (i : ℕ) → start + width ≤ i → slice_index cells.new i ≡ slice_index cells.old i }
+{
+    for k in 0..width {
+        cells[start + k] = filled_cell(cells[start + k], cells[from + k]);
+    }
+}
+
+// Fills the free cells of all rows from the rows of their links.
+fn fill_rows<E: Drop>(cells: &mut [u32], trie: &Frozen<E>, rows: &Rows, quarter: usize)
+    requires linked { IsLinked trie.now }
+    requires rows { AreRowsOf trie.now.tree rows.now.nodes.items rows.now.of.items }
+    requires places { length rows.now.nodes.items * quarter < 2 ^ 20 }
+    requires count { length cells.old ≡ length rows.now.nodes.items * quarter * 4 }
+    ensures count { length cells.new ≡ length cells.old }
+    ensures filled { AreFilled (link_row trie.now rows.now.nodes.items rows.now.of.items) (length rows.now.nodes.items)
+        quarter cells.old cells.new }
+{
+    trie.invariant();
+    for row in 1..rows.nodes.len() {
+        let link = trie.links(rows.nodes[row] as usize).link;
+        let from = rows.of[link as usize] as usize * quarter * 4;
+        fill_row(cells, row * quarter * 4, from, quarter * 4);
+    }
+}
+
 // Returns the cells of all rows, given the nodes by their depths, the number of each node, and the class of each byte. `None`
-// if there are more than 4,194,304 cells. The only error is out of memory.
+// if there are 4,194,304 cells or more. The only error is out of memory.
 pub(super) fn cells_of<E: Drop>(
     alloc: Global,
     automaton: &Automaton<E>,
@@ -24,5 +183,16 @@ pub(super) fn cells_of<E: Drop>(
     ensures { IfOk result (λ made. IfSome made
         (λ cells. (rows : List ℕ) × AreRows automaton.now numbers.now classes.now quarter cells.items rows)) }
 {
-    unreachable!()
+    let trie = &automaton.trie;
+    trie.invariant();
+    let inner = inner_nodes(alloc, trie)?;
+    let rows = rows_of(alloc, trie, order, &inner)?;
+    let places = rows.nodes.len().saturating_mul(quarter);
+    if MAX_PLACES <= places {
+        return Ok(None);
+    }
+    let mut cells = free_cells(alloc, places, quarter)?;
+    set_children(&mut cells, trie, &rows, numbers, classes, quarter);
+    fill_rows(&mut cells, trie, &rows, quarter);
+    Ok(Some(cells))
 }
