@@ -224,7 +224,7 @@ impl Handle {
         checked(status, line, cause).map(|()| Handle::of(raw))
     }
 
-    /// Makes a dictionary of a kind of a `.dic`; a minimum above 255 is the one that the file says.
+    /// Makes a dictionary of a kind from a `.dic`; a minimum above 255 is the one that the file says.
     pub fn load_dic(kind: u32, language: &str, minima: (u32, u32), dic: &[u8]) -> Result<Handle, Failure> {
         let mut raw = Raw::NONE;
         let (mut line, mut cause) = (0, 0);
@@ -245,7 +245,7 @@ impl Handle {
         checked(status, line, cause).map(|()| Handle::of(raw))
     }
 
-    /// Makes a dictionary of a kind of a file of patterns of a form, and of a plain file of exceptions. A minimum above
+    /// Makes a dictionary of a kind from a file of patterns of a form, and a plain file of exceptions. A minimum above
     /// 255 is the one in the head of a TeX file.
     pub fn load_patterns(
         kind: u32,

@@ -80,7 +80,7 @@ pub fn load(
     }
 }
 
-/// Makes a dictionary of a kind of LibreOffice's `.dic`. It takes the place of the dictionary that the handle held.
+/// Makes a dictionary of a kind from LibreOffice's `.dic`. It takes the place of the dictionary that the handle held.
 ///
 /// The language is a code such as `en-us`. A minimum above 255 is the one that the file says, or 2. For a refused file
 /// (`REFUSED`) the line of its first fault, counted from 1, and the number of its cause, from 21 on, are written. With
@@ -120,7 +120,7 @@ pub fn load_dic(
     }
 }
 
-/// Makes a dictionary of a kind of a TeX file of patterns, or of a plain one, and of a plain file of exceptions.
+/// Makes a dictionary of a kind from a TeX file of patterns, or a plain one, and a plain file of exceptions.
 ///
 /// The form is 0 for a TeX file, and 1 for a plain one. The file of exceptions may be empty. A minimum above 255 is the
 /// one in the head of the TeX file, as those of hyph-utf8 have it; `NO_MINIMA` if none is there. For a refused file
@@ -282,9 +282,9 @@ pub fn write_breaks(
 /// Writes the places of the breaks of a list of words to the front of one buffer, and the ends of the words' places to
 /// the front of another one.
 ///
-/// The words stand one after the other in a text, and each has its end in it. Places are counted from the begin of their
-/// word, in bytes. The places of a word end where those of the next one begin. A word that ends before it begins, or
-/// after the text, is `BAD_ENDS`.
+/// The words stand one after the other in a text, and each has its end in it. Places are counted from the beginning of
+/// their word, in bytes. The places of a word end where those of the next one begin. A word that ends before it begins,
+/// or after the text, is `BAD_ENDS`.
 pub fn write_breaks_of_words(
     alloc: Global,
     handle: &mut Handle,

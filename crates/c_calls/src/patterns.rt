@@ -78,7 +78,7 @@ fn from_dic<C: Payload, B: Listing>(
     Ok(dictionary)
 }
 
-// The dictionary of a kind of a `.dic`.
+// The dictionary of a kind that a `.dic` gives.
 #[tactic(auto, unfolding(crate::specs::Patterns::dic_given))]
 fn loaded_from_dic(
     alloc: Global,
@@ -127,7 +127,7 @@ fn failure_of(error: ConvertError) -> Failure
     }
 }
 
-/// Makes a dictionary of a kind of a `.dic`, in a box.
+/// Makes a dictionary of a kind from a `.dic`, in a box.
 #[tactic(auto, using(crate::proofs::Faults::failure_given))]
 pub fn load_dic(
     alloc: Global,

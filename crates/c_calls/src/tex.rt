@@ -46,7 +46,7 @@ pub fn form_numbered(number: u32) -> Option<Form>
     }
 }
 
-// The dictionary of a kind of files.
+// The dictionary of a kind that files give.
 #[tactic(auto, unfolding(crate::specs::TexFiles::files_given))]
 fn loaded_from_files(
     alloc: Global,
@@ -80,7 +80,7 @@ fn loaded_from_files(
     }
 }
 
-// The dictionary of a kind of files, in a box. If a file is faulty and minima are missing, the error is the fault.
+// The dictionary of a kind that files give, in a box. If a file is faulty and minima are missing, the error is the fault.
 #[tactic(auto, using(crate::proofs::OfFiles::minimum_missing))]
 fn boxed_from_files(
     alloc: Global,
@@ -113,7 +113,7 @@ fn boxed_from_files(
     }
 }
 
-/// Makes a dictionary of a kind of a file of patterns and a plain file of exceptions, in a box.
+/// Makes a dictionary of a kind from a file of patterns and a plain file of exceptions, in a box.
 ///
 /// A minimum that is not given is the one in the head of the file of patterns.
 pub fn load_patterns(

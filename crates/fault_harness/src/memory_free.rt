@@ -127,7 +127,7 @@ fn check_segments<G: Read>(tally: &mut Tally, alloc: Global, gate: &mut G) -> io
     let mut segments = word.iter().segments();
     tally.note(segments.next() == Some("hy"));
     tally.note(segments.pull() == Some("phen"));
-    tally.note(segments.len() == 2 && segments.remaining_len() == 2);
+    tally.note(segments.len() == 2 && segments.left() == 2);
     let mut copied = segments.clone()?;
     tally.note(copied.next() == Some("a"));
     tally.note(word.into_iter().len() == 4);
@@ -152,11 +152,9 @@ fn check_changed_segments<G: Read>(
             Some(item) => tally.note(matches!(item.text(), Ok("phen"))),
             None => tally.note(false),
         }
-        tally.note(borrowed.len() == 2 && borrowed.remaining_len() == 2);
+        tally.note(borrowed.len() == 2 && borrowed.left() == 2);
         let mut places = breaks.iter().copied();
-        tally.note(
-            places.remaining_len() == 3 && places.pull() == Some(2) && places.remaining_len() == 2,
-        );
+        tally.note(places.left() == 3 && places.pull() == Some(2) && places.left() == 2);
         let segments = Segments::new("hyphenation", breaks.iter().copied());
         let rest = Hyphenating::new(alloc, segments);
         tally.note(rest.len() == 4);
@@ -173,9 +171,7 @@ fn check_owned_breaks<G: Read>(tally: &mut Tally, alloc: Global, gate: &mut G) -
     let word = dictionary.hyphenate(alloc, "asszonnyal")?;
     pass_gate(gate);
     let mut places = breaks.into_iter();
-    tally.note(
-        places.remaining_len() == 3 && places.pull() == Some(2) && places.remaining_len() == 2,
-    );
+    tally.note(places.left() == 3 && places.pull() == Some(2) && places.left() == 2);
     let items = word.into_iter();
     tally.note(items.len() == 3 && items.size_hint() == (3, Some(3)));
     pass_gate(gate);

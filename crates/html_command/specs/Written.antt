@@ -22,8 +22,8 @@ HasSettingsOf args settings = (settings.mark.now ≡ args.mark) × (settings.cla
     × (settings.min_word ≡ args.min_word) × (settings.skip_capitals ≡ args.skip_capitals)
 
 -- A text is the page with the mark at each break of its words, by some dictionaries. Their languages begin with those of
--- the arguments. Without the marks it is the page, byte for byte. With soft hyphens it is done: a second run changes
--- nothing.
+-- the arguments. Without the marks it is the page, byte for byte. With soft hyphens it is done: read in the form of the
+-- page, no place is left.
 pub record IsHyphenatedPage (args : ParsedArgs) (page text : List ℕ) : Type 0 where
   pub settings : Settings
   pub dictionaries : List LanguageDictionary

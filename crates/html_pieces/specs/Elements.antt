@@ -2,7 +2,7 @@
 -- Source: HTML Living Standard, 3.2.6.2 (lang and xml:lang), 3.2.6.3 (translate), 13.1.2.4 (optional tags), 13.2.4.2 (the
 -- stack of open elements), 13.2.6 (tree construction). Simpler than the standard: an end tag of a formatting element, as
 -- `b`, closes all in that element too, and none is opened anew in the next paragraph.
-use Rattle.std.specs.Prelude.{ℕ, ◌-◌, ◌==◌, ◌||◌, ◌&&◌, Bool, true, false, not, List, [], ◌∷◌, ◌++◌, length, map, reverse, codes, nat_eq, nat_lt, Option, Some, None, if◌then◌else◌}
+use Rattle.std.specs.Prelude.{◌≡◌, ℕ, ◌-◌, ◌==◌, ◌||◌, ◌&&◌, Bool, true, false, not, List, [], ◌∷◌, ◌++◌, length, map, reverse, codes, nat_eq, nat_lt, Option, Some, None, if◌then◌else◌}
 use Rattle.std.specs.Option.{unwrap_or, option_map_or}
 use Rattle.std.specs.Cmp.Lexicographic.{pointwise}
 use Rattle.html_pieces.specs.Bytes.{is_white_space, is_same_name, is_same_in, is_xml}
@@ -214,6 +214,10 @@ elements_after form class page elements p = elements_by form class p.kind p.byte
 -- The same of elements as the code holds them, the innermost one last.
 abbrev pub as_elements : List declared.Element → List Element
 as_elements held = reverse (map as_element held)
+
+-- Open elements, as the code holds them, became those after a piece.
+abbrev pub Passes : Form → List ℕ → Element → Piece → List declared.Element → List declared.Element → Type 0
+Passes form class page p old new = as_elements new ≡ elements_after form class page (as_elements old) p
 
 -- The page as what is around all its elements.
 abbrev pub page_element : List ℕ → Element

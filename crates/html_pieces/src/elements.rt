@@ -1,6 +1,6 @@
 //! The elements that are open at a text.
 
-ghost use Rattle.std.specs.Prelude.{◌≡◌, ◌≤◌, map, take, length, IfOk, OnOk};
+ghost use Rattle.std.specs.Prelude.{◌≡◌, ◌≤◌, ◌++◌, ◌∷◌, [], map, take, length, IfOk, OnOk, OnErr};
 ghost use Rattle.std.specs.Option.{option_map};
 ghost use Rattle.html_pieces.specs.Pieces.{as_piece};
 ghost use Rattle.html_pieces.specs.Groups.{is_one_of};
@@ -10,7 +10,7 @@ ghost use Rattle.html_pieces.specs.Elements.{as_element, as_elements, left_alone
 ghost use Rattle.html_pieces.specs.Elements.{has_word, has_class, translated_by, is_translated, value_of_either};
 ghost use Rattle.html_pieces.specs.Elements.{language_value, held_language, language_by, language_of};
 ghost use Rattle.html_pieces.specs.Elements.{group_in, holds_foreign, opened, innermost, before_new, closed_as};
-ghost use Rattle.html_pieces.specs.Elements.{closed, begun_as, begun, is_closed_by_slash, elements_after};
+ghost use Rattle.html_pieces.specs.Elements.{closed, begun_as, begun, is_closed_by_slash, Passes};
 ghost use Rattle.html_pieces.specs.Elements.{page_element};
 
 use crate::bytes::{Form, is_same_in, is_same_name, is_white_space};
@@ -345,6 +345,25 @@ pub fn innermost<'t>(page: Element<'t>, elements: &[Element<'t>]) -> Element<'t>
     }
 }
 
+/// Puts an element after the first ones of a list, in place of those after them.
+fn put_after<'t>(
+    nest: &mut Vec<Element<'t>>,
+    kept: usize,
+    element: Element<'t>,
+) -> Result<(), AllocError>
+    requires { kept ≤ length nest.old.items }
+    ensures put { OnOk result (nest.new.items ≡ take kept nest.old.items ++ element.entry ∷ []) }
+    ensures unchanged_on_error { OnErr result (nest.new.items ≡ nest.old.items) }
+{
+    if kept == nest.len() {
+        nest.push(element)?;
+        return Ok(());
+    }
+    nest[kept] = element;
+    nest.truncate(kept + 1);
+    Ok(())
+}
+
 /// Opens the element of a start tag, and closes those that it ends.
 fn begin<'t>(
     nest: &mut Vec<Element<'t>>,
@@ -355,16 +374,17 @@ fn begin<'t>(
     new: Group,
     tag: &'t [u8],
 ) -> Result<(), AllocError>
-    ensures { OnOk result (as_elements nest.new.items
+    ensures begun { OnOk result (as_elements nest.new.items
         ≡ begun_as form class.now (as_element page.entry) new tag.now (as_elements nest.old.items)) }
+    ensures unchanged_on_error { OnErr result (nest.new.items ≡ nest.old.items) }
 {
     let kept = before_new(nest, new);
-    nest.truncate(kept);
-    if !is_void(new) {
-        let element = opened(alloc, form, class, innermost(page, nest), tag)?;
-        nest.push(element)?;
+    if is_void(new) {
+        nest.truncate(kept);
+        return Ok(());
     }
-    Ok(())
+    let element = opened(alloc, form, class, innermost(page, &nest[..kept]), tag)?;
+    put_after(nest, kept, element)
 }
 
 /// Whether a tag with `/>` opens no element.
@@ -374,9 +394,10 @@ fn is_closed_by_slash(form: Form, foreign: bool, name: &[u8]) -> bool
     form.is_xml() || foreign || is_foreign_root(name)
 }
 
-/// Opens and closes nest, as a piece says.
+/// Opens and closes elements of `nest`, as a piece says.
 ///
-/// The text of elements with the class `class` is left as it is. The only error is that memory was refused.
+/// The text of elements with the class `class` is left as it is. The only error is that memory was refused; `nest` is
+/// then unchanged.
 pub fn pass<'t>(
     nest: &mut Vec<Element<'t>>,
     alloc: Global,
@@ -385,9 +406,9 @@ pub fn pass<'t>(
     page: Element<'t>,
     piece: Piece<'t>,
 ) -> Result<(), AllocError>
-    ensures { OnOk result (as_elements nest.new.items
-        ≡ elements_after form class.now (as_element page.entry) (as_elements nest.old.items)
-        (as_piece piece.entry)) }
+    ensures passed { OnOk result (Passes form class.now (as_element page.entry) (as_piece piece.entry)
+        nest.old.items nest.new.items) }
+    ensures unchanged_on_error { OnErr result (nest.new.items ≡ nest.old.items) }
 {
     let tag = piece.text.as_bytes();
     let foreign = innermost(page, nest).is_foreign;

@@ -32,7 +32,7 @@ pub extern "C" fn hyphenation_load(
     c_calls::load(alloc, kind, bytes, handle, line, cause)
 }
 
-/// Makes a dictionary of a kind of LibreOffice's `.dic`. It takes the place of the dictionary that the handle held.
+/// Makes a dictionary of a kind from LibreOffice's `.dic`. It takes the place of the dictionary that the handle held.
 #[unsafe(no_mangle)]
 pub extern "C" fn hyphenation_load_dic(
     alloc: Global,
@@ -51,7 +51,7 @@ pub extern "C" fn hyphenation_load_dic(
     c_calls::load_dic(alloc, kind, code, left, right, bytes, handle, line, cause)
 }
 
-/// Makes a dictionary of a kind of a TeX file of patterns, or of a plain one, and of a plain file of exceptions.
+/// Makes a dictionary of a kind from a TeX file of patterns, or a plain one, and a plain file of exceptions.
 #[unsafe(no_mangle)]
 pub extern "C" fn hyphenation_load_patterns(
     alloc: Global,

@@ -4,7 +4,7 @@
 //! judged, and a text is whole before any of it is written.
 #![tactic(auto)]
 
-ghost use Rattle.std.specs.Prelude.{◌≡◌, ◌≢◌, ◌↔◌, Ok, Err, None, List, ℕ, IfOk, IfErr, IfSome, IsTrue, Option, OnOk, alloc_error};
+ghost use Rattle.std.specs.Prelude.{◌≡◌, ◌≢◌, ◌↔◌, Ok, Err, None, List, ℕ, IfOk, IfErr, IfSome, IsTrue, Option, OnOk, MatchResult, alloc_error};
 ghost use Rattle.std.specs.Io.KnownBytes.{IsAtEnd};
 ghost use Rattle.std.specs.IoError.{error_kind};
 ghost use Rattle.hyphenation_grammar.specs.declared.Cause.{Cause};
@@ -67,10 +67,7 @@ pub trait Load: Sized {
         ensures loaded { IfSome (R.remaining reader.old) (λ bytes. Loads (refusal bytes) (contents bytes) result) }
         ensures read_to_end { OnOk result (IsAtEnd (R.remaining reader.new)) }
         ensures no_mismatch { HasNoMismatch result }
-        ensures not_out_of_memory { IfErr result IsNotOutOfMemory }
-    {
-        Self::from_read(alloc, read_all(alloc, reader))
-    }
+        ensures not_out_of_memory { IfErr result IsNotOutOfMemory };
 
     /// Loads a dictionary of the language `lang` from all bytes that a reader has left.
     ///
@@ -100,11 +97,7 @@ pub trait Load: Sized {
     fn from_path<F: Files>(rt: &F, alloc: Global, lang: Language, path: &str) -> Result<Self>
         ensures of_some_file { LoadsSomeFile F.File.remaining refusal contents language lang result }
         ensures in_language { RespectsLanguage language lang result }
-        ensures not_out_of_memory { IfErr result IsNotOutOfMemory }
-    {
-        let mut file = fs::open(rt, path).map_err(error_of_reading)?;
-        Self::from_reader(alloc, lang, &mut file)
-    }
+        ensures not_out_of_memory { IfErr result IsNotOutOfMemory };
 
     /// Returns the canonical text of the dictionary, from which this very dictionary is loaded again.
     ///
@@ -134,11 +127,7 @@ pub trait Load: Sized {
         ensures accepted { OnOk result (refusal (canonical self.now) ≡ None) }
         ensures read_again { OnOk result (self.now ≡ contents (canonical self.now)) }
         ensures unwritten_without_memory { IfMemory result (writer.new ≡ writer.old) }
-        ensures write_error { IfErr result IsWriteError }
-    {
-        let text = self.to_text(alloc).map_err(Error::Memory)?;
-        writer.write_all(&text).map_err(Error::IO)
-    }
+        ensures write_error { IfErr result IsWriteError };
 }
 
 /// Returns all bytes that a reader has left. Any error is that of the reader.
@@ -197,6 +186,26 @@ fn error_of_reading(e: io::Error) -> Error
     Error::IO(e)
 }
 
+// Opens the file at a path.
+fn opened<F: Files>(rt: &F, path: &str) -> Result<F::File>
+    ensures { IfErr result IsReadError }
+{
+    fs::open(rt, path).map_err(error_of_reading)
+}
+
+// Writes a text that was made, or returns the error that memory for it was refused.
+fn write_if_made<W: Write>(
+    text: std::result::Result<Vec<u8>, AllocError>,
+    writer: &mut W,
+) -> Result<()>
+    ensures written { OnOk result (MatchResult text (λ text. AppendsTo W.contents writer.old writer.new text.items) (λ _. ⊥)) }
+    ensures unwritten_without_memory { IfMemory result (writer.new ≡ writer.old) }
+    ensures write_error { IfErr result IsWriteError }
+{
+    let text = text.map_err(Error::Memory)?;
+    writer.write_all(&text).map_err(Error::IO)
+}
+
 impl Load for Standard {
     ghost use Rattle.hyphenation_grammar.specs.declared.form.Kind.TheVariants.{Standard as OfStandard};
     ghost use Rattle.hyphenation_grammar.specs.Reading.{standard_contents};
@@ -221,12 +230,25 @@ impl Load for Standard {
         }
     }
 
+    fn any_from_reader<R: Read>(alloc: Global, reader: &mut R) -> Result<Standard> {
+        Self::from_read(alloc, read_all(alloc, reader))
+    }
+
     fn from_reader<R: Read>(alloc: Global, lang: Language, reader: &mut R) -> Result<Standard> {
         of_language(lang, Self::any_from_reader(alloc, reader)?)
     }
 
+    fn from_path<F: Files>(rt: &F, alloc: Global, lang: Language, path: &str) -> Result<Standard> {
+        let mut file = opened(rt, path)?;
+        Self::from_reader(alloc, lang, &mut file)
+    }
+
     fn to_text(&self, alloc: Global) -> std::result::Result<Vec<u8>, AllocError> {
         write_standard(alloc, self)
+    }
+
+    fn to_writer<W: Write>(&self, alloc: Global, writer: &mut W) -> Result<()> {
+        write_if_made(self.to_text(alloc), writer)
     }
 }
 
@@ -254,11 +276,24 @@ impl Load for Extended {
         }
     }
 
+    fn any_from_reader<R: Read>(alloc: Global, reader: &mut R) -> Result<Extended> {
+        Self::from_read(alloc, read_all(alloc, reader))
+    }
+
     fn from_reader<R: Read>(alloc: Global, lang: Language, reader: &mut R) -> Result<Extended> {
         of_language(lang, Self::any_from_reader(alloc, reader)?)
     }
 
+    fn from_path<F: Files>(rt: &F, alloc: Global, lang: Language, path: &str) -> Result<Extended> {
+        let mut file = opened(rt, path)?;
+        Self::from_reader(alloc, lang, &mut file)
+    }
+
     fn to_text(&self, alloc: Global) -> std::result::Result<Vec<u8>, AllocError> {
         write_extended(alloc, self)
+    }
+
+    fn to_writer<W: Write>(&self, alloc: Global, writer: &mut W) -> Result<()> {
+        write_if_made(self.to_text(alloc), writer)
     }
 }

@@ -38,7 +38,7 @@ pub trait Breaks: Drop {
         ensures { TakesFirst Self.Item.meaning to_come self.old result self.new };
 
     /// Returns the number of breaks to come.
-    fn remaining_len(&self) -> usize
+    fn left(&self) -> usize
         ensures { result ≡ length (to_come self.now) };
 }
 
@@ -54,7 +54,7 @@ impl<T: Break> Breaks for vec::IntoIter<T> {
         self.next()
     }
 
-    fn remaining_len(&self) -> usize {
+    fn left(&self) -> usize {
         self.len()
     }
 }
@@ -72,7 +72,7 @@ impl<'a, T: Break + Copy> Breaks for Copied<slice::Iter<'a, T>> {
         self.next()
     }
 
-    fn remaining_len(&self) -> usize {
+    fn left(&self) -> usize {
         self.len()
     }
 }
@@ -150,6 +150,6 @@ pub trait Texts: Drop {
         ensures { TakesFirstOrRefuses Self.Item.held texts self.old result self.new };
 
     /// Returns the number of texts to come.
-    fn remaining_len(&self) -> usize
+    fn left(&self) -> usize
         ensures { result ≡ length (texts self.now) };
 }

@@ -1,5 +1,6 @@
 pub mod Division
 pub mod CutPassing
+pub mod CutBack
 pub mod CutRows
 pub mod FillWalk
 pub mod Slices

@@ -1,6 +1,7 @@
 //! Whole runs, from the bytes of a dictionary and a text to the lines that are written.
 
-ghost use Rattle.std.specs.Prelude.{◌≡◌, ◌++◌, [], List, ℕ, OnOk, IfOk, IfErr, map};
+ghost use Rattle.std.specs.Prelude.{◌≡◌, ◌++◌, [], List, ℕ, OnOk, OnErr, IfOk, IfErr, map};
+ghost use Rattle.std.specs.Io.{StartsWith};
 ghost use Rattle.std.specs.String.{string_bytes};
 ghost use Rattle.hyphenation_load.specs.Load.{AppendsTo};
 ghost use Rattle.hyphenation.specs.Engine.{RunReturns, RunWrites, JudgesDictionary, JudgesEdits, JudgesText};
@@ -14,23 +15,40 @@ use hyphenation::{Language, Load, Standard};
 use std::alloc::{AllocError, Global};
 use std::io::{Read, Write};
 
-/// Appends lines to a page, each with a line feed after it.
-///
-/// The only error is that memory was refused. Some of the lines may then be appended.
-///
-/// ```text
-/// let lines = fill(alloc, &dictionary, "I know noble accents", 10)?;
-/// push_lines(&mut page, &lines)?;                                   // "I know no-\nble ac-\ncents\n"
-/// ```
-pub fn push_lines(page: &mut String, lines: &[String]) -> Result<(), AllocError>
-    ensures { OnOk result (string_bytes page.new
+// Appends lines to a page, each with a line feed after it. After an error some of the lines may be appended.
+fn push_each(page: &mut String, lines: &[String]) -> Result<(), AllocError>
+    ensures appended { OnOk result (string_bytes page.new
         ≡ string_bytes page.old ++ with_line_feeds (map string_bytes lines.now)) }
+    ensures begins_as_before { StartsWith (string_bytes page.new) (string_bytes page.old) }
 {
     for line in lines {
         page.push_str(line)?;
         page.push('\n')?;
     }
     Ok(())
+}
+
+/// Appends lines to a page, each with a line feed after it.
+///
+/// The only error is that memory was refused; the page is then unchanged.
+///
+/// ```text
+/// let lines = fill(alloc, &dictionary, "I know noble accents", 10)?;
+/// push_lines(&mut page, &lines)?;                                   // "I know no-\nble ac-\ncents\n"
+/// ```
+pub fn push_lines(page: &mut String, lines: &[String]) -> Result<(), AllocError>
+    ensures adds { OnOk result (string_bytes page.new
+        ≡ string_bytes page.old ++ with_line_feeds (map string_bytes lines.now)) }
+    ensures unchanged_on_error { OnErr result (string_bytes page.new ≡ string_bytes page.old) }
+{
+    let before = page.len();
+    match push_each(page, lines) {
+        Ok(()) => Ok(()),
+        Err(error) => {
+            page.truncate(before);
+            Err(error)
+        }
+    }
 }
 
 // The lines of a text, each with a line feed after it.

@@ -6,13 +6,13 @@ use std::io::Write;
 use test_support::io_errors::io_error;
 use test_support::readers::{FailingReader, failing_from, one_byte_reads};
 
-/// The system's code where there is no such file.
+/// The system's code of an error: there is no such file.
 pub(crate) const NOT_FOUND: i32 = 2;
 
-/// The code of what the user may not do.
+/// The system's code of an error: the user may not do this.
 pub(crate) const PERMISSION_DENIED: i32 = 13;
 
-// The code where the disk is full.
+// The system's code of an error: the disk is full.
 const NO_SPACE: i32 = 28;
 
 /// A fault of a run, with the system's code of the error. Reads and writes are counted from 1.

@@ -1,5 +1,5 @@
-//! Tests of whole runs and their errors, of lines, paragraphs and pages, and of the texts that explain words. Each name of
-//! `hyphenation` that users have is called once. No clause says what they show.
+//! Tests of whole runs and their errors, of lines, paragraphs and pages, of the texts that explain words, and of the calls
+//! for C. Each name of `hyphenation` that users have is called once. No clause says what they show.
 #![tactic(auto)]
 
 #[cfg(test)]

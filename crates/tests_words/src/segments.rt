@@ -146,7 +146,7 @@ impl<'t> Texts for SegmentsWithRefusal<'t> {
         Some(TextOrRefusal(if is_refused { None } else { Some(text) }))
     }
 
-    fn remaining_len(&self) -> usize {
+    fn left(&self) -> usize {
         self.0.len()
     }
 }
@@ -175,7 +175,7 @@ impl<B: Break + Copy> Breaks for RepeatingBreak<B> {
         }
     }
 
-    fn remaining_len(&self) -> usize {
+    fn left(&self) -> usize {
         if self.is_taken { 0 } else { 1 }
     }
 }

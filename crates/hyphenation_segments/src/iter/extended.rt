@@ -123,7 +123,7 @@ impl<'t, I: Breaks> Iterator for SegmentsExt<'t, I> {
         let start = self.start?;
         let text = self.text;
         let alloc = self.alloc;
-        if self.breaks.remaining_len() == 0 {
+        if self.breaks.left() == 0 {
             self.start = None;
             return Some(segment_between(alloc, &self.last, &text[start..], &None));
         }
@@ -155,7 +155,7 @@ impl<'t, I: Breaks> ExactSizeIterator for SegmentsExt<'t, I> {
             Some(_) => {
                 // A text has no more places than bytes, so the sum stays in range.
                 let _text_len = self.text.len();
-                self.breaks.remaining_len() + 1
+                self.breaks.left() + 1
             }
         }
     }
@@ -178,7 +178,7 @@ impl<'t, I: Breaks> Texts for SegmentsExt<'t, I> {
     }
 
     /// Returns the number of segments to come, as `len` does.
-    fn remaining_len(&self) -> usize {
+    fn left(&self) -> usize {
         self.len()
     }
 }

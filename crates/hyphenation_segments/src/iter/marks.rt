@@ -81,7 +81,7 @@ impl<'m, I: Texts> Hyphenating<'m, I> {
 fn mark_after<'m, I: Texts>(texts: &I, mark: &'m str) -> &'m str
     ensures { result.now ≡ mark_if_more mark.now (I.texts texts.now) }
 {
-    if texts.remaining_len() > 0 { mark } else { "" }
+    if texts.left() > 0 { mark } else { "" }
 }
 
 // Joins a text and its mark.
@@ -107,7 +107,7 @@ impl<'m, I: Texts> Iterator for Hyphenating<'m, I> {
     /// are not affected. After the last text it takes nothing more from the iterator inside.
     fn next(&mut self) -> Option<Result<String, AllocError>> {
         let alloc = self.alloc;
-        if self.inner.remaining_len() == 0 {
+        if self.inner.left() == 0 {
             return None;
         }
         let segment = self.inner.pull()?;
@@ -132,7 +132,7 @@ impl<'m, I: Texts> Iterator for Hyphenating<'m, I> {
 impl<'m, I: Texts> ExactSizeIterator for Hyphenating<'m, I> {
     /// Returns the number of texts to come.
     fn len(&self) -> usize {
-        self.inner.remaining_len()
+        self.inner.left()
     }
 }
 

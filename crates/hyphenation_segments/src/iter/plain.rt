@@ -71,7 +71,7 @@ impl<'t, I: Breaks<Item = usize>> Iterator for Segments<'t, I> {
     fn next(&mut self) -> Option<&'t str> {
         let start = self.start?;
         let text = self.text;
-        if self.breaks.remaining_len() == 0 {
+        if self.breaks.left() == 0 {
             self.start = None;
             return Some(&text[start..]);
         }
@@ -99,7 +99,7 @@ impl<'t, I: Breaks<Item = usize>> ExactSizeIterator for Segments<'t, I> {
             Some(_) => {
                 // A text has no more places than bytes, so the sum stays in range.
                 let _text_len = self.text.len();
-                self.breaks.remaining_len() + 1
+                self.breaks.left() + 1
             }
         }
     }
@@ -119,7 +119,7 @@ impl<'t, I: Breaks<Item = usize>> Texts for Segments<'t, I> {
     }
 
     /// Returns the number of segments to come, as `len` does.
-    fn remaining_len(&self) -> usize {
+    fn left(&self) -> usize {
         self.len()
     }
 }

@@ -19,7 +19,7 @@ loop-i-preserved c =
     (c.text_touched_after-after.ensures ∙ ap (λ xs. is_text c.piece_at-piece.result.kind && touched_after (map as_piece xs)) (take_all _ rest (omega (arith, length-drop (c.loop-i.i + 1) c.args.pieces.now))))
     (c.innermost-element.ensures ∙ ap (λ xs. elements.innermost (as_element c.args.around) (as_elements xs)) c.deref.ensures.value)
     c.in_ok-push_piece.ensures
-    (c.in_ok-pass.ensures ∙ ap (λ class. elements.elements_after c.args.form class (as_element c.args.around) (as_elements c.loop-i.elements.items) (as_piece c.piece_at-piece.result)) c.as_bytes.ensures.value)
+    (c.in_ok-pass.ensures.passed ∙ ap (λ class. elements.elements_after c.args.form class (as_element c.args.around) (as_elements c.loop-i.elements.items) (as_piece c.piece_at-piece.result)) c.as_bytes.ensures.value)
     c.touched_before-before.ensures
 
 pub returns : goal.returns

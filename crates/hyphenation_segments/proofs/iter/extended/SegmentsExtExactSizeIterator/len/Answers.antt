@@ -3,8 +3,8 @@ use Rattle.hyphenation_segments.proofs.SegmentSteps.{made_fits, made_left}
 use Rattle.hyphenation_segments.proofs.iter.extended.SegmentsExtExactSizeIterator.len.Goals as goal
 
 pub overflow_add-result : goal.overflow_add-result
-overflow_add-result g c = omega (arith, c.self.told.1, c.remaining_len.ensures, made_fits _ _ _ _ _ c.in-Some.is c.self.invariant)
+overflow_add-result g c = omega (arith, c.self.told.1, c.left.ensures, made_fits _ _ _ _ _ c.in-Some.is c.self.invariant)
 
 pub returns-in-Some-clause-value : goal.returns-in-Some-clause-value
 returns-in-Some-clause-value g c =
-    ap (λ n. n + 1) c.remaining_len.ensures ∙ sym (made_left _ _ _ _ _ c.in-Some.is) ∙ ap length c.self.view_is
+    ap (λ n. n + 1) c.left.ensures ∙ sym (made_left _ _ _ _ _ c.in-Some.is) ∙ ap length c.self.view_is
