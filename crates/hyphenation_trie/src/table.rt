@@ -77,7 +77,7 @@ impl Table {
 
 /// Makes a table of an automaton, or returns `None` where there can be none of this form.
 ///
-/// That is so if an entry is more than 15 bytes before its key's end, if the rows would have more than 4,194,304 cells, if
+/// That is so if an entry is more than 15 bytes before its key's end, if the rows would have 4,194,304 cells or more, if
 /// there are more than 4,096 vectors, or if all 256 bytes are in keys. The only error is out of memory.
 pub fn make_table<C: Drop>(
     alloc: Global,

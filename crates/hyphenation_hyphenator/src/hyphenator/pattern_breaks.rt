@@ -213,7 +213,14 @@ pub(super) fn plain_breaks(
     if count <= 62 {
         // The values of most words stand on the stack.
         let mut values = [0u8; 80];
-        return plain_breaks_with_buffer(patterns, table, word, &mut values[..count + 18], bounds, places);
+        return plain_breaks_with_buffer(
+            patterns,
+            table,
+            word,
+            &mut values[..count + 18],
+            bounds,
+            places,
+        );
     }
     let mut values = vec![in *places.allocator(); 0u8; count + 18]?;
     plain_breaks_with_buffer(patterns, table, word, &mut values, bounds, places)
