@@ -1,5 +1,5 @@
 -- The tag of each listed word's slot stands for the word.
-use Rattle.std.proofs.Common.{◌≡◌, ℕ, ◌<◌, true, List, length, sym, ap, ◌∙◌, replicate, arith}
+use Rattle.std.proofs.Common.{◌≡◌, ℕ, true, List, length, sym, ap, ◌∙◌, replicate, arith}
 use Rattle.std.specs.List.{slice_index}
 use Rattle.std.specs.Ordering.{nat_cmp}
 use Rattle.std.specs.Cmp.Lexicographic.{slice_cmp}

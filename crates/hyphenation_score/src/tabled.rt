@@ -67,8 +67,8 @@ fn store(last: u8x16, list: &mut [u8], at: usize)
 
 /// Finds the values of a word's places, in one pass over its frame by a table of the keys.
 ///
-/// The list has 18 bytes more than the word, and the values come after its first 16 bytes. What the other bytes hold then is
-/// not said. One look-up is counted for each byte of the frame, and one report for each occurrence of a key.
+/// The list has 18 bytes more than the word, and the values come after its first 16 bytes. The other bytes may hold anything
+/// then. One look-up is counted for each byte of the frame, and one report for each occurrence of a key.
 #[inline(always)]
 pub fn find_values<C: Drop>(
     automaton: &Automaton<Entry<C>>,
@@ -126,8 +126,8 @@ fn find_by_links<C: Drop>(
 
 /// Puts the values of a word's places into a list, by a table of the keys if there is one.
 ///
-/// The list has 18 bytes more than the word, and the values come after its first 16 bytes. What the other bytes hold then is
-/// not said. Each node of the automaton but the root must begin a key. Look-ups and reports are counted.
+/// The list has 18 bytes more than the word, and the values come after its first 16 bytes. The other bytes may hold anything
+/// then. Each node of the automaton but the root must begin a key. Look-ups and reports are counted.
 #[inline(always)]
 pub fn put_values<C: Drop>(
     automaton: &Automaton<Entry<C>>,

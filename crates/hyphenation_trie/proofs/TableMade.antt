@@ -8,7 +8,7 @@ use Rattle.hyphenation_trie.specs.Links.{EndsWith}
 use Rattle.hyphenation_trie.specs.Private.Known.{AreClasses, AreKnown, AreRows, HasChild, IsCellTo, IsLongestInner}
 use Rattle.hyphenation_trie.specs.Tables.{IsStepTo, IsTable, IsTail, cell_at}
 use Rattle.hyphenation_trie.specs.Trie.{Tree, node_text, entries_of_key, IsTrie}
-use Rattle.hyphenation_trie.specs.Vectors.{AreNear, AreNearEntries, IsVector, greatest_of, keys_at_end}
+use Rattle.hyphenation_trie.specs.Vectors.{AreNear, AreNearEntries, IsVector, greatest_of}
 use Rattle.hyphenation_trie.specs.declared.table.Table.{Table}
 use Rattle.hyphenation_trie.proofs.KeyNodes.{node_of_key}
 use Rattle.hyphenation_trie.proofs.Tails.{Ends-drop, entries_same, count_same, none_longer}

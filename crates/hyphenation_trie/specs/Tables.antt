@@ -62,3 +62,8 @@ pub record IsRead {C : Type 0} (keys : Patterns C) (table : Table) (text : List 
   pub goes_on : GoesOn keys table next text
   pub vector : IsVector keys text (slice_index_or table.vectors.items number [])
   pub counted : slice_index table.counts.items number ≡ keys_at_end keys text
+
+-- A step by a byte, from each text that the row goes on from, led to the right row and to the right vector.
+abbrev pub ReadsOn : {C : Type 0} → Patterns C → Table → ℕ → ℕ → ℕ → ℕ → Type 0
+ReadsOn keys table start byte next number =
+    (text : List ℕ) → GoesOn keys table start text → IsRead keys table (text ++ byte ∷ []) next number

@@ -4,8 +4,8 @@
 //! to the row of the longest such text that ends the row's text with the byte, and to the vector of that text with the byte:
 //! the greatest values that the keys which end there give to the 16 last places.
 
-ghost use Rattle.std.specs.Prelude.{◌≡◌, ◌+◌, ◌<◌, ◌^◌, ◌++◌, ◌∷◌, [], List, ℕ, length, slice_index, slice_index_or, IfOk, IfSome};
-ghost use Rattle.hyphenation_trie.specs.Tables.{GoesOn, IsRead, IsTableOf};
+ghost use Rattle.std.specs.Prelude.{◌≡◌, ◌+◌, ◌<◌, ◌^◌, List, ℕ, [], length, slice_index, slice_index_or, IfOk, IfSome};
+ghost use Rattle.hyphenation_trie.specs.Tables.{GoesOn, IsTableOf, ReadsOn};
 ghost use Rattle.hyphenation_trie.specs.Trie.{entries_of_key};
 
 mod classes;
@@ -49,8 +49,7 @@ impl Table {
     ) -> (usize, usize)
         requires row { (text : List ℕ) × GoesOn (entries_of_key automaton.now) self.now start text }
         requires room { count.old.made + 1 < 2 ^ 128 }
-        ensures read { (text : List ℕ) → GoesOn (entries_of_key automaton.now) self.now start text
-            → IsRead (entries_of_key automaton.now) self.now (text ++ byte ∷ []) result.0 result.1 }
+        ensures read { ReadsOn (entries_of_key automaton.now) self.now start byte result.0 result.1 }
         ensures number { result.1 < length self.now.vectors.items }
         ensures counts { length self.now.counts.items ≡ length self.now.vectors.items }
         ensures counted { count.new ≡ record count.old { made = count.old.made + 1 } }
@@ -77,7 +76,7 @@ impl Table {
 
 /// Makes a table of an automaton, or returns `None` where there can be none of this form.
 ///
-/// That is so if an entry is more than 15 bytes before its key's end, if the rows would have 4,194,304 cells or more, if
+/// There is none if an entry is more than 15 bytes before its key's end, if the rows would have 4,194,304 cells or more, if
 /// there are more than 4,096 vectors, or if all 256 bytes are in keys. The only error is out of memory.
 pub fn make_table<C: Drop>(
     alloc: Global,

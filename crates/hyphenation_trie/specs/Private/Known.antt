@@ -1,4 +1,4 @@
--- What is known of the nodes of a trie while a table is made of it.
+-- The facts that are known of the nodes of a trie while a table is made of it.
 use Rattle.std.specs.Prelude.{◌≡◌, ℕ, ◌+◌, ◌*◌, ◌/◌, ◌%◌, ◌<◌, ◌≤◌, ◌==◌, max, List, [], ◌∷◌, ◌++◌, length, filter, slice_index, slice_index_or, Some}
 use Rattle.hyphenation_breaks.specs.Dictionary.{Patterns}
 use Rattle.hyphenation_breaks.specs.declared.entry.Entry.{Entry}
@@ -12,13 +12,13 @@ pub record IsRaisedBy {C : Type 0} (old new : List ℕ) (entries : List (Entry C
   pub each : (lane distance : ℕ) → lane + distance ≡ 15
       → slice_index new lane ≡ max (slice_index old lane) (greatest_of (filter (λ entry. entry.place + distance == bytes) entries))
 
--- What is known of a text: its vector, the number of keys that end it, and that its entries are near if it is a key.
+-- A text is known: its vector, the number of keys that end it, and that its entries are near if it is a key.
 pub record IsKnown {C : Type 0} (keys : Patterns C) (text values : List ℕ) (count : ℕ) : Type 0 where
   pub vector : IsVector keys text values
   pub counted : count ≡ keys_at_end keys text
   pub near : (entries : List (Entry C)) → 0 < length text → keys text ≡ Some entries → AreNearEntries entries (length text)
 
--- What is known of a node is at its number.
+-- A node is known by its number.
 pub record IsKnownNode {C : Type 0} (tree : Tree (Entry C)) (numbers : List ℕ) (vectors : List (List ℕ)) (counts : List ℕ)
     (node : ℕ) : Type 0 where
   pub within : slice_index numbers node < length vectors

@@ -21,7 +21,7 @@ KeepsPairs old_vectors old_counts vectors counts =
     (k : ℕ) → k < length old_vectors
     → IsPairAt vectors counts k (slice_index_or old_vectors k []) (slice_index old_counts k)
 
--- What is known of the node is at this number.
+-- The node is known by this number.
 pub record IsKnownAt {C : Type 0} (tree : Tree (Entry C)) (vectors : List (List ℕ)) (counts : List ℕ) (number node : ℕ)
     : Type 0 where
   pub within : number < length vectors

@@ -35,7 +35,7 @@ const SLOTS: usize = 8192;
 // The number of slots that a search reads at most. A pair that is not found by then is added once more, which is no error.
 const TRIES: usize = 64;
 
-// What a free slot holds: the number of no pair.
+// A free slot holds this, which is the number of no pair.
 const FREE: u32 = u32::MAX;
 
 // Returns a vector raised to the values of the entries of a key with so many bytes. `None` if an entry is more than 15 bytes

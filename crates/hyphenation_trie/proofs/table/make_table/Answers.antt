@@ -1,4 +1,4 @@
-use Rattle.std.proofs.Common.{ℕ, List, subst, ◌∙◌}
+use Rattle.std.proofs.Common.{ℕ, List, subst}
 use Rattle.hyphenation_trie.specs.Private.Known.{AreClasses, AreKnown, AreRows}
 use Rattle.hyphenation_trie.specs.declared.table.Table.{Table}
 use Rattle.hyphenation_trie.proofs.TableMade.{row_texts, table_is}

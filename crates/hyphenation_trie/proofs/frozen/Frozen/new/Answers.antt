@@ -1,9 +1,7 @@
-use Rattle.std.proofs.Common.{◌∙◌, ◌≡◌, ℕ, List, None, Option, length, map, get_or, sym, ap, arith, subst}
+use Rattle.std.proofs.Common.{◌∙◌, ℕ, List, length, map, get_or, ap}
 use Rattle.std.proofs.lemmas.List.{length-map, length-replicate}
-use Rattle.hyphenation_trie.specs.Private.States.{no_reports, links_with, HasStates, froms_by, span_in}
-use Rattle.hyphenation_trie.specs.Trie.{Tree}
-use Rattle.hyphenation_trie.specs.Private.Trie.{tree_of, IsWithin}
-use Rattle.hyphenation_trie.specs.declared.state.Span.{Span}
+use Rattle.hyphenation_trie.specs.Private.States.{no_reports, links_with, froms_by, span_in}
+use Rattle.hyphenation_trie.specs.Private.Trie.{tree_of}
 use Rattle.hyphenation_trie.specs.declared.frozen.Reports.{Reports}
 use Rattle.hyphenation_trie.proofs.FrozenTrie.{frozen_is}
 use Rattle.hyphenation_trie.proofs.States.{spans_within, reports_none}
