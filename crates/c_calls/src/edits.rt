@@ -13,7 +13,7 @@ use hyphenation_dictionary::dictionary::{Extended, Standard};
 use hyphenation_grammar::form::Kind;
 use hyphenation_load::Load;
 use hyphenation_reader::edits::apply_edit;
-use hyphenation_reader::reader::{read_extended, read_standard};
+use hyphenation_reader::reader::{Refusal, read_extended, read_standard};
 use std::alloc::{AllocError, Global};
 use std::sync::Arc;
 
@@ -24,7 +24,9 @@ pub(crate) fn copy_of_standard(dictionary: &Standard, alloc: Global) -> Result<S
     let text = dictionary.to_text(alloc)?;
     match read_standard(alloc, &text) {
         Ok(copy) => Ok(copy),
-        Err(_) => Err(AllocError),
+        Err(Refusal::Memory) => Err(AllocError),
+        // The text of a dictionary has no fault.
+        Err(Refusal::Fault { line: _, cause: _ }) => unreachable!(),
     }
 }
 
@@ -35,7 +37,9 @@ fn copy_of_extended(dictionary: &Extended, alloc: Global) -> Result<Extended, Al
     let text = dictionary.to_text(alloc)?;
     match read_extended(alloc, &text) {
         Ok(copy) => Ok(copy),
-        Err(_) => Err(AllocError),
+        Err(Refusal::Memory) => Err(AllocError),
+        // The text of a dictionary has no fault.
+        Err(Refusal::Fault { line: _, cause: _ }) => unreachable!(),
     }
 }
 

@@ -6,7 +6,7 @@ use linefill::fill;
 use std::alloc::{AllocError, Global};
 use std::test::Fail;
 use test_dictionaries::load;
-use test_support::{expect, expect_text_in};
+use test_support::{CallError, expect, expect_text_in};
 
 // The lines of a text by a dictionary, with a bar between them.
 fn filled_with_bars(
@@ -14,7 +14,7 @@ fn filled_with_bars(
     dictionary: &str,
     text: &str,
     columns: usize,
-) -> Result<String, Fail> {
+) -> Result<String, CallError> {
     let dictionary: Standard = load(alloc, dictionary)?;
     let lines = fill(alloc, &dictionary, text, columns)?;
     Ok(joined_by_bars(alloc, &lines)?)

@@ -4,7 +4,7 @@ use hyphenation_html::{AnyDictionary, LanguageDictionary, Settings, hyphenate_ht
 use std::alloc::{AllocError, Global};
 use std::test::Fail;
 use test_dictionaries::{extended, standard};
-use test_support::expect_text_in;
+use test_support::{CallError, expect_text_in};
 
 // Adds a dictionary for a code.
 fn add(
@@ -20,7 +20,7 @@ fn add(
 
 // The dictionaries of all tests. English breaks `fir-kin`, German `fi-rk-in`, and Hungarian `asz-szo-nnyal`, where the
 // first break changes letters.
-fn languages(alloc: Global) -> Result<Vec<LanguageDictionary>, Fail> {
+fn languages(alloc: Global) -> Result<Vec<LanguageDictionary>, CallError> {
     let mut languages = Vec::new(alloc);
     let english = standard(alloc, "2 3", "e firkin 3")?;
     add(
@@ -42,7 +42,7 @@ fn languages(alloc: Global) -> Result<Vec<LanguageDictionary>, Fail> {
 }
 
 // A page in English with its marks.
-fn hyphenated(alloc: Global, settings: &Settings<'_>, page: &str) -> Result<String, Fail> {
+fn hyphenated(alloc: Global, settings: &Settings<'_>, page: &str) -> Result<String, CallError> {
     let languages = languages(alloc)?;
     Ok(hyphenate_html(alloc, &languages, "en", settings, page)?)
 }
@@ -258,7 +258,7 @@ fn a_page_has_marks_in_its_text_alone(rt: HostRuntime) -> Result<(), Fail> {
 }
 
 // A page with its soft hyphens, after two runs.
-fn twice(alloc: Global, page: &str) -> Result<String, Fail> {
+fn twice(alloc: Global, page: &str) -> Result<String, CallError> {
     let settings = Settings::new();
     let once = hyphenated(alloc, &settings, page)?;
     hyphenated(alloc, &settings, &once)

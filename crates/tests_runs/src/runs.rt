@@ -8,7 +8,7 @@ use std::alloc::{AllocError, Global};
 use std::io::{Read, Write};
 use std::test::Fail;
 use test_dictionaries::{AMERICAN, DOUBLED, FIRKIN, dictionary};
-use test_support::{expect_equal_bytes, expect_text, expect_text_in, repeated};
+use test_support::{CallError, expect_equal_bytes, expect_text, expect_text_in, repeated};
 
 /// The text that a run writes.
 #[derive(Clone, Copy)]
@@ -51,7 +51,7 @@ pub(crate) fn run_task<D: Read, I: Read, O: Write>(
     dictionary: &mut D,
     input: &mut I,
     output: &mut O,
-) -> Result<String, Fail> {
+) -> Result<String, CallError> {
     let lang = Language::from_code(code).ok_or("a code")?;
     let end = match task {
         Task::Text(kind, edits, mark) => {

@@ -8,7 +8,7 @@ use hyphenation_score::Score;
 use std::alloc::{AllocError, Global};
 use std::test::Fail;
 use test_dictionaries::{extended, load};
-use test_support::{expect_equal_in, expect_text, expect_text_in};
+use test_support::{CallError, expect_equal_in, expect_text, expect_text_in};
 
 /// A dictionary of either kind, which scores words.
 pub trait Scored: Load + Drop {
@@ -98,7 +98,11 @@ fn values_of<D: Scored>(
 }
 
 // The values of words by the dictionary of this text. If its table gives others, these follow.
-fn values_of_kind<D: Scored>(alloc: Global, text: &str, words: &[&str]) -> Result<String, Fail> {
+fn values_of_kind<D: Scored>(
+    alloc: Global,
+    text: &str,
+    words: &[&str],
+) -> Result<String, CallError> {
     let mut dictionary = load::<D>(alloc, text)?;
     let mut found = values_of(alloc, &dictionary, words)?;
     if dictionary.add_table(alloc)? {
@@ -117,7 +121,12 @@ pub fn is_extended(text: &str) -> bool {
 }
 
 /// The values of words by the dictionary whose text is this head and these lines, a comma after those of each word.
-pub fn values_by(alloc: Global, head: &str, lines: &str, words: &[&str]) -> Result<String, Fail> {
+pub fn values_by(
+    alloc: Global,
+    head: &str,
+    lines: &str,
+    words: &[&str],
+) -> Result<String, CallError> {
     let text = format!(in alloc; "{head}{lines}")?;
     if is_extended(&text) {
         values_of_kind::<Extended>(alloc, &text, words)

@@ -8,9 +8,9 @@ use std::io;
 use std::io::Read;
 use std::test::Fail;
 use test_dictionaries::{SMALLEST, expect_outcome, loading_outcome};
-use test_support::expect_text_in;
 use test_support::io_errors::{CONNECTION_RESET, INTERRUPTED, OUT_OF_MEMORY, io_error};
 use test_support::readers::{failing_from, failing_once};
+use test_support::{CallError, expect_text_in};
 
 // The message of a connection that was reset.
 const RESET: &str = "Connection reset by peer (os error 104)";
@@ -177,7 +177,11 @@ fn outcome_from<D: Load + Drop, R: Read>(
 }
 
 // The outcome of loading a row's text where the read of this number fails.
-fn outcome_at<D: Load + Drop>(alloc: Global, row: &Row, number: usize) -> Result<String, Fail> {
+fn outcome_at<D: Load + Drop>(
+    alloc: Global,
+    row: &Row,
+    number: usize,
+) -> Result<String, CallError> {
     let language = Language::from_code(row.language).ok_or("a code")?;
     let outcome = match row.fails {
         Fails::Once => outcome_from::<D, _>(

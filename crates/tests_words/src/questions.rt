@@ -11,7 +11,7 @@ use hyphenation_segments::iter::{Hyphenating, Texts};
 use std::alloc::{AllocError, Global};
 use std::test::Fail;
 use test_dictionaries::{extended, standard};
-use test_support::expect_text_in;
+use test_support::{CallError, expect_text_in};
 
 /// A question to a dictionary. Words are separated by spaces; bounds and places are numbers of bytes.
 #[derive(Clone, Copy)]
@@ -250,11 +250,11 @@ pub fn answer_of_extended(
 }
 
 /// The answer of a loaded standard dictionary, or the error of loading it.
-pub fn ask_standard<E: Into<Fail>>(
+pub fn ask_standard<E: Into<CallError>>(
     alloc: Global,
     dictionary: Result<Standard, E>,
     question: Question<'_>,
-) -> Result<String, Fail> {
+) -> Result<String, CallError> {
     match dictionary {
         Ok(dictionary) => Ok(answer_of_standard(alloc, &dictionary, question)?),
         Err(error) => Err(error.into()),
@@ -262,11 +262,11 @@ pub fn ask_standard<E: Into<Fail>>(
 }
 
 /// The answer of a loaded extended dictionary, or the error of loading it.
-pub fn ask_extended<E: Into<Fail>>(
+pub fn ask_extended<E: Into<CallError>>(
     alloc: Global,
     dictionary: Result<Extended, E>,
     question: Question<'_>,
-) -> Result<String, Fail> {
+) -> Result<String, CallError> {
     match dictionary {
         Ok(dictionary) => Ok(answer_of_extended(alloc, &dictionary, question)?),
         Err(error) => Err(error.into()),

@@ -18,7 +18,7 @@ use std::alloc::{AllocError, Global};
 use std::iter::Copied;
 use std::slice;
 use std::test::Fail;
-use test_support::expect_text_in;
+use test_support::{CallError, expect_text_in};
 
 // Callers of the iterators, which are proved with the tests.
 
@@ -189,16 +189,20 @@ fn repeating_break<B: Break + Copy>(place: B) -> RepeatingBreak<B>
     }
 }
 
-fn word_of<'t>(alloc: Global, text: &'t str, breaks: &[usize]) -> Result<Word<'t, usize>, Fail> {
+fn word_of<'t>(
+    alloc: Global,
+    text: &'t str,
+    breaks: &[usize],
+) -> Result<Word<'t, usize>, CallError> {
     if Word::fits(text, breaks) {
         Ok(Word::new(text, Vec::from_slice(alloc, breaks)?))
     } else {
-        Err(Fail::from("the breaks do not fit"))
+        Err(CallError::from("the breaks do not fit"))
     }
 }
 
 // The segments of a word, with a bar between each two.
-fn joined_by_bars(alloc: Global, text: &str, breaks: &[usize]) -> Result<String, Fail> {
+fn joined_by_bars(alloc: Global, text: &str, breaks: &[usize]) -> Result<String, CallError> {
     let segments = left_unmarked(alloc, word_of(alloc, text, breaks)?)?;
     let mut joined = String::new(alloc);
     for (number, segment) in segments.iter().enumerate() {
@@ -211,7 +215,7 @@ fn joined_by_bars(alloc: Global, text: &str, breaks: &[usize]) -> Result<String,
 }
 
 // The segments of a word with their marks, and a space between each two.
-fn joined_by_spaces(alloc: Global, text: &str, breaks: &[usize]) -> Result<String, Fail> {
+fn joined_by_spaces(alloc: Global, text: &str, breaks: &[usize]) -> Result<String, CallError> {
     let list = all_marked(alloc, word_of(alloc, text, breaks)?)?;
     let mut joined = String::new(alloc);
     for (number, item) in list.iter().enumerate() {
@@ -224,12 +228,12 @@ fn joined_by_spaces(alloc: Global, text: &str, breaks: &[usize]) -> Result<Strin
 }
 
 // The next segment with its mark.
-fn next<I: Texts>(items: &mut Hyphenating<'_, I>) -> Result<String, Fail> {
+fn next<I: Texts>(items: &mut Hyphenating<'_, I>) -> Result<String, CallError> {
     Ok(items.next().ok_or("none")??)
 }
 
 // The first item of a word, the second one with a new mark, and the segment after it.
-fn with_new_mark(alloc: Global, text: &str, breaks: &[usize]) -> Result<String, Fail> {
+fn with_new_mark(alloc: Global, text: &str, breaks: &[usize]) -> Result<String, CallError> {
     let word = word_of(alloc, text, breaks)?;
     let mut items = word.iter();
     let first = next(&mut items)?;
@@ -240,7 +244,7 @@ fn with_new_mark(alloc: Global, text: &str, breaks: &[usize]) -> Result<String, 
 }
 
 // The first item of a word, and the number of the items of a copy that is made then, with their text.
-fn copy_midway(alloc: Global, text: &str, breaks: &[usize]) -> Result<String, Fail> {
+fn copy_midway(alloc: Global, text: &str, breaks: &[usize]) -> Result<String, CallError> {
     let word = word_of(alloc, text, breaks)?;
     let mut items = word.iter();
     let first = next(&mut items)?;
@@ -276,13 +280,13 @@ fn trace_segments<B: Breaks<Item = usize>>(
 }
 
 // The items that the segments of a word return at three calls.
-fn trace_word(alloc: Global, text: &str, breaks: &[usize]) -> Result<String, Fail> {
+fn trace_word(alloc: Global, text: &str, breaks: &[usize]) -> Result<String, CallError> {
     let word = word_of(alloc, text, breaks)?;
     Ok(trace_segments(alloc, word.iter().segments(), 3)?)
 }
 
 // The size hints of a word's segments, before the first one and after each.
-fn size_hints_of_word(alloc: Global, text: &str, breaks: &[usize]) -> Result<String, Fail> {
+fn size_hints_of_word(alloc: Global, text: &str, breaks: &[usize]) -> Result<String, CallError> {
     let word = word_of(alloc, text, breaks)?;
     let calls = breaks.len().saturating_add(2);
     Ok(size_hints(alloc, &mut word.iter().segments(), calls)?)
@@ -312,11 +316,11 @@ fn size_hints<B: Breaks<Item = usize>>(
 }
 
 // The items that the segments of a text return at seven calls, where the break at this place repeats.
-fn trace_repeating_break(alloc: Global, text: &str, place: usize) -> Result<String, Fail> {
+fn trace_repeating_break(alloc: Global, text: &str, place: usize) -> Result<String, CallError> {
     if Word::fits(text, &[place]) {
         Ok(trace_segments(alloc, Segments::new(text, repeating_break(place)), 7)?)
     } else {
-        Err(Fail::from("the break does not fit"))
+        Err(CallError::from("the break does not fit"))
     }
 }
 
@@ -338,13 +342,17 @@ fn trace_changed_segments<B: Breaks>(
 }
 
 // The items that the changed segments of a text return at seven calls, where the break at this place repeats.
-fn trace_changed_repeating_break(alloc: Global, text: &str, place: usize) -> Result<String, Fail> {
+fn trace_changed_repeating_break(
+    alloc: Global,
+    text: &str,
+    place: usize,
+) -> Result<String, CallError> {
     let pair: (usize, Option<&Subregion>) = (place, None);
     if Word::fits(text, &[pair]) {
         let segments = SegmentsExt::new(alloc, text, repeating_break(pair));
         Ok(trace_changed_segments(alloc, segments)?)
     } else {
-        Err(Fail::from("the break does not fit"))
+        Err(CallError::from("the break does not fit"))
     }
 }
 
@@ -366,36 +374,40 @@ fn trace_marked_segments<I: Texts>(
 }
 
 // The items that the marked segments of a text return at seven calls, where the break at this place repeats.
-fn trace_marked_repeating_break(alloc: Global, text: &str, place: usize) -> Result<String, Fail> {
+fn trace_marked_repeating_break(
+    alloc: Global,
+    text: &str,
+    place: usize,
+) -> Result<String, CallError> {
     if Word::fits(text, &[place]) {
         let items = Hyphenating::new(alloc, Segments::new(text, repeating_break(place)));
         Ok(trace_marked_segments(alloc, items, 7)?)
     } else {
-        Err(Fail::from("the break does not fit"))
+        Err(CallError::from("the break does not fit"))
     }
 }
 
 // The items that the marked segments of a word return at five calls, of which the last but one is refused.
-fn trace_refused_segment(alloc: Global, text: &str, breaks: &[usize]) -> Result<String, Fail> {
+fn trace_refused_segment(alloc: Global, text: &str, breaks: &[usize]) -> Result<String, CallError> {
     let word = word_of(alloc, text, breaks)?;
     let items = Hyphenating::new(alloc, SegmentsWithRefusal(word.iter().segments()));
     Ok(trace_marked_segments(alloc, items, 5)?)
 }
 
 // The joined segments of a text, their number, and the number that a caller promises.
-fn join_and_count(alloc: Global, text: &str, breaks: &[usize]) -> Result<String, Fail> {
+fn join_and_count(alloc: Global, text: &str, breaks: &[usize]) -> Result<String, CallError> {
     if Word::fits(text, breaks) {
         let joined = joined_segments(alloc, text, breaks)?;
         let all = all_segments(alloc, text, breaks)?.len();
         let number = number_of_segments(text, Vec::from_slice(alloc, breaks)?);
         Ok(format!(in alloc; "{joined} {all} {number}")?)
     } else {
-        Err(Fail::from("the breaks do not fit"))
+        Err(CallError::from("the breaks do not fit"))
     }
 }
 
 // The joined items of a word with a mark, their number, and the number that a caller promises.
-fn mark_and_count(alloc: Global, text: &str, breaks: &[usize]) -> Result<String, Fail> {
+fn mark_and_count(alloc: Global, text: &str, breaks: &[usize]) -> Result<String, CallError> {
     let word = word_of(alloc, text, breaks)?;
     let number = number_of_marked_segments(&word);
     let joined = marked_word(alloc, word.try_clone(alloc)?, "=")?;
@@ -430,7 +442,7 @@ enum Asked {
     Appended,
 }
 
-fn answer(alloc: Global, asked: Asked, text: &str, breaks: &[usize]) -> Result<String, Fail> {
+fn answer(alloc: Global, asked: Asked, text: &str, breaks: &[usize]) -> Result<String, CallError> {
     let first = breaks.first().copied().unwrap_or(0);
     match asked {
         Asked::Segments => joined_by_bars(alloc, text, breaks),
