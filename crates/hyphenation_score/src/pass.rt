@@ -1,7 +1,8 @@
 //! One pass over the frame of a word, in which the entries of the dictionary's keys compete for the word's places.
 //!
-//! The pass meets each key where it ends, and of the keys that end there the longest first. What a place keeps of the
-//! entries that bear on it is up to its slot.
+//! The pass meets each key where it ends; of the keys that end at one byte it meets the longest first. Each place has a
+//! slot, and the type of the slots decides what is kept of the entries that bear on a place: the greatest value, or the
+//! entry that wins.
 
 ghost use Rattle.std.specs.Prelude.{◌≡◌, ◌+◌, ◌-◌, ◌*◌, ◌<◌, ◌≤◌, ◌^◌, ◌++◌, ◌∷◌, [], length};
 ghost use Rattle.hyphenation_trie.specs.Links.{IsLongest, keys_in};
@@ -14,11 +15,11 @@ use hyphenation_breaks::entry::Entry;
 use hyphenation_trie::laws::{keys_have_nodes, longest_goes_on};
 use hyphenation_trie::{Automaton, LookUps};
 
-// What a place keeps of the entries that have borne on it so far.
+// A slot keeps something of the entries that have borne on its place so far.
 pub(super) trait Slot<'d, C> {
     ghost use Rattle.hyphenation_breaks.specs.declared.entry.Entry.{Entry};
 
-    // What is known of the slot.
+    // The facts that are known of a slot.
     ghost State: { Type 0 };
 
     // The state of a slot.
