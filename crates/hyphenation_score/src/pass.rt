@@ -48,11 +48,9 @@ fn compete_at_place<'d, C, S: Slot<'d, C>>(
     ensures { AreAfter S.meaning S.after slots.old (bearing (entry.now ∷ []) (end - depth)) slots.new }
 {
     // The frame has a dot before the word, and the first place comes after the word's first byte. The difference from the
-    // end is the same for all keys that end there, so it is taken first.
-    let at = end
-        .wrapping_sub(2)
-        .wrapping_sub(depth)
-        .wrapping_add(entry.place as usize);
+    // end is the same for all keys that end there, so it is taken first. The place is read before it, which saves a jump.
+    let place = entry.place as usize;
+    let at = end.wrapping_sub(2).wrapping_sub(depth).wrapping_add(place);
     if at < slots.len() {
         slots[at].compete(entry);
     }
