@@ -22,10 +22,10 @@ use command_line::{VERSION, write_help_or_version};
 use dictionaries::load_for_page;
 pub use failure::NO_MEMORY;
 use failure::{Failure, report};
-use hyphenation_html::hyphenate_html;
+use hyphenation_html::{LanguageDictionary, hyphenate_html};
 use hyphenation_load::{is_out_of_memory, read_all};
 use request::Request;
-use std::alloc::Global;
+use std::alloc::{AllocError, Global};
 use std::fs::Files;
 use std::io::{Read, Write};
 
@@ -82,6 +82,20 @@ fn not_utf8(page: &[u8], valid: usize) -> Failure
     }
 }
 
+// Makes the tables of dictionaries that pay for a page of so many bytes. The only error is out of memory.
+fn make_tables(
+    alloc: Global,
+    dictionaries: &mut [LanguageDictionary],
+    bytes: usize,
+) -> Result<(), AllocError>
+    ensures { dictionaries.new ≡ dictionaries.old }
+{
+    for at in 0..dictionaries.len() {
+        dictionaries[at].dictionary.make_table_for(alloc, bytes)?;
+    }
+    Ok(())
+}
+
 // Writes the text of a page with marks.
 fn write_page<F: Files, O: Write>(
     rt: &F,
@@ -95,7 +109,8 @@ fn write_page<F: Files, O: Write>(
     ensures untouched { IfErr result (λ failure. (failure ≡ Failure.Writing) ⊎ (output.new ≡ output.old)) }
     ensures failure { IfErr result IsWritingFailure }
 {
-    let dictionaries = load_for_page(rt, alloc, request, folders, page)?;
+    let mut dictionaries = load_for_page(rt, alloc, request, folders, page)?;
+    make_tables(alloc, &mut dictionaries, page.len())?;
     let text = hyphenate_html(
         alloc,
         &dictionaries,

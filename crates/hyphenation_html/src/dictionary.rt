@@ -42,6 +42,18 @@ impl AnyDictionary {
         }
     }
 
+    /// Makes the table of a standard dictionary if it pays for a page of so many bytes. The contents stay as they are.
+    ///
+    /// The only error is out of memory.
+    pub fn make_table_for(&mut self, alloc: Global, bytes: usize) -> Result<(), AllocError>
+        ensures { self.new ≡ self.old }
+    {
+        if let AnyDictionary::Standard(standard) = self {
+            let _made = standard.make_table_for(alloc, bytes)?;
+        }
+        Ok(())
+    }
+
     /// A law for proofs: the places of every word ascend strictly on its character boundaries.
     ///
     /// The call does nothing.

@@ -45,9 +45,9 @@ trait FillDictionary: Drop {
         ensures loaded { LoadsBreaks kind breaks_of lang bytes.now result }
         ensures not_out_of_memory { IfErr result IsNotOutOfMemory };
 
-    /// Returns the lines of all paragraphs of a text.
+    /// Returns the lines of all paragraphs of a text. A dictionary may make a table for a long text.
     fn lines(
-        &self,
+        &mut self,
         alloc: Global,
         style: &Style<'_>,
         text: &str,
@@ -55,9 +55,9 @@ trait FillDictionary: Drop {
         aim: Aim,
     ) -> Result<Vec<String>, FillError>
         ensures page { IfOk result (λ page.
-            IsPage aim (breaks_of self.now) (style_of style.now) columns text.now (map string_bytes page.items)) }
+            IsPage aim (breaks_of self.old) (style_of style.now) columns text.now (map string_bytes page.items)) }
         ensures too_long { IfErr result (λ e. e ≡ FillError.TooLong →
-            HasTooLong (breaks_of self.now) (style_of style.now) (paragraphs text.now)) };
+            HasTooLong (breaks_of self.old) (style_of style.now) (paragraphs text.now)) };
 }
 
 impl FillDictionary for Standard {
@@ -74,13 +74,17 @@ impl FillDictionary for Standard {
     }
 
     fn lines(
-        &self,
+        &mut self,
         alloc: Global,
         style: &Style<'_>,
         text: &str,
         columns: u16,
         aim: Aim,
     ) -> Result<Vec<String>, FillError> {
+        // Where lines are filled one by one, few words are broken.
+        if matches!(aim, Aim::Even { .. }) {
+            let _made = self.make_table_for(alloc, text.len())?;
+        }
         fill_text(alloc, self, style, text, columns, aim)
     }
 }
@@ -100,7 +104,7 @@ impl FillDictionary for Extended {
     }
 
     fn lines(
-        &self,
+        &mut self,
         alloc: Global,
         style: &Style<'_>,
         text: &str,
@@ -271,7 +275,7 @@ fn lines_of<K: FillDictionary, I: Read>(
     ensures unread { IfErr result (BeforeReading (input.new ≡ input.old)) }
     ensures not_out_of_memory { IfErr result HidesNoOutOfMemory }
 {
-    let dictionary = K::load(alloc, request.language, bytes)?;
+    let mut dictionary = K::load(alloc, request.language, bytes)?;
     let text = read_text(alloc, input)?;
     let options = request.options;
     let lines = dictionary.lines(
