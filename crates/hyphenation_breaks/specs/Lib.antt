@@ -3,6 +3,7 @@ pub mod Borrowed
 pub mod Language
 pub mod Break
 pub mod Dictionary
+pub mod Ranks
 pub mod Invariant
 pub mod Laws
 pub mod Private

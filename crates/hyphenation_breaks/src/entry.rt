@@ -1,8 +1,9 @@
 //! Values and listed breaks as a dictionary of either kind holds them: alone, or with changes.
 
-ghost use Rattle.std.specs.Prelude.{◌≡◌, ◌↔◌, IsTrue, option_copied};
+ghost use Rattle.std.specs.Prelude.{◌≡◌, ◌↔◌, IfSome, IsTrue, option_copied};
 ghost use Rattle.hyphenation_breaks.specs.Break.{Break};
 ghost use Rattle.hyphenation_breaks.specs.Invariant.{has_letter};
+ghost use Rattle.hyphenation_breaks.specs.Ranks.{plain_rank, rank_with_change};
 
 use crate::breaks::Break;
 use crate::extended::Subregion;
@@ -33,7 +34,7 @@ impl<C: Payload> Entry<C> {
 
 /// The payload of a value: nothing in a standard dictionary, a change or none in an extended one.
 pub trait Payload: Drop {
-    ghost use Rattle.std.specs.Prelude.{◌≡◌, ◌⊎◌, ◌↔◌, Option, None, option_copied, IsTrue};
+    ghost use Rattle.std.specs.Prelude.{◌≡◌, ◌⊎◌, ◌↔◌, ℕ, Option, None, option_copied, IfSome, IsTrue};
     ghost use Rattle.hyphenation_breaks.specs.Break.{Change};
 
     /// The change that a payload carries, if any.
@@ -50,6 +51,15 @@ pub trait Payload: Drop {
     fn as_change(&self) -> Option<&Subregion>
         ensures { option_copied result ≡ change_of self.now };
 
+    /// The rank of a value with a payload: a number by which entries that bear on one place are compared.
+    ghost rank_of: { Self → ℕ → ℕ };
+
+    /// Returns the rank of a value with this payload, or `None` if the rank is above 255.
+    ///
+    /// In a standard dictionary it is the value. In an extended one it is twice the value, and one more with a change.
+    fn rank(&self, value: u8) -> Option<u8>
+        ensures { IfSome result (λ rank. rank ≡ rank_of self.now value) };
+
     /// Tests whether a payload equals another one.
     fn is_same(&self, other: &Self) -> bool
         ensures { IsTrue result ↔ (self.now ≡ other.now) };
@@ -63,10 +73,13 @@ pub trait Payload: Drop {
 impl Payload for () {
     ghost use Rattle.std.specs.Prelude.{None, refl};
     ghost use Rattle.std.proofs.Common.{inr};
+    ghost use Rattle.hyphenation_breaks.specs.Ranks.{plain_rank};
 
     ghost change_of = { λ _. None };
 
     ghost payload_of = { λ _. tt };
+
+    ghost rank_of = { plain_rank };
 
     ghost carried_or_none = { λ _. inr refl };
 
@@ -74,6 +87,11 @@ impl Payload for () {
 
     fn as_change(&self) -> Option<&Subregion> {
         None
+    }
+
+    #[inline(always)]
+    fn rank(&self, value: u8) -> Option<u8> {
+        Some(value)
     }
 
     fn is_same(&self, _other: &()) -> bool {
@@ -85,10 +103,13 @@ impl Payload for () {
 impl Payload for Option<Subregion> {
     ghost use Rattle.std.specs.Prelude.{refl};
     ghost use Rattle.std.proofs.Common.{inl};
+    ghost use Rattle.hyphenation_breaks.specs.Ranks.{rank_with_change};
 
     ghost change_of = { λ change. change };
 
     ghost payload_of = { λ change. change };
+
+    ghost rank_of = { rank_with_change };
 
     ghost carried_or_none = { λ _. inl refl };
 
@@ -98,6 +119,13 @@ impl Payload for Option<Subregion> {
 
     fn as_change(&self) -> Option<&Subregion> {
         self.as_ref()
+    }
+
+    fn rank(&self, value: u8) -> Option<u8> {
+        if value > 127 {
+            return None;
+        }
+        Some(value * 2 + u8::from(self.is_some()))
     }
 
     fn is_same(&self, other: &Option<Subregion>) -> bool {

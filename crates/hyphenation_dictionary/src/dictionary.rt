@@ -79,7 +79,7 @@ impl<C: Payload, B: Break> Model for Dictionary<C, B> {
 
     ghost invariant = { λ d.
         EachBeginsKey d.patterns
-        × IfSome d.table (λ table. IsTableOf (entries_of_key d.patterns) table)
+        × IfSome d.table (λ table. IsTableOf C.rank_of (entries_of_key d.patterns) table)
         × IsDictionary C.change_of B.meaning
         (contents_of_parts d.language d.left d.right d.patterns d.exceptions) };
 }
@@ -192,15 +192,19 @@ impl<C: Payload, B: Break> Dictionary<C, B> {
     {
         self.exceptions.remove(word)
     }
-}
 
-impl Standard {
+    /// Returns whether the dictionary has the table that [`Dictionary::make_table`] makes.
+    pub fn has_table(&self) -> bool {
+        self.table.is_some()
+    }
+
     /// Makes the table by which words are scored faster, and returns whether the dictionary has one.
     ///
     /// The contents stay as they are, and so does each break. Without a table the patterns are searched by links. A table takes
     /// memory and time, so it pays for a dictionary that is asked for many words (thousands in English, tens of thousands
     /// in Hungarian). It can't be made if a value is more than 15 bytes before its key's end, or if it would be too large (16 MB
-    /// of cells). The only error is out of memory; the dictionary can be used on as it was.
+    /// of cells), nor for an extended dictionary with a value above 127. A word of an extended dictionary whose breaks may
+    /// change letters is searched by links as well. The only error is out of memory; the dictionary can be used on as it was.
     ///
     /// ```text
     /// let mut dictionary = Standard::from_reader(alloc, language, &mut reader)?;
@@ -218,7 +222,7 @@ impl Standard {
         Ok(made)
     }
 
-    /// Makes the table if it pays for words of so many bytes together, as [`Standard::make_table`] makes it.
+    /// Makes the table if it pays for words of so many bytes together, as [`Dictionary::make_table`] makes it.
     ///
     /// It pays where there are four bytes or more for each node of the patterns' trie. In English these are some 40 KB.
     pub fn make_table_for(&mut self, alloc: Global, bytes: usize) -> Result<bool, AllocError>

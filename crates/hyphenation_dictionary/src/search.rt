@@ -25,7 +25,7 @@ pub fn patterns_of<C: Payload, B: Break>(
 ) -> (&Automaton<Entry<C>>, Option<&Table>)
     ensures known { (text : List ℕ) → entries_of_keys dictionary.now text ≡ entries_of_key result.0.now text }
     ensures begins { EachBeginsKey result.0.now }
-    ensures table { IfSome (option_copied result.1) (λ table. IsTableOf (entries_of_key result.0.now) table) }
+    ensures table { IfSome (option_copied result.1) (λ table. IsTableOf C.rank_of (entries_of_key result.0.now) table) }
 {
     dictionary.patterns.invariant();
     (&dictionary.patterns, dictionary.table.as_ref())

@@ -1,10 +1,12 @@
 -- Laws of values and winners, in terms of single keys.
-use Rattle.std.specs.Prelude.{◌≡◌, ℕ, ◌+◌, ◌-◌, ◌<◌, ◌≤◌, ◌⊎◌, ◌↔◌, List, length, map, slice_get, Option, Some, None}
+use Rattle.std.specs.Prelude.{◌≡◌, ℕ, ◌+◌, ◌-◌, ◌/◌, ◌%◌, ◌<◌, ◌≤◌, ◌⊎◌, ◌↔◌, List, length, map, slice_get, Option, Some, None}
 use Rattle.std.specs.Borrow.{Bor}
+use Rattle.std.specs.Option.{option_and_then}
 use Rattle.hyphenation_breaks.specs.Break.{Change}
 use Rattle.hyphenation_breaks.specs.Dictionary.{Patterns}
+use Rattle.hyphenation_breaks.specs.Ranks.{greatest_rank, rank_with_change}
 use Rattle.hyphenation_breaks.specs.declared.entry.Entry.{Entry}
-use Rattle.hyphenation_score.specs.Scoring.{frame, value_at, values, value_of, winner_at, winners, scored_pair, scores}
+use Rattle.hyphenation_score.specs.Scoring.{bearers, frame, value_at, values, value_of, winner_at, winners, scored_pair, scores}
 use Rattle.hyphenation_score.specs.Winners.{BestSoFar, IsPair, IsBestOf, Bears, Wins}
 
 -- A place's value is at least each value that bears on it.
@@ -76,6 +78,15 @@ abbrev pub ScoresHaveValues : Type 0 → Type 0
 ScoresHaveValues C =
     (change_of : C → Option Change) (keys : Patterns C) (word : List ℕ) (pairs : List (ℕ × Option (Bor Change)))
     → map scored_pair pairs ≡ scores change_of keys word → map (λ pair. pair.0) pairs ≡ values keys word
+
+-- The rank of a place in an extended dictionary is twice the place's value, or one more. In the first case the winner carries
+-- no change.
+abbrev pub RanksShowChanges : Type 0
+RanksShowChanges =
+    (keys : Patterns (Option Change)) (word : List ℕ) (p : ℕ)
+    → (greatest_rank rank_with_change (bearers keys (frame word) p) / 2 ≡ value_at keys word p)
+    × (greatest_rank rank_with_change (bearers keys (frame word) p) % 2 ≡ 0
+    → option_and_then (λ entry. entry.change) (winner_at keys word p) ≡ None)
 
 -- Patterns with equal keys and entries give equal values.
 abbrev pub SameKeysSameValues : Type 0 → Type 0

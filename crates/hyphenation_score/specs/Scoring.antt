@@ -8,6 +8,7 @@ use Rattle.std.specs.Option.{option_and_then}
 use Rattle.hyphenation_breaks.specs.Ascii.{dot}
 use Rattle.hyphenation_breaks.specs.Break.{Change}
 use Rattle.hyphenation_breaks.specs.Dictionary.{Patterns, greatest}
+use Rattle.hyphenation_breaks.specs.Ranks.{greatest_rank}
 use Rattle.hyphenation_breaks.specs.declared.entry.Entry.{Entry}
 
 -- The payload of an extended dictionary is the change itself, or none.
@@ -57,6 +58,10 @@ winner_at keys word p = first_greatest (bearers keys (frame word) p)
 -- The values of a word's places, from place 1 on.
 abbrev pub values : {C : Type 0} → Patterns C → List ℕ → List ℕ
 values keys word = map (λ p. value_at keys word p) (places word)
+
+-- The ranks of a word's places, from place 1 on: at each the greatest of 0 and of the ranks of the entries that bear on it.
+abbrev pub ranks : {C : Type 0} → (C → ℕ → ℕ) → Patterns C → List ℕ → List ℕ
+ranks rank keys word = map (λ p. greatest_rank rank (bearers keys (frame word) p)) (places word)
 
 -- The winners of a word's places, from place 1 on.
 abbrev pub winners : {C : Type 0} → Patterns C → List ℕ → List (Option (Entry C))

@@ -4,7 +4,7 @@
 
 ghost use Rattle.hyphenation_score.specs.Laws.{ValueIsGreatest, ValueIsBorne, WinnerIsMissing, WinnerIsFirst, FirstIsWinner, ValuesAreOneLess};
 ghost use Rattle.hyphenation_score.specs.Laws.{ValuesAreOfPlaces, WinnersAreOneLess, WinnersAreOfPlaces, BestOfAllWins, WinnerHasValue};
-ghost use Rattle.hyphenation_score.specs.Laws.{ScoresHaveValues, SameKeysSameValues, SameKeysSameWinners};
+ghost use Rattle.hyphenation_score.specs.Laws.{RanksShowChanges, ScoresHaveValues, SameKeysSameValues, SameKeysSameWinners};
 
 /// A place's value is at least each value that bears on it.
 pub fn value_is_greatest<C>()
@@ -54,6 +54,12 @@ pub fn winner_has_value<C>()
 /// The values of a word's scores are the word's values.
 pub fn scores_have_values<C>()
     ensures { ScoresHaveValues C }
+{}
+
+/// The rank of a place in an extended dictionary is twice the place's value, or one more. In the first case the winner carries
+/// no change.
+pub fn ranks_show_changes()
+    ensures { RanksShowChanges }
 {}
 
 /// Patterns with equal keys and entries give equal values and equal winners.

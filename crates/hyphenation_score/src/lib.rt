@@ -48,7 +48,7 @@ use hyphenation_dictionary::search::automaton_of;
 use hyphenation_trie::Automaton;
 pub use hyphenation_trie::LookUps;
 use std::alloc::{AllocError, Global};
-pub use tabled::{find_values, put_values};
+pub use tabled::{find_ranks, put_values};
 pub use values::values_of;
 
 /// A dictionary that scores the places of words by its patterns.

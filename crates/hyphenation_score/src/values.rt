@@ -2,15 +2,15 @@
 
 ghost use Rattle.std.specs.Prelude.{◌≡◌, ◌+◌, ◌-◌, ◌≤◌, ◌^◌, length, drop, take, option_copied, IfOk, IfSome, IsOk};
 ghost use Rattle.hyphenation_breaks.specs.Dictionary.{entries_of_keys};
+ghost use Rattle.hyphenation_breaks.specs.Ranks.{plain_rank};
 ghost use Rattle.hyphenation_trie.specs.Tables.{IsTableOf};
 ghost use Rattle.hyphenation_trie.specs.Trie.{entries_of_key, EachBeginsKey};
 ghost use Rattle.hyphenation_score.specs.Counting.{CountsBy, CountsOf};
 ghost use Rattle.hyphenation_score.specs.Scoring.{values};
 
 use crate::tabled::put_values;
-use hyphenation_breaks::breaks::Break;
-use hyphenation_breaks::entry::{Entry, Payload};
-use hyphenation_dictionary::dictionary::Dictionary;
+use hyphenation_breaks::entry::Entry;
+use hyphenation_dictionary::dictionary::Standard;
 use hyphenation_dictionary::search::patterns_of;
 use hyphenation_trie::table::Table;
 use hyphenation_trie::{Automaton, LookUps};
@@ -41,20 +41,20 @@ fn without_front(mut list: Vec<u8>, count: usize) -> Vec<u8>
     list
 }
 
-/// Returns the values of a word's places, from place 1 on, by a table of the keys if there is one.
+/// Returns the values of a word's places, from place 1 on, by a table of a standard dictionary's keys if there is one.
 ///
 /// Each node of the automaton but the root must begin a key. Look-ups and reports are counted. The only error is out of
 /// memory.
 #[inline(always)]
-pub fn values_of<C: Drop>(
+pub fn values_of(
     alloc: Global,
-    automaton: &Automaton<Entry<C>>,
+    automaton: &Automaton<Entry<()>>,
     table: Option<&Table>,
     word: &[u8],
     count: &mut LookUps,
 ) -> Result<Vec<u8>, AllocError>
     requires begins { EachBeginsKey automaton.now }
-    requires table { IfSome (option_copied table) (λ t. IsTableOf (entries_of_key automaton.now) t) }
+    requires table { IfSome (option_copied table) (λ t. IsTableOf plain_rank (entries_of_key automaton.now) t) }
     requires made { count.old.made ≤ 2 ^ 64 }
     requires reported { count.old.reported ≤ 2 ^ 64 }
     ensures values { IfOk result (λ v. v.items ≡ values (entries_of_key automaton.now) word.now) }
@@ -80,9 +80,9 @@ pub fn values_of<C: Drop>(
 
 // Returns the values of a word's places, from place 1 on. The only error is out of memory.
 #[inline(always)]
-pub(super) fn values<C: Payload, B: Break>(
+pub(super) fn values(
     alloc: Global,
-    dictionary: &Dictionary<C, B>,
+    dictionary: &Standard,
     word: &str,
     count: &mut LookUps,
 ) -> Result<Vec<u8>, AllocError>

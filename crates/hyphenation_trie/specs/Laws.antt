@@ -28,4 +28,5 @@ LongestHasReport E =
 
 -- The first row of a table goes on from the empty text, and no entry of its keys is far from its key's end.
 abbrev pub TableBegins : Type 0 → Type 0
-TableBegins C = (keys : Patterns C) (table : Table) → IsTableOf keys table → GoesOn keys table 0 [] × AreNear keys
+TableBegins C =
+    (rank : C → ℕ → ℕ) (keys : Patterns C) (table : Table) → IsTableOf rank keys table → GoesOn rank keys table 0 [] × AreNear keys

@@ -16,14 +16,14 @@ pub record IsTail {C : Type 0} (keys : Patterns C) (text tail : List ℕ) : Type
 
 -- A step leads to the row of a tail of the text, and to the vector of the text with the number of keys that end it. Rows
 -- begin at each quarter of their width in the order of their texts.
-pub record IsStepTo {C : Type 0} (keys : Patterns C) (texts : List (List ℕ)) (quarter : ℕ) (table : Table) (text : List ℕ)
+pub record IsStepTo {C : Type 0} (rank : C → ℕ → ℕ) (keys : Patterns C) (texts : List (List ℕ)) (quarter : ℕ) (table : Table) (text : List ℕ)
     (next number : ℕ) : Type 0 where
   pub row : ℕ
   pub within : row < length texts
   pub next_is : next ≡ row * quarter
   pub tail : IsTail keys text (slice_index_or texts row [])
   pub number_of : number < length table.vectors.items
-  pub vector : IsVector keys text (slice_index_or table.vectors.items number [])
+  pub vector : IsVector rank keys text (slice_index_or table.vectors.items number [])
   pub counted : slice_index table.counts.items number ≡ keys_at_end keys text
 
 -- The cell of a byte in the row that begins there, in units of four cells.
@@ -31,7 +31,7 @@ abbrev pub cell_at : Table → ℕ → ℕ → ℕ
 cell_at table start byte = slice_index table.cells.items (start * 4 + slice_index table.classes.items byte)
 
 -- The table has one row for each of the texts, and the steps from each are right. A row is four times so many cells wide.
-pub record IsTable {C : Type 0} (keys : Patterns C) (texts : List (List ℕ)) (quarter : ℕ) (table : Table) : Type 0 where
+pub record IsTable {C : Type 0} (rank : C → ℕ → ℕ) (keys : Patterns C) (texts : List (List ℕ)) (quarter : ℕ) (table : Table) : Type 0 where
   pub near : AreNear keys
   pub classes : length table.classes.items ≡ 256
   pub below : (b : ℕ) → b < 256 → slice_index table.classes.items b < quarter * 4
@@ -40,30 +40,30 @@ pub record IsTable {C : Type 0} (keys : Patterns C) (texts : List (List ℕ)) (q
   pub root : slice_index_or texts 0 [] ≡ []
   pub room : length texts * quarter * 4 ≤ length table.cells.items
   pub steps : (row byte : ℕ) → row < length texts → byte < 256
-      → IsStepTo keys texts quarter table (slice_index_or texts row [] ++ byte ∷ [])
+      → IsStepTo rank keys texts quarter table (slice_index_or texts row [] ++ byte ∷ [])
       (cell_at table (row * quarter) byte / 4096) (cell_at table (row * quarter) byte % 4096)
 
--- The table is one of these keys.
-abbrev pub IsTableOf : {C : Type 0} → Patterns C → Table → Type 0
-IsTableOf keys table = (texts : List (List ℕ)) × (quarter : ℕ) × IsTable keys texts quarter table
+-- The table is one of these keys, with these ranks of their values.
+abbrev pub IsTableOf : {C : Type 0} → (C → ℕ → ℕ) → Patterns C → Table → Type 0
+IsTableOf rank keys table = (texts : List (List ℕ)) × (quarter : ℕ) × IsTable rank keys texts quarter table
 
 -- The row goes on from this text: it is that of a tail of the text.
-pub record GoesOn {C : Type 0} (keys : Patterns C) (table : Table) (start : ℕ) (text : List ℕ) : Type 0 where
+pub record GoesOn {C : Type 0} (rank : C → ℕ → ℕ) (keys : Patterns C) (table : Table) (start : ℕ) (text : List ℕ) : Type 0 where
   pub texts : List (List ℕ)
   pub quarter : ℕ
-  pub is_table : IsTable keys texts quarter table
+  pub is_table : IsTable rank keys texts quarter table
   pub row : ℕ
   pub within : row < length texts
   pub start_is : start ≡ row * quarter
   pub tail : IsTail keys text (slice_index_or texts row [])
 
 -- A step to this text led to a row that goes on from it, and to its vector with the number of keys that end it.
-pub record IsRead {C : Type 0} (keys : Patterns C) (table : Table) (text : List ℕ) (next number : ℕ) : Type 0 where
-  pub goes_on : GoesOn keys table next text
-  pub vector : IsVector keys text (slice_index_or table.vectors.items number [])
+pub record IsRead {C : Type 0} (rank : C → ℕ → ℕ) (keys : Patterns C) (table : Table) (text : List ℕ) (next number : ℕ) : Type 0 where
+  pub goes_on : GoesOn rank keys table next text
+  pub vector : IsVector rank keys text (slice_index_or table.vectors.items number [])
   pub counted : slice_index table.counts.items number ≡ keys_at_end keys text
 
 -- A step by a byte, from each text that the row goes on from, led to the right row and to the right vector.
-abbrev pub ReadsOn : {C : Type 0} → Patterns C → Table → ℕ → ℕ → ℕ → ℕ → Type 0
-ReadsOn keys table start byte next number =
-    (text : List ℕ) → GoesOn keys table start text → IsRead keys table (text ++ byte ∷ []) next number
+abbrev pub ReadsOn : {C : Type 0} → (C → ℕ → ℕ) → Patterns C → Table → ℕ → ℕ → ℕ → ℕ → Type 0
+ReadsOn rank keys table start byte next number =
+    (text : List ℕ) → GoesOn rank keys table start text → IsRead rank keys table (text ++ byte ∷ []) next number

@@ -1,7 +1,8 @@
--- The greatest values that the keys which end a text give to the places before its end.
-use Rattle.std.specs.Prelude.{◌≡◌, ℕ, ◌+◌, ◌<◌, ◌≤◌, ◌==◌, List, [], length, drop, filter, map, slice_index, unwrap_or, is_some, count_by, Some}
+-- The greatest ranks that the keys which end a text give to the places before its end.
+use Rattle.std.specs.Prelude.{◌≡◌, ℕ, ◌+◌, ◌<◌, ◌≤◌, ◌==◌, List, [], length, drop, filter, slice_index, unwrap_or, is_some, count_by, Some}
 use Rattle.std.specs.List.{flat_map, range_with_len, IsAmong}
-use Rattle.hyphenation_breaks.specs.Dictionary.{Patterns, greatest}
+use Rattle.hyphenation_breaks.specs.Dictionary.{Patterns}
+use Rattle.hyphenation_breaks.specs.Ranks.{greatest_rank}
 use Rattle.hyphenation_breaks.specs.declared.entry.Entry.{Entry}
 
 -- The entries at a distance before the end of a text, of all keys that end the text.
@@ -10,19 +11,15 @@ entries_before keys text distance =
     flat_map (λ d. filter (λ entry. d + entry.place + distance == length text) (unwrap_or (keys (drop d text)) []))
     (range_with_len 0 (length text))
 
--- The greatest of 0 and the values of the entries.
-abbrev pub greatest_of : {C : Type 0} → List (Entry C) → ℕ
-greatest_of entries = greatest (map (λ entry. entry.value) entries)
-
 -- The number of keys that end a text.
 abbrev pub keys_at_end : {C : Type 0} → Patterns C → List ℕ → ℕ
 keys_at_end keys text = count_by (λ d. is_some (keys (drop d text))) (range_with_len 0 (length text))
 
--- The vector of a text: the greatest values 15 bytes before its end, 14 bytes before it, and so on to the end itself.
-pub record IsVector {C : Type 0} (keys : Patterns C) (text vector : List ℕ) : Type 0 where
+-- The vector of a text: the greatest ranks 15 bytes before its end, 14 bytes before it, and so on to the end itself.
+pub record IsVector {C : Type 0} (rank : C → ℕ → ℕ) (keys : Patterns C) (text vector : List ℕ) : Type 0 where
   pub lanes : length vector ≡ 16
   pub each : (lane distance : ℕ) → lane + distance ≡ 15
-      → slice_index vector lane ≡ greatest_of (entries_before keys text distance)
+      → slice_index vector lane ≡ greatest_rank rank (entries_before keys text distance)
 
 -- No entry of a key with so many bytes is more than 15 bytes before the key's end, or past it.
 abbrev pub AreNearEntries : {C : Type 0} → List (Entry C) → ℕ → Type 0

@@ -2,7 +2,8 @@
 //!
 //! A row of cells stands for a text that begins longer keys, and has a cell for each class of bytes. The cell of a byte leads
 //! to the row of the longest such text that ends the row's text with the byte, and to the vector of that text with the byte:
-//! the greatest values that the keys which end there give to the 16 last places.
+//! the greatest ranks that the keys which end there give to the 16 last places. The rank of a value is that of its payload:
+//! the value itself in a standard dictionary, and in an extended one also whether it carries a change.
 
 ghost use Rattle.std.specs.Prelude.{◌≡◌, ◌+◌, ◌<◌, ◌^◌, List, ℕ, [], length, slice_index, slice_index_or, IfOk, IfSome};
 ghost use Rattle.hyphenation_trie.specs.Tables.{GoesOn, IsTableOf, ReadsOn};
@@ -15,7 +16,7 @@ mod vectors;
 
 use super::{Automaton, LookUps};
 use classes::classes_of;
-use hyphenation_breaks::entry::Entry;
+use hyphenation_breaks::entry::{Entry, Payload};
 use order::nodes_by_depth;
 use rows::cells_of;
 use std::alloc::{AllocError, Global};
@@ -40,16 +41,16 @@ impl Table {
     ///
     /// The first row begins at 0. Rows begin at units of four cells.
     #[inline(always)]
-    pub fn step<C: Drop>(
+    pub fn step<C: Payload>(
         &self,
         automaton: &Automaton<Entry<C>>,
         start: usize,
         byte: u8,
         count: &mut LookUps,
     ) -> (usize, usize)
-        requires row { (text : List ℕ) × GoesOn (entries_of_key automaton.now) self.now start text }
+        requires row { (text : List ℕ) × GoesOn C.rank_of (entries_of_key automaton.now) self.now start text }
         requires room { count.old.made + 1 < 2 ^ 128 }
-        ensures read { ReadsOn (entries_of_key automaton.now) self.now start byte result.0 result.1 }
+        ensures read { ReadsOn C.rank_of (entries_of_key automaton.now) self.now start byte result.0 result.1 }
         ensures number { result.1 < length self.now.vectors.items }
         ensures counts { length self.now.counts.items ≡ length self.now.vectors.items }
         ensures counted { count.new ≡ record count.old { made = count.old.made + 1 } }
@@ -76,13 +77,14 @@ impl Table {
 
 /// Makes a table of an automaton, or returns `None` where there can be none of this form.
 ///
-/// There is none if an entry is more than 15 bytes before its key's end, if the rows would have 4,194,304 cells or more, if
-/// there are more than 4,096 vectors, or if all 256 bytes are in keys. The only error is out of memory.
-pub fn make_table<C: Drop>(
+/// There is none if an entry is more than 15 bytes before its key's end, if a rank is above 255, if the rows would have
+/// 4,194,304 cells or more, if there are more than 4,096 vectors, or if all 256 bytes are in keys. The only error is out of
+/// memory.
+pub fn make_table<C: Payload>(
     alloc: Global,
     automaton: &Automaton<Entry<C>>,
 ) -> Result<Option<Table>, AllocError>
-    ensures { IfOk result (λ made. IfSome made (λ table. IsTableOf (entries_of_key automaton.now) table)) }
+    ensures { IfOk result (λ made. IfSome made (λ table. IsTableOf C.rank_of (entries_of_key automaton.now) table)) }
 {
     automaton.invariant();
     let Some((classes, quarter)) = classes_of(alloc, automaton)? else {

@@ -11,7 +11,7 @@ ghost use Rattle.hyphenation_hyphenator.specs.Opportunities.{breaks_within, brea
 ghost use Rattle.hyphenation_hyphenator.specs.Private.Opportunities.{borrowed_break, breaks_by_keys};
 
 use super::fitting::{are_plain, keep_fitting};
-use super::pattern_breaks::{plain_breaks, winning_breaks};
+use super::pattern_breaks::{breaks_with_changes, plain_breaks};
 use crate::case_folding::Shift;
 use hyphenation_breaks::breaks::Break;
 use hyphenation_breaks::entry::{Entry, Payload};
@@ -37,7 +37,8 @@ pub(crate) trait BreakKind<'h>: Break + Copy {
         list: &mut Vec<Self>,
     ) -> Result<(), AllocError>
         requires each_begins_key { EachBeginsKey patterns.now }
-        requires table { IfSome (option_copied table) (λ table. IsTableOf (entries_of_key patterns.now) table) }
+        requires table { IfSome (option_copied table) (λ table.
+            IsTableOf Self.Payload.rank_of (entries_of_key patterns.now) table) }
         requires empty { list.old.items ≡ [] }
         ensures { OnOk result (map Self.meaning list.new.items
             ≡ breaks_by_keys Self.Payload.change_of (entries_of_key patterns.now) word.now bounds) };
@@ -115,12 +116,12 @@ impl<'h> BreakKind<'h> for (usize, Option<&'h Subregion>) {
     #[inline(always)]
     fn pattern_breaks(
         patterns: &'h Automaton<Entry<Option<Subregion>>>,
-        _table: Option<&'h Table>,
+        table: Option<&'h Table>,
         word: &str,
         bounds: (usize, usize),
         list: &mut Vec<(usize, Option<&'h Subregion>)>,
     ) -> Result<(), AllocError> {
-        winning_breaks(patterns, word, bounds, list)
+        breaks_with_changes(patterns, table, word, bounds, list)
     }
 
     fn from_listed(listed: &'h (usize, Option<Subregion>)) -> (usize, Option<&'h Subregion>) {

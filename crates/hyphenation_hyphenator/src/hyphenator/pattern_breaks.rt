@@ -1,13 +1,14 @@
 //! Finding the breaks that patterns allow, at the places of odd values.
 //!
 //! A standard dictionary needs the values alone. An extended one needs the winners of the places, whose entries may
-//! carry changes.
+//! carry changes. If it has a table, the ranks of the places show the words whose winners carry none, which are most.
 
-ghost use Rattle.std.specs.Prelude.{◌≡◌, ◌≢◌, ◌%◌, ◌+◌, ◌-◌, ◌<◌, ◌≤◌, ◌&&◌, ℕ, length, map, filter, slice_index};
-ghost use Rattle.std.specs.Prelude.{IfSome, OnOk, [], ◌∷◌, ◌++◌, option_copied, Option, None};
-ghost use Rattle.std.specs.List.{range_with_len, slice_index_or};
+ghost use Rattle.std.specs.Prelude.{◌≡◌, ◌≢◌, ◌/◌, ◌%◌, ◌+◌, ◌-◌, ◌<◌, ◌≤◌, ◌&&◌, ℕ, length, map, filter, slice_index};
+ghost use Rattle.std.specs.Prelude.{IfOk, IfSome, IsTrue, OnOk, [], ◌∷◌, ◌++◌, false, option_copied, Option, None};
+ghost use Rattle.std.specs.List.{IsAmong, range_with_len, slice_index_or};
 ghost use Rattle.std.specs.Option.{option_map};
 ghost use Rattle.hyphenation_breaks.specs.Break.{plain_break};
+ghost use Rattle.hyphenation_breaks.specs.Ranks.{plain_rank, rank_with_change};
 ghost use Rattle.hyphenation_trie.specs.Tables.{IsTableOf};
 ghost use Rattle.hyphenation_trie.specs.Trie.{entries_of_key, EachBeginsKey};
 ghost use Rattle.hyphenation_score.specs.Scoring.{own_change};
@@ -18,8 +19,8 @@ ghost use Rattle.hyphenation_hyphenator.specs.Private.Opportunities.{breaks_at_w
 
 use hyphenation_breaks::entry::Entry;
 use hyphenation_breaks::extended::Subregion;
-use hyphenation_score::laws::winner_has_value;
-use hyphenation_score::{LookUps, compete_all, put_values};
+use hyphenation_score::laws::{ranks_show_changes, winner_has_value};
+use hyphenation_score::{LookUps, compete_all, find_ranks, put_values};
 use hyphenation_trie::Automaton;
 use hyphenation_trie::table::Table;
 use std::alloc::AllocError;
@@ -130,7 +131,7 @@ fn winning_breaks_of_long<'h>(
 // Puts the breaks within bounds that the patterns of an extended dictionary allow into an empty list, with the changes
 // of the winners.
 #[inline(always)]
-pub(super) fn winning_breaks<'h>(
+fn winning_breaks<'h>(
     patterns: &'h Automaton<Entry<Option<Subregion>>>,
     word: &str,
     bounds: (usize, usize),
@@ -148,6 +149,88 @@ pub(super) fn winning_breaks<'h>(
         return winning_breaks_with_buffer(patterns, word, &mut winners[..places], bounds, breaks);
     }
     winning_breaks_of_long(patterns, word, bounds, breaks)
+}
+
+// Puts plain breaks at the places within bounds whose value is odd into an empty list, given the ranks of the places from
+// place 1 on, and returns `true`. Where one of them may have a change, it returns `false`, and the list is empty.
+#[inline(always)]
+fn unchanged_breaks<'h>(
+    ranks: &[u8],
+    bounds: (usize, usize),
+    breaks: &mut Vec<(usize, Option<&'h Subregion>)>,
+) -> Result<bool, AllocError>
+    requires { breaks.old.items ≡ [] }
+    ensures all { IfOk result (λ all. IsTrue all
+        → map borrowed_break breaks.new.items ≡ map plain_break (odd_places (map (λ rank. rank / 2) ranks.now) bounds)) }
+    ensures unchanged { IfOk result (λ all. IsTrue all → (place : ℕ)
+        → IsAmong (odd_places (map (λ rank. rank / 2) ranks.now) bounds) place
+        → slice_index ranks.now (place - 1) % 2 ≡ 0) }
+    ensures empty { IfOk result (λ all. all ≡ false → breaks.new.items ≡ []) }
+{
+    // Places outside of the bounds are not read.
+    let first = bounds.0.max(1);
+    let end = ranks.len().min(bounds.1);
+    for place in first..end + 1 {
+        let rank = ranks[place - 1];
+        if rank / 2 % 2 == 1 {
+            if rank % 2 == 1 {
+                breaks.clear();
+                return Ok(false);
+            }
+            push_with_room(breaks, (place, None))?;
+        }
+    }
+    Ok(true)
+}
+
+// Puts the breaks within bounds that the patterns of an extended dictionary allow into an empty list, by a table, and returns
+// `true`. Where one of them may have a change, it returns `false`, and the list is empty.
+#[inline(always)]
+fn breaks_by_ranks<'h>(
+    patterns: &'h Automaton<Entry<Option<Subregion>>>,
+    table: &Table,
+    word: &str,
+    bounds: (usize, usize),
+    breaks: &mut Vec<(usize, Option<&'h Subregion>)>,
+) -> Result<bool, AllocError>
+    requires table { IsTableOf rank_with_change (entries_of_key patterns.now) table.now }
+    requires short { length word.now ≤ 62 }
+    requires empty { breaks.old.items ≡ [] }
+    ensures all { IfOk result (λ all. IsTrue all → map borrowed_break breaks.new.items
+        ≡ breaks_by_keys own_change (entries_of_key patterns.now) word.now bounds) }
+    ensures empty { IfOk result (λ all. all ≡ false → breaks.new.items ≡ []) }
+{
+    ranks_show_changes();
+    let mut count = LookUps::new();
+    let mut buffer = [0u8; 80];
+    let list = &mut buffer[..word.len() + 18];
+    find_ranks(patterns, table, word.as_bytes(), list, &mut count);
+    let end = 16 + word.len().saturating_sub(1);
+    unchanged_breaks(&list[16..end], bounds, breaks)
+}
+
+// Puts the breaks within bounds that the patterns of an extended dictionary allow into an empty list. With a table a word is
+// searched by links only where its breaks may have changes, or where it is so long that few words are.
+#[inline(always)]
+pub(super) fn breaks_with_changes<'h>(
+    patterns: &'h Automaton<Entry<Option<Subregion>>>,
+    table: Option<&Table>,
+    word: &str,
+    bounds: (usize, usize),
+    breaks: &mut Vec<(usize, Option<&'h Subregion>)>,
+) -> Result<(), AllocError>
+    requires each_begins_key { EachBeginsKey patterns.now }
+    requires table { IfSome (option_copied table) (λ table. IsTableOf rank_with_change (entries_of_key patterns.now) table) }
+    requires empty { breaks.old.items ≡ [] }
+    ensures { OnOk result (map borrowed_break breaks.new.items
+        ≡ breaks_by_keys own_change (entries_of_key patterns.now) word.now bounds) }
+{
+    if let Some(table) = table {
+        if word.len() <= 62 && breaks_by_ranks(patterns, table, word, bounds, breaks)? {
+            return Ok(());
+        }
+    }
+    winning_breaks(patterns, word, bounds, breaks)
 }
 
 // Puts the places within bounds that have an odd value into an empty list. The values begin with that of place 1.
@@ -182,7 +265,7 @@ fn plain_breaks_with_buffer(
     places: &mut Vec<usize>,
 ) -> Result<(), AllocError>
     requires each_begins_key { EachBeginsKey patterns.now }
-    requires table { IfSome (option_copied table) (λ table. IsTableOf (entries_of_key patterns.now) table) }
+    requires table { IfSome (option_copied table) (λ table. IsTableOf plain_rank (entries_of_key patterns.now) table) }
     requires room { length values.old ≡ length word.now + 18 }
     requires empty { places.old.items ≡ [] }
     ensures { OnOk result (map plain_break places.new.items
@@ -204,7 +287,7 @@ pub(super) fn plain_breaks(
     places: &mut Vec<usize>,
 ) -> Result<(), AllocError>
     requires each_begins_key { EachBeginsKey patterns.now }
-    requires table { IfSome (option_copied table) (λ table. IsTableOf (entries_of_key patterns.now) table) }
+    requires table { IfSome (option_copied table) (λ table. IsTableOf plain_rank (entries_of_key patterns.now) table) }
     requires empty { places.old.items ≡ [] }
     ensures { OnOk result (map plain_break places.new.items
         ≡ breaks_by_keys no_change (entries_of_key patterns.now) word.now bounds) }

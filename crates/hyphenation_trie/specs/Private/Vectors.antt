@@ -22,16 +22,16 @@ KeepsPairs old_vectors old_counts vectors counts =
     → IsPairAt vectors counts k (slice_index_or old_vectors k []) (slice_index old_counts k)
 
 -- The node is known by this number.
-pub record IsKnownAt {C : Type 0} (tree : Tree (Entry C)) (vectors : List (List ℕ)) (counts : List ℕ) (number node : ℕ)
+pub record IsKnownAt {C : Type 0} (rank : C → ℕ → ℕ) (tree : Tree (Entry C)) (vectors : List (List ℕ)) (counts : List ℕ) (number node : ℕ)
     : Type 0 where
   pub within : number < length vectors
-  pub known : IsKnown (entries_of_key tree) (node_text tree node) (slice_index_or vectors number []) (slice_index counts number)
+  pub known : IsKnown rank (entries_of_key tree) (node_text tree node) (slice_index_or vectors number []) (slice_index counts number)
 
 -- The root and the first n nodes of the order are known.
-pub record AreKnownTo {C : Type 0} (tree : Tree (Entry C)) (order numbers : List ℕ) (vectors : List (List ℕ))
+pub record AreKnownTo {C : Type 0} (rank : C → ℕ → ℕ) (tree : Tree (Entry C)) (order numbers : List ℕ) (vectors : List (List ℕ))
     (counts : List ℕ) (n : ℕ) : Type 0 where
   pub nodes : length numbers ≡ length tree.texts
   pub pairs : ArePairs vectors counts
   pub root : slice_index numbers 0 ≡ 0
-  pub first : IsKnownNode tree numbers vectors counts 0
-  pub each : (i : ℕ) → i < n → IsKnownNode tree numbers vectors counts (slice_index order i)
+  pub first : IsKnownNode rank tree numbers vectors counts 0
+  pub each : (i : ℕ) → i < n → IsKnownNode rank tree numbers vectors counts (slice_index order i)

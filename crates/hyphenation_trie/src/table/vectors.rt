@@ -1,7 +1,7 @@
-//! The vectors of all nodes: the greatest values that the keys which end a node's text give to its last places.
+//! The vectors of all nodes: the greatest ranks that the keys which end a node's text give to its last places.
 //!
 //! The keys that end a node's text are the keys that end its link's text, and the node's own text if it is a key. So the vector
-//! of a node is that of its link, raised to the values of its own entries.
+//! of a node is that of its link, raised to the ranks of its own entries.
 
 ghost use Rattle.std.specs.Prelude.{◌≡◌, ◌+◌, ◌<◌, ℕ, drop, length, IfErr, IfOk, IfSome};
 ghost use Rattle.hyphenation_trie.specs.Links.{IsLongest};
@@ -12,7 +12,7 @@ ghost use Rattle.hyphenation_trie.specs.Vectors.{AreNearEntries};
 
 use crate::Automaton;
 use crate::lists::push_both;
-use hyphenation_breaks::entry::Entry;
+use hyphenation_breaks::entry::{Entry, Payload};
 use std::alloc::{AllocError, Global};
 
 // The vectors of all nodes. Nodes with equal vectors and counts have one number.
@@ -38,11 +38,11 @@ const TRIES: usize = 64;
 // A free slot holds this, which is the number of no pair.
 const FREE: u32 = u32::MAX;
 
-// Returns a vector raised to the values of the entries of a key with so many bytes. `None` if an entry is more than 15 bytes
-// before the key's end, or past it.
-fn raised_by<C>(vector: &[u8; 16], entries: &[Entry<C>], bytes: usize) -> Option<[u8; 16]>
+// Returns a vector raised to the ranks of the entries of a key with so many bytes. `None` if an entry is more than 15 bytes
+// before the key's end, or past it, or has a rank above 255.
+fn raised_by<C: Payload>(vector: &[u8; 16], entries: &[Entry<C>], bytes: usize) -> Option<[u8; 16]>
     requires lanes { length vector.now ≡ 16 }
-    ensures raised { IfSome result (λ new. IsRaisedBy vector.now new entries.now bytes) }
+    ensures raised { IfSome result (λ new. IsRaisedBy C.rank_of vector.now new entries.now bytes) }
     ensures near { IfSome result (λ new. AreNearEntries entries.now bytes) }
 {
     let mut raised = *vector;
@@ -51,9 +51,10 @@ fn raised_by<C>(vector: &[u8; 16], entries: &[Entry<C>], bytes: usize) -> Option
         if place > bytes || bytes - place > 15 {
             return None;
         }
+        let rank = entry.change.rank(entry.value)?;
         let lane = 15 - (bytes - place);
-        if raised[lane] < entry.value {
-            raised[lane] = entry.value;
+        if raised[lane] < rank {
+            raised[lane] = rank;
         }
     }
     Some(raised)
@@ -134,7 +135,7 @@ fn find_or_add(
 }
 
 // Returns the link of a node.
-fn link_of<C: Drop>(automaton: &Automaton<Entry<C>>, node: usize) -> usize
+fn link_of<C: Payload>(automaton: &Automaton<Entry<C>>, node: usize) -> usize
     requires { node < length automaton.now.texts }
     ensures { IsLongest automaton.now.texts (drop 1 (node_text automaton.now node)) result }
 {
@@ -142,9 +143,9 @@ fn link_of<C: Drop>(automaton: &Automaton<Entry<C>>, node: usize) -> usize
 }
 
 // Returns the number of a node, given its link and the link's number. A node that is no key has that number, too. `None` if an
-// entry is more than 15 bytes before the key's end, or past it, or if there would be more than 4,096 pairs. The only error is
-// out of memory.
-fn number_of<C: Drop>(
+// entry is more than 15 bytes before the key's end, or past it, or has a rank above 255, or if there would be more than 4,096
+// pairs. The only error is out of memory.
+fn number_of<C: Payload>(
     automaton: &Automaton<Entry<C>>,
     node: usize,
     link: usize,
@@ -155,7 +156,7 @@ fn number_of<C: Drop>(
 ) -> Result<Option<u32>, AllocError>
     requires node { (0 < node) × (node < length automaton.now.texts) }
     requires link { IsLongest automaton.now.texts (drop 1 (node_text automaton.now node)) link }
-    requires known { IsKnownAt automaton.now vectors.old.items counts.old.items number link }
+    requires known { IsKnownAt C.rank_of automaton.now vectors.old.items counts.old.items number link }
     requires pairs { ArePairs vectors.old.items counts.old.items }
     requires slots { length slots.old ≡ 8192 }
     ensures pairs { IfOk result (λ made. IfSome made (λ number. ArePairs vectors.new.items counts.new.items)) }
@@ -163,7 +164,7 @@ fn number_of<C: Drop>(
     ensures kept { IfOk result (λ made. IfSome made
         (λ number. KeepsPairs vectors.old.items counts.old.items vectors.new.items counts.new.items)) }
     ensures known { IfOk result (λ made. IfSome made
-        (λ number. IsKnownAt automaton.now vectors.new.items counts.new.items number node)) }
+        (λ number. IsKnownAt C.rank_of automaton.now vectors.new.items counts.new.items number node)) }
 {
     automaton.invariant();
     let Some(entries) = automaton.trie.entries(node) else {
@@ -180,15 +181,15 @@ fn number_of<C: Drop>(
 }
 
 // Returns the vectors of all nodes, given the nodes by their depths. `None` if an entry is more than 15 bytes before its
-// key's end, or past it, or if there are more than 4,096 numbers. The only error is out of memory.
-pub(super) fn known_of_all<C: Drop>(
+// key's end, or past it, or has a rank above 255, or if there are more than 4,096 numbers. The only error is out of memory.
+pub(super) fn known_of_all<C: Payload>(
     alloc: Global,
     automaton: &Automaton<Entry<C>>,
     order: &[u32],
 ) -> Result<Option<Known>, AllocError>
     requires order { AreByDepth automaton.now.texts order.now }
     ensures { IfOk result (λ made. IfSome made
-        (λ known. AreKnown automaton.now known.numbers.items known.vectors.items known.counts.items)) }
+        (λ known. AreKnown C.rank_of automaton.now known.numbers.items known.vectors.items known.counts.items)) }
 {
     automaton.invariant();
     let mut numbers = vec![in alloc; 0u32; automaton.trie.count()]?;
