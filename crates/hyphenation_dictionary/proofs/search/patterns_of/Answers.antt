@@ -9,4 +9,4 @@ returns-clause-known g c = λ text. rw (← c.dictionary.view_is) (get-patterns_
 
 pub returns-clause-table : goal.returns-clause-table
 returns-clause-table g c =
-    subst (λ made. IfSome made (λ table. IsTableOf (entries_of_key c.dictionary.inside.patterns) table)) (sym c.as_ref.ensures.value) c.dictionary.invariant.1
+    subst (λ made. IfSome made (λ table. IsTableOf g.C.Payload.rank_of (entries_of_key c.dictionary.inside.patterns) table)) (sym c.as_ref.ensures.value) c.dictionary.invariant.1
