@@ -290,7 +290,7 @@ impl Handle {
         checked(status, 0, 0).map(|()| Handle::of(other))
     }
 
-    /// Makes the table by which a standard dictionary breaks words faster, if it can have one.
+    /// Makes the table by which a dictionary of either kind breaks words faster, if it can have one.
     pub fn make_table(&mut self) -> Result<(), Failure> {
         checked(unsafe { hyphenation_make_table(&mut *self.lock()) }, 0, 0)
     }

@@ -3,81 +3,52 @@
 ghost use Rattle.std.specs.Prelude.{◌≡◌, IfOk, IsTrue, OnErr, not};
 ghost use Rattle.std.specs.Arc.{arc_value};
 ghost use Rattle.hyphenation_reader.specs.Edits.{after_edit, is_good_edit};
-ghost use Rattle.hyphenation_grammar.specs.Reading.{place_as_listing, break_as_listing};
 ghost use Rattle.c_calls.specs.Dictionaries.{kind_of, edited, dictionary_of};
 ghost use Rattle.c_calls.specs.Statuses.{EditsDictionary};
 
 use crate::loaded::Loaded;
 use crate::statuses::{DONE, NOT_UTF8, OUT_OF_MEMORY, REFUSED};
-use hyphenation_dictionary::dictionary::{Extended, Standard};
+use hyphenation_breaks::entry::{Listing, Payload};
+use hyphenation_dictionary::dictionary::Dictionary;
 use hyphenation_grammar::form::Kind;
-use hyphenation_load::Load;
+use hyphenation_load::{Error, Load};
 use hyphenation_reader::edits::apply_edit;
-use hyphenation_reader::reader::{Refusal, read_extended, read_standard};
 use std::alloc::{AllocError, Global};
 use std::sync::Arc;
 
-// A copy of a standard dictionary, by its text. The only error is that memory was refused.
-pub(crate) fn copy_of_standard(dictionary: &Standard, alloc: Global) -> Result<Standard, AllocError>
+// A copy of a dictionary, by its text. The only error is that memory was refused.
+pub(crate) fn copy_of<D: Load>(dictionary: &D, alloc: Global) -> Result<D, AllocError>
     ensures { IfOk result (λ copy. copy ≡ dictionary.now) }
 {
     let text = dictionary.to_text(alloc)?;
-    match read_standard(alloc, &text) {
+    match D::from_read(alloc, Ok(text)) {
         Ok(copy) => Ok(copy),
-        Err(Refusal::Memory) => Err(AllocError),
+        Err(Error::Memory(_)) => Err(AllocError),
         // The text of a dictionary has no fault.
-        Err(Refusal::Fault { line: _, cause: _ }) => unreachable!(),
+        Err(_) => unreachable!(),
     }
 }
 
-// A copy of an extended dictionary, by its text. The only error is that memory was refused.
-fn copy_of_extended(dictionary: &Extended, alloc: Global) -> Result<Extended, AllocError>
-    ensures { IfOk result (λ copy. copy ≡ dictionary.now) }
-{
-    let text = dictionary.to_text(alloc)?;
-    match read_extended(alloc, &text) {
-        Ok(copy) => Ok(copy),
-        Err(Refusal::Memory) => Err(AllocError),
-        // The text of a dictionary has no fault.
-        Err(Refusal::Fault { line: _, cause: _ }) => unreachable!(),
-    }
-}
-
-// Edits a standard dictionary: if it has another owner, an edited copy takes its place. Whether the edit is good.
-fn edit_standard(counted: &mut Arc<Standard>, alloc: Global, edit: &str) -> Result<bool, AllocError>
-    ensures good { IfOk result (λ good. good ≡ is_good_edit Kind.Standard edit.now) }
+// Edits a dictionary of a kind: if it has another owner, an edited copy takes its place. Whether the edit is good.
+fn edit_of<C: Payload, B: Listing>(
+    counted: &mut Arc<Dictionary<C, B>>,
+    alloc: Global,
+    kind: Kind,
+    edit: &str,
+) -> Result<bool, AllocError>
+where
+    Dictionary<C, B>: Load,
+    ensures good { IfOk result (λ good. good ≡ is_good_edit kind edit.now) }
     ensures done { IfOk result (λ good. IsTrue good
-        → arc_value counted.new ≡ after_edit place_as_listing (arc_value counted.old) edit.now) }
+        → arc_value counted.new ≡ after_edit B.listing_of (arc_value counted.old) edit.now) }
     ensures refused { IfOk result (λ good. IsTrue (not good) → arc_value counted.new ≡ arc_value counted.old) }
     ensures unchanged_on_error { OnErr result (arc_value counted.new ≡ arc_value counted.old) }
 {
     if let Some(dictionary) = Arc::get_mut(counted) {
-        return apply_edit(alloc, Kind::Standard, dictionary, edit);
+        return apply_edit(alloc, kind, dictionary, edit);
     }
-    let mut dictionary = copy_of_standard(counted, alloc)?;
-    let good = apply_edit(alloc, Kind::Standard, &mut dictionary, edit)?;
-    match Arc::new(alloc, dictionary) {
-        Ok(own) => {
-            *counted = own;
-            Ok(good)
-        }
-        Err(_) => Err(AllocError),
-    }
-}
-
-// Edits an extended dictionary: if it has another owner, an edited copy takes its place. Whether the edit is good.
-fn edit_extended(counted: &mut Arc<Extended>, alloc: Global, edit: &str) -> Result<bool, AllocError>
-    ensures good { IfOk result (λ good. good ≡ is_good_edit Kind.Extended edit.now) }
-    ensures done { IfOk result (λ good. IsTrue good
-        → arc_value counted.new ≡ after_edit break_as_listing (arc_value counted.old) edit.now) }
-    ensures refused { IfOk result (λ good. IsTrue (not good) → arc_value counted.new ≡ arc_value counted.old) }
-    ensures unchanged_on_error { OnErr result (arc_value counted.new ≡ arc_value counted.old) }
-{
-    if let Some(dictionary) = Arc::get_mut(counted) {
-        return apply_edit(alloc, Kind::Extended, dictionary, edit);
-    }
-    let mut dictionary = copy_of_extended(counted, alloc)?;
-    let good = apply_edit(alloc, Kind::Extended, &mut dictionary, edit)?;
+    let mut dictionary = copy_of(&**counted, alloc)?;
+    let good = apply_edit(alloc, kind, &mut dictionary, edit)?;
     match Arc::new(alloc, dictionary) {
         Ok(own) => {
             *counted = own;
@@ -97,8 +68,8 @@ fn apply(loaded: &mut Loaded, alloc: Global, edit: &str) -> Result<bool, AllocEr
     ensures unchanged_on_error { OnErr result (dictionary_of loaded.new ≡ dictionary_of loaded.old) }
 {
     match loaded {
-        Loaded::Standard(standard, _) => edit_standard(standard, alloc, edit),
-        Loaded::Extended(extended, _) => edit_extended(extended, alloc, edit),
+        Loaded::Standard(standard, _) => edit_of(standard, alloc, Kind::Standard, edit),
+        Loaded::Extended(extended, _) => edit_of(extended, alloc, Kind::Extended, edit),
     }
 }
 

@@ -215,10 +215,11 @@ pub fn edit(alloc: Global, handle: &mut Handle, edit: &[u8]) -> u32
     status
 }
 
-/// Makes the table by which a standard dictionary breaks words faster, if it can have one. The dictionary's contents are
-/// unchanged.
+/// Makes the table by which a dictionary of either kind breaks words faster, if it can have one. The dictionary's
+/// contents are unchanged.
 ///
-/// Other handles with the same dictionary are unchanged: if there are any, this handle holds a copy with a table afterwards.
+/// Other handles with the same dictionary are unchanged: if there are any, and it has no table, this handle holds a copy
+/// with a table afterwards.
 pub fn make_table(alloc: Global, handle: &mut Handle) -> u32
     ensures unchanged { holds handle.new ≡ holds handle.old }
     ensures status { MakesTable (holds handle.old) result }

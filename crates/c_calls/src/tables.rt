@@ -5,22 +5,34 @@ ghost use Rattle.std.specs.Arc.{arc_value};
 ghost use Rattle.c_calls.specs.Dictionaries.{dictionary_of};
 ghost use Rattle.c_calls.specs.Statuses.{IsDoneOrRefused};
 
-use crate::edits::copy_of_standard;
+use crate::edits::copy_of;
 use crate::loaded::Loaded;
 use crate::statuses::{DONE, OUT_OF_MEMORY};
-use hyphenation_dictionary::dictionary::Standard;
+use hyphenation_breaks::breaks::Break;
+use hyphenation_breaks::entry::Payload;
+use hyphenation_dictionary::dictionary::Dictionary;
+use hyphenation_load::Load;
 use std::alloc::{AllocError, Global};
 use std::sync::Arc;
 
-// Makes the table of a standard dictionary, if it can have one: if it has another owner, a copy with a table takes its place.
-fn make_standard(counted: &mut Arc<Standard>, alloc: Global) -> Result<(), AllocError>
+// Makes the table of a dictionary, if it can have one: if it has another owner and no table, a copy takes its place that has
+// one.
+fn make_of<C: Payload, B: Break>(
+    counted: &mut Arc<Dictionary<C, B>>,
+    alloc: Global,
+) -> Result<(), AllocError>
+where
+    Dictionary<C, B>: Load,
     ensures { arc_value counted.new ≡ arc_value counted.old }
 {
     if let Some(dictionary) = Arc::get_mut(counted) {
         let _made = dictionary.make_table(alloc)?;
         return Ok(());
     }
-    let mut dictionary = copy_of_standard(counted, alloc)?;
+    if counted.has_table() {
+        return Ok(());
+    }
+    let mut dictionary = copy_of(&**counted, alloc)?;
     let _made = dictionary.make_table(alloc)?;
     match Arc::new(alloc, dictionary) {
         Ok(own) => {
@@ -31,16 +43,17 @@ fn make_standard(counted: &mut Arc<Standard>, alloc: Global) -> Result<(), Alloc
     }
 }
 
-/// Makes the table of a standard dictionary, if it can have one, and returns the status. An extended one has none.
+/// Makes the table of a dictionary, if it can have one, and returns the status.
 pub fn make(loaded: &mut Loaded, alloc: Global) -> u32
     ensures unchanged { dictionary_of loaded.new ≡ dictionary_of loaded.old }
     ensures status { IsDoneOrRefused result }
 {
-    match loaded {
-        Loaded::Standard(standard, _) => match make_standard(standard, alloc) {
-            Ok(()) => DONE,
-            Err(_) => OUT_OF_MEMORY,
-        },
-        Loaded::Extended(_, _) => DONE,
+    let made = match loaded {
+        Loaded::Standard(standard, _) => make_of(standard, alloc),
+        Loaded::Extended(extended, _) => make_of(extended, alloc),
+    };
+    match made {
+        Ok(()) => DONE,
+        Err(_) => OUT_OF_MEMORY,
     }
 }

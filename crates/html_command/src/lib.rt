@@ -91,7 +91,7 @@ fn make_tables(
     ensures { dictionaries.new ≡ dictionaries.old }
 {
     for at in 0..dictionaries.len() {
-        dictionaries[at].dictionary.make_table_for(alloc, bytes)?;
+        let _made = dictionaries[at].dictionary.make_table_for(alloc, bytes)?;
     }
     Ok(())
 }

@@ -102,7 +102,7 @@ pub extern "C" fn hyphenation_edit(alloc: Global, handle: &mut Handle, edit: &[u
     c_calls::edit(alloc, handle, edit)
 }
 
-/// Makes the table by which a standard dictionary breaks words faster, if it can have one.
+/// Makes the table by which a dictionary of either kind breaks words faster, if it can have one.
 #[unsafe(no_mangle)]
 pub extern "C" fn hyphenation_make_table(alloc: Global, handle: &mut Handle) -> u32
     ensures unchanged { holds handle.new ≡ holds handle.old }

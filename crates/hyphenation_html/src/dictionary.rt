@@ -42,16 +42,16 @@ impl AnyDictionary {
         }
     }
 
-    /// Makes the table of a standard dictionary if it pays for a page of so many bytes. The contents stay as they are.
+    /// Makes the table of the dictionary if it pays for a page of so many bytes. The contents stay as they are.
     ///
-    /// The only error is out of memory.
-    pub fn make_table_for(&mut self, alloc: Global, bytes: usize) -> Result<(), AllocError>
+    /// Returns whether the dictionary has one. The only error is out of memory.
+    pub fn make_table_for(&mut self, alloc: Global, bytes: usize) -> Result<bool, AllocError>
         ensures { self.new ≡ self.old }
     {
-        if let AnyDictionary::Standard(standard) = self {
-            let _made = standard.make_table_for(alloc, bytes)?;
+        match self {
+            AnyDictionary::Standard(standard) => standard.make_table_for(alloc, bytes),
+            AnyDictionary::Extended(extended) => extended.make_table_for(alloc, bytes),
         }
-        Ok(())
     }
 
     /// A law for proofs: the places of every word ascend strictly on its character boundaries.

@@ -15,8 +15,10 @@ ghost use Rattle.paragraphs.specs.Styles.{style_of};
 ghost use Rattle.paragraphs.specs.Paragraphs.{ended, paragraphs};
 
 use crate::request::Request;
+use hyphenation_breaks::breaks::Break;
+use hyphenation_breaks::entry::Payload;
 use hyphenation_breaks::language::Language;
-use hyphenation_dictionary::dictionary::{Extended, Standard};
+use hyphenation_dictionary::dictionary::{Dictionary, Extended, Standard};
 use hyphenation_grammar::form::{Form, Kind, Version};
 use hyphenation_grammar::lines::{is_head, next_line};
 use hyphenation_load;
@@ -60,6 +62,22 @@ trait FillDictionary: Drop {
             HasTooLong (breaks_of self.old) (style_of style.now) (paragraphs text.now)) };
 }
 
+// Makes the table of a dictionary if it pays for the lines of a text. Where they are filled one by one, few words are
+// broken.
+fn make_table_for_lines<C: Payload, B: Break>(
+    dictionary: &mut Dictionary<C, B>,
+    alloc: Global,
+    text: &str,
+    aim: Aim,
+) -> Result<(), AllocError>
+    ensures { dictionary.new ≡ dictionary.old }
+{
+    if matches!(aim, Aim::Even { .. }) {
+        let _made = dictionary.make_table_for(alloc, text.len())?;
+    }
+    Ok(())
+}
+
 impl FillDictionary for Standard {
     ghost use Rattle.hyphenation_grammar.specs.declared.form.Kind.TheVariants.{Standard as OfStandard};
     ghost use Rattle.hyphenation_hyphenator.specs.Opportunities.{all_breaks_of, standard_rules};
@@ -81,10 +99,7 @@ impl FillDictionary for Standard {
         columns: u16,
         aim: Aim,
     ) -> Result<Vec<String>, FillError> {
-        // Where lines are filled one by one, few words are broken.
-        if matches!(aim, Aim::Even { .. }) {
-            let _made = self.make_table_for(alloc, text.len())?;
-        }
+        make_table_for_lines(self, alloc, text, aim)?;
         fill_text(alloc, self, style, text, columns, aim)
     }
 }
@@ -111,6 +126,7 @@ impl FillDictionary for Extended {
         columns: u16,
         aim: Aim,
     ) -> Result<Vec<String>, FillError> {
+        make_table_for_lines(self, alloc, text, aim)?;
         fill_text(alloc, self, style, text, columns, aim)
     }
 }

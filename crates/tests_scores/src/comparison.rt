@@ -93,8 +93,8 @@ fn are_reference_breaks<B: Break>(
     Ok(are_expected(found, &reference.breaks(alloc, word)?))
 }
 
-// Counts of what was compared. `tables` counts dictionaries with a table, `removed` counts exceptions that stood in the dictionary, and a long word has 62 to 67
-// bytes.
+// Counts of what was compared. `tables` counts dictionaries with a table, `removed` counts exceptions that stood in the
+// dictionary, and a long word has 62 to 67 bytes.
 #[derive(Clone, Copy)]
 struct Compared {
     words: u32,
@@ -135,7 +135,8 @@ impl Compared {
     }
 
     fn is_enough(&self) -> bool {
-        self.words == 10_000 && self.version_2 > 200 && self.added > 1_000 && self.removed > 50
+        let has_kinds = self.version_2 > 200 && self.tables > 500;
+        self.words == 10_000 && has_kinds && self.added > 1_000 && self.removed > 50
     }
 }
 
@@ -421,10 +422,7 @@ fn compare_dictionaries<K: Kind>(alloc: Global, seed: u64, count: usize) -> Resu
 #[test]
 fn standard_dictionaries_agree_with_the_reference(rt: HostRuntime) -> Result<(), Fail> {
     let compared = compare_dictionaries::<Standard>(rt.alloc(), 1, 2_000)?;
-    expect(
-        compared.is_enough() && compared.tables > 500,
-        "enough is compared",
-    )
+    expect(compared.is_enough(), "enough is compared")
 }
 
 #[test]
@@ -464,7 +462,7 @@ fn edit_long_word<K: Kind>(
 }
 
 // Compares words of 62 to 67 bytes, those of 64 and 65 bytes also after an edit. Words of more than 64 bytes take
-// another path than shorter ones.
+// another path than shorter ones, and so do words of more than 62 bytes where an extended dictionary has a table.
 fn compare_long_words<K: Kind>(
     alloc: Global,
     random: &mut Random,
@@ -480,14 +478,18 @@ fn compare_long_words<K: Kind>(
     edit_long_word(alloc, random, dictionary, reference, 65)
 }
 
-// Compares long words by a random dictionary.
+// Compares long words by a random dictionary, with its table where one is asked for.
 fn compare_long_dictionary<K: Kind>(
     alloc: Global,
     random: &mut Random,
+    with_table: bool,
     compared: &mut Compared,
 ) -> Result<(), Fail> {
     let mut reference = random.dictionary(alloc, K::has_changes())?;
     let mut dictionary = load::<K>(alloc, &reference, compared)?;
+    if with_table {
+        compared.note_table(dictionary.add_table(alloc)?);
+    }
     compare_long_words(alloc, random, &mut dictionary, &mut reference, compared)
 }
 
@@ -495,15 +497,18 @@ fn compare_long_dictionary<K: Kind>(
 fn compare_long_dictionaries<K: Kind>(alloc: Global, seed: u64, count: u32) -> Result<(), Fail> {
     let mut random = Random(seed);
     let mut compared = NOTHING_COMPARED;
-    for _ in 0..count {
-        compare_long_dictionary::<K>(alloc, &mut random, &mut compared)?;
+    for number in 0..count {
+        compare_long_dictionary::<K>(alloc, &mut random, number % 2 == 1, &mut compared)?;
     }
-    let is_enough = compared.long_words == count.saturating_mul(6) && compared.long_broken > count;
+    let has_tables = compared.tables > count / 4;
+    let is_enough = has_tables
+        && compared.long_words == count.saturating_mul(6)
+        && compared.long_broken > count;
     expect(is_enough, "enough words are broken")
 }
 
 #[test]
 fn long_words_are_broken_as_by_the_reference(rt: HostRuntime) -> Result<(), Fail> {
-    compare_long_dictionaries::<Standard>(rt.alloc(), 3, 8)?;
-    compare_long_dictionaries::<Extended>(rt.alloc(), 4, 8)
+    compare_long_dictionaries::<Standard>(rt.alloc(), 3, 16)?;
+    compare_long_dictionaries::<Extended>(rt.alloc(), 4, 16)
 }

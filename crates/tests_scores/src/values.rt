@@ -50,8 +50,8 @@ impl Scored for Extended {
         self.score(alloc, word)
     }
 
-    fn add_table(&mut self, _alloc: Global) -> Result<bool, AllocError> {
-        Ok(false)
+    fn add_table(&mut self, alloc: Global) -> Result<bool, AllocError> {
+        self.make_table(alloc)
     }
 }
 
@@ -153,9 +153,11 @@ const AMERICAN: &[&str] = &["hyphenation 1 standard\nlanguage en-us\nminima 2 3\
 
 const WITHOUT_LINE_END: &[&str] = &["hyphenation 1 standard\nlanguage en-us\nminima 2 3"];
 
-const VERSION_2: &[&str] = &["hyphenation 2 standard\nlanguage en-us\nminima 1 1\n"];
+/// The head of a standard text of version 2.
+pub const VERSION_2: &[&str] = &["hyphenation 2 standard\nlanguage en-us\nminima 1 1\n"];
 
-const EXTENDED_VERSION_2: &[&str] = &["hyphenation 2 extended\nlanguage en-us\nminima 1 1\n"];
+/// The head of an extended text of version 2.
+pub const EXTENDED_VERSION_2: &[&str] = &["hyphenation 2 extended\nlanguage en-us\nminima 1 1\n"];
 
 /// Twenty letters.
 pub const TWENTY: &str = "aaaaaaaaaaaaaaaaaaaa";
@@ -451,8 +453,8 @@ fn words_have_the_values_of_their_keys(rt: HostRuntime) -> Result<(), Fail> {
     Ok(())
 }
 
-// The breaks that patterns allow in a word, each with the parts of its change.
-fn opportunities_of(
+/// The breaks that patterns allow in a word, each with the parts of its change.
+pub fn opportunities_of(
     alloc: Global,
     dictionary: &Extended,
     word: &str,

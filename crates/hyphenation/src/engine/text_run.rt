@@ -129,6 +129,7 @@ impl RunDictionary for Extended {
     }
 
     fn hyphenated(&mut self, alloc: Global, mark: &str, text: &str) -> Result<String, AllocError> {
+        let _made = self.make_table_for(alloc, text.len())?;
         hyphenated_text(alloc, self, text, mark)
     }
 }
