@@ -223,7 +223,7 @@ fn breaks_of(alloc: Global, dictionary: &Extended, words: &[&str]) -> Result<Str
     Ok(output)
 }
 
-// The breaks of words by the table of the dictionary whose text is this head and these lines. If there are others without it,
+// The breaks of words by the table of the dictionary whose text is this head and these lines. If the links give others,
 // these follow.
 fn breaks_by(alloc: Global, head: &str, lines: &str, words: &[&str]) -> Result<String, CallError> {
     let text = format!(in alloc; "{head}{lines}")?;
