@@ -25,6 +25,7 @@ pub mod AsciiWords
 pub mod CommonLowercase
 pub mod InPlace
 pub mod OddPlaces
+pub mod PlacesByRanks
 pub mod PiecesJoin
 pub mod EmptyMark
 pub mod ExceptionRemoval

@@ -1,5 +1,5 @@
 -- Places with odd values are the breaks that patterns allow, where no winner carries a change.
-use Rattle.std.proofs.Common.{◌≡◌, ◌≢◌, ◌%◌, ◌&&◌, nat_le, ℕ, zero, suc, ◌+◌, ◌-◌, ◌<◌, ◌≤◌, ◌⊎◌, Bool, true, false, cond, List, [], ◌∷◌, ◌++◌, length, map, filter, max, min, Option, Some, None, refl, sym, ap, subst, ◌∙◌, arith, inl, inr}
+use Rattle.std.proofs.Common.{◌≡◌, ◌≢◌, ◌%◌, ◌&&◌, nat_le, ℕ, zero, suc, ◌+◌, ◌-◌, ◌<◌, ◌≤◌, ◌⊎◌, Bool, true, false, cond, List, [], ◌∷◌, ◌++◌, length, map, filter, max, min, Option, Some, None, refl, sym, ap, ◌∙◌, arith, inl, inr}
 use Rattle.std.specs.List.{range_with_len, slice_index}
 use Rattle.std.specs.Option.{option_and_then}
 use Rattle.std.proofs.Math.Bool.{and-false, and-true}
@@ -109,30 +109,36 @@ even_none values bounds first least even =
 
 -- ---- as breaks
 
-same_breaks : (test odd : ℕ → Bool) (break_to : ℕ → Break) (bounds : ℕ × ℕ) → ((p : ℕ) → break_to p ≡ plain_break p) → (first n : ℕ)
+same_breaks : (test odd : ℕ → Bool) (break_to : ℕ → Break) (bounds : ℕ × ℕ) → ((p : ℕ) → (break_to p).place ≡ p) → (first n : ℕ)
     → ((p : ℕ) → first ≤ p → p < first + n → test p ≡ (odd p && within bounds p))
+    → ((p : ℕ) → first ≤ p → p < first + n → test p ≡ true → break_to p ≡ plain_break p)
     → map plain_break (filter test (range_with_len first n)) ≡ breaks_within (map break_to (filter odd (range_with_len first n))) bounds
-same_breaks test odd break_to bounds is first zero agree = refl
-same_breaks test odd break_to bounds is first (suc n) agree =
+same_breaks test odd break_to bounds placed first zero agree plain = refl
+same_breaks test odd break_to bounds placed first (suc n) agree plain =
     let front = filter test (range_with_len (first + 1) n) in
     let back = filter odd (range_with_len (first + 1) n) in
-    let rest : map plain_break front ≡ breaks_within (map break_to back) bounds = same_breaks test odd break_to bounds is (first + 1) n (λ p l h. agree p (omega arith) (omega arith)) in
-    let here : test first ≡ (odd first && within bounds first) = agree first (omega arith) (omega arith) in
     let after = breaks_within (map break_to back) bounds in
-    let both : map plain_break (cond (within bounds first) (first ∷ front) front) ≡ cond (within bounds first) (plain_break first ∷ after) after =
-    elim (within bounds first) as (λ w. map plain_break (cond w (first ∷ front) front) ≡ cond w (plain_break first ∷ after) after) [ true ↦ ap (λ bs. plain_break first ∷ bs) rest | false ↦ rest ] in
+    let rest : map plain_break front ≡ after = same_breaks test odd break_to bounds placed (first + 1) n (λ p l h. agree p (omega arith) (omega arith)) (λ p l h. plain p (omega arith) (omega arith)) in
+    let here : test first ≡ (odd first && within bounds first) = agree first (omega arith) (omega arith) in
+    let at : test first ≡ true → break_to first ≡ plain_break first = plain first (omega arith) (omega arith) in
     ap (λ t. map plain_break (cond t (first ∷ front) front)) here
-    ∙ elim (odd first) as (λ o. map plain_break (cond (o && within bounds first) (first ∷ front) front) ≡ breaks_within (map break_to (cond o (first ∷ back) back)) bounds) [
-      | true ↦ subst (λ (b : Break). map plain_break (cond (within bounds first) (first ∷ front) front) ≡ cond (within bounds b.place) (b ∷ after) after) (sym (is first)) both
-      | false ↦ rest
-    ]
+    ∙ elim (odd first) as (λ o. test first ≡ (o && within bounds first) → map plain_break (cond (o && within bounds first) (first ∷ front) front) ≡ breaks_within (map break_to (cond o (first ∷ back) back)) bounds) [
+      | true ↦ λ inside.
+          elim (within bounds first) as (λ w. test first ≡ w → map plain_break (cond w (first ∷ front) front) ≡ cond w (break_to first ∷ after) after) [
+            | true ↦ λ passes. ap (λ bs. plain_break first ∷ bs) rest ∙ ap (λ b. b ∷ after) (sym (at passes))
+            | false ↦ λ _. rest
+          ] inside
+          ∙ ap (λ p. cond (within bounds p) (break_to first ∷ after) after) (sym (placed first))
+      | false ↦ λ _. rest
+    ] here
 
 -- No winner carries a change, where no entry does.
 pub winners_have_no_change : {C : Type 0} (keys : Patterns C) (word : List ℕ) (p : ℕ) → option_and_then (λ entry. no_change entry.change) (winner_at keys word p) ≡ None
 winners_have_no_change {C} keys word p = elim (winner_at keys word p) as (λ winner. option_and_then (λ (entry : Entry C). no_change entry.change) winner ≡ None) [ None ↦ refl | Some entry ↦ refl ]
 
--- Places with odd values within bounds are the breaks that the keys allow, where no winner carries a change.
-pub places_allowed : {C : Type 0} (change_of : C → Option Change) (keys : Patterns C) (word : List ℕ) (bounds : ℕ × ℕ) → ((p : ℕ) → option_and_then (λ entry. change_of entry.change) (winner_at keys word p) ≡ None)
+-- Places with odd values within bounds are the breaks that the keys allow, where their winners carry no change.
+pub places_allowed : {C : Type 0} (change_of : C → Option Change) (keys : Patterns C) (word : List ℕ) (bounds : ℕ × ℕ)
+    → ((p : ℕ) → 1 ≤ p → p < length word → test_of (values keys word) bounds p ≡ true → option_and_then (λ entry. change_of entry.change) (winner_at keys word p) ≡ None)
     → map plain_break (filter (test_of (values keys word) bounds) (range_with_len 1 (length (values keys word)))) ≡ breaks_within (breaks_at_odd_values change_of keys word) bounds
 unfolding breaks_at_odd_values
 places_allowed change_of keys word bounds none =
@@ -140,5 +146,6 @@ places_allowed change_of keys word bounds none =
     let test : ℕ → Bool = test_of (values keys word) bounds in
     let count : length (values keys word) ≡ n = length-map-range_with_len (λ p. value_at keys word p) 1 n in
     ap (λ m. map plain_break (filter test (range_with_len 1 m))) count
-    ∙ same_breaks test (λ place. is_odd (value_at keys word place)) (winning_break change_of keys word) bounds (λ p. ap (break_at p) (none p)) 1 n
+    ∙ same_breaks test (λ place. is_odd (value_at keys word place)) (winning_break change_of keys word) bounds (λ _. refl) 1 n
     (λ p l h. ap (λ v. is_odd v && within bounds p) (get_or-map-range_with_len (λ q. value_at keys word q) 1 n (p - 1) p 0 (omega arith) (omega arith)))
+    (λ p l h passes. ap (break_at p) (none p l (omega arith) passes))

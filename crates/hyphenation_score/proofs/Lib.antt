@@ -1,5 +1,6 @@
 pub mod GreatestValues
 pub mod FirstGreatest
+pub mod RanksOfChanges
 pub mod NumberRows
 pub mod OnePass
 pub mod OnePassInvariant

@@ -8,13 +8,14 @@ use Rattle.std.proofs.lemmas.List.{length-append, take_more, length-take, length
 use Rattle.std.proofs.lemmas.Grind.{flat_map-append, common_steps}
 use Rattle.hyphenation_breaks.specs.declared.entry.Entry.{Entry}
 use Rattle.hyphenation_breaks.specs.Dictionary.{Patterns}
+use Rattle.hyphenation_breaks.specs.Ranks.{greatest_rank}
 use Rattle.hyphenation_trie.specs.Trie.{Tree, node_text, entries_of_key, IsTrie, EachBeginsKey}
 use Rattle.hyphenation_trie.specs.Links.{EndsWith, IsLongest, IsReport, keys_in}
 use Rattle.hyphenation_trie.specs.Laws.{KeysHaveNodes}
-use Rattle.hyphenation_score.specs.Scoring.{frame, greatest_value, bearers_between, bearers_from, bearers, values}
+use Rattle.hyphenation_score.specs.Scoring.{frame, bearers_between, bearers_from, bearers, values}
 use Rattle.hyphenation_score.specs.OnePass.{keys_ending, occurrences}
 use Rattle.hyphenation_score.specs.Private.OnePass.{bearing, entries_of_end, entries_of_ends, bearers_to, bearers_by_ends, AreAfter}
-use Rattle.hyphenation_score.proofs.GreatestValues.{greatest_value-within, row_value, filter-append}
+use Rattle.hyphenation_score.proofs.GreatestValues.{greatest_rank-within, row_rank, filter-append}
 use Rattle.hyphenation_score.proofs.NumberRows.{range-append, range_more, flat_map_none}
 
 -- a text without its first bytes ends the text
@@ -106,16 +107,16 @@ ending_is {C} tree nodes framed end p node le longest =
 -- ---- starts and ends changed about
 
 -- the greatest over all starts and then ends is the greatest over all ends and then starts
-pub by_ends : {C : Type 0} (keys : Patterns C) (framed : List ℕ) (p : ℕ)
-    → greatest_value (bearers_by_ends keys framed (length framed) p) ≡ greatest_value (bearers keys framed p)
-by_ends keys framed p =
+pub by_ends : {C : Type 0} (rank : C → ℕ → ℕ) (keys : Patterns C) (framed : List ℕ) (p : ℕ)
+    → greatest_rank rank (bearers_by_ends keys framed (length framed) p) ≡ greatest_rank rank (bearers keys framed p)
+by_ends rank keys framed p =
     let n : ℕ = length framed in
     let starts = λ (s : ℕ). bearers_from keys framed p s in
     let ends = λ (e : ℕ). bearers_to keys framed p e in
-    let most = greatest_value-within ends 1 n (greatest_value (flat_map starts (range_with_len 0 n))) (λ e low high. greatest_value-within (λ s. bearers_between keys framed p s e) 0 e _ (λ s slow shigh.
-    omega (arith, row_value (λ e. bearers_between keys framed p s e) (s + 1) (n - s) e (omega arith) (omega arith), row_value starts 0 n s (omega arith) (omega arith)))) in
-    let least = greatest_value-within starts 0 n (greatest_value (flat_map ends (range_with_len 1 n))) (λ s low high. greatest_value-within (λ e. bearers_between keys framed p s e) (s + 1) (n - s) _ (λ e elow ehigh.
-    omega (arith, row_value (λ s. bearers_between keys framed p s e) 0 e s (omega arith) (omega arith), row_value ends 1 n e (omega arith) (omega arith)))) in
+    let most = greatest_rank-within rank ends 1 n (greatest_rank rank (flat_map starts (range_with_len 0 n))) (λ e low high. greatest_rank-within rank (λ s. bearers_between keys framed p s e) 0 e _ (λ s slow shigh.
+    omega (arith, row_rank rank (λ e. bearers_between keys framed p s e) (s + 1) (n - s) e (omega arith) (omega arith), row_rank rank starts 0 n s (omega arith) (omega arith)))) in
+    let least = greatest_rank-within rank starts 0 n (greatest_rank rank (flat_map ends (range_with_len 1 n))) (λ s low high. greatest_rank-within rank (λ e. bearers_between keys framed p s e) (s + 1) (n - s) _ (λ e elow ehigh.
+    omega (arith, row_rank rank (λ s. bearers_between keys framed p s e) 0 e s (omega arith) (omega arith), row_rank rank ends 1 n e (omega arith) (omega arith)))) in
     omega (arith, most, least)
 
 -- without keys the root is the only node

@@ -8,6 +8,7 @@ use Rattle.std.proofs.lemmas.List.{length-map, get_or-map, ext_get_or}
 use Rattle.std.proofs.lemmas.List.Folds.{find-append, fold-map}
 use Rattle.std.proofs.lemmas.List.FromFn.{length-map-range_with_len, get_or-map-range_with_len}
 use Rattle.hyphenation_breaks.specs.Dictionary.{Patterns}
+use Rattle.hyphenation_breaks.specs.Ranks.{plain_rank}
 use Rattle.hyphenation_breaks.specs.declared.entry.Entry.{Entry}
 use Rattle.hyphenation_score.specs.Scoring.{frame, bearers_between, bearers, greatest_value, first_greatest, value_at, values, winner_at, winners}
 use Rattle.hyphenation_score.specs.Winners.{Bears, Wins}
@@ -28,7 +29,7 @@ values_met {C} keys word old new places len zeros met =
     (λ i lt.
     let es : List (Entry C) = bearers_by_ends keys (frame word) (length word + 2) (i + 1) in
     met i 0 (omega (arith, lt, len)) ∙ ap (λ (v : ℕ). fold (λ v e. max v e.value) v es) (zeros i (omega (arith, lt, len))) ∙ sym (fold-map max (λ (e : Entry C). e.value) 0 es)
-    ∙ ap (λ (k : ℕ). greatest_value (bearers_by_ends keys (frame word) k (i + 1))) (sym (length-frame word)) ∙ by_ends keys (frame word) (i + 1)
+    ∙ ap (λ (k : ℕ). greatest_value (bearers_by_ends keys (frame word) k (i + 1))) (sym (length-frame word)) ∙ by_ends plain_rank keys (frame word) (i + 1)
     ∙ sym (get_or-map-range_with_len (λ p. value_at keys word p) 1 n i (i + 1) 0 (omega (arith, lt, len)) (omega arith)))
 
 -- ---- elements of lists
@@ -166,7 +167,7 @@ wins_met {C} keys word p s e w wins pos is =
 -- the best of the entries that bear on a place, in the order of their ends, is the winner
 best_met : {C : Type 0} (keys : Patterns C) (word : List ℕ) (p : ℕ) → fold better None (bearers_by_ends keys (frame word) (length (frame word)) p) ≡ winner_at keys word p
 best_met {C} keys word p = elim (winner_at keys word p) as (λ o. winner_at keys word p ≡ o → fold better None (bearers_by_ends keys (frame word) (length (frame word)) p) ≡ o) [
-  | None ↦ λ is. best_none (bearers_by_ends keys (frame word) (length (frame word)) p) (by_ends keys (frame word) p ∙ missing_value keys word p is)
+  | None ↦ λ is. best_none (bearers_by_ends keys (frame word) (length (frame word)) p) (by_ends plain_rank keys (frame word) p ∙ missing_value keys word p is)
   | Some w ↦ λ is.
       let won = winner_found keys word p w is in
       wins_met keys word p won.0 won.1 w won.2 (first_value (bearers keys (frame word) p) w is).1 won.3

@@ -3,12 +3,13 @@ use Rattle.std.proofs.Common.{◌≡◌, ℕ, ◌+◌, ◌-◌, ◌*◌, ◌/◌
 use Rattle.std.specs.Prelude.{IsSome, slice_index, slice_index_or}
 use Rattle.std.proofs.lemmas.Bool.{cases_eq}
 use Rattle.std.proofs.lemmas.List.{length-append, length-drop, length-map, get_or-map, append_assoc, append-nil}
+use Rattle.hyphenation_breaks.specs.Ranks.{greatest_rank}
 use Rattle.hyphenation_breaks.specs.declared.entry.Entry.{Entry}
 use Rattle.hyphenation_trie.specs.Links.{EndsWith}
 use Rattle.hyphenation_trie.specs.Private.Known.{AreClasses, AreKnown, AreRows, HasChild, IsCellTo, IsLongestInner}
 use Rattle.hyphenation_trie.specs.Tables.{IsStepTo, IsTable, IsTail, cell_at}
 use Rattle.hyphenation_trie.specs.Trie.{Tree, node_text, entries_of_key, IsTrie}
-use Rattle.hyphenation_trie.specs.Vectors.{AreNear, AreNearEntries, IsVector, greatest_of}
+use Rattle.hyphenation_trie.specs.Vectors.{AreNear, AreNearEntries, IsVector}
 use Rattle.hyphenation_trie.specs.declared.table.Table.{Table}
 use Rattle.hyphenation_trie.proofs.KeyNodes.{node_of_key}
 use Rattle.hyphenation_trie.proofs.Tails.{Ends-drop, entries_same, count_same, none_longer}
@@ -66,8 +67,8 @@ module _ {E : Type 0} (tree : Tree (Entry E)) (trie : IsTrie tree) (text : List 
   }
 
 -- the entries of all keys are near
-all_near : {C : Type 0} (tree : Tree (Entry C)) (numbers : List ℕ) (vectors : List (List ℕ)) (counts : List ℕ) → AreKnown tree numbers vectors counts → AreNear (entries_of_key tree)
-all_near {C} tree numbers vectors counts known = λ text entries long is.
+all_near : {C : Type 0} (rank : C → ℕ → ℕ) (tree : Tree (Entry C)) (numbers : List ℕ) (vectors : List (List ℕ)) (counts : List ℕ) → AreKnown rank tree numbers vectors counts → AreNear (entries_of_key tree)
+all_near {C} rank tree numbers vectors counts known = λ text entries long is.
     let n = node_of_key tree.texts tree.entries text (subst (λ (o : Option (List (Entry C))). IsSome o) (sym is) refl) in
     let here = (known.each n.0 n.1).known in
     subst (λ (t : List ℕ). AreNearEntries entries (length t)) n.2 (here.near entries (omega (arith, ap length n.2)) (ap (entries_of_key tree) n.2 ∙ is))
@@ -79,18 +80,18 @@ row_texts tree rows = map (node_text tree) rows
 row_text : {E : Type 0} (tree : Tree E) (rows : List ℕ) (row : ℕ) → row < length rows → slice_index_or (row_texts tree rows) row [] ≡ node_text tree (slice_index rows row)
 row_text tree rows row lt = get_or-map (node_text tree) rows row 0 [] lt
 
-module _ {C : Type 0} (tree : Tree (Entry C)) (trie : IsTrie tree) (numbers rows : List ℕ) (quarter : ℕ) (table : Table) (known : AreKnown tree numbers table.vectors.items table.counts.items) where
+module _ {C : Type 0} (rank : C → ℕ → ℕ) (tree : Tree (Entry C)) (trie : IsTrie tree) (numbers rows : List ℕ) (quarter : ℕ) (table : Table) (known : AreKnown rank tree numbers table.vectors.items table.counts.items) where
   -- the vector and the count of the longest node that ends a text are those of the text
-  known_step : (text : List ℕ) (cell : ℕ) → IsCellTo tree numbers rows quarter text cell → IsStepTo (entries_of_key tree) (row_texts tree rows) quarter table text (cell / 4096) (cell % 4096)
+  known_step : (text : List ℕ) (cell : ℕ) → IsCellTo tree numbers rows quarter text cell → IsStepTo rank (entries_of_key tree) (row_texts tree rows) quarter table text (cell / 4096) (cell % 4096)
   known_step text cell to =
       let keys = entries_of_key tree in
       let t : List ℕ = node_text tree to.node in
       let longest = to.longest in
       let here = known.each to.node longest.within in
       let none = λ (d : ℕ) (low : d < length text - length t). none_longer tree text to.node d longest low in
-      let vector : IsVector keys text (slice_index_or table.vectors.items (slice_index numbers to.node) []) = record {
+      let vector : IsVector rank keys text (slice_index_or table.vectors.items (slice_index numbers to.node) []) = record {
         lanes = here.known.vector.lanes;
-        each = λ lane distance e. here.known.vector.each lane distance e ∙ ap (λ es. greatest_of es) (sym (entries_same keys text t longest.ends none distance));
+        each = λ lane distance e. here.known.vector.each lane distance e ∙ ap (λ es. greatest_rank rank es) (sym (entries_same keys text t longest.ends none distance));
       } in
       record {
         row = to.row;
@@ -98,15 +99,15 @@ module _ {C : Type 0} (tree : Tree (Entry C)) (trie : IsTrie tree) (numbers rows
         next_is = to.next;
         tail = subst (λ (x : List ℕ). IsTail keys text x) (sym (row_text tree rows to.row to.within)) (inner_tail tree trie text (slice_index rows to.row) to.inner);
         number_of = omega (arith, to.number, here.within);
-        vector = subst (λ (n : ℕ). IsVector keys text (slice_index_or table.vectors.items n [])) (sym to.number) vector;
+        vector = subst (λ (n : ℕ). IsVector rank keys text (slice_index_or table.vectors.items n [])) (sym to.number) vector;
         counted = ap (slice_index table.counts.items) to.number ∙ here.known.counted ∙ sym (count_same keys text t longest.ends none);
       }
 
-  pub table_is : AreClasses tree.texts table.classes.items quarter → AreRows tree numbers table.classes.items quarter table.cells.items rows → IsTable (entries_of_key tree) (row_texts tree rows) quarter table
+  pub table_is : AreClasses tree.texts table.classes.items quarter → AreRows tree numbers table.classes.items quarter table.cells.items rows → IsTable rank (entries_of_key tree) (row_texts tree rows) quarter table
   table_is classes made =
       let many : length (row_texts tree rows) ≡ length rows = length-map rows (node_text tree) in
       record {
-        near = all_near tree numbers table.vectors.items table.counts.items known;
+        near = all_near rank tree numbers table.vectors.items table.counts.items known;
         classes = classes.all;
         below = classes.below;
         counts = known.counts_of;
@@ -116,6 +117,6 @@ module _ {C : Type 0} (tree : Tree (Entry C)) (trie : IsTrie tree) (numbers rows
         steps = λ row byte lt small.
             let within : row < length rows = omega (arith, lt, many) in
             let cell : ℕ = cell_at table (row * quarter) byte in
-            subst (λ (x : List ℕ). IsStepTo (entries_of_key tree) (row_texts tree rows) quarter table (x ++ byte ∷ []) (cell / 4096) (cell % 4096)) (sym (row_text tree rows row within))
+            subst (λ (x : List ℕ). IsStepTo rank (entries_of_key tree) (row_texts tree rows) quarter table (x ++ byte ∷ []) (cell / 4096) (cell % 4096)) (sym (row_text tree rows row within))
             (known_step (node_text tree (slice_index rows row) ++ byte ∷ []) cell (made.each row byte within small));
       }

@@ -3,20 +3,21 @@ use Rattle.std.proofs.Common.{◌≡◌, ℕ, suc, ◌+◌, ◌*◌, ◌/◌, �
 use Rattle.std.proofs.lemmas.List.{get_or_default}
 use Rattle.std.proofs.Math.Nat.{mul-le-mul_right, suc-mul}
 use Rattle.hyphenation_breaks.specs.Dictionary.{Patterns}
+use Rattle.hyphenation_breaks.specs.Ranks.{greatest_rank}
 use Rattle.hyphenation_trie.specs.Tables.{IsTail, IsStepTo, cell_at, IsTableOf, GoesOn, IsRead}
-use Rattle.hyphenation_trie.specs.Vectors.{AreNear, greatest_of}
+use Rattle.hyphenation_trie.specs.Vectors.{AreNear}
 use Rattle.hyphenation_trie.specs.declared.table.Table.{Table}
 use Rattle.hyphenation_trie.proofs.Tails.{same_before, same_count, tail_goes_on}
 
 -- what the cell of a row at a byte leads to
-pub read_is : {C : Type 0} (keys : Patterns C) (table : Table) (start : ℕ) (text : List ℕ) (byte cell : ℕ) → byte < 256 → cell ≡ cell_at table start byte → GoesOn keys table start text
-    → IsRead keys table (text ++ byte ∷ []) (cell / 4096) (cell % 4096)
-read_is keys table start text byte cell small is on =
+pub read_is : {C : Type 0} (rank : C → ℕ → ℕ) (keys : Patterns C) (table : Table) (start : ℕ) (text : List ℕ) (byte cell : ℕ) → byte < 256 → cell ≡ cell_at table start byte → GoesOn rank keys table start text
+    → IsRead rank keys table (text ++ byte ∷ []) (cell / 4096) (cell % 4096)
+read_is rank keys table start text byte cell small is on =
     let there : cell ≡ cell_at table (on.row * on.quarter) byte = is ∙ ap (λ (r : ℕ). cell_at table r byte) on.start_is in
     let tail : List ℕ = slice_index_or on.texts on.row [] in
     let step = on.is_table.steps on.row byte on.within small in
-    let read : IsStepTo keys on.texts on.quarter table (tail ++ byte ∷ []) (cell / 4096) (cell % 4096) =
-    subst (λ (k : ℕ). IsStepTo keys on.texts on.quarter table (tail ++ byte ∷ []) (k / 4096) (k % 4096)) (sym there) step in
+    let read : IsStepTo rank keys on.texts on.quarter table (tail ++ byte ∷ []) (cell / 4096) (cell % 4096) =
+    subst (λ (k : ℕ). IsStepTo rank keys on.texts on.quarter table (tail ++ byte ∷ []) (k / 4096) (k % 4096)) (sym there) step in
     record {
       goes_on = record {
         texts = on.texts;
@@ -29,39 +30,39 @@ read_is keys table start text byte cell small is on =
       };
       vector = record {
         lanes = read.vector.lanes;
-        each = λ lane distance e. read.vector.each lane distance e ∙ ap (λ es. greatest_of es) (sym (same_before keys text tail byte on.tail distance));
+        each = λ lane distance e. read.vector.each lane distance e ∙ ap (λ es. greatest_rank rank es) (sym (same_before keys text tail byte on.tail distance));
       };
       counted = read.counted ∙ sym (same_count keys text tail byte on.tail);
     }
 
 -- the row ends within the cells
-pub row_in : {C : Type 0} (keys : Patterns C) (table : Table) (start : ℕ) (text : List ℕ) (on : GoesOn keys table start text) → start * 4 + on.quarter * 4 ≤ length table.cells.items
-row_in keys table start text on =
+pub row_in : {C : Type 0} (rank : C → ℕ → ℕ) (keys : Patterns C) (table : Table) (start : ℕ) (text : List ℕ) (on : GoesOn rank keys table start text) → start * 4 + on.quarter * 4 ≤ length table.cells.items
+row_in rank keys table start text on =
     let times = mul-le-mul_right {m = suc on.row} {n = length on.texts} on.quarter (omega (arith, on.within)) in
     let one = suc-mul on.row on.quarter in
     omega (arith, on.start_is, on.is_table.room, times, one)
 
 -- a cell that was read is that of the row at the byte
-pub cell_is : {C : Type 0} (keys : Patterns C) (table : Table) (start : ℕ) (text : List ℕ) (byte class cell : ℕ) → byte < 256 → GoesOn keys table start text
+pub cell_is : {C : Type 0} (rank : C → ℕ → ℕ) (keys : Patterns C) (table : Table) (start : ℕ) (text : List ℕ) (byte class cell : ℕ) → byte < 256 → GoesOn rank keys table start text
     → class ≡ get_or table.classes.items byte class → cell ≡ get_or table.cells.items (start * 4 + class) cell → cell ≡ cell_at table start byte
-cell_is keys table start text byte class cell small on class_read cell_read =
+cell_is rank keys table start text byte class cell small on class_read cell_read =
     let t = on.is_table in
     let known : class ≡ slice_index table.classes.items byte = class_read ∙ get_or_default table.classes.items byte class 0 (omega (arith, t.classes)) in
     let low = t.below byte small in
-    let within = row_in keys table start text on in
+    let within = row_in rank keys table start text on in
     cell_read ∙ get_or_default table.cells.items (start * 4 + class) cell 0 (omega (arith, known)) ∙ ap (λ (k : ℕ). slice_index table.cells.items (start * 4 + k)) known
 
 -- the number in the cell of a row is one of a vector
-pub number_in : {C : Type 0} (keys : Patterns C) (table : Table) (start : ℕ) (text : List ℕ) (byte cell : ℕ) → byte < 256 → cell ≡ cell_at table start byte → GoesOn keys table start text
+pub number_in : {C : Type 0} (rank : C → ℕ → ℕ) (keys : Patterns C) (table : Table) (start : ℕ) (text : List ℕ) (byte cell : ℕ) → byte < 256 → cell ≡ cell_at table start byte → GoesOn rank keys table start text
     → cell % 4096 < length table.vectors.items
-number_in keys table start text byte cell small is on =
+number_in rank keys table start text byte cell small is on =
     let there : cell ≡ cell_at table (on.row * on.quarter) byte = is ∙ ap (λ (r : ℕ). cell_at table r byte) on.start_is in
     let step = on.is_table.steps on.row byte on.within small in
     subst (λ (k : ℕ). k % 4096 < length table.vectors.items) (sym there) step.number_of
 
 -- the row of the empty text
-pub root_goes_on : {C : Type 0} (keys : Patterns C) (table : Table) → IsTableOf keys table → GoesOn keys table 0 []
-root_goes_on keys table is =
+pub root_goes_on : {C : Type 0} (rank : C → ℕ → ℕ) (keys : Patterns C) (table : Table) → IsTableOf rank keys table → GoesOn rank keys table 0 []
+root_goes_on rank keys table is =
     let texts = is.0 in
     let nil : slice_index_or texts 0 [] ≡ [] = is.2.root in
     record {
@@ -75,5 +76,5 @@ root_goes_on keys table is =
     }
 
 -- the entries of the keys
-pub keys_near : {C : Type 0} (keys : Patterns C) (table : Table) → IsTableOf keys table → AreNear keys
-keys_near keys table is = is.2.near
+pub keys_near : {C : Type 0} (rank : C → ℕ → ℕ) (keys : Patterns C) (table : Table) → IsTableOf rank keys table → AreNear keys
+keys_near rank keys table is = is.2.near

@@ -1,5 +1,5 @@
 -- Breaks by the winners of places, borrowed breaks, and breaks carried back by shifts.
-use Rattle.std.specs.Prelude.{ℕ, ◌+◌, ◌-◌, ◌&&◌, pos, ◌-ℤ◌, Bool, if◌then◌else◌, List, length, map, filter, slice_index, slice_index_or, Option, Some, None, option_copied}
+use Rattle.std.specs.Prelude.{ℕ, ◌+◌, ◌-◌, ◌/◌, ◌%◌, ◌==◌, ◌&&◌, pos, ◌-ℤ◌, Bool, if◌then◌else◌, List, length, map, filter, slice_index, slice_index_or, Option, Some, None, option_copied}
 use Rattle.std.specs.Borrow.{Bor}
 use Rattle.std.specs.Int.{saturate_unsigned, w64}
 use Rattle.std.specs.List.{range_with_len}
@@ -20,6 +20,14 @@ breaks_by_keys change_of keys word bounds = breaks_within (breaks_at_odd_values 
 abbrev pub odd_places : List ℕ → ℕ × ℕ → List ℕ
 odd_places values bounds =
     filter (λ place. is_odd (slice_index values (place - 1)) && within bounds place) (range_with_len 1 (length values))
+
+-- The values of places with these ranks.
+abbrev pub values_of_ranks : List ℕ → List ℕ
+values_of_ranks ranks = map (λ rank. rank / 2) ranks
+
+-- The rank of a place is even, so that its winner carries no change. The ranks begin with that of place 1.
+abbrev pub is_unchanged : List ℕ → ℕ → Bool
+is_unchanged ranks place = slice_index ranks (place - 1) % 2 == 0
 
 -- The break of a place with a borrowed change or none.
 abbrev pub borrowed_break : ℕ × Option (Bor Change) → Break

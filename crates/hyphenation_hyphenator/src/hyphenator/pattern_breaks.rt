@@ -3,19 +3,18 @@
 //! A standard dictionary needs the values alone. An extended one needs the winners of the places, whose entries may
 //! carry changes. If it has a table, the ranks of the places show the words whose winners carry none, which are most.
 
-ghost use Rattle.std.specs.Prelude.{◌≡◌, ◌≢◌, ◌/◌, ◌%◌, ◌+◌, ◌-◌, ◌<◌, ◌≤◌, ◌&&◌, ℕ, length, map, filter, slice_index};
-ghost use Rattle.std.specs.Prelude.{IfOk, IfSome, IsTrue, OnOk, [], ◌∷◌, ◌++◌, false, option_copied, Option, None};
-ghost use Rattle.std.specs.List.{IsAmong, range_with_len, slice_index_or};
+ghost use Rattle.std.specs.Prelude.{◌≡◌, ◌+◌, ◌-◌, ◌<◌, ◌≤◌, [], ◌∷◌, ◌++◌, ℕ, false, length, map, Option, None, option_copied};
+ghost use Rattle.std.specs.Prelude.{IfOk, IfSome, IsTrue, OnOk};
+ghost use Rattle.std.specs.List.{list_all, slice_index_or};
 ghost use Rattle.std.specs.Option.{option_map};
 ghost use Rattle.hyphenation_breaks.specs.Break.{plain_break};
 ghost use Rattle.hyphenation_breaks.specs.Ranks.{plain_rank, rank_with_change};
 ghost use Rattle.hyphenation_trie.specs.Tables.{IsTableOf};
 ghost use Rattle.hyphenation_trie.specs.Trie.{entries_of_key, EachBeginsKey};
 ghost use Rattle.hyphenation_score.specs.Scoring.{own_change};
-ghost use Rattle.hyphenation_hyphenator.specs.Opportunities.{is_odd, no_change, within, breaks_within};
-ghost use Rattle.hyphenation_hyphenator.specs.Opportunities.{breaks_at_odd_values};
-ghost use Rattle.hyphenation_hyphenator.specs.Private.Opportunities.{borrowed_break, break_at_winner};
-ghost use Rattle.hyphenation_hyphenator.specs.Private.Opportunities.{breaks_at_winners, breaks_by_keys, odd_places};
+ghost use Rattle.hyphenation_hyphenator.specs.Opportunities.{no_change, within};
+ghost use Rattle.hyphenation_hyphenator.specs.Private.Opportunities.{borrowed_break, break_at_winner, breaks_at_winners};
+ghost use Rattle.hyphenation_hyphenator.specs.Private.Opportunities.{breaks_by_keys, is_unchanged, odd_places, values_of_ranks};
 
 use hyphenation_breaks::entry::Entry;
 use hyphenation_breaks::extended::Subregion;
@@ -160,11 +159,10 @@ fn unchanged_breaks<'h>(
     breaks: &mut Vec<(usize, Option<&'h Subregion>)>,
 ) -> Result<bool, AllocError>
     requires { breaks.old.items ≡ [] }
+    ensures unchanged { IfOk result (λ all.
+        all ≡ list_all (is_unchanged ranks.now) (odd_places (values_of_ranks ranks.now) bounds)) }
     ensures all { IfOk result (λ all. IsTrue all
-        → map borrowed_break breaks.new.items ≡ map plain_break (odd_places (map (λ rank. rank / 2) ranks.now) bounds)) }
-    ensures unchanged { IfOk result (λ all. IsTrue all → (place : ℕ)
-        → IsAmong (odd_places (map (λ rank. rank / 2) ranks.now) bounds) place
-        → slice_index ranks.now (place - 1) % 2 ≡ 0) }
+        → map borrowed_break breaks.new.items ≡ map plain_break (odd_places (values_of_ranks ranks.now) bounds)) }
     ensures empty { IfOk result (λ all. all ≡ false → breaks.new.items ≡ []) }
 {
     // Places outside of the bounds are not read.
@@ -183,8 +181,8 @@ fn unchanged_breaks<'h>(
     Ok(true)
 }
 
-// Puts the breaks within bounds that the patterns of an extended dictionary allow into an empty list, by a table, and returns
-// `true`. Where one of them may have a change, it returns `false`, and the list is empty.
+// Puts the breaks within bounds that the patterns of an extended dictionary allow into an empty list, by a table, and
+// returns `true`. Where one of them may have a change, it returns `false`, and the list is empty.
 #[inline(always)]
 fn breaks_by_ranks<'h>(
     patterns: &'h Automaton<Entry<Option<Subregion>>>,

@@ -5,6 +5,6 @@ use Rattle.hyphenation_trie.proofs.table.vectors.raised_by.Given as goal
 
 abbrev pub invariant-loop-entry : goal.invariant-loop-entry
 invariant-loop-entry g l = record {
-  raised : IsRaisedBy l.vector l.raised (take l.entry-index l.entries) l.bytes;
+  raised : IsRaisedBy g.C.Payload.rank_of l.vector l.raised (take l.entry-index l.entries) l.bytes;
   near : AreNearEntries (take l.entry-index l.entries) l.bytes;
 }
