@@ -1,7 +1,7 @@
 -- Parents, depths and rows of a trie's nodes.
-use Rattle.std.proofs.Common.{◌≡◌, ◌≢◌, ℕ, zero, suc, ◌+◌, ◌<◌, ◌≤◌, List, [], ◌∷◌, ◌++◌, length, map, drop, get_or, slice_index, Option, Some, None, refl, sym, ap, subst, ◌∙◌, arith, inl, inr}
+use Rattle.std.proofs.Common.{◌≡◌, ◌≢◌, ℕ, zero, suc, ◌+◌, ◌<◌, ◌≤◌, List, [], ◌∷◌, ◌++◌, length, map, drop, get_or, set, slice_index, Option, Some, None, refl, sym, ap, subst, ◌∙◌, arith, inl, inr}
 use Rattle.std.proofs.lemmas.Bool.{cases_eq, cases_lt}
-use Rattle.std.proofs.lemmas.List.{length-append, length-drop, length-map, map_push, get_or-map, get_or_append_left, get_or_push}
+use Rattle.std.proofs.lemmas.List.{length-append, length-drop, length-map, map_push, get_or-map, get_or_append_left, get_or_push, get_or-set_same, get_or-set_other}
 use Rattle.hyphenation_trie.specs.Trie.{Tree, node_text, IsTrie}
 use Rattle.hyphenation_trie.specs.Private.Trie.{texts_of, HasFroms}
 use Rattle.hyphenation_trie.specs.Private.Rows.{child_in, edge_in, HasRowBy, IsFullRow}
@@ -137,23 +137,23 @@ found_none tree i b None found = found
 found_none tree i b (Some j) found = tt
 
 -- one depth more
-pub depths_more : (parents depths : List ℕ) (node depth : ℕ) → length depths ≡ node → ((j : ℕ) → 0 < j → j < node + 1 → slice_index parents j < j)
+pub depths_more : (parents depths : List ℕ) (node depth : ℕ) → node < length depths → ((j : ℕ) → 0 < j → j < node + 1 → slice_index parents j < j)
     → depth ≡ slice_index depths (slice_index parents node) + 1
     → ((j : ℕ) → 0 < j → j < node → slice_index depths j ≡ slice_index depths (slice_index parents j) + 1)
-    → (j : ℕ) → 0 < j → j < node + 1 → slice_index (depths ++ depth ∷ []) j ≡ slice_index (depths ++ depth ∷ []) (slice_index parents j) + 1
-depths_more parents depths node depth len before is each j jpos lj =
+    → (j : ℕ) → 0 < j → j < node + 1 → slice_index (set depths node depth) j ≡ slice_index (set depths node depth) (slice_index parents j) + 1
+depths_more parents depths node depth lt before is each j jpos lj =
     let up : slice_index parents j < j = before j jpos lj in
-    let above : slice_index (depths ++ depth ∷ []) (slice_index parents j) ≡ slice_index depths (slice_index parents j) = get_or_append_left depths (depth ∷ []) 0 (slice_index parents j) (omega arith) in
+    let above : slice_index (set depths node depth) (slice_index parents j) ≡ slice_index depths (slice_index parents j) = get_or-set_other depths node (slice_index parents j) depth 0 (λ e. omega (arith, up)) in
     elim (cases_eq j node) [
       | inl same ↦
-          get_or_push depths depth 0 j (len ∙ sym same) ∙ is ∙ ap (λ (x : ℕ). slice_index depths (slice_index parents x) + 1) (sym same) ∙ ap (λ (x : ℕ). x + 1) (sym above)
-      | inr apart ↦ get_or_append_left depths (depth ∷ []) 0 j (omega arith) ∙ each j jpos (omega arith) ∙ ap (λ (x : ℕ). x + 1) (sym above)
+          ap (λ (x : ℕ). slice_index (set depths node depth) x) same ∙ get_or-set_same depths node depth 0 lt ∙ is ∙ ap (λ (x : ℕ). slice_index depths (slice_index parents x) + 1) (sym same) ∙ ap (λ (x : ℕ). x + 1) (sym above)
+      | inr apart ↦ get_or-set_other depths node j depth 0 apart ∙ each j jpos (omega arith) ∙ ap (λ (x : ℕ). x + 1) (sym above)
     ]
 
-pub low_more : (depths : List ℕ) (node depth : ℕ) → depth ≤ node → length depths ≡ node → ((j : ℕ) → j < node → slice_index depths j ≤ j) → (j : ℕ) → j < node + 1 → slice_index (depths ++ depth ∷ []) j ≤ j
-low_more depths node depth le len low j lj = elim (cases_eq j node) [
-  | inl same ↦ omega (arith, get_or_push depths depth 0 j (len ∙ sym same))
-  | inr apart ↦ omega (arith, get_or_append_left depths (depth ∷ []) 0 j (omega arith), low j (omega arith))
+pub low_more : (depths : List ℕ) (node depth : ℕ) → depth ≤ node → node < length depths → ((j : ℕ) → j < node → slice_index depths j ≤ j) → (j : ℕ) → j < node + 1 → slice_index (set depths node depth) j ≤ j
+low_more depths node depth le lt low j lj = elim (cases_eq j node) [
+  | inl same ↦ omega (arith, ap (λ (x : ℕ). slice_index (set depths node depth) x) same, get_or-set_same depths node depth 0 lt)
+  | inr apart ↦ omega (arith, get_or-set_other depths node j depth 0 apart, low j (omega arith))
 ]
 
 pub has_depths : {E : Type 0} (tree : Tree E) (parents bytes depths : List ℕ) → IsTrie tree → HasParents tree.texts parents bytes → IsDepths parents depths → HasDepths tree.texts depths

@@ -67,6 +67,12 @@ tree_more parents bytes states {lasts} {befores} {bound} es i b s held none =
 
 -- ---- for freezing
 
+-- each node has a number in the lists of children
+pub rooms_held : (parents bytes : List ℕ) (states : List State) (lasts befores : List ℕ) (bound : ℕ) → IsHeld parents bytes states lasts befores bound → (length lasts ≡ length parents) × (length befores ≡ length parents)
+rooms_held parents bytes states lasts befores bound held =
+    let froms = length-froms_by parents bytes held.parents_from held.bytes_of in
+    (held.growing.nodes ∙ froms, held.growing.chained.lengths ∙ length-map (froms_by parents bytes) parent_of ∙ froms)
+
 pub parents_held : (parents bytes : List ℕ) (states : List State) (lasts befores : List ℕ) (bound : ℕ) → IsHeld parents bytes states lasts befores bound → HasParents (texts_by parents bytes) parents bytes
 parents_held parents bytes states lasts befores bound held = has_parents parents bytes held.parents_from held.bytes_from held.bytes_of held.growing.from
 
