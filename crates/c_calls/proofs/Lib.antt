@@ -3,6 +3,7 @@ pub mod Boxes
 pub mod Faults
 pub mod Finding
 pub mod Found
+pub mod ListEnds
 pub mod OfFiles
 pub mod Slots
 pub mod Stands

@@ -1,22 +1,40 @@
 //! Words of the caller's as texts.
 
-ghost use Rattle.std.specs.Prelude.{◌≡◌, MatchOption};
+ghost use Rattle.std.specs.Prelude.{◌≡◌, ◌+◌, ◌≤◌, ◌&&◌, MatchOption, length};
 ghost use Rattle.std.specs.Char.{is_ascii};
 ghost use Rattle.std.specs.List.{list_all};
 ghost use Rattle.std.specs.Str.{IsUtf8};
 
 use std::str;
 
-// Whether all of so many bytes are ASCII. It has no early exit, so that the bytes can be tested at once.
+// Whether all bytes of two arrays are ASCII. It has no early exit, so that the bytes can be tested at once.
 #[inline(always)]
-fn are_ascii_at_once<const N: usize>(bytes: &[u8; N]) -> bool
-    ensures { result ≡ list_all is_ascii bytes.now }
+fn are_ascii_at_once<const N: usize>(first: &[u8; N], last: &[u8; N]) -> bool
+    ensures { result ≡ (list_all is_ascii first.now && list_all is_ascii last.now) }
 {
     let mut all = true;
-    for byte in bytes {
-        all &= byte.is_ascii();
+    for at in 0..N {
+        all &= first[at].is_ascii();
+        all &= last[at].is_ascii();
     }
     all
+}
+
+// Whether each of at least `N` bytes, and at most twice as many, is ASCII. The first `N` and the last `N` bytes are tested
+// at once. They have some bytes in common, and together they are all.
+#[inline(always)]
+fn are_ascii_by_ends<const N: usize>(bytes: &[u8]) -> bool
+    requires least { N ≤ length bytes.now }
+    requires most { length bytes.now ≤ N + N }
+    ensures { result ≡ list_all is_ascii bytes.now }
+{
+    let Some((first, _)) = bytes.split_first_chunk::<N>() else {
+        return false;
+    };
+    let Some((_, last)) = bytes.split_last_chunk::<N>() else {
+        return false;
+    };
+    are_ascii_at_once(first, last)
 }
 
 // Whether each byte is ASCII, tested one by one.
@@ -27,25 +45,20 @@ fn are_ascii_in_turn(bytes: &[u8]) -> bool
     bytes.iter().all(|byte| byte.is_ascii())
 }
 
-// Whether each byte is ASCII. The first four are tested at once.
-#[inline(always)]
-fn are_ascii_by_four(bytes: &[u8]) -> bool
-    ensures { result ≡ list_all is_ascii bytes.now }
-{
-    match bytes.split_first_chunk::<4>() {
-        Some((first, rest)) => are_ascii_at_once(first) && are_ascii_in_turn(rest),
-        None => are_ascii_in_turn(bytes),
-    }
-}
-
-// Whether each byte is ASCII. The first eight are tested at once.
+// Whether each byte is ASCII. Most words have 4 to 32 bytes.
 #[inline(always)]
 fn are_ascii(bytes: &[u8]) -> bool
     ensures { result ≡ list_all is_ascii bytes.now }
 {
-    match bytes.split_first_chunk::<8>() {
-        Some((first, rest)) => are_ascii_at_once(first) && are_ascii_by_four(rest),
-        None => are_ascii_by_four(bytes),
+    let count = bytes.len();
+    if 8 < count && count <= 16 {
+        are_ascii_by_ends::<8>(bytes)
+    } else if 4 <= count && count <= 8 {
+        are_ascii_by_ends::<4>(bytes)
+    } else if 16 < count && count <= 32 {
+        are_ascii_by_ends::<16>(bytes)
+    } else {
+        are_ascii_in_turn(bytes)
     }
 }
 
