@@ -1,26 +1,25 @@
 -- Facts read from the states of nodes, and facts that stay when links are set.
 use Rattle.std.proofs.Common.{◌≡◌, ◌≢◌, ℕ, zero, suc, ◌+◌, ◌-◌, ◌^◌, ◌<◌, ◌≤◌, true, false, cond, List, [], ◌∷◌, length, map, get_or, set, slice_index, Option, Some, None, refl, sym, ap, subst, ◌∙◌, arith}
-use Rattle.std.specs.Prelude.{◌==◌, IsSome, not, replicate}
+use Rattle.std.specs.Prelude.{◌==◌, IsSome, not}
 use Rattle.std.proofs.Math.Seq.{map-set_same}
 use Rattle.std.proofs.lemmas.Bool.{cond-true, cond-false, true≢false}
 use Rattle.std.proofs.lemmas.List.{length-map, length-set, get_or-map, map-set, get_or-set_same, get_or-set_other}
 use Rattle.hyphenation_trie.specs.Private.Links.{IsFrozen}
-use Rattle.hyphenation_trie.specs.Private.States.{no_reports, links_with, froms_by, texts_by, is_key, span_in, HasStates}
+use Rattle.hyphenation_trie.specs.Private.States.{froms_by, texts_by, is_key, span_in, HasStates}
 use Rattle.hyphenation_trie.specs.Trie.{Tree, node_text, entries_of_key}
 use Rattle.hyphenation_trie.specs.Private.Trie.{tree_of, entries_there, IsWithin, AreWithin}
 use Rattle.hyphenation_trie.specs.declared.state.Span.{Span}
 use Rattle.hyphenation_trie.specs.declared.rows.Moves.{Moves}
-use Rattle.hyphenation_trie.specs.declared.frozen.Reports.{Reports}
 use Rattle.hyphenation_trie.specs.declared.state.State.{State}
 use Rattle.hyphenation_trie.specs.declared.rows.Cell.{Cell}
 use Rattle.hyphenation_trie.proofs.TrieNodes.{entries_at-here}
 
 -- ---- facts read from a state
 
-pub states_within : {E : Type 0} (tree : Tree E) (parents bytes : List ℕ) (states : List State) (moves : List Moves) (reports : List Reports) (cells : List Cell) (bound node : ℕ) → HasStates tree parents bytes states moves reports cells bound → node < length tree.texts → node < length states
+pub states_within : {E : Type 0} (tree : Tree E) (parents bytes : List ℕ) (states : List State) (moves : List Moves) (reports : List ℕ) (cells : List Cell) (bound node : ℕ) → HasStates tree parents bytes states moves reports cells bound → node < length tree.texts → node < length states
 states_within tree parents bytes states moves reports cells bound node has lt = omega (arith, has.states_of)
 
-pub moves_within : {E : Type 0} (tree : Tree E) (parents bytes : List ℕ) (states : List State) (moves : List Moves) (reports : List Reports) (cells : List Cell) (bound node : ℕ) → HasStates tree parents bytes states moves reports cells bound → node < length tree.texts → node < length moves
+pub moves_within : {E : Type 0} (tree : Tree E) (parents bytes : List ℕ) (states : List State) (moves : List Moves) (reports : List ℕ) (cells : List Cell) (bound node : ℕ) → HasStates tree parents bytes states moves reports cells bound → node < length tree.texts → node < length moves
 moves_within tree parents bytes states moves reports cells bound node has lt = omega (arith, has.frozen.lengths, length-map moves (λ m. m.base))
 
 pub base_is : (moves : List Moves) (node : ℕ) (m : Moves) → node < length moves → m ≡ get_or moves node m → slice_index (map (λ m. m.base) moves) node ≡ m.base
@@ -58,14 +57,14 @@ start_of_entries es s some =
     ] some refl
 
 -- the span of a key ends within the entries of all keys
-pub key_within : {E : Type 0} (tree : Tree E) (parents bytes : List ℕ) (states : List State) (moves : List Moves) (reports : List Reports) (cells : List Cell) (bound node : ℕ) (s : State) → HasStates tree parents bytes states moves reports cells bound → node < length tree.texts
+pub key_within : {E : Type 0} (tree : Tree E) (parents bytes : List ℕ) (states : List State) (moves : List Moves) (reports : List ℕ) (cells : List Cell) (bound node : ℕ) (s : State) → HasStates tree parents bytes states moves reports cells bound → node < length tree.texts
     → s ≡ get_or states node s → span_in s ≡ Some s.span → s.span.start + s.span.count ≤ bound
 key_within tree parents bytes states moves reports cells bound node s has lt read is =
     let within = states_within tree parents bytes states moves reports cells bound node has lt in
     subst (λ (x : Option Span). IsWithin bound x) (span_of_state states node s within read ∙ is) (has.within node)
 
 -- the entries of a state are those of the key that its node's text is
-pub entries_of_node : {E : Type 0} (es : List E) (parents bytes : List ℕ) (states : List State) (moves : List Moves) (reports : List Reports) (cells : List Cell) (bound node : ℕ) (s : State)
+pub entries_of_node : {E : Type 0} (es : List E) (parents bytes : List ℕ) (states : List State) (moves : List Moves) (reports : List ℕ) (cells : List Cell) (bound node : ℕ) (s : State)
     → HasStates (tree_of (froms_by parents bytes) (map span_in states) es) parents bytes states moves reports cells bound → node < length (texts_by parents bytes) → s ≡ get_or states node s
     → entries_there es (span_in s) ≡ entries_of_key (tree_of (froms_by parents bytes) (map span_in states) es) (node_text (tree_of (froms_by parents bytes) (map span_in states) es) node)
 entries_of_node es parents bytes states moves reports cells bound node s has lt read =
@@ -81,14 +80,9 @@ spans_within bound [] h i = tt
 spans_within bound (n ∷ ns) h zero = h.0
 spans_within bound (n ∷ ns) h (suc i) = spans_within bound ns h.1 i
 
-pub reports_none : (n j : ℕ) → get_or (replicate n no_reports) j no_reports ≡ no_reports
-reports_none zero j = refl
-reports_none (suc n) zero = refl
-reports_none (suc n) (suc j) = reports_none n j
-
 -- ---- links are set
 
-pub states_kept : {E : Type 0} (tree : Tree E) (states : List State) (moves : List Moves) (reports : List Reports) (parents bytes : List ℕ) (cells : List Cell) (bound node : ℕ) (m x : Moves) (r : Reports) → m ≡ get_or moves node m → x.base ≡ m.base
+pub states_kept : {E : Type 0} (tree : Tree E) (states : List State) (moves : List Moves) (reports : List ℕ) (parents bytes : List ℕ) (cells : List Cell) (bound node : ℕ) (m x : Moves) (r : ℕ) → m ≡ get_or moves node m → x.base ≡ m.base
     → HasStates tree parents bytes states moves reports cells bound
     → HasStates tree parents bytes states (set moves node x) (set reports node r) cells bound
 states_kept tree states moves reports parents bytes cells bound node m x r read base has =
@@ -101,16 +95,16 @@ states_kept tree states moves reports parents bytes cells bound node m x r read 
       within = has.within;
     }
 
-pub links_set : (moves : List Moves) (reports : List Reports) (node : ℕ) (x : Moves) (r : Reports) → node < length moves → node < length reports
-    → links_with (slice_index (map (λ m. m.link) (set moves node x)) node) (get_or (set reports node r) node no_reports) ≡ links_with x.link r
-links_set moves reports node x r lt within =
-    let link : slice_index (map (λ m. m.link) (set moves node x)) node ≡ x.link =
-    ap (λ (xs : List ℕ). slice_index xs node) (map-set (λ m. m.link) moves node x) ∙ get_or-set_same (map (λ m. m.link) moves) node x.link 0 (omega (arith, length-map moves (λ m. m.link))) in
-    ap (λ (l : ℕ). links_with l (get_or (set reports node r) node no_reports)) link ∙ ap (links_with x.link) (get_or-set_same reports node r no_reports within)
+pub links_set : (moves : List Moves) (reports : List ℕ) (node : ℕ) (x : Moves) (r : ℕ) → node < length moves → node < length reports
+    → (slice_index (map (λ m. m.link) (set moves node x)) node ≡ x.link) × (slice_index (set reports node r) node ≡ r)
+links_set moves reports node x r lt within = (
+  ap (λ (xs : List ℕ). slice_index xs node) (map-set (λ m. m.link) moves node x) ∙ get_or-set_same (map (λ m. m.link) moves) node x.link 0 (omega (arith, length-map moves (λ m. m.link))),
+  get_or-set_same reports node r 0 within,
+)
 
-pub links_kept : (moves : List Moves) (reports : List Reports) (node j : ℕ) (x : Moves) (r : Reports) → j ≢ node
-    → links_with (slice_index (map (λ m. m.link) (set moves node x)) j) (get_or (set reports node r) j no_reports) ≡ links_with (slice_index (map (λ m. m.link) moves) j) (get_or reports j no_reports)
-links_kept moves reports node j x r apart =
-    let link : slice_index (map (λ m. m.link) (set moves node x)) j ≡ slice_index (map (λ m. m.link) moves) j =
-    ap (λ (xs : List ℕ). slice_index xs j) (map-set (λ m. m.link) moves node x) ∙ get_or-set_other (map (λ m. m.link) moves) node j x.link 0 apart in
-    ap (λ (l : ℕ). links_with l (get_or (set reports node r) j no_reports)) link ∙ ap (links_with (slice_index (map (λ m. m.link) moves) j)) (get_or-set_other reports node j r no_reports apart)
+pub links_kept : (moves : List Moves) (reports : List ℕ) (node j : ℕ) (x : Moves) (r : ℕ) → j ≢ node
+    → (slice_index (map (λ m. m.link) (set moves node x)) j ≡ slice_index (map (λ m. m.link) moves) j) × (slice_index (set reports node r) j ≡ slice_index reports j)
+links_kept moves reports node j x r apart = (
+  ap (λ (xs : List ℕ). slice_index xs j) (map-set (λ m. m.link) moves node x) ∙ get_or-set_other (map (λ m. m.link) moves) node j x.link 0 apart,
+  get_or-set_other reports node j r 0 apart,
+)

@@ -8,7 +8,7 @@ ghost use Rattle.hyphenation_trie.specs.Private.Trie.{with_child, Grows, with_en
 use crate::Automaton;
 use crate::automaton::link_all;
 use crate::children::Children;
-use crate::frozen::{Frozen, Reports};
+use crate::frozen::Frozen;
 use crate::lists::{append_all, list_of_first};
 use crate::nodes_by_depth::NodesByDepth;
 use crate::rows::rows_of;
@@ -226,11 +226,7 @@ impl<E: Drop> Nodes<E> {
         } = children;
         // Rows have taken the place of the chains of children, whose lists are filled anew.
         let NodesByDepth { depths, chains } = NodesByDepth::of(alloc, &parents, last, before)?;
-        let none = Reports {
-            report: 0,
-            next_report: 0,
-        };
-        let reports = vec![in alloc; none; parents.len()]?;
+        let reports = vec![in alloc; 0u32; parents.len()]?;
         let mut trie = Frozen::new(parents, bytes, states, entries, rows, reports);
         link_all(&mut trie, &depths, &chains);
         Ok(Automaton { trie, depths })
