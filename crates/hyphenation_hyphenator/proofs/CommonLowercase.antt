@@ -28,7 +28,7 @@ use Rattle.hyphenation_hyphenator.proofs.UnmovedPlaces.{breaks_where_unmoved}
 lower_first : (b c : ℕ) (bs : List ℕ) → b < 0x80 → are_common_lowercase (b ∷ c ∷ bs) ≡ (is_ascii_lowercase b && are_common_lowercase (c ∷ bs))
 lower_first b c bs below = ap (λ t. cond t (is_ascii_lowercase b && are_common_lowercase (c ∷ bs)) (is_common_pair b c && are_common_lowercase bs)) (lt-ltb b 0x80 below)
 
-pair_first : (b c : ℕ) (bs : List ℕ) → 0x80 ≤ b → are_common_lowercase (b ∷ c ∷ bs) ≡ (is_common_pair b c && are_common_lowercase bs)
+pub pair_first : (b c : ℕ) (bs : List ℕ) → 0x80 ≤ b → are_common_lowercase (b ∷ c ∷ bs) ≡ (is_common_pair b c && are_common_lowercase bs)
 pair_first b c bs above = ap (λ t. cond t (is_ascii_lowercase b && are_common_lowercase (c ∷ bs)) (is_common_pair b c && are_common_lowercase bs)) (le-ltb b 0x80 above)
 
 -- The first two bytes of the rest.
@@ -81,7 +81,7 @@ one_left word at lt ge =
 
 -- ---- by their characters
 
-or_left : (a b : Bool) → a ≡ true → (a || b) ≡ true
+pub or_left : (a b : Bool) → a ≡ true → (a || b) ≡ true
 or_left true b e = refl
 or_left false b e = absurd cc
 

@@ -31,6 +31,9 @@ ghost use Rattle.hyphenation_hyphenator.specs.Private.InPlace.{folds_in_place, i
 ghost use Rattle.hyphenation_hyphenator.specs.Folding.{fold_character, fold_case, has_uppercase, shifts_of};
 ghost use Rattle.hyphenation_hyphenator.specs.Folding.{delta_below, carried_back, ForEachWordWith};
 
+mod cyrillic_letters;
+
+use cyrillic_letters::has_cyrillic_letters_alone;
 use std::alloc::{AllocError, Global};
 use std::borrow::CowStr;
 use unicode::case::simple_fold;
@@ -156,13 +159,20 @@ pub(crate) fn are_common_lowercase(word: &str) -> bool
     if !bytes.is_empty() && bytes[0] < 0x80 && !bytes[0].is_ascii_lowercase() {
         return false;
     }
-    are_common_lowercase_in_turn(bytes)
+    are_common_lowercase_bytes(bytes)
+}
+
+// Whether a word has common lowercase letters alone. It is kept out of line, since most words do not come to it.
+#[inline(never)]
+fn are_common_lowercase_bytes(bytes: &[u8]) -> bool
+    ensures { result ≡ are_common_lowercase bytes.now }
+{
+    has_cyrillic_letters_alone(bytes) || are_common_lowercase_in_turn(bytes)
 }
 
 // Whether a word has common lowercase letters alone, tested from the first one on.
 //
-// It reads bytes, since decoding characters takes more than twice as long. It is kept out of line, since most words do not
-// come to it.
+// It reads bytes, since decoding characters takes more than twice as long.
 #[inline(never)]
 fn are_common_lowercase_in_turn(bytes: &[u8]) -> bool
     ensures { result ≡ are_common_lowercase bytes.now }
