@@ -3,7 +3,7 @@
 //! A standard dictionary needs the values alone. An extended one needs the winners of the places, whose entries may
 //! carry changes. If it has a table, the ranks of the places show the words whose winners carry none, which are most.
 
-ghost use Rattle.std.specs.Prelude.{◌≡◌, ◌+◌, ◌-◌, ◌<◌, ◌≤◌, [], ◌∷◌, ◌++◌, ℕ, false, length, map, Option, None, option_copied};
+ghost use Rattle.std.specs.Prelude.{◌≡◌, ◌+◌, ◌-◌, ◌<◌, ◌≤◌, [], ◌∷◌, ◌++◌, ℕ, false, length, map, take, Option, None, option_copied};
 ghost use Rattle.std.specs.Prelude.{IfOk, IfSome, IsTrue, OnOk};
 ghost use Rattle.std.specs.List.{list_all, slice_index_or};
 ghost use Rattle.std.specs.Option.{option_map};
@@ -231,6 +231,48 @@ pub(super) fn breaks_with_changes<'h>(
     winning_breaks(patterns, word, bounds, breaks)
 }
 
+// Writes the places within bounds that have an odd value to the front of a list, and returns how many they are. The values
+// begin with that of place 1. No branch depends on a value, since a processor foresees few of those.
+#[inline(always)]
+fn write_odd_places(values: &[u8], bounds: (usize, usize), found: &mut [u8; 64]) -> usize
+    requires short { length values.now ≤ 64 }
+    ensures count { result ≤ 64 }
+    ensures found { take result found.new ≡ odd_places values.now bounds }
+{
+    // Places outside of the bounds are not read.
+    let first = bounds.0.max(1);
+    let end = values.len().min(bounds.1);
+    let mut count = 0;
+    for place in first..end + 1 {
+        // Each place is written. The next one overwrites it if its value is even.
+        found[count] = place as u8;
+        count += (values[place - 1] % 2) as usize;
+    }
+    count
+}
+
+// Puts the places within bounds that have an odd value into an empty list, one after another. The values begin with that of
+// place 1. It is kept out of line, since few words have so many places.
+#[inline(never)]
+fn odd_places_in_turn(
+    values: &[u8],
+    bounds: (usize, usize),
+    places: &mut Vec<usize>,
+) -> Result<(), AllocError>
+    requires { places.old.items ≡ [] }
+    ensures { OnOk result (places.new.items ≡ odd_places values.now bounds) }
+{
+    // Places outside of the bounds are not read.
+    let first = bounds.0.max(1);
+    let last = values.len().min(bounds.1);
+    for place in first..last + 1 {
+        if values[place - 1] % 2 == 1 {
+            push_with_room(places, place)?;
+        }
+    }
+    Ok(())
+}
+
 // Puts the places within bounds that have an odd value into an empty list. The values begin with that of place 1.
 #[inline(always)]
 fn odd_places(
@@ -241,13 +283,13 @@ fn odd_places(
     requires { places.old.items ≡ [] }
     ensures { OnOk result (places.new.items ≡ odd_places values.now bounds) }
 {
-    // Places outside of the bounds are not read.
-    let first = bounds.0.max(1);
-    let end = values.len().min(bounds.1);
-    for place in first..end + 1 {
-        if values[place - 1] % 2 == 1 {
-            push_with_room(places, place)?;
-        }
+    if values.len() > 64 {
+        return odd_places_in_turn(values, bounds, places);
+    }
+    let mut found = [0u8; 64];
+    let count = write_odd_places(values, bounds, &mut found);
+    for index in 0..count {
+        push_with_room(places, found[index] as usize)?;
     }
     Ok(())
 }
