@@ -1,10 +1,10 @@
 -- Places with odd values are the breaks that patterns allow, where no winner carries a change.
-use Rattle.std.proofs.Common.{◌≡◌, ◌≢◌, ◌%◌, ◌&&◌, nat_le, ℕ, zero, suc, ◌+◌, ◌-◌, ◌<◌, ◌≤◌, ◌⊎◌, Bool, true, false, cond, List, [], ◌∷◌, ◌++◌, length, map, filter, max, min, Option, Some, None, refl, sym, ap, ◌∙◌, arith, inl, inr}
+use Rattle.std.proofs.Common.{◌≡◌, ◌≢◌, ◌%◌, ◌&&◌, nat_le, ℕ, zero, suc, ◌+◌, ◌-◌, ◌<◌, ◌≤◌, ◌⊎◌, Bool, true, false, cond, List, [], ◌∷◌, ◌++◌, length, map, filter, get_or, max, min, set, take, Option, Some, None, refl, sym, ap, ◌∙◌, arith, inl, inr}
 use Rattle.std.specs.List.{range_with_len, slice_index}
 use Rattle.std.specs.Option.{option_and_then}
 use Rattle.std.proofs.Math.Bool.{and-false, and-true}
-use Rattle.std.proofs.lemmas.Bool.{cases_lt, le-leb, lt-leb}
-use Rattle.std.proofs.lemmas.List.{append-nil, get_or_past}
+use Rattle.std.proofs.lemmas.Bool.{cases_eq, cases_lt, le-leb, lt-leb}
+use Rattle.std.proofs.lemmas.List.{append-nil, get_or_past, map-append, take-set, take_more, take_more_set}
 use Rattle.std.proofs.lemmas.List.Elements.{filter-append}
 use Rattle.std.proofs.lemmas.List.FromFn.{get_or-map-range_with_len, length-map-range_with_len}
 use Rattle.hyphenation_breaks.specs.Break.{Break, Change, plain_break, break_at}
@@ -101,6 +101,23 @@ pub next_even : (values items : List ℕ) (bounds : ℕ × ℕ) (first end at : 
     → items ≡ filter (test_of values bounds) (range_with_len first ((at + 1) - first))
 next_even values items bounds first end at a b low high before h = sym (append-nil items) ∙ next_is values items bounds first end at false a b low high before (even_is _ h)
 
+-- Each place is written, and kept if its value is odd.
+kept_if_odd : (found : List ℕ) (count at v : ℕ) → count < length found → take (count + v % 2) (set found count at) ≡ take count found ++ cond (is_odd v) (at ∷ []) []
+kept_if_odd found count at v room = elim (cases_eq (v % 2) 1) [
+  | inl odd ↦ rw (sym (odd_is v odd), odd) (take_more_set found count at room)
+  | inr even ↦
+      let none : v % 2 ≡ 0 = grind (arith) in
+      let same : count + v % 2 ≡ count = omega (arith, none) in
+      rw (sym (even_is v even), same) (take-set found count at ∙ sym (append-nil (take count found)))
+]
+
+pub next_written : (values found : List ℕ) (bounds : ℕ × ℕ) (first end at count : ℕ) → first ≡ max bounds.0 1 → end ≡ min (length values) bounds.1 → first ≤ at → at ≤ end
+    → count < length found → take count found ≡ filter (test_of values bounds) (range_with_len first (at - first))
+    → take (count + slice_index values (at - 1) % 2) (set found count at) ≡ filter (test_of values bounds) (range_with_len first ((at + 1) - first))
+next_written values found bounds first end at count is_first is_end low high room before =
+    kept_if_odd found count at (slice_index values (at - 1)) room
+    ∙ next_is values (take count found) bounds first end at (is_odd (slice_index values (at - 1))) is_first is_end low high before refl
+
 -- Places of even values do not pass.
 pub even_none : (values : List ℕ) (bounds : ℕ × ℕ) (first least : ℕ) → ((p : ℕ) → first ≤ p → p < least → slice_index values (p - 1) % 2 ≢ 1)
     → [] ≡ filter (test_of values bounds) (range_with_len first (least - first))
@@ -131,6 +148,18 @@ same_breaks test odd break_to bounds placed first (suc n) agree plain =
           ∙ ap (λ p. cond (within bounds p) (break_to first ∷ after) after) (sym (placed first))
       | false ↦ λ _. rest
     ] here
+
+-- One more plain break.
+pub plain_next : {X : Type 0} (m : X → Break) (items : List X) (places : List ℕ) (b : X) (at : ℕ)
+    → map m items ≡ map plain_break places → m b ≡ plain_break at → map m (items ++ b ∷ []) ≡ map plain_break (places ++ at ∷ [])
+plain_next m items places b at before is =
+    map-append m items (b ∷ []) ∙ ap (λ bs. bs ++ m b ∷ []) before ∙ ap (λ p. map plain_break places ++ p ∷ []) is ∙ sym (map-append plain_break places (at ∷ []))
+
+-- One more plain break, at the next place of a list.
+pub plain_more : {X : Type 0} (m : X → Break) (items : List X) (places : List ℕ) (i : ℕ) (b : X) → i < length places
+    → map m items ≡ map plain_break (take i places) → m b ≡ plain_break (get_or places i 0) → map m (items ++ b ∷ []) ≡ map plain_break (take (i + 1) places)
+plain_more m items places i b lt before is =
+    plain_next m items (take i places) b (get_or places i 0) before is ∙ sym (ap (map plain_break) (take_more places i 0 lt))
 
 -- No winner carries a change, where no entry does.
 pub winners_have_no_change : {C : Type 0} (keys : Patterns C) (word : List ℕ) (p : ℕ) → option_and_then (λ entry. no_change entry.change) (winner_at keys word p) ≡ None

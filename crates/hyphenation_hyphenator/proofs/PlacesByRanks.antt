@@ -1,21 +1,20 @@
 -- Breaks at the places of odd values, found by ranks, where no rank there is odd.
-use Rattle.std.proofs.Common.{◌≡◌, ◌≢◌, ◌==◌, ◌/◌, ◌%◌, ◌&&◌, ℕ, zero, suc, ◌+◌, ◌-◌, ◌<◌, ◌≤◌, Bool, true, false, cond, List, [], ◌∷◌, ◌++◌, length, map, filter, max, min, Option, None, refl, sym, ap, subst, ◌∙◌, arith, inl, inr}
+use Rattle.std.proofs.Common.{◌≡◌, ◌≢◌, ◌==◌, ◌/◌, ◌%◌, ◌&&◌, ◌||◌, not, ℕ, zero, suc, ◌+◌, ◌-◌, ◌<◌, ◌≤◌, Bool, true, false, cond, List, [], ◌∷◌, length, map, filter, max, min, Option, None, refl, sym, ap, subst, ◌∙◌, arith, inl, inr}
 use Rattle.std.specs.List.{list_all, range_with_len, slice_index}
 use Rattle.std.specs.Option.{option_and_then}
-use Rattle.std.proofs.Math.Bool.{and-false}
+use Rattle.std.proofs.Math.Bool.{and-false, or-false}
 use Rattle.std.proofs.Math.ListN.{get_or-map}
 use Rattle.std.proofs.lemmas.Bool.{cases_eq, eqb-true}
-use Rattle.std.proofs.lemmas.List.{length-map, map-append}
+use Rattle.std.proofs.lemmas.List.{length-map}
 use Rattle.std.proofs.lemmas.List.Folds.{list_all-append}
 use Rattle.std.proofs.lemmas.List.FromFn.{get_or-map-range_with_len, length-map-range_with_len}
-use Rattle.hyphenation_breaks.specs.Break.{Break, Change, plain_break}
+use Rattle.hyphenation_breaks.specs.Break.{Change, plain_break}
 use Rattle.hyphenation_breaks.specs.Dictionary.{Patterns}
 use Rattle.hyphenation_breaks.specs.Ranks.{greatest_rank, rank_with_change}
 use Rattle.hyphenation_score.specs.Laws.{RanksShowChanges}
 use Rattle.hyphenation_score.specs.Scoring.{bearers, frame, own_change, places, ranks, value_at, values, winner_at}
-use Rattle.hyphenation_hyphenator.specs.Opportunities.{is_odd, within}
 use Rattle.hyphenation_hyphenator.specs.Private.Opportunities.{breaks_by_keys, is_unchanged, odd_places, values_of_ranks}
-use Rattle.hyphenation_hyphenator.proofs.OddPlaces.{even_none, is_within, next_even, next_odd, outside, places_allowed, test_of, within_alone}
+use Rattle.hyphenation_hyphenator.proofs.OddPlaces.{even_none, next_even, next_odd, outside, places_allowed, test_of, within_alone}
 
 -- The value at an index is half of the rank there.
 value_of_rank : (ranks : List ℕ) (i : ℕ) → slice_index (values_of_ranks ranks) i ≡ slice_index ranks i / 2
@@ -52,53 +51,41 @@ all_pass pass test first n at low high picked all =
 abbrev pub places_up_to : List ℕ → ℕ × ℕ → ℕ → ℕ → List ℕ
 places_up_to ranks bounds first at = filter (test_of (values_of_ranks ranks) bounds) (range_with_len first (at - first))
 
--- So far the breaks are plain ones at the places of odd values, and each rank there is even.
-pub record PlainSoFar (ranks : List ℕ) (bounds : ℕ × ℕ) (first at : ℕ) (breaks : List Break) : Type 0 where
-  pub breaks_are : breaks ≡ map plain_break (places_up_to ranks bounds first at)
-  pub unchanged : list_all (is_unchanged ranks) (places_up_to ranks bounds first at) ≡ true
+pub none_yet : (ranks : List ℕ) (bounds : ℕ × ℕ) (first : ℕ) → false ≡ not (list_all (is_unchanged ranks) (places_up_to ranks bounds first first))
+none_yet ranks bounds first =
+    ap (λ (places : List ℕ). not (list_all (is_unchanged ranks) places)) (even_none (values_of_ranks ranks) bounds first first (λ p low high. absurd (omega arith)))
 
-pub none_yet : (ranks : List ℕ) (bounds : ℕ × ℕ) (first : ℕ) (breaks : List Break) → breaks ≡ [] → PlainSoFar ranks bounds first first breaks
-none_yet ranks bounds first breaks none =
-    let nothing : [] ≡ places_up_to ranks bounds first first = even_none (values_of_ranks ranks) bounds first first (λ p low high. absurd (omega arith)) in
-    record {
-      breaks_are = none ∙ ap (map plain_break) nothing;
-      unchanged = ap (list_all (is_unchanged ranks)) (sym nothing);
-    }
+-- A rank whose rest by 4 is 3 shows an odd value and a change.
+change_at_odd : (rank : ℕ) → rank / 2 % 2 ≡ 1 → (rank % 4 == 3) ≡ not (rank % 2 == 0)
+change_at_odd rank odd = grind (arith)
 
-is_even_rank : (rank : ℕ) → rank % 2 ≢ 1 → (rank % 2 == 0) ≡ true
-is_even_rank rank h = grind (arith)
+no_change_at_even : (rank : ℕ) → rank / 2 % 2 ≢ 1 → false ≡ (rank % 4 == 3)
+no_change_at_even rank even = grind (arith)
 
-is_odd_value : (v : ℕ) → v % 2 ≡ 1 → is_odd v ≡ true
-is_odd_value v h = grind (arith)
+either_fails : (all one : Bool) → (not all || not one) ≡ not (all && (one && true))
+either_fails true true = refl
+either_fails true false = refl
+either_fails false one = refl
 
-is_odd_rank : (rank : ℕ) → rank % 2 ≡ 1 → (rank % 2 == 0) ≡ false
-is_odd_rank rank h = grind (arith)
-
-pub one_more : (ranks : List ℕ) (bounds : ℕ × ℕ) (first end at : ℕ) (breaks : List Break) → first ≡ max bounds.0 1 → end ≡ min (length ranks) bounds.1 → first ≤ at → at ≤ end
-    → PlainSoFar ranks bounds first at breaks → slice_index ranks (at - 1) / 2 % 2 ≡ 1 → slice_index ranks (at - 1) % 2 ≢ 1
-    → PlainSoFar ranks bounds first (at + 1) (breaks ++ plain_break at ∷ [])
-one_more ranks bounds first end at breaks is_first is_end low high before odd even =
+-- One more place may have a change.
+pub change_more : (ranks : List ℕ) (bounds : ℕ × ℕ) (first end at : ℕ) (changed : Bool) → first ≡ max bounds.0 1 → end ≡ min (length ranks) bounds.1 → first ≤ at → at ≤ end
+    → changed ≡ not (list_all (is_unchanged ranks) (places_up_to ranks bounds first at))
+    → (changed || (slice_index ranks (at - 1) % 4 == 3)) ≡ not (list_all (is_unchanged ranks) (places_up_to ranks bounds first (at + 1)))
+change_more ranks bounds first end at changed is_first is_end low high before =
+    let values = values_of_ranks ranks in
     let places = places_up_to ranks bounds first at in
-    let next : places ++ at ∷ [] ≡ places_up_to ranks bounds first (at + 1) =
-    next_odd (values_of_ranks ranks) places bounds first end at is_first (omega (arith, length-values ranks)) low high refl (ap (λ v. v % 2) (value_of_rank ranks (at - 1)) ∙ odd) in
-    record {
-      breaks_are = ap (λ bs. bs ++ plain_break at ∷ []) before.breaks_are ∙ sym (map-append plain_break places (at ∷ [])) ∙ ap (map plain_break) next;
-      unchanged =
-          ap (list_all (is_unchanged ranks)) (sym next) ∙ list_all-append (is_unchanged ranks) places (at ∷ [])
-          ∙ ap (λ t. t && (is_unchanged ranks at && true)) before.unchanged ∙ ap (λ t. t && true) (is_even_rank (slice_index ranks (at - 1)) even);
-    }
-
-pub no_more : (ranks : List ℕ) (bounds : ℕ × ℕ) (first end at : ℕ) (breaks : List Break) → first ≡ max bounds.0 1 → end ≡ min (length ranks) bounds.1 → first ≤ at → at ≤ end
-    → PlainSoFar ranks bounds first at breaks → slice_index ranks (at - 1) / 2 % 2 ≢ 1
-    → PlainSoFar ranks bounds first (at + 1) breaks
-no_more ranks bounds first end at breaks is_first is_end low high before even =
-    let places = places_up_to ranks bounds first at in
-    let next : places ≡ places_up_to ranks bounds first (at + 1) =
-    next_even (values_of_ranks ranks) places bounds first end at is_first (omega (arith, length-values ranks)) low high refl (λ odd. even (sym (ap (λ v. v % 2) (value_of_rank ranks (at - 1))) ∙ odd)) in
-    record {
-      breaks_are = before.breaks_are ∙ ap (map plain_break) next;
-      unchanged = ap (list_all (is_unchanged ranks)) (sym next) ∙ before.unchanged;
-    }
+    let rank = slice_index ranks (at - 1) in
+    let pass = is_unchanged ranks in
+    let last : end ≡ min (length values) bounds.1 = omega (arith, length-values ranks) in
+    let oddness : slice_index values (at - 1) % 2 ≡ rank / 2 % 2 = ap (λ v. v % 2) (value_of_rank ranks (at - 1)) in
+    elim (cases_eq (rank / 2 % 2) 1) [
+      | inl odd ↦
+          ap (λ t. changed || t) (change_at_odd rank odd) ∙ ap (λ t. t || not (pass at)) before ∙ either_fails (list_all pass places) (pass at)
+          ∙ ap not (sym (list_all-append pass places (at ∷ []))) ∙ ap (λ (ps : List ℕ). not (list_all pass ps)) (next_odd values places bounds first end at is_first last low high refl (oddness ∙ odd))
+      | inr even ↦
+          ap (λ t. changed || t) (sym (no_change_at_even rank even)) ∙ or-false changed ∙ before
+          ∙ ap (λ (ps : List ℕ). not (list_all pass ps)) (next_even values places bounds first end at is_first last low high refl (λ odd. even (sym oddness ∙ odd)))
+    ]
 
 -- All places are looked at where the end is reached.
 pub all_places : (ranks : List ℕ) (bounds : ℕ × ℕ) (first end at : ℕ) → first ≡ max bounds.0 1 → end ≡ min (length ranks) bounds.1 → first ≤ at → end + 1 ≤ at → (first ≤ end + 1 → at ≤ end + 1)
@@ -107,16 +94,6 @@ all_places ranks bounds first end at is_first is_end low after ends =
     let count = length-values ranks in
     within_alone (test_of (values_of_ranks ranks) bounds) first end at (length (values_of_ranks ranks)) (omega arith) (omega arith) low after ends
     (λ p one out. outside (values_of_ranks ranks) bounds first end p is_first (omega arith) one out)
-
--- A rank within the bounds shows an odd value and a change, so that not all are unchanged.
-pub one_changed : (ranks : List ℕ) (bounds : ℕ × ℕ) (first end at : ℕ) → first ≡ max bounds.0 1 → end ≡ min (length ranks) bounds.1 → first ≤ at → at ≤ end
-    → slice_index ranks (at - 1) / 2 % 2 ≡ 1 → slice_index ranks (at - 1) % 2 ≡ 1
-    → list_all (is_unchanged ranks) (odd_places (values_of_ranks ranks) bounds) ≡ false
-one_changed ranks bounds first end at is_first is_end low high odd changed =
-    let count = length-values ranks in
-    not_all (is_unchanged ranks) (test_of (values_of_ranks ranks) bounds) 1 (length (values_of_ranks ranks)) at (omega arith) (omega arith)
-    (ap (λ v. is_odd v && within bounds at) (value_of_rank ranks (at - 1)) ∙ ap (λ t. t && within bounds at) (is_odd_value (slice_index ranks (at - 1) / 2) odd) ∙ is_within bounds.0 bounds.1 at (omega arith) (omega arith))
-    (is_odd_rank (slice_index ranks (at - 1)) changed)
 
 -- Plain breaks at the places of odd values are those that the keys allow, where no rank there is odd.
 pub breaks_by_ranks_are : {C : Type 0} (change_of : C → Option Change) (keys : Patterns C) (word : List ℕ) (bounds : ℕ × ℕ) (ranks : List ℕ)

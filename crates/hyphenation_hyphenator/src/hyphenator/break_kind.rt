@@ -20,8 +20,27 @@ use hyphenation_trie::Automaton;
 use hyphenation_trie::table::Table;
 use std::alloc::AllocError;
 
+// A type of breaks that are found, where a plain one can be made of a place.
+pub(crate) trait FoundBreak: Break + Copy {
+    // Returns a plain break at a place.
+    fn plain(place: usize) -> Self
+        ensures { Self.meaning result ≡ plain_break place };
+}
+
+impl FoundBreak for usize {
+    fn plain(place: usize) -> usize {
+        place
+    }
+}
+
+impl<'h> FoundBreak for (usize, Option<&'h Subregion>) {
+    fn plain(place: usize) -> (usize, Option<&'h Subregion>) {
+        (place, None)
+    }
+}
+
 // The type of the breaks that a kind of dictionary finds.
-pub(crate) trait BreakKind<'h>: Break + Copy {
+pub(crate) trait BreakKind<'h>: FoundBreak {
     // The payload of the dictionary's entries.
     type Payload: Payload;
 
@@ -50,10 +69,6 @@ pub(crate) trait BreakKind<'h>: Break + Copy {
     // Returns this break with another place.
     fn at_place(self, place: usize) -> Self
         ensures { Self.meaning result ≡ break_at place (Self.meaning self).change };
-
-    // Returns a plain break at a place.
-    fn plain(place: usize) -> Self
-        ensures { Self.meaning result ≡ plain_break place };
 
     // Keeps those breaks of a folded word that fit the word as written, and takes the others out of the list.
     //
@@ -86,10 +101,6 @@ impl<'h> BreakKind<'h> for usize {
     }
 
     fn at_place(self, place: usize) -> usize {
-        place
-    }
-
-    fn plain(place: usize) -> usize {
         place
     }
 
@@ -130,10 +141,6 @@ impl<'h> BreakKind<'h> for (usize, Option<&'h Subregion>) {
 
     fn at_place(self, place: usize) -> (usize, Option<&'h Subregion>) {
         (place, self.1)
-    }
-
-    fn plain(place: usize) -> (usize, Option<&'h Subregion>) {
-        (place, None)
     }
 
     #[inline(always)]

@@ -3,7 +3,7 @@
 //! A standard dictionary needs the values alone. An extended one needs the winners of the places, whose entries may
 //! carry changes. If it has a table, the ranks of the places show the words whose winners carry none, which are most.
 
-ghost use Rattle.std.specs.Prelude.{◌≡◌, ◌+◌, ◌-◌, ◌<◌, ◌≤◌, [], ◌∷◌, ◌++◌, ℕ, false, length, map, Option, None, option_copied};
+ghost use Rattle.std.specs.Prelude.{◌≡◌, ◌+◌, ◌-◌, ◌<◌, ◌≤◌, [], ◌∷◌, ◌++◌, ℕ, false, not, length, map, take, Option, None, option_copied};
 ghost use Rattle.std.specs.Prelude.{IfOk, IfSome, IsTrue, OnOk};
 ghost use Rattle.std.specs.List.{list_all, slice_index_or};
 ghost use Rattle.std.specs.Option.{option_map};
@@ -16,6 +16,7 @@ ghost use Rattle.hyphenation_hyphenator.specs.Opportunities.{no_change, within};
 ghost use Rattle.hyphenation_hyphenator.specs.Private.Opportunities.{borrowed_break, break_at_winner, breaks_at_winners};
 ghost use Rattle.hyphenation_hyphenator.specs.Private.Opportunities.{breaks_by_keys, is_unchanged, odd_places, values_of_ranks};
 
+use super::break_kind::FoundBreak;
 use hyphenation_breaks::entry::Entry;
 use hyphenation_breaks::extended::Subregion;
 use hyphenation_score::laws::{ranks_show_changes, winner_has_value};
@@ -150,34 +151,54 @@ fn winning_breaks<'h>(
     winning_breaks_of_long(patterns, word, bounds, breaks)
 }
 
+// Returns whether a place within bounds may have a break with a change: its value is odd, and so is its rank. The ranks
+// begin with that of place 1. No branch depends on a rank, since a processor foresees few of those.
+#[inline(always)]
+fn may_change(ranks: &[u8], bounds: (usize, usize)) -> bool
+    ensures { result ≡ not (list_all (is_unchanged ranks.now) (odd_places (values_of_ranks ranks.now) bounds)) }
+{
+    // Places outside of the bounds are not read.
+    let first = bounds.0.max(1);
+    let end = ranks.len().min(bounds.1);
+    let mut changed = false;
+    for place in first..end + 1 {
+        // The lowest bit of a rank tells of a change, and the next one is that of an odd value.
+        changed |= ranks[place - 1] % 4 == 3;
+    }
+    changed
+}
+
+// Puts the values of places in the stead of their ranks.
+#[inline(always)]
+fn halve_all(ranks: &mut [u8])
+    ensures { ranks.new ≡ values_of_ranks ranks.old }
+{
+    for rank in ranks {
+        *rank /= 2;
+    }
+}
+
 // Puts plain breaks at the places within bounds whose value is odd into an empty list, given the ranks of the places from
-// place 1 on, and returns `true`. Where one of them may have a change, it returns `false`, and the list is empty.
+// place 1 on, and returns `true`. Where one of them may have a change, it returns `false`, and the list is empty. The ranks
+// may be overwritten.
 #[inline(always)]
 fn unchanged_breaks<'h>(
-    ranks: &[u8],
+    ranks: &mut [u8],
     bounds: (usize, usize),
     breaks: &mut Vec<(usize, Option<&'h Subregion>)>,
 ) -> Result<bool, AllocError>
     requires { breaks.old.items ≡ [] }
     ensures unchanged { IfOk result (λ all.
-        all ≡ list_all (is_unchanged ranks.now) (odd_places (values_of_ranks ranks.now) bounds)) }
+        all ≡ list_all (is_unchanged ranks.old) (odd_places (values_of_ranks ranks.old) bounds)) }
     ensures all { IfOk result (λ all. IsTrue all
-        → map borrowed_break breaks.new.items ≡ map plain_break (odd_places (values_of_ranks ranks.now) bounds)) }
+        → map borrowed_break breaks.new.items ≡ map plain_break (odd_places (values_of_ranks ranks.old) bounds)) }
     ensures empty { IfOk result (λ all. all ≡ false → breaks.new.items ≡ []) }
 {
-    // Places outside of the bounds are not read.
-    let first = bounds.0.max(1);
-    let end = ranks.len().min(bounds.1);
-    for place in first..end + 1 {
-        let rank = ranks[place - 1];
-        if rank / 2 % 2 == 1 {
-            if rank % 2 == 1 {
-                breaks.clear();
-                return Ok(false);
-            }
-            push_with_room(breaks, (place, None))?;
-        }
+    if may_change(ranks, bounds) {
+        return Ok(false);
     }
+    halve_all(ranks);
+    odd_places(ranks, bounds, breaks)?;
     Ok(true)
 }
 
@@ -204,7 +225,7 @@ fn breaks_by_ranks<'h>(
     let list = &mut buffer[..word.len() + 18];
     find_ranks(patterns, table, word.as_bytes(), list, &mut count);
     let end = 16 + word.len().saturating_sub(1);
-    unchanged_breaks(&list[16..end], bounds, breaks)
+    unchanged_breaks(&mut list[16..end], bounds, breaks)
 }
 
 // Puts the breaks within bounds that the patterns of an extended dictionary allow into an empty list. With a table a word is
@@ -231,23 +252,66 @@ pub(super) fn breaks_with_changes<'h>(
     winning_breaks(patterns, word, bounds, breaks)
 }
 
-// Puts the places within bounds that have an odd value into an empty list. The values begin with that of place 1.
+// Writes the places within bounds that have an odd value to the front of a list, and returns how many they are. The values
+// begin with that of place 1. No branch depends on a value, since a processor foresees few of those.
 #[inline(always)]
-fn odd_places(
-    values: &[u8],
-    bounds: (usize, usize),
-    places: &mut Vec<usize>,
-) -> Result<(), AllocError>
-    requires { places.old.items ≡ [] }
-    ensures { OnOk result (places.new.items ≡ odd_places values.now bounds) }
+fn write_odd_places(values: &[u8], bounds: (usize, usize), found: &mut [u8; 64]) -> usize
+    requires short { length values.now ≤ 64 }
+    ensures count { result ≤ 64 }
+    ensures found { take result found.new ≡ odd_places values.now bounds }
 {
     // Places outside of the bounds are not read.
     let first = bounds.0.max(1);
     let end = values.len().min(bounds.1);
+    let mut count = 0;
     for place in first..end + 1 {
+        // Each place is written. The next one overwrites it if its value is even.
+        found[count] = place as u8;
+        count += (values[place - 1] % 2) as usize;
+    }
+    count
+}
+
+// Puts plain breaks at the places within bounds that have an odd value into an empty list, one after another. The values
+// begin with that of place 1. It is kept out of line, since few words have so many places.
+#[inline(never)]
+fn odd_places_in_turn<F: FoundBreak>(
+    values: &[u8],
+    bounds: (usize, usize),
+    list: &mut Vec<F>,
+) -> Result<(), AllocError>
+    requires { list.old.items ≡ [] }
+    ensures { OnOk result (map F.meaning list.new.items ≡ map plain_break (odd_places values.now bounds)) }
+{
+    // Places outside of the bounds are not read.
+    let first = bounds.0.max(1);
+    let last = values.len().min(bounds.1);
+    for place in first..last + 1 {
         if values[place - 1] % 2 == 1 {
-            push_with_room(places, place)?;
+            push_with_room(list, F::plain(place))?;
         }
+    }
+    Ok(())
+}
+
+// Puts plain breaks at the places within bounds that have an odd value into an empty list. The values begin with that of
+// place 1.
+#[inline(always)]
+fn odd_places<F: FoundBreak>(
+    values: &[u8],
+    bounds: (usize, usize),
+    list: &mut Vec<F>,
+) -> Result<(), AllocError>
+    requires { list.old.items ≡ [] }
+    ensures { OnOk result (map F.meaning list.new.items ≡ map plain_break (odd_places values.now bounds)) }
+{
+    if values.len() > 64 {
+        return odd_places_in_turn(values, bounds, list);
+    }
+    let mut found = [0u8; 64];
+    let count = write_odd_places(values, bounds, &mut found);
+    for index in 0..count {
+        push_with_room(list, F::plain(found[index] as usize))?;
     }
     Ok(())
 }

@@ -25,7 +25,7 @@ ghost use Rattle.hyphenation_hyphenator.specs.Private.Opportunities.{realigned_b
 use super::ascii_lowercase::are_ascii_lowercase;
 use super::boundaries::{boundaries_of_long_ascii, is_short_ascii};
 use super::boundaries_of;
-use super::break_kind::BreakKind;
+use super::break_kind::{BreakKind, FoundBreak};
 use super::pattern_breaks::{is_within, push_with_room};
 use crate::case_folding::{Shift, are_common_lowercase, fold_in_place, realign_sorted, refold};
 use crate::soft_hyphens::soft_hyphen_indices;
@@ -309,7 +309,7 @@ fn breaks_of_folded<'h, F: BreakKind<'h>>(
 }
 
 // Puts plain breaks at the places into an empty list.
-fn put_plain<'h, F: BreakKind<'h>>(places: &[usize], list: &mut Vec<F>) -> Result<(), AllocError>
+fn put_plain<F: FoundBreak>(places: &[usize], list: &mut Vec<F>) -> Result<(), AllocError>
     requires { list.old.items ≡ [] }
     ensures { OnOk result (map F.meaning list.new.items ≡ map plain_break places.now) }
 {

@@ -1,7 +1,6 @@
-use Rattle.std.proofs.Common.{◌≡◌, ◌-◌, ◌&&◌, filter, slice_index}
-use Rattle.std.specs.List.{range_with_len}
-use Rattle.hyphenation_hyphenator.specs.Opportunities.{is_odd, within}
+use Rattle.std.proofs.Common.{◌≡◌, map, take}
+use Rattle.hyphenation_breaks.specs.Break.{plain_break}
 use Rattle.hyphenation_hyphenator.proofs.hyphenator.pattern_breaks.odd_places.Given as goal
 
-abbrev pub invariant-loop-place : goal.invariant-loop-place
-invariant-loop-place l = l.places.items ≡ filter (λ place. is_odd (slice_index l.values (place - 1)) && within l.fn.bounds place) (range_with_len l.first (l.place - l.first))
+abbrev pub invariant-loop-index : goal.invariant-loop-index
+invariant-loop-index g l = map g.F.Break.meaning l.list.items ≡ map plain_break (take l.index l.found)

@@ -15,5 +15,5 @@ returns c =
     let count : (16 + c.saturating_sub-end.result) - 16 ≡ length c.as_bytes.result.now - 1 = omega (arith, c.saturating_sub-end.ensures, ap length c.as_bytes.ensures.value) in
     let found = ap (λ (n : ℕ). take n (drop 16 list)) count ∙ c.put_values.ensures.values ∙ ap (values keys) c.as_bytes.ensures.value in
     on_ok_then c.odd_places.result _ _
-    (λ h. ap (map plain_break) (h ∙ ap (λ vs. filter (test_of vs c.args.bounds) (range_with_len 1 (length vs))) found) ∙ places_allowed no_change keys c.args.word.now c.args.bounds (λ p _ _ _. winners_have_no_change keys c.args.word.now p))
+    (λ h. h ∙ ap (λ vs. map plain_break (filter (test_of vs c.args.bounds) (range_with_len 1 (length vs)))) found ∙ places_allowed no_change keys c.args.word.now c.args.bounds (λ p _ _ _. winners_have_no_change keys c.args.word.now p))
     c.odd_places.ensures
