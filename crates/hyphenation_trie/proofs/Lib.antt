@@ -4,7 +4,6 @@ pub mod TrieNodes
 pub mod ChainsGrow
 pub mod GrowingNodes
 pub mod HeldNodes
-pub mod Spines
 pub mod RowsPlaced
 pub mod Suffixes
 pub mod Tails

@@ -1,44 +1,64 @@
 //! A trie that grows by keys with their entries, inserted one after the other.
 
-ghost use Rattle.std.specs.Prelude.{◌≡◌, ◌+◌, ◌<◌, ◌≤◌, [], ◌∷◌, length, slice_index, take, Some, None, IfOk, OnOk, OnErr, is_some};
+ghost use Rattle.std.specs.Prelude.{◌≡◌, ◌≢◌, ◌+◌, ◌<◌, ◌++◌, [], ◌∷◌, ℕ, length, slice_index, Some, None, IfOk, OnOk, OnErr, is_some, IfSome, IfNone};
 ghost use Rattle.std.specs.Prelude.{option_copied, slice_index_or};
 ghost use Rattle.hyphenation_trie.specs.Trie.{node_text, entries_of_key, IsTrie, AddsFront, KeepsNodes, KeepsKeys, SetsKey, EachBeginsKey};
-ghost use Rattle.hyphenation_trie.specs.Private.Growing.{IsSpine};
+ghost use Rattle.hyphenation_trie.specs.Private.Trie.{with_child, Grows, with_entries};
 
 use crate::Automaton;
-use crate::lists::list_of_first;
-use crate::nodes::Nodes;
+use crate::automaton::link_all;
+use crate::children::Children;
+use crate::frozen::Frozen;
+use crate::lists::{append_all, list_of_first};
+use crate::nodes_by_depth::NodesByDepth;
+use crate::rows::rows_of;
+use crate::state::{Span, State, entries_in};
 use std::alloc::{AllocError, Global};
 use std::fmt;
 use std::marker::Model;
 
 /// Keys, each with its entries, to which more can be added.
 pub struct Trie<E> {
-    nodes: Nodes<E>,
-    // The nodes from the root along the key that was inserted last. Keys come mostly in order, so that most keys begin as the
-    // one before, and the steps along the bytes that they share are not taken again.
-    spine: Vec<u32>,
+    // The children of each node. If keys are inserted in order, each look-up asks the last child alone.
+    pub(crate) children: Children,
+    // The states of the nodes.
+    pub(crate) states: Vec<State>,
+    // The entries of all keys in one list, so that a key needs no allocation of its own. Replaced entries stay here,
+    // unused.
+    pub(crate) entries: Vec<E>,
 }
 
 // It drops each field, as the derived implementation would. The proof of a function that drops a trie has one step for
 // this call. With the derived implementation it has a step for each list of the trie.
 impl<E: Drop> Drop for Trie<E> {
     fn drop(self) {
-        let Trie { nodes, spine } = self;
-        drop(nodes);
-        drop(spine);
+        let Trie {
+            children,
+            states,
+            entries,
+        } = self;
+        drop(children);
+        drop(states);
+        drop(entries);
     }
 }
 
 impl<E> Model for Trie<E> {
+    ghost use Rattle.std.specs.Prelude.{map, length};
     ghost use Rattle.hyphenation_trie.specs.Trie.{Tree};
-    ghost use Rattle.hyphenation_trie.specs.Private.Growing.{IsSpine};
+    ghost use Rattle.hyphenation_trie.specs.Private.Growing.{IsOrderedFrom};
+    ghost use Rattle.hyphenation_trie.specs.Private.States.{froms_by, span_in, IsHeld};
+    ghost use Rattle.hyphenation_trie.specs.Private.Trie.{tree_of};
 
     ghost Value = { Tree E };
 
-    ghost view = { λ t. t.nodes };
+    ghost view = { λ t. tree_of (froms_by t.children.parents.items t.children.bytes.items)
+        (map span_in t.states.items) t.entries.items };
 
-    ghost invariant = { λ t. IsSpine t.nodes.texts t.spine.items };
+    ghost invariant = { λ t.
+        (IsHeld t.children.parents.items t.children.bytes.items t.states.items t.children.last.items
+        t.children.before.items (length t.entries.items))
+        × (IsOrderedFrom t.children.parents.items t.children.bytes.items t.children.in_order_from) };
 }
 
 impl<E: Drop> Trie<E> {
@@ -61,9 +81,14 @@ impl<E: Drop> Trie<E> {
     pub fn with_room(alloc: Global, nodes: usize) -> Result<Self, AllocError>
         ensures { IfOk result (λ trie. trie ≡ record { texts = [] ∷ []; entries = None ∷ [] }) }
     {
-        let spine = list_of_first(alloc, 0, 0)?;
-        let nodes = Nodes::with_room(alloc, nodes)?;
-        Ok(Trie { nodes, spine })
+        let states = list_of_first(alloc, nodes, State::of_no_key())?;
+        let entries = Vec::with_capacity(alloc, nodes)?;
+        let children = Children::with_room(alloc, nodes)?;
+        Ok(Trie {
+            children,
+            states,
+            entries,
+        })
     }
 
     /// Moves entries to a key, in place of the entries that it had, and returns whether it was a key.
@@ -83,7 +108,7 @@ impl<E: Drop> Trie<E> {
     {
         let node = self.path(key)?;
         self.invariant();
-        let had = self.nodes.set_entries(node, entries)?;
+        let had = self.set_entries(node, entries)?;
         Ok(had)
     }
 
@@ -110,28 +135,104 @@ impl<E: Drop> Trie<E> {
         self.invariant();
         let node = self.path(key)?;
         self.invariant();
-        Ok(self.nodes.share_entries(node, like, entries))
+        Ok(self.share_entries(node, like, entries))
     }
 
     /// Returns the number of nodes, with the root. The last node is the one that was added last.
     pub fn count(&self) -> usize
         ensures { result ≡ length self.now.texts }
     {
-        self.nodes.count()
+        self.states.len()
     }
 
     /// Returns the entries of a node. `None` if there is no such node, or if its text is not a key.
     pub fn entries_of_node(&self, node: usize) -> Option<&[E]>
         ensures { option_copied result ≡ slice_index_or self.now.entries node None }
     {
-        self.nodes.entries_of_node(node)
+        if node < self.states.len() {
+            let state = self.states[node];
+            if state.is_key() {
+                return Some(entries_in(&self.entries, state.span));
+            }
+        }
+        None
     }
 
     /// Gives proofs the invariant of a trie, and does nothing.
     pub fn invariant(&self)
         ensures { IsTrie self.now }
     {
-        self.nodes.invariant();
+        // Reading a field gives the proof the invariant of the type.
+        let _nodes = &self.states;
+    }
+
+    // Returns the root: the node of the empty text.
+    fn root(&self) -> u32
+        ensures root { result ≡ 0 }
+        ensures node { result < length self.now.texts }
+        ensures text { node_text self.now result ≡ [] }
+    {
+        self.invariant();
+        0
+    }
+
+    // Returns the child of a node at a byte, if it has one.
+    #[inline(always)]
+    fn child_of(&self, node: u32, byte: u8) -> Option<u32>
+        requires { node < length self.now.texts }
+        ensures found { IfSome result (λ j.
+            (j < length self.now.texts) × (node_text self.now j ≡ node_text self.now node ++ byte ∷ [])) }
+        ensures none { IfNone result ((j : ℕ) → j < length self.now.texts
+            → node_text self.now j ≢ node_text self.now node ++ byte ∷ []) }
+    {
+        let mut child = self.children.last[node as usize];
+        while child != 0 {
+            let at = self.children.bytes[child as usize];
+            if at == byte {
+                return Some(child);
+            }
+            if at < byte && self.children.in_order_from <= node {
+                // The children before this one have no greater byte.
+                return None;
+            }
+            child = self.children.before[child as usize];
+        }
+        None
+    }
+
+    // Adds a child to a node, and returns it. The only error is out of memory.
+    #[inline(always)]
+    fn grow(&mut self, node: u32, byte: u8) -> Result<u32, AllocError>
+        requires node { node < length self.old.texts }
+        requires absent { (j : ℕ) → j < length self.old.texts
+            → node_text self.old j ≢ node_text self.old node ++ byte ∷ [] }
+        ensures child_added { IfOk result (λ j. (j ≡ length self.old.texts) × (self.new ≡ with_child self.old node byte)) }
+        ensures unchanged_on_error { OnErr result (self.new ≡ self.old) }
+    {
+        let count = self.states.len();
+        self.states.push(State::of_no_key())?;
+        match self.children.add(node, byte) {
+            Ok(child) => Ok(child),
+            Err(error) => {
+                // No state stays without its node.
+                self.states.truncate(count);
+                Err(error)
+            }
+        }
+    }
+
+    // Returns the child of a node at a byte, and adds it if there is none. The only error is out of memory.
+    #[inline(always)]
+    fn step(&mut self, node: u32, byte: u8) -> Result<u32, AllocError>
+        requires { node < length self.old.texts }
+        ensures child { IfOk result (λ j.
+            (j < length self.new.texts) × (node_text self.new j ≡ node_text self.old node ++ byte ∷ [])) }
+        ensures grows { Grows self.old self.new (node_text self.old node ++ byte ∷ []) }
+    {
+        match self.child_of(node, byte) {
+            Some(child) => Ok(child),
+            None => self.grow(node, byte),
+        }
     }
 
     // Returns the node of a text, and adds it if there is none. The only error is out of memory; nodes may be added then.
@@ -141,15 +242,39 @@ impl<E: Drop> Trie<E> {
         ensures adds { AddsFront self.old self.new text.now }
         ensures nodes { KeepsNodes self.old self.new }
     {
-        let shared = shared_front(&self.nodes, &self.spine, text);
-        let mut node = self.spine[shared];
-        self.spine.truncate(shared + 1);
-        for at in shared..text.len() {
-            self.nodes.invariant();
-            node = self.nodes.step(node, text[at])?;
-            self.spine.push(node)?;
+        let mut node = self.root();
+        for byte in text {
+            self.invariant();
+            node = self.step(node, *byte)?;
         }
         Ok(node)
+    }
+
+    // Moves entries to a node, in place of the entries that it had, and returns whether its text was a key. The only error is
+    // out of memory.
+    #[inline(always)]
+    fn set_entries(&mut self, node: u32, entries: &mut Vec<E>) -> Result<bool, AllocError>
+        requires { node < length self.old.texts }
+        ensures set { OnOk result (self.new ≡ with_entries self.old node entries.old.items) }
+        ensures had { IfOk result (λ had. had ≡ is_some (entries_of_key self.old (node_text self.old node))) }
+        ensures entries_moved { OnOk result (entries.new.items ≡ []) }
+        ensures unchanged_on_error { OnErr result (self.new ≡ self.old) }
+        ensures entries_kept_on_error { OnErr result (entries.new.items ≡ entries.old.items) }
+    {
+        let span = Span::of(self.entries.len(), entries.len())?;
+        append_all(&mut self.entries, entries)?;
+        Ok(self.states[node as usize].set_span(span))
+    }
+
+    // Gives a node the entries of another node, in place of the entries that it had, and returns whether its text was a key.
+    fn share_entries(&mut self, node: u32, like: usize, entries: &[E]) -> bool
+        requires node { node < length self.old.texts }
+        requires like { slice_index_or self.old.entries like None ≡ Some entries.now }
+        ensures set { self.new ≡ with_entries self.old node entries.now }
+        ensures had { result ≡ is_some (entries_of_key self.old (node_text self.old node)) }
+    {
+        let span = self.states[like].span;
+        self.states[node as usize].set_span(span)
     }
 
     /// Makes the automaton that finds the keys of the trie. The only error is out of memory, also if it would have 2^32 nodes
@@ -157,34 +282,39 @@ impl<E: Drop> Trie<E> {
     pub fn freeze(self, alloc: Global) -> Result<Automaton<E>, AllocError>
         ensures { IfOk result (λ automaton. automaton ≡ self) }
     {
-        let Trie { nodes, spine } = self;
-        drop(spine);
-        nodes.freeze(alloc)
+        self.invariant();
+        bytes_are_below_256(&self.children.bytes);
+        let rows = rows_of(alloc, &self.children)?;
+        let Trie {
+            children,
+            states,
+            entries,
+        } = self;
+        let Children {
+            parents,
+            bytes,
+            last,
+            before,
+            in_order_from: _,
+        } = children;
+        // Rows have taken the place of the chains of children, whose lists are filled anew.
+        let NodesByDepth { depths, chains } = NodesByDepth::of(alloc, &parents, last, before)?;
+        let reports = vec![in alloc; 0u32; parents.len()]?;
+        let mut trie = Frozen::new(parents, bytes, states, entries, rows, reports);
+        link_all(&mut trie, &depths, &chains);
+        Ok(Automaton { trie, depths })
     }
 }
 
-// Returns how many bytes of a text the nodes of a spine lead along, from the root on.
-#[inline(always)]
-fn shared_front<E: Drop>(nodes: &Nodes<E>, spine: &[u32], text: &[u8]) -> usize
-    requires { IsSpine nodes.now.texts spine.now }
-    ensures in_spine { result < length spine.now }
-    ensures in_text { result ≤ length text.now }
-    ensures front { node_text nodes.now (slice_index spine.now result) ≡ take result text.now }
-{
-    nodes.invariant();
-    let most = text.len().min(spine.len() - 1);
-    for at in 0..most {
-        if nodes.byte_of(spine[at + 1]) != text[at] {
-            return at;
-        }
-    }
-    most
-}
+// Gives proofs that each byte is below 256, and does nothing.
+fn bytes_are_below_256(bytes: &[u8])
+    ensures { (k : ℕ) → slice_index bytes.now k < 256 }
+{}
 
 impl<E> fmt::Debug for Trie<E> {
     fn fmt<W: fmt::Write>(&self, f: &mut fmt::Formatter<W>) -> fmt::Result {
         f.debug_struct("Trie")
-            .field("nodes", &self.nodes.count())
+            .field("nodes", &self.states.len())
             .finish()
     }
 }

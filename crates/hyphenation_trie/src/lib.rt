@@ -33,7 +33,6 @@ mod growing;
 pub mod laws;
 mod lists;
 mod look_ups;
-mod nodes;
 mod nodes_by_depth;
 pub mod parts;
 mod rows;

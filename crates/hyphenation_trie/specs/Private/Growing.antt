@@ -1,5 +1,5 @@
 -- A growing trie: how its nodes are held, and how a child is found.
-use Rattle.std.specs.Prelude.{◌≡◌, ◌≢◌, ℕ, ◌+◌, ◌<◌, ◌≤◌, List, [], ◌∷◌, ◌++◌, length, map, Option, Some, None, slice_get, slice_index, slice_index_or}
+use Rattle.std.specs.Prelude.{◌≡◌, ◌≢◌, ℕ, ◌<◌, ◌≤◌, List, [], length, map, Option, Some, None, slice_get, slice_index, slice_index_or}
 use Rattle.hyphenation_trie.specs.Private.Chains.{IsChained}
 use Rattle.hyphenation_trie.specs.Private.Links.{parent_of}
 use Rattle.hyphenation_trie.specs.Private.Trie.{texts_of, AreApart, HasFroms}
@@ -24,12 +24,3 @@ IsOrderedFrom parents bytes first =
 pub record IsSought (froms : List (Option (ℕ × ℕ))) (node byte child : ℕ) : Type 0 where
   pub here : 0 < child → (child < length froms) × (slice_index (map parent_of froms) child ≡ node)
   pub above : (k : ℕ) → child < k → k < length froms → slice_index_or froms k None ≢ Some (node, byte)
-
--- The nodes lead from the root down, each a child of the one before: its text has one byte more.
-pub record IsSpine (texts : List (List ℕ)) (spine : List ℕ) : Type 0 where
-  pub some : 0 < length spine
-  pub root : slice_index spine 0 ≡ 0
-  pub nodes : (i : ℕ) → i < length spine → slice_index spine i < length texts
-  pub children : (i : ℕ) → i + 1 < length spine
-      → (b : ℕ) × (slice_index_or texts (slice_index spine (i + 1)) []
-      ≡ slice_index_or texts (slice_index spine i) [] ++ b ∷ [])

@@ -1,6 +1,5 @@
 use Rattle.std.proofs.Common.{◌∙◌, ap, Some, cond, nat_eq}
 use Rattle.std.specs.Cmp.Lexicographic.{pointwise}
-use Rattle.hyphenation_trie.specs.Private.Trie.{with_entries}
 use Rattle.hyphenation_trie.specs.Trie.{entries_of_key}
 use Rattle.hyphenation_trie.proofs.SharedEntries.{entries_stay}
 use Rattle.hyphenation_trie.proofs.TrieNodes.{key_at-with, begins-insert}
@@ -8,18 +7,17 @@ use Rattle.hyphenation_trie.proofs.growing.Trie.insert_as.Goals as goal
 
 pub share_entries-requires-clause-like : goal.share_entries-requires-clause-like
 share_entries-requires-clause-like g c =
-    rw c.self.view_is (entries_stay c.args.self.now c.path.new.self c.args.like c.args.entries.now c.invariant.ensures c.invariant-2.ensures c.in_ok-node.ensures.keys_stay c.in_ok-node.ensures.nodes c.requires)
+    entries_stay c.args.self.now c.path.new.self c.args.like c.args.entries.now c.invariant.ensures c.invariant-2.ensures c.in_ok-node.ensures.keys_stay c.in_ok-node.ensures.nodes c.requires
 
 pub returns-clause-key_set : goal.returns-clause-key_set
 returns-clause-key_set g c = λ q.
     ap (λ t. entries_of_key t q) c.share_entries.ensures.set
-    ∙ ap (λ t. entries_of_key (with_entries t c.in_ok-node.node c.args.entries.now) q) c.self.view_is
     ∙ key_at-with c.path.new.self c.in_ok-node.node c.args.entries.now c.args.key.now q c.invariant-2.ensures c.in_ok-node.ensures.node.0 c.in_ok-node.ensures.node.1
     ∙ ap (cond (pointwise nat_eq c.args.key.now q) (Some c.args.entries.now)) (c.in_ok-node.ensures.keys_stay q)
 
 pub returns-clause-begins : goal.returns-clause-begins
-returns-clause-begins g c = λ begins. rw (c.share_entries.ensures.set, c.self.view_is) (
+returns-clause-begins g c = λ begins. rw c.share_entries.ensures.set (
     begins-insert c.args.self.now c.path.new.self c.args.key.now c.in_ok-node.node c.args.entries.now c.in_ok-node.ensures.keys_stay c.in_ok-node.ensures.adds c.invariant-2.ensures c.in_ok-node.ensures.node.0 c.in_ok-node.ensures.node.1 begins)
 
 pub returns-clause-nodes : goal.returns-clause-nodes
-returns-clause-nodes g c = rw (c.share_entries.ensures.set, c.self.view_is) c.in_ok-node.ensures.nodes
+returns-clause-nodes g c = rw c.share_entries.ensures.set c.in_ok-node.ensures.nodes

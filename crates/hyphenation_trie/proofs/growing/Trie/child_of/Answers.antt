@@ -9,7 +9,7 @@ use Rattle.hyphenation_trie.proofs.FrozenTrie.{byte_here}
 use Rattle.hyphenation_trie.proofs.GrowingNodes.{sought-start, sought-next, sought-past, sought-found, sought-none, sought-byte, other_byte}
 use Rattle.hyphenation_trie.proofs.HeldNodes.{node_held}
 use Rattle.hyphenation_trie.proofs.TrieNodes.{length-texts_of}
-use Rattle.hyphenation_trie.proofs.nodes.Nodes.child_of.Goals as goal
+use Rattle.hyphenation_trie.proofs.growing.Trie.child_of.Goals as goal
 
 some : (k : ℕ) → k ≢ 0 → 0 < k
 some k apart = omega arith

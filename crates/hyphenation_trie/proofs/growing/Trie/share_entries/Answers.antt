@@ -9,7 +9,7 @@ use Rattle.hyphenation_trie.proofs.HeldNodes.{trie_held, node_held, held_set}
 use Rattle.hyphenation_trie.proofs.SharedEntries.{state_there, span_there, span_starts, seen-shared}
 use Rattle.hyphenation_trie.proofs.States.{span_of_state, spans_within}
 use Rattle.hyphenation_trie.proofs.TrieNodes.{entries_at-here, has_entries}
-use Rattle.hyphenation_trie.proofs.nodes.Nodes.share_entries.Goals as goal
+use Rattle.hyphenation_trie.proofs.growing.Trie.share_entries.Goals as goal
 
 pub index-requires : goal.index-requires
 index-requires g c =

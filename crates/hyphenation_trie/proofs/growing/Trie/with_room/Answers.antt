@@ -2,7 +2,7 @@ use Rattle.std.proofs.Common.{sym, subst, refl, arith}
 use Rattle.std.proofs.lemmas.Grind.{common_steps}
 use Rattle.hyphenation_trie.specs.Private.Trie.{IsWithin}
 use Rattle.hyphenation_trie.proofs.GrowingNodes.{held-new, ordered-new}
-use Rattle.hyphenation_trie.proofs.nodes.Nodes.with_room.Goals as goal
+use Rattle.hyphenation_trie.proofs.growing.Trie.with_room.Goals as goal
 
 pub invariant_of-result : goal.invariant_of-result
 invariant_of-result g c =

@@ -2,7 +2,7 @@ use Rattle.std.proofs.Common.{arith}
 use Rattle.hyphenation_trie.proofs.HeldNodes.{count_is}
 use Rattle.hyphenation_trie.proofs.TrieNodes.{length-texts_of}
 use Rattle.hyphenation_trie.specs.Private.States.{froms_by}
-use Rattle.hyphenation_trie.proofs.nodes.Nodes.count.Goals as goal
+use Rattle.hyphenation_trie.proofs.growing.Trie.count.Goals as goal
 
 pub returns : goal.returns
 returns g c =

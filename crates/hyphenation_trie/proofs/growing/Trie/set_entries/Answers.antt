@@ -7,7 +7,7 @@ use Rattle.hyphenation_trie.specs.declared.state.Span.{Span}
 use Rattle.hyphenation_trie.specs.declared.state.State.{State}
 use Rattle.hyphenation_trie.proofs.HeldNodes.{trie_held, node_held, held_set}
 use Rattle.hyphenation_trie.proofs.TrieNodes.{entries_at-here, seen-with, has_entries}
-use Rattle.hyphenation_trie.proofs.nodes.Nodes.set_entries.Goals as goal
+use Rattle.hyphenation_trie.proofs.growing.Trie.set_entries.Goals as goal
 
 pub index_mut-requires : goal.index_mut-requires
 index_mut-requires g c =

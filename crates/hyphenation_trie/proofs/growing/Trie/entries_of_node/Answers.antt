@@ -7,8 +7,8 @@ use Rattle.hyphenation_trie.specs.declared.state.Span.{Span}
 use Rattle.hyphenation_trie.specs.declared.state.State.{State}
 use Rattle.hyphenation_trie.proofs.States.{span_of_state, span_of_key, span_of_none, entries_of_state, spans_within}
 use Rattle.hyphenation_trie.proofs.SharedEntries.{none_past}
-use Rattle.hyphenation_trie.proofs.nodes.Nodes.entries_of_node.Goals as goal
-use Rattle.hyphenation_trie.proofs.nodes.Nodes.entries_of_node.Goals.{then-node-len+else-is_key, else-node-len}
+use Rattle.hyphenation_trie.proofs.growing.Trie.entries_of_node.Goals as goal
+use Rattle.hyphenation_trie.proofs.growing.Trie.entries_of_node.Goals.{then-node-len+else-is_key, else-node-len}
 
 pub entries_in-requires : goal.entries_in-requires
 entries_in-requires g c =

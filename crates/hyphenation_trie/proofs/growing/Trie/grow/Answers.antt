@@ -9,7 +9,7 @@ use Rattle.hyphenation_trie.proofs.FrozenTrie.{parents_by}
 use Rattle.hyphenation_trie.proofs.GrowingNodes.{held-grow, earlier, ordered-anew, ordered-more}
 use Rattle.hyphenation_trie.proofs.HeldNodes.{count_is, held_more, node_held, tree_more}
 use Rattle.hyphenation_trie.proofs.TrieNodes.{length-texts_of}
-use Rattle.hyphenation_trie.proofs.nodes.Nodes.grow.Goals as goal
+use Rattle.hyphenation_trie.proofs.growing.Trie.grow.Goals as goal
 
 -- the last child of each node, by parents
 chained_by : (parents bytes : List ℕ) (states : List State) (lasts befores : List ℕ) (bound : ℕ) → IsHeld parents bytes states lasts befores bound → IsChained parents lasts befores
