@@ -1,10 +1,10 @@
 -- Places with odd values are the breaks that patterns allow, where no winner carries a change.
-use Rattle.std.proofs.Common.{◌≡◌, ◌≢◌, ◌%◌, ◌&&◌, nat_le, ℕ, zero, suc, ◌+◌, ◌-◌, ◌<◌, ◌≤◌, ◌⊎◌, Bool, true, false, cond, List, [], ◌∷◌, ◌++◌, length, map, filter, get_or, max, min, set, take, Option, Some, None, refl, sym, ap, ◌∙◌, arith, inl, inr}
+use Rattle.std.proofs.Common.{◌≡◌, ◌≢◌, ◌%◌, ◌&&◌, nat_le, ℕ, zero, suc, ◌+◌, ◌-◌, ◌<◌, ◌≤◌, ◌⊎◌, Bool, true, false, cond, List, [], ◌∷◌, ◌++◌, length, map, filter, max, min, set, take, Option, Some, None, refl, sym, ap, ◌∙◌, arith, inl, inr}
 use Rattle.std.specs.List.{range_with_len, slice_index}
 use Rattle.std.specs.Option.{option_and_then}
 use Rattle.std.proofs.Math.Bool.{and-false, and-true}
 use Rattle.std.proofs.lemmas.Bool.{cases_eq, cases_lt, le-leb, lt-leb}
-use Rattle.std.proofs.lemmas.List.{append-nil, get_or_past, map-append, take-set, take_more, take_more_set}
+use Rattle.std.proofs.lemmas.List.{append-nil, get_or_past, map-append, take-set, take_more_set}
 use Rattle.std.proofs.lemmas.List.Elements.{filter-append}
 use Rattle.std.proofs.lemmas.List.FromFn.{get_or-map-range_with_len, length-map-range_with_len}
 use Rattle.hyphenation_breaks.specs.Break.{Break, Change, plain_break, break_at}
@@ -154,12 +154,6 @@ pub plain_next : {X : Type 0} (m : X → Break) (items : List X) (places : List 
     → map m items ≡ map plain_break places → m b ≡ plain_break at → map m (items ++ b ∷ []) ≡ map plain_break (places ++ at ∷ [])
 plain_next m items places b at before is =
     map-append m items (b ∷ []) ∙ ap (λ bs. bs ++ m b ∷ []) before ∙ ap (λ p. map plain_break places ++ p ∷ []) is ∙ sym (map-append plain_break places (at ∷ []))
-
--- One more plain break, at the next place of a list.
-pub plain_more : {X : Type 0} (m : X → Break) (items : List X) (places : List ℕ) (i : ℕ) (b : X) → i < length places
-    → map m items ≡ map plain_break (take i places) → m b ≡ plain_break (get_or places i 0) → map m (items ++ b ∷ []) ≡ map plain_break (take (i + 1) places)
-plain_more m items places i b lt before is =
-    plain_next m items (take i places) b (get_or places i 0) before is ∙ sym (ap (map plain_break) (take_more places i 0 lt))
 
 -- No winner carries a change, where no entry does.
 pub winners_have_no_change : {C : Type 0} (keys : Patterns C) (word : List ℕ) (p : ℕ) → option_and_then (λ entry. no_change entry.change) (winner_at keys word p) ≡ None

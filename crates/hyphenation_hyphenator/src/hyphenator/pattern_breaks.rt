@@ -294,6 +294,22 @@ fn odd_places_in_turn<F: FoundBreak>(
     Ok(())
 }
 
+// Puts plain breaks at places into an empty list. One with too little memory takes some for eight breaks or more at once, since
+// most words have a few.
+#[inline(always)]
+fn put_found<F: FoundBreak>(found: &[u8], list: &mut Vec<F>) -> Result<(), AllocError>
+    requires { list.old.items ≡ [] }
+    ensures { OnOk result (map F.meaning list.new.items ≡ map plain_break found.now) }
+{
+    if list.capacity() < found.len() {
+        list.reserve_exact(found.len().max(8))?;
+    }
+    for place in found {
+        list.push_reserved(F::plain(*place as usize));
+    }
+    Ok(())
+}
+
 // Puts plain breaks at the places within bounds that have an odd value into an empty list. The values begin with that of
 // place 1.
 #[inline(always)]
@@ -310,10 +326,7 @@ fn odd_places<F: FoundBreak>(
     }
     let mut found = [0u8; 64];
     let count = write_odd_places(values, bounds, &mut found);
-    for index in 0..count {
-        push_with_room(list, F::plain(found[index] as usize))?;
-    }
-    Ok(())
+    put_found(&found[..count], list)
 }
 
 // Puts the places within bounds that patterns allow into an empty list. The list of values has 18 bytes more than the word.

@@ -1,6 +1,6 @@
 use Rattle.std.proofs.Common.{◌≡◌, ◌+◌, true, sym, ◌∙◌, arith, slice_index}
 use Rattle.std.specs.Char.{is_ascii_lowercase}
-use Rattle.hyphenation_hyphenator.proofs.CommonLowercase.{lower_goes_on, two_letters_go_on, pair_goes_on, neither_goes_on}
+use Rattle.hyphenation_hyphenator.proofs.CommonLowercase.{two_letters_go_on}
 use Rattle.hyphenation_hyphenator.proofs.case_folding.are_common_lowercase_in_turn.Goals as goal
 
 pub loop-at-preserved-then-is_ascii_lowercase-2 : goal.loop-at-preserved-then-is_ascii_lowercase-2

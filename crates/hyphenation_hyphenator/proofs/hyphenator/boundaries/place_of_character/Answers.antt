@@ -1,5 +1,5 @@
 use Rattle.std.proofs.Common.{◌≡◌, ◌++◌, ◌∙◌, length, encode_utf8, ap, sym}
-use Rattle.hyphenation_hyphenator.proofs.CharacterPlaces.{one_first, first_place, first_boundary, first_few}
+use Rattle.hyphenation_hyphenator.proofs.CharacterPlaces.{one_first, first_boundary, first_few}
 use Rattle.hyphenation_hyphenator.proofs.hyphenator.boundaries.place_of_character.Goals as goal
 
 pub returns-in-None-clause-value : goal.returns-in-None-clause-value
