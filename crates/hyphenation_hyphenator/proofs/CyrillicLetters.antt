@@ -14,7 +14,7 @@ use Rattle.hyphenation_hyphenator.proofs.CommonLowercase.{pair_first, pair_small
 
 -- ---- lanes
 
--- What the operations on vectors of bytes give in a lane: bit by bit, by comparison, and by a difference that wraps.
+-- The results of operations on vectors of bytes in a lane: bit by bit, by comparison, and by a difference that wraps.
 abbrev both8 : ℕ → ℕ → ℕ
 both8 = act2 bit_and (s_int w8) (s_int w8) (s_int w8)
 
@@ -33,11 +33,11 @@ below8 a b = cond (ltb a b) 255 0
 abbrev less8 : ℕ → ℕ → ℕ
 less8 a b = (a + (256 - b)) % 256
 
--- What the lane of a first and a second byte holds: its highest bit is set where they encode no such letter.
+-- The lane of a first and a second byte: its highest bit is set where they encode no such letter.
 abbrev lane_of : ℕ → ℕ → ℕ
 lane_of a b = other8 (either8 (both8 (equal8 a 208) (below8 (less8 b 176) 16)) (both8 (equal8 a 209) (below8 (less8 b 128) 32)))
 
--- What `are_letters` computes of all first and second bytes.
+-- The lanes that `are_letters` computes of all first and second bytes.
 abbrev pub lanes_of : List ℕ → List ℕ → List ℕ
 lanes_of firsts seconds =
     map other8 (zip2 either8

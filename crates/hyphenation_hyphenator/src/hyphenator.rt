@@ -20,6 +20,7 @@ mod boundaries;
 mod break_kind;
 mod extended;
 mod fitting;
+mod found_break;
 pub mod laws;
 mod pattern_breaks;
 mod standard;

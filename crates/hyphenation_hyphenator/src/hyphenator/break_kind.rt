@@ -11,6 +11,7 @@ ghost use Rattle.hyphenation_hyphenator.specs.Opportunities.{breaks_within, brea
 ghost use Rattle.hyphenation_hyphenator.specs.Private.Opportunities.{borrowed_break, breaks_by_keys};
 
 use super::fitting::{are_plain, keep_fitting};
+use super::found_break::FoundBreak;
 use super::pattern_breaks::{breaks_with_changes, plain_breaks};
 use crate::case_folding::Shift;
 use hyphenation_breaks::breaks::Break;
@@ -19,25 +20,6 @@ use hyphenation_breaks::extended::Subregion;
 use hyphenation_trie::Automaton;
 use hyphenation_trie::table::Table;
 use std::alloc::AllocError;
-
-// A type of breaks that are found, where a plain one can be made of a place.
-pub(crate) trait FoundBreak: Break + Copy {
-    // Returns a plain break at a place.
-    fn plain(place: usize) -> Self
-        ensures { Self.meaning result ≡ plain_break place };
-}
-
-impl FoundBreak for usize {
-    fn plain(place: usize) -> usize {
-        place
-    }
-}
-
-impl<'h> FoundBreak for (usize, Option<&'h Subregion>) {
-    fn plain(place: usize) -> (usize, Option<&'h Subregion>) {
-        (place, None)
-    }
-}
 
 // The type of the breaks that a kind of dictionary finds.
 pub(crate) trait BreakKind<'h>: FoundBreak {

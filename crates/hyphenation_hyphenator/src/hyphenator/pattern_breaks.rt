@@ -16,7 +16,7 @@ ghost use Rattle.hyphenation_hyphenator.specs.Opportunities.{no_change, within};
 ghost use Rattle.hyphenation_hyphenator.specs.Private.Opportunities.{borrowed_break, break_at_winner, breaks_at_winners};
 ghost use Rattle.hyphenation_hyphenator.specs.Private.Opportunities.{breaks_by_keys, is_unchanged, odd_places, values_of_ranks};
 
-use super::break_kind::FoundBreak;
+use super::found_break::FoundBreak;
 use hyphenation_breaks::entry::Entry;
 use hyphenation_breaks::extended::Subregion;
 use hyphenation_score::laws::{ranks_show_changes, winner_has_value};

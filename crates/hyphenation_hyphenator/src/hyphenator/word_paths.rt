@@ -25,7 +25,8 @@ ghost use Rattle.hyphenation_hyphenator.specs.Private.Opportunities.{realigned_b
 use super::ascii_lowercase::are_ascii_lowercase;
 use super::boundaries::{boundaries_of_long_ascii, is_short_ascii};
 use super::boundaries_of;
-use super::break_kind::{BreakKind, FoundBreak};
+use super::break_kind::BreakKind;
+use super::found_break::FoundBreak;
 use super::pattern_breaks::{is_within, push_with_room};
 use crate::case_folding::{Shift, are_common_lowercase, fold_in_place, realign_sorted, refold};
 use crate::soft_hyphens::soft_hyphen_indices;
