@@ -30,10 +30,10 @@ impl Extended {
         self.language
     }
 
-    /// Makes a table by which words are broken several times as fast, if the dictionary can have one.
+    /// Makes a table by which words are broken faster, if the dictionary can have one.
     ///
-    /// Words whose breaks may change letters are no faster. Else it is as
-    /// [`Standard::make_table`](crate::Standard::make_table) says.
+    /// Words whose breaks may change letters take longer, and words of more than 62 bytes as long as before. Extended
+    /// Hungarian takes 14 MB. Else it is as [`Standard::make_table`](crate::Standard::make_table) says.
     pub fn make_table(&mut self) {
         done(self.handle.make_table())
     }
