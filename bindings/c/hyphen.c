@@ -111,9 +111,14 @@ void hnj_hyphen_free(HyphenDict *dict) {
   free(own);
 }
 
+/* The name that iconv has for a charset: LibreOffice's files write microsoft-cp1251 for CP1251. */
+static const char *iconv_name(const char *charset) {
+  return strncmp(charset, "microsoft-", 10) == 0 ? charset + 10 : charset;
+}
+
 /* Bytes from one charset to another; NULL if they are not of the first one, or memory is short. A NUL follows. */
 static char *converted(const char *from, const char *to, const char *bytes, size_t length, size_t *converted_length) {
-  iconv_t way = iconv_open(to, from);
+  iconv_t way = iconv_open(iconv_name(to), iconv_name(from));
   if (way == (iconv_t)-1) return NULL;
   size_t room = 4 * length + 1, left = length, free_room = room - 1;
   char *made = malloc(room), *in = (char *)bytes, *out = made;
@@ -196,27 +201,36 @@ static size_t byte_of(const HyphenDict *dict, const char *word, size_t length, s
   return byte;
 }
 
-/* The word with = at its breaks, and the texts of changes in their places. */
+/* Appends bytes to a text of *made bytes, if they fit in its room with a NUL behind them; else the text stays as it is. */
+static int append(char *out, size_t room, size_t *made, const char *bytes, size_t length) {
+  if (length >= room - *made) return 1;
+  memcpy(out + *made, bytes, length);
+  *made += length;
+  out[*made] = 0;
+  return 0;
+}
+
+/* The word with = at its breaks, and the texts of changes in their places. Nothing is written beyond the room; where the
+ * whole does not fit, or a change begins before the end of another one, the word is written without breaks. */
 static void write_word(const HyphenDict *dict, const char *word, size_t length, const char *hyphens, char **rep, int *pos,
                        int *cut, char *out) {
-  size_t last = 0;
-  for (size_t i = 0; hyphens[i]; i++) {
+  size_t last = 0, made = 0, room = 2 * length;
+  int failed = 0;
+  if (room == 0) return;
+  out[0] = 0;
+  for (size_t i = 0; hyphens[i] && !failed; i++) {
     if (!(hyphens[i] & 1)) continue;
     int changed = rep && rep[i];
     size_t begin = byte_of(dict, word, length, i + 1 - (changed ? (size_t)pos[i] : 0));
-    memcpy(out, word + last, begin - last);
-    out += begin - last;
-    if (changed) {
-      strcpy(out, rep[i]);
-      out += strlen(rep[i]);
-      last = byte_of(dict, word, length, i + 1 - (size_t)pos[i] + (size_t)cut[i]);
-    } else {
-      *out++ = '=';
-      last = begin;
-    }
+    const char *text = changed ? rep[i] : "=";
+    failed = begin < last || begin > length || append(out, room, &made, word + last, begin - last) ||
+             append(out, room, &made, text, strlen(text));
+    last = changed ? byte_of(dict, word, length, i + 1 - (size_t)pos[i] + (size_t)cut[i]) : begin;
   }
-  memcpy(out, word + last, length - last);
-  out[length - last] = 0;
+  if (failed || last > length || append(out, room, &made, word + last, length - last)) {
+    made = 0;
+    append(out, room, &made, word, length);
+  }
 }
 
 int hnj_hyphen_hyphenate3(HyphenDict *dict, const char *word, int word_size, char *hyphens, char *hyphenated_word,

@@ -34,7 +34,8 @@ void hnj_hyphen_free(HyphenDict *dict);
 
 /* Finds the breaks of a word of word_size bytes in the charset of the dictionary. hyphens[i] is '1' if the word may be
  * broken after its character i, counted from 0, and else '0'; a NUL follows the last one. `hyphens` has word_size + 5
- * bytes. hyphenated_word, if it is not NULL, is the word with = at its breaks, in 2 * word_size bytes at least.
+ * bytes. hyphenated_word, if it is not NULL, has 2 * word_size bytes at least. It is the word with = at its breaks, if that
+ * fits with a NUL behind it, and else the word without breaks.
  *
  * For a break that changes letters (*rep)[i] is the two texts with = between them, (*pos)[i] how many characters up to
  * the break they begin before it, and (*cut)[i] how many characters they take the place of. The three lists are made if

@@ -52,6 +52,26 @@ int main(void) {
   check(dict, "k\xe9szonnya", "001001000", "k\xe9s=zony=nya");
   hnj_hyphen_free(dict);
 
+  dict = load("microsoft-cp1251\n\xe0""1\xe1\n");
+  assert(dict && !dict->utf8 && strcmp(dict->cset, "microsoft-cp1251") == 0);
+  check(dict, "\xe0\xe0\xe1\xe1", "0100", "\xe0\xe0=\xe1\xe1");
+  hnj_hyphen_free(dict);
+
+  /* A written word that does not fit in twice its bytes has no breaks, and nothing is written behind that room. */
+  dict = load("UTF-8\nbb1c/a-text-that-is-too-long=,1,2\nbb1d/xy=,1,2\n");
+  char written[16];
+  memset(written, '#', sizeof written);
+  assert(hnj_hyphen_hyphenate2(dict, "abbca", 5, found, written, &rep, &pos, &cut) == 0);
+  assert(strcmp(found, "00100") == 0 && strcmp(rep[2], "a-text-that-is-too-long=") == 0);
+  assert(memcmp(written, "abbca\0####", 10) == 0 && memcmp(written + 10, "######", 6) == 0);
+  free(rep[2]);
+  free(rep);
+  free(pos);
+  free(cut);
+  rep = NULL, pos = NULL, cut = NULL;
+  check(dict, "abbda", "00100", "axy=da");
+  hnj_hyphen_free(dict);
+
   dict = load("hyphenation 1 standard\nlanguage en-us\nminima 2 3\ne hyphenation 2 6 7\n");
   assert(dict && dict->utf8);
   check(dict, "Hyphenation", "01000110000", "Hy=phen=a=tion");
