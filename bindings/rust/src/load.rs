@@ -15,15 +15,30 @@ pub type Result<T> = result::Result<T, Error>;
 #[derive(Debug)]
 pub enum Error {
     /// The text is faulty: its first faulty line, counted from 1, and the first test that the line fails.
-    Deserialization { line: usize, cause: &'static str },
+    Deserialization {
+        /// The number of the line, from 1.
+        line: usize,
+        /// The test that it fails.
+        cause: &'static str,
+    },
     /// The file of exceptions is faulty: its first faulty line, and the first test that the line fails.
-    Exceptions { line: usize, cause: &'static str },
+    Exceptions {
+        /// The number of the line, from 1.
+        line: usize,
+        /// The test that it fails.
+        cause: &'static str,
+    },
     /// A minimum is neither given nor in the head of the TeX file.
     NoMinima,
     /// The file or the reader can't be read.
     IO(io::Error),
     /// The text is of another language.
-    LanguageMismatch { expected: Language, found: Language },
+    LanguageMismatch {
+        /// The language that was asked for.
+        expected: Language,
+        /// The language of the text.
+        found: Language,
+    },
     /// Memory was refused.
     Memory,
 }
