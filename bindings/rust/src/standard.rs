@@ -19,7 +19,7 @@ impl Standard {
 
     /// Makes a table by which words are broken faster, if the dictionary can have one.
     ///
-    /// Nothing else changes. It takes memory and time (0.5 MB and 2 ms in English, 9 MB and 15 ms in
+    /// Nothing else changes. It takes memory and time (0.5 MB and 2 ms in English, 9 MB and 16 ms in
     /// Hungarian), so it is for a dictionary that is asked for thousands of words. Call it before the dictionary is cloned:
     /// clones that are there stay without a table, and the dictionary is copied for it.
     pub fn make_table(&mut self) {
