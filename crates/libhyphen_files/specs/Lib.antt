@@ -1,0 +1,7 @@
+pub mod Bytes
+pub mod Numbers
+pub mod Lines
+pub mod Patterns
+pub mod Levels
+pub mod Files
+pub mod Private
