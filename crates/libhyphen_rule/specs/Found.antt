@@ -1,0 +1,12 @@
+-- What is found in a word, as contracts see it.
+use Rattle.std.specs.Prelude.{List, map, Option, option_map}
+use Rattle.libhyphen_rule.specs.OneLevel.{ChangeAt}
+use Rattle.libhyphen_rule.specs.declared.one_level.PlacedChange.{PlacedChange}
+
+-- A change at a place, with its text.
+abbrev pub placed : PlacedChange → ChangeAt
+placed change = record { text = change.text.now; pos = change.pos; cut = change.cut }
+
+-- The changes of a word's places.
+abbrev pub placed_all : List (Option PlacedChange) → List (Option ChangeAt)
+placed_all changes = map (option_map placed) changes
