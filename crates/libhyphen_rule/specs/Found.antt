@@ -1,6 +1,8 @@
 -- What is found in a word, as contracts see it.
 use Rattle.std.specs.Prelude.{List, map, Option, option_map}
 use Rattle.libhyphen_rule.specs.OneLevel.{ChangeAt}
+use Rattle.libhyphen_rule.specs.Parts.{Found}
+use Rattle.libhyphen_rule.specs.declared.found.WordFound.{WordFound}
 use Rattle.libhyphen_rule.specs.declared.one_level.PlacedChange.{PlacedChange}
 
 -- A change at a place, with its text.
@@ -10,3 +12,12 @@ placed change = record { text = change.text.now; pos = change.pos; cut = change.
 -- The changes of a word's places.
 abbrev pub placed_all : List (Option PlacedChange) → List (Option ChangeAt)
 placed_all changes = map (option_map placed) changes
+
+-- What is found in a word.
+abbrev pub found_of : WordFound → Found
+found_of found = record {
+  digits = found.digits.items;
+  changes = placed_all found.changes.items;
+  made = found.made;
+  parts = found.parts;
+}

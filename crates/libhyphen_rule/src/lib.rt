@@ -6,4 +6,8 @@
 //! with its breaks. [`calls`] has the calls of libhyphen.
 #![tactic(auto)]
 
+pub mod found;
+mod minima;
 pub mod one_level;
+mod parts;
+mod words;
