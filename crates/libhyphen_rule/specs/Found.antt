@@ -2,6 +2,8 @@
 use Rattle.std.specs.Prelude.{List, map, Option, option_map}
 use Rattle.libhyphen_rule.specs.OneLevel.{ChangeAt}
 use Rattle.libhyphen_rule.specs.Parts.{Found}
+use Rattle.libhyphen_rule.specs.Calls.{Answer}
+use Rattle.libhyphen_rule.specs.declared.calls.CallAnswer.{CallAnswer}
 use Rattle.libhyphen_rule.specs.declared.found.WordFound.{WordFound}
 use Rattle.libhyphen_rule.specs.declared.one_level.PlacedChange.{PlacedChange}
 
@@ -20,4 +22,12 @@ found_of found = record {
   changes = placed_all found.changes.items;
   made = found.made;
   parts = found.parts;
+}
+
+-- What a call gives.
+abbrev pub answer_view : CallAnswer → Answer
+answer_view answer = record {
+  digits = answer.digits.items;
+  changes = placed_all answer.changes.items;
+  made = answer.made;
 }

@@ -4,4 +4,5 @@ pub mod Letters
 pub mod Minima
 pub mod Parts
 pub mod Words
+pub mod Calls
 pub mod Found

@@ -6,6 +6,7 @@
 //! with its breaks. [`calls`] has the calls of libhyphen.
 #![tactic(auto)]
 
+pub mod calls;
 pub mod found;
 mod minima;
 pub mod one_level;

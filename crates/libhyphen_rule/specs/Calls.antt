@@ -1,0 +1,128 @@
+-- What the calls of libhyphen give for a word.
+-- Source: libhyphen 2.8.8, hyphen.h and hyphen.c.
+use Rattle.std.specs.Prelude.{ℕ, ℤ, pos, ◌+◌, ◌-◌, ◌==◌, ◌&&◌, int_le, int_lt, nat_lt, Bool, if◌then◌else◌, List, [], ◌∷◌, ◌++◌, length, map, take, drop, filter, is_none, Option, None, Some, slice_index}
+use Rattle.std.specs.List.{range_with_len}
+use Rattle.hyphenation_breaks.specs.Ascii.{digit_zero}
+use Rattle.libhyphen_files.specs.Bytes.{before_nul, continues}
+use Rattle.libhyphen_files.specs.Files.{Rules}
+use Rattle.libhyphen_files.specs.Levels.{Level}
+use Rattle.libhyphen_files.specs.declared.minima.Minima.{Minima}
+use Rattle.libhyphen_rule.specs.Counting.{counted_in, framed}
+use Rattle.libhyphen_rule.specs.OneLevel.{ChangeAt, digit_at, offers}
+use Rattle.libhyphen_rule.specs.Parts.{Found, PartMinima, word_found, without_left, without_right}
+use Rattle.libhyphen_rule.specs.Words.{changes_of_characters, digits_beside, digits_of_characters, written_word}
+use Rattle.libhyphen_rule.specs.declared.calls.CallMinima.{CallMinima}
+
+-- ---- The minima of a call.
+
+abbrev pub greater : ℤ → ℤ → ℤ
+greater a b = if int_le a b then b else a
+
+-- The minima of the level at the top, or of each the greater one of these and the caller's.
+abbrev pub least_of : Minima → Option CallMinima → CallMinima
+least_of own None = record {
+  left = own.left;
+  right = own.right;
+  compound_left = own.compound_left;
+  compound_right = own.compound_right;
+}
+least_of own (Some given) = record {
+  left = greater given.left own.left;
+  right = greater given.right own.right;
+  compound_left = greater given.compound_left own.compound_left;
+  compound_right = greater given.compound_right own.compound_right;
+}
+
+-- A minimum of a whole word that is below 1 counts as 2.
+abbrev pub at_least_two : ℤ → ℤ
+at_least_two least = if int_lt (pos 0) least then least else pos 2
+
+-- ---- The digits and the changes.
+
+-- A word is the first bytes of a text. What stands behind it counts for minima and texts without breaks, up to the first byte 0.
+abbrev pub without_ends : Rules → CallMinima → List ℕ → ℕ → Found → Found
+without_ends rules least text size found =
+    without_right rules.utf8 (at_least_two least.right) (take size text) (before_nul text)
+    (without_left rules.utf8 (at_least_two least.left) (before_nul text) found)
+
+abbrev pub part_minima : CallMinima → PartMinima
+part_minima least = record { left = least.compound_left; right = least.compound_right }
+
+-- What both levels find in a word, without the places that are too near to its ends.
+abbrev pub found_within : Rules → CallMinima → List ℕ → ℕ → Found
+found_within rules least text size =
+    without_ends rules least text size (word_found rules (part_minima least) (take size text) (drop size text))
+
+unfoldable pub found_by_call : Rules → Option CallMinima → List ℕ → ℕ → Found
+found_by_call rules given text size = found_within rules (least_of rules.top.minima given) text size
+
+-- What stands at a place beside a text without breaks: the digit 0, or a byte 0 where the caller gives minima.
+abbrev pub taken_digit : Option CallMinima → ℕ
+taken_digit None = digit_zero
+taken_digit (Some given) = 0
+
+abbrev pub digits_kept : Rules → Option CallMinima → List ℕ → List ℕ → List ℕ
+digits_kept rules given text digits = digits_beside rules.top.no_hyphen (taken_digit given) (before_nul text) digits
+
+-- What a call gives: for each character of the word the digit and the change of the place behind it, and whether any change was
+-- made, also one that was taken away. In other charsets than UTF-8 each byte is a character.
+pub record Answer : Type 0 where
+  pub digits : List ℕ
+  pub changes : List (Option ChangeAt)
+  pub made : Bool
+
+abbrev pub answer_in_bytes : Found → List ℕ → Answer
+answer_in_bytes found digits = record { digits = digits; changes = found.changes; made = found.made }
+
+abbrev pub answer_in_characters : List ℕ → ℕ → Found → List ℕ → Answer
+answer_in_characters text size found digits = record {
+  digits = digits_of_characters (take size text) digits;
+  changes = changes_of_characters (take size text) (text ++ 0 ∷ []) found.changes;
+  made = found.made;
+}
+
+abbrev pub answer_by : Rules → List ℕ → ℕ → Found → List ℕ → Answer
+answer_by rules text size found digits =
+    if rules.utf8 then answer_in_characters text size found digits else answer_in_bytes found digits
+
+abbrev pub answer_of_found : Rules → Option CallMinima → List ℕ → ℕ → Found → Answer
+answer_of_found rules given text size found =
+    answer_by rules text size found (digits_kept rules given text found.digits)
+
+-- A text in UTF-8 begins within a character.
+abbrev pub begins_within : Rules → List ℕ → Bool
+begins_within rules text = rules.utf8 && continues (slice_index text 0)
+
+-- The answer of a call; none if the text begins within a character.
+unfoldable pub answer_of : Rules → Option CallMinima → List ℕ → ℕ → Option Answer
+answer_of rules given text size =
+    if begins_within rules text then None
+    else Some (answer_of_found rules given text size (found_by_call rules given text size))
+
+-- ---- The word, written.
+
+-- Where the caller gives minima, the word is written before places beside texts without breaks are taken away.
+abbrev pub digits_written : Rules → Option CallMinima → List ℕ → Found → List ℕ
+digits_written rules None text found = digits_kept rules None text found.digits
+digits_written rules (Some given) text found = found.digits
+
+abbrev pub text_of_found : Rules → Option CallMinima → List ℕ → ℕ → Found → List ℕ
+text_of_found rules given text size found =
+    written_word (take size text) (digits_written rules given text found) found.changes
+
+-- The word with an equals sign at each of its breaks, and with the texts of changes.
+unfoldable pub text_of_call : Rules → Option CallMinima → List ℕ → ℕ → List ℕ
+text_of_call rules given text size = text_of_found rules given text size (found_by_call rules given text size)
+
+-- ---- The oldest call.
+
+-- The digits of the patterns at the top that change nothing, without those of the places behind the first byte, behind the last
+-- but one, and behind the last.
+abbrev pub plain_digit : Level → List ℕ → ℕ → ℕ
+plain_digit level word byte =
+    if nat_lt 0 byte && nat_lt (byte + 2) (length word)
+    then digit_at (filter (λ o. is_none o.change) (offers (counted_in level.patterns (framed word)))) (byte + 2)
+    else digit_zero
+
+unfoldable pub plain_digits : Level → List ℕ → List ℕ
+plain_digits level word = map (plain_digit level word) (range_with_len 0 (length word))

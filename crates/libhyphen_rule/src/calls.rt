@@ -1,0 +1,258 @@
+//! The calls of libhyphen.
+
+ghost use Rattle.std.specs.Prelude.{◌≡◌, ◌≤◌, ◌++◌, ◌∷◌, [], IfOk, length, take, drop, slice_index};
+ghost use Rattle.std.specs.Option.{option_map};
+ghost use Rattle.libhyphen_rule.specs.Found.{placed_all, found_of, answer_view};
+ghost use Rattle.libhyphen_files.specs.Bytes.{before_nul, continues};
+ghost use Rattle.libhyphen_rule.specs.Calls.{answer_of, text_of_call, found_by_call, taken_digit, greater, least_of, at_least_two};
+ghost use Rattle.libhyphen_rule.specs.Words.{changes_of_characters, digits_beside};
+
+use crate::found::WordFound;
+use crate::minima::{take_left, take_right};
+use crate::one_level::PlacedChange;
+use crate::parts::word_found;
+use crate::words::{changes_of_characters, digits_of_characters, take_beside, written_word};
+use libhyphen_files::LevelDictionary;
+use libhyphen_files::minima::Minima;
+use std::alloc::{AllocError, Global};
+
+/// The least numbers of letters before and after a break that a caller asks for. Those of the dictionary count where they are
+/// greater.
+#[derive(Debug, Clone, Copy)]
+pub struct CallMinima {
+    /// Before a break of the word. Below 1 it is 2.
+    pub left: i32,
+    /// After a break of the word. Below 1 it is 2.
+    pub right: i32,
+    /// Before a break within a part of a compound, if the part does not begin the word.
+    pub compound_left: i32,
+    /// After a break within a part of a compound, if the part does not end the word.
+    pub compound_right: i32,
+}
+
+/// What a call gives: for each character of the word, the digit and the change of the place behind it. In other charsets than UTF-8
+/// each byte is a character.
+#[derive(Debug, Drop)]
+pub struct CallAnswer<'d> {
+    /// The digits, from `b'0'` to `b'9'`; an odd one allows a break. Beside a text without breaks stands a byte 0, where the caller gave
+    /// minima.
+    pub digits: Vec<u8>,
+    /// The changes, with their numbers in characters.
+    pub changes: Vec<Option<PlacedChange<'d>>>,
+    /// Whether any change was made, also one that was taken away.
+    pub made: bool,
+}
+
+// Returns the greater of two minima.
+fn greater(given: i32, own: i8) -> i32
+    ensures { result ≡ greater given own }
+{
+    let own = i32::from(own);
+    if given <= own { own } else { given }
+}
+
+// Returns the minima of a call.
+fn least_of(own: &Minima, given: Option<CallMinima>) -> CallMinima
+    ensures { result ≡ least_of own.now given }
+{
+    match given {
+        None => CallMinima {
+            left: i32::from(own.left),
+            right: i32::from(own.right),
+            compound_left: i32::from(own.compound_left),
+            compound_right: i32::from(own.compound_right),
+        },
+        Some(given) => CallMinima {
+            left: greater(given.left, own.left),
+            right: greater(given.right, own.right),
+            compound_left: greater(given.compound_left, own.compound_left),
+            compound_right: greater(given.compound_right, own.compound_right),
+        },
+    }
+}
+
+// Returns the minimum of a whole word.
+fn at_least_two(least: i32) -> i32
+    ensures { result ≡ at_least_two least }
+{
+    if 0 < least { least } else { 2 }
+}
+
+// Returns a text up to its first byte 0.
+fn before_nul(text: &[u8]) -> &[u8]
+    ensures { result.now ≡ before_nul text.now }
+{
+    match memchr::memchr(0, text) {
+        Some(at) => &text[..at],
+        None => text,
+    }
+}
+
+// Tests whether a text begins within a character of UTF-8.
+fn begins_within(text: &[u8]) -> bool
+    ensures { result ≡ continues (slice_index text.now 0) }
+{
+    match text {
+        [] => false,
+        [first, ..] => 128 <= *first && *first < 192,
+    }
+}
+
+// Returns what both levels find in the first bytes of a text, a word, without the places that are too near to its ends. The only
+// error is out of memory.
+fn found_by_call<'d>(
+    alloc: Global,
+    dictionary: &'d LevelDictionary,
+    minima: Option<CallMinima>,
+    text: &[u8],
+    size: usize,
+) -> Result<WordFound<'d>, AllocError>
+    requires { size ≤ length text.now }
+    ensures { IfOk result (λ found. found_of found
+        ≡ found_by_call dictionary.now minima text.now size) }
+{
+    let (word, behind) = text.split_at(size);
+    let text = before_nul(text);
+    let least = least_of(dictionary.top().minima(), minima);
+    let utf8 = dictionary.is_utf8();
+    let WordFound {
+        mut digits,
+        mut changes,
+        made,
+        parts,
+    } = word_found(
+        alloc,
+        dictionary,
+        least.compound_left,
+        least.compound_right,
+        word,
+        behind,
+    )?;
+    let left = at_least_two(least.left);
+    take_left(utf8, left, text, &mut digits, &mut changes);
+    let right = at_least_two(least.right);
+    take_right(utf8, right, word, text, &mut digits, &mut changes);
+    Ok(WordFound {
+        digits,
+        changes,
+        made,
+        parts,
+    })
+}
+
+// Takes the places away beside which a text without breaks begins or ends, in the first bytes of a text, a word.
+fn take_kept(
+    dictionary: &LevelDictionary,
+    minima: Option<CallMinima>,
+    text: &[u8],
+    digits: &mut [u8],
+)
+    ensures { digits.new ≡ digits_beside dictionary.now.top.no_hyphen (taken_digit minima) (before_nul text.now) digits.old }
+{
+    let instead = match minima {
+        None => b'0',
+        Some(_) => 0,
+    };
+    take_beside(
+        dictionary.top().no_hyphen(),
+        instead,
+        before_nul(text),
+        digits,
+    );
+}
+
+// Returns the changes of a word's characters. The word is the first bytes of a text. The only error is out of memory.
+fn changes_in_characters<'d>(
+    alloc: Global,
+    text: &[u8],
+    size: usize,
+    changes: &[Option<PlacedChange<'d>>],
+) -> Result<Vec<Option<PlacedChange<'d>>>, AllocError>
+    requires within { size ≤ length text.now }
+    requires changes { length changes.now ≡ size }
+    ensures { IfOk result (λ v. placed_all v.items
+        ≡ changes_of_characters (take size text.now) (text.now ++ 0 ∷ []) (placed_all changes.now)) }
+{
+    let mut ended = Vec::with_capacity(alloc, text.len().saturating_add(1))?;
+    ended.extend_from_slice(text)?;
+    ended.push(0)?;
+    changes_of_characters(alloc, &text[..size], &ended, changes)
+}
+
+/// Breaks a word: the first bytes of a text. What stands behind it counts for minima and texts without breaks, as it does for
+/// libhyphen.
+///
+/// Without minima of the caller those of the dictionary count, as in libhyphen's `hnj_hyphen_hyphenate2`; with them of each the greater
+/// one, as in `hnj_hyphen_hyphenate3`. The result is `None` if the word is to be UTF-8 and begins within a character. The only error
+/// is out of memory.
+///
+/// ```text
+/// let dictionary = load(alloc, b"UTF-8\nr5kin\n")?;
+/// let answer = hyphenate(alloc, &dictionary, None, b"firkin", 6)?;    // digits 000500
+/// ```
+pub fn hyphenate<'d>(
+    alloc: Global,
+    dictionary: &'d LevelDictionary,
+    minima: Option<CallMinima>,
+    text: &[u8],
+    size: usize,
+) -> Result<Option<CallAnswer<'d>>, AllocError>
+    requires { size ≤ length text.now }
+    ensures { IfOk result (λ answer. option_map answer_view answer
+        ≡ answer_of dictionary.now minima text.now size) }
+{
+    let utf8 = dictionary.is_utf8();
+    if utf8 && begins_within(text) {
+        return Ok(None);
+    }
+    let WordFound {
+        mut digits,
+        changes,
+        made,
+        parts: _,
+    } = found_by_call(alloc, dictionary, minima, text, size)?;
+    take_kept(dictionary, minima, text, &mut digits);
+    if !utf8 {
+        return Ok(Some(CallAnswer {
+            digits,
+            changes,
+            made,
+        }));
+    }
+    let word = &text[..size];
+    Ok(Some(CallAnswer {
+        digits: digits_of_characters(alloc, word, &digits)?,
+        changes: changes_in_characters(alloc, text, size, &changes)?,
+        made,
+    }))
+}
+
+/// Writes a word, the first bytes of a text, with an equals sign at each break, and with the texts of changes in the places of the
+/// bytes that they change. Minima are as for [`hyphenate`]. The only error is out of memory.
+///
+/// ```text
+/// let dictionary = load(alloc, b"UTF-8\nr5kin\n")?;
+/// write_word(alloc, &dictionary, None, b"firkin", 6)?    // fir=kin
+/// ```
+pub fn write_word(
+    alloc: Global,
+    dictionary: &LevelDictionary,
+    minima: Option<CallMinima>,
+    text: &[u8],
+    size: usize,
+) -> Result<Vec<u8>, AllocError>
+    requires { size ≤ length text.now }
+    ensures { IfOk result (λ written. written.items
+        ≡ text_of_call dictionary.now minima text.now size) }
+{
+    let WordFound {
+        mut digits,
+        changes,
+        made: _,
+        parts: _,
+    } = found_by_call(alloc, dictionary, minima, text, size)?;
+    if minima.is_none() {
+        take_kept(dictionary, minima, text, &mut digits);
+    }
+    written_word(alloc, &text[..size], &digits, &changes)
+}
