@@ -1,6 +1,6 @@
 -- What the calls of libhyphen give for a word.
 -- Source: libhyphen 2.8.8, hyphen.h and hyphen.c.
-use Rattle.std.specs.Prelude.{ℕ, ℤ, pos, ◌+◌, ◌-◌, ◌==◌, ◌&&◌, int_le, int_lt, nat_lt, Bool, if◌then◌else◌, List, [], ◌∷◌, ◌++◌, length, map, take, drop, filter, is_none, Option, None, Some, slice_index}
+use Rattle.std.specs.Prelude.{ℕ, ℤ, pos, ◌+◌, ◌&&◌, int_le, int_lt, nat_lt, Bool, if◌then◌else◌, List, [], ◌∷◌, ◌++◌, length, map, take, drop, filter, is_none, Option, None, Some, slice_index}
 use Rattle.std.specs.List.{range_with_len}
 use Rattle.hyphenation_breaks.specs.Ascii.{digit_zero}
 use Rattle.libhyphen_files.specs.Bytes.{before_nul, continues}
@@ -15,7 +15,7 @@ use Rattle.libhyphen_rule.specs.declared.calls.CallMinima.{CallMinima}
 
 -- ---- The minima of a call.
 
-abbrev pub greater : ℤ → ℤ → ℤ
+unfoldable pub greater : ℤ → ℤ → ℤ
 greater a b = if int_le a b then b else a
 
 -- The minima of the level at the top, or of each the greater one of these and the caller's.
@@ -40,10 +40,10 @@ at_least_two least = if int_lt (pos 0) least then least else pos 2
 -- ---- The digits and the changes.
 
 -- A word is the first bytes of a text. What stands behind it counts for minima and texts without breaks, up to the first byte 0.
-abbrev pub without_ends : Rules → CallMinima → List ℕ → ℕ → Found → Found
-without_ends rules least text size found =
-    without_right rules.utf8 (at_least_two least.right) (take size text) (before_nul text)
-    (without_left rules.utf8 (at_least_two least.left) (before_nul text) found)
+abbrev pub without_ends : Bool → CallMinima → List ℕ → List ℕ → Found → Found
+without_ends utf8 least word text found =
+    without_right utf8 (at_least_two least.right) word text
+    (without_left utf8 (at_least_two least.left) text found)
 
 abbrev pub part_minima : CallMinima → PartMinima
 part_minima least = record { left = least.compound_left; right = least.compound_right }
@@ -51,7 +51,7 @@ part_minima least = record { left = least.compound_left; right = least.compound_
 -- What both levels find in a word, without the places that are too near to its ends.
 abbrev pub found_within : Rules → CallMinima → List ℕ → ℕ → Found
 found_within rules least text size =
-    without_ends rules least text size (word_found rules (part_minima least) (take size text) (drop size text))
+    without_ends rules.utf8 least (take size text) (before_nul text) (word_found rules (part_minima least) (take size text) (drop size text))
 
 unfoldable pub found_by_call : Rules → Option CallMinima → List ℕ → ℕ → Found
 found_by_call rules given text size = found_within rules (least_of rules.top.minima given) text size

@@ -1,6 +1,6 @@
 -- Letters of a word, as minima count them.
 -- Source: libhyphen 2.8.8, hyphen.c.
-use Rattle.std.specs.Prelude.{ℕ, ◌+◌, ◌-◌, ◌==◌, ◌&&◌, ◌||◌, not, Bool, if◌then◌else◌, List, [], ◌∷◌, length, drop, slice_index}
+use Rattle.std.specs.Prelude.{ℕ, ◌-◌, ◌==◌, ◌&&◌, ◌||◌, not, Bool, if◌then◌else◌, List, [], ◌∷◌, length, drop, slice_index}
 use Rattle.std.specs.List.{prefix_len, range_with_len, suffix_len, sum_by}
 use Rattle.std.specs.Char.{is_ascii_digit}
 use Rattle.libhyphen_files.specs.Bytes.{begins_with, continues}

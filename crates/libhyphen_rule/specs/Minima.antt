@@ -1,6 +1,6 @@
 -- Minima: places that have too few letters on one side.
 -- Source: libhyphen 2.8.8, hyphen.c.
-use Rattle.std.specs.Prelude.{ℕ, ℤ, pos, ◌+◌, ◌-◌, ◌==◌, ◌&&◌, ◌+ℤ◌, int_lt, nat_lt, not, Bool, false, if◌then◌else◌, List, length, map, drop, take, Option, None, Some, is_some, position, slice_index, slice_index_or}
+use Rattle.std.specs.Prelude.{ℕ, ℤ, pos, ◌+◌, ◌-◌, ◌==◌, ◌&&◌, ◌+ℤ◌, int_lt, nat_lt, Bool, if◌then◌else◌, List, length, map, drop, take, Option, None, Some, slice_index, slice_index_or}
 use Rattle.std.specs.List.{after_first, before_first, list_any, range_with_len}
 use Rattle.hyphenation_breaks.specs.Ascii.{digit_zero, equals_sign}
 use Rattle.libhyphen_rule.specs.Letters.{characters_from, digits_at_begin, digits_at_end, letters, letters_in_first}

@@ -1,9 +1,9 @@
 -- Compounds: a word is parted at the breaks of the level at the top, and each part is broken anew.
 -- Source: libhyphen 2.8.8, hyphen.c and README.compound.
-use Rattle.std.specs.Prelude.{ℕ, ℤ, ◌+◌, ◌-◌, ◌==◌, ◌&&◌, ◌||◌, not, nat_lt, zero, suc, Bool, true, false, if◌then◌else◌, List, [], ◌∷◌, ◌++◌, length, map, drop, take, filter, fold, replicate, Option, None, Some, is_some, position, slice_index, slice_index_or, slice_range, slice_set}
+use Rattle.std.specs.Prelude.{ℕ, ℤ, ◌+◌, ◌-◌, ◌==◌, ◌&&◌, ◌||◌, nat_lt, zero, suc, Bool, true, if◌then◌else◌, List, [], ◌++◌, length, map, drop, take, filter, fold, replicate, Option, None, Some, is_some, position, slice_index, slice_index_or, slice_range, slice_set}
 use Rattle.std.specs.List.{list_any, range_with_len}
 use Rattle.std.specs.Option.{option_or}
-use Rattle.hyphenation_breaks.specs.Ascii.{digit_zero, equals_sign}
+use Rattle.hyphenation_breaks.specs.Ascii.{digit_zero}
 use Rattle.libhyphen_files.specs.Bytes.{before_nul}
 use Rattle.libhyphen_files.specs.Files.{Rules}
 use Rattle.libhyphen_rule.specs.Counting.{shown}

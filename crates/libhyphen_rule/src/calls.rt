@@ -1,10 +1,10 @@
 //! The calls of libhyphen.
 
-ghost use Rattle.std.specs.Prelude.{◌≡◌, ◌≤◌, ◌++◌, ◌∷◌, [], IfOk, length, take, drop, slice_index};
+ghost use Rattle.std.specs.Prelude.{◌≡◌, ◌≤◌, ◌++◌, ◌∷◌, [], IfOk, length, take, drop, slice_index, false};
 ghost use Rattle.std.specs.Option.{option_map};
 ghost use Rattle.libhyphen_rule.specs.Found.{placed_all, found_of, answer_view};
 ghost use Rattle.libhyphen_files.specs.Bytes.{before_nul, continues};
-ghost use Rattle.libhyphen_rule.specs.Calls.{answer_of, text_of_call, found_by_call, taken_digit, greater, least_of, at_least_two};
+ghost use Rattle.libhyphen_rule.specs.Calls.{answer_of, plain_digits, text_of_call, found_by_call, taken_digit, without_ends, greater, least_of, at_least_two};
 ghost use Rattle.libhyphen_rule.specs.Words.{changes_of_characters, digits_beside};
 
 use crate::found::WordFound;
@@ -44,6 +44,7 @@ pub struct CallAnswer<'d> {
 }
 
 // Returns the greater of two minima.
+#[tactic(auto, unfolding(crate::specs::Calls::greater))]
 fn greater(given: i32, own: i8) -> i32
     ensures { result ≡ greater given own }
 {
@@ -51,24 +52,30 @@ fn greater(given: i32, own: i8) -> i32
     if given <= own { own } else { given }
 }
 
-// Returns the minima of a call.
+// Returns the minima of a dictionary.
+fn own_minima(own: &Minima) -> CallMinima
+    ensures { result ≡ least_of own.now None }
+{
+    CallMinima {
+        left: i32::from(own.left),
+        right: i32::from(own.right),
+        compound_left: i32::from(own.compound_left),
+        compound_right: i32::from(own.compound_right),
+    }
+}
+
+// Returns the minima of a dictionary, or of each the greater one of it and of a caller's.
 fn least_of(own: &Minima, given: Option<CallMinima>) -> CallMinima
     ensures { result ≡ least_of own.now given }
 {
-    match given {
-        None => CallMinima {
-            left: i32::from(own.left),
-            right: i32::from(own.right),
-            compound_left: i32::from(own.compound_left),
-            compound_right: i32::from(own.compound_right),
-        },
-        Some(given) => CallMinima {
-            left: greater(given.left, own.left),
-            right: greater(given.right, own.right),
-            compound_left: greater(given.compound_left, own.compound_left),
-            compound_right: greater(given.compound_right, own.compound_right),
-        },
+    let mut least = own_minima(own);
+    if let Some(given) = given {
+        least.left = greater(given.left, own.left);
+        least.right = greater(given.right, own.right);
+        least.compound_left = greater(given.compound_left, own.compound_left);
+        least.compound_right = greater(given.compound_right, own.compound_right);
     }
+    least
 }
 
 // Returns the minimum of a whole word.
@@ -98,8 +105,31 @@ fn begins_within(text: &[u8]) -> bool
     }
 }
 
+// Takes away the places of a word that are too near to its ends. `text` is the word with what stands behind it, up to the first byte 0.
+fn take_ends(
+    utf8: bool,
+    least: &CallMinima,
+    word: &[u8],
+    text: &[u8],
+    digits: &mut [u8],
+    changes: &mut [Option<PlacedChange<'_>>],
+)
+    requires digits { length digits.old ≡ length word.now }
+    requires changes { length changes.old ≡ length word.now }
+    ensures digits { digits.new ≡ (without_ends utf8 least.now word.now text.now
+        (record { digits = digits.old; changes = placed_all changes.old; made = false; parts = 0 })).digits }
+    ensures changes { placed_all changes.new ≡ (without_ends utf8 least.now word.now text.now
+        (record { digits = digits.old; changes = placed_all changes.old; made = false; parts = 0 })).changes }
+{
+    let left = at_least_two(least.left);
+    take_left(utf8, left, text, digits, changes);
+    let right = at_least_two(least.right);
+    take_right(utf8, right, word, text, digits, changes);
+}
+
 // Returns what both levels find in the first bytes of a text, a word, without the places that are too near to its ends. The only
 // error is out of memory.
+#[tactic(auto, unfolding(crate::specs::Calls::found_by_call))]
 fn found_by_call<'d>(
     alloc: Global,
     dictionary: &'d LevelDictionary,
@@ -108,8 +138,10 @@ fn found_by_call<'d>(
     size: usize,
 ) -> Result<WordFound<'d>, AllocError>
     requires { size ≤ length text.now }
-    ensures { IfOk result (λ found. found_of found
+    ensures found { IfOk result (λ found. found_of found
         ≡ found_by_call dictionary.now minima text.now size) }
+    ensures digits { IfOk result (λ found. length found.digits.items ≡ size) }
+    ensures changes { IfOk result (λ found. length found.changes.items ≡ size) }
 {
     let (word, behind) = text.split_at(size);
     let text = before_nul(text);
@@ -128,10 +160,7 @@ fn found_by_call<'d>(
         word,
         behind,
     )?;
-    let left = at_least_two(least.left);
-    take_left(utf8, left, text, &mut digits, &mut changes);
-    let right = at_least_two(least.right);
-    take_right(utf8, right, word, text, &mut digits, &mut changes);
+    take_ends(utf8, &least, word, text, &mut digits, &mut changes);
     Ok(WordFound {
         digits,
         changes,
@@ -190,6 +219,7 @@ fn changes_in_characters<'d>(
 /// let dictionary = load(alloc, b"UTF-8\nr5kin\n")?;
 /// let answer = hyphenate(alloc, &dictionary, None, b"firkin", 6)?;    // digits 000500
 /// ```
+#[tactic(auto, unfolding(crate::specs::Calls::answer_of, crate::specs::Calls::found_by_call))]
 pub fn hyphenate<'d>(
     alloc: Global,
     dictionary: &'d LevelDictionary,
@@ -234,6 +264,7 @@ pub fn hyphenate<'d>(
 /// let dictionary = load(alloc, b"UTF-8\nr5kin\n")?;
 /// write_word(alloc, &dictionary, None, b"firkin", 6)?    // fir=kin
 /// ```
+#[tactic(auto, unfolding(crate::specs::Calls::text_of_call, crate::specs::Calls::found_by_call))]
 pub fn write_word(
     alloc: Global,
     dictionary: &LevelDictionary,
@@ -255,4 +286,16 @@ pub fn write_word(
         take_kept(dictionary, minima, text, &mut digits);
     }
     written_word(alloc, &text[..size], &digits, &changes)
+}
+
+/// Returns the digits of the oldest call, `hnj_hyphen_hyphenate`, for each byte of a word that of the place behind it: those of the
+/// patterns of the level at the top that change nothing. The only error is out of memory.
+pub fn plain_digits(
+    alloc: Global,
+    dictionary: &LevelDictionary,
+    word: &[u8],
+) -> Result<Vec<u8>, AllocError>
+    ensures { IfOk result (λ digits. digits.items ≡ plain_digits dictionary.now.top word.now) }
+{
+    Err(AllocError)
 }

@@ -1,6 +1,6 @@
 //! Compounds: a word is parted at the breaks of the level at the top, and each part is broken anew.
 
-ghost use Rattle.std.specs.Prelude.{◌≡◌, IfOk};
+ghost use Rattle.std.specs.Prelude.{◌≡◌, IfOk, length};
 ghost use Rattle.libhyphen_rule.specs.Found.{found_of};
 ghost use Rattle.libhyphen_rule.specs.Parts.{word_found};
 
@@ -18,8 +18,10 @@ pub(crate) fn word_found<'d>(
     word: &[u8],
     behind: &[u8],
 ) -> Result<WordFound<'d>, AllocError>
-    ensures { IfOk result (λ found. found_of found
+    ensures found { IfOk result (λ found. found_of found
         ≡ word_found dictionary.now (record { left = left; right = right }) word.now behind.now) }
+    ensures digits { IfOk result (λ found. length found.digits.items ≡ length word.now) }
+    ensures changes { IfOk result (λ found. length found.changes.items ≡ length word.now) }
 {
     Err(AllocError)
 }

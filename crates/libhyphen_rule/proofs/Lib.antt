@@ -1,0 +1,2 @@
+mod Nul
+mod Ends
