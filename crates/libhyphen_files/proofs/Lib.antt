@@ -1,1 +1,5 @@
+pub mod ChangesLemmas
 pub mod Cuts
+pub mod LevelsLemmas
+pub mod SettingsLemmas
+pub mod CutTexts

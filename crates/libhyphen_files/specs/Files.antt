@@ -1,6 +1,6 @@
 -- A `.dic` of LibreOffice: the rules that its bytes give. Any bytes are such a file.
 -- Source: libhyphen 2.8.8, hyphen.c.
-use Rattle.std.specs.Prelude.{ℕ, ℤ, pos, ◌==◌, ◌||◌, Bool, true, if◌then◌else◌, List, [], ◌∷◌, ◌++◌, length, drop, fold, codes, unwrap_or, slice_get, nat_eq, nat_abs}
+use Rattle.std.specs.Prelude.{ℕ, ℤ, pos, ◌==◌, ◌||◌, Bool, if◌then◌else◌, List, [], ◌∷◌, drop, fold, codes, unwrap_or, slice_get, nat_eq, nat_abs}
 use Rattle.std.specs.Cmp.Lexicographic.{pointwise}
 use Rattle.std.specs.List.{list_any, before_first, after_first}
 use Rattle.hyphenation_breaks.specs.Ascii.{carriage_return, line_feed}

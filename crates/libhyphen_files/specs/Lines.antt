@@ -1,6 +1,6 @@
 -- The lines of a `.dic` as libhyphen reads them, with a room of 20 bytes for the first one and of 100 for each other.
 -- Source: libhyphen 2.8.8, hyphen.c.
-use Rattle.std.specs.Prelude.{ℕ, ◌-◌, ◌==◌, ◌||◌, nat_le, if◌then◌else◌, List, [], ◌∷◌, ◌++◌, length}
+use Rattle.std.specs.Prelude.{ℕ, ◌-◌, ◌==◌, ◌||◌, nat_le, if◌then◌else◌, List, [], ◌∷◌, ◌++◌}
 use Rattle.hyphenation_breaks.specs.Ascii.{line_feed}
 
 -- The most bytes of the first line, and of each other one. What is over is the next line.

@@ -1,12 +1,16 @@
 //! One level of a `.dic`: its settings and its patterns.
 
-ghost use Rattle.std.specs.Prelude.{◌≡◌, ℕ, List, IfOk, OnOk, IsFalse, map, Some, None};
+ghost use Rattle.std.specs.Prelude.{◌≡◌, [], ◌∷◌, IfOk, OnOk, IsFalse, map};
+ghost use Rattle.hyphenation_dictionary.specs.Maker.{with_pair};
 ghost use Rattle.hyphenation_dictionary.specs.Parts.{patterns_of};
-ghost use Rattle.hyphenation_trie.specs.Trie.{entries_of_key, EachBeginsKey};
-ghost use Rattle.libhyphen_files.specs.Levels.{empty_level, with_line, HasNoChanges};
+ghost use Rattle.hyphenation_trie.specs.Trie.{EachBeginsKey};
+ghost use Rattle.libhyphen_files.specs.Bytes.{before_nul};
+ghost use Rattle.libhyphen_files.specs.Levels.{empty_level, with_line, with_text, with_pattern, HasNoChanges};
 
 use crate::minima::Minima;
-use crate::pattern::StoredPattern;
+use crate::pattern::{StoredPattern, pattern_of};
+use crate::settings::{setting, texts_without_breaks, without_name};
+use hyphenation_dictionary::laws::inserted_key_is_added;
 use hyphenation_trie::{Automaton, Trie};
 use std::alloc::{AllocError, Global};
 use std::marker::Model;
@@ -106,20 +110,130 @@ impl GrowingLevel {
     pub(crate) fn new(alloc: Global) -> Result<GrowingLevel, AllocError>
         ensures { IfOk result (λ level. level ≡ empty_level) }
     {
-        Err(AllocError)
+        let minima = Minima {
+            left: 0,
+            right: 0,
+            compound_left: 0,
+            compound_right: 0,
+        };
+        Ok(GrowingLevel {
+            minima,
+            no_hyphen: Vec::new(alloc),
+            patterns: Trie::new(alloc)?,
+            has_changes: false,
+        })
     }
 
-    // Adds a line of a file. The only error is out of memory.
-    pub(crate) fn add_line(&mut self, alloc: Global, utf8: bool, line: &[u8]) -> Result<(), AllocError>
-        ensures { OnOk result (self.new ≡ with_line utf8 self.old line.now) }
+    // Returns the level with one more line of a file. A comment adds nothing, and what follows a byte 0 is not seen. The
+    // only error is out of memory.
+    pub(crate) fn with_line(self, alloc: Global, utf8: bool, line: &[u8]) -> Result<GrowingLevel, AllocError>
+        ensures { IfOk result (λ level. level ≡ with_line utf8 self line.now) }
     {
-        Err(AllocError)
+        if line.starts_with(b"%") {
+            return Ok(self);
+        }
+        self.with_text(alloc, utf8, before_nul(line))
+    }
+
+    // Returns the level with one more line, which is no comment. Of each setting the last line counts. The only error is out
+    // of memory.
+    fn with_text(mut self, alloc: Global, utf8: bool, line: &[u8]) -> Result<GrowingLevel, AllocError>
+        ensures { IfOk result (λ level. level ≡ with_text utf8 self line.now) }
+    {
+        if let Some(number) = setting(line, b"LEFTHYPHENMIN") {
+            self.minima.left = number;
+            return Ok(self);
+        }
+        if let Some(number) = setting(line, b"RIGHTHYPHENMIN") {
+            self.minima.right = number;
+            return Ok(self);
+        }
+        if let Some(number) = setting(line, b"COMPOUNDLEFTHYPHENMIN") {
+            self.minima.compound_left = number;
+            return Ok(self);
+        }
+        if let Some(number) = setting(line, b"COMPOUNDRIGHTHYPHENMIN") {
+            self.minima.compound_right = number;
+            return Ok(self);
+        }
+        if let Some(texts) = without_name(line, b"NOHYPHEN") {
+            self.no_hyphen = texts_without_breaks(alloc, texts)?;
+            return Ok(self);
+        }
+        self.with_pattern(alloc, utf8, line)
+    }
+
+    // Returns the level with one more pattern. The last line with a key counts; the empty key never does. The only error is
+    // out of memory.
+    fn with_pattern(self, alloc: Global, utf8: bool, line: &[u8]) -> Result<GrowingLevel, AllocError>
+        ensures { IfOk result (λ level. level ≡ with_pattern utf8 self line.now) }
+    {
+        let (key, pattern) = pattern_of(alloc, utf8, line)?;
+        if key.is_empty() {
+            return Ok(self);
+        }
+        let GrowingLevel {
+            minima,
+            no_hyphen,
+            mut patterns,
+            has_changes,
+        } = self;
+        let has_changes = has_changes || pattern.change.is_some();
+        add_pattern(alloc, &mut patterns, &key, pattern)?;
+        Ok(GrowingLevel {
+            minima,
+            no_hyphen,
+            patterns,
+            has_changes,
+        })
     }
 
     // Makes the level ready for words. The only error is out of memory.
     pub(crate) fn freeze(self, alloc: Global) -> Result<FrozenLevel, AllocError>
         ensures { IfOk result (λ level. level ≡ self) }
     {
-        Err(AllocError)
+        let GrowingLevel {
+            minima,
+            no_hyphen,
+            patterns,
+            has_changes,
+        } = self;
+        Ok(FrozenLevel {
+            minima,
+            no_hyphen,
+            patterns: patterns.freeze(alloc)?,
+            has_changes,
+        })
     }
+}
+
+// Gives a key its pattern, in place of the one that it had. The only error is out of memory.
+fn add_pattern(
+    alloc: Global,
+    patterns: &mut Trie<StoredPattern>,
+    key: &[u8],
+    pattern: StoredPattern,
+) -> Result<(), AllocError>
+    ensures added { OnOk result (patterns_of patterns.new ≡ with_pair (patterns_of patterns.old) (key.now, pattern ∷ [])) }
+    ensures begins { OnOk result (EachBeginsKey patterns.old → EachBeginsKey patterns.new) }
+{
+    let mut patterns_of_key = Vec::new(alloc);
+    patterns_of_key.push(pattern)?;
+    inserted_key_is_added::<StoredPattern>();
+    patterns.invariant();
+    patterns.insert(key, &mut patterns_of_key)?;
+    patterns.invariant();
+    Ok(())
+}
+
+// Returns a text up to its first byte 0.
+fn before_nul(text: &[u8]) -> &[u8]
+    ensures { result.now ≡ before_nul text.now }
+{
+    for (i, byte) in text.iter().enumerate() {
+        if *byte == 0 {
+            return &text[..i];
+        }
+    }
+    text
 }

@@ -21,5 +21,6 @@ mod lines;
 pub mod minima;
 mod numbers;
 pub mod pattern;
+mod settings;
 
 pub use file::{LevelDictionary, load};

@@ -106,6 +106,7 @@ fn begins_within(text: &[u8]) -> bool
 }
 
 // Takes away the places of a word that are too near to its ends. `text` is the word with what stands behind it, up to the first byte 0.
+#[tactic(auto, using(crate::proofs::Ends::digits_taken))]
 fn take_ends(
     utf8: bool,
     least: &CallMinima,
@@ -129,7 +130,7 @@ fn take_ends(
 
 // Returns what both levels find in the first bytes of a text, a word, without the places that are too near to its ends. The only
 // error is out of memory.
-#[tactic(auto, unfolding(crate::specs::Calls::found_by_call))]
+#[tactic(auto, using(crate::proofs::Ends::found_taken), unfolding(crate::specs::Calls::found_by_call))]
 fn found_by_call<'d>(
     alloc: Global,
     dictionary: &'d LevelDictionary,

@@ -1,6 +1,6 @@
 use Rattle.std.proofs.Common.{◌==◌, arith, sym}
 use Rattle.std.proofs.lemmas.Grind.{common_steps}
-use Rattle.libhyphen_files.proofs.Cuts.{none_passes, one_part, some_passes, parts_at, position_or_len_some}
+use Rattle.libhyphen_files.proofs.CutTexts.{none_passes, one_part, some_passes, parts_at, position_or_len_some}
 use Rattle.libhyphen_files.proofs.pattern.cut_at.Goals as goal
 
 pub returns-in-None-clause-after : goal.returns-in-None-clause-after

@@ -1,6 +1,6 @@
 use Rattle.std.proofs.Common.{ap, sym, ◌∙◌}
 use Rattle.libhyphen_files.specs.Patterns.{text_of}
-use Rattle.libhyphen_files.proofs.Cuts.{text_of_several}
+use Rattle.libhyphen_files.proofs.CutTexts.{text_of_several}
 use Rattle.libhyphen_files.proofs.pattern.text_of.Goals as goal
 
 pub returns-in-Some : goal.returns-in-Some

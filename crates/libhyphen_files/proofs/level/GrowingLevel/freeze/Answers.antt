@@ -1,0 +1,11 @@
+use Rattle.std.proofs.Common.{sym, subst}
+use Rattle.std.specs.Bool.{IsFalse}
+use Rattle.hyphenation_dictionary.specs.Parts.{patterns_of}
+use Rattle.hyphenation_trie.specs.Trie.{Tree, EachBeginsKey}
+use Rattle.libhyphen_files.specs.Levels.{HasNoChanges}
+use Rattle.libhyphen_files.specs.Patterns.{Pattern}
+use Rattle.libhyphen_files.proofs.level.GrowingLevel.freeze.Goals as goal
+
+pub invariant_of-result : goal.invariant_of-result
+invariant_of-result c =
+    subst (λ (t : Tree Pattern). EachBeginsKey t × (IsFalse c.self.inside.has_changes → HasNoChanges (patterns_of t))) (sym c.in_ok-freeze.ensures) c.self.invariant
