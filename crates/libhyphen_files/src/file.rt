@@ -1,13 +1,20 @@
 //! A whole `.dic`: the rules that its bytes give.
 
-ghost use Rattle.std.specs.Prelude.{◌≡◌, IfOk};
-ghost use Rattle.libhyphen_files.specs.Files.{rules_of};
+ghost use Rattle.std.specs.Prelude.{◌≡◌, ◌≤◌, length, map, IfOk};
+ghost use Rattle.std.specs.List.{position_or_len, list_any, before_first, after_first};
+ghost use Rattle.libhyphen_files.specs.Files.{rules_of, rules_of_lines, charset_of, is_utf8_name, is_next_level};
+ghost use Rattle.libhyphen_files.specs.Files.{level_of, default_top, default_minima, first_set, dash_lines, dashes};
 
-use crate::level::FrozenLevel;
+use crate::level::{FrozenLevel, GrowingLevel};
+use crate::lines::lines_of;
+use crate::minima::Minima;
+use crate::settings::texts_without_breaks;
 use std::alloc::{AllocError, Global};
 use std::marker::Model;
 
 /// A `.dic` as libhyphen reads it, ready to break words: its charset and its two levels.
+///
+/// No charset is converted. Words and keys are bytes in this charset.
 #[derive(Drop)]
 pub struct LevelDictionary {
     charset: Vec<u8>,
@@ -59,6 +66,9 @@ impl LevelDictionary {
 
 /// Reads a `.dic`. Any bytes are one, also none, as they are for libhyphen. The only error is out of memory.
 ///
+/// If no line begins with `NEXTLEVEL`, the file is the level below. The level at the top then parts compounds at
+/// hyphens and apostrophes, and takes its minima from the file.
+///
 /// ```text
 /// let dictionary = load(alloc, b"UTF-8\nr5kin\n")?;
 /// dictionary.is_utf8()    // true
@@ -66,5 +76,187 @@ impl LevelDictionary {
 pub fn load(alloc: Global, bytes: &[u8]) -> Result<LevelDictionary, AllocError>
     ensures { IfOk result (λ dictionary. dictionary ≡ rules_of bytes.now) }
 {
-    Err(AllocError)
+    let lines = lines_of(alloc, bytes)?;
+    match lines.as_slice() {
+        [] => dictionary_of_lines(alloc, &[], &[]),
+        [first, rest @ ..] => dictionary_of_lines(alloc, charset_of(first), rest),
+    }
+}
+
+// Returns the rules of a charset and the lines after the first one. What is before NEXTLEVEL is the level at the top,
+// and what is after it, up to another one, is the level below. The only error is out of memory.
+fn dictionary_of_lines(
+    alloc: Global,
+    charset: &[u8],
+    lines: &[&[u8]],
+) -> Result<LevelDictionary, AllocError>
+    ensures { IfOk result (λ dictionary. dictionary
+        ≡ rules_of_lines charset.now (is_utf8_name charset.now) (map (λ l. l.now) lines.now)) }
+{
+    let utf8 = is_utf8_name(charset);
+    if !has_next_level(lines) {
+        let below = level_of(alloc, utf8, lines)?;
+        let top = default_top(alloc, utf8, &below)?;
+        return dictionary_of_levels(alloc, charset, utf8, top, below);
+    }
+    let top = level_of(alloc, utf8, before_next_level(lines))?;
+    let below = level_of(alloc, utf8, before_next_level(after_next_level(lines)))?;
+    dictionary_of_levels(alloc, charset, utf8, top, below)
+}
+
+// Makes the levels ready for words. The only error is out of memory.
+fn dictionary_of_levels(
+    alloc: Global,
+    charset: &[u8],
+    utf8: bool,
+    top: GrowingLevel,
+    below: GrowingLevel,
+) -> Result<LevelDictionary, AllocError>
+    ensures { IfOk result (λ dictionary. dictionary
+        ≡ record { charset = charset.now; utf8 = utf8; top = top; below = below }) }
+{
+    Ok(LevelDictionary {
+        charset: charset.to_vec(alloc)?,
+        utf8,
+        top: top.freeze(alloc)?,
+        below: below.freeze(alloc)?,
+    })
+}
+
+// Returns the charset that a first line names: what is before a byte 0, a line feed or a carriage return.
+fn charset_of(line: &[u8]) -> &[u8]
+    ensures { result.now ≡ charset_of line.now }
+{
+    for (i, byte) in line.iter().enumerate() {
+        if *byte == 0 || *byte == b'\n' || *byte == b'\r' {
+            return &line[..i];
+        }
+    }
+    line
+}
+
+// Tests whether a charset is UTF-8.
+fn is_utf8_name(charset: &[u8]) -> bool
+    ensures { result ≡ is_utf8_name charset.now }
+{
+    charset == b"UTF-8".as_slice()
+}
+
+// Tests whether a line parts two levels.
+fn has_next_level(lines: &[&[u8]]) -> bool
+    ensures { result ≡ list_any is_next_level (map (λ l. l.now) lines.now) }
+{
+    next_level(lines) < lines.len()
+}
+
+// Returns the lines before the first one that parts two levels.
+fn before_next_level<'l, 'b>(lines: &'l [&'b [u8]]) -> &'l [&'b [u8]]
+    ensures { map (λ l. l.now) result.now ≡ before_first is_next_level (map (λ l. l.now) lines.now) }
+{
+    &lines[..next_level(lines)]
+}
+
+// Returns the lines after the first one that parts two levels.
+fn after_next_level<'l, 'b>(lines: &'l [&'b [u8]]) -> &'l [&'b [u8]]
+    ensures { map (λ l. l.now) result.now ≡ after_first is_next_level (map (λ l. l.now) lines.now) }
+{
+    let end = next_level(lines);
+    if end < lines.len() {
+        &lines[end + 1..]
+    } else {
+        &[]
+    }
+}
+
+// Returns the number of lines before the first one that parts two levels.
+fn next_level(lines: &[&[u8]]) -> usize
+    ensures number { result ≡ position_or_len is_next_level (map (λ l. l.now) lines.now) }
+    ensures within { result ≤ length lines.now }
+{
+    for (i, line) in lines.iter().enumerate() {
+        if is_next_level(line) {
+            return i;
+        }
+    }
+    lines.len()
+}
+
+// Tests whether a line parts two levels.
+fn is_next_level(line: &[u8]) -> bool
+    ensures { result ≡ is_next_level line.now }
+{
+    line.starts_with(b"NEXTLEVEL")
+}
+
+// Returns the level of some lines. The only error is out of memory.
+fn level_of(alloc: Global, utf8: bool, lines: &[&[u8]]) -> Result<GrowingLevel, AllocError>
+    ensures { IfOk result (λ level. level ≡ level_of utf8 (map (λ l. l.now) lines.now)) }
+{
+    let mut level = GrowingLevel::new(alloc)?;
+    for line in lines {
+        level = level.with_line(alloc, utf8, line)?;
+    }
+    Ok(level)
+}
+
+// Returns the level at the top where the file has one level: it parts compounds at hyphens and apostrophes, and its
+// minima are those of the file. The only error is out of memory.
+fn default_top(alloc: Global, utf8: bool, below: &GrowingLevel) -> Result<GrowingLevel, AllocError>
+    ensures { IfOk result (λ top. top ≡ default_top utf8 below.now) }
+{
+    let mut top = dash_level(alloc, utf8)?;
+    top.minima = default_minima(&below.minima);
+    top.no_hyphen = dashes(alloc, utf8)?;
+    Ok(top)
+}
+
+// Returns the level with the patterns that break at hyphens and apostrophes. The only error is out of memory.
+fn dash_level(alloc: Global, utf8: bool) -> Result<GrowingLevel, AllocError>
+    ensures { IfOk result (λ level. level ≡ level_of utf8 (dash_lines utf8)) }
+{
+    let level = GrowingLevel::new(alloc)?;
+    let level = level.with_line(alloc, utf8, b"1'1")?;
+    let level = level.with_line(alloc, utf8, b"1-1")?;
+    if !utf8 {
+        return Ok(level);
+    }
+    let level = level.with_line(alloc, utf8, b"1\xE2\x80\x931")?;
+    level.with_line(alloc, utf8, b"1\xE2\x80\x991")
+}
+
+// Returns these hyphens and apostrophes. The only error is out of memory.
+fn dashes(alloc: Global, utf8: bool) -> Result<Vec<Vec<u8>>, AllocError>
+    ensures { IfOk result (λ texts. map (λ t. t.items) texts.items ≡ dashes utf8) }
+{
+    if utf8 {
+        texts_without_breaks(alloc, b"',\xE2\x80\x93,\xE2\x80\x99,-\n")
+    } else {
+        texts_without_breaks(alloc, b"',-\n")
+    }
+}
+
+// Returns the minima of the level at the top, by those of the file. Within a part of a compound, where the file sets
+// none, those of the word count, or else 3.
+fn default_minima(below: &Minima) -> Minima
+    ensures { result ≡ default_minima below.now }
+{
+    Minima {
+        left: below.left,
+        right: below.right,
+        compound_left: first_set(below.compound_left, below.left, 3),
+        compound_right: first_set(below.compound_right, below.right, 3),
+    }
+}
+
+// Returns the first of three numbers that is not 0, the third in any case.
+fn first_set(first: i8, second: i8, third: i8) -> i8
+    ensures { result ≡ first_set first second third }
+{
+    if first != 0 {
+        first
+    } else if second != 0 {
+        second
+    } else {
+        third
+    }
 }

@@ -1,4 +1,7 @@
 //! One level of a `.dic`: its settings and its patterns.
+//!
+//! A level grows line by line, and is then frozen. Of each setting the last line counts, and so does the last line with
+//! a key.
 
 ghost use Rattle.std.specs.Prelude.{◌≡◌, [], ◌∷◌, IfOk, OnOk, IsFalse, map};
 ghost use Rattle.hyphenation_dictionary.specs.Maker.{with_pair};
@@ -16,6 +19,12 @@ use std::alloc::{AllocError, Global};
 use std::marker::Model;
 
 /// A level, with its patterns ready to be found in words.
+///
+/// ```text
+/// let dictionary = load(alloc, b"UTF-8\nLEFTHYPHENMIN 2\nr5kin\n")?;
+/// dictionary.below().minima().left        // 2
+/// dictionary.below().has_changes()        // false
+/// ```
 #[derive(Drop)]
 pub struct FrozenLevel {
     minima: Minima,
@@ -37,12 +46,13 @@ impl Model for FrozenLevel {
     ghost coded = { level_code };
 
     ghost view = { λ l. record {
-        minima = l.minima;
-        no_hyphen = map (λ text. text.items) l.no_hyphen.items;
-        patterns = patterns_of l.patterns;
+      minima = l.minima;
+      no_hyphen = map (λ text. text.items) l.no_hyphen.items;
+      patterns = patterns_of l.patterns;
     } };
 
-    ghost invariant = { λ l. EachBeginsKey l.patterns × (IsFalse l.has_changes → HasNoChanges (patterns_of l.patterns)) };
+    ghost invariant = { λ l. EachBeginsKey l.patterns
+        × (IsFalse l.has_changes → HasNoChanges (patterns_of l.patterns)) };
 }
 
 impl FrozenLevel {
@@ -68,7 +78,7 @@ impl FrozenLevel {
         &self.patterns
     }
 
-    /// Tests whether some pattern may have a change.
+    /// Tests whether some pattern may have a change. If not, a caller need not look for changes.
     pub fn has_changes(&self) -> bool
         ensures { IsFalse result → HasNoChanges self.now.patterns }
     {
@@ -97,12 +107,13 @@ impl Model for GrowingLevel {
     ghost coded = { level_code };
 
     ghost view = { λ l. record {
-        minima = l.minima;
-        no_hyphen = map (λ text. text.items) l.no_hyphen.items;
-        patterns = patterns_of l.patterns;
+      minima = l.minima;
+      no_hyphen = map (λ text. text.items) l.no_hyphen.items;
+      patterns = patterns_of l.patterns;
     } };
 
-    ghost invariant = { λ l. EachBeginsKey l.patterns × (IsFalse l.has_changes → HasNoChanges (patterns_of l.patterns)) };
+    ghost invariant = { λ l. EachBeginsKey l.patterns
+        × (IsFalse l.has_changes → HasNoChanges (patterns_of l.patterns)) };
 }
 
 impl GrowingLevel {
@@ -124,9 +135,15 @@ impl GrowingLevel {
         })
     }
 
-    // Returns the level with one more line of a file. A comment adds nothing, and what follows a byte 0 is not seen. The
-    // only error is out of memory.
-    pub(crate) fn with_line(self, alloc: Global, utf8: bool, line: &[u8]) -> Result<GrowingLevel, AllocError>
+    // Returns the level with one more line of a file. A comment adds nothing, and what follows a byte 0 is not seen.
+    // The only error is out of memory. A level that is grown by value is gone after an error, when its trie may have
+    // nodes that begin no key.
+    pub(crate) fn with_line(
+        self,
+        alloc: Global,
+        utf8: bool,
+        line: &[u8],
+    ) -> Result<GrowingLevel, AllocError>
         ensures { IfOk result (λ level. level ≡ with_line utf8 self line.now) }
     {
         if line.starts_with(b"%") {
@@ -135,9 +152,14 @@ impl GrowingLevel {
         self.with_text(alloc, utf8, before_nul(line))
     }
 
-    // Returns the level with one more line, which is no comment. Of each setting the last line counts. The only error is out
-    // of memory.
-    fn with_text(mut self, alloc: Global, utf8: bool, line: &[u8]) -> Result<GrowingLevel, AllocError>
+    // Returns the level with one more line, which is no comment and has no byte 0. Of each setting the last line
+    // counts. The only error is out of memory.
+    fn with_text(
+        mut self,
+        alloc: Global,
+        utf8: bool,
+        line: &[u8],
+    ) -> Result<GrowingLevel, AllocError>
         ensures { IfOk result (λ level. level ≡ with_text utf8 self line.now) }
     {
         if let Some(number) = setting(line, b"LEFTHYPHENMIN") {
@@ -163,9 +185,14 @@ impl GrowingLevel {
         self.with_pattern(alloc, utf8, line)
     }
 
-    // Returns the level with one more pattern. The last line with a key counts; the empty key never does. The only error is
-    // out of memory.
-    fn with_pattern(self, alloc: Global, utf8: bool, line: &[u8]) -> Result<GrowingLevel, AllocError>
+    // Returns the level with one more pattern. The last line with a key counts; the empty key never does. The only
+    // error is out of memory.
+    fn with_pattern(
+        self,
+        alloc: Global,
+        utf8: bool,
+        line: &[u8],
+    ) -> Result<GrowingLevel, AllocError>
         ensures { IfOk result (λ level. level ≡ with_pattern utf8 self line.now) }
     {
         let (key, pattern) = pattern_of(alloc, utf8, line)?;
@@ -214,7 +241,8 @@ fn add_pattern(
     key: &[u8],
     pattern: StoredPattern,
 ) -> Result<(), AllocError>
-    ensures added { OnOk result (patterns_of patterns.new ≡ with_pair (patterns_of patterns.old) (key.now, pattern ∷ [])) }
+    ensures added { OnOk result (patterns_of patterns.new
+        ≡ with_pair (patterns_of patterns.old) (key.now, pattern ∷ [])) }
     ensures begins { OnOk result (EachBeginsKey patterns.old → EachBeginsKey patterns.new) }
 {
     let mut patterns_of_key = Vec::new(alloc);

@@ -10,9 +10,10 @@
 //! o1ss/s=s,2,1           a pattern with a change: at its break, an s is added
 //! ```
 //!
-//! [`load`] makes a [`LevelDictionary`] of the file, and its contract says which ones. No charset is converted: keys are bytes as they are
-//! in the file. The modules, from the bottom up: `numbers` and `lines` read these, `pattern` reads a line with a pattern, and
-//! [`level`] collects the lines of one level.
+//! [`load`] makes a [`LevelDictionary`] of the file, and its contract says which one. No charset is converted: keys are
+//! bytes as they are in the file. The modules, from the bottom up: `numbers` and `lines` read these, `settings` reads
+//! the number or the texts that a line sets, `pattern` reads a line with a pattern, and [`level`] collects the lines of
+//! one level.
 #![tactic(auto)]
 
 mod file;

@@ -39,7 +39,11 @@ fn lowest_byte(text: &[u8]) -> u8
     ensures { result ≡ lowest_byte (magnitude text.now) }
 {
     let number = magnitude(text);
-    if number < TOO_GREAT { (number % 256) as u8 } else { 255 }
+    if number < TOO_GREAT {
+        (number % 256) as u8
+    } else {
+        255
+    }
 }
 
 // Returns the lowest byte of the negative of that number.
@@ -47,7 +51,11 @@ fn lowest_byte_of_negative(text: &[u8]) -> u8
     ensures { result ≡ lowest_byte_of_negative (magnitude text.now) }
 {
     let number = magnitude(text);
-    if number < TOO_GREAT { ((256 - number % 256) % 256) as u8 } else { 0 }
+    if number < TOO_GREAT {
+        ((256 - number % 256) % 256) as u8
+    } else {
+        0
+    }
 }
 
 // Returns the number that the digits at the beginning of a text write, or the greatest one of 64 bits if it is greater.
@@ -56,7 +64,9 @@ fn magnitude(text: &[u8]) -> u64
 {
     let mut number: u64 = 0;
     for digit in digits_of(text) {
-        number = number.saturating_mul(10).saturating_add(u64::from(*digit - b'0'));
+        number = number
+            .saturating_mul(10)
+            .saturating_add(u64::from(*digit - b'0'));
     }
     number
 }

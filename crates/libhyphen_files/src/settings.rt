@@ -1,6 +1,7 @@
 //! The settings of a level: a number, or texts without breaks.
 
-ghost use Rattle.std.specs.Prelude.{◌≡◌, ◌++◌, ◌∷◌, [], nat_lt, if◌then◌else◌, length, drop, filter, map, Some, None, option_map, IfOk, OnOk};
+ghost use Rattle.std.specs.Prelude.{◌≡◌, ◌++◌, ◌∷◌, [], nat_lt, if◌then◌else◌, length, drop, filter, map};
+ghost use Rattle.std.specs.Prelude.{Some, None, option_map, IfOk, OnOk};
 ghost use Rattle.std.specs.List.{prefix_len};
 ghost use Rattle.libhyphen_files.specs.Bytes.{begins_with};
 ghost use Rattle.libhyphen_files.specs.Levels.{setting, is_blank, without_last, between_commas, texts_without_breaks};
@@ -24,16 +25,16 @@ pub(crate) fn without_name<'l>(line: &'l [u8], name: &[u8]) -> Option<&'l [u8]>
     line.strip_prefix(name)
 }
 
-// Returns the texts that follow NOHYPHEN, of which the last byte is taken for the line feed. An empty text is none. The only
-// error is out of memory.
+// Returns the texts that follow NOHYPHEN, of which the last byte is taken for the line feed. An empty text is none. The
+// only error is out of memory.
 pub(crate) fn texts_without_breaks(alloc: Global, text: &[u8]) -> Result<Vec<Vec<u8>>, AllocError>
     ensures { IfOk result (λ texts. map (λ t. t.items) texts.items ≡ texts_without_breaks text.now) }
 {
     texts_between_commas(alloc, without_last(without_blanks(text)))
 }
 
-// Returns the texts between commas but the empty ones. A comma in the first place parts nothing. The only error is out of
-// memory.
+// Returns the texts between commas but the empty ones. A comma in the first place parts nothing. The only error is out
+// of memory.
 fn texts_between_commas(alloc: Global, text: &[u8]) -> Result<Vec<Vec<u8>>, AllocError>
     ensures { IfOk result (λ texts. map (λ t. t.items) texts.items
         ≡ filter (λ part. nat_lt 0 (length part)) (between_commas text.now)) }

@@ -34,7 +34,7 @@ least_of own (Some given) = record {
 }
 
 -- A minimum of a whole word that is below 1 counts as 2.
-abbrev pub at_least_two : ℤ → ℤ
+unfoldable pub at_least_two : ℤ → ℤ
 at_least_two least = if int_lt (pos 0) least then least else pos 2
 
 -- ---- The digits and the changes.

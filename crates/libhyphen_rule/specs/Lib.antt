@@ -6,3 +6,4 @@ pub mod Parts
 pub mod Words
 pub mod Calls
 pub mod Found
+pub mod Laws

@@ -4,7 +4,8 @@ ghost use Rattle.std.specs.Prelude.{◌≡◌, ◌≤◌, ◌++◌, ◌∷◌, [
 ghost use Rattle.std.specs.Option.{option_map};
 ghost use Rattle.libhyphen_rule.specs.Found.{placed_all, found_of, answer_view};
 ghost use Rattle.libhyphen_files.specs.Bytes.{before_nul, continues};
-ghost use Rattle.libhyphen_rule.specs.Calls.{answer_of, plain_digits, text_of_call, found_by_call, taken_digit, without_ends, greater, least_of, at_least_two};
+ghost use Rattle.libhyphen_rule.specs.Calls.{answer_of, plain_digits, text_of_call, found_by_call, taken_digit, greater, least_of, at_least_two};
+ghost use Rattle.libhyphen_rule.specs.Parts.{without_left, without_right};
 ghost use Rattle.libhyphen_rule.specs.Words.{changes_of_characters, digits_beside};
 
 use crate::found::WordFound;
@@ -79,6 +80,7 @@ fn least_of(own: &Minima, given: Option<CallMinima>) -> CallMinima
 }
 
 // Returns the minimum of a whole word.
+#[tactic(auto, unfolding(crate::specs::Calls::at_least_two))]
 fn at_least_two(least: i32) -> i32
     ensures { result ≡ at_least_two least }
 {
@@ -105,32 +107,62 @@ fn begins_within(text: &[u8]) -> bool
     }
 }
 
-// Takes away the places of a word that are too near to its ends. `text` is the word with what stands behind it, up to the first byte 0.
-#[tactic(auto, using(crate::proofs::Ends::digits_taken))]
-fn take_ends(
+// Returns what is found in a word without the places that have too few letters before them. `text` is the word with what stands behind it, up to
+// the first byte 0.
+fn without_left<'d>(utf8: bool, least: i32, text: &[u8], found: WordFound<'d>) -> WordFound<'d>
+    requires { length found.changes.items ≡ length found.digits.items }
+    ensures found { found_of result ≡ without_left utf8 least text.now (found_of found.entry) }
+    ensures digits { length result.digits.items ≡ length found.entry.digits.items }
+    ensures changes { length result.changes.items ≡ length found.entry.changes.items }
+{
+    let WordFound {
+        mut digits,
+        mut changes,
+        made,
+        parts,
+    } = found;
+    take_left(utf8, least, text, &mut digits, &mut changes);
+    WordFound {
+        digits,
+        changes,
+        made,
+        parts,
+    }
+}
+
+// Returns what is found in a word without the places that have too few letters behind them. `text` is the word with what stands behind it, up to
+// the first byte 0.
+fn without_right<'d>(
     utf8: bool,
-    least: &CallMinima,
+    least: i32,
     word: &[u8],
     text: &[u8],
-    digits: &mut [u8],
-    changes: &mut [Option<PlacedChange<'_>>],
-)
-    requires digits { length digits.old ≡ length word.now }
-    requires changes { length changes.old ≡ length word.now }
-    ensures digits { digits.new ≡ (without_ends utf8 least.now word.now text.now
-        (record { digits = digits.old; changes = placed_all changes.old; made = false; parts = 0 })).digits }
-    ensures changes { placed_all changes.new ≡ (without_ends utf8 least.now word.now text.now
-        (record { digits = digits.old; changes = placed_all changes.old; made = false; parts = 0 })).changes }
+    found: WordFound<'d>,
+) -> WordFound<'d>
+    requires digits { length found.digits.items ≡ length word.now }
+    requires changes { length found.changes.items ≡ length word.now }
+    ensures found { found_of result ≡ without_right utf8 least word.now text.now (found_of found.entry) }
+    ensures digits { length result.digits.items ≡ length word.now }
+    ensures changes { length result.changes.items ≡ length word.now }
 {
-    let left = at_least_two(least.left);
-    take_left(utf8, left, text, digits, changes);
-    let right = at_least_two(least.right);
-    take_right(utf8, right, word, text, digits, changes);
+    let WordFound {
+        mut digits,
+        mut changes,
+        made,
+        parts,
+    } = found;
+    take_right(utf8, least, word, text, &mut digits, &mut changes);
+    WordFound {
+        digits,
+        changes,
+        made,
+        parts,
+    }
 }
 
 // Returns what both levels find in the first bytes of a text, a word, without the places that are too near to its ends. The only
 // error is out of memory.
-#[tactic(auto, using(crate::proofs::Ends::found_taken), unfolding(crate::specs::Calls::found_by_call))]
+#[tactic(auto, unfolding(crate::specs::Calls::found_by_call))]
 fn found_by_call<'d>(
     alloc: Global,
     dictionary: &'d LevelDictionary,
@@ -148,12 +180,7 @@ fn found_by_call<'d>(
     let text = before_nul(text);
     let least = least_of(dictionary.top().minima(), minima);
     let utf8 = dictionary.is_utf8();
-    let WordFound {
-        mut digits,
-        mut changes,
-        made,
-        parts,
-    } = word_found(
+    let found = word_found(
         alloc,
         dictionary,
         least.compound_left,
@@ -161,13 +188,14 @@ fn found_by_call<'d>(
         word,
         behind,
     )?;
-    take_ends(utf8, &least, word, text, &mut digits, &mut changes);
-    Ok(WordFound {
-        digits,
-        changes,
-        made,
-        parts,
-    })
+    let found = without_left(utf8, at_least_two(least.left), text, found);
+    Ok(without_right(
+        utf8,
+        at_least_two(least.right),
+        word,
+        text,
+        found,
+    ))
 }
 
 // Takes the places away beside which a text without breaks begins or ends, in the first bytes of a text, a word.

@@ -8,6 +8,8 @@
 
 pub mod calls;
 pub mod found;
+pub mod laws;
+mod letters;
 mod minima;
 pub mod one_level;
 mod parts;

@@ -1,15 +1,119 @@
 //! Places that have too few letters on one side are taken away.
 
-ghost use Rattle.std.specs.Prelude.{◌≡◌, ◌≤◌, length, pos};
+ghost use Rattle.std.specs.Prelude.{◌≡◌, ◌+ℤ◌, ◌<◌, ◌≤◌, ◌+◌, ◌-◌, ◌&&◌, None, length, drop, take, set, pos};
+ghost use Rattle.std.specs.List.{after_first, before_first, position};
+ghost use Rattle.hyphenation_breaks.specs.Ascii.{digit_zero};
 ghost use Rattle.libhyphen_rule.specs.Found.{placed_all};
+ghost use Rattle.libhyphen_rule.specs.Letters.{letters};
 ghost use Rattle.libhyphen_rule.specs.Minima.{digits_but, changes_but, left_goes, right_goes};
+ghost use Rattle.libhyphen_rule.specs.Minima.{has_equals, is_below, is_equals};
 
+use crate::letters::{characters_at, digits_at_begin, digits_at_end, letters, letters_at};
 use crate::one_level::PlacedChange;
+
+// Returns whether the letters of two texts are fewer than a minimum.
+fn is_below(utf8: bool, least: i32, before: &[u8], after: &[u8]) -> bool
+    ensures { result ≡ is_below (letters utf8 before.now + letters utf8 after.now) least }
+{
+    (letters(utf8, before) as i128) + (letters(utf8, after) as i128) < (least as i128)
+}
+
+// Returns whether letters are fewer than a minimum and some digits, which are no letters.
+fn is_few(letters: usize, least: i32, digits: usize) -> bool
+    ensures { result ≡ is_below letters (least +ℤ pos digits) }
+{
+    (letters as i128) < (least as i128) + (digits as i128)
+}
+
+// Returns the index of the first equals sign of a text, if it has one.
+fn find_equals(text: &[u8]) -> Option<usize>
+    ensures { result ≡ position is_equals text.now }
+{
+    text.iter().position(|b| *b == b'=')
+}
+
+// Returns the bytes of a text from an index on, 100 at most. Behind the text there are none.
+fn hundred_from(text: &[u8], from: usize) -> &[u8]
+    ensures { result.now ≡ take 100 (drop from text.now) }
+{
+    if from >= text.len() {
+        return &[];
+    }
+    if text.len() - from > 100 {
+        &text[from..from + 100]
+    } else {
+        &text[from..]
+    }
+}
+
+// Returns whether a change has too few letters before its break: those of the word before the change's region, and
+// those of its text before the equals sign. `end` is how many bytes are before the place. A change without an equals
+// sign is never short.
+fn is_short_before(
+    utf8: bool,
+    least: i32,
+    text: &[u8],
+    end: usize,
+    change: &PlacedChange<'_>,
+) -> bool
+    requires { end ≤ length text.now }
+    ensures { result ≡ (has_equals change.now.text.now
+        && is_below (letters utf8 (take (end - change.now.pos) text.now)
+        + letters utf8 (before_first is_equals change.now.text.now)) least) }
+{
+    match find_equals(change.text) {
+        Some(equals) => {
+            let region = end.saturating_sub(change.pos);
+            is_below(utf8, least, &text[..region], &change.text[..equals])
+        }
+        None => false,
+    }
+}
+
+// Returns whether a change has too few letters behind its break: those behind the change's region, in 100 bytes at
+// most, and those of its text behind the equals sign. `end` is how many bytes are before the place. A change without an
+// equals sign is never short.
+fn is_short_after(
+    utf8: bool,
+    least: i32,
+    text: &[u8],
+    end: usize,
+    change: &PlacedChange<'_>,
+) -> bool
+    ensures { result ≡ (has_equals change.now.text.now
+        && is_below (letters utf8 (take 100 (drop (end - change.now.pos + change.now.cut) text.now))
+        + letters utf8 (after_first is_equals change.now.text.now)) least) }
+{
+    match find_equals(change.text) {
+        Some(equals) => {
+            let region = end.saturating_sub(change.pos).saturating_add(change.cut);
+            is_below(
+                utf8,
+                least,
+                hundred_from(text, region),
+                &change.text[equals + 1..],
+            )
+        }
+        None => false,
+    }
+}
+
+// Takes away the place behind a byte: its digit is 0 then, and it has no change.
+fn take_place(digits: &mut [u8], changes: &mut [Option<PlacedChange<'_>>], byte: usize)
+    requires digits { byte < length digits.old }
+    requires changes { byte < length changes.old }
+    ensures digits { digits.new ≡ set digits.old byte digit_zero }
+    ensures changes { placed_all changes.new ≡ set (placed_all changes.old) byte None }
+{
+    digits[byte] = b'0';
+    changes[byte] = None;
+}
 
 // Takes away the places that have fewer letters before them than a minimum.
 //
-// `text` is the word with what stands behind it, up to the first byte 0; it may be shorter than the word. Both lists have an item
-// for each byte of the word. A place that goes gets the digit 0, and no change.
+// `text` is the word with what stands behind it, up to the first byte 0; it may be shorter than the word. Both lists
+// have an item for each byte of the word. A place that goes gets the digit 0, and no change. The count of letters never
+// falls, so the first place that has enough ends the search.
 pub(crate) fn take_left(
     utf8: bool,
     least: i32,
@@ -21,12 +125,29 @@ pub(crate) fn take_left(
     ensures digits { digits.new ≡ digits_but (left_goes utf8 least text.now (placed_all changes.old)) digits.old }
     ensures changes { placed_all changes.new
         ≡ changes_but (left_goes utf8 least text.now (placed_all changes.old)) (placed_all changes.old) }
-{}
+{
+    let digits_before = digits_at_begin(text);
+    let mut count: usize = 0;
+    for byte in 0..digits.len().min(text.len()) {
+        count += letters_at(utf8, text, byte);
+        if !is_few(count, least, digits_before) {
+            return;
+        }
+        let goes = match &changes[byte] {
+            Some(change) => is_short_before(utf8, least, text, byte + 1, change),
+            None => true,
+        };
+        if goes {
+            take_place(digits, changes, byte);
+        }
+    }
+}
 
 // Takes away the places that have fewer letters behind them than a minimum.
 //
-// `text` is the word with what stands behind it, up to the first byte 0. Both lists have an item for each byte of the word. A
-// place that goes gets the digit 0, and no change.
+// `text` is the word with what stands behind it, up to the first byte 0. Both lists have an item for each byte of the
+// word. A place that goes gets the digit 0, and no change. The search goes from the end, and the first place that has
+// enough ends it.
 pub(crate) fn take_right(
     utf8: bool,
     least: i32,
@@ -37,7 +158,26 @@ pub(crate) fn take_right(
 )
     requires digits { length digits.old ≡ length word.now }
     requires changes { length changes.old ≡ length word.now }
-    ensures digits { digits.new ≡ digits_but (right_goes utf8 least word.now text.now (placed_all changes.old)) digits.old }
+    ensures digits { digits.new
+        ≡ digits_but (right_goes utf8 least word.now text.now (placed_all changes.old)) digits.old }
     ensures changes { placed_all changes.new
         ≡ changes_but (right_goes utf8 least word.now text.now (placed_all changes.old)) (placed_all changes.old) }
-{}
+{
+    let digits_behind = digits_at_end(word);
+    let mut count: usize = 0;
+    let mut end = word.len();
+    while end > 1 {
+        if !is_few(count, least, digits_behind) {
+            return;
+        }
+        let goes = match &changes[end - 1] {
+            Some(change) => is_short_after(utf8, least, text, end, change),
+            None => true,
+        };
+        if goes {
+            take_place(digits, changes, end - 1);
+        }
+        end -= 1;
+        count += characters_at(utf8, word[end]);
+    }
+}

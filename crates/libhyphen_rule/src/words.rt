@@ -1,22 +1,82 @@
-//! The last steps over a whole word: texts beside which no break stands, the word written with its breaks, and characters.
+//! The last steps over a whole word: texts beside which no break stands, the word written with its breaks, and
+//! characters.
 
-ghost use Rattle.std.specs.Prelude.{◌≡◌, ◌≤◌, ◌<◌, length, map, IfOk};
-ghost use Rattle.libhyphen_rule.specs.Found.{placed_all};
-ghost use Rattle.libhyphen_rule.specs.Words.{digits_beside, written_word, digits_of_characters, changes_of_characters};
+ghost use Rattle.std.specs.Prelude.{◌≡◌, ◌<◌, length, map, option_map, slice_range, IfOk, OnOk};
+ghost use Rattle.std.specs.List.{list_any};
+ghost use Rattle.libhyphen_rule.specs.Found.{placed, placed_all};
+ghost use Rattle.libhyphen_rule.specs.Words.{begins, change_in_characters, changes_of_characters, characters, digits_beside, digits_of_characters, is_beside, is_last, passed_over, stands_at, with_mark, written_word};
 
 use crate::one_level::PlacedChange;
 use std::alloc::{AllocError, Global};
 
+// Returns whether a text stands in a word from a byte on.
+fn stands_at(text: &[u8], at: usize, part: &[u8]) -> bool
+    ensures { result ≡ stands_at text.now at part.now }
+{
+    if at <= text.len() {
+        text[at..].starts_with(part)
+    } else {
+        part.is_empty()
+    }
+}
+
+// Returns whether a text begins or ends at the place behind a byte.
+fn is_beside(text: &[u8], byte: usize, part: &[u8]) -> bool
+    requires { byte < usize.MAX }
+    ensures { result ≡ is_beside text.now byte part.now }
+{
+    stands_at(text, byte + 1, part)
+        || part.len() <= byte + 1 && stands_at(text, byte + 1 - part.len(), part)
+}
+
+// Returns whether one of some texts begins or ends at the place behind a byte.
+fn some_is_beside(parts: &[Vec<u8>], text: &[u8], byte: usize) -> bool
+    requires { byte < usize.MAX }
+    ensures { result ≡ list_any (is_beside text.now byte) (map (λ part. part.items) parts.now) }
+{
+    for part in parts {
+        if is_beside(text, byte, part) {
+            return true;
+        }
+    }
+    false
+}
+
 // Puts another byte in the place of each digit beside which a text without breaks begins or ends.
 //
-// `text` is the word with what stands behind it, up to the first byte 0; it may be shorter than the word. The digits have one item
-// for each byte of the word.
+// `text` is the word with what stands behind it, up to the first byte 0; it may be shorter than the word. The digits
+// have one item for each byte of the word.
 pub(crate) fn take_beside(parts: &[Vec<u8>], instead: u8, text: &[u8], digits: &mut [u8])
     ensures { digits.new ≡ digits_beside (map (λ part. part.items) parts.now) instead text.now digits.old }
-{}
+{
+    for (byte, digit) in digits.iter_mut().enumerate() {
+        if some_is_beside(parts, text, byte) {
+            *digit = instead;
+        }
+    }
+}
 
-// Returns the word with an equals sign at each odd place, and with the texts of changes in the places of their regions. The
-// only error is out of memory.
+// Writes an equals sign, or a change's text in the place of the last bytes of what is written. Returns how many bytes
+// of the word are passed over then. The only error is out of memory.
+fn write_mark(written: &mut Vec<u8>, change: Option<PlacedChange<'_>>) -> Result<usize, AllocError>
+    ensures written { OnOk result (written.new.items ≡ with_mark written.old.items (option_map placed change.entry)) }
+    ensures passed { IfOk result (λ passed. passed ≡ passed_over (option_map placed change.entry)) }
+{
+    match change {
+        None => {
+            written.push(b'=')?;
+            Ok(0)
+        }
+        Some(change) => {
+            written.truncate(written.len().saturating_sub(change.pos));
+            written.extend_from_slice(change.text)?;
+            Ok(change.cut.saturating_sub(change.pos))
+        }
+    }
+}
+
+// Returns the word with an equals sign at each odd place, and with the texts of changes in the places of their regions.
+// The only error is out of memory.
 pub(crate) fn written_word(
     alloc: Global,
     word: &[u8],
@@ -27,7 +87,34 @@ pub(crate) fn written_word(
     requires changes { length changes.now ≡ length word.now }
     ensures { IfOk result (λ text. text.items ≡ written_word word.now digits.now (placed_all changes.now)) }
 {
-    Err(AllocError)
+    let mut written = Vec::with_capacity(alloc, word.len())?;
+    let mut passed = 0;
+    for byte in 0..word.len() {
+        if passed > 0 {
+            passed -= 1;
+        } else {
+            written.push(word[byte])?;
+            if digits[byte] % 2 == 1 {
+                passed = write_mark(&mut written, changes[byte])?;
+            }
+        }
+    }
+    Ok(written)
+}
+
+// Returns whether a byte begins a character of UTF-8.
+fn begins(byte: u8) -> bool
+    ensures { result ≡ begins byte }
+{
+    byte < 128 || byte >= 192
+}
+
+// Returns whether a byte of a word is the last one of a character.
+fn is_last(word: &[u8], byte: usize) -> bool
+    requires { byte < length word.now }
+    ensures { result ≡ is_last word.now byte }
+{
+    byte + 1 == word.len() || begins(word[byte + 1])
 }
 
 // Returns, for each character of a word in UTF-8, the digit behind its last byte. The only error is out of memory.
@@ -39,11 +126,78 @@ pub(crate) fn digits_of_characters(
     requires { length digits.now ≡ length word.now }
     ensures { IfOk result (λ v. v.items ≡ digits_of_characters word.now digits.now) }
 {
-    Err(AllocError)
+    let mut found = Vec::with_capacity(alloc, word.len())?;
+    for byte in 0..word.len() {
+        if is_last(word, byte) {
+            found.push(digits[byte])?;
+        }
+    }
+    Ok(found)
 }
 
-// Returns, for each character of a word in UTF-8, the change behind its last byte, with its numbers in characters. `text` is the word
-// with all that stands behind it, and a byte 0. The only error is out of memory.
+// Returns the number of characters that begin in a text.
+fn characters(text: &[u8]) -> usize
+    ensures { result ≡ characters text.now }
+{
+    let mut count = 0;
+    for byte in text {
+        if begins(*byte) {
+            count += 1;
+        }
+    }
+    count
+}
+
+// Returns the number of characters that begin in a range of a text, as far as the text reaches.
+fn characters_in(text: &[u8], begin: usize, end: usize) -> usize
+    ensures { result ≡ characters (slice_range text.now begin end) }
+{
+    let end = if end < text.len() { end } else { text.len() };
+    if begin < end {
+        characters(&text[begin..end])
+    } else {
+        0
+    }
+}
+
+// Returns a change behind a byte, with its numbers in characters.
+fn change_in_characters<'d>(text: &[u8], byte: usize, change: PlacedChange<'d>) -> PlacedChange<'d>
+    requires { byte < usize.MAX }
+    ensures { placed result ≡ change_in_characters text.now byte (placed change.entry) }
+{
+    let behind = byte + 1;
+    let begin = behind.saturating_sub(change.pos);
+    let end = if change.pos <= behind {
+        (behind - change.pos).saturating_add(change.cut)
+    } else {
+        change.cut.saturating_sub(change.pos - behind)
+    };
+    PlacedChange {
+        text: change.text,
+        pos: characters_in(text, begin, behind),
+        cut: characters_in(text, begin, end),
+    }
+}
+
+// Returns the change behind a byte, if there is one, with its numbers in characters.
+fn character_change<'d>(
+    text: &[u8],
+    byte: usize,
+    change: Option<PlacedChange<'d>>,
+) -> Option<PlacedChange<'d>>
+    requires { byte < usize.MAX }
+    ensures { option_map placed result
+        ≡ option_map (change_in_characters text.now byte) (option_map placed change.entry) }
+{
+    match change {
+        None => None,
+        Some(change) => Some(change_in_characters(text, byte, change)),
+    }
+}
+
+// Returns, for each character of a word in UTF-8, the change behind its last byte, with its numbers in characters.
+//
+// `text` is the word with all that stands behind it, and a byte 0. The only error is out of memory.
 pub(crate) fn changes_of_characters<'d>(
     alloc: Global,
     word: &[u8],
@@ -53,5 +207,11 @@ pub(crate) fn changes_of_characters<'d>(
     requires { length changes.now ≡ length word.now }
     ensures { IfOk result (λ v. placed_all v.items ≡ changes_of_characters word.now text.now (placed_all changes.now)) }
 {
-    Err(AllocError)
+    let mut found = Vec::with_capacity(alloc, word.len())?;
+    for byte in 0..word.len() {
+        if is_last(word, byte) {
+            found.push(character_change(text, byte, changes[byte]))?;
+        }
+    }
+    Ok(found)
 }

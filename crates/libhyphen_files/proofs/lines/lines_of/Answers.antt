@@ -38,12 +38,12 @@ pushed lines line left more whole is before = rw (map-append, append_assoc) (ap 
 pub loop-i-preserved : goal.loop-i-preserved
 loop-i-preserved c =
     elim c.if-ends_line.branch [
-      then-ends_line+in_ok-push w ↦ record {
+      | then-ends_line+in_ok-push w ↦ record {
         begun = omega arith;
         lines = rw (w.lines-is, w.start-is, w.room-is, w.in_ok-push.ensures.items)
             (pushed c.loop-i.lines.items _ _ _ _ (ends c.args.bytes.now c.loop-i.start c.loop-i.i c.loop-i.room c.loop-i.invariant.begun c.loop-i-test.true (sym w.if-ends_line.ensures)) c.loop-i.invariant.lines);
       }
-    | else-ends_line w ↦ record {
+      | else-ends_line w ↦ record {
         begun = omega arith;
         lines = rw (w.lines-is, w.start-is, w.room-is)
             (ap (λ ls. map (λ l. l.now) c.loop-i.lines.items ++ ls) (sym (keeps c.args.bytes.now c.loop-i.start c.loop-i.i c.loop-i.room c.loop-i.invariant.begun c.loop-i-test.true (sym w.if-ends_line.ensures))) ∙ c.loop-i.invariant.lines);
@@ -74,12 +74,12 @@ pub returns : goal.returns
 returns c =
     let over : length c.args.bytes.now ≤ c.loop-i.i = omega arith in
     elim c.if-start-bytes.branch [
-      then-start-bytes+in_ok-push-2 w ↦
-        let some : c.loop-i.start < length c.args.bytes.now = omega arith in
-        rw (w.lines-is, w.in_ok-push-2.ensures.items)
-        (sym (append-nil _) ∙ pushed c.loop-i.lines.items _ _ [] _ (left_over c.args.bytes.now c.loop-i.start c.loop-i.i c.loop-i.room c.loop-i.invariant.begun over some) c.loop-i.invariant.lines)
-    | else-start-bytes w ↦
-        let none : length c.args.bytes.now ≤ c.loop-i.start = omega arith in
-        rw w.lines-is
-        (sym (append-nil _) ∙ ap (λ ls. map (λ l. l.now) c.loop-i.lines.items ++ ls) (sym (nothing_left c.args.bytes.now c.loop-i.start c.loop-i.i c.loop-i.room over none)) ∙ c.loop-i.invariant.lines)
+      | then-start-bytes+in_ok-push-2 w ↦
+          let some : c.loop-i.start < length c.args.bytes.now = omega arith in
+          rw (w.lines-is, w.in_ok-push-2.ensures.items)
+          (sym (append-nil _) ∙ pushed c.loop-i.lines.items _ _ [] _ (left_over c.args.bytes.now c.loop-i.start c.loop-i.i c.loop-i.room c.loop-i.invariant.begun over some) c.loop-i.invariant.lines)
+      | else-start-bytes w ↦
+          let none : length c.args.bytes.now ≤ c.loop-i.start = omega arith in
+          rw w.lines-is
+          (sym (append-nil _) ∙ ap (λ ls. map (λ l. l.now) c.loop-i.lines.items ++ ls) (sym (nothing_left c.args.bytes.now c.loop-i.start c.loop-i.i c.loop-i.room over none)) ∙ c.loop-i.invariant.lines)
     ]

@@ -21,12 +21,12 @@ loop-i-init c = record {
 pub loop-i-preserved : goal.loop-i-preserved
 loop-i-preserved c =
     elim c.if-text-i-eq44.branch [
-      then-text-i-eq44+in_ok-push_text w ↦ record {
+      | then-text-i-eq44+in_ok-push_text w ↦ record {
         begun = omega arith;
         within = omega arith;
         texts = rw (w.texts-is, w.start-is) (moved _ _ (cut c.args.text.now c.loop-i.start c.loop-i.i) _ _ _ w.in_ok-push_text.ensures (parts_end c.args.text.now c.loop-i.start c.loop-i.i c.loop-i-test.true w.if-text-i-eq44.true) c.loop-i.invariant.texts);
       }
-    | else-text-i-eq44 w ↦ record {
+      | else-text-i-eq44 w ↦ record {
         begun = omega arith;
         within = omega arith;
         texts = rw (w.texts-is, w.start-is) (ap (λ ls. map (λ t. t.items) c.loop-i.texts.items ++ filter not_empty ls) (sym (parts_go_on c.args.text.now c.loop-i.start c.loop-i.i c.loop-i.invariant.begun c.loop-i-test.true w.if-text-i-eq44.false)) ∙ c.loop-i.invariant.texts);

@@ -1,0 +1,6 @@
+use Rattle.std.proofs.Common.{◌≡◌, take, map}
+use Rattle.libhyphen_files.specs.Files.{level_of}
+use Rattle.libhyphen_files.proofs.file.level_of.Given as goal
+
+abbrev pub invariant-loop-line : goal.invariant-loop-line
+invariant-loop-line l = l.level ≡ level_of l.utf8 (take l.line-index (map (λ x. x.now) l.lines))

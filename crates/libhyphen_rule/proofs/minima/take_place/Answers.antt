@@ -1,0 +1,8 @@
+use Rattle.std.proofs.Common.{None}
+use Rattle.std.specs.Prelude.{option_map}
+use Rattle.std.proofs.lemmas.List.{map-set}
+use Rattle.libhyphen_rule.specs.Found.{placed}
+use Rattle.libhyphen_rule.proofs.minima.take_place.Goals as goal
+
+pub returns-clause-changes : goal.returns-clause-changes
+returns-clause-changes c = map-set (option_map placed) c.args.changes.now c.args.byte None
