@@ -7,3 +7,10 @@ pub mod WordSteps
 pub mod WrittenWord
 pub mod MarksOut
 pub mod MarksIn
+pub mod Offers
+pub mod Deciders
+pub mod RaisedDigits
+pub mod TakenCells
+pub mod Pass
+pub mod LongestStart
+pub mod PlacedChanges

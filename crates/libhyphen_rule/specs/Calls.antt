@@ -1,6 +1,6 @@
 -- What the calls of libhyphen give for a word.
 -- Source: libhyphen 2.8.8, hyphen.h and hyphen.c.
-use Rattle.std.specs.Prelude.{ℕ, ℤ, pos, ◌+◌, ◌&&◌, int_le, int_lt, nat_lt, Bool, if◌then◌else◌, List, [], ◌∷◌, ◌++◌, length, map, take, drop, filter, is_none, Option, None, Some, slice_index}
+use Rattle.std.specs.Prelude.{ℕ, ℤ, pos, ◌+◌, ◌&&◌, int_le, int_lt, nat_lt, Bool, true, if◌then◌else◌, List, [], ◌∷◌, ◌++◌, length, map, take, drop, filter, is_none, Option, None, Some, slice_index}
 use Rattle.std.specs.List.{range_with_len}
 use Rattle.hyphenation_breaks.specs.Ascii.{digit_zero}
 use Rattle.libhyphen_files.specs.Bytes.{before_nul, continues}
@@ -8,7 +8,7 @@ use Rattle.libhyphen_files.specs.Files.{Rules}
 use Rattle.libhyphen_files.specs.Levels.{Level}
 use Rattle.libhyphen_files.specs.declared.minima.Minima.{Minima}
 use Rattle.libhyphen_rule.specs.Counting.{counted_in, framed}
-use Rattle.libhyphen_rule.specs.OneLevel.{ChangeAt, digit_at, offers}
+use Rattle.libhyphen_rule.specs.OneLevel.{ChangeAt, digits_given_by}
 use Rattle.libhyphen_rule.specs.Parts.{Found, PartMinima, word_found, without_left, without_right}
 use Rattle.libhyphen_rule.specs.Words.{changes_of_characters, digits_beside, digits_of_characters, written_word}
 use Rattle.libhyphen_rule.specs.declared.calls.CallMinima.{CallMinima}
@@ -118,11 +118,12 @@ text_of_call rules given text size = text_of_found rules given text size (found_
 
 -- The digits of the patterns at the top that change nothing, without those of the places behind the first byte, behind the last
 -- but one, and behind the last.
-abbrev pub plain_digit : Level → List ℕ → ℕ → ℕ
-plain_digit level word byte =
-    if nat_lt 0 byte && nat_lt (byte + 2) (length word)
-    then digit_at (filter (λ o. is_none o.change) (offers (counted_in level.patterns (framed word)))) (byte + 2)
-    else digit_zero
+abbrev pub inner_digit : List ℕ → ℕ → ℕ
+inner_digit digits byte =
+    if nat_lt 0 byte && nat_lt (byte + 2) (length digits) then slice_index digits byte else digit_zero
+
+abbrev pub inner_digits : List ℕ → List ℕ
+inner_digits digits = map (inner_digit digits) (range_with_len 0 (length digits))
 
 unfoldable pub plain_digits : Level → List ℕ → List ℕ
-plain_digits level word = map (plain_digit level word) (range_with_len 0 (length word))
+plain_digits level word = inner_digits (digits_given_by true level.patterns word)

@@ -1,14 +1,14 @@
 -- The patterns of a level that count in a word: at each end the longest beginning of a pattern, if it is one.
--- Sources: F. M. Liang, Word Hy-phen-a-tion by Com-put-er (1983), for patterns and their values; libhyphen 2.8.8, hyphen.c, for
--- the longest beginning.
-use Rattle.std.specs.Prelude.{ℕ, ◌+◌, nat_eq, Bool, if◌then◌else◌, List, [], ◌∷◌, ◌++◌, length, map, Option, option_map, option_and_then, slice_range}
+-- Sources: F. M. Liang, Word Hy-phen-a-tion by Com-put-er (1983), for patterns and their values; libhyphen 2.8.8,
+-- hyphen.c, for the longest beginning.
+use Rattle.std.specs.Prelude.{ℕ, ◌+◌, ◌-◌, nat_eq, Bool, if◌then◌else◌, List, [], ◌∷◌, ◌++◌, length, map, take, Option, option_map, option_and_then, slice_range}
 use Rattle.std.specs.List.{list_any, find, filter_map, range_with_len, starts_with}
 use Rattle.std.specs.Char.{is_ascii_digit}
 use Rattle.std.specs.FinMap as finite
 use Rattle.hyphenation_breaks.specs.Ascii.{dot}
 use Rattle.hyphenation_breaks.specs.Dictionary.{TextMap}
 use Rattle.libhyphen_files.specs.Levels.{pattern_at}
-use Rattle.libhyphen_files.specs.Patterns.{Pattern, first_place}
+use Rattle.libhyphen_files.specs.Patterns.{Pattern, Change, first_place}
 
 -- A digit of a word is a dot to patterns.
 abbrev pub shown : ℕ → ℕ
@@ -27,18 +27,20 @@ unfoldable pub longest_start : TextMap (List Pattern) → List ℕ → ℕ → O
 longest_start patterns frame end =
     find (λ start. begins_key patterns (slice_range frame start end)) (range_with_len 0 end)
 
--- A pattern that counts: where its key begins in the frame, and where its region would begin. The region begins `start` bytes
--- after the key's first byte that is no leading dot.
+-- A pattern that counts: where its key begins in the frame, where the key's first byte is that is no leading dot, its
+-- digits from before the key to after it, and its change. The start of the change's region is counted from `first`.
 pub record Counted : Type 0 where
   pub start : ℕ
   pub first : ℕ
-  pub pattern : Pattern
+  pub digits : List ℕ
+  pub change : Option Change
 
 abbrev pub counted_from : List ℕ → ℕ → ℕ → Pattern → Counted
 counted_from frame end start pattern = record {
   start = start;
   first = start + first_place (slice_range frame start end);
-  pattern = pattern;
+  digits = take (end + 1 - start) pattern.digits;
+  change = pattern.change;
 }
 
 -- The longest beginning, from its start on, counts if it is a key.

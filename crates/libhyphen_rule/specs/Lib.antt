@@ -7,3 +7,4 @@ pub mod Words
 pub mod Calls
 pub mod Found
 pub mod Laws
+pub mod Private

@@ -1,11 +1,13 @@
 -- The digits and the changes of a word's places by one level.
 -- Sources: F. M. Liang, Word Hy-phen-a-tion by Com-put-er (1983); L. Németh, Automatic non-standard hyphenation in
 -- OpenOffice.org, TUGboat 27:1 (2006); libhyphen 2.8.8, hyphen.c.
-use Rattle.std.specs.Prelude.{ℕ, ℤ, pos, ◌+◌, ◌-◌, ◌%◌, ◌==◌, ◌&&◌, ◌+ℤ◌, ◌-ℤ◌, int_le, max, nat_abs, nat_le, nat_lt, Bool, false, if◌then◌else◌, List, [], ◌∷◌, ◌++◌, length, map, filter, fold, replicate, Option, None, Some, option_map, option_and_then, slice_index, slice_set}
+use Rattle.std.specs.Prelude.{ℕ, ℤ, pos, ◌+◌, ◌-◌, ◌%◌, ◌==◌, ◌&&◌, ◌+ℤ◌, int_le, max, nat_abs, nat_le, nat_lt, Bool, false, if◌then◌else◌, List, [], ◌∷◌, ◌++◌, length, map, filter, fold, replicate, Option, None, Some, option_map, option_and_then, is_some, slice_index, slice_set}
+use Rattle.std.specs.Ordering.{int_eq}
 use Rattle.std.specs.List.{flat_map, last_or, range_with_len}
 use Rattle.hyphenation_breaks.specs.Ascii.{digit_zero}
+use Rattle.hyphenation_breaks.specs.Dictionary.{TextMap}
 use Rattle.libhyphen_files.specs.Levels.{Level}
-use Rattle.libhyphen_files.specs.Patterns.{Change}
+use Rattle.libhyphen_files.specs.Patterns.{Change, Pattern}
 use Rattle.libhyphen_rule.specs.Counting.{Counted, counted_in, framed}
 
 -- ---- The digits.
@@ -20,14 +22,14 @@ pub record Offer : Type 0 where
 abbrev pub offer_of : Counted → ℕ → Offer
 offer_of counted number = record {
   place = counted.start + number;
-  digit = slice_index counted.pattern.digits number;
+  digit = slice_index counted.digits number;
   first = counted.first;
-  change = counted.pattern.change;
+  change = counted.change;
 }
 
 -- The digits that a pattern gives, from before its key to after it.
 abbrev pub offers_of : Counted → List Offer
-offers_of counted = map (offer_of counted) (range_with_len 0 (length counted.pattern.digits))
+offers_of counted = map (offer_of counted) (range_with_len 0 (length counted.digits))
 
 -- The digits that patterns give, in the order of the patterns' ends, and of each pattern in the order of its places.
 unfoldable pub offers : List Counted → List Offer
@@ -60,7 +62,7 @@ change_at given place =
 
 -- A change has its region at a place of the frame.
 abbrev pub begins_at : ℕ → ℕ → Change → Bool
-begins_at begin first change = nat_abs (pos begin -ℤ (pos first +ℤ change.start)) == 0
+begins_at begin first change = int_eq (pos begin) (pos first +ℤ change.start)
 
 -- The region begins there, and the place lies within it, or at one of its ends.
 abbrev pub reaches : ℕ → ℕ → ℕ → Change → Bool
@@ -79,7 +81,7 @@ place_of_region given begin =
 
 -- A pattern that counts has the region that begins there.
 abbrev pub has_region : ℕ → Counted → Bool
-has_region begin counted = if_change (begins_at begin counted.first) counted.pattern.change
+has_region begin counted = if_change (begins_at begin counted.first) counted.change
 
 abbrev pub cut_or_zero : Option Change → ℤ
 cut_or_zero None = pos 0
@@ -88,7 +90,7 @@ cut_or_zero (Some change) = change.cut
 -- The cut of a region: that of the last pattern that counts and has it, whether its digits win or not.
 abbrev pub cut_of_region : List Counted → ℕ → ℤ
 cut_of_region counted begin =
-    cut_or_zero (option_and_then (λ c. c.pattern.change) (last_or None (filter (has_region begin) counted)))
+    cut_or_zero (option_and_then (λ c. c.change) (last_or None (filter (has_region begin) counted)))
 
 -- A cut below 1 is 1.
 abbrev pub at_least_one : ℤ → ℕ
@@ -153,11 +155,29 @@ made_up_to counted bytes begins =
 abbrev pub digit_behind : List Offer → ℕ → ℕ → ℕ
 digit_behind given bytes byte = if nat_lt (byte + 1) bytes then digit_at given (byte + 2) else digit_zero
 
+-- What a pattern gives, if patterns that change letters may be asked to give no digits.
+abbrev pub given_by : Bool → Counted → Counted
+given_by plain counted = if plain && is_some counted.change then record counted { digits = [] } else counted
+
+-- The digits of a word's bytes by some patterns, of which those that change letters may be asked to give none.
+abbrev pub digits_given_by : Bool → TextMap (List Pattern) → List ℕ → List ℕ
+digits_given_by plain patterns word =
+    map (digit_behind (offers (map (given_by plain) (counted_in patterns (framed word)))) (length word))
+    (range_with_len 0 (length word))
+
+-- The digits of a word's bytes by some patterns.
+abbrev pub digits_by : TextMap (List Pattern) → List ℕ → List ℕ
+digits_by patterns word =
+    map (digit_behind (offers (counted_in patterns (framed word))) (length word)) (range_with_len 0 (length word))
+
 unfoldable pub level_digits : Level → List ℕ → List ℕ
-level_digits level word =
-    map (digit_behind (offers (counted_in level.patterns (framed word))) (length word)) (range_with_len 0 (length word))
+level_digits level word = digits_by level.patterns word
 
 -- For each byte of a word, the change at the place behind it.
+abbrev pub changes_by : TextMap (List Pattern) → List ℕ → List (Option ChangeAt)
+changes_by patterns word =
+    (made_up_to (counted_in patterns (framed word)) (length word) (length word)).changes
+
 unfoldable pub level_changes : Level → List ℕ → List (Option ChangeAt)
 level_changes level word =
-    (made_up_to (counted_in level.patterns (framed word)) (length word) (length word)).changes
+    changes_by level.patterns word

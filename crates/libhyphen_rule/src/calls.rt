@@ -4,10 +4,11 @@ ghost use Rattle.std.specs.Prelude.{◌≡◌, ◌≤◌, ◌++◌, ◌∷◌, [
 ghost use Rattle.std.specs.Option.{option_map};
 ghost use Rattle.libhyphen_rule.specs.Found.{placed_all, found_of, answer_view};
 ghost use Rattle.libhyphen_files.specs.Bytes.{before_nul, continues};
-ghost use Rattle.libhyphen_rule.specs.Calls.{answer_of, plain_digits, text_of_call, found_by_call, taken_digit, greater, least_of, at_least_two};
+ghost use Rattle.libhyphen_rule.specs.Calls.{answer_of, inner_digits, plain_digits, text_of_call, found_by_call, taken_digit, greater, least_of, at_least_two};
 ghost use Rattle.libhyphen_rule.specs.Parts.{without_left, without_right};
 ghost use Rattle.libhyphen_rule.specs.Words.{changes_of_characters, digits_beside};
 
+use crate::digits::read_digits;
 use crate::found::WordFound;
 use crate::minima::{take_left, take_right};
 use crate::one_level::PlacedChange;
@@ -317,8 +318,22 @@ pub fn write_word(
     written_word(alloc, &text[..size], &digits, &changes)
 }
 
+// Returns digits without those of the places behind the first byte, behind the last but one, and behind the last. The only error is
+// out of memory.
+fn inner_digits(alloc: Global, digits: &[u8]) -> Result<Vec<u8>, AllocError>
+    ensures { IfOk result (λ inner. inner.items ≡ inner_digits digits.now) }
+{
+    let mut inner = Vec::with_capacity(alloc, digits.len())?;
+    for byte in 0..digits.len() {
+        let is_inner = 0 < byte && digits.len() - byte > 2;
+        inner.push(if is_inner { digits[byte] } else { b'0' })?;
+    }
+    Ok(inner)
+}
+
 /// Returns the digits of the oldest call, `hnj_hyphen_hyphenate`, for each byte of a word that of the place behind it: those of the
 /// patterns of the level at the top that change nothing. The only error is out of memory.
+#[tactic(auto, unfolding(crate::specs::Calls::plain_digits))]
 pub fn plain_digits(
     alloc: Global,
     dictionary: &LevelDictionary,
@@ -326,5 +341,7 @@ pub fn plain_digits(
 ) -> Result<Vec<u8>, AllocError>
     ensures { IfOk result (λ digits. digits.items ≡ plain_digits dictionary.now.top word.now) }
 {
-    Err(AllocError)
+    let mut digits = vec![in alloc; b'0'; word.len()]?;
+    read_digits(dictionary.top().patterns(), word, true, &mut digits);
+    inner_digits(alloc, &digits)
 }

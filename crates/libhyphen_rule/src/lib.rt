@@ -7,6 +7,9 @@
 #![tactic(auto)]
 
 pub mod calls;
+mod cells;
+mod counting;
+mod digits;
 pub mod found;
 pub mod laws;
 mod letters;

@@ -1,0 +1,67 @@
+-- One pass over the frame of a word.
+use Rattle.std.proofs.Common.{◌≡◌, ℕ, ◌+◌, ◌-◌, ◌<◌, ◌≢◌, Bool, true, false, cond, List, [], ◌∷◌, length, drop, Option, Some, None, refl, sym, ap, ◌∙◌, arith, inl, inr}
+use Rattle.std.proofs.lemmas.Bool.{cases_eq, cases_lt, ne_eqb}
+use Rattle.std.specs.Prelude.{◌==◌, option_and_then, slice_get, slice_index, slice_range}
+use Rattle.std.proofs.lemmas.List.{length-append, get_or-take, get_or-drop}
+use Rattle.hyphenation_breaks.specs.Ascii.{dot}
+use mir.Val.{bool_byte}
+use Rattle.hyphenation_trie.specs.Trie.{Tree, node_text, entries_of_key, IsTrie}
+use Rattle.hyphenation_trie.specs.Links.{IsReport}
+use Rattle.libhyphen_files.specs.Patterns.{Pattern, first_place}
+use Rattle.libhyphen_rule.specs.Private.Pass.{pattern_of_node}
+
+-- The root has no pattern.
+pub root_has_none : (tree : Tree Pattern) (node : ℕ) → node ≡ 0 → None ≡ pattern_of_node tree node
+root_has_none tree node is = sym (ap (λ (k : ℕ). pattern_of_node tree k) is)
+
+-- A node that is not its own report is no key.
+pub no_entries : (tree : Tree Pattern) → IsTrie tree → (node report : ℕ) → node < length tree.texts
+    → IsReport tree (node_text tree node) report → report ≢ node → entries_of_key tree (node_text tree node) ≡ None
+no_entries tree trie node report within is apart =
+    elim (cases_lt (length (node_text tree report)) (length (node_text tree node))) [
+      | inl less ↦ is.none 0 (omega arith)
+      | inr most ↦
+          let none : length (node_text tree node) - length (node_text tree report) ≡ 0 = omega (arith, is.ends.0) in
+          let same : node_text tree node ≡ node_text tree report = ap (λ (k : ℕ). drop k (node_text tree node)) (sym none) ∙ is.ends.1 in
+          absurd (apart (trie.distinct report node is.within within (sym same)))
+    ]
+
+pub no_pattern : (tree : Tree Pattern) → IsTrie tree → (node report : ℕ) → node < length tree.texts
+    → IsReport tree (node_text tree node) report → report ≢ node → None ≡ pattern_of_node tree node
+no_pattern tree trie node report within is apart = elim (cases_eq node 0) [
+  | inl root ↦ root_has_none tree node root
+  | inr some ↦
+      sym (ap (λ b. cond {A = Option Pattern} b None (option_and_then (λ found. slice_get found 0) (entries_of_key tree (node_text tree node)))) (ne_eqb node 0 some)
+      ∙ ap (option_and_then (λ found. slice_get found 0)) (no_entries tree trie node report within is apart))
+]
+
+pub some_has_entries : (tree : Tree Pattern) (node : ℕ) → node ≢ 0
+    → option_and_then (λ found. slice_get found 0) (entries_of_key tree (node_text tree node)) ≡ pattern_of_node tree node
+some_has_entries tree node some =
+    sym (ap (λ b. cond {A = Option Pattern} b None (option_and_then (λ found. slice_get found 0) (entries_of_key tree (node_text tree node)))) (ne_eqb node 0 some))
+
+-- A node with a pattern has a text.
+pub some_has_text : (tree : Tree Pattern) → IsTrie tree → (node : ℕ) (p : Pattern) → Some p ≡ pattern_of_node tree node → node < length tree.texts
+    → 0 < length (node_text tree node)
+some_has_text tree trie node p some within = elim (cases_eq node 0) [
+  | inl root ↦ let none = some ∙ sym (root_has_none tree node root) in absurd cc
+  | inr apart ↦
+      let up = trie.closed node (omega arith) within in
+      omega (arith, ap length up.3, length-append (node_text tree up.0) (up.1 ∷ []))
+]
+
+-- The first byte of a key, as the frame has it.
+pub first_byte : (frame : List ℕ) (start end : ℕ) → start < end → slice_index (slice_range frame start end) 0 ≡ slice_index frame start
+first_byte frame start end lt =
+    get_or-take (end - start) (drop start frame) 0 0 (omega arith) ∙ get_or-drop start frame 0 0 ∙ ap (slice_index frame) (omega arith)
+
+as_byte : (b : Bool) → cond b 1 0 ≡ bool_byte b
+as_byte true = refl
+as_byte false = refl
+
+pub first_is : (frame : List ℕ) (start at end byte add : ℕ) → start < end → at ≡ start → byte ≡ slice_index frame at
+    → add ≡ bool_byte (byte == dot) → start + first_place (slice_range frame start end) ≡ at + add
+first_is frame start at end byte add lt same read is =
+    let first : slice_index (slice_range frame start end) 0 ≡ byte = first_byte frame start end lt ∙ ap (slice_index frame) (sym same) ∙ sym read in
+    let place : first_place (slice_range frame start end) ≡ add = ap (λ (k : ℕ). cond (k == dot) 1 0) first ∙ as_byte (byte == dot) ∙ sym is in
+    ap (λ (k : ℕ). start + k) place ∙ ap (λ (k : ℕ). k + add) (sym same)

@@ -1,0 +1,4 @@
+pub mod Digits
+pub mod Cells
+pub mod Claims
+pub mod Pass

@@ -1,0 +1,24 @@
+-- The changes that regions claim.
+use Rattle.std.specs.Prelude.{◌≡◌, ℕ, ◌<◌, ◌≤◌, List, length, slice_index_or, Option, Some, option_map}
+use Rattle.libhyphen_rule.specs.Found.{placed}
+use Rattle.libhyphen_rule.specs.OneLevel.{Claim, ChangeAt, Made}
+use Rattle.libhyphen_rule.specs.declared.cells.Cell.{Cell}
+use Rattle.libhyphen_rule.specs.declared.one_level.PlacedChange.{PlacedChange}
+
+-- The place of each region is a place of the frame, not before the region.
+abbrev pub AreWithin : List Cell → Type 0
+AreWithin cells =
+    (begin : ℕ) (d : Cell) → begin < length cells → (at : ℕ) → (slice_index_or cells begin d).place ≡ Some at
+    → (begin ≤ at) × (at < length cells)
+
+-- A change that is made, with its place.
+abbrev pub claim_made : ℕ × PlacedChange → Claim
+claim_made made = record { place = made.0; change = placed made.1 }
+
+-- The same, if one is made.
+abbrev pub claimed : Option (ℕ × PlacedChange) → Option Claim
+claimed made = option_map claim_made made
+
+-- The changes that are made so far, and the next beginning.
+abbrev pub made_now : ℕ → List (Option ChangeAt) → Made
+made_now next changes = record { next = next; changes = changes }
