@@ -1,13 +1,12 @@
 -- What the calls of libhyphen give for a word.
 -- Source: libhyphen 2.8.8, hyphen.h and hyphen.c.
-use Rattle.std.specs.Prelude.{ℕ, ℤ, pos, ◌+◌, ◌&&◌, int_le, int_lt, nat_lt, Bool, true, if◌then◌else◌, List, [], ◌∷◌, ◌++◌, length, map, take, drop, filter, is_none, Option, None, Some, slice_index}
+use Rattle.std.specs.Prelude.{ℕ, ℤ, pos, ◌+◌, ◌&&◌, int_le, int_lt, nat_lt, Bool, true, if◌then◌else◌, List, [], ◌∷◌, ◌++◌, length, map, take, drop, Option, None, Some, slice_index}
 use Rattle.std.specs.List.{range_with_len}
 use Rattle.hyphenation_breaks.specs.Ascii.{digit_zero}
 use Rattle.libhyphen_files.specs.Bytes.{before_nul, continues}
 use Rattle.libhyphen_files.specs.Files.{Rules}
 use Rattle.libhyphen_files.specs.Levels.{Level}
 use Rattle.libhyphen_files.specs.declared.minima.Minima.{Minima}
-use Rattle.libhyphen_rule.specs.Counting.{counted_in, framed}
 use Rattle.libhyphen_rule.specs.OneLevel.{ChangeAt, digits_given_by}
 use Rattle.libhyphen_rule.specs.Parts.{Found, PartMinima, word_found, without_left, without_right}
 use Rattle.libhyphen_rule.specs.Words.{changes_of_characters, digits_beside, digits_of_characters, written_word}

@@ -1,10 +1,10 @@
 //! The calls of libhyphen.
 
-ghost use Rattle.std.specs.Prelude.{◌≡◌, ◌≤◌, ◌++◌, ◌∷◌, [], IfOk, length, take, drop, slice_index, false};
+ghost use Rattle.std.specs.Prelude.{◌≡◌, ◌<◌, ◌≤◌, ◌++◌, ◌∷◌, [], IfOk, length, take, drop, slice_index, false};
 ghost use Rattle.std.specs.Option.{option_map};
 ghost use Rattle.libhyphen_rule.specs.Found.{placed_all, found_of, answer_view};
 ghost use Rattle.libhyphen_files.specs.Bytes.{before_nul, continues};
-ghost use Rattle.libhyphen_rule.specs.Calls.{answer_of, inner_digits, plain_digits, text_of_call, found_by_call, taken_digit, greater, least_of, at_least_two};
+ghost use Rattle.libhyphen_rule.specs.Calls.{answer_of, inner_digit, inner_digits, plain_digits, text_of_call, found_by_call, taken_digit, greater, least_of, at_least_two};
 ghost use Rattle.libhyphen_rule.specs.Parts.{without_left, without_right};
 ghost use Rattle.libhyphen_rule.specs.Words.{changes_of_characters, digits_beside};
 
@@ -318,6 +318,18 @@ pub fn write_word(
     written_word(alloc, &text[..size], &digits, &changes)
 }
 
+// Returns the digit behind a byte, but 0 if the byte is the first, the last or the last but one.
+fn inner_digit(digits: &[u8], byte: usize) -> u8
+    requires { byte < length digits.now }
+    ensures { result ≡ inner_digit digits.now byte }
+{
+    if 0 < byte && digits.len() - byte > 2 {
+        digits[byte]
+    } else {
+        b'0'
+    }
+}
+
 // Returns digits without those of the places behind the first byte, behind the last but one, and behind the last. The only error is
 // out of memory.
 fn inner_digits(alloc: Global, digits: &[u8]) -> Result<Vec<u8>, AllocError>
@@ -325,8 +337,7 @@ fn inner_digits(alloc: Global, digits: &[u8]) -> Result<Vec<u8>, AllocError>
 {
     let mut inner = Vec::with_capacity(alloc, digits.len())?;
     for byte in 0..digits.len() {
-        let is_inner = 0 < byte && digits.len() - byte > 2;
-        inner.push(if is_inner { digits[byte] } else { b'0' })?;
+        inner.push(inner_digit(digits, byte))?;
     }
     Ok(inner)
 }
