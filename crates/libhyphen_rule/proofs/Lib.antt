@@ -14,3 +14,6 @@ pub mod TakenCells
 pub mod Pass
 pub mod LongestStart
 pub mod PlacedChanges
+pub mod PlacesOfParts
+pub mod Partings
+pub mod WordsFound

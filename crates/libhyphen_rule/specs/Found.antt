@@ -1,10 +1,13 @@
 -- What is found in a word, as contracts see it.
 use Rattle.std.specs.Prelude.{List, map, Option, option_map}
 use Rattle.libhyphen_rule.specs.OneLevel.{ChangeAt}
-use Rattle.libhyphen_rule.specs.Parts.{Found}
+use Rattle.libhyphen_rule.specs.Parts.{Asked, Found, PartMinima, Texts}
 use Rattle.libhyphen_rule.specs.Calls.{Answer}
 use Rattle.libhyphen_rule.specs.declared.calls.CallAnswer.{CallAnswer}
 use Rattle.libhyphen_rule.specs.declared.found.WordFound.{WordFound}
+use Rattle.libhyphen_rule.specs.declared.parts.AskedText.{AskedText}
+use Rattle.libhyphen_rule.specs.declared.parts.BothLevels.{BothLevels}
+use Rattle.libhyphen_rule.specs.declared.parts.PartTexts.{PartTexts}
 use Rattle.libhyphen_rule.specs.declared.one_level.PlacedChange.{PlacedChange}
 
 -- A change at a place, with its text.
@@ -23,6 +26,21 @@ found_of found = record {
   made = found.made;
   parts = found.parts;
 }
+
+-- A word, or a part of one, that is asked.
+abbrev pub asked_in : AskedText → Asked
+asked_in asked = record {
+  text = asked.text.now;
+  behind = asked.behind.now;
+  at_left = asked.at_left;
+  at_right = asked.at_right;
+}
+
+abbrev pub minima_of : BothLevels → PartMinima
+minima_of levels = record { left = levels.left; right = levels.right }
+
+abbrev pub texts_of : PartTexts → Texts
+texts_of texts = record { text = texts.text.items; behind = texts.behind.items }
 
 -- What a call gives.
 abbrev pub answer_view : CallAnswer → Answer

@@ -1,6 +1,6 @@
 -- Compounds: a word is parted at the breaks of the level at the top, and each part is broken anew.
 -- Source: libhyphen 2.8.8, hyphen.c and README.compound.
-use Rattle.std.specs.Prelude.{ℕ, ℤ, ◌+◌, ◌-◌, ◌==◌, ◌&&◌, ◌||◌, nat_lt, zero, suc, Bool, true, if◌then◌else◌, List, [], ◌++◌, length, map, drop, take, filter, fold, replicate, Option, None, Some, is_some, position, slice_index, slice_index_or, slice_range, slice_set}
+use Rattle.std.specs.Prelude.{ℕ, ℤ, ◌+◌, ◌-◌, ◌==◌, ◌&&◌, ◌||◌, nat_le, nat_lt, zero, suc, Bool, true, if◌then◌else◌, List, [], ◌++◌, length, map, drop, take, filter, fold, replicate, Option, None, Some, is_some, position, slice_index, slice_index_or, slice_range, slice_set}
 use Rattle.std.specs.List.{list_any, range_with_len}
 use Rattle.std.specs.Option.{option_or}
 use Rattle.hyphenation_breaks.specs.Ascii.{digit_zero}
@@ -10,8 +10,8 @@ use Rattle.libhyphen_rule.specs.Counting.{shown}
 use Rattle.libhyphen_rule.specs.Minima.{changes_but, digits_but, is_equals, left_goes, right_goes}
 use Rattle.libhyphen_rule.specs.OneLevel.{ChangeAt, is_odd, level_changes, level_digits}
 
--- What is found in a text: for each byte the digit and the change of the place behind it, and whether a change was made, also one
--- that a minimum took away. `parts` is how many more parts of the word may be asked.
+-- What is found in a text: for each byte the digit and the change of the place behind it, and whether a change was
+-- made, also one that a minimum took away. `parts` is how many more parts of the word may be asked.
 pub record Found : Type 0 where
   pub digits : List ℕ
   pub changes : List (Option ChangeAt)
@@ -48,38 +48,58 @@ without_right utf8 least word text found = record found {
 }
 
 -- A text with what stands behind it, up to the first byte 0.
-abbrev pub with_behind : Asked → List ℕ
+unfoldable pub with_behind : Asked → List ℕ
 with_behind asked = before_nul (asked.text ++ asked.behind)
 
-abbrev pub without_left_of_part : Bool → PartMinima → Asked → Found → Found
+unfoldable pub without_left_of_part : Bool → PartMinima → Asked → Found → Found
 without_left_of_part utf8 minima asked found =
     if asked.at_left then found else without_left utf8 minima.left (with_behind asked) found
 
-abbrev pub without_right_of_part : Bool → PartMinima → Asked → Found → Found
+unfoldable pub without_right_of_part : Bool → PartMinima → Asked → Found → Found
 without_right_of_part utf8 minima asked found =
     if asked.at_right then found else without_right utf8 minima.right asked.text (with_behind asked) found
 
+-- ---- Places of another list.
+
+-- A byte is one of `count` bytes from `begin` on.
+abbrev pub is_within : ℕ → ℕ → ℕ → Bool
+is_within begin count byte = nat_le begin byte && nat_lt byte (begin + count)
+
+-- The digit of a byte, with those of a part at `count` bytes from `begin` on. Where the part has none, it is 0.
+abbrev pub digit_with : List ℕ → ℕ → ℕ → List ℕ → ℕ → ℕ
+digit_with digits begin count part byte =
+    if is_within begin count byte then slice_index_or part (byte - begin) digit_zero else slice_index digits byte
+
+unfoldable pub digits_with : List ℕ → ℕ → ℕ → List ℕ → List ℕ
+digits_with digits begin count part = map (digit_with digits begin count part) (range_with_len 0 (length digits))
+
+-- The change of a byte, with those of a part at `count` bytes from `begin` on. Where the part has none, it stays as it
+-- is.
+abbrev pub change_with : {X : Type 0} → List (Option X) → ℕ → ℕ → List (Option X) → ℕ → Option X
+change_with changes begin count part byte =
+    if is_within begin count byte
+    then option_or (slice_index_or part (byte - begin) None) (slice_index_or changes byte None)
+    else slice_index_or changes byte None
+
+unfoldable pub changes_with : {X : Type 0} → List (Option X) → ℕ → ℕ → List (Option X) → List (Option X)
+changes_with changes begin count part =
+    map (change_with changes begin count part) (range_with_len 0 (length changes))
+
 -- ---- A text without breaks of the level at the top.
 
--- The change at each place: the one of the second list, or else of the first.
-abbrev pub changes_over : List (Option ChangeAt) → List (Option ChangeAt) → List (Option ChangeAt)
-changes_over first second =
-    map (λ byte. option_or (slice_index_or second byte None) (slice_index_or first byte None))
-    (range_with_len 0 (length first))
-
--- The digits of the level below, and the changes of both levels.
-abbrev pub below_found : Rules → ℕ → Asked → List (Option ChangeAt) → Found
-below_found rules parts asked top_changes = record {
-  digits = level_digits rules.below asked.text;
-  changes = changes_over top_changes (level_changes rules.below asked.text);
-  made = some_change top_changes || some_change (level_changes rules.below asked.text);
+-- The digits of the level below, and the changes of both levels. At one byte that of the level below counts.
+unfoldable pub below_found : Rules → ℕ → List ℕ → List (Option ChangeAt) → Found
+below_found rules parts text top_changes = record {
+  digits = level_digits rules.below text;
+  changes = changes_with top_changes 0 (length text) (level_changes rules.below text);
+  made = some_change top_changes || some_change (level_changes rules.below text);
   parts = parts;
 }
 
-abbrev pub found_below : Rules → PartMinima → ℕ → Asked → List (Option ChangeAt) → Found
+unfoldable pub found_below : Rules → PartMinima → ℕ → Asked → List (Option ChangeAt) → Found
 found_below rules minima parts asked top_changes =
     without_right_of_part rules.utf8 minima asked
-    (without_left_of_part rules.utf8 minima asked (below_found rules parts asked top_changes))
+    (without_left_of_part rules.utf8 minima asked (below_found rules parts asked.text top_changes))
 
 -- ---- The parts of a text.
 
@@ -89,30 +109,37 @@ pub record Parting : Type 0 where
   pub begin : ℕ
   pub seen : List ℕ
 
--- The bytes behind which a part ends: those with an odd digit, and the last one.
-abbrev pub part_ends : List ℕ → List ℕ
-part_ends digits =
-    filter (λ byte. is_odd (slice_index digits byte) || byte + 1 == length digits) (range_with_len 0 (length digits))
+-- A part ends behind a byte: one with an odd digit, or the last one.
+abbrev pub ends_part : List ℕ → ℕ → Bool
+ends_part digits byte = is_odd (slice_index digits byte) || byte + 1 == length digits
 
--- The text and what stands behind it, where a part ends at a change. What the change's text has before the equals sign takes the
--- place of the part's last bytes. A text without an equals sign takes their place and goes on behind the part.
-abbrev pub changed_part : List ℕ → ℕ → ℕ → ChangeAt → Option ℕ → List ℕ × List ℕ
-changed_part seen begin end change (Some equals) =
-    (slice_range (take (end - change.pos) seen ++ change.text) begin (end - change.pos + equals), [])
-changed_part seen begin end change None = (
-  slice_range (take (end - change.pos) seen ++ change.text ++ replicate end 0) begin end,
-  drop end (take (end - change.pos) seen ++ change.text ++ replicate end 0),
-)
+-- The bytes of a part's text, and of what stands behind it.
+pub record Texts : Type 0 where
+  pub text : List ℕ
+  pub behind : List ℕ
+
+-- The text and what stands behind it, where a part ends at a change. What the change's text has before the equals sign
+-- takes the place of the part's last bytes. A text without an equals sign takes their place and goes on behind the
+-- part.
+abbrev pub changed_part : List ℕ → ℕ → ℕ → ChangeAt → Option ℕ → Texts
+changed_part seen begin end change (Some equals) = record {
+  text = drop begin (take (end - change.pos) seen ++ take equals change.text);
+  behind = [];
+}
+changed_part seen begin end change None = record {
+  text = slice_range (take (end - change.pos) seen ++ change.text ++ replicate end 0) begin end;
+  behind = drop end (take (end - change.pos) seen ++ change.text ++ replicate end 0);
+}
 
 -- A part's text from its begin to its end, and what stands behind it.
-abbrev pub part_text : List ℕ → ℕ → ℕ → Option ChangeAt → List ℕ × List ℕ
-part_text seen begin end None = (slice_range seen begin end, [])
+unfoldable pub part_text : List ℕ → ℕ → ℕ → Option ChangeAt → Texts
+part_text seen begin end None = record { text = slice_range seen begin end; behind = [] }
 part_text seen begin end (Some change) = changed_part seen begin end change (position is_equals change.text)
 
-abbrev pub asked_of : Asked → ℕ → ℕ → List ℕ × List ℕ → Asked
+abbrev pub asked_of : Asked → ℕ → ℕ → Texts → Asked
 asked_of whole begin end texts = record {
-  text = texts.0;
-  behind = texts.1;
+  text = texts.text;
+  behind = texts.behind;
   at_left = whole.at_left && begin == 0;
   at_right = whole.at_right && end == length whole.text;
 }
@@ -121,69 +148,58 @@ asked_of whole begin end texts = record {
 abbrev pub Asking : Type 0
 Asking = ℕ → Asked → Option Found
 
--- A list with another one from a place on, as far as that reaches.
-abbrev pub digits_over : List ℕ → ℕ → List ℕ → List ℕ
-digits_over digits begin part = take begin digits ++ part ++ drop (begin + length part) digits
-
--- The digits of a part's first places, all but the last two. A place that it lacks has the digit 0.
-abbrev pub first_digits : List ℕ → ℕ → List ℕ
-first_digits digits count = map (λ byte. slice_index_or digits byte digit_zero) (range_with_len 0 count)
-
--- The changes of the whole with those of a part's first places.
-abbrev pub changes_with_part : List (Option ChangeAt) → ℕ → List (Option ChangeAt) → List (Option ChangeAt)
-changes_with_part changes begin part =
-    take begin changes ++ changes_over (slice_range changes begin (begin + length part)) part
-    ++ drop (begin + length part) changes
-
--- What is found in the whole, with what is found in a part that has this many places that count: all but its last two.
-abbrev pub with_part : Found → ℕ → ℕ → Option Found → Found
+-- What is found in the whole, with what is found in a part that begins at `begin` and has this many places that count:
+-- all but its last two.
+unfoldable pub with_part : Found → ℕ → ℕ → Option Found → Found
 with_part whole begin count None = whole
 with_part whole begin count (Some part) = record {
-  digits = digits_over whole.digits begin (first_digits part.digits count);
-  changes = changes_with_part whole.changes begin (take count part.changes);
+  digits = digits_with whole.digits begin count part.digits;
+  changes = changes_with whole.changes begin count part.changes;
   made = whole.made || some_change (take count part.changes);
   parts = part.parts;
 }
 
 -- The text as later parts see it. Behind a part the next byte is seen as it is; once a change was there, all bytes are.
-abbrev pub seen_after : Asked → List ℕ → ℕ → Option ChangeAt → List ℕ
+unfoldable pub seen_after : Asked → List ℕ → ℕ → Option ChangeAt → List ℕ
 seen_after whole seen end None = slice_set seen end (slice_index whole.text end)
 seen_after whole seen end (Some change) =
     take (length whole.text) (with_behind whole ++ replicate (length whole.text) 0)
 
 -- One part is asked, if it has 3 bytes or more.
 abbrev pub part_asked : Asking → Asked → Parting → ℕ → Option ChangeAt → Parting
-part_asked ask whole parting end change = record {
-  found = with_part parting.found parting.begin (end - parting.begin - 2)
-      (ask parting.found.parts (asked_of whole parting.begin end (part_text parting.seen parting.begin end change)));
-  begin = end;
-  seen = seen_after whole parting.seen end change;
+part_asked ask whole parting byte change = record {
+  found = with_part parting.found parting.begin (byte - parting.begin - 1)
+      (ask parting.found.parts
+      (asked_of whole parting.begin (byte + 1) (part_text parting.seen parting.begin (byte + 1) change)));
+  begin = byte + 1;
+  seen = seen_after whole parting.seen (byte + 1) change;
 }
 
-abbrev pub with_part_to : Asking → Asked → Parting → ℕ → Parting
+unfoldable pub with_part_to : Asking → Asked → Parting → ℕ → Parting
 with_part_to ask whole parting byte =
     if nat_lt (parting.begin + 1) byte
-    then part_asked ask whole parting (byte + 1) (slice_index_or parting.found.changes byte None)
+    then part_asked ask whole parting byte (slice_index_or parting.found.changes byte None)
     else record parting { begin = byte + 1 }
 
-abbrev pub found_in_parts : Asking → Asked → Found → Found
-found_in_parts ask whole found =
-    (fold (with_part_to ask whole) (record { found = found; begin = 0; seen = map shown whole.text })
-    (part_ends found.digits)).found
+-- The parts that end behind the first bytes are asked one after the other.
+unfoldable pub parted_up_to : Asking → Asked → Found → ℕ → Parting
+parted_up_to ask whole found bytes =
+    fold (with_part_to ask whole) (record { found = found; begin = 0; seen = map shown whole.text })
+    (filter (ends_part found.digits) (range_with_len 0 bytes))
 
 -- ---- The whole.
 
-abbrev pub top_found : Rules → ℕ → Asked → Found
-top_found rules parts asked = record {
-  digits = level_digits rules.top asked.text;
-  changes = level_changes rules.top asked.text;
-  made = some_change (level_changes rules.top asked.text);
+unfoldable pub top_found : Rules → ℕ → List ℕ → Found
+top_found rules parts text = record {
+  digits = level_digits rules.top text;
+  changes = level_changes rules.top text;
+  made = some_change (level_changes rules.top text);
   parts = parts;
 }
 
 abbrev pub found_by_top : Rules → PartMinima → Asking → ℕ → Asked → Found → Found
 found_by_top rules minima ask parts asked found =
-    if list_any is_odd found.digits then found_in_parts ask asked found
+    if list_any is_odd found.digits then (parted_up_to ask asked found (length asked.text)).found
     else found_below rules minima parts asked found.changes
 
 -- No part is asked.
@@ -198,12 +214,12 @@ ask_by find (suc parts) asked = Some (find parts asked)
 -- What is found in a text by both levels. Parts are parted again, up to a depth.
 unfoldable pub found_in : Rules → PartMinima → ℕ → ℕ → Asked → Found
 found_in rules minima zero parts asked =
-    found_by_top rules minima ask_none parts asked (top_found rules parts asked)
+    found_by_top rules minima ask_none parts asked (top_found rules parts asked.text)
 found_in rules minima (suc depth) parts asked =
-    found_by_top rules minima (ask_by (found_in rules minima depth)) parts asked (top_found rules parts asked)
+    found_by_top rules minima (ask_by (found_in rules minima depth)) parts asked (top_found rules parts asked.text)
 
--- A word is parted again and again 1,000 times at most, and no more parts are asked than it has bytes. Only changes at the top
--- that make parts longer, or words longer than that, need more.
+-- A word is parted again and again 1,000 times at most, and no more parts are asked than it has bytes. Only changes at
+-- the top that make parts longer, or words longer than that, need more.
 abbrev pub most_depth : ℕ
 most_depth = 1000
 
