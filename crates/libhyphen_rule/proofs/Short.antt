@@ -1,5 +1,5 @@
 -- Places that have too few letters on one side, and places that have enough.
-use Rattle.std.proofs.Common.{◌≡◌, ℕ, ◌+◌, ◌-◌, ◌<◌, ◌≤◌, Bool, true, false, List, length, take, drop, get_or, Option, Some, None, ℤ, pos, ◌+ℤ◌, sym, ap, ◌∙◌, arith}
+use Rattle.std.proofs.Common.{◌≡◌, ℕ, ◌+◌, ◌-◌, ◌<◌, ◌≤◌, Bool, true, false, List, length, drop, get_or, Option, Some, None, ℤ, pos, ◌+ℤ◌, sym, ap, ◌∙◌, arith}
 use Rattle.std.specs.Prelude.{int_lt, option_map, ◌&&◌}
 use Rattle.std.specs.List.{before_first, after_first}
 use Rattle.std.proofs.lemmas.Bool.{and_from, and_left, and_right, lt-ltb, le-ltb}
@@ -8,7 +8,7 @@ use Rattle.std.proofs.lemmas.List.{get_or-map}
 use Rattle.libhyphen_rule.specs.declared.one_level.PlacedChange.{PlacedChange}
 use Rattle.libhyphen_rule.specs.Found.{placed, placed_all}
 use Rattle.libhyphen_rule.specs.OneLevel.{ChangeAt}
-use Rattle.libhyphen_rule.specs.Letters.{letters, letters_in_first, characters_from, digits_at_begin, digits_at_end}
+use Rattle.libhyphen_rule.specs.Letters.{letters, letters_in_first, letters_in_hundred, characters_from, digits_at_begin, digits_at_end}
 use Rattle.libhyphen_rule.specs.Minima.{has_equals, is_equals, is_below, is_short_before, is_short_after, goes_before, goes_after}
 use Rattle.libhyphen_rule.proofs.LetterCounts.{letters_rise, characters_fall}
 
@@ -46,11 +46,11 @@ goes_left_none utf8 least text byte item is short = ap (goes_before utf8 least t
 
 pub goes_left_some : (utf8 : Bool) (least : ℤ) (text : List ℕ) (byte : ℕ) (item : Option ChangeAt) (change : ChangeAt) (result : Bool) → item ≡ Some change
     → is_short_before utf8 least text byte ≡ true
-    → result ≡ (has_equals change.text && is_below (letters utf8 (take (byte + 1 - change.pos) text) + letters utf8 (before_first is_equals change.text)) least)
+    → result ≡ (has_equals change.text && is_below (letters_in_first utf8 text (byte + 1 - change.pos) + letters utf8 (before_first is_equals change.text)) least)
     → goes_before utf8 least text byte item ≡ result
 goes_left_some utf8 least text byte item change result is short value =
     ap (goes_before utf8 least text byte) is
-    ∙ ap (λ b. b && has_equals change.text && is_below (letters utf8 (take (byte + 1 - change.pos) text) + letters utf8 (before_first is_equals change.text)) least) short
+    ∙ ap (λ b. b && has_equals change.text && is_below (letters_in_first utf8 text (byte + 1 - change.pos) + letters utf8 (before_first is_equals change.text)) least) short
     ∙ sym value
 
 -- A place with too few characters behind it.
@@ -79,10 +79,10 @@ goes_right_none utf8 least word text byte item is short = ap (goes_after utf8 le
 
 pub goes_right_some : (utf8 : Bool) (least : ℤ) (word text : List ℕ) (byte end : ℕ) (item : Option ChangeAt) (change : ChangeAt) (result : Bool) → byte + 1 ≡ end
     → item ≡ Some change → is_short_after utf8 least word byte ≡ true
-    → result ≡ (has_equals change.text && is_below (letters utf8 (take 100 (drop (end - change.pos + change.cut) text)) + letters utf8 (after_first is_equals change.text)) least)
+    → result ≡ (has_equals change.text && is_below (letters_in_hundred utf8 (drop (end - change.pos + change.cut) text) + letters utf8 (after_first is_equals change.text)) least)
     → goes_after utf8 least word text byte item ≡ result
 goes_right_some utf8 least word text byte end item change result next is short value =
     ap (goes_after utf8 least word text byte) is
-    ∙ ap (λ b. b && has_equals change.text && is_below (letters utf8 (take 100 (drop (byte + 1 - change.pos + change.cut) text)) + letters utf8 (after_first is_equals change.text)) least) short
-    ∙ ap (λ (n : ℕ). has_equals change.text && is_below (letters utf8 (take 100 (drop (n - change.pos + change.cut) text)) + letters utf8 (after_first is_equals change.text)) least) next
+    ∙ ap (λ b. b && has_equals change.text && is_below (letters_in_hundred utf8 (drop (byte + 1 - change.pos + change.cut) text) + letters utf8 (after_first is_equals change.text)) least) short
+    ∙ ap (λ (n : ℕ). has_equals change.text && is_below (letters_in_hundred utf8 (drop (n - change.pos + change.cut) text) + letters utf8 (after_first is_equals change.text)) least) next
     ∙ sym value

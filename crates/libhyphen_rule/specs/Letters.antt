@@ -1,6 +1,6 @@
 -- Letters of a word, as minima count them.
 -- Source: libhyphen 2.8.8, hyphen.c.
-use Rattle.std.specs.Prelude.{ℕ, ◌-◌, ◌==◌, ◌&&◌, ◌||◌, not, Bool, if◌then◌else◌, List, [], ◌∷◌, length, drop, slice_index}
+use Rattle.std.specs.Prelude.{ℕ, ◌-◌, ◌==◌, ◌&&◌, ◌||◌, not, Bool, if◌then◌else◌, List, [], ◌∷◌, length, drop, min, slice_index}
 use Rattle.std.specs.List.{prefix_len, range_with_len, suffix_len, sum_by}
 use Rattle.std.specs.Char.{is_ascii_digit}
 use Rattle.libhyphen_files.specs.Bytes.{begins_with, continues}
@@ -23,6 +23,10 @@ letters_at utf8 text at =
 -- The number of letters that the first bytes of a text begin.
 unfoldable pub letters_in_first : Bool → List ℕ → ℕ → ℕ
 letters_in_first utf8 text bytes = sum_by (letters_at utf8 text) (range_with_len 0 bytes)
+
+-- The number of letters that the first 100 bytes of a text begin, or all bytes of a shorter one.
+abbrev pub letters_in_hundred : Bool → List ℕ → ℕ
+letters_in_hundred utf8 text = letters_in_first utf8 text (min 100 (length text))
 
 -- The number of letters of a text.
 abbrev pub letters : Bool → List ℕ → ℕ

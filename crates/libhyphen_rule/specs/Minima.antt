@@ -1,9 +1,9 @@
 -- Minima: places that have too few letters on one side.
 -- Source: libhyphen 2.8.8, hyphen.c.
-use Rattle.std.specs.Prelude.{ℕ, ℤ, pos, ◌+◌, ◌-◌, ◌==◌, ◌&&◌, ◌+ℤ◌, int_lt, nat_lt, Bool, if◌then◌else◌, List, length, map, drop, take, Option, None, Some, slice_index, slice_index_or}
+use Rattle.std.specs.Prelude.{ℕ, ℤ, pos, ◌+◌, ◌-◌, ◌==◌, ◌&&◌, ◌+ℤ◌, int_lt, nat_lt, Bool, if◌then◌else◌, List, length, map, drop, Option, None, Some, slice_index, slice_index_or}
 use Rattle.std.specs.List.{after_first, before_first, list_any, range_with_len}
 use Rattle.hyphenation_breaks.specs.Ascii.{digit_zero, equals_sign}
-use Rattle.libhyphen_rule.specs.Letters.{characters_from, digits_at_begin, digits_at_end, letters, letters_in_first}
+use Rattle.libhyphen_rule.specs.Letters.{characters_from, digits_at_begin, digits_at_end, letters, letters_in_first, letters_in_hundred}
 use Rattle.libhyphen_rule.specs.OneLevel.{ChangeAt}
 
 -- A text has an equals sign; what stands before the first one, and what after it.
@@ -38,14 +38,14 @@ goes_before utf8 least text byte None = is_short_before utf8 least text byte
 goes_before utf8 least text byte (Some change) =
     is_short_before utf8 least text byte && has_equals change.text
     && is_below
-    (letters utf8 (take (byte + 1 - change.pos) text) + letters utf8 (before_first is_equals change.text)) least
+    (letters_in_first utf8 text (byte + 1 - change.pos) + letters utf8 (before_first is_equals change.text)) least
 
 abbrev pub goes_after : Bool → ℤ → List ℕ → List ℕ → ℕ → Option ChangeAt → Bool
 goes_after utf8 least word text byte None = is_short_after utf8 least word byte
 goes_after utf8 least word text byte (Some change) =
     is_short_after utf8 least word byte && has_equals change.text
     && is_below
-    (letters utf8 (take 100 (drop (byte + 1 - change.pos + change.cut) text))
+    (letters_in_hundred utf8 (drop (byte + 1 - change.pos + change.cut) text)
     + letters utf8 (after_first is_equals change.text)) least
 
 -- Digits without those of the bytes that a test names: they are 0 then.

@@ -1,10 +1,10 @@
 //! Letters of a word, as minima count them.
 
-ghost use Rattle.std.specs.Prelude.{◌≡◌, ◌<◌, ◌&&◌, ◌||◌, not, if◌then◌else◌, [], ◌∷◌, length};
+ghost use Rattle.std.specs.Prelude.{◌≡◌, ◌≤◌, ◌<◌, ◌&&◌, ◌||◌, not, if◌then◌else◌, [], ◌∷◌, length};
 ghost use Rattle.std.specs.List.{suffix_len};
 ghost use Rattle.std.specs.Char.{is_ascii_digit};
 ghost use Rattle.libhyphen_files.specs.Bytes.{begins_with, continues};
-ghost use Rattle.libhyphen_rule.specs.Letters.{digits_at_begin, digits_at_end, letters, letters_at};
+ghost use Rattle.libhyphen_rule.specs.Letters.{digits_at_begin, digits_at_end, letters, letters_in_first, letters_in_hundred, letters_at};
 
 // Returns whether a byte continues a character of UTF-8.
 fn continues(byte: u8) -> bool
@@ -44,15 +44,30 @@ pub(crate) fn letters_at(utf8: bool, text: &[u8], at: usize) -> usize
     }
 }
 
+// Returns the number of letters that the first bytes of a text begin.
+pub(crate) fn letters_in_first(utf8: bool, text: &[u8], bytes: usize) -> usize
+    requires { bytes ≤ length text.now }
+    ensures { result ≡ letters_in_first utf8 text.now bytes }
+{
+    let mut count = 0;
+    for at in 0..bytes {
+        count += letters_at(utf8, text, at);
+    }
+    count
+}
+
+// Returns the number of letters that the first 100 bytes of a text begin, or all bytes of a shorter one.
+pub(crate) fn letters_in_hundred(utf8: bool, text: &[u8]) -> usize
+    ensures { result ≡ letters_in_hundred utf8 text.now }
+{
+    letters_in_first(utf8, text, text.len().min(100))
+}
+
 // Returns the number of letters of a text.
 pub(crate) fn letters(utf8: bool, text: &[u8]) -> usize
     ensures { result ≡ letters utf8 text.now }
 {
-    let mut count = 0;
-    for at in 0..text.len() {
-        count += letters_at(utf8, text, at);
-    }
-    count
+    letters_in_first(utf8, text, text.len())
 }
 
 // Returns the number of digits with which a text begins.

@@ -4,18 +4,18 @@ ghost use Rattle.std.specs.Prelude.{◌≡◌, ◌+ℤ◌, ◌<◌, ◌≤◌, �
 ghost use Rattle.std.specs.List.{after_first, before_first, position};
 ghost use Rattle.hyphenation_breaks.specs.Ascii.{digit_zero};
 ghost use Rattle.libhyphen_rule.specs.Found.{placed_all};
-ghost use Rattle.libhyphen_rule.specs.Letters.{letters};
+ghost use Rattle.libhyphen_rule.specs.Letters.{letters, letters_in_first, letters_in_hundred};
 ghost use Rattle.libhyphen_rule.specs.Minima.{digits_but, changes_but, left_goes, right_goes};
 ghost use Rattle.libhyphen_rule.specs.Minima.{has_equals, is_below, is_equals};
 
-use crate::letters::{characters_at, digits_at_begin, digits_at_end, letters, letters_at};
+use crate::letters::{characters_at, digits_at_begin, digits_at_end, letters, letters_at, letters_in_first, letters_in_hundred};
 use crate::one_level::PlacedChange;
 
-// Returns whether the letters of two texts are fewer than a minimum.
-fn is_below(utf8: bool, least: i32, before: &[u8], after: &[u8]) -> bool
-    ensures { result ≡ is_below (letters utf8 before.now + letters utf8 after.now) least }
+// Returns whether some letters and those of a text are fewer than a minimum.
+fn is_below(utf8: bool, least: i32, count: usize, text: &[u8]) -> bool
+    ensures { result ≡ is_below (count + letters utf8 text.now) least }
 {
-    (letters(utf8, before) as i128) + (letters(utf8, after) as i128) < (least as i128)
+    (count as i128) + (letters(utf8, text) as i128) < (least as i128)
 }
 
 // Returns whether letters are fewer than a minimum and some digits, which are no letters.
@@ -32,18 +32,14 @@ fn find_equals(text: &[u8]) -> Option<usize>
     text.iter().position(|b| *b == b'=')
 }
 
-// Returns the bytes of a text from an index on, 100 at most. Behind the text there are none.
-fn hundred_from(text: &[u8], from: usize) -> &[u8]
-    ensures { result.now ≡ take 100 (drop from text.now) }
+// Returns the bytes of a text from an index on. Behind the text there are none.
+fn text_from(text: &[u8], from: usize) -> &[u8]
+    ensures { result.now ≡ drop from text.now }
 {
     if from >= text.len() {
         return &[];
     }
-    if text.len() - from > 100 {
-        &text[from..from + 100]
-    } else {
-        &text[from..]
-    }
+    &text[from..]
 }
 
 // Returns whether a change has too few letters before its break: those of the word before the change's region, and
@@ -58,13 +54,14 @@ fn is_short_before(
 ) -> bool
     requires { end ≤ length text.now }
     ensures { result ≡ (has_equals change.now.text.now
-        && is_below (letters utf8 (take (end - change.now.pos) text.now)
+        && is_below (letters_in_first utf8 text.now (end - change.now.pos)
         + letters utf8 (before_first is_equals change.now.text.now)) least) }
 {
     match find_equals(change.text) {
         Some(equals) => {
             let region = end.saturating_sub(change.pos);
-            is_below(utf8, least, &text[..region], &change.text[..equals])
+            let count = letters_in_first(utf8, text, region);
+            is_below(utf8, least, count, &change.text[..equals])
         }
         None => false,
     }
@@ -81,18 +78,14 @@ fn is_short_after(
     change: &PlacedChange<'_>,
 ) -> bool
     ensures { result ≡ (has_equals change.now.text.now
-        && is_below (letters utf8 (take 100 (drop (end - change.now.pos + change.now.cut) text.now))
+        && is_below (letters_in_hundred utf8 (drop (end - change.now.pos + change.now.cut) text.now)
         + letters utf8 (after_first is_equals change.now.text.now)) least) }
 {
     match find_equals(change.text) {
         Some(equals) => {
             let region = end.saturating_sub(change.pos).saturating_add(change.cut);
-            is_below(
-                utf8,
-                least,
-                hundred_from(text, region),
-                &change.text[equals + 1..],
-            )
+            let count = letters_in_hundred(utf8, text_from(text, region));
+            is_below(utf8, least, count, &change.text[equals + 1..])
         }
         None => false,
     }

@@ -2,7 +2,7 @@ use Rattle.std.proofs.Common.{◌≡◌, ℕ, ◌+◌, ◌-◌, take, Some, None
 use mir.Syntax.{w32}
 use Rattle.std.proofs.lemmas.Int.{to_z-of_z}
 use Rattle.std.specs.List.{before_first, position}
-use Rattle.libhyphen_rule.specs.Letters.{letters}
+use Rattle.libhyphen_rule.specs.Letters.{letters, letters_in_first}
 use Rattle.libhyphen_rule.specs.Minima.{has_equals, is_below, is_equals}
 use Rattle.libhyphen_rule.proofs.Equals.{FirstEquals, some_equals, none_equals, and_none, and_same}
 use Rattle.libhyphen_rule.proofs.minima.is_short_before.Goals as goal
@@ -16,10 +16,10 @@ returns-in-Some c =
     let region : c.saturating_sub-region.result ≡ c.args.end - c.args.change.now.pos = omega (arith, c.saturating_sub-region.ensures) in
     and_same c.is_below.result (has_equals text) _ f.has
     (c.is_below.ensures
-    ∙ ap (is_below (letters c.args.utf8 (take c.saturating_sub-region.result c.args.text.now) + letters c.args.utf8 (take c.in-Some.equals text)))
-    (to_z-of_z w32 c.args.least c.ranges.least)
-    ∙ ap (λ (n : ℕ). is_below (letters c.args.utf8 (take n c.args.text.now) + letters c.args.utf8 (take c.in-Some.equals text)) c.args.least) region
-    ∙ ap (λ xs. is_below (letters c.args.utf8 (take (c.args.end - c.args.change.now.pos) c.args.text.now) + letters c.args.utf8 xs) c.args.least) own)
+    ∙ ap (is_below (c.letters_in_first-count.result + letters c.args.utf8 (take c.in-Some.equals text))) (to_z-of_z w32 c.args.least c.ranges.least)
+    ∙ ap (λ (n : ℕ). is_below (n + letters c.args.utf8 (take c.in-Some.equals text)) c.args.least) c.letters_in_first-count.ensures
+    ∙ ap (λ (n : ℕ). is_below (letters_in_first c.args.utf8 c.args.text.now n + letters c.args.utf8 (take c.in-Some.equals text)) c.args.least) region
+    ∙ ap (λ xs. is_below (letters_in_first c.args.utf8 c.args.text.now (c.args.end - c.args.change.now.pos) + letters c.args.utf8 xs) c.args.least) own)
 
 pub returns-in-None : goal.returns-in-None
 returns-in-None c =

@@ -1,6 +1,6 @@
 use mir.Syntax.{w32}
 use mir.Val.{to_z, of_z}
-use Rattle.std.proofs.Common.{◌≡◌, ◌<◌, ◌≤◌, ◌+◌, ◌-◌, take, None, length, get_or, pos, ℕ, ◌+ℤ◌, true, false, sym, ap, ◌∙◌, subst, arith, rules}
+use Rattle.std.proofs.Common.{◌≡◌, ◌<◌, ◌≤◌, ◌+◌, ◌-◌, None, length, get_or, pos, ℕ, ◌+ℤ◌, true, false, sym, ap, ◌∙◌, subst, arith, rules}
 use Rattle.std.specs.Prelude.{int_lt, option_map, ◌&&◌}
 use Rattle.std.specs.List.{before_first}
 use Rattle.std.proofs.lemmas.List.{length-map}
@@ -46,7 +46,7 @@ loop-byte-preserved c =
     sym (changes.behind byte (omega arith)) ∙ change_read c.loop-byte.changes byte (omega arith) in
     let goes : test byte ≡ c.match-changes-byte.goes = elim c.match-changes-byte.branch [
       | in-Some w ↦ goes_left_some c.args.utf8 c.args.least c.args.text.now byte _ (placed w.in-Some.change) w.is_short_before-goes.result (item ∙ ap (option_map placed) w.in-Some.is) short
-          (w.is_short_before-goes.ensures ∙ ap (λ l. has_equals w.in-Some.change.text.now && is_below (letters c.args.utf8 (take (byte + 1 - w.in-Some.change.pos) c.args.text.now) + letters c.args.utf8 (before_first is_equals w.in-Some.change.text.now)) l) least)
+          (w.is_short_before-goes.ensures ∙ ap (λ l. has_equals w.in-Some.change.text.now && is_below (letters_in_first c.args.utf8 c.args.text.now (byte + 1 - w.in-Some.change.pos) + letters c.args.utf8 (before_first is_equals w.in-Some.change.text.now)) l) least)
           ∙ sym w.goes-is
       | in-None w ↦ goes_left_none c.args.utf8 c.args.least c.args.text.now byte _ (item ∙ ap (option_map placed) w.in-None.is) short ∙ sym w.goes-is
     ] in

@@ -1,12 +1,12 @@
 use mir.Syntax.{w32}
 use mir.Val.{to_z, of_z}
-use Rattle.std.proofs.Common.{◌≡◌, ◌<◌, ◌≤◌, ◌+◌, ◌-◌, take, drop, None, length, get_or, pos, ℕ, ◌+ℤ◌, true, false, sym, ap, ◌∙◌, subst, arith, rules}
+use Rattle.std.proofs.Common.{◌≡◌, ◌<◌, ◌≤◌, ◌+◌, ◌-◌, drop, None, length, get_or, pos, ℕ, ◌+ℤ◌, true, false, sym, ap, ◌∙◌, subst, arith, rules}
 use Rattle.std.specs.Prelude.{int_lt, option_map, ◌&&◌}
 use Rattle.std.specs.List.{after_first}
 use Rattle.std.proofs.lemmas.List.{length-map}
 use Rattle.std.proofs.lemmas.Int.{to_z-of_z}
 use Rattle.libhyphen_rule.specs.Found.{placed, placed_all}
-use Rattle.libhyphen_rule.specs.Letters.{letters, characters_from, digits_at_end}
+use Rattle.libhyphen_rule.specs.Letters.{letters, letters_in_hundred, characters_from, digits_at_end}
 use Rattle.libhyphen_rule.specs.Minima.{right_goes, is_short_after, has_equals, is_below, is_equals}
 use Rattle.libhyphen_rule.proofs.LetterCounts.{character_at, character_at_most_one, characters_from_end, characters_more}
 use Rattle.libhyphen_rule.proofs.Short.{change_read, is_short_right, is_enough_right, is_first_right, stays_right, goes_right_none, goes_right_some}
@@ -58,7 +58,7 @@ loop-end-preserved c =
       | in-Some w ↦ goes_right_some c.args.utf8 c.args.least c.args.word.now c.args.text.now byte c.loop-end.end _ (placed w.in-Some.change) w.is_short_after-goes.result next
           (item ∙ ap (option_map placed) w.in-Some.is) short
           (w.is_short_after-goes.ensures
-          ∙ ap (λ l. has_equals w.in-Some.change.text.now && is_below (letters c.args.utf8 (take 100 (drop (c.loop-end.end - w.in-Some.change.pos + w.in-Some.change.cut) c.args.text.now)) + letters c.args.utf8 (after_first is_equals w.in-Some.change.text.now)) l) least)
+          ∙ ap (λ l. has_equals w.in-Some.change.text.now && is_below (letters_in_hundred c.args.utf8 (drop (c.loop-end.end - w.in-Some.change.pos + w.in-Some.change.cut) c.args.text.now) + letters c.args.utf8 (after_first is_equals w.in-Some.change.text.now)) l) least)
           ∙ sym w.goes-is
       | in-None w ↦ goes_right_none c.args.utf8 c.args.least c.args.word.now c.args.text.now byte _ (item ∙ ap (option_map placed) w.in-None.is) short ∙ sym w.goes-is
     ] in

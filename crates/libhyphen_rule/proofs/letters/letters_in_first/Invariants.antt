@@ -1,6 +1,6 @@
 use Rattle.std.proofs.Common.{◌≡◌, ◌≤◌, ◌*◌}
 use Rattle.libhyphen_rule.specs.Letters.{letters_in_first}
-use Rattle.libhyphen_rule.proofs.letters.letters.Given as goal
+use Rattle.libhyphen_rule.proofs.letters.letters_in_first.Given as goal
 
 abbrev pub invariant-loop-at : goal.invariant-loop-at
 invariant-loop-at l = record {

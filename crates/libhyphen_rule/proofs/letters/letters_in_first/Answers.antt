@@ -1,6 +1,6 @@
 use Rattle.std.proofs.Common.{sym, arith}
 use Rattle.libhyphen_rule.proofs.LetterCounts.{letters_in_none, letters_more, letters_at_most_two}
-use Rattle.libhyphen_rule.proofs.letters.letters.Goals as goal
+use Rattle.libhyphen_rule.proofs.letters.letters_in_first.Goals as goal
 
 pub loop-at-init : goal.loop-at-init
 loop-at-init c = record { count = sym (letters_in_none c.args.utf8 c.args.text.now); few = omega arith }
