@@ -14,6 +14,8 @@ from programs import program, prove  # noqa: E402
 # No word that is compared has it: words have only letters.
 MARK = "="
 LEAST_LETTERS = 4
+# How many words of each list are compared.
+WORDS = 5000
 
 # Charsets that Python has under another name.
 CODECS = {"microsoft-cp1251": "cp1251"}
@@ -128,7 +130,7 @@ def marked_at(word, places):
     return MARK.join(pieces)
 
 
-def compare(theirs, dic, list_path, kind="standard", number=5000):
+def compare(theirs, dic, list_path, kind="standard", number=WORDS):
     """Compares the breaks of words. `theirs(dic, kind, words, left, right)` returns the words with the other's breaks marked."""
     words = chosen_words(list_path, charset_of(dic), number)
     ours, left, right = our_breaks(dic, kind, words)
@@ -143,7 +145,7 @@ def parser_of(name, text):
     parser = argparse.ArgumentParser(prog=f"tests/{name}", description=text, formatter_class=raw)
     parser.add_argument("files", nargs="*", metavar="FILE", help="DIC WORDS DIC WORDS ..: each .dic with a list of words")
     parser.add_argument("--kind", choices=["standard", "extended"], default="standard", help="the kind of dictionary")
-    parser.add_argument("--words", type=int, default=5000, metavar="N", help="how many words of each list (5000)")
+    parser.add_argument("--words", type=int, default=WORDS, metavar="N", help=f"how many words of each list ({WORDS})")
     parser.add_argument("--show", type=int, default=0, metavar="N", help="how many of the differing words to show (0)")
     return parser
 

@@ -1,9 +1,10 @@
 //! Hyphenation for C, and for languages that call C: `bindings/c/hyphenation.h` declares and explains the calls.
 //!
-//! Each export calls a function of the crate [`c_calls`], which says more of it, and has the same clauses.
+//! Each export calls a function of the crate [`c_calls`] or, for a `.dic` with the answers of libhyphen, of the crate
+//! [`level_calls`], which says more of it, and has the same clauses.
 #![tactic(auto)]
 
-ghost use Rattle.std.specs.Prelude.{◌≡◌, None};
+ghost use Rattle.std.specs.Prelude.{◌≡◌, ◌<◌, None, length};
 ghost use Rattle.c_calls.specs.Dictionaries.{holds};
 ghost use Rattle.c_calls.specs.Lists.{WritesLists};
 ghost use Rattle.c_calls.specs.Patterns.{LoadsDic};
@@ -11,9 +12,16 @@ ghost use Rattle.c_calls.specs.Statuses.{kind_numbered, Loads, Shares, Edits, Ma
 ghost use Rattle.c_calls.specs.Statuses.{WritesBreaks, WritesValues, Changes, into, loading};
 ghost use Rattle.c_calls.specs.Statuses.{WritesMarkedText, WritesLines, WritesCanonicalText};
 ghost use Rattle.c_calls.specs.TexFiles.{LoadsPatterns, PlacesFault};
+ghost use Rattle.level_calls.specs.Levels.{holds as holds_levels, Loads as LoadsLevels, minima_given, answer_by};
+ghost use Rattle.level_calls.specs.Levels.{HasStatus, FillsOne, OneIsShort, Says, WritesText, WritesDigits};
+ghost use Rattle.level_calls.specs.Levels.{digits_in, changes_in, texts_in, made_in};
 
 use c_calls::changes::BreakChange;
 use c_calls::handle::Handle;
+use level_calls::changes::LevelChange;
+use level_calls::handle::Handle as LevelsHandle;
+use level_calls::head::LevelHead;
+use level_calls::minima::LevelMinima;
 use std::alloc::Global;
 
 /// Loads a dictionary of a kind from its text. It takes the place of the dictionary that the handle held.
@@ -255,4 +263,98 @@ pub extern "C" fn hyphenation_write(
         result }
 {
     c_calls::write_canonical_text(alloc, handle, buffer, count)
+}
+
+/// Loads a `.dic`, and writes what it says of itself. The dictionary takes the place of the one that the handle held.
+#[unsafe(no_mangle)]
+pub extern "C" fn hyphenation_levels_load(
+    alloc: Global,
+    bytes: &[u8],
+    handle: &mut LevelsHandle,
+    head: &mut LevelHead,
+) -> u32
+    ensures loads { LoadsLevels bytes.now (holds_levels handle.old) (holds_levels handle.new) head.old head.new result }
+{
+    level_calls::load(alloc, bytes, handle, head)
+}
+
+/// Frees the dictionary that the handle holds, if it holds one. The handle holds none afterwards.
+#[unsafe(no_mangle)]
+pub extern "C" fn hyphenation_levels_free(alloc: Global, handle: &mut LevelsHandle)
+    ensures empty { holds_levels handle.new ≡ None }
+{
+    level_calls::free(alloc, handle);
+}
+
+/// Writes the digits of a word's characters, the changes of their places, and the texts of the changes, each to the front
+/// of a buffer, and whether a change was made.
+#[unsafe(no_mangle)]
+pub extern "C" fn hyphenation_levels_word(
+    alloc: Global,
+    handle: &mut LevelsHandle,
+    given: bool,
+    minima: &LevelMinima,
+    text: &[u8],
+    size: usize,
+    digits: &mut [u8],
+    count: &mut usize,
+    changes: &mut [LevelChange],
+    number: &mut usize,
+    texts: &mut [u8],
+    total: &mut usize,
+    made: &mut bool,
+) -> u32
+    ensures unchanged { handle.new.slot.kept ≡ handle.old.slot.kept }
+    ensures status { HasStatus (holds_levels handle.old) (minima_given given minima.now) text.now size result }
+    ensures digits { FillsOne (digits_in (answer_by handle.old given minima.now text.now size))
+        (into digits.old digits.new count.old count.new) result }
+    ensures changes { FillsOne (changes_in (answer_by handle.old given minima.now text.now size))
+        (into changes.old changes.new number.old number.new) result }
+    ensures texts { FillsOne (texts_in (answer_by handle.old given minima.now text.now size))
+        (into texts.old texts.new total.old total.new) result }
+    ensures short { OneIsShort result (length digits.old < count.new) (length changes.old < number.new)
+        (length texts.old < total.new) }
+    ensures made { Says (made_in (answer_by handle.old given minima.now text.now size)) made.old
+        made.new result }
+{
+    level_calls::write_word(
+        alloc, handle, given, minima, text, size, digits, count, changes, number, texts, total,
+        made,
+    )
+}
+
+/// Writes a word with an equals sign at each of its breaks, and with the texts of changes, to the front of a buffer.
+#[unsafe(no_mangle)]
+pub extern "C" fn hyphenation_levels_text(
+    alloc: Global,
+    handle: &mut LevelsHandle,
+    given: bool,
+    minima: &LevelMinima,
+    text: &[u8],
+    size: usize,
+    buffer: &mut [u8],
+    count: &mut usize,
+) -> u32
+    ensures unchanged { handle.new.slot.kept ≡ handle.old.slot.kept }
+    ensures text { WritesText (holds_levels handle.old) (minima_given given minima.now) text.now size
+        (into buffer.old buffer.new count.old count.new) result }
+{
+    level_calls::write_text(alloc, handle, given, minima, text, size, buffer, count)
+}
+
+/// Writes the digits of a word's bytes by the patterns of the level at the top that change nothing to the front of a
+/// buffer.
+#[unsafe(no_mangle)]
+pub extern "C" fn hyphenation_levels_digits(
+    alloc: Global,
+    handle: &mut LevelsHandle,
+    word: &[u8],
+    digits: &mut [u8],
+    count: &mut usize,
+) -> u32
+    ensures unchanged { handle.new.slot.kept ≡ handle.old.slot.kept }
+    ensures digits { WritesDigits (holds_levels handle.old) word.now (into digits.old digits.new count.old count.new)
+        result }
+{
+    level_calls::write_digits(alloc, handle, word, digits, count)
 }

@@ -14,9 +14,9 @@ pub up_to_nul : (text : List ℕ) (k : ℕ) → NoneBefore (Passes (is_byte 0) t
     → take k text ≡ before_nul text
 up_to_nul text k h =
     ap (λ n. take n text) (sym (position_or_len_is (λ b. b == 0) text k 0 (let l = h.0.high in omega arith)
-      (λ j l. false_unless _ (h.0.before j (omega arith) l)) (λ _. h.1)))
+    (λ j l. false_unless _ (h.0.before j (omega arith) l)) (λ _. h.1)))
 
 pub no_nul : (text : List ℕ) → Nowhere (Passes (is_byte 0) text) 0 (length text) → text ≡ before_nul text
 no_nul text h =
     sym (ap (λ n. take n text) (position_or_len_is (λ b. b == 0) text (length text) 0 (omega arith)
-      (λ j l. false_unless _ (h j (omega arith) l)) (λ l. absurd (omega arith))) ∙ take-length text)
+    (λ j l. false_unless _ (h j (omega arith) l)) (λ l. absurd (omega arith))) ∙ take-length text)

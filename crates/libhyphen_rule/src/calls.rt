@@ -190,13 +190,7 @@ fn found_by_call<'d>(
         behind,
     )?;
     let found = without_left(utf8, at_least_two(least.left), text, found);
-    Ok(without_right(
-        utf8,
-        at_least_two(least.right),
-        word,
-        text,
-        found,
-    ))
+    Ok(without_right(utf8, at_least_two(least.right), word, text, found))
 }
 
 // Takes the places away beside which a text without breaks begins or ends, in the first bytes of a text, a word.

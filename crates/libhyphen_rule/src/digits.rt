@@ -78,7 +78,11 @@ pub(crate) fn read_digits(
         node = patterns.step(node, framed_byte(word, at), &mut LookUps::new());
         if let Some(pattern) = pattern_of_node(patterns, node) {
             let depth = patterns.depth(node);
-            raise_all(digits, at + 1 - depth, digits_given(pattern, depth + 1, plain));
+            raise_all(
+                digits,
+                at + 1 - depth,
+                digits_given(pattern, depth + 1, plain),
+            );
         }
     }
 }

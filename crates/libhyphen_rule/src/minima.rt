@@ -8,7 +8,10 @@ ghost use Rattle.libhyphen_rule.specs.Letters.{letters, letters_in_first, letter
 ghost use Rattle.libhyphen_rule.specs.Minima.{digits_but, changes_but, left_goes, right_goes};
 ghost use Rattle.libhyphen_rule.specs.Minima.{has_equals, is_below, is_equals};
 
-use crate::letters::{characters_at, digits_at_begin, digits_at_end, letters, letters_at, letters_in_first, letters_in_hundred};
+use crate::letters::{
+    characters_at, digits_at_begin, digits_at_end, letters, letters_at, letters_in_first,
+    letters_in_hundred,
+};
 use crate::one_level::PlacedChange;
 
 // Returns whether some letters and those of a text are fewer than a minimum.

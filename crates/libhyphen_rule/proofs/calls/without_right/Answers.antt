@@ -11,12 +11,12 @@ returns-clause-found c =
     let fits : to_z w32 (of_z w32 c.args.least) ≡ c.args.least = search rules in
     let goes : ℤ → List (Option PlacedChange) → ℕ → Bool = λ least xs. right_goes c.args.utf8 least c.args.word.now c.args.text.now (placed_all xs) in
     let digits : c.take_right.new.digits ≡ digits_but (goes c.args.least c.args.found.changes.items) c.args.found.digits.items =
-          c.take_right.ensures.digits
-          ∙ (λ i. digits_but (goes (fits i) (c.deref_mut-2.ensures.value i)) (c.deref_mut.ensures.value i)) in
+    c.take_right.ensures.digits
+    ∙ (λ i. digits_but (goes (fits i) (c.deref_mut-2.ensures.value i)) (c.deref_mut.ensures.value i)) in
     let changes : placed_all c.take_right.new.changes
-          ≡ changes_but (goes c.args.least c.args.found.changes.items) (placed_all c.args.found.changes.items) =
-          c.take_right.ensures.changes
-          ∙ (λ i. changes_but (goes (fits i) (c.deref_mut-2.ensures.value i)) (placed_all (c.deref_mut-2.ensures.value i))) in
+    ≡ changes_but (goes c.args.least c.args.found.changes.items) (placed_all c.args.found.changes.items) =
+    c.take_right.ensures.changes
+    ∙ (λ i. changes_but (goes (fits i) (c.deref_mut-2.ensures.value i)) (placed_all (c.deref_mut-2.ensures.value i))) in
     let kept = with_items_is c.args.found.digits c.take_right.new.digits (c.take_right.auto.digits ∙ c.deref_mut.ensures.len) in
     let kept_changes = with_items_is c.args.found.changes c.take_right.new.changes (c.take_right.auto.changes ∙ c.deref_mut-2.ensures.len) in
     λ i. record {

@@ -1,0 +1,4 @@
+pub mod Changes
+pub mod Head
+pub mod Held
+pub mod Levels

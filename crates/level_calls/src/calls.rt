@@ -1,0 +1,127 @@
+//! The calls, for a dictionary that is loaded.
+
+ghost use Rattle.std.specs.Prelude.{◌≡◌, ◌≤◌, ◌<◌, IfOk, length};
+ghost use Rattle.c_calls.specs.Statuses.{into};
+ghost use Rattle.libhyphen_files.specs.Files.{rules_of};
+ghost use Rattle.libhyphen_rule.specs.Calls.{answer_of, Answer};
+ghost use Rattle.libhyphen_rule.specs.Found.{answer_view};
+ghost use Rattle.level_calls.specs.Levels.{IsStatus, FillsOne, OneIsShort, Says, FindsText, FindsDigits};
+ghost use Rattle.level_calls.specs.Levels.{digits_in, changes_in, texts_in, made_in};
+
+use crate::buffers::fill_three;
+use crate::changes::{LevelChange, listed_changes, listed_texts};
+use crate::loaded::Loaded;
+use c_calls::buffers::fill_buffer;
+use c_calls::statuses::{BAD_ENDS, DONE, NOT_UTF8, OUT_OF_MEMORY};
+use libhyphen_files::LevelDictionary;
+use libhyphen_rule::calls::{CallMinima, hyphenate, plain_digits, write_word as written_word};
+use std::alloc::{AllocError, Global};
+
+/// Reads a dictionary into a box. The only error is out of memory.
+pub fn load(alloc: Global, bytes: &[u8]) -> Result<Box<Loaded>, AllocError>
+    ensures { IfOk result (λ loaded. loaded.value.dictionary ≡ rules_of bytes.now) }
+{
+    let dictionary = libhyphen_files::load(alloc, bytes)?;
+    match Box::new(alloc, Loaded { dictionary }) {
+        Ok(boxed) => Ok(boxed),
+        Err(_) => Err(AllocError),
+    }
+}
+
+/// Writes the digits of a word's characters, the changes of their places, and the texts of the changes, each to the front
+/// of a buffer, and whether a change was made. The result is the status.
+pub fn write_word(
+    dictionary: &LevelDictionary,
+    alloc: Global,
+    minima: Option<CallMinima>,
+    text: &[u8],
+    size: usize,
+    digits: &mut [u8],
+    count: &mut usize,
+    changes: &mut [LevelChange],
+    number: &mut usize,
+    texts: &mut [u8],
+    total: &mut usize,
+    made: &mut bool,
+) -> u32
+    ensures status { IsStatus dictionary.now minima text.now size result }
+    ensures digits { FillsOne (digits_in (answer_of dictionary.now minima text.now size))
+        (into digits.old digits.new count.old count.new) result }
+    ensures changes { FillsOne (changes_in (answer_of dictionary.now minima text.now size))
+        (into changes.old changes.new number.old number.new) result }
+    ensures texts { FillsOne (texts_in (answer_of dictionary.now minima text.now size))
+        (into texts.old texts.new total.old total.new) result }
+    ensures short { OneIsShort result (length digits.old < count.new) (length changes.old < number.new)
+        (length texts.old < total.new) }
+    ensures made { Says (made_in (answer_of dictionary.now minima text.now size)) made.old made.new result }
+{
+    if size > text.len() {
+        return BAD_ENDS;
+    }
+    let Ok(answer) = hyphenate(alloc, dictionary, minima, text, size) else {
+        return OUT_OF_MEMORY;
+    };
+    let Some(answer) = answer else {
+        return NOT_UTF8;
+    };
+    let Ok(listed) = listed_changes(alloc, &answer.changes) else {
+        return OUT_OF_MEMORY;
+    };
+    let Ok(said) = listed_texts(alloc, &answer.changes) else {
+        return OUT_OF_MEMORY;
+    };
+    let status = fill_three(
+        &answer.digits,
+        digits,
+        count,
+        &listed,
+        changes,
+        number,
+        &said,
+        texts,
+        total,
+    );
+    if status == DONE {
+        *made = answer.made;
+    }
+    status
+}
+
+/// Writes a word with an equals sign at each of its breaks, and with the texts of changes, to the front of a buffer. The
+/// result is the status.
+pub fn write_text(
+    dictionary: &LevelDictionary,
+    alloc: Global,
+    minima: Option<CallMinima>,
+    text: &[u8],
+    size: usize,
+    buffer: &mut [u8],
+    count: &mut usize,
+) -> u32
+    ensures { FindsText dictionary.now minima text.now size (into buffer.old buffer.new count.old count.new) result }
+{
+    if size > text.len() {
+        return BAD_ENDS;
+    }
+    let Ok(written) = written_word(alloc, dictionary, minima, text, size) else {
+        return OUT_OF_MEMORY;
+    };
+    fill_buffer(&written, buffer, count)
+}
+
+/// Writes the digits of a word's bytes by the patterns of the level at the top that change nothing to the front of a
+/// buffer. The result is the status.
+pub fn write_digits(
+    dictionary: &LevelDictionary,
+    alloc: Global,
+    word: &[u8],
+    digits: &mut [u8],
+    count: &mut usize,
+) -> u32
+    ensures { FindsDigits dictionary.now word.now (into digits.old digits.new count.old count.new) result }
+{
+    let Ok(found) = plain_digits(alloc, dictionary, word) else {
+        return OUT_OF_MEMORY;
+    };
+    fill_buffer(&found, digits, count)
+}

@@ -1,0 +1,120 @@
+//! Handles: the two machine words in the memory of C that hold a dictionary.
+
+ghost use Rattle.std.specs.Prelude.{◌≡◌, Option, Some, None, IsSome, true, false};
+ghost use Rattle.std.specs.Option.{option_map};
+ghost use Rattle.level_calls.specs.declared.loaded.Loaded.{Loaded as Kept};
+ghost use Rattle.level_calls.specs.Held.{is_kept, kept_code};
+
+use crate::loaded::Loaded;
+use std::alloc::Global;
+use std::marker::Model;
+use std::mem;
+
+/// The pointer of a dictionary's box, or any pointer where no dictionary is held.
+#[repr(C)]
+#[derive(Drop)]
+pub struct Slot {
+    at: *mut u8,
+    ghost kept: { Option Kept } by { kept_code },
+}
+
+impl Model for Slot {
+    ghost use Rattle.level_calls.specs.Held.{owned};
+
+    ghost also_owns = { λ s. owned s.kept s.at };
+}
+
+// A slot may go to another thread, with its dictionary.
+unsafe impl Send for Slot {}
+
+impl Slot {
+    // The slot of a box.
+    pub(crate) fn of(loaded: Box<Loaded>) -> Slot
+        ensures { result.kept ≡ Some loaded.value }
+    {
+        let at = Box::into_raw(loaded);
+        Slot {
+            at: at.cast::<u8>(),
+        }
+    }
+
+    // The box of a slot that holds one.
+    pub(crate) fn into_box(self, alloc: Global) -> Box<Loaded>
+        requires { IsSome self.kept }
+        ensures { self.kept ≡ Some result.value }
+    {
+        let Slot { at } = self;
+        let at = at.cast::<Loaded>();
+        unsafe { Box::from_raw(alloc, at) }
+    }
+
+    // The slot without a box.
+    pub(crate) fn empty() -> Slot
+        ensures { result.kept ≡ None }
+    {
+        Slot {
+            at: std::ptr::null_mut(),
+        }
+    }
+}
+
+/// A dictionary, or none. A handle of zeros alone holds none.
+#[repr(C)]
+#[derive(Drop)]
+pub struct Handle {
+    slot: Slot,
+    held: bool,
+    ghost tied: { is_kept slot.kept ≡ held },
+}
+
+// A function for types that may go to another thread.
+fn crosses<T: Send>() {}
+
+/// A handle may go to another thread. The call is for a proof, and does nothing.
+pub fn handles_cross() {
+    crosses::<Handle>();
+}
+
+impl Handle {
+    // The handle of a dictionary.
+    pub(crate) fn of(loaded: Box<Loaded>) -> Handle
+        ensures { result.slot.kept ≡ Some loaded.value }
+    {
+        Handle {
+            slot: Slot::of(loaded),
+            held: true,
+        }
+    }
+
+    /// The handle without a dictionary.
+    pub fn empty() -> Handle
+        ensures { result.slot.kept ≡ None }
+    {
+        Handle {
+            slot: Slot::empty(),
+            held: false,
+        }
+    }
+
+    // Takes the dictionary out of the handle, if it holds one.
+    pub(crate) fn take(&mut self, alloc: Global) -> Option<Box<Loaded>>
+        ensures taken { option_map (λ loaded. loaded.value) result ≡ self.old.slot.kept }
+        ensures empty { self.new.slot.kept ≡ None }
+    {
+        let Handle { slot, held } = mem::replace(self, Handle::empty());
+        if held {
+            Some(slot.into_box(alloc))
+        } else {
+            None
+        }
+    }
+
+    // Lets the handle hold a dictionary, in the place of the one that it held, which is freed.
+    pub(crate) fn put(&mut self, alloc: Global, loaded: Box<Loaded>)
+        ensures holds { self.new.slot.kept ≡ Some loaded.value }
+    {
+        let old = self.take(alloc);
+        *self = Handle::of(loaded);
+        drop(old);
+    }
+}
