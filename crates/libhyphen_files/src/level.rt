@@ -7,9 +7,9 @@ ghost use Rattle.std.specs.Prelude.{◌≡◌, [], ◌∷◌, IfOk, OnOk, IsFals
 ghost use Rattle.hyphenation_dictionary.specs.Maker.{with_pair};
 ghost use Rattle.hyphenation_dictionary.specs.Parts.{patterns_of};
 ghost use Rattle.hyphenation_trie.specs.Trie.{EachBeginsKey};
-ghost use Rattle.libhyphen_files.specs.Bytes.{before_nul};
 ghost use Rattle.libhyphen_files.specs.Levels.{empty_level, with_line, with_text, with_pattern, HasNoChanges};
 
+use crate::bytes::before_nul;
 use crate::minima::Minima;
 use crate::pattern::{StoredPattern, pattern_of};
 use crate::settings::{setting, texts_without_breaks, without_name};
@@ -252,16 +252,4 @@ fn add_pattern(
     patterns.insert(key, &mut patterns_of_key)?;
     patterns.invariant();
     Ok(())
-}
-
-// Returns a text up to its first byte 0.
-fn before_nul(text: &[u8]) -> &[u8]
-    ensures { result.now ≡ before_nul text.now }
-{
-    for (i, byte) in text.iter().enumerate() {
-        if *byte == 0 {
-            return &text[..i];
-        }
-    }
-    text
 }

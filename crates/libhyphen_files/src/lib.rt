@@ -16,6 +16,7 @@
 //! one level.
 #![tactic(auto)]
 
+pub mod bytes;
 mod file;
 pub mod level;
 mod lines;

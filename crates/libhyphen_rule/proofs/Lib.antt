@@ -1,4 +1,3 @@
-mod Nul
 pub mod Equals
 pub mod LetterCounts
 pub mod Short

@@ -15,6 +15,7 @@ use crate::one_level::PlacedChange;
 use crate::parts::word_found;
 use crate::words::{changes_of_characters, digits_of_characters, take_beside, written_word};
 use libhyphen_files::LevelDictionary;
+use libhyphen_files::bytes::{before_nul, continues};
 use libhyphen_files::minima::Minima;
 use std::alloc::{AllocError, Global};
 
@@ -88,23 +89,13 @@ fn at_least_two(least: i32) -> i32
     if 0 < least { least } else { 2 }
 }
 
-// Returns a text up to its first byte 0.
-fn before_nul(text: &[u8]) -> &[u8]
-    ensures { result.now ≡ before_nul text.now }
-{
-    match memchr::memchr(0, text) {
-        Some(at) => &text[..at],
-        None => text,
-    }
-}
-
 // Tests whether a text begins within a character of UTF-8.
 fn begins_within(text: &[u8]) -> bool
     ensures { result ≡ continues (slice_index text.now 0) }
 {
     match text {
         [] => false,
-        [first, ..] => 128 <= *first && *first < 192,
+        [first, ..] => continues(*first),
     }
 }
 

@@ -6,12 +6,7 @@ ghost use Rattle.std.specs.Char.{is_ascii_digit};
 ghost use Rattle.libhyphen_files.specs.Bytes.{begins_with, continues};
 ghost use Rattle.libhyphen_rule.specs.Letters.{digits_at_begin, digits_at_end, letters, letters_in_first, letters_in_hundred, letters_at};
 
-// Returns whether a byte continues a character of UTF-8.
-fn continues(byte: u8) -> bool
-    ensures { result ≡ continues byte }
-{
-    byte >= 128 && byte < 192
-}
+use libhyphen_files::bytes::continues;
 
 // Returns the number of characters that a byte begins: 1 or 0.
 pub(crate) fn characters_at(utf8: bool, byte: u8) -> usize

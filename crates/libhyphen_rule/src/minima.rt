@@ -29,7 +29,7 @@ fn is_few(letters: usize, least: i32, digits: usize) -> bool
 }
 
 // Returns the index of the first equals sign of a text, if it has one.
-fn find_equals(text: &[u8]) -> Option<usize>
+pub(crate) fn find_equals(text: &[u8]) -> Option<usize>
     ensures { result ≡ position is_equals text.now }
 {
     text.iter().position(|b| *b == b'=')

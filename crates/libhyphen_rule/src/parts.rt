@@ -6,7 +6,6 @@ ghost use Rattle.std.specs.List.{list_any};
 ghost use Rattle.std.specs.Option.{option_map, option_or};
 ghost use Rattle.hyphenation_breaks.specs.Ascii.{digit_zero};
 ghost use Rattle.libhyphen_rule.specs.Counting.{shown};
-ghost use Rattle.libhyphen_rule.specs.Minima.{is_equals};
 ghost use Rattle.libhyphen_rule.specs.OneLevel.{is_odd};
 ghost use Rattle.libhyphen_rule.specs.Found.{asked_in, found_of, minima_of, placed, placed_all, texts_of};
 ghost use Rattle.libhyphen_rule.specs.Parts.{asked_of, below_found, changes_with, digits_with, ends_part, found_below};
@@ -14,7 +13,7 @@ ghost use Rattle.libhyphen_rule.specs.Parts.{found_in, part_text, seen_after, so
 ghost use Rattle.libhyphen_rule.specs.Parts.{with_part, without_left_of_part, without_right_of_part, word_found};
 
 use crate::found::WordFound;
-use crate::minima::{take_left, take_right};
+use crate::minima::{find_equals, take_left, take_right};
 use crate::one_level::{PlacedChange, read_level};
 use libhyphen_files::LevelDictionary;
 use std::alloc::{AllocError, Global};
@@ -137,13 +136,6 @@ fn nul_at(text: &[u8]) -> Option<usize>
     ensures { result ≡ position (λ b. b == 0) text.now }
 {
     text.iter().position(|byte| *byte == 0)
-}
-
-// Returns where the first equals sign stands.
-fn equals_at(text: &[u8]) -> Option<usize>
-    ensures { result ≡ position is_equals text.now }
-{
-    text.iter().position(|byte| *byte == b'=')
 }
 
 // Returns a text with what stands behind it, up to the first byte 0. The only error is out of memory.
@@ -414,7 +406,7 @@ fn texts_at_change(
     ensures { IfOk result (λ texts. texts_of texts ≡ part_text seen.now begin end (Some (placed change.entry))) }
 {
     let kept = end.saturating_sub(change.pos);
-    match equals_at(change.text) {
+    match find_equals(change.text) {
         Some(equals) => {
             let front = first_of(alloc, change.text, equals)?;
             let whole = joined(alloc, &seen[..kept], &front)?;

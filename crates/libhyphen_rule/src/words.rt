@@ -7,6 +7,7 @@ ghost use Rattle.libhyphen_rule.specs.Found.{placed, placed_all};
 ghost use Rattle.libhyphen_rule.specs.Words.{begins, change_in_characters, changes_of_characters, characters, digits_beside, digits_of_characters, is_beside, is_last, passed_over, stands_at, with_mark, written_word};
 
 use crate::one_level::PlacedChange;
+use libhyphen_files::bytes::continues;
 use std::alloc::{AllocError, Global};
 
 // Returns whether a text stands in a word from a byte on.
@@ -106,7 +107,7 @@ pub(crate) fn written_word(
 fn begins(byte: u8) -> bool
     ensures { result ≡ begins byte }
 {
-    byte < 128 || byte >= 192
+    !continues(byte)
 }
 
 // Returns whether a byte of a word is the last one of a character.
