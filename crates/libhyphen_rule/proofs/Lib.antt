@@ -16,3 +16,4 @@ pub mod PlacedChanges
 pub mod PlacesOfParts
 pub mod Partings
 pub mod WordsFound
+pub mod Absent

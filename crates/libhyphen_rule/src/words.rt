@@ -1,7 +1,7 @@
 //! The last steps over a whole word: texts beside which no break stands, the word written with its breaks, and
 //! characters.
 
-ghost use Rattle.std.specs.Prelude.{◌≡◌, ◌<◌, length, map, option_map, slice_range, IfOk, OnOk};
+ghost use Rattle.std.specs.Prelude.{◌≡◌, ◌<◌, ℕ, false, length, map, option_map, slice_range, IfOk, OnOk};
 ghost use Rattle.std.specs.List.{list_any};
 ghost use Rattle.libhyphen_rule.specs.Found.{placed, placed_all};
 ghost use Rattle.libhyphen_rule.specs.Words.{begins, change_in_characters, changes_of_characters, characters, digits_beside, digits_of_characters, is_beside, is_last, passed_over, stands_at, with_mark, written_word};
@@ -43,6 +43,29 @@ fn some_is_beside(parts: &[Vec<u8>], text: &[u8], byte: usize) -> bool
     false
 }
 
+// Returns whether a text may begin or end at a place of a word: whether its first byte occurs there.
+fn may_stand(part: &[u8], text: &[u8]) -> bool
+    ensures { result ≡ false → (byte : ℕ) → is_beside text.now byte part.now ≡ false }
+{
+    match part {
+        [] => true,
+        [first, ..] => text.contains(first),
+    }
+}
+
+// Returns whether one of some texts may begin or end at a place of a word.
+fn may_be_beside(parts: &[Vec<u8>], text: &[u8]) -> bool
+    ensures { result ≡ false
+        → (byte : ℕ) → list_any (is_beside text.now byte) (map (λ part. part.items) parts.now) ≡ false }
+{
+    for part in parts {
+        if may_stand(part, text) {
+            return true;
+        }
+    }
+    false
+}
+
 // Puts another byte in the place of each digit beside which a text without breaks begins or ends.
 //
 // `text` is the word with what stands behind it, up to the first byte 0; it may be shorter than the word. The digits
@@ -50,6 +73,9 @@ fn some_is_beside(parts: &[Vec<u8>], text: &[u8], byte: usize) -> bool
 pub(crate) fn take_beside(parts: &[Vec<u8>], instead: u8, text: &[u8], digits: &mut [u8])
     ensures { digits.new ≡ digits_beside (map (λ part. part.items) parts.now) instead text.now digits.old }
 {
+    if !may_be_beside(parts, text) {
+        return;
+    }
     for (byte, digit) in digits.iter_mut().enumerate() {
         if some_is_beside(parts, text, byte) {
             *digit = instead;
