@@ -17,3 +17,4 @@ pub mod PlacesOfParts
 pub mod Partings
 pub mod WordsFound
 pub mod Absent
+pub mod Ascii

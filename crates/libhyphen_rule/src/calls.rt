@@ -6,14 +6,16 @@ ghost use Rattle.libhyphen_rule.specs.Found.{placed_all, found_of, answer_view};
 ghost use Rattle.libhyphen_files.specs.Bytes.{before_nul, continues};
 ghost use Rattle.libhyphen_rule.specs.Calls.{answer_of, inner_digit, inner_digits, plain_digits, text_of_call, found_by_call, taken_digit, greater, least_of, at_least_two};
 ghost use Rattle.libhyphen_rule.specs.Parts.{without_left, without_right};
-ghost use Rattle.libhyphen_rule.specs.Words.{changes_of_characters, digits_beside};
+ghost use Rattle.libhyphen_rule.specs.Words.{changes_of_characters, digits_beside, digits_of_characters};
 
 use crate::digits::read_digits;
 use crate::found::WordFound;
 use crate::minima::{take_left, take_right};
 use crate::one_level::PlacedChange;
-use crate::parts::word_found;
-use crate::words::{changes_of_characters, digits_of_characters, take_beside, written_word};
+use crate::parts::{has_change, word_found};
+use crate::words::{
+    changes_of_characters, digits_of_characters, is_ascii, take_beside, written_word,
+};
 use libhyphen_files::LevelDictionary;
 use libhyphen_files::bytes::{before_nul, continues};
 use libhyphen_files::minima::Minima;
@@ -223,6 +225,39 @@ fn changes_in_characters<'d>(
     changes_of_characters(alloc, &text[..size], &ended, changes)
 }
 
+// Returns the answer for the characters of a word, the first bytes of a text, by the digits and the changes of its bytes. The only
+// error is out of memory.
+fn answer_in_characters<'d>(
+    alloc: Global,
+    text: &[u8],
+    size: usize,
+    digits: Vec<u8>,
+    changes: Vec<Option<PlacedChange<'d>>>,
+    made: bool,
+) -> Result<CallAnswer<'d>, AllocError>
+    requires within { size ≤ length text.now }
+    requires digits { length digits.items ≡ size }
+    requires changes { length changes.items ≡ size }
+    ensures digits { IfOk result (λ answer. answer.digits.items ≡ digits_of_characters (take size text.now) digits.items) }
+    ensures changes { IfOk result (λ answer. placed_all answer.changes.items
+        ≡ changes_of_characters (take size text.now) (text.now ++ 0 ∷ []) (placed_all changes.entry.items)) }
+    ensures made { IfOk result (λ answer. answer.made ≡ made) }
+{
+    let word = &text[..size];
+    if is_ascii(word) && !has_change(&changes) {
+        return Ok(CallAnswer {
+            digits,
+            changes,
+            made,
+        });
+    }
+    Ok(CallAnswer {
+        digits: digits_of_characters(alloc, word, &digits)?,
+        changes: changes_in_characters(alloc, text, size, &changes)?,
+        made,
+    })
+}
+
 /// Breaks a word: the first bytes of a text. What stands behind it counts for minima and texts without breaks, as it does for
 /// libhyphen.
 ///
@@ -264,12 +299,8 @@ pub fn hyphenate<'d>(
             made,
         }));
     }
-    let word = &text[..size];
-    Ok(Some(CallAnswer {
-        digits: digits_of_characters(alloc, word, &digits)?,
-        changes: changes_in_characters(alloc, text, size, &changes)?,
-        made,
-    }))
+    let answer = answer_in_characters(alloc, text, size, digits, changes, made)?;
+    Ok(Some(answer))
 }
 
 /// Writes a word, the first bytes of a text, with an equals sign at each break, and with the texts of changes in the places of the

@@ -54,7 +54,7 @@ fn has_break(digits: &[u8]) -> bool
 
 // Tests whether there is a change.
 #[tactic(auto, using(crate::proofs::PlacesOfParts::any_past, crate::proofs::PlacesOfParts::any_end))]
-fn has_change(changes: &[Option<PlacedChange<'_>>]) -> bool
+pub(crate) fn has_change(changes: &[Option<PlacedChange<'_>>]) -> bool
     ensures { result ≡ some_change (placed_all changes.now) }
 {
     for i in 0..changes.len() {

@@ -1,8 +1,8 @@
 //! The last steps over a whole word: texts beside which no break stands, the word written with its breaks, and
 //! characters.
 
-ghost use Rattle.std.specs.Prelude.{◌≡◌, ◌<◌, ℕ, false, length, map, option_map, slice_range, IfOk, OnOk};
-ghost use Rattle.std.specs.List.{list_any};
+ghost use Rattle.std.specs.Prelude.{◌≡◌, ◌<◌, ℕ, false, nat_lt, length, map, option_map, slice_range, IfOk, OnOk};
+ghost use Rattle.std.specs.List.{list_all, list_any};
 ghost use Rattle.libhyphen_rule.specs.Found.{placed, placed_all};
 ghost use Rattle.libhyphen_rule.specs.Words.{begins, change_in_characters, changes_of_characters, characters, digits_beside, digits_of_characters, is_beside, is_last, passed_over, stands_at, with_mark, written_word};
 
@@ -127,6 +127,13 @@ pub(crate) fn written_word(
         }
     }
     Ok(written)
+}
+
+// Returns whether each byte of a word is a character of ASCII.
+pub(crate) fn is_ascii(word: &[u8]) -> bool
+    ensures { result ≡ list_all (λ b. nat_lt b 128) word.now }
+{
+    word.iter().all(|byte| *byte < 128)
 }
 
 // Returns whether a byte begins a character of UTF-8.
