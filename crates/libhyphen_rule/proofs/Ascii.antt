@@ -44,8 +44,8 @@ all_kept : {Y : Type 0} (f : ℕ → Y) (p : ℕ → Bool) (n : ℕ) → ((k : �
 all_kept f p zero h = refl
 all_kept f p (suc n) h =
     let more : map f (filter p (range_with_len 0 (n + 1))) ≡ map f (range_with_len 0 (n + 1)) =
-          kept_more f p n (h n (omega arith)) ∙ ap (λ xs. xs ++ f n ∷ []) (all_kept f p n (λ k l. h k (omega arith)))
-          ∙ sym (map-range_with_len_more f 0 n n (zero-add n)) in
+    kept_more f p n (h n (omega arith)) ∙ ap (λ xs. xs ++ f n ∷ []) (all_kept f p n (λ k l. h k (omega arith)))
+    ∙ sym (map-range_with_len_more f 0 n n (zero-add n)) in
     subst (λ (m : ℕ). map f (filter p (range_with_len 0 m)) ≡ map f (range_with_len 0 m)) (add-one n) more
 
 -- The digits of a word of ASCII are those of its characters.

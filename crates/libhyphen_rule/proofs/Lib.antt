@@ -18,3 +18,6 @@ pub mod Partings
 pub mod WordsFound
 pub mod Absent
 pub mod Ascii
+pub mod ForbiddenPlaces
+pub mod FoundSizes
+pub mod Regions

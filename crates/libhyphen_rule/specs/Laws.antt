@@ -1,10 +1,15 @@
 -- Laws of words written with their breaks.
-use Rattle.std.specs.Prelude.{◌≡◌, ℕ, ◌+◌, ◌-◌, ◌<◌, ◌≤◌, not, false, List, [], ◌∷◌, ◌++◌, length, map, drop, filter, Option, None, Some, is_some, slice_index, slice_index_or, slice_range}
+use Rattle.std.specs.Prelude.{◌≡◌, ◌≢◌, ℕ, ◌+◌, ◌-◌, ◌<◌, ◌≤◌, not, false, List, [], ◌∷◌, ◌++◌, ◌||◌, Bool, true, if◌then◌else◌, length, map, drop, take, filter, Option, None, Some, is_some, slice_index, slice_index_or, slice_range}
 use Rattle.std.specs.List.{list_any, range_with_len}
-use Rattle.hyphenation_breaks.specs.Ascii.{equals_sign}
-use Rattle.libhyphen_rule.specs.Minima.{has_equals, is_equals}
-use Rattle.libhyphen_rule.specs.OneLevel.{ChangeAt, is_odd}
-use Rattle.libhyphen_rule.specs.Words.{written_word}
+use Rattle.hyphenation_breaks.specs.Ascii.{digit_zero, equals_sign}
+use Rattle.libhyphen_files.specs.Bytes.{before_nul}
+use Rattle.libhyphen_files.specs.Files.{Rules}
+use Rattle.libhyphen_files.specs.Levels.{Level}
+use Rattle.libhyphen_rule.specs.declared.calls.CallMinima.{CallMinima}
+use Rattle.libhyphen_rule.specs.Calls.{Answer, answer_of, at_least_two, digits_kept, found_by_call, least_of, taken_digit}
+use Rattle.libhyphen_rule.specs.Minima.{has_equals, is_equals, is_short_after, is_short_before}
+use Rattle.libhyphen_rule.specs.OneLevel.{ChangeAt, is_odd, level_changes, level_digits}
+use Rattle.libhyphen_rule.specs.Words.{characters, is_beside, written_word}
 
 -- A text without its equals signs.
 abbrev pub without_equals : List ℕ → List ℕ
@@ -66,3 +71,78 @@ abbrev pub NoLetterIsLost : Type 0
 NoLetterIsLost =
     (word digits : List ℕ) (changes : List (Option ChangeAt)) → AreApart 0 (marks_in_first digits changes (length word))
     → written_word word digits changes ≡ with_marks word 0 (marks_in_first digits changes (length word))
+
+-- ---- Places at which no break may be.
+
+-- The place behind a byte of a word has too few letters before it, or too few behind it, by the minima of a call.
+abbrev pub is_too_near : Rules → Option CallMinima → List ℕ → ℕ → ℕ → Bool
+is_too_near rules given text size byte =
+    is_short_before rules.utf8 (at_least_two (least_of rules.top.minima given).left) (before_nul text) byte
+    || is_short_after rules.utf8 (at_least_two (least_of rules.top.minima given).right) (take size text) byte
+
+-- A text without breaks begins or ends at the place behind a byte.
+abbrev pub is_beside_some : Rules → List ℕ → ℕ → Bool
+is_beside_some rules text byte = list_any (is_beside (before_nul text) byte) rules.top.no_hyphen
+
+-- A place that is too near to an end of the word has the digit 0, if no change is left there. A place beside a text
+-- without breaks has the digit 0, or a byte 0 where the caller gives minima. Both are even: no break is there.
+abbrev pub ForbiddenPlacesAreEven : Type 0
+ForbiddenPlacesAreEven =
+    (rules : Rules) (given : Option CallMinima) (text : List ℕ) (size byte : ℕ)
+    → byte < length (found_by_call rules given text size).digits
+    → (is_too_near rules given text size byte ≡ true
+    → slice_index_or (found_by_call rules given text size).changes byte None ≡ None
+    → (slice_index (found_by_call rules given text size).digits byte ≡ digit_zero)
+    × (is_odd (slice_index (digits_kept rules given text (found_by_call rules given text size).digits) byte) ≡ false))
+    × (is_beside_some rules text byte ≡ true
+    → (slice_index (digits_kept rules given text (found_by_call rules given text size).digits) byte ≡ taken_digit given)
+    × (is_odd (slice_index (digits_kept rules given text (found_by_call rules given text size).digits) byte) ≡ false))
+
+-- ---- As many digits as letters.
+
+-- A call finds one digit and one change, or none, for each byte of the word.
+abbrev pub HasEachByte : Rules → Option CallMinima → List ℕ → ℕ → Type 0
+HasEachByte rules given text size =
+    (length (found_by_call rules given text size).digits ≡ length (take size text))
+    × (length (found_by_call rules given text size).changes ≡ length (take size text))
+
+-- The number of characters of a word: in other charsets than UTF-8 each byte is one.
+abbrev pub size_in_characters : Rules → List ℕ → ℕ
+size_in_characters rules word = if rules.utf8 then characters word else length word
+
+-- The answer has one digit and one change, or none, for each character of the word.
+abbrev pub HasEachCharacter : Rules → List ℕ → Answer → Type 0
+HasEachCharacter rules word answer =
+    (length answer.digits ≡ size_in_characters rules word) × (length answer.changes ≡ size_in_characters rules word)
+
+-- What is found lies within the word: there are as many digits and changes as bytes, and in an answer as many as
+-- characters. By one level no break is behind the word's last byte.
+abbrev pub DigitsLieWithinTheWord : Type 0
+DigitsLieWithinTheWord =
+    ((rules : Rules) (given : Option CallMinima) (text : List ℕ) (size : ℕ)
+    → HasEachByte rules given text size
+    × ((answer : Answer) → answer_of rules given text size ≡ Some answer
+    → HasEachCharacter rules (take size text) answer))
+    × ((level : Level) (word : List ℕ) (byte : ℕ) → byte + 1 ≡ length word
+    → slice_index (level_digits level word) byte ≡ digit_zero)
+
+-- ---- Regions of changes.
+
+-- By one level, the change behind a byte of a word.
+abbrev pub IsChangeAt : Level → List ℕ → ℕ → ChangeAt → Type 0
+IsChangeAt level word byte change = slice_index_or (level_changes level word) byte None ≡ Some change
+
+-- The region of a change behind a byte begins at this byte of the word.
+abbrev pub region_begin : ℕ → ChangeAt → ℕ
+region_begin byte change = byte + 1 - change.pos
+
+-- Each region begins within the word, at its place or before it, and has a byte or more. A file may ask for a region
+-- that goes on behind the word. Regions of two places do not overlap: one ends where the other begins, or before that.
+abbrev pub RegionsLieWithinTheWord : Type 0
+RegionsLieWithinTheWord =
+    (level : Level) (word : List ℕ)
+    → ((byte : ℕ) (change : ChangeAt) → IsChangeAt level word byte change
+    → (change.pos ≤ byte + 1) × (1 ≤ change.cut) × (region_begin byte change < length word))
+    × ((byte other : ℕ) (change next : ChangeAt) → IsChangeAt level word byte change
+    → IsChangeAt level word other next → byte ≢ other → region_begin byte change ≤ region_begin other next
+    → region_begin byte change + change.cut ≤ region_begin other next)

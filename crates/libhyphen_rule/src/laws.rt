@@ -1,8 +1,8 @@
-//! Laws of words written with their breaks.
+//! Laws of what a call finds in a word, and of words written with their breaks.
 //!
 //! Each function here does nothing: its contract is a law, which the check proves.
 
-ghost use Rattle.libhyphen_rule.specs.Laws.{MarksTakenOut, NoLetterIsLost};
+ghost use Rattle.libhyphen_rule.specs.Laws.{DigitsLieWithinTheWord, ForbiddenPlacesAreEven, MarksTakenOut, NoLetterIsLost, RegionsLieWithinTheWord};
 
 /// A word without an equals sign and without changes, written with its breaks, is the word again once the equals signs
 /// are taken out.
@@ -14,4 +14,21 @@ pub fn marks_taken_out()
 /// region.
 pub fn no_letter_is_lost()
     ensures { NoLetterIsLost }
+{}
+
+/// No break is at a place that has too few letters before it or behind it by the minima of a call, unless a change is
+/// there, and none is beside a text without breaks.
+pub fn forbidden_places_are_even()
+    ensures { ForbiddenPlacesAreEven }
+{}
+
+/// A call finds a digit for each byte of the word, and gives one for each character. No level finds a break behind the
+/// last byte.
+pub fn digits_lie_within_the_word()
+    ensures { DigitsLieWithinTheWord }
+{}
+
+/// The region of each change that a level makes begins within the word, and no two of them overlap.
+pub fn regions_lie_within_the_word()
+    ensures { RegionsLieWithinTheWord }
 {}
