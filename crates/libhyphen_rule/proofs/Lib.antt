@@ -21,3 +21,4 @@ pub mod Ascii
 pub mod ForbiddenPlaces
 pub mod FoundSizes
 pub mod Regions
+pub mod ClosedPatterns

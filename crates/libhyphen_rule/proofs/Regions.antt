@@ -80,7 +80,7 @@ is_claim counted begin one is =
 -- ---- Changes whose regions are apart.
 
 -- The regions end before the next one may begin. In the frame the word's first byte has place 1.
-record AreApart (bytes next : ℕ) (changes : List (Option ChangeAt)) : Type 0 where
+record RegionsApart (bytes next : ℕ) (changes : List (Option ChangeAt)) : Type 0 where
   pub one : (i : ℕ) (c : ChangeAt) → get_or changes i None ≡ Some c
       → (c.pos ≤ i + 1) × (1 ≤ c.cut) × (i + 1 - c.pos < bytes) × (i + 1 - c.pos + 1 + c.cut ≤ next)
   pub two : (i j : ℕ) (c d : ChangeAt) → get_or changes i None ≡ Some c → get_or changes j None ≡ Some d → i ≢ j
@@ -91,7 +91,7 @@ nothing_at zero i nothing is = refl
 nothing_at (suc n) zero nothing is = is
 nothing_at (suc n) (suc i) nothing is = nothing_at n i nothing is
 
-apart_none : (bytes next n : ℕ) → AreApart bytes next (replicate n None)
+apart_none : (bytes next n : ℕ) → RegionsApart bytes next (replicate n None)
 apart_none bytes next n = record {
   one = λ i c is. let e = nothing_at n i None refl in cc;
   two = λ i j c d is _ _ _. let e = nothing_at n i None refl in cc;
@@ -131,7 +131,7 @@ put_at changes one i c is = elim (cases_lt 1 one.place) [
 
 -- One more region, which begins where the next one may, or behind that.
 apart_put : (bytes next begin : ℕ) (changes : List (Option ChangeAt)) (one : Claim) → 1 ≤ begin → begin ≤ bytes → next ≤ begin → IsClaim begin one
-    → AreApart bytes next changes → AreApart bytes (begin + one.change.cut) (put one changes)
+    → RegionsApart bytes next changes → RegionsApart bytes (begin + one.change.cut) (put one changes)
 apart_put bytes next begin changes one first last le claimed apart = record {
   one = λ i c is. elim (put_at changes one i c is) [
     | inl new ↦
@@ -162,33 +162,33 @@ apart_put bytes next begin changes one first last le claimed apart = record {
 
 apart_with : (bytes begin : ℕ) (counted : List Counted) (made : Made) (one : Option Claim) → ((x : Claim) → one ≡ Some x → IsClaim begin x)
     → 1 ≤ begin → begin ≤ bytes → made.next ≤ begin
-    → AreApart bytes made.next made.changes → AreApart bytes (made_with made begin one).next (made_with made begin one).changes
+    → RegionsApart bytes made.next made.changes → RegionsApart bytes (made_with made begin one).next (made_with made begin one).changes
 apart_with bytes begin counted made None claims first last le apart = apart
 apart_with bytes begin counted made (Some one) claims first last le apart =
     apart_put bytes made.next begin made.changes one first last le (claims one refl) apart
 
 apart_at : (bytes begin : ℕ) (counted : List Counted) (made : Made) → 1 ≤ begin → begin ≤ bytes
-    → AreApart bytes made.next made.changes → AreApart bytes (made_at counted made begin).next (made_at counted made begin).changes
+    → RegionsApart bytes made.next made.changes → RegionsApart bytes (made_at counted made begin).next (made_at counted made begin).changes
 apart_at bytes begin counted made first last apart =
     let with : Made = made_with made begin (claim counted begin) in
     elim (cases_lt begin made.next) [
       | inl lt ↦
           let e : made_at counted made begin ≡ made = ap (λ b. cond {A = Made} b made with) (lt-ltb begin made.next lt) in
-          subst (λ m. AreApart bytes m.next m.changes) (sym e) apart
+          subst (λ m. RegionsApart bytes m.next m.changes) (sym e) apart
       | inr le ↦
           let e : made_at counted made begin ≡ with = ap (λ b. cond {A = Made} b made with) (le-ltb begin made.next le) in
-          subst (λ m. AreApart bytes m.next m.changes) (sym e)
+          subst (λ m. RegionsApart bytes m.next m.changes) (sym e)
           (apart_with bytes begin counted made (claim counted begin) (is_claim counted begin) first last le apart)
     ]
 
-apart_fold : (bytes : ℕ) (counted : List Counted) (a n : ℕ) (made : Made) → 1 ≤ a → a + n ≤ bytes + 1 → AreApart bytes made.next made.changes
-    → AreApart bytes (fold (made_at counted) made (range_with_len a n)).next (fold (made_at counted) made (range_with_len a n)).changes
+apart_fold : (bytes : ℕ) (counted : List Counted) (a n : ℕ) (made : Made) → 1 ≤ a → a + n ≤ bytes + 1 → RegionsApart bytes made.next made.changes
+    → RegionsApart bytes (fold (made_at counted) made (range_with_len a n)).next (fold (made_at counted) made (range_with_len a n)).changes
 apart_fold bytes counted a zero made first last apart = apart
 apart_fold bytes counted a (suc n) made first last apart =
     apart_fold bytes counted (a + 1) n (made_at counted made a) (omega arith) (omega arith)
     (apart_at bytes a counted made first (omega arith) apart)
 
-level_apart : (level : Level) (word : List ℕ) → (next : ℕ) × AreApart (length word) next (level_changes level word)
+level_apart : (level : Level) (word : List ℕ) → (next : ℕ) × RegionsApart (length word) next (level_changes level word)
 unfolding level_changes made_up_to
 level_apart level word =
     let counted = counted_in level.patterns (framed word) in

@@ -1,14 +1,17 @@
 -- Laws of words written with their breaks.
-use Rattle.std.specs.Prelude.{◌≡◌, ◌≢◌, ℕ, ◌+◌, ◌-◌, ◌<◌, ◌≤◌, not, false, List, [], ◌∷◌, ◌++◌, ◌||◌, Bool, true, if◌then◌else◌, length, map, drop, take, filter, Option, None, Some, is_some, slice_index, slice_index_or, slice_range}
+use Rattle.std.specs.Prelude.{◌≡◌, ◌≢◌, ℕ, ◌+◌, ◌-◌, ◌<◌, ◌≤◌, not, false, List, [], ◌∷◌, ◌++◌, ◌||◌, ◌⊎◌, max, Bool, true, if◌then◌else◌, length, map, drop, take, filter, Option, None, Some, is_some, slice_index, slice_index_or, slice_range}
 use Rattle.std.specs.List.{list_any, range_with_len}
 use Rattle.hyphenation_breaks.specs.Ascii.{digit_zero, equals_sign}
 use Rattle.libhyphen_files.specs.Bytes.{before_nul}
 use Rattle.libhyphen_files.specs.Files.{Rules}
-use Rattle.libhyphen_files.specs.Levels.{Level}
+use Rattle.libhyphen_files.specs.Levels.{Level, pattern_at}
+use Rattle.libhyphen_files.specs.Patterns.{Pattern}
+use Rattle.hyphenation_breaks.specs.Dictionary.{TextMap}
+use Rattle.libhyphen_rule.specs.Counting.{begins_key, counted_in}
 use Rattle.libhyphen_rule.specs.declared.calls.CallMinima.{CallMinima}
 use Rattle.libhyphen_rule.specs.Calls.{Answer, answer_of, at_least_two, digits_kept, found_by_call, least_of, taken_digit}
 use Rattle.libhyphen_rule.specs.Minima.{has_equals, is_equals, is_short_after, is_short_before}
-use Rattle.libhyphen_rule.specs.OneLevel.{ChangeAt, is_odd, level_changes, level_digits}
+use Rattle.libhyphen_rule.specs.OneLevel.{ChangeAt, digit_at, is_odd, level_changes, level_digits, offers}
 use Rattle.libhyphen_rule.specs.Words.{characters, is_beside, written_word}
 
 -- A text without its equals signs.
@@ -146,3 +149,40 @@ RegionsLieWithinTheWord =
     × ((byte other : ℕ) (change next : ChangeAt) → IsChangeAt level word byte change
     → IsChangeAt level word other next → byte ≢ other → region_begin byte change ≤ region_begin other next
     → region_begin byte change + change.cut ≤ region_begin other next)
+
+-- ---- Patterns that hide no digit.
+
+-- The digit that a pattern, if there is one, gives to a place of its key, from 0 before the key; 0 if it gives none.
+abbrev pub digit_of_pattern : ℕ → ℕ → Option Pattern → ℕ
+digit_of_pattern bytes number None = digit_zero
+digit_of_pattern bytes number (Some pattern) = max digit_zero (slice_index (take (bytes + 1) pattern.digits) number)
+
+abbrev pub digit_of_key : TextMap (List Pattern) → List ℕ → ℕ → ℕ
+digit_of_key patterns key number = digit_of_pattern (length key) number (pattern_at patterns key)
+
+-- Patterns are closed if none hides a digit: a key that ends a beginning of a key gives no place more than that
+-- beginning does itself.
+abbrev pub IsClosed : TextMap (List Pattern) → Type 0
+IsClosed patterns =
+    (text : List ℕ) → begins_key patterns text ≡ true → (start number : ℕ) → start < length text
+    → digit_of_key patterns (drop start text) number ≤ digit_of_key patterns text (start + number)
+
+-- A text of a frame, which begins at the place or before it, gives it a digit.
+pub record GivesDigit (patterns : TextMap (List Pattern)) (frame : List ℕ) (place start end digit : ℕ) : Type 0 where
+  pub nonempty : start < end
+  pub within : end ≤ length frame
+  pub before : start ≤ place
+  pub gives : digit_of_key patterns (slice_range frame start end) (place - start) ≡ digit
+
+-- The digit of a place is the greatest that any key which stands in the frame gives to it, or 0.
+pub record IsGreatestDigit (patterns : TextMap (List Pattern)) (frame : List ℕ) (place digit : ℕ) : Type 0 where
+  pub most : (start end other : ℕ) → GivesDigit patterns frame place start end other → other ≤ digit
+  pub given : (digit ≡ digit_zero)
+      ⊎ ((start : ℕ) × (end : ℕ) × GivesDigit patterns frame place start end digit)
+
+-- In closed patterns it makes no difference that the longest beginning alone counts at each end: the digit of each
+-- place of a frame is the greatest that any key gives to it.
+abbrev pub ClosedPatternsReadAlike : Type 0
+ClosedPatternsReadAlike =
+    (patterns : TextMap (List Pattern)) → IsClosed patterns → (frame : List ℕ) (place : ℕ)
+    → IsGreatestDigit patterns frame place (digit_at (offers (counted_in patterns frame)) place)

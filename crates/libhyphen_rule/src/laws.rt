@@ -2,7 +2,7 @@
 //!
 //! Each function here does nothing: its contract is a law, which the check proves.
 
-ghost use Rattle.libhyphen_rule.specs.Laws.{DigitsLieWithinTheWord, ForbiddenPlacesAreEven, MarksTakenOut, NoLetterIsLost, RegionsLieWithinTheWord};
+ghost use Rattle.libhyphen_rule.specs.Laws.{ClosedPatternsReadAlike, DigitsLieWithinTheWord, ForbiddenPlacesAreEven, MarksTakenOut, NoLetterIsLost, RegionsLieWithinTheWord};
 
 /// A word without an equals sign and without changes, written with its breaks, is the word again once the equals signs
 /// are taken out.
@@ -31,4 +31,9 @@ pub fn digits_lie_within_the_word()
 /// The region of each change that a level makes begins within the word, and no two of them overlap.
 pub fn regions_lie_within_the_word()
     ensures { RegionsLieWithinTheWord }
+{}
+
+/// Where no pattern hides a digit, the longest beginnings alone give the digits that all patterns give.
+pub fn closed_patterns_read_alike()
+    ensures { ClosedPatternsReadAlike }
 {}
