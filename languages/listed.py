@@ -1,4 +1,4 @@
-"""The rows of languages/list, and the paths of their files."""
+"""The rows of languages/list, the paths of their files, and the names of dictionaries."""
 
 import glob
 import os
@@ -54,6 +54,20 @@ def paths_of(row, searched):
         if all(os.path.isfile(path) for path in paths):
             return paths
     return None
+
+
+def default_folder():
+    """The folder of the dictionaries."""
+    first = os.environ.get("HYPHENATION_PATH", "").split(":")[0]
+    if first:
+        return first
+    data = os.environ.get("XDG_DATA_HOME") or os.path.expanduser("~/.local/share")
+    return os.path.join(data, "hyphenation")
+
+
+def file_name(code, kind):
+    """The name of a dictionary text."""
+    return f"{code}.txt" if kind == "standard" else f"{code}.{kind}.txt"
 
 
 def convert_command(row, paths):

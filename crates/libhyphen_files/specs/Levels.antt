@@ -54,7 +54,7 @@ with_pattern utf8 level line =
     if length (key_of line) == 0 then level
     else record level { patterns = with_pair level.patterns (key_of line, pattern_of utf8 line ∷ []) }
 
--- The level with one more line, which has no byte 0. Of each setting the last line counts.
+-- The level with one more line, which has no byte 0. The last line of each setting counts.
 abbrev pub with_text : Bool → Level → List ℕ → Level
 with_text utf8 level line =
     if begins_with line (codes "LEFTHYPHENMIN")

@@ -3,7 +3,7 @@
 use Rattle.std.specs.Prelude.{ℕ, ◌-◌, ◌==◌, ◌||◌, nat_le, if◌then◌else◌, List, [], ◌∷◌, ◌++◌}
 use Rattle.hyphenation_breaks.specs.Ascii.{line_feed}
 
--- The most bytes of the first line, and of each other one. What is over is the next line.
+-- The most bytes of the first line, and of each other one. The bytes that are over are the next line.
 abbrev pub most_of_first : ℕ
 most_of_first = 19
 

@@ -69,7 +69,7 @@ is_changing line = list_any (λ b. b == slash) line
 abbrev pub fields_of : List ℕ → List (List ℕ)
 fields_of text = slice_split (λ b. b == comma) text
 
--- What follows the first slash of a line.
+-- The text after the first slash of a line.
 abbrev pub after_slash : List ℕ → List ℕ
 after_slash line = after_first (λ b. b == slash) line
 

@@ -83,8 +83,8 @@ pub fn load(alloc: Global, bytes: &[u8]) -> Result<LevelDictionary, AllocError>
     }
 }
 
-// Returns the rules of a charset and the lines after the first one. What is before NEXTLEVEL is the level at the top,
-// and what is after it, up to another one, is the level below. The only error is out of memory.
+// Returns the rules of a charset and the lines after the first one. The lines before NEXTLEVEL are the level at the
+// top, and those after it, up to another one, are the level below. The only error is out of memory.
 fn dictionary_of_lines(
     alloc: Global,
     charset: &[u8],

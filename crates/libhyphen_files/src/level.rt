@@ -1,6 +1,6 @@
 //! One level of a `.dic`: its settings and its patterns.
 //!
-//! A level grows line by line, and is then frozen. Of each setting the last line counts, and so does the last line with
+//! A level grows line by line, and is then frozen. The last line of each setting counts, and so does the last line with
 //! a key.
 
 ghost use Rattle.std.specs.Prelude.{◌≡◌, [], ◌∷◌, IfOk, OnOk, IsFalse, map};
@@ -152,7 +152,7 @@ impl GrowingLevel {
         self.with_text(alloc, utf8, before_nul(line))
     }
 
-    // Returns the level with one more line, which is no comment and has no byte 0. Of each setting the last line
+    // Returns the level with one more line, which is no comment and has no byte 0. The last line of each setting
     // counts. The only error is out of memory.
     fn with_text(
         mut self,

@@ -11,7 +11,7 @@ const MOST_OF_FIRST: usize = 19;
 const MOST_OF_OTHER: usize = 99;
 
 // Returns the lines of a file, each with its line feed: of the first one at most 19 bytes, of each other one at most
-// 99. What is over is the next line. The only error is out of memory.
+// 99. The bytes that are over are the next line. The only error is out of memory.
 pub(crate) fn lines_of(alloc: Global, bytes: &[u8]) -> Result<Vec<&[u8]>, AllocError>
     ensures { IfOk result (λ lines. map (λ line. line.now) lines.items ≡ lines_of bytes.now) }
 {

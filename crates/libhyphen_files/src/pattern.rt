@@ -7,6 +7,7 @@ ghost use Rattle.libhyphen_files.specs.Patterns.{before_blank, no_digit, digits_
 ghost use Rattle.libhyphen_files.specs.Patterns.{one_less, region_written, first_place, is_char_place, place_of, char_place};
 ghost use Rattle.libhyphen_files.specs.Patterns.{char_end, start_taken, cut_in_bytes, start_in_bytes, start_behind_dot};
 ghost use Rattle.libhyphen_files.specs.Patterns.{region_in_bytes, with_cut, region_of, change_with, changing_digits, key_of, pattern_of};
+ghost use Rattle.libhyphen_files.specs.Private.Cuts.{IsRest, ArePartsOf};
 
 use crate::numbers::{number_byte, signed};
 use std::alloc::{AllocError, Global};
@@ -72,10 +73,8 @@ fn blank_position(text: &[u8]) -> Option<usize>
 // Returns what is before the first byte of a text that equals `byte`, and what is after it, if there is one.
 fn cut_at(text: &[u8], byte: u8) -> (&[u8], Option<&[u8]>)
     ensures before { result.0.now ≡ before_first (λ b. b == byte) text.now }
-    ensures after { MatchOption result.1 (list_any (λ b. b == byte) text.now ≡ false) (λ rest.
-        (list_any (λ b. b == byte) text.now ≡ true) × (rest.now ≡ after_first (λ b. b == byte) text.now)) }
-    ensures split { MatchOption result.1 (slice_split (λ b. b == byte) text.now ≡ result.0.now ∷ [])
-        (λ rest. slice_split (λ b. b == byte) text.now ≡ result.0.now ∷ slice_split (λ b. b == byte) rest.now) }
+    ensures after { IsRest byte text.now result.1 }
+    ensures split { ArePartsOf byte text.now result.0.now result.1 }
 {
     match position_of(text, byte) {
         None => (text, None),

@@ -294,7 +294,7 @@ one_at c k p is =
       | inr le ↦ omega (arith, past_zero c.digits k le, low)
     ]
 
--- What the longest beginning gives, if it is a key, is given.
+-- The digit of the longest beginning, if it is a key, is given.
 longest_given : (patterns : TextMap (List Pattern)) (frame : List ℕ) (end s place : ℕ) (o : Option Pattern) → s < end → end ≤ length frame → s ≤ place
     → longest_start patterns frame end ≡ Some s → pattern_at patterns (slice_range frame s end) ≡ o
     → digit_of_pattern (length (slice_range frame s end)) (place - s) o ≤ digit_at (offers (counted_in patterns frame)) place

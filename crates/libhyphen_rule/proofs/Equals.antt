@@ -17,7 +17,7 @@ pub record FirstEquals (text : List ℕ) (at : ℕ) : Type 0 where
   pub first : at ≡ position_or_len is_equals text
   pub within : at < length text
 
--- What the first equals sign's place says.
+-- The place of the first equals sign.
 pub some_equals : (text : List ℕ) (at : ℕ) → Some at ≡ position is_equals text → FirstEquals text at
 some_equals text at is = record {
   has = grind (arith, common_steps, any_is is_equals text, is);

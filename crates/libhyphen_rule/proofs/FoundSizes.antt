@@ -70,7 +70,7 @@ level_changes-length level word =
 
 -- ---- Both levels.
 
--- What is found has a digit and a change, or none, for each byte of a number.
+-- The finds have a digit and a change, or none, for each byte of a number.
 pub record HasSize (found : Found) (bytes : ℕ) : Type 0 where
   pub digits : length found.digits ≡ bytes
   pub changes : length found.changes ≡ bytes

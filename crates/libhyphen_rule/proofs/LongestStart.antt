@@ -53,7 +53,7 @@ begins_equal : (text key : List ℕ) → text ≡ take (length text) key → sta
 begins_equal text key front =
     subst (λ (t : List ℕ). pointwise nat_eq text t ≡ true) front (nat_list_eq_equiv.refl text)
 
--- What a key begins with begins a key.
+-- The beginning of a key begins a key.
 key_begins : {X : Type 0} (patterns : TextMap X) (text key : List ℕ) → IsSome (finite.get patterns key)
     → text ≡ take (length text) key → list_any (λ k. starts_with nat_eq k text) (finite.keys patterns) ≡ true
 key_begins patterns text key some front =
@@ -91,7 +91,7 @@ front_again : (text short long : List ℕ) → text ≡ short → long ≡ short
 front_again text short long is same = is ∙ sym same
 
 module _ (tree : Tree Pattern) (trie : IsTrie tree) where
-  -- What a node's text begins with is the text of a node.
+  -- The beginning of a node's text is the text of a node.
   front_node : (more j n : ℕ) → j < length tree.texts → length (node_text tree j) ≡ n + more
       → (i : ℕ) × (i < length tree.texts) × (node_text tree i ≡ take n (node_text tree j))
   front_node zero j n within size = (j, within, sym (take_all n (node_text tree j) (omega arith)))

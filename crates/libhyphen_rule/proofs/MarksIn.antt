@@ -63,7 +63,7 @@ range_one_more word a n le lt =
     ∙ take_more (drop a word) (n - a) 0 within
     ∙ ap (λ (b : ℕ). slice_range word a n ++ b ∷ []) (get_or-drop a word (n - a) 0 ∙ ap (slice_index word) place)
 
--- What is written, without some of its last bytes.
+-- The written text without some of its last bytes.
 go_back : (word before : List ℕ) (a e k : ℕ) → a + k ≤ e → e ≤ length word
     → without_last_bytes k (before ++ slice_range word a e) ≡ before ++ slice_range word a (e - k)
 go_back word before a e k le within =

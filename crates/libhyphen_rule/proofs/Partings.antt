@@ -157,7 +157,7 @@ pub with_none : (whole : Found) (begin count : ℕ) (o : Option Found) → o ≡
 unfolding with_part
 with_none whole begin count o is = sym (ap (with_part whole begin count) is)
 
--- What a part gave is put.
+-- The finds of a part are put.
 pub with_some : (whole after part : Found) (begin count : ℕ) (o : Option Found) → o ≡ Some part → after ≡ with_part whole begin count (Some part) →
     after ≡ with_part whole begin count o
 with_some whole after part begin count o is put = put ∙ ap (with_part whole begin count) (sym is)

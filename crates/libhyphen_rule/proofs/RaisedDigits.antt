@@ -100,7 +100,7 @@ has_more counted more c start given digits raised new is kept at are takes has =
     subst (λ (d : List ℕ). HasDigits (offers more) d) (sym kept)
     (subst (λ (g : List Offer). HasDigits g raised) (sym (ap offers is ∙ offers_more counted c)) (takes (offers counted) c at are has))
 
--- What a pattern gives begins where the pattern does, and has its digits or none.
+-- The digits that a pattern gives begin where the pattern does, and are its own or none.
 pub given_start : (plain : Bool) (c : Counted) → (given_by plain c).start ≡ c.start
 given_start plain c =
     elim (plain && is_some c.change) as (λ b. (cond b (record c { digits = [] }) c).start ≡ c.start) [ true ↦ refl | false ↦ refl ]

@@ -1,4 +1,4 @@
--- What is found, by its parts.
+-- The finds in a word, by its parts.
 use Rattle.std.proofs.Common.{◌≡◌, ℕ, ◌-◌, ◌≤◌, ◌||◌, ◌==◌, Bool, true, false, cond, List, [], ◌++◌, length, take, drop, set, replicate, get_or, Option, None, Some, refl, sym, ap, ◌∙◌, arith, nat_lt, position, slice_range}
 use Rattle.std.specs.List.{position_or_len}
 use Rattle.std.proofs.lemmas.Bool.Decides.{nat_tests}

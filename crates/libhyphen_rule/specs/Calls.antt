@@ -1,4 +1,4 @@
--- What the calls of libhyphen give for a word.
+-- The answers of libhyphen's calls for a word.
 -- Source: libhyphen 2.8.8, hyphen.h and hyphen.c.
 use Rattle.std.specs.Prelude.{ℕ, ℤ, pos, ◌+◌, ◌&&◌, int_le, int_lt, nat_lt, Bool, true, if◌then◌else◌, List, [], ◌∷◌, ◌++◌, length, map, take, drop, Option, None, Some, slice_index}
 use Rattle.std.specs.List.{range_with_len}
@@ -38,7 +38,7 @@ at_least_two least = if int_lt (pos 0) least then least else pos 2
 
 -- ---- The digits and the changes.
 
--- A word is the first bytes of a text. What stands behind it counts for minima and texts without breaks, up to the first byte 0.
+-- A word is the first bytes of a text. The text behind it counts for minima and texts without breaks, up to the first byte 0.
 abbrev pub without_ends : Bool → CallMinima → List ℕ → List ℕ → Found → Found
 without_ends utf8 least word text found =
     without_right utf8 (at_least_two least.right) word text
@@ -47,7 +47,7 @@ without_ends utf8 least word text found =
 abbrev pub part_minima : CallMinima → PartMinima
 part_minima least = record { left = least.compound_left; right = least.compound_right }
 
--- What both levels find in a word, without the places that are too near to its ends.
+-- The finds of both levels in a word, without the places that are too near to its ends.
 abbrev pub found_within : Rules → CallMinima → List ℕ → ℕ → Found
 found_within rules least text size =
     without_ends rules.utf8 least (take size text) (before_nul text) (word_found rules (part_minima least) (take size text) (drop size text))
@@ -55,7 +55,7 @@ found_within rules least text size =
 unfoldable pub found_by_call : Rules → Option CallMinima → List ℕ → ℕ → Found
 found_by_call rules given text size = found_within rules (least_of rules.top.minima given) text size
 
--- What stands at a place beside a text without breaks: the digit 0, or a byte 0 where the caller gives minima.
+-- The digit of a place beside a text without breaks: 0, or a byte 0 where the caller gives minima.
 abbrev pub taken_digit : Option CallMinima → ℕ
 taken_digit None = digit_zero
 taken_digit (Some given) = 0
@@ -63,12 +63,16 @@ taken_digit (Some given) = 0
 abbrev pub digits_kept : Rules → Option CallMinima → List ℕ → List ℕ → List ℕ
 digits_kept rules given text digits = digits_beside rules.top.no_hyphen (taken_digit given) (before_nul text) digits
 
--- What a call gives: for each character of the word the digit and the change of the place behind it, and whether any change was
+-- The answer of a call: for each character of the word the digit and the change of the place behind it, and whether any change was
 -- made, also one that was taken away. In other charsets than UTF-8 each byte is a character.
 pub record Answer : Type 0 where
   pub digits : List ℕ
   pub changes : List (Option ChangeAt)
   pub made : Bool
+
+-- The changes of the characters of a word.
+abbrev pub changes_in_characters : List ℕ → ℕ → List (Option ChangeAt) → List (Option ChangeAt)
+changes_in_characters text size changes = changes_of_characters (take size text) (text ++ 0 ∷ []) changes
 
 abbrev pub answer_in_bytes : Found → List ℕ → Answer
 answer_in_bytes found digits = record { digits = digits; changes = found.changes; made = found.made }
@@ -76,7 +80,7 @@ answer_in_bytes found digits = record { digits = digits; changes = found.changes
 abbrev pub answer_in_characters : List ℕ → ℕ → Found → List ℕ → Answer
 answer_in_characters text size found digits = record {
   digits = digits_of_characters (take size text) digits;
-  changes = changes_of_characters (take size text) (text ++ 0 ∷ []) found.changes;
+  changes = changes_in_characters text size found.changes;
   made = found.made;
 }
 

@@ -1,7 +1,7 @@
--- What is found in a word, as contracts see it.
+-- The finds in a word, as contracts see them.
 use Rattle.std.specs.Prelude.{List, map, Option, option_map}
 use Rattle.libhyphen_rule.specs.OneLevel.{ChangeAt}
-use Rattle.libhyphen_rule.specs.Parts.{Asked, Found, PartMinima, Texts}
+use Rattle.libhyphen_rule.specs.Parts.{Asked, Found, PartMinima, Texts, found_below, without_left_of_part, without_right_of_part}
 use Rattle.libhyphen_rule.specs.Calls.{Answer}
 use Rattle.libhyphen_rule.specs.declared.calls.CallAnswer.{CallAnswer}
 use Rattle.libhyphen_rule.specs.declared.found.WordFound.{WordFound}
@@ -18,7 +18,7 @@ placed change = record { text = change.text.now; pos = change.pos; cut = change.
 abbrev pub placed_all : List (Option PlacedChange) → List (Option ChangeAt)
 placed_all changes = map (option_map placed) changes
 
--- What is found in a word.
+-- The finds in a word.
 abbrev pub found_of : WordFound → Found
 found_of found = record {
   digits = found.digits.items;
@@ -42,10 +42,24 @@ minima_of levels = record { left = levels.left; right = levels.right }
 abbrev pub texts_of : PartTexts → Texts
 texts_of texts = record { text = texts.text.items; behind = texts.behind.items }
 
--- What a call gives.
+-- The answer of a call.
 abbrev pub answer_view : CallAnswer → Answer
 answer_view answer = record {
   digits = answer.digits.items;
   changes = placed_all answer.changes.items;
   made = answer.made;
 }
+
+-- The finds in a part without the places that are too near to its begin, or to its end.
+abbrev pub without_left_in : BothLevels → AskedText → WordFound → Found
+without_left_in levels asked found =
+    without_left_of_part levels.dictionary.now.utf8 (minima_of levels) (asked_in asked) (found_of found)
+
+abbrev pub without_right_in : BothLevels → AskedText → WordFound → Found
+without_right_in levels asked found =
+    without_right_of_part levels.dictionary.now.utf8 (minima_of levels) (asked_in asked) (found_of found)
+
+-- The finds in a text in which the level at the top has these finds and no break.
+abbrev pub below_in : BothLevels → AskedText → WordFound → Found
+below_in levels asked top =
+    found_below levels.dictionary.now (minima_of levels) top.parts (asked_in asked) (placed_all top.changes.items)

@@ -118,7 +118,7 @@ abbrev pub HasEachCharacter : Rules → List ℕ → Answer → Type 0
 HasEachCharacter rules word answer =
     (length answer.digits ≡ size_in_characters rules word) × (length answer.changes ≡ size_in_characters rules word)
 
--- What is found lies within the word: there are as many digits and changes as bytes, and in an answer as many as
+-- The finds lie within the word: there are as many digits and changes as bytes, and in an answer as many as
 -- characters. By one level no break is behind the word's last byte.
 abbrev pub DigitsLieWithinTheWord : Type 0
 DigitsLieWithinTheWord =

@@ -33,6 +33,21 @@ is_short_after utf8 least word byte =
 -- A change keeps its place, if it has enough letters itself, or its text has no equals sign: before the break those before its
 -- region and those of its text before the equals sign; behind the break those behind its region, in 100 bytes at most, and those
 -- of its text behind the equals sign.
+-- A change has too few letters before its break, where so many bytes are before its place.
+abbrev pub change_is_short_before : Bool → ℤ → List ℕ → ℕ → ChangeAt → Bool
+change_is_short_before utf8 least text end change =
+    has_equals change.text
+    && is_below
+    (letters_in_first utf8 text (end - change.pos) + letters utf8 (before_first is_equals change.text)) least
+
+-- The same behind its break.
+abbrev pub change_is_short_after : Bool → ℤ → List ℕ → ℕ → ChangeAt → Bool
+change_is_short_after utf8 least text end change =
+    has_equals change.text
+    && is_below
+    (letters_in_hundred utf8 (drop (end - change.pos + change.cut) text)
+    + letters utf8 (after_first is_equals change.text)) least
+
 abbrev pub goes_before : Bool → ℤ → List ℕ → ℕ → Option ChangeAt → Bool
 goes_before utf8 least text byte None = is_short_before utf8 least text byte
 goes_before utf8 least text byte (Some change) =

@@ -155,7 +155,7 @@ made_up_to counted bytes begins =
 abbrev pub digit_behind : List Offer → ℕ → ℕ → ℕ
 digit_behind given bytes byte = if nat_lt (byte + 1) bytes then digit_at given (byte + 2) else digit_zero
 
--- What a pattern gives, if patterns that change letters may be asked to give no digits.
+-- A pattern as it counts, if patterns that change letters may be asked to give no digits.
 abbrev pub given_by : Bool → Counted → Counted
 given_by plain counted = if plain && is_some counted.change then record counted { digits = [] } else counted
 

@@ -10,7 +10,7 @@ use Rattle.libhyphen_rule.specs.Counting.{shown}
 use Rattle.libhyphen_rule.specs.Minima.{changes_but, digits_but, is_equals, left_goes, right_goes}
 use Rattle.libhyphen_rule.specs.OneLevel.{ChangeAt, is_odd, level_changes, level_digits}
 
--- What is found in a text: for each byte the digit and the change of the place behind it, and whether a change was
+-- The finds in a text: for each byte the digit and the change of the place behind it, and whether a change was
 -- made, also one that a minimum took away. `parts` is how many more parts of the word may be asked.
 pub record Found : Type 0 where
   pub digits : List ℕ
@@ -118,7 +118,7 @@ pub record Texts : Type 0 where
   pub text : List ℕ
   pub behind : List ℕ
 
--- The text and what stands behind it, where a part ends at a change. What the change's text has before the equals sign
+-- The text and what stands behind it, where a part ends at a change. The part of the change's text before the equals sign
 -- takes the place of the part's last bytes. A text without an equals sign takes their place and goes on behind the
 -- part.
 abbrev pub changed_part : List ℕ → ℕ → ℕ → ChangeAt → Option ℕ → Texts
@@ -148,7 +148,7 @@ asked_of whole begin end texts = record {
 abbrev pub Asking : Type 0
 Asking = ℕ → Asked → Option Found
 
--- What is found in the whole, with what is found in a part that begins at `begin` and has this many places that count:
+-- The finds in the whole, with those in a part that begins at `begin` and has this many places that count:
 -- all but its last two.
 unfoldable pub with_part : Found → ℕ → ℕ → Option Found → Found
 with_part whole begin count None = whole
@@ -211,7 +211,7 @@ abbrev pub ask_by : (ℕ → Asked → Found) → Asking
 ask_by find zero asked = None
 ask_by find (suc parts) asked = Some (find parts asked)
 
--- What is found in a text by both levels. Parts are parted again, up to a depth.
+-- The finds in a text by both levels. Parts are parted again, up to a depth.
 unfoldable pub found_in : Rules → PartMinima → ℕ → ℕ → Asked → Found
 found_in rules minima zero parts asked =
     found_by_top rules minima ask_none parts asked (top_found rules parts asked.text)

@@ -35,7 +35,7 @@ pub record Writing : Type 0 where
 abbrev pub without_last_bytes : ℕ → List ℕ → List ℕ
 without_last_bytes count written = take (length written - count) written
 
--- What is written at an odd place: an equals sign, or the text of the change in the place of the bytes before it.
+-- The text with the mark of an odd place: an equals sign, or the text of the change in the place of the bytes before it.
 abbrev pub with_mark : List ℕ → Option ChangeAt → List ℕ
 with_mark written None = written ++ equals_sign ∷ []
 with_mark written (Some change) = without_last_bytes change.pos written ++ change.text

@@ -4,7 +4,8 @@ ghost use Rattle.std.specs.Prelude.{◌≡◌, ◌<◌, ◌≤◌, ◌++◌, ◌
 ghost use Rattle.std.specs.Option.{option_map};
 ghost use Rattle.libhyphen_rule.specs.Found.{placed_all, found_of, answer_view};
 ghost use Rattle.libhyphen_files.specs.Bytes.{before_nul, continues};
-ghost use Rattle.libhyphen_rule.specs.Calls.{answer_of, inner_digit, inner_digits, plain_digits, text_of_call, found_by_call, taken_digit, greater, least_of, at_least_two};
+ghost use Rattle.libhyphen_rule.specs.Calls.{answer_of, inner_digit, inner_digits, plain_digits, text_of_call};
+ghost use Rattle.libhyphen_rule.specs.Calls.{found_by_call, changes_in_characters, taken_digit, greater, least_of, at_least_two};
 ghost use Rattle.libhyphen_rule.specs.Parts.{without_left, without_right};
 ghost use Rattle.libhyphen_rule.specs.Words.{changes_of_characters, digits_beside, digits_of_characters};
 
@@ -35,7 +36,7 @@ pub struct CallMinima {
     pub compound_right: i32,
 }
 
-/// What a call gives: for each character of the word, the digit and the change of the place behind it. In other charsets than UTF-8
+/// The answer of a call: for each character of the word, the digit and the change of the place behind it. In other charsets than UTF-8
 /// each byte is a character.
 #[derive(Debug, Drop)]
 pub struct CallAnswer<'d> {
@@ -240,7 +241,7 @@ fn answer_in_characters<'d>(
     requires changes { length changes.items ≡ size }
     ensures digits { IfOk result (λ answer. answer.digits.items ≡ digits_of_characters (take size text.now) digits.items) }
     ensures changes { IfOk result (λ answer. placed_all answer.changes.items
-        ≡ changes_of_characters (take size text.now) (text.now ++ 0 ∷ []) (placed_all changes.entry.items)) }
+        ≡ changes_in_characters text.now size (placed_all changes.entry.items)) }
     ensures made { IfOk result (λ answer. answer.made ≡ made) }
 {
     let word = &text[..size];
@@ -258,7 +259,7 @@ fn answer_in_characters<'d>(
     })
 }
 
-/// Breaks a word: the first bytes of a text. What stands behind it counts for minima and texts without breaks, as it does for
+/// Breaks a word: the first bytes of a text. The text behind it counts for minima and texts without breaks, as it does for
 /// libhyphen.
 ///
 /// Without minima of the caller those of the dictionary count, as in libhyphen's `hnj_hyphen_hyphenate2`; with them of each the greater

@@ -1,4 +1,4 @@
-//! What the patterns that count say of a frame's places, for the changes of a word.
+//! The cells of a frame's places, which keep what the patterns that count say of them, for the changes of a word.
 
 ghost use Rattle.std.specs.Prelude.{◌≡◌, ℕ, pos, ◌+◌, ◌-◌, ◌<◌, ◌≤◌, ◌^◌, ◌&&◌, ◌==◌, ◌+ℤ◌, ◌<ℤ◌, [], IfOk, MatchOption};
 ghost use Rattle.std.specs.Prelude.{int_le, length, nat_le};

@@ -1,8 +1,8 @@
-//! What is found in a word.
+//! The finds in a word.
 
 use crate::one_level::PlacedChange;
 
-/// What is found in a word: for each of its bytes, the digit and the change of the place behind it.
+/// The finds in a word: for each of its bytes, the digit and the change of the place behind it.
 #[derive(Debug, Drop)]
 pub struct WordFound<'d> {
     /// The digits, from `b'0'` to `b'9'`. An odd one allows a break.

@@ -2,7 +2,8 @@
 //!
 //! Each function here does nothing: its contract is a law, which the check proves.
 
-ghost use Rattle.libhyphen_rule.specs.Laws.{ClosedPatternsReadAlike, DigitsLieWithinTheWord, ForbiddenPlacesAreEven, MarksTakenOut, NoLetterIsLost, RegionsLieWithinTheWord};
+ghost use Rattle.libhyphen_rule.specs.Laws.{ClosedPatternsReadAlike, DigitsLieWithinTheWord, ForbiddenPlacesAreEven};
+ghost use Rattle.libhyphen_rule.specs.Laws.{MarksTakenOut, NoLetterIsLost, RegionsLieWithinTheWord};
 
 /// A word without an equals sign and without changes, written with its breaks, is the word again once the equals signs
 /// are taken out.

@@ -3,9 +3,9 @@
 ghost use Rattle.std.specs.Prelude.{◌≡◌, ◌+ℤ◌, ◌<◌, ◌≤◌, ◌+◌, ◌-◌, ◌&&◌, None, length, drop, take, set, pos};
 ghost use Rattle.std.specs.List.{after_first, before_first, position};
 ghost use Rattle.hyphenation_breaks.specs.Ascii.{digit_zero};
-ghost use Rattle.libhyphen_rule.specs.Found.{placed_all};
+ghost use Rattle.libhyphen_rule.specs.Found.{placed, placed_all};
 ghost use Rattle.libhyphen_rule.specs.Letters.{letters, letters_in_first, letters_in_hundred};
-ghost use Rattle.libhyphen_rule.specs.Minima.{digits_but, changes_but, left_goes, right_goes};
+ghost use Rattle.libhyphen_rule.specs.Minima.{change_is_short_before, change_is_short_after, digits_but, changes_but, left_goes, right_goes};
 ghost use Rattle.libhyphen_rule.specs.Minima.{has_equals, is_below, is_equals};
 
 use crate::letters::{
@@ -56,9 +56,7 @@ fn is_short_before(
     change: &PlacedChange<'_>,
 ) -> bool
     requires { end ≤ length text.now }
-    ensures { result ≡ (has_equals change.now.text.now
-        && is_below (letters_in_first utf8 text.now (end - change.now.pos)
-        + letters utf8 (before_first is_equals change.now.text.now)) least) }
+    ensures { result ≡ change_is_short_before utf8 least text.now end (placed change.now) }
 {
     match find_equals(change.text) {
         Some(equals) => {
@@ -80,9 +78,7 @@ fn is_short_after(
     end: usize,
     change: &PlacedChange<'_>,
 ) -> bool
-    ensures { result ≡ (has_equals change.now.text.now
-        && is_below (letters_in_hundred utf8 (drop (end - change.now.pos + change.now.cut) text.now)
-        + letters utf8 (after_first is_equals change.now.text.now)) least) }
+    ensures { result ≡ change_is_short_after utf8 least text.now end (placed change.now) }
 {
     match find_equals(change.text) {
         Some(equals) => {

@@ -8,7 +8,7 @@ ghost use Rattle.libhyphen_rule.specs.Found.{placed, placed_all};
 ghost use Rattle.libhyphen_rule.specs.OneLevel.{level_digits, level_changes, changes_by, offers};
 ghost use Rattle.libhyphen_rule.specs.OneLevel.{claim, put, made_up_to, at_least_one};
 ghost use Rattle.libhyphen_rule.specs.Private.Cells.{HasCells};
-ghost use Rattle.libhyphen_rule.specs.Private.Claims.{AreWithin, claimed};
+ghost use Rattle.libhyphen_rule.specs.Private.Claims.{AreMade, AreWithin, claimed};
 
 use crate::cells::{Cell, empty_cells, take_pattern};
 use crate::counting::{first_digits, framed_byte, pattern_of_node};
@@ -109,8 +109,7 @@ fn make_changes<'d>(cells: &[Cell<'d>], changes: &mut [Option<PlacedChange<'d>>]
     requires places { length cells.now ≡ length changes.old + 3 }
     requires room { length cells.now < 2 ^ 63 - 200 }
     requires within { AreWithin cells.now }
-    ensures { (counted : List Counted) → HasCells counted (offers counted) cells.now
-        → placed_all changes.new ≡ (made_up_to counted (length changes.old) (length changes.old)).changes }
+    ensures { AreMade cells.now (length changes.old) changes.new }
 {
     clear(changes);
     let mut next = 1;

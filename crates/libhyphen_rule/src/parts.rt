@@ -7,6 +7,7 @@ ghost use Rattle.std.specs.Option.{option_map, option_or};
 ghost use Rattle.hyphenation_breaks.specs.Ascii.{digit_zero};
 ghost use Rattle.libhyphen_rule.specs.Counting.{shown};
 ghost use Rattle.libhyphen_rule.specs.OneLevel.{is_odd};
+ghost use Rattle.libhyphen_rule.specs.Found.{below_in, without_left_in, without_right_in};
 ghost use Rattle.libhyphen_rule.specs.Found.{asked_in, found_of, minima_of, placed, placed_all, texts_of};
 ghost use Rattle.libhyphen_rule.specs.Parts.{asked_of, below_found, changes_with, digits_with, ends_part, found_below};
 ghost use Rattle.libhyphen_rule.specs.Parts.{found_in, part_text, seen_after, some_change, top_found, with_behind};
@@ -320,8 +321,7 @@ fn take_left_of_part(
 ) -> Result<(), AllocError>
     requires { length found.old.changes.items ≡ length found.old.digits.items }
     ensures found { OnOk result (found_of found.new
-        ≡ without_left_of_part levels.entry.dictionary.now.utf8 (minima_of levels.entry)
-        (asked_in asked.entry) (found_of found.old)) }
+        ≡ without_left_in levels.entry asked.entry found.old) }
     ensures digits { length found.new.digits.items ≡ length found.old.digits.items }
     ensures changes { length found.new.changes.items ≡ length found.old.changes.items }
 {
@@ -350,8 +350,7 @@ fn take_right_of_part(
     requires digits { length found.old.digits.items ≡ length asked.text.now }
     requires changes { length found.old.changes.items ≡ length asked.text.now }
     ensures found { OnOk result (found_of found.new
-        ≡ without_right_of_part levels.entry.dictionary.now.utf8 (minima_of levels.entry)
-        (asked_in asked.entry) (found_of found.old)) }
+        ≡ without_right_in levels.entry asked.entry found.old) }
     ensures digits { length found.new.digits.items ≡ length found.old.digits.items }
     ensures changes { length found.new.changes.items ≡ length found.old.changes.items }
 {
@@ -382,8 +381,7 @@ fn found_below<'d>(
     requires changes { length top.changes.items ≡ length asked.text.now }
     requires made { top.made ≡ some_change (placed_all top.changes.items) }
     ensures found { IfOk result (λ found. found_of found
-        ≡ found_below levels.entry.dictionary.now (minima_of levels.entry) top.entry.parts
-        (asked_in asked.entry) (placed_all top.entry.changes.items)) }
+        ≡ below_in levels.entry asked.entry top.entry) }
     ensures digits { IfOk result (λ found. length found.digits.items ≡ length asked.entry.text.now) }
     ensures changes { IfOk result (λ found. length found.changes.items ≡ length asked.entry.text.now) }
 {

@@ -4,7 +4,9 @@
 ghost use Rattle.std.specs.Prelude.{◌≡◌, ◌<◌, ℕ, false, nat_lt, length, map, option_map, slice_range, IfOk, OnOk};
 ghost use Rattle.std.specs.List.{list_all, list_any};
 ghost use Rattle.libhyphen_rule.specs.Found.{placed, placed_all};
-ghost use Rattle.libhyphen_rule.specs.Words.{begins, change_in_characters, changes_of_characters, characters, digits_beside, digits_of_characters, is_beside, is_last, passed_over, stands_at, with_mark, written_word};
+ghost use Rattle.libhyphen_rule.specs.Words.{begins, change_in_characters, changes_of_characters, characters};
+ghost use Rattle.libhyphen_rule.specs.Words.{digits_beside, digits_of_characters, is_beside, is_last, passed_over};
+ghost use Rattle.libhyphen_rule.specs.Words.{stands_at, with_mark, written_word};
 
 use crate::one_level::PlacedChange;
 use libhyphen_files::bytes::continues;

@@ -58,7 +58,7 @@ abbrev pub AreCells : List Cell → List Cell → (ℕ → Cell → Cell) → Ty
 AreCells old new after =
     (at : ℕ) (d : Cell) → at < length old → slice_index_or new at d ≡ after at (slice_index_or old at d)
 
--- What is given before an offer, and with it.
+-- The offers before another one, and with it.
 abbrev pub TakesOffer : ℕ → ℕ → Option Change → Option ℕ → List Cell → List Cell → Type 0
 TakesOffer place digit change begin old new =
     (counted : List Counted) (given : List Offer) (o : Offer) → o.place ≡ place → o.digit ≡ digit → o.change ≡ change

@@ -1,7 +1,9 @@
 -- The changes that regions claim.
 use Rattle.std.specs.Prelude.{◌≡◌, ℕ, ◌<◌, ◌≤◌, List, length, slice_index_or, Option, Some, option_map}
-use Rattle.libhyphen_rule.specs.Found.{placed}
-use Rattle.libhyphen_rule.specs.OneLevel.{Claim, ChangeAt, Made}
+use Rattle.libhyphen_rule.specs.Counting.{Counted}
+use Rattle.libhyphen_rule.specs.Found.{placed, placed_all}
+use Rattle.libhyphen_rule.specs.Private.Cells.{HasCells}
+use Rattle.libhyphen_rule.specs.OneLevel.{Claim, ChangeAt, Made, made_up_to, offers}
 use Rattle.libhyphen_rule.specs.declared.cells.Cell.{Cell}
 use Rattle.libhyphen_rule.specs.declared.one_level.PlacedChange.{PlacedChange}
 
@@ -22,3 +24,9 @@ claimed made = option_map claim_made made
 -- The changes that are made so far, and the next beginning.
 abbrev pub made_now : ℕ → List (Option ChangeAt) → Made
 made_now next changes = record { next = next; changes = changes }
+
+-- The changes of a word's bytes are made by the cells.
+abbrev pub AreMade : List Cell → ℕ → List (Option PlacedChange) → Type 0
+AreMade cells bytes changes =
+    (counted : List Counted) → HasCells counted (offers counted) cells
+    → placed_all changes ≡ (made_up_to counted bytes bytes).changes

@@ -8,7 +8,7 @@ abbrev pub HasDigits : List Offer → List ℕ → Type 0
 HasDigits given digits =
     (byte : ℕ) → byte < length digits → slice_index digits byte ≡ digit_behind given (length digits) byte
 
--- What is given before an offer, and with it.
+-- The offers before another one, and with it.
 abbrev pub TakesOffer : ℕ → ℕ → List ℕ → List ℕ → Type 0
 TakesOffer place digit old new =
     (given : List Offer) (o : Offer) → o.place ≡ place → o.digit ≡ digit → HasDigits given old

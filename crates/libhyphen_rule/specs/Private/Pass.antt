@@ -10,6 +10,6 @@ pattern_of_node tree node =
     if node == 0 then None
     else option_and_then (λ found. slice_get found 0) (entries_of_key tree (node_text tree node))
 
--- What is behind a reference, if there is one.
+-- The value behind a reference, if there is one.
 abbrev pub value_of : {X : Type 0} → Option (Bor X) → Option X
 value_of found = option_map (λ x. x.now) found
