@@ -11,6 +11,7 @@ struct own {
   HyphenDict seen;
   hyphenation_levels levels;
   hyphenation text;
+  size_t left, right; /* the minima of the text */
   bool is_text;
   pthread_mutex_t lock;
 };
@@ -46,7 +47,8 @@ static uint32_t load(struct own *own, const uint8_t *bytes, size_t length) {
     strcpy(seen->cset, "UTF-8");
     seen->utf8 = 1;
     own->is_text = true;
-    return hyphenation_load(hyphenation_kind_of(bytes, length), bytes, length, &own->text, &line, &cause);
+    uint32_t status = hyphenation_load(hyphenation_kind_of(bytes, length), bytes, length, &own->text, &line, &cause);
+    return status == HYPHENATION_DONE ? hyphenation_minima(&own->text, &own->left, &own->right) : status;
   }
   uint32_t status = hyphenation_levels_load(bytes, length, &own->levels, &head);
   if (status != HYPHENATION_DONE) return status;
@@ -163,6 +165,26 @@ static size_t append(char *out, size_t room, size_t made, const char *bytes, siz
   return made + (size_t)snprintf(out + made, room - made, "%.*s%s", (int)length, bytes, text);
 }
 
+/* The bytes of a hyphen, a dash or an apostrophe that stands at a place of a word; 0 if none does. */
+static size_t dash_at(const char *word, size_t size, size_t at) {
+  if (word[at] == '-' || word[at] == '\'') return 1;
+  if (size - at < 3 || memcmp(word + at, "\xE2\x80", 2) != 0) return 0;
+  return word[at + 2] == '\x93' || word[at + 2] == '\x99' ? 3 : 0;
+}
+
+/* Whether a place of a compound has too few letters between it and a dash. LibreOffice passes a compound with dashes in
+ * one piece, and breaks it at these itself. */
+static bool near_dash(const struct own *own, const char *word, size_t size, size_t place) {
+  size_t begin = 0, end = size;
+  for (size_t at = 0; at < size && end == size; at++) {
+    size_t dash = dash_at(word, size, at);
+    if (dash && at < place) begin = at + dash;
+    if (dash && at >= place) end = at;
+  }
+  return begin > place || (begin > 0 && characters(word + begin, place - begin) < own->left) ||
+         (end < size && characters(word + place, end - place) < own->right);
+}
+
 /* Hyphenates by a text of this library. Changes that the caller has no lists for are left out. */
 static bool by_text(struct own *own, int left, int right, const char *word, size_t size, char *hyphens,
                     char *hyphenated_word, const struct lists *to) {
@@ -196,6 +218,7 @@ static bool by_text(struct own *own, int left, int right, const char *word, size
     char *text = NULL;
     next = after + b->after;
     if (place < 1 || (long)place < left || (long)(all - place) < right) continue;
+    if (near_dash(own, word, size, b->place)) continue;
     if (changed && !(to->rep && to->pos && to->cut)) continue;
     if (changed)
       done = make(to, size) && asprintf(&text, "%.*s=%.*s", (int)b->before, before, (int)b->after, after) >= 0 &&

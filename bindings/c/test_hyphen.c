@@ -111,6 +111,14 @@ int main(void) {
   assert(hnj_hyphen_hyphenate(dict, "Hyphenation", 11, found) == 0 && strcmp(found, "01000110000") == 0);
   hnj_hyphen_free(dict);
 
+  /* No break is beside a dash, nor with too few letters to it. */
+  dict = load("hyphenation 1 standard\nlanguage de-1996\nminima 2 2\np a1u\np 1b\np c1k\np 1-1\n");
+  assert(dict);
+  check(dict, "stau-becken", "00000001000", "stau-bec=ken");
+  check(dict, "staubecken", "0011001000", "sta=u=bec=ken");
+  check(dict, "stau\xE2\x80\x93" "becken", "00000001000", "stau\xE2\x80\x93" "bec=ken");
+  hnj_hyphen_free(dict);
+
   /* Any file is a .dic, but no faulty text is a dictionary. */
   dict = load("EBCDIC\n");
   assert(dict && strcmp(dict->cset, "EBCDIC") == 0);
