@@ -1,12 +1,13 @@
--- The change of one more place is listed behind the others.
-use Rattle.std.proofs.Common.{◌≡◌, ℕ, ◌+◌, ◌<◌, List, [], ◌∷◌, ◌++◌, length, take, get_or, ap, ◌∙◌, arith}
-use Rattle.std.specs.Prelude.{Option, option_map}
+-- The change of one more place is listed behind the others. A list without changes lists none.
+use Rattle.std.proofs.Common.{◌≡◌, ℕ, zero, suc, ◌+◌, ◌<◌, List, [], ◌∷◌, ◌++◌, length, take, get_or, refl, ap, ◌∙◌, arith}
+use Rattle.std.specs.Prelude.{Option, None, option_map, replicate}
 use Rattle.std.specs.List.{enumerate_from, flat_map}
 use Rattle.std.proofs.lemmas.Grind.{flat_map-append}
 use Rattle.std.proofs.lemmas.List.{append-nil, length-map, length-take-le, map-append, take_more}
-use Rattle.libhyphen_rule.specs.Found.{placed, placed_all}
+use Rattle.libhyphen_rule.specs.Found.{placed, placed_all, placed_or_none}
+use Rattle.libhyphen_rule.specs.OneLevel.{ChangeAt}
 use Rattle.libhyphen_rule.specs.declared.one_level.PlacedChange.{PlacedChange}
-use Rattle.level_calls.specs.Changes.{change_listed, listed_changes}
+use Rattle.level_calls.specs.Changes.{change_listed, listed_changes, listed_texts}
 
 -- one more element has the next number
 numbered : {X : Type 0} (n : ℕ) (xs : List X) (x : X) → enumerate_from n (xs ++ x ∷ []) ≡ enumerate_from n xs ++ (n + length xs, x) ∷ []
@@ -28,3 +29,30 @@ listed_more changes i d x lt is =
     ∙ ap (λ l. listed_changes before ++ l) (append-nil (change_listed (0 + length before, option_map placed (get_or changes i d))))
     ∙ ap (λ (y : Option PlacedChange). listed_changes before ++ change_listed (0 + length before, option_map placed y)) is
     ∙ ap (λ (k : ℕ). listed_changes before ++ change_listed (k, option_map placed x)) size
+
+-- ---- Places without changes.
+
+abbrev none_at : ℕ → List (Option ChangeAt)
+none_at places = replicate places None
+
+none_listed_from : (places first : ℕ) → flat_map change_listed (enumerate_from first (none_at places)) ≡ []
+none_listed_from zero first = refl
+none_listed_from (suc places) first = none_listed_from places (first + 1)
+
+no_texts_listed : (places : ℕ) → listed_texts (none_at places) ≡ []
+unfolding listed_texts
+no_texts_listed zero = refl
+no_texts_listed (suc places) = no_texts_listed places
+
+-- An empty list of changes is listed as that of places without changes.
+pub listed_or_none : (places : ℕ) (changes : List (Option PlacedChange))
+    → listed_changes (placed_or_none places changes) ≡ listed_changes (placed_all changes)
+unfolding listed_changes
+listed_or_none places [] = none_listed_from places 0
+listed_or_none places (change ∷ changes) = refl
+
+pub texts_or_none : (places : ℕ) (changes : List (Option PlacedChange))
+    → listed_texts (placed_or_none places changes) ≡ listed_texts (placed_all changes)
+unfolding listed_texts
+texts_or_none places [] = no_texts_listed places
+texts_or_none places (change ∷ changes) = refl

@@ -5,6 +5,7 @@ ghost use Rattle.c_calls.specs.Statuses.{into};
 ghost use Rattle.libhyphen_files.specs.Files.{rules_of};
 ghost use Rattle.libhyphen_rule.specs.Calls.{answer_of, Answer};
 ghost use Rattle.libhyphen_rule.specs.Found.{answer_view};
+ghost use Rattle.level_calls.specs.Changes.{listed_changes, listed_texts};
 ghost use Rattle.level_calls.specs.Levels.{IsStatus, FillsOne, OneIsShort, Says, FindsText, FindsDigits};
 ghost use Rattle.level_calls.specs.Levels.{digits_in, changes_in, texts_in, made_in};
 
@@ -14,7 +15,9 @@ use crate::loaded::Loaded;
 use c_calls::buffers::fill_buffer;
 use c_calls::statuses::{BAD_ENDS, DONE, NOT_UTF8, OUT_OF_MEMORY};
 use libhyphen_files::LevelDictionary;
-use libhyphen_rule::calls::{CallMinima, hyphenate, plain_digits, write_word as written_word};
+use libhyphen_rule::calls::{
+    CallAnswer, CallMinima, hyphenate, plain_digits, write_word as written_word,
+};
 use std::alloc::{AllocError, Global};
 
 /// Reads a dictionary into a box. The only error is out of memory.
@@ -26,6 +29,22 @@ pub fn load(alloc: Global, bytes: &[u8]) -> Result<Box<Loaded>, AllocError>
         Ok(boxed) => Ok(boxed),
         Err(_) => Err(AllocError),
     }
+}
+
+// Returns the changes of an answer, each with the number of its character. The only error is out of memory.
+#[tactic(auto, using(crate::proofs::Listing::listed_or_none))]
+fn changes_of(alloc: Global, answer: &CallAnswer<'_>) -> Result<Vec<LevelChange>, AllocError>
+    ensures { IfOk result (λ v. v.items ≡ listed_changes (answer_view answer.now).changes) }
+{
+    listed_changes(alloc, &answer.changes)
+}
+
+// Returns the texts of an answer's changes, each with a byte 0 behind it. The only error is out of memory.
+#[tactic(auto, using(crate::proofs::Listing::texts_or_none))]
+fn texts_of(alloc: Global, answer: &CallAnswer<'_>) -> Result<Vec<u8>, AllocError>
+    ensures { IfOk result (λ v. v.items ≡ listed_texts (answer_view answer.now).changes) }
+{
+    listed_texts(alloc, &answer.changes)
 }
 
 /// Writes the digits of a word's characters, the changes of their places, and the texts of the changes, each to the front
@@ -64,10 +83,10 @@ pub fn write_word(
     let Some(answer) = answer else {
         return NOT_UTF8;
     };
-    let Ok(listed) = listed_changes(alloc, &answer.changes) else {
+    let Ok(listed) = changes_of(alloc, &answer) else {
         return OUT_OF_MEMORY;
     };
-    let Ok(said) = listed_texts(alloc, &answer.changes) else {
+    let Ok(said) = texts_of(alloc, &answer) else {
         return OUT_OF_MEMORY;
     };
     let status = fill_three(

@@ -1,6 +1,9 @@
 pub mod ChangesLemmas
 pub mod Cuts
+pub mod DigitVectors
 pub mod FilesLemmas
+pub mod FirstBytes
 pub mod LevelsLemmas
+pub mod Nodes
 pub mod SettingsLemmas
 pub mod CutTexts

@@ -8,11 +8,14 @@ ghost use Rattle.hyphenation_dictionary.specs.Maker.{with_pair};
 ghost use Rattle.hyphenation_dictionary.specs.Parts.{patterns_of};
 ghost use Rattle.hyphenation_trie.specs.Trie.{EachBeginsKey};
 ghost use Rattle.libhyphen_files.specs.Levels.{empty_level, with_line, with_text, with_pattern, HasNoChanges};
+ghost use Rattle.libhyphen_files.specs.Private.Settings.{may_be_setting};
+ghost use Rattle.libhyphen_files.specs.Vectors.{AreVectors, BeginsNoKey};
 
 use crate::bytes::before_nul;
 use crate::minima::Minima;
 use crate::pattern::{StoredPattern, pattern_of};
 use crate::settings::{setting, texts_without_breaks, without_name};
+use crate::vectors::{first_bytes, vectors_of};
 use hyphenation_dictionary::laws::inserted_key_is_added;
 use hyphenation_trie::{Automaton, Trie};
 use std::alloc::{AllocError, Global};
@@ -32,6 +35,10 @@ pub struct FrozenLevel {
     patterns: Automaton<StoredPattern>,
     // Whether some pattern may have a change.
     has_changes: bool,
+    // The vector of each node.
+    vectors: Vec<[u8; 16]>,
+    // For each byte whether it may begin a key.
+    first_bytes: [bool; 256],
 }
 
 impl Model for FrozenLevel {
@@ -39,6 +46,7 @@ impl Model for FrozenLevel {
     ghost use Rattle.hyphenation_dictionary.specs.Parts.{patterns_of};
     ghost use Rattle.hyphenation_trie.specs.Trie.{EachBeginsKey};
     ghost use Rattle.libhyphen_files.specs.Levels.{Level, HasNoChanges};
+    ghost use Rattle.libhyphen_files.specs.Vectors.{AreFirst, AreVectors};
     ghost use Rattle.libhyphen_files.specs.Private.Codes.{level_code};
 
     ghost Value = { Level };
@@ -52,7 +60,8 @@ impl Model for FrozenLevel {
     } };
 
     ghost invariant = { λ l. EachBeginsKey l.patterns
-        × (IsFalse l.has_changes → HasNoChanges (patterns_of l.patterns)) };
+        × (IsFalse l.has_changes → HasNoChanges (patterns_of l.patterns))
+        × AreVectors l.patterns l.vectors.items × AreFirst (patterns_of l.patterns) l.first_bytes };
 }
 
 impl FrozenLevel {
@@ -76,6 +85,26 @@ impl FrozenLevel {
         ensures begins { EachBeginsKey result.now }
     {
         &self.patterns
+    }
+
+    /// Returns the keys, as [`patterns`](FrozenLevel::patterns) does, and the vector of each node: the digits that its
+    /// own pattern gives to the 16 last places, counted from 0.
+    ///
+    /// If the first lane is 10 or more, nothing is known of the node's pattern. Otherwise it changes no letters, and
+    /// has no digits but those of the vector.
+    pub fn patterns_with_vectors(&self) -> (&Automaton<StoredPattern>, &[[u8; 16]])
+        ensures known { patterns_of result.0.now ≡ self.now.patterns }
+        ensures begins { EachBeginsKey result.0.now }
+        ensures vectors { AreVectors result.0.now result.1.now }
+    {
+        (&self.patterns, &self.vectors)
+    }
+
+    /// Tests whether a key may begin with a byte.
+    pub fn may_begin(&self, byte: u8) -> bool
+        ensures { IsFalse result → BeginsNoKey self.now.patterns byte }
+    {
+        self.first_bytes[byte as usize]
     }
 
     /// Tests whether some pattern may have a change. If not, a caller need not look for changes.
@@ -149,7 +178,12 @@ impl GrowingLevel {
         if line.starts_with(b"%") {
             return Ok(self);
         }
-        self.with_text(alloc, utf8, before_nul(line))
+        let read = before_nul(line);
+        if may_be_setting(read) {
+            self.with_text(alloc, utf8, read)
+        } else {
+            self.with_pattern(alloc, utf8, read)
+        }
     }
 
     // Returns the level with one more line, which is no comment and has no byte 0. The last line of each setting
@@ -225,12 +259,28 @@ impl GrowingLevel {
             patterns,
             has_changes,
         } = self;
+        let patterns = patterns.freeze(alloc)?;
+        let vectors = vectors_of(alloc, &patterns)?;
+        let first_bytes = first_bytes(&patterns);
         Ok(FrozenLevel {
             minima,
             no_hyphen,
-            patterns: patterns.freeze(alloc)?,
+            patterns,
             has_changes,
+            vectors,
+            first_bytes,
         })
+    }
+}
+
+// Tests whether a line begins with a byte with which the name of a setting does.
+#[inline(always)]
+fn may_be_setting(line: &[u8]) -> bool
+    ensures { result ≡ may_be_setting line.now }
+{
+    match line {
+        [] => false,
+        [first, ..] => *first == b'L' || *first == b'R' || *first == b'C' || *first == b'N',
     }
 }
 
@@ -245,7 +295,7 @@ fn add_pattern(
         ≡ with_pair (patterns_of patterns.old) (key.now, pattern ∷ [])) }
     ensures begins { OnOk result (EachBeginsKey patterns.old → EachBeginsKey patterns.new) }
 {
-    let mut patterns_of_key = Vec::new(alloc);
+    let mut patterns_of_key = Vec::with_capacity(alloc, 1)?;
     patterns_of_key.push(pattern)?;
     inserted_key_is_added::<StoredPattern>();
     patterns.invariant();

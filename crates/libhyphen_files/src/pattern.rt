@@ -98,8 +98,8 @@ fn key_and_digits(alloc: Global, spelt: &[u8]) -> Result<(Vec<u8>, Vec<u8>), All
     ensures digits { IfOk result (λ found. found.1.items ≡ digits_from digit_zero spelt.now) }
     ensures some { IfOk result (λ found. 0 < length found.1.items) }
 {
-    let mut key = Vec::new(alloc);
-    let mut digits = Vec::new(alloc);
+    let mut key = Vec::with_capacity(alloc, spelt.len())?;
+    let mut digits = Vec::with_capacity(alloc, spelt.len().saturating_add(1))?;
     let mut digit = b'0';
     for byte in spelt {
         if byte.is_ascii_digit() {

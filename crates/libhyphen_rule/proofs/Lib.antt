@@ -22,3 +22,8 @@ pub mod ForbiddenPlaces
 pub mod FoundSizes
 pub mod Regions
 pub mod ClosedPatterns
+pub mod UnchangedLanes
+pub mod UnchangedDigits
+pub mod UnchangedWords
+pub mod UnchangedCalls
+pub mod UnchangedParts

@@ -17,7 +17,7 @@ use Rattle.hyphenation_trie.specs.Links.{EndsWith, IsLongest}
 use Rattle.hyphenation_trie.specs.Trie.{Tree, node_text, entries_of_key, IsTrie, EachBeginsKey}
 use Rattle.libhyphen_files.specs.Patterns.{Pattern}
 use Rattle.libhyphen_rule.specs.Counting.{begins_key, longest_start, Counted, counted_from, counted_if_key, counted_at, counted_up_to}
-use Rattle.libhyphen_rule.specs.Private.Pass.{pattern_of_node}
+use Rattle.libhyphen_files.specs.Vectors.{pattern_of_node}
 use Rattle.libhyphen_rule.proofs.Pass.{root_has_none, some_has_entries}
 
 -- ---- The first number that passes.

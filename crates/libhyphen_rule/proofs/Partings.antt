@@ -49,7 +49,7 @@ filter_range_more p n b is =
     ap (filter p) (range_more n) ∙ filter-append p (range_with_len 0 n) (n ∷ [])
     ∙ ap (λ t. filter p (range_with_len 0 n) ++ cond t (n ∷ []) []) is
 
-append_none : {A : Type 0} (xs : List A) → xs ++ [] ≡ xs
+pub append_none : {A : Type 0} (xs : List A) → xs ++ [] ≡ xs
 append_none [] = refl
 append_none (x ∷ xs) = ap (λ ys. x ∷ ys) (append_none xs)
 

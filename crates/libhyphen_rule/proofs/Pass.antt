@@ -8,32 +8,11 @@ use mir.Val.{bool_byte}
 use Rattle.hyphenation_trie.specs.Trie.{Tree, node_text, entries_of_key, IsTrie}
 use Rattle.hyphenation_trie.specs.Links.{IsReport}
 use Rattle.libhyphen_files.specs.Patterns.{Pattern, first_place}
-use Rattle.libhyphen_rule.specs.Private.Pass.{pattern_of_node}
+use Rattle.libhyphen_files.specs.Vectors.{pattern_of_node}
 
 -- The root has no pattern.
 pub root_has_none : (tree : Tree Pattern) (node : ℕ) → node ≡ 0 → None ≡ pattern_of_node tree node
 root_has_none tree node is = sym (ap (λ (k : ℕ). pattern_of_node tree k) is)
-
--- A node that is not its own report is no key.
-pub no_entries : (tree : Tree Pattern) → IsTrie tree → (node report : ℕ) → node < length tree.texts
-    → IsReport tree (node_text tree node) report → report ≢ node → entries_of_key tree (node_text tree node) ≡ None
-no_entries tree trie node report within is apart =
-    elim (cases_lt (length (node_text tree report)) (length (node_text tree node))) [
-      | inl less ↦ is.none 0 (omega arith)
-      | inr most ↦
-          let none : length (node_text tree node) - length (node_text tree report) ≡ 0 = omega (arith, is.ends.0) in
-          let same : node_text tree node ≡ node_text tree report = ap (λ (k : ℕ). drop k (node_text tree node)) (sym none) ∙ is.ends.1 in
-          absurd (apart (trie.distinct report node is.within within (sym same)))
-    ]
-
-pub no_pattern : (tree : Tree Pattern) → IsTrie tree → (node report : ℕ) → node < length tree.texts
-    → IsReport tree (node_text tree node) report → report ≢ node → None ≡ pattern_of_node tree node
-no_pattern tree trie node report within is apart = elim (cases_eq node 0) [
-  | inl root ↦ root_has_none tree node root
-  | inr some ↦
-      sym (ap (λ b. cond {A = Option Pattern} b None (option_and_then (λ found. slice_get found 0) (entries_of_key tree (node_text tree node)))) (ne_eqb node 0 some)
-      ∙ ap (option_and_then (λ found. slice_get found 0)) (no_entries tree trie node report within is apart))
-]
 
 pub some_has_entries : (tree : Tree Pattern) (node : ℕ) → node ≢ 0
     → option_and_then (λ found. slice_get found 0) (entries_of_key tree (node_text tree node)) ≡ pattern_of_node tree node

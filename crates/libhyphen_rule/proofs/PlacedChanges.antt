@@ -13,6 +13,7 @@ use Rattle.libhyphen_rule.specs.Found.{placed, placed_all}
 use Rattle.libhyphen_rule.specs.OneLevel.{Offer, offer_of, offers_of, offers, raisers, deciders, digit_at, is_odd, if_change, reaches, ChangeAt, Claim, claim, claim_at, put, Made, made_with, made_at, made_up_to, changes_by}
 use Rattle.libhyphen_rule.specs.Private.Cells.{HasCells}
 use Rattle.libhyphen_rule.specs.Private.Claims.{AreWithin, made_now}
+use Rattle.libhyphen_rule.specs.Private.Lanes.{AllPlain}
 use Rattle.libhyphen_rule.specs.declared.cells.Cell.{Cell}
 use Rattle.libhyphen_rule.specs.declared.one_level.PlacedChange.{PlacedChange}
 use Rattle.libhyphen_rule.proofs.LongestStart.{range_more}
@@ -92,10 +93,6 @@ abbrev Plain : List Offer → Type 0
 Plain [] = Unit {0}
 Plain (o ∷ os) = (o.change ≡ None) × Plain os
 
-abbrev AllPlain : List Counted → Type 0
-AllPlain [] = Unit {0}
-AllPlain (c ∷ cs) = (c.change ≡ None) × AllPlain cs
-
 plain_append : (xs ys : List Offer) → Plain xs → Plain ys → Plain (xs ++ ys)
 plain_append [] ys px py = py
 plain_append (x ∷ xs) ys px py = (px.0, plain_append xs ys px.1 py)
@@ -138,7 +135,7 @@ none_claimed counted plain begin =
     let none = none_reach begin (deciders given) (plain_filter (λ o. is_odd o.digit) (raisers [] given) (plain_raisers [] given (plain_offers counted plain))) in
     ap (λ xs. option_and_then (claim_at counted given begin) (option_map (λ o. o.place) (last_or None xs))) none
 
-none_made : (counted : List Counted) → AllPlain counted → (made : Made) (begins : List ℕ) → fold (made_at counted) made begins ≡ made
+pub none_made : (counted : List Counted) → AllPlain counted → (made : Made) (begins : List ℕ) → fold (made_at counted) made begins ≡ made
 none_made counted plain made [] = refl
 none_made counted plain made (b ∷ bs) =
     let same : made_at counted made b ≡ made =

@@ -33,7 +33,7 @@ sub_begin : (b j : ℕ) → (b + j) - b ≡ j
 sub_begin b j = omega arith
 
 -- Two lists made of functions that agree.
-map_range_agree : {X : Type 0} (f g : ℕ → X) (n : ℕ) (d : X) → ((k : ℕ) → k < n → f k ≡ g k) → map f (range_with_len 0 n) ≡ map g (range_with_len 0 n)
+pub map_range_agree : {X : Type 0} (f g : ℕ → X) (n : ℕ) (d : X) → ((k : ℕ) → k < n → f k ≡ g k) → map f (range_with_len 0 n) ≡ map g (range_with_len 0 n)
 map_range_agree f g n d same =
     fill_by_all g (map f (range_with_len 0 n)) n d (length-map-range_with_len f 0 n)
     (λ k h. get_or-map-range_with_len f 0 n k k d h (zero-add k) ∙ same k h)
@@ -111,7 +111,7 @@ map_or : {X Y : Type 0} (f : X → Y) (a b : Option X) → option_map f (option_
 map_or f None b = refl
 map_or f (Some x) b = refl
 
-placed_get : (changes : List (Option PlacedChange)) (k : ℕ) → option_map placed (get_or changes k None) ≡ get_or (placed_all changes) k None
+pub placed_get : (changes : List (Option PlacedChange)) (k : ℕ) → option_map placed (get_or changes k None) ≡ get_or (placed_all changes) k None
 placed_get [] k = refl
 placed_get (x ∷ xs) zero = refl
 placed_get (x ∷ xs) (suc k) = placed_get xs k

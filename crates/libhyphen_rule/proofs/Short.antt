@@ -4,21 +4,21 @@ use Rattle.std.specs.Prelude.{int_lt, option_map, ◌&&◌}
 use Rattle.std.specs.List.{before_first, after_first}
 use Rattle.std.proofs.lemmas.Bool.{and_from, and_left, and_right, lt-ltb, le-ltb}
 use Rattle.std.proofs.lemmas.Int.{ints}
-use Rattle.std.proofs.lemmas.List.{get_or-map}
 use Rattle.libhyphen_rule.specs.declared.one_level.PlacedChange.{PlacedChange}
 use Rattle.libhyphen_rule.specs.Found.{placed, placed_all}
 use Rattle.libhyphen_rule.specs.OneLevel.{ChangeAt}
 use Rattle.libhyphen_rule.specs.Letters.{letters, letters_in_first, letters_in_hundred, characters_from, digits_at_begin, digits_at_end}
 use Rattle.libhyphen_rule.specs.Minima.{has_equals, is_equals, is_below, is_short_before, is_short_after, goes_before, goes_after}
+use Rattle.libhyphen_rule.proofs.PlacesOfParts.{placed_get}
 use Rattle.libhyphen_rule.proofs.LetterCounts.{letters_rise, characters_fall}
 
 -- More letters are not below a minimum either.
 not_below : (a b : ℕ) (least : ℤ) → a ≤ b → int_lt (pos a) least ≡ false → int_lt (pos b) least ≡ false
 not_below a b least le h = grind (arith, ints)
 
--- The change of a place that is read.
-pub change_read : (changes : List (Option PlacedChange)) (k : ℕ) → k < length changes → get_or (placed_all changes) k None ≡ option_map placed (get_or changes k None)
-change_read changes k lt = get_or-map (option_map placed) changes k None None lt
+-- The change of a place that is read. Behind the list there is none.
+pub change_read : (changes : List (Option PlacedChange)) (k : ℕ) → get_or (placed_all changes) k None ≡ option_map placed (get_or changes k None)
+change_read changes k = sym (placed_get changes k)
 
 -- A place with too few letters before it.
 pub is_short_left : (utf8 : Bool) (least : ℤ) (text : List ℕ) (byte : ℕ) → byte < length text

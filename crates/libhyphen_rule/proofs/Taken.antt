@@ -29,9 +29,9 @@ module _ {X : Type 0} (goes : ℕ → Bool) (z d : X) where
     behind = λ k le. t.behind k (omega arith);
   }
 
-  -- The next item goes.
-  pub goes_next : (old new : List X) (from to : ℕ) → from ≤ to → to < length old → goes to ≡ true → Taken old new from to → Taken old (set new to z) from (to + 1)
-  goes_next old new from to le size gone t = record {
+  -- The next item goes. There may be none.
+  pub goes_next : (old new : List X) (from to : ℕ) → from ≤ to → goes to ≡ true → Taken old new from to → Taken old (set new to z) from (to + 1)
+  goes_next old new from to le gone t = record {
     long = length-set new to z ∙ t.long;
     within = λ k low lt in'. elim (cases_eq k to) [
       | inl same ↦ ap (λ j. get_or (set new to z) j d) same ∙ get_or-set_same new to z d (omega (arith, t.long)) ∙ ap (λ b. cond b z (get_or old k d)) (sym (ap goes same ∙ gone))
@@ -53,9 +53,9 @@ module _ {X : Type 0} (goes : ℕ → Bool) (z d : X) where
     behind = t.behind;
   }
 
-  -- The item before goes.
-  pub goes_before : (old new : List X) (from to : ℕ) → from < to → from < length old → goes from ≡ true → Taken old new (from + 1) to → Taken old (set new from z) from to
-  goes_before old new from to le size gone t = record {
+  -- The item before goes. There may be none.
+  pub goes_before : (old new : List X) (from to : ℕ) → from < to → goes from ≡ true → Taken old new (from + 1) to → Taken old (set new from z) from to
+  goes_before old new from to le gone t = record {
     long = length-set new from z ∙ t.long;
     within = λ k low lt in'. elim (cases_eq k from) [
       | inl same ↦ ap (λ j. get_or (set new from z) j d) same ∙ get_or-set_same new from z d (omega (arith, t.long)) ∙ ap (λ b. cond b z (get_or old k d)) (sym (ap goes same ∙ gone))

@@ -1,5 +1,5 @@
 -- The finds in a word, as contracts see them.
-use Rattle.std.specs.Prelude.{List, map, Option, option_map}
+use Rattle.std.specs.Prelude.{ℕ, List, [], ◌∷◌, length, map, Option, None, option_map, replicate}
 use Rattle.libhyphen_rule.specs.OneLevel.{ChangeAt}
 use Rattle.libhyphen_rule.specs.Parts.{Asked, Found, PartMinima, Texts, found_below, without_left_of_part, without_right_of_part}
 use Rattle.libhyphen_rule.specs.Calls.{Answer}
@@ -42,11 +42,16 @@ minima_of levels = record { left = levels.left; right = levels.right }
 abbrev pub texts_of : PartTexts → Texts
 texts_of texts = record { text = texts.text.items; behind = texts.behind.items }
 
+-- The changes of so many places. An empty list has none.
+abbrev pub placed_or_none : ℕ → List (Option PlacedChange) → List (Option ChangeAt)
+placed_or_none places [] = replicate places None
+placed_or_none places (change ∷ changes) = placed_all (change ∷ changes)
+
 -- The answer of a call.
 abbrev pub answer_view : CallAnswer → Answer
 answer_view answer = record {
   digits = answer.digits.items;
-  changes = placed_all answer.changes.items;
+  changes = placed_or_none (length answer.digits.items) answer.changes.items;
   made = answer.made;
 }
 

@@ -1,12 +1,13 @@
 //! The calls of libhyphen.
 
-ghost use Rattle.std.specs.Prelude.{◌≡◌, ◌<◌, ◌≤◌, ◌++◌, ◌∷◌, [], IfOk, length, take, drop, slice_index, false};
+ghost use Rattle.std.specs.Prelude.{◌≡◌, ◌<◌, ◌≤◌, ◌++◌, ◌∷◌, [], IfOk, IfSome, None, length, replicate, take, drop, slice_index, false, if◌then◌else◌};
 ghost use Rattle.std.specs.Option.{option_map};
 ghost use Rattle.libhyphen_rule.specs.Found.{placed_all, found_of, answer_view};
 ghost use Rattle.libhyphen_files.specs.Bytes.{before_nul, continues};
 ghost use Rattle.libhyphen_rule.specs.Calls.{answer_of, inner_digit, inner_digits, plain_digits, text_of_call};
 ghost use Rattle.libhyphen_rule.specs.Calls.{found_by_call, changes_in_characters, taken_digit, greater, least_of, at_least_two};
 ghost use Rattle.libhyphen_rule.specs.Parts.{without_left, without_right};
+ghost use Rattle.libhyphen_rule.specs.Private.Unchanged.{IsUnchanged};
 ghost use Rattle.libhyphen_rule.specs.Words.{changes_of_characters, digits_beside, digits_of_characters};
 
 use crate::digits::read_digits;
@@ -14,6 +15,7 @@ use crate::found::WordFound;
 use crate::minima::{take_left, take_right};
 use crate::one_level::PlacedChange;
 use crate::parts::{has_change, word_found};
+use crate::unchanged_parts::word_unchanged;
 use crate::words::{
     changes_of_characters, digits_of_characters, is_ascii, take_beside, written_word,
 };
@@ -43,7 +45,7 @@ pub struct CallAnswer<'d> {
     /// The digits, from `b'0'` to `b'9'`; an odd one allows a break. Beside a text without breaks stands a byte 0, where the caller gave
     /// minima.
     pub digits: Vec<u8>,
-    /// The changes, with their numbers in characters.
+    /// The changes, with their numbers in characters. The list may be empty if no place has a change.
     pub changes: Vec<Option<PlacedChange<'d>>>,
     /// Whether any change was made, also one that was taken away.
     pub made: bool,
@@ -187,6 +189,35 @@ fn found_by_call<'d>(
     Ok(without_right(utf8, at_least_two(least.right), word, text, found))
 }
 
+// Returns the digits that both levels find in the first bytes of a text, a word, without those of the places that are too near
+// to its ends; `None` where the word has digits, or a pattern counts that may change letters. The only error is out of memory.
+fn unchanged_by_call(
+    alloc: Global,
+    dictionary: &LevelDictionary,
+    minima: Option<CallMinima>,
+    text: &[u8],
+    size: usize,
+) -> Result<Option<Vec<u8>>, AllocError>
+    requires { size ≤ length text.now }
+    ensures found { IfOk result (λ found. IfSome found
+        (λ digits. IsUnchanged (found_by_call dictionary.now minima text.now size) digits.items)) }
+    ensures digits { IfOk result (λ found. IfSome found (λ digits. length digits.items ≡ size)) }
+{
+    let (word, behind) = text.split_at(size);
+    let seen = before_nul(text);
+    let least = least_of(dictionary.top().minima(), minima);
+    let utf8 = dictionary.is_utf8();
+    let (left, right) = (least.compound_left, least.compound_right);
+    let found = word_unchanged(alloc, dictionary, left, right, word, behind)?;
+    let Some(mut digits) = found else {
+        return Ok(None);
+    };
+    let (left, right) = (at_least_two(least.left), at_least_two(least.right));
+    take_left(utf8, left, seen, &mut digits, &mut []);
+    take_right(utf8, right, word, seen, &mut digits, &mut []);
+    Ok(Some(digits))
+}
+
 // Takes the places away beside which a text without breaks begins or ends, in the first bytes of a text, a word.
 fn take_kept(
     dictionary: &LevelDictionary,
@@ -259,6 +290,31 @@ fn answer_in_characters<'d>(
     })
 }
 
+// Returns the answer for a word without changes, by the digits of its bytes. The only error is out of memory.
+fn unchanged_answer<'d>(
+    alloc: Global,
+    utf8: bool,
+    word: &[u8],
+    digits: Vec<u8>,
+) -> Result<CallAnswer<'d>, AllocError>
+    requires { length digits.items ≡ length word.now }
+    ensures digits { IfOk result (λ answer. answer.digits.items
+        ≡ (if utf8 then digits_of_characters word.now digits.items else digits.items)) }
+    ensures changes { IfOk result (λ answer. answer.changes.items ≡ []) }
+    ensures made { IfOk result (λ answer. answer.made ≡ false) }
+{
+    let digits = if utf8 && !is_ascii(word) {
+        digits_of_characters(alloc, word, &digits)?
+    } else {
+        digits
+    };
+    Ok(CallAnswer {
+        digits,
+        changes: Vec::new(alloc),
+        made: false,
+    })
+}
+
 /// Breaks a word: the first bytes of a text. The text behind it counts for minima and texts without breaks, as it does for
 /// libhyphen.
 ///
@@ -285,6 +341,11 @@ pub fn hyphenate<'d>(
     let utf8 = dictionary.is_utf8();
     if utf8 && begins_within(text) {
         return Ok(None);
+    }
+    if let Some(mut plain) = unchanged_by_call(alloc, dictionary, minima, text, size)? {
+        take_kept(dictionary, minima, text, &mut plain);
+        let answer = unchanged_answer(alloc, utf8, &text[..size], plain)?;
+        return Ok(Some(answer));
     }
     let WordFound {
         mut digits,

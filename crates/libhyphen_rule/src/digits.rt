@@ -7,15 +7,16 @@ ghost use Rattle.hyphenation_dictionary.specs.Parts.{patterns_of};
 ghost use Rattle.libhyphen_rule.specs.OneLevel.{digits_given_by};
 ghost use Rattle.libhyphen_rule.specs.Private.Digits.{TakesOffer, TakesPattern};
 
-use crate::counting::{first_digits, framed_byte, pattern_of_node};
+use crate::counting::{first_digits, framed_byte};
 use hyphenation_dictionary::laws::keys_are_looked_up;
 use hyphenation_trie::laws::{keys_have_nodes, longest_goes_on};
 use hyphenation_trie::{Automaton, LookUps};
 use libhyphen_files::pattern::StoredPattern;
+use libhyphen_files::vectors::pattern_of_node;
 
 // Sets all digits to 0.
 #[inline(always)]
-fn clear(digits: &mut [u8])
+pub(crate) fn clear(digits: &mut [u8])
     ensures { (byte : ℕ) → byte < length digits.new → slice_index digits.new byte ≡ digit_zero }
 {
     for digit in digits.iter_mut() {

@@ -1,6 +1,6 @@
 //! Places that have too few letters on one side are taken away.
 
-ghost use Rattle.std.specs.Prelude.{◌≡◌, ◌+ℤ◌, ◌<◌, ◌≤◌, ◌+◌, ◌-◌, ◌&&◌, None, length, drop, take, set, pos};
+ghost use Rattle.std.specs.Prelude.{◌≡◌, ◌+ℤ◌, ◌<◌, ◌≤◌, ◌+◌, ◌-◌, ◌&&◌, None, length, drop, take, set, slice_index_or, pos};
 ghost use Rattle.std.specs.List.{after_first, before_first, position};
 ghost use Rattle.hyphenation_breaks.specs.Ascii.{digit_zero};
 ghost use Rattle.libhyphen_rule.specs.Found.{placed, placed_all};
@@ -90,22 +90,37 @@ fn is_short_after(
     }
 }
 
-// Takes away the place behind a byte: its digit is 0 then, and it has no change.
+// Returns the change of the place behind a byte, if it has one. Behind the end of the list there is none.
+#[inline(always)]
+fn change_behind<'d>(changes: &[Option<PlacedChange<'d>>], byte: usize) -> Option<PlacedChange<'d>>
+    ensures { result ≡ slice_index_or changes.now byte None }
+{
+    if byte < changes.len() {
+        changes[byte]
+    } else {
+        None
+    }
+}
+
+// Takes away the place behind a byte: its digit is 0 then, and it has no change. The list of changes may end before the
+// place.
 fn take_place(digits: &mut [u8], changes: &mut [Option<PlacedChange<'_>>], byte: usize)
-    requires digits { byte < length digits.old }
-    requires changes { byte < length changes.old }
+    requires { byte < length digits.old }
     ensures digits { digits.new ≡ set digits.old byte digit_zero }
     ensures changes { placed_all changes.new ≡ set (placed_all changes.old) byte None }
 {
     digits[byte] = b'0';
-    changes[byte] = None;
+    if byte < changes.len() {
+        changes[byte] = None;
+    }
 }
 
 // Takes away the places that have fewer letters before them than a minimum.
 //
-// `text` is the word with what stands behind it, up to the first byte 0; it may be shorter than the word. Both lists
-// have an item for each byte of the word. A place that goes gets the digit 0, and no change. The count of letters never
-// falls, so the first place that has enough ends the search.
+// `text` is the word with what stands behind it, up to the first byte 0; it may be shorter than the word. There is a
+// digit for each byte of the word. The list of changes may be shorter: there are no changes behind its end. A place that
+// goes gets the digit 0, and no change. The count of letters never falls, so the first place that has enough ends the
+// search.
 pub(crate) fn take_left(
     utf8: bool,
     least: i32,
@@ -113,7 +128,7 @@ pub(crate) fn take_left(
     digits: &mut [u8],
     changes: &mut [Option<PlacedChange<'_>>],
 )
-    requires { length changes.old ≡ length digits.old }
+    requires { length changes.old ≤ length digits.old }
     ensures digits { digits.new ≡ digits_but (left_goes utf8 least text.now (placed_all changes.old)) digits.old }
     ensures changes { placed_all changes.new
         ≡ changes_but (left_goes utf8 least text.now (placed_all changes.old)) (placed_all changes.old) }
@@ -125,8 +140,8 @@ pub(crate) fn take_left(
         if !is_few(count, least, digits_before) {
             return;
         }
-        let goes = match &changes[byte] {
-            Some(change) => is_short_before(utf8, least, text, byte + 1, change),
+        let goes = match change_behind(changes, byte) {
+            Some(change) => is_short_before(utf8, least, text, byte + 1, &change),
             None => true,
         };
         if goes {
@@ -137,9 +152,9 @@ pub(crate) fn take_left(
 
 // Takes away the places that have fewer letters behind them than a minimum.
 //
-// `text` is the word with what stands behind it, up to the first byte 0. Both lists have an item for each byte of the
-// word. A place that goes gets the digit 0, and no change. The search goes from the end, and the first place that has
-// enough ends it.
+// `text` is the word with what stands behind it, up to the first byte 0. There is a digit for each byte of the word.
+// The list of changes may be shorter: there are no changes behind its end. A place that goes gets the digit 0, and no
+// change. The search goes from the end, and the first place that has enough ends it.
 pub(crate) fn take_right(
     utf8: bool,
     least: i32,
@@ -149,7 +164,7 @@ pub(crate) fn take_right(
     changes: &mut [Option<PlacedChange<'_>>],
 )
     requires digits { length digits.old ≡ length word.now }
-    requires changes { length changes.old ≡ length word.now }
+    requires changes { length changes.old ≤ length word.now }
     ensures digits { digits.new
         ≡ digits_but (right_goes utf8 least word.now text.now (placed_all changes.old)) digits.old }
     ensures changes { placed_all changes.new
@@ -162,8 +177,8 @@ pub(crate) fn take_right(
         if !is_few(count, least, digits_behind) {
             return;
         }
-        let goes = match &changes[end - 1] {
-            Some(change) => is_short_after(utf8, least, text, end, change),
+        let goes = match change_behind(changes, end - 1) {
+            Some(change) => is_short_after(utf8, least, text, end, &change),
             None => true,
         };
         if goes {

@@ -11,13 +11,14 @@ ghost use Rattle.libhyphen_rule.specs.Private.Cells.{HasCells};
 ghost use Rattle.libhyphen_rule.specs.Private.Claims.{AreMade, AreWithin, claimed};
 
 use crate::cells::{Cell, empty_cells, take_pattern};
-use crate::counting::{first_digits, framed_byte, pattern_of_node};
+use crate::counting::{first_digits, framed_byte};
 use crate::digits::read_digits;
 use hyphenation_dictionary::laws::keys_are_looked_up;
 use hyphenation_trie::laws::{keys_have_nodes, longest_goes_on};
 use hyphenation_trie::{Automaton, LookUps};
 use libhyphen_files::level::FrozenLevel;
 use libhyphen_files::pattern::StoredPattern;
+use libhyphen_files::vectors::pattern_of_node;
 use std::alloc::{AllocError, Global};
 
 /// A change at a place of a word: a text takes the place of some bytes.

@@ -20,23 +20,23 @@ use libhyphen_files::LevelDictionary;
 use std::alloc::{AllocError, Global};
 
 // How often a word is parted again and again at most.
-const MOST_DEPTH: usize = 1000;
+pub(crate) const MOST_DEPTH: usize = 1000;
 
 // Both levels, and the least numbers of letters in a part, where it does not begin or end the word.
 #[derive(Clone, Copy, Drop)]
 pub(crate) struct BothLevels<'d> {
-    dictionary: &'d LevelDictionary,
-    left: i32,
-    right: i32,
+    pub(crate) dictionary: &'d LevelDictionary,
+    pub(crate) left: i32,
+    pub(crate) right: i32,
 }
 
 // A word, or a part of one, that is asked. `behind` is what stands behind it.
 #[derive(Clone, Copy, Drop)]
 pub(crate) struct AskedText<'a> {
-    text: &'a [u8],
-    behind: &'a [u8],
-    at_left: bool,
-    at_right: bool,
+    pub(crate) text: &'a [u8],
+    pub(crate) behind: &'a [u8],
+    pub(crate) at_left: bool,
+    pub(crate) at_right: bool,
 }
 
 // A part's text, and what stands behind it.
@@ -47,7 +47,7 @@ pub(crate) struct PartTexts {
 }
 
 // Tests whether some digit is odd.
-fn has_break(digits: &[u8]) -> bool
+pub(crate) fn has_break(digits: &[u8]) -> bool
     ensures { result ≡ list_any is_odd digits.now }
 {
     digits.iter().any(|digit| *digit % 2 == 1)
@@ -68,7 +68,7 @@ pub(crate) fn has_change(changes: &[Option<PlacedChange<'_>>]) -> bool
 }
 
 // Tests whether a part ends behind a byte.
-fn ends_part(digits: &[u8], byte: usize) -> bool
+pub(crate) fn ends_part(digits: &[u8], byte: usize) -> bool
     requires { byte < length digits.now }
     ensures { result ≡ ends_part digits.now byte }
 {

@@ -7,7 +7,8 @@ use Rattle.hyphenation_trie.specs.Trie.{node_text}
 use Rattle.libhyphen_files.specs.Patterns.{Pattern}
 use Rattle.libhyphen_rule.specs.Counting.{Counted, framed, counted_from, counted_up_to}
 use Rattle.libhyphen_rule.specs.OneLevel.{offers, given_by}
-use Rattle.libhyphen_rule.specs.Private.Pass.{pattern_of_node, value_of}
+use Rattle.libhyphen_files.specs.Vectors.{pattern_of_node}
+use Rattle.libhyphen_rule.specs.Private.Pass.{value_of}
 use Rattle.libhyphen_rule.proofs.LongestStart.{longest_none, longest_more, counted_none, counted_some}
 use Rattle.libhyphen_rule.proofs.RaisedDigits.{given_start, given_digits, has_none, has_same, has_more, digits_are, length-framed}
 use Rattle.libhyphen_rule.proofs.digits.read_digits.Goals as goal

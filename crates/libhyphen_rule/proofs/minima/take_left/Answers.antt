@@ -42,9 +42,9 @@ loop-byte-preserved c =
     subst (λ l. Taken (left_goes c.args.utf8 l c.args.text.now (placed_all c.args.changes.now)) 48 0 c.args.digits.now c.loop-byte.digits 0 byte) least c.loop-byte.invariant.digits in
     let changes : Taken test None None (placed_all c.args.changes.now) (placed_all c.loop-byte.changes) 0 byte =
     subst (λ l. Taken (left_goes c.args.utf8 l c.args.text.now (placed_all c.args.changes.now)) None None (placed_all c.args.changes.now) (placed_all c.loop-byte.changes) 0 byte) least c.loop-byte.invariant.changes in
-    let item : get_or (placed_all c.args.changes.now) byte None ≡ option_map placed (get_or c.loop-byte.changes byte None) =
-    sym (changes.behind byte (omega arith)) ∙ change_read c.loop-byte.changes byte (omega arith) in
-    let goes : test byte ≡ c.match-changes-byte.goes = elim c.match-changes-byte.branch [
+    let item : get_or (placed_all c.args.changes.now) byte None ≡ option_map placed c.change_behind.result =
+    sym (changes.behind byte (omega arith)) ∙ change_read c.loop-byte.changes byte ∙ ap (option_map placed) (sym c.change_behind.ensures) in
+    let goes : test byte ≡ c.match-change_behind.goes = elim c.match-change_behind.branch [
       | in-Some w ↦ goes_left_some c.args.utf8 c.args.least c.args.text.now byte _ (placed w.in-Some.change) w.is_short_before-goes.result (item ∙ ap (option_map placed) w.in-Some.is) short
           (w.is_short_before-goes.ensures ∙ ap (λ l. has_equals w.in-Some.change.text.now && is_below (letters_in_first c.args.utf8 c.args.text.now (byte + 1 - w.in-Some.change.pos) + letters c.args.utf8 (before_first is_equals w.in-Some.change.text.now)) l) least)
           ∙ sym w.goes-is
@@ -56,14 +56,14 @@ loop-byte-preserved c =
       digits = subst (λ l. Taken (left_goes c.args.utf8 l c.args.text.now (placed_all c.args.changes.now)) 48 0 c.args.digits.now c.if-goes.digits 0 (byte + 1)) (sym least)
           (elim c.if-goes.branch [
             | then-goes w ↦ subst (λ xs. Taken test 48 0 c.args.digits.now xs 0 (byte + 1)) (sym (w.digits-is ∙ w.take_place.ensures.digits))
-                (goes_next test 48 0 c.args.digits.now c.loop-byte.digits 0 byte (omega arith) of_digits (goes ∙ w.if-goes.true) digits)
+                (goes_next test 48 0 c.args.digits.now c.loop-byte.digits 0 byte (omega arith) (goes ∙ w.if-goes.true) digits)
             | else-goes w ↦ subst (λ xs. Taken test 48 0 c.args.digits.now xs 0 (byte + 1)) (sym w.digits-is)
                 (stays_next test 48 0 c.args.digits.now c.loop-byte.digits 0 byte (goes ∙ w.if-goes.false) digits)
           ]);
       changes = subst (λ l. Taken (left_goes c.args.utf8 l c.args.text.now (placed_all c.args.changes.now)) None None (placed_all c.args.changes.now) (placed_all c.if-goes.changes) 0 (byte + 1)) (sym least)
           (elim c.if-goes.branch [
             | then-goes w ↦ subst (λ xs. Taken test None None (placed_all c.args.changes.now) xs 0 (byte + 1)) (sym (ap placed_all w.changes-is ∙ w.take_place.ensures.changes))
-                (goes_next test None None (placed_all c.args.changes.now) (placed_all c.loop-byte.changes) 0 byte (omega arith) (omega (arith, length-map c.args.changes.now (option_map placed))) (goes ∙ w.if-goes.true) changes)
+                (goes_next test None None (placed_all c.args.changes.now) (placed_all c.loop-byte.changes) 0 byte (omega arith) (goes ∙ w.if-goes.true) changes)
             | else-goes w ↦ subst (λ xs. Taken test None None (placed_all c.args.changes.now) xs 0 (byte + 1)) (sym (ap placed_all w.changes-is))
                 (stays_next test None None (placed_all c.args.changes.now) (placed_all c.loop-byte.changes) 0 byte (goes ∙ w.if-goes.false) changes)
           ]);

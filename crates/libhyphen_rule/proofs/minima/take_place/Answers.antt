@@ -4,5 +4,5 @@ use Rattle.std.proofs.lemmas.List.{map-set}
 use Rattle.libhyphen_rule.specs.Found.{placed}
 use Rattle.libhyphen_rule.proofs.minima.take_place.Goals as goal
 
-pub returns-clause-changes : goal.returns-clause-changes
-returns-clause-changes c = map-set (option_map placed) c.args.changes.now c.args.byte None
+pub returns-then-byte-changes-clause-changes : goal.returns-then-byte-changes-clause-changes
+returns-then-byte-changes-clause-changes c = map-set (option_map placed) c.args.changes.now c.args.byte None

@@ -52,9 +52,9 @@ loop-end-preserved c =
     subst (λ n. Taken test 48 0 c.args.digits.now c.loop-end.digits n (length c.args.word.now)) (sym next) digits in
     let changes_here : Taken test None None (placed_all c.args.changes.now) (placed_all c.loop-end.changes) (byte + 1) (length c.args.word.now) =
     subst (λ n. Taken test None None (placed_all c.args.changes.now) (placed_all c.loop-end.changes) n (length c.args.word.now)) (sym next) changes in
-    let item : get_or (placed_all c.args.changes.now) byte None ≡ option_map placed (get_or c.loop-end.changes byte None) =
-    sym (changes.before byte (omega arith)) ∙ change_read c.loop-end.changes byte (omega arith) in
-    let goes : test byte ≡ c.match-changes-end.goes = elim c.match-changes-end.branch [
+    let item : get_or (placed_all c.args.changes.now) byte None ≡ option_map placed c.change_behind.result =
+    sym (changes.before byte (omega arith)) ∙ change_read c.loop-end.changes byte ∙ ap (option_map placed) (sym c.change_behind.ensures) in
+    let goes : test byte ≡ c.match-change_behind.goes = elim c.match-change_behind.branch [
       | in-Some w ↦ goes_right_some c.args.utf8 c.args.least c.args.word.now c.args.text.now byte c.loop-end.end _ (placed w.in-Some.change) w.is_short_after-goes.result next
           (item ∙ ap (option_map placed) w.in-Some.is) short
           (w.is_short_after-goes.ensures
@@ -69,14 +69,14 @@ loop-end-preserved c =
       digits = subst (λ l. Taken (right_goes c.args.utf8 l c.args.word.now c.args.text.now (placed_all c.args.changes.now)) 48 0 c.args.digits.now c.if-goes.digits byte (length c.args.word.now)) (sym least)
           (elim c.if-goes.branch [
             | then-goes w ↦ subst (λ xs. Taken test 48 0 c.args.digits.now xs byte (length c.args.word.now)) (sym (w.digits-is ∙ w.take_place.ensures.digits))
-                (goes_before test 48 0 c.args.digits.now c.loop-end.digits byte (length c.args.word.now) within (omega arith) (goes ∙ w.if-goes.true) digits_here)
+                (goes_before test 48 0 c.args.digits.now c.loop-end.digits byte (length c.args.word.now) (omega arith) (goes ∙ w.if-goes.true) digits_here)
             | else-goes w ↦ subst (λ xs. Taken test 48 0 c.args.digits.now xs byte (length c.args.word.now)) (sym w.digits-is)
                 (stays_before test 48 0 c.args.digits.now c.loop-end.digits byte (length c.args.word.now) (goes ∙ w.if-goes.false) digits_here)
           ]);
       changes = subst (λ l. Taken (right_goes c.args.utf8 l c.args.word.now c.args.text.now (placed_all c.args.changes.now)) None None (placed_all c.args.changes.now) (placed_all c.if-goes.changes) byte (length c.args.word.now)) (sym least)
           (elim c.if-goes.branch [
             | then-goes w ↦ subst (λ xs. Taken test None None (placed_all c.args.changes.now) xs byte (length c.args.word.now)) (sym (ap placed_all w.changes-is ∙ w.take_place.ensures.changes))
-                (goes_before test None None (placed_all c.args.changes.now) (placed_all c.loop-end.changes) byte (length c.args.word.now) within (omega (arith, length-map c.args.changes.now (option_map placed))) (goes ∙ w.if-goes.true) changes_here)
+                (goes_before test None None (placed_all c.args.changes.now) (placed_all c.loop-end.changes) byte (length c.args.word.now) (omega arith) (goes ∙ w.if-goes.true) changes_here)
             | else-goes w ↦ subst (λ xs. Taken test None None (placed_all c.args.changes.now) xs byte (length c.args.word.now)) (sym (ap placed_all w.changes-is))
                 (stays_before test None None (placed_all c.args.changes.now) (placed_all c.loop-end.changes) byte (length c.args.word.now) (goes ∙ w.if-goes.false) changes_here)
           ]);

@@ -5,7 +5,8 @@ use Rattle.hyphenation_trie.specs.Trie.{node_text}
 use Rattle.std.specs.Prelude.{slice_range}
 use Rattle.libhyphen_files.specs.Patterns.{Pattern, first_place}
 use Rattle.libhyphen_rule.specs.Counting.{framed, counted_from, counted_up_to}
-use Rattle.libhyphen_rule.specs.Private.Pass.{pattern_of_node, value_of}
+use Rattle.libhyphen_files.specs.Vectors.{pattern_of_node}
+use Rattle.libhyphen_rule.specs.Private.Pass.{value_of}
 use Rattle.libhyphen_rule.proofs.LongestStart.{longest_none, longest_more, counted_none, counted_some}
 use Rattle.libhyphen_rule.proofs.Pass.{some_has_text, first_is}
 use Rattle.libhyphen_rule.proofs.RaisedDigits.{length-framed}

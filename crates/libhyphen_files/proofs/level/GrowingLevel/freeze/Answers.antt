@@ -8,4 +8,5 @@ use Rattle.libhyphen_files.proofs.level.GrowingLevel.freeze.Goals as goal
 
 pub invariant_of-result : goal.invariant_of-result
 invariant_of-result c =
-    subst (λ (t : Tree Pattern). EachBeginsKey t × (IsFalse c.self.inside.has_changes → HasNoChanges (patterns_of t))) (sym c.in_ok-freeze.ensures) c.self.invariant
+    let was = subst (λ (t : Tree Pattern). EachBeginsKey t × (IsFalse c.self.inside.has_changes → HasNoChanges (patterns_of t))) (sym c.in_ok-patterns.ensures) c.self.invariant in
+    (was.0, was.1, c.in_ok-vectors.ensures, c.first_bytes-first_bytes.ensures)

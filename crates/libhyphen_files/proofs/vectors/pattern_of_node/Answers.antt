@@ -1,7 +1,7 @@
 use Rattle.std.proofs.Common.{arith}
-use Rattle.libhyphen_rule.proofs.Pass.{root_has_none, no_pattern}
-use Rattle.libhyphen_rule.proofs.counting.pattern_of_node.Goals as goal
-use Rattle.libhyphen_rule.proofs.counting.pattern_of_node.Goals.{then-node-eq0-via-then-node-eq0, then-node-eq0-via-else-node-eq0+then-report-node}
+use Rattle.libhyphen_files.proofs.Nodes.{root_has_none, no_pattern}
+use Rattle.libhyphen_files.proofs.vectors.pattern_of_node.Goals as goal
+use Rattle.libhyphen_files.proofs.vectors.pattern_of_node.Goals.{then-node-eq0-via-then-node-eq0, then-node-eq0-via-else-node-eq0+then-report-node}
 
 pub returns-then-node-eq0 : goal.returns-then-node-eq0
 returns-then-node-eq0 c = elim c.then-node-eq0.branch [

@@ -1,0 +1,220 @@
+//! Words in which no pattern counts that changes letters: their digits, found in one pass without a look at changes.
+//!
+//! The pass steps from node to node of the automaton, one step for each byte of the word's frame. Each node has a
+//! vector: the digits that its own pattern gives to the 16 last places, counted from 0. The pass keeps the digits of
+//! these places in one register. With each byte it moves them by one place, raises them to those of the vector, and
+//! writes them to a list. A digit that is moved out of the register is written for good, since no pattern that ends
+//! later gives one so far back.
+//!
+//! A vector with a lane above 9 does not tell the node's pattern. The pass goes on then, and its digits are not used.
+
+ghost use Rattle.std.specs.Prelude.{◌≡◌, ℕ, List, ◌+◌, ◌<◌, ◌≤◌, max, None, IsTrue, IsFalse};
+ghost use Rattle.std.specs.Prelude.{length, replicate, slice_index};
+ghost use Rattle.hyphenation_breaks.specs.Ascii.{digit_zero, dot};
+ghost use Rattle.hyphenation_dictionary.specs.Parts.{patterns_of};
+ghost use Rattle.hyphenation_trie.specs.Trie.{EachBeginsKey};
+ghost use Rattle.libhyphen_files.specs.Vectors.{AreVectors, BeginsNoKey};
+ghost use Rattle.libhyphen_rule.specs.OneLevel.{changes_by, digits_by, level_changes, level_digits};
+ghost use Rattle.libhyphen_rule.specs.Private.Lanes.{AllKnown, IsPassed};
+ghost use Rattle.libhyphen_rule.specs.Private.Unchanged.{HasNoDigits};
+
+use crate::digits::clear;
+use hyphenation_dictionary::laws::keys_are_looked_up;
+use hyphenation_trie::laws::{keys_have_nodes, longest_goes_on};
+use hyphenation_trie::{Automaton, LookUps};
+use libhyphen_files::level::FrozenLevel;
+use libhyphen_files::pattern::StoredPattern;
+use std::simd::prelude::*;
+
+// Moves the lanes by one to the front, with 0 at the end.
+#[inline(always)]
+fn moved(last: u8x16) -> u8x16
+    requires { length last ≡ 16 }
+    ensures lanes { length result ≡ 16 }
+    ensures each { (lane : ℕ) → lane < 16 → slice_index result lane ≡ slice_index last (lane + 1) }
+{
+    last.shuffle(
+        u8x16::splat(0),
+        [1, 2, 3, 4, 5, 6, 7, 8, 9, 10, 11, 12, 13, 14, 15, 16],
+    )
+}
+
+// Returns the greater of two numbers in each lane.
+#[inline(always)]
+fn greater(a: u8x16, b: u8x16) -> u8x16
+    requires lanes { (length a ≡ 16) × (length b ≡ 16) }
+    ensures lanes { length result ≡ 16 }
+    ensures each { (lane : ℕ) → lane < 16 → slice_index result lane ≡ max (slice_index a lane) (slice_index b lane) }
+{
+    a.simd_max(b)
+}
+
+// Writes 16 digits to a place of a list.
+#[inline(always)]
+fn store(last: u8x16, list: &mut [u8], at: usize)
+    requires lanes { length last ≡ 16 }
+    requires room { at + 16 ≤ length list.old }
+    ensures written { (lane : ℕ) → lane < 16 → slice_index list.new (at + lane) ≡ slice_index last lane }
+    ensures before { (i : ℕ) → i < at → slice_index list.new i ≡ slice_index list.old i }
+    ensures room { length list.new ≡ length list.old }
+{
+    last.copy_to_slice(&mut list[at..at + 16]);
+}
+
+// Tests whether all lanes are digits.
+#[inline(always)]
+fn all_known(seen: u8x16) -> bool
+    requires { length seen ≡ 16 }
+    ensures { IsTrue result → AllKnown seen }
+{
+    seen.simd_gt(u8x16::splat(9)).to_bitmask() == 0
+}
+
+// What is known of a frame when some of its bytes are read: the node of the longest text there, the digits of the 16
+// last places, and for each lane the greatest number of all vectors that were met.
+#[derive(Clone, Copy, Drop)]
+struct FramePass {
+    node: usize,
+    last: u8x16,
+    seen: u8x16,
+}
+
+// Reads one byte more of a frame.
+#[inline(always)]
+fn passed_byte(
+    patterns: &Automaton<StoredPattern>,
+    vectors: &[[u8; 16]],
+    pass: FramePass,
+    byte: u8,
+    list: &mut [u8],
+    at: usize,
+) -> FramePass
+    requires begins { EachBeginsKey patterns.now }
+    requires vectors { AreVectors patterns.now vectors.now }
+    requires node { pass.node < length patterns.now.texts }
+    requires lanes { (length pass.last ≡ 16) × (length pass.seen ≡ 16) }
+    requires room { at + 16 ≤ length list.old }
+    ensures passed { (frame : List ℕ) → at < length frame → byte ≡ slice_index frame at
+        → IsPassed patterns.now frame at pass list.old → IsPassed patterns.now frame (at + 1) result list.new }
+    ensures room { length list.new ≡ length list.old }
+{
+    patterns.invariant();
+    keys_have_nodes::<StoredPattern>();
+    longest_goes_on::<StoredPattern>();
+    keys_are_looked_up::<StoredPattern>();
+    let node = patterns.step(pass.node, byte, &mut LookUps::new());
+    let vector = u8x16::from_array(vectors[node]);
+    let last = greater(moved(pass.last), vector);
+    store(last, list, at);
+    FramePass {
+        node,
+        last,
+        seen: greater(pass.seen, vector),
+    }
+}
+
+// Puts the digits of a word's places, by the list in which they are counted from 0. The place behind the last byte has
+// none.
+#[inline(always)]
+fn put_digits(list: &[u8], digits: &mut [u8])
+    requires room { length digits.old + 16 ≤ length list.now }
+    requires known { (byte : ℕ) → byte + 1 < length digits.old → slice_index list.now (byte + 16) < 10 }
+    ensures inner { (byte : ℕ) → byte + 1 < length digits.old
+        → slice_index digits.new byte ≡ digit_zero + slice_index list.now (byte + 16) }
+    ensures last { (byte : ℕ) → byte + 1 ≡ length digits.old → slice_index digits.new byte ≡ digit_zero }
+    ensures length { length digits.new ≡ length digits.old }
+{
+    if digits.is_empty() {
+        return;
+    }
+    let inner = digits.len() - 1;
+    for byte in 0..inner {
+        digits[byte] = list[byte + 16] + b'0';
+    }
+    digits[inner] = b'0';
+}
+
+// Finds the digits of a word's places by some patterns, in one pass over the word's frame. Returns false where a
+// pattern counts that may change letters. The word has no digits.
+#[inline(always)]
+fn read_frame(
+    patterns: &Automaton<StoredPattern>,
+    vectors: &[[u8; 16]],
+    word: &[u8],
+    list: &mut [u8],
+    digits: &mut [u8],
+) -> bool
+    requires begins { EachBeginsKey patterns.now }
+    requires vectors { AreVectors patterns.now vectors.now }
+    requires word { HasNoDigits word.now }
+    requires list { length word.now + 18 ≤ length list.old }
+    requires digits { length digits.old ≡ length word.now }
+    ensures digits { IsTrue result → digits.new ≡ digits_by (patterns_of patterns.now) word.now }
+    ensures changes { IsTrue result
+        → changes_by (patterns_of patterns.now) word.now ≡ replicate (length word.now) None }
+    ensures list_length { length list.new ≡ length list.old }
+    ensures digits_length { length digits.new ≡ length digits.old }
+{
+    patterns.invariant();
+    let none = u8x16::splat(0);
+    let start = FramePass {
+        node: patterns.root(),
+        last: none,
+        seen: none,
+    };
+    let mut pass = passed_byte(patterns, vectors, start, b'.', list, 0);
+    for at in 0..word.len() {
+        pass = passed_byte(patterns, vectors, pass, word[at], list, at + 1);
+    }
+    pass = passed_byte(patterns, vectors, pass, b'.', list, word.len() + 1);
+    if !all_known(pass.seen) {
+        return false;
+    }
+    put_digits(list, digits);
+    true
+}
+
+// Tests whether some byte of a word's frame may begin a key. The word has no digits.
+#[inline(always)]
+fn may_count(level: &FrozenLevel, word: &[u8]) -> bool
+    ensures dot { IsFalse result → BeginsNoKey level.now.patterns dot }
+    ensures each { IsFalse result → (byte : ℕ) → byte < length word.now
+        → BeginsNoKey level.now.patterns (slice_index word.now byte) }
+{
+    if level.may_begin(b'.') {
+        return true;
+    }
+    for byte in word.iter() {
+        if level.may_begin(*byte) {
+            return true;
+        }
+    }
+    false
+}
+
+// Finds the digits of a word's places by one level: for each byte of the word that of the place behind it. Returns
+// false, and leaves anything in the lists, where a pattern counts that may change letters. The word has no digits.
+//
+// The first list is room to work in, 18 bytes longer than the word or more.
+#[inline(always)]
+pub(crate) fn read_unchanged(
+    level: &FrozenLevel,
+    word: &[u8],
+    list: &mut [u8],
+    digits: &mut [u8],
+) -> bool
+    requires word { HasNoDigits word.now }
+    requires list { length word.now + 18 ≤ length list.old }
+    requires digits { length digits.old ≡ length word.now }
+    ensures digits { IsTrue result → digits.new ≡ level_digits level.now word.now }
+    ensures changes { IsTrue result → level_changes level.now word.now ≡ replicate (length word.now) None }
+    ensures list_length { length list.new ≡ length list.old }
+    ensures digits_length { length digits.new ≡ length digits.old }
+{
+    if !may_count(level, word) {
+        clear(digits);
+        return true;
+    }
+    let (patterns, vectors) = level.patterns_with_vectors();
+    read_frame(patterns, vectors, word, list, digits)
+}

@@ -1,0 +1,232 @@
+//! Compounds in which no pattern counts that changes letters. A part is then some bytes of the word, so nothing is
+//! copied.
+
+ghost use Rattle.std.specs.Prelude.{◌≡◌, ◌⊎◌, ◌+◌, ◌≤◌, ℕ, [], None, IfOk, IfSome, IsFalse, IsTrue};
+ghost use Rattle.std.specs.Prelude.{length, replicate};
+ghost use Rattle.std.specs.Char.{is_ascii_digit};
+ghost use Rattle.std.specs.List.{list_any};
+ghost use Rattle.libhyphen_rule.specs.Found.{asked_in, minima_of};
+ghost use Rattle.libhyphen_rule.specs.Parts.{found_below, found_in, word_found};
+ghost use Rattle.libhyphen_rule.specs.Parts.{without_left_of_part, without_right_of_part};
+ghost use Rattle.libhyphen_rule.specs.Private.Unchanged.{HasNoDigits, IsUnchanged};
+ghost use Rattle.libhyphen_rule.specs.Private.UnchangedParts.{found_unchanged, part_unchanged};
+
+use crate::minima::{take_left, take_right};
+use crate::parts::{AskedText, BothLevels, MOST_DEPTH, ends_part, has_break};
+use crate::unchanged::read_unchanged;
+use libhyphen_files::LevelDictionary;
+use libhyphen_files::bytes::before_nul;
+use std::alloc::{AllocError, Global};
+
+// Tests whether a word has a digit.
+fn has_digit(word: &[u8]) -> bool
+    ensures { result ≡ list_any is_ascii_digit word.now }
+{
+    word.iter().any(|byte| byte.is_ascii_digit())
+}
+
+// Takes away the places that are too near to the begin of a part, if it does not begin the word. Nothing stands behind
+// it then.
+fn take_left_end(levels: BothLevels<'_>, asked: AskedText<'_>, digits: &mut [u8])
+    requires behind { IsFalse asked.at_left → asked.behind.now ≡ [] }
+    ensures digits { (parts : ℕ) → found_unchanged digits.new parts
+        ≡ without_left_of_part levels.entry.dictionary.now.utf8 (minima_of levels.entry) (asked_in asked.entry)
+        (found_unchanged digits.old parts) }
+    ensures length { length digits.new ≡ length digits.old }
+{
+    if !asked.at_left {
+        take_left(
+            levels.dictionary.is_utf8(),
+            levels.left,
+            before_nul(asked.text),
+            digits,
+            &mut [],
+        );
+    }
+}
+
+// Takes away the places that are too near to the end of a part, if it does not end the word. Nothing stands behind it
+// then.
+fn take_right_end(levels: BothLevels<'_>, asked: AskedText<'_>, digits: &mut [u8])
+    requires behind { IsFalse asked.at_right → asked.behind.now ≡ [] }
+    requires length { length digits.old ≡ length asked.text.now }
+    ensures digits { (parts : ℕ) → found_unchanged digits.new parts
+        ≡ without_right_of_part levels.entry.dictionary.now.utf8 (minima_of levels.entry) (asked_in asked.entry)
+        (found_unchanged digits.old parts) }
+    ensures length { length digits.new ≡ length digits.old }
+{
+    if !asked.at_right {
+        take_right(
+            levels.dictionary.is_utf8(),
+            levels.right,
+            asked.text,
+            before_nul(asked.text),
+            digits,
+            &mut [],
+        );
+    }
+}
+
+// Finds the digits of a text in which the level at the top finds no break and no change. Returns false, with anything
+// in the lists, where a pattern of the level below counts that may change letters.
+//
+// The first list is room to work in.
+fn unchanged_below(
+    levels: BothLevels<'_>,
+    asked: AskedText<'_>,
+    list: &mut [u8],
+    digits: &mut [u8],
+) -> bool
+    requires text { HasNoDigits asked.text.now }
+    requires behind { IsFalse asked.at_left ⊎ IsFalse asked.at_right → asked.behind.now ≡ [] }
+    requires list { length asked.text.now + 18 ≤ length list.old }
+    requires digits { length digits.old ≡ length asked.text.now }
+    ensures found { IsTrue result → (parts : ℕ) → found_unchanged digits.new parts
+        ≡ found_below levels.entry.dictionary.now (minima_of levels.entry) parts (asked_in asked.entry)
+        (replicate (length asked.entry.text.now) None) }
+    ensures list_length { length list.new ≡ length list.old }
+    ensures digits_length { length digits.new ≡ length digits.old }
+{
+    if !read_unchanged(levels.dictionary.below(), asked.text, list, digits) {
+        return false;
+    }
+    take_left_end(levels, asked, digits);
+    take_right_end(levels, asked, digits);
+    true
+}
+
+// Returns a part as it is asked.
+fn part_of(whole: AskedText<'_>, begin: usize, end: usize) -> AskedText<'_>
+    requires begin { begin ≤ end }
+    requires end { end ≤ length whole.text.now }
+    ensures { asked_in result ≡ part_unchanged (asked_in whole.entry) begin end }
+{
+    AskedText {
+        text: &whole.text[begin..end],
+        behind: &[],
+        at_left: whole.at_left && begin == 0,
+        at_right: whole.at_right && end == whole.text.len(),
+    }
+}
+
+// Finds the digits of a text by both levels. Its parts are parted again, up to a depth, and while more parts may be
+// asked. Returns how many more may be asked then; `None`, with anything in the lists, where a pattern counts that may
+// change letters.
+//
+// The first list is room to work in, 18 bytes longer than the text or more. The text has no digits.
+fn unchanged_in(
+    levels: BothLevels<'_>,
+    depth: usize,
+    parts: usize,
+    asked: AskedText<'_>,
+    list: &mut [u8],
+    digits: &mut [u8],
+) -> Option<usize>
+    requires text { HasNoDigits asked.text.now }
+    requires behind { IsFalse asked.at_left ⊎ IsFalse asked.at_right → asked.behind.now ≡ [] }
+    requires list { length asked.text.now + 18 ≤ length list.old }
+    requires digits { length digits.old ≡ length asked.text.now }
+    ensures found { IfSome result (λ _.
+        IsUnchanged (found_in levels.entry.dictionary.now (minima_of levels.entry) depth parts (asked_in asked.entry)) digits.new) }
+    ensures parts { IfSome result (λ left.
+        (found_in levels.entry.dictionary.now (minima_of levels.entry) depth parts (asked_in asked.entry)).parts ≡ left) }
+    ensures list_length { length list.new ≡ length list.old }
+    ensures digits_length { length digits.new ≡ length digits.old }
+{
+    if !read_unchanged(levels.dictionary.top(), asked.text, list, digits) {
+        return None;
+    }
+    if !has_break(digits) {
+        if !unchanged_below(levels, asked, list, digits) {
+            return None;
+        }
+        return Some(parts);
+    }
+    let mut left = parts;
+    let mut begin = 0;
+    for byte in 0..asked.text.len() {
+        if !ends_part(digits, byte) {
+            continue;
+        }
+        if byte > begin + 1 && depth > 0 && left > 0 {
+            let part = part_of(asked, begin, byte + 1);
+            // The part's last two places stay those of the whole.
+            let before = digits[byte - 1];
+            let last = digits[byte];
+            left = unchanged_in(
+                levels,
+                depth - 1,
+                left - 1,
+                part,
+                list,
+                &mut digits[begin..byte + 1],
+            )?;
+            digits[byte - 1] = before;
+            digits[byte] = last;
+        }
+        begin = byte + 1;
+    }
+    Some(left)
+}
+
+// Finds the digits of a word that has none itself. Returns false, with anything in the lists, where a pattern counts
+// that may change letters.
+//
+// The first list is room to work in.
+fn read_word(
+    levels: BothLevels<'_>,
+    word: &[u8],
+    behind: &[u8],
+    list: &mut [u8],
+    digits: &mut [u8],
+) -> bool
+    requires word { HasNoDigits word.now }
+    requires list { length word.now + 18 ≤ length list.old }
+    requires digits { length digits.old ≡ length word.now }
+    ensures found { IsTrue result
+        → IsUnchanged (word_found levels.entry.dictionary.now (minima_of levels.entry) word.now behind.now) digits.new }
+    ensures list_length { length list.new ≡ length list.old }
+    ensures digits_length { length digits.new ≡ length digits.old }
+{
+    let asked = AskedText {
+        text: word,
+        behind,
+        at_left: true,
+        at_right: true,
+    };
+    unchanged_in(levels, MOST_DEPTH, word.len(), asked, list, digits).is_some()
+}
+
+// Returns the digits of a word by both levels, before the minima of the whole word; `None` where the word has digits,
+// or a pattern counts that may change letters. `behind` is what stands behind the word; `left` and `right` are the least
+// numbers of letters in its parts. The only error is out of memory.
+pub(crate) fn word_unchanged(
+    alloc: Global,
+    dictionary: &LevelDictionary,
+    left: i32,
+    right: i32,
+    word: &[u8],
+    behind: &[u8],
+) -> Result<Option<Vec<u8>>, AllocError>
+    ensures found { IfOk result (λ found. IfSome found (λ digits. IsUnchanged
+        (word_found dictionary.now (record { left = left; right = right }) word.now behind.now) digits.items)) }
+    ensures digits { IfOk result (λ found. IfSome found (λ digits. length digits.items ≡ length word.now)) }
+{
+    if has_digit(word) {
+        return Ok(None);
+    }
+    let levels = BothLevels {
+        dictionary,
+        left,
+        right,
+    };
+    let mut digits = vec![in alloc; b'0'; word.len()]?;
+    let is_found = if word.len() <= 64 {
+        let mut list = [0u8; 96];
+        read_word(levels, word, behind, &mut list, &mut digits)
+    } else {
+        let mut list = vec![in alloc; 0u8; word.len() + 18]?;
+        read_word(levels, word, behind, &mut list, &mut digits)
+    };
+    if is_found { Ok(Some(digits)) } else { Ok(None) }
+}
