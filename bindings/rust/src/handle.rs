@@ -156,6 +156,19 @@ extern "C" {
         capacity: usize,
         count: *mut usize,
     ) -> u32;
+    fn hyphenation_paths(
+        tag: *const u8,
+        tag_length: usize,
+        path: *const u8,
+        path_length: usize,
+        data_home: *const u8,
+        data_home_length: usize,
+        home: *const u8,
+        home_length: usize,
+        buffer: *mut u8,
+        capacity: usize,
+        count: *mut usize,
+    ) -> u32;
 }
 
 /// Why a call is not done.
@@ -476,6 +489,37 @@ impl Handle {
             unsafe { bytes.set_len(count) };
             return Ok(bytes);
         }
+    }
+}
+
+/// The paths at which the dictionary of a language is looked for, each with a NUL behind it.
+pub fn paths(tag: &str, path: &str, data_home: &str, home: &str) -> Result<String, Failure> {
+    let mut bytes: Vec<u8> = Vec::with_capacity(1 << 12);
+    loop {
+        let (mut count, room) = (0, bytes.capacity());
+        let status = unsafe {
+            hyphenation_paths(
+                tag.as_ptr(),
+                tag.len(),
+                path.as_ptr(),
+                path.len(),
+                data_home.as_ptr(),
+                data_home.len(),
+                home.as_ptr(),
+                home.len(),
+                bytes.as_mut_ptr(),
+                room,
+                &mut count,
+            )
+        };
+        if status == NO_ROOM {
+            bytes.reserve(count);
+            continue;
+        }
+        checked(status, 0, 0)?;
+        // so many bytes were written
+        unsafe { bytes.set_len(count) };
+        return Ok(text(bytes));
     }
 }
 

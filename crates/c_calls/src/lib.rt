@@ -11,6 +11,7 @@
 ghost use Rattle.std.specs.Prelude.{◌≡◌, None};
 ghost use Rattle.c_calls.specs.Dictionaries.{holds};
 ghost use Rattle.c_calls.specs.Lists.{WritesLists};
+ghost use Rattle.c_calls.specs.Paths.{WritesPaths};
 ghost use Rattle.c_calls.specs.Patterns.{LoadsDic};
 ghost use Rattle.c_calls.specs.Statuses.{kind_numbered, Loads, Shares, Edits, MakesTable, WritesLanguage, WritesMinima};
 ghost use Rattle.c_calls.specs.Statuses.{WritesBreaks, WritesValues, Changes, into, loading};
@@ -25,6 +26,7 @@ pub mod handle;
 pub mod lists;
 pub mod loaded;
 pub mod numbers;
+pub mod paths;
 pub mod patterns;
 pub mod room;
 pub mod statuses;
@@ -415,4 +417,24 @@ pub fn write_canonical_text(
     let status = calls::write_canonical_text(&loaded, alloc, buffer, count);
     *handle = Handle::of(loaded);
     status
+}
+
+/// Writes the paths at which the dictionary of a language is looked for, in their order, to the front of a buffer, each
+/// with a byte 0 behind it. The first one at which there is a file has it.
+///
+/// The texts are the tag of the language, and the values of the variables `HYPHENATION_PATH`, `XDG_DATA_HOME` and `HOME`,
+/// each empty if there is no such variable. A path that would have a byte 0 in it is left out: there is no such file.
+pub fn write_paths(
+    alloc: Global,
+    tag: &[u8],
+    path: &[u8],
+    data_home: &[u8],
+    home: &[u8],
+    buffer: &mut [u8],
+    count: &mut usize,
+) -> u32
+    ensures paths { WritesPaths tag.now (path.now, data_home.now, home.now) buffer.old buffer.new count.old count.new
+        result }
+{
+    paths::write_paths(alloc, tag, path, data_home, home, buffer, count)
 }

@@ -12,7 +12,7 @@ pub const OUT_OF_MEMORY: u32 = 2;
 /// The handle holds no dictionary.
 pub const NO_DICTIONARY: u32 = 3;
 
-/// A word, a text, a mark, an edit or a language is not UTF-8.
+/// A word, a text, a mark, an edit, a language or the value of a variable is not UTF-8.
 pub const NOT_UTF8: u32 = 4;
 
 /// A dictionary text, a file of patterns or an edit is refused.

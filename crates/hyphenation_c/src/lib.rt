@@ -7,6 +7,7 @@
 ghost use Rattle.std.specs.Prelude.{◌≡◌, ◌<◌, None, length};
 ghost use Rattle.c_calls.specs.Dictionaries.{holds};
 ghost use Rattle.c_calls.specs.Lists.{WritesLists};
+ghost use Rattle.c_calls.specs.Paths.{WritesPaths};
 ghost use Rattle.c_calls.specs.Patterns.{LoadsDic};
 ghost use Rattle.c_calls.specs.Statuses.{kind_numbered, Loads, Shares, Edits, MakesTable, WritesLanguage, WritesMinima};
 ghost use Rattle.c_calls.specs.Statuses.{WritesBreaks, WritesValues, Changes, into, loading};
@@ -263,6 +264,24 @@ pub extern "C" fn hyphenation_write(
         result }
 {
     c_calls::write_canonical_text(alloc, handle, buffer, count)
+}
+
+/// Writes the paths at which the dictionary of a language is looked for, each with a byte 0 behind it, to the front of a
+/// buffer.
+#[unsafe(no_mangle)]
+pub extern "C" fn hyphenation_paths(
+    alloc: Global,
+    tag: &[u8],
+    path: &[u8],
+    data_home: &[u8],
+    home: &[u8],
+    buffer: &mut [u8],
+    count: &mut usize,
+) -> u32
+    ensures paths { WritesPaths tag.now (path.now, data_home.now, home.now) buffer.old buffer.new count.old count.new
+        result }
+{
+    c_calls::write_paths(alloc, tag, path, data_home, home, buffer, count)
 }
 
 /// Loads a `.dic`, and writes what it says of itself. The dictionary takes the place of the one that the handle held.

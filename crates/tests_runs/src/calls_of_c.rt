@@ -6,7 +6,7 @@ use c_calls::changes::BreakChange;
 use c_calls::handle::Handle;
 use std::alloc::Global;
 use std::test::Fail;
-use test_support::{expect_equal, expect_equal_bytes, expect_equal_in};
+use test_support::{expect, expect_equal, expect_equal_bytes, expect_equal_in};
 
 const ENGLISH: &str = "hyphenation 1 standard\nlanguage en-us\nminima 2 3\ne hyphenation 2 6 7\n";
 
@@ -457,4 +457,69 @@ fn files_of_tex_make_a_dictionary(rt: HostRuntime) -> Result<(), Fail> {
     let found = marked_by_tex(rt.alloc(), tex, "as-so-ciate", "firkin present associate");
     let page = *b"fir-kin pre-sent as-so-ciate....";
     expect_equal(&found, &((0, 9, 9, 9), (0, 28, page)))
+}
+
+const PATHS: &[u8] =
+    b"a/qx.txt\0a/qx.extended.txt\0/usr/local/share/hyphenation/qx.txt\0/usr/local/share/hyphenation/qx.extended.txt\0/usr/share/hyphenation/qx.txt\0/usr/share/hyphenation/qx.extended.txt\0";
+
+// The tag of a language and the folders, with the room of a buffer, and the status and the count of the call.
+const PATH_CALLS: [(&str, &[u8], &[u8], usize, (u32, usize)); 5] = [
+    (
+        "each path has a byte 0 behind it",
+        b"QX",
+        b"a",
+        192,
+        (0, 177),
+    ),
+    (
+        "a buffer that is too short is unchanged",
+        b"QX",
+        b"a",
+        174,
+        (1, 177),
+    ),
+    (
+        "a folder with a byte 0 is left out",
+        b"QX",
+        b"a:b\0c",
+        192,
+        (0, 177),
+    ),
+    (
+        "a tag that is not UTF-8 changes nothing",
+        b"\xff",
+        b"a",
+        192,
+        (4, 9),
+    ),
+    (
+        "folders that are not UTF-8 change nothing",
+        b"QX",
+        b"\xff",
+        192,
+        (4, 9),
+    ),
+];
+
+#[test]
+fn the_paths_of_a_language_are_written(rt: HostRuntime) -> Result<(), Fail> {
+    for (case, tag, path, room, wanted) in &PATH_CALLS {
+        let (mut buffer, mut count) = ([b'.'; 192], 9);
+        let room = (*room).min(192);
+        let status = c_calls::write_paths(
+            rt.alloc(),
+            tag,
+            path,
+            b"",
+            b"",
+            &mut buffer[..room],
+            &mut count,
+        );
+        expect_equal_in(*case, &(status, count), wanted)?;
+        let found = if status == 0 { PATHS } else { b"" };
+        let end = found.len().min(192);
+        expect_equal_bytes(*case, &buffer[..end], found)?;
+        expect(buffer[end..].iter().all(|byte| *byte == b'.'), *case)?;
+    }
+    Ok(())
 }

@@ -11,6 +11,8 @@ mod files;
 #[cfg(test)]
 mod folding;
 #[cfg(test)]
+mod language_paths;
+#[cfg(test)]
 mod loaded;
 #[cfg(test)]
 mod long_words;

@@ -1,0 +1,27 @@
+//! The search for the dictionary of a language.
+
+use crate::handle::paths;
+use crate::hyphenator::done;
+use std::env;
+use std::path::{Path, PathBuf};
+
+// The value of a variable of the environment; empty if it is missing or not UTF-8.
+fn value(name: &str) -> String {
+    env::var(name).unwrap_or_default()
+}
+
+/// Returns the path of the dictionary of a language, or `None` if there is none.
+///
+/// It is searched in the folders that `HYPHENATION_PATH` names, then in `hyphenation` in `XDG_DATA_HOME`, or else
+/// `.local/share/hyphenation` in `HOME`, and then in `/usr/local/share/hyphenation` and `/usr/share/hyphenation`: by the
+/// whole tag, as `de-ch` for `de_CH`, and then without its last part, as `de` and `de-1996`. A standard dictionary
+/// (`.txt`) comes before an extended one (`.extended.txt`).
+///
+/// ```
+/// assert_eq!(hyphenation::dictionary_path("../x"), None);
+/// ```
+pub fn dictionary_path(language: &str) -> Option<PathBuf> {
+    let [path, data_home, home] = ["HYPHENATION_PATH", "XDG_DATA_HOME", "HOME"].map(value);
+    let paths = done(paths(language, &path, &data_home, &home));
+    paths.split_terminator('\0').map(Path::new).find(|path| path.is_file()).map(Path::to_owned)
+}

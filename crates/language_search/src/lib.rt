@@ -1,0 +1,27 @@
+//! The search for the dictionary of a language: in which folders, by which names, and in which order.
+//!
+//! It opens nothing. [`folders_of`] gives the folders, and [`paths_of`] the paths at which to look, in their order; the
+//! first one at which there is a file has the dictionary. So each program and each binding finds the same one.
+//! [`codes_of`] and [`paths_of_code`] give the same paths code by code.
+//!
+//! ```text
+//! let folders = folders_of(alloc, "", "", "/home/ada")?;
+//! paths_of(alloc, &["/home/ada/.local/share/hyphenation"], "de_CH")?
+//! // /home/ada/.local/share/hyphenation/de-ch.txt
+//! // /home/ada/.local/share/hyphenation/de-ch.extended.txt
+//! // /home/ada/.local/share/hyphenation/de.txt
+//! // /home/ada/.local/share/hyphenation/de.extended.txt
+//! // /home/ada/.local/share/hyphenation/de-1996.txt
+//! // /home/ada/.local/share/hyphenation/de-1996.extended.txt
+//! ```
+#![tactic(auto)]
+
+mod folders;
+pub mod laws;
+mod names;
+mod paths;
+mod tags;
+
+pub use folders::folders_of;
+pub use paths::{paths_of, paths_of_code};
+pub use tags::codes_of;
