@@ -17,6 +17,7 @@ pub mod PlacesOfParts
 pub mod Partings
 pub mod WordsFound
 pub mod Absent
+pub mod Beside
 pub mod Ascii
 pub mod ForbiddenPlaces
 pub mod FoundSizes

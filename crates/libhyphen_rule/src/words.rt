@@ -1,7 +1,8 @@
 //! The last steps over a whole word: texts beside which no break stands, the word written with its breaks, and
 //! characters.
 
-ghost use Rattle.std.specs.Prelude.{◌≡◌, ◌<◌, ℕ, false, nat_lt, length, map, option_map, slice_range, IfOk, OnOk};
+ghost use Rattle.std.specs.Prelude.{◌≡◌, ◌<◌, ◌==◌, ℕ, false, List, [], ◌∷◌, nat_lt, length, map, option_map};
+ghost use Rattle.std.specs.Prelude.{slice_index_or, slice_range, IfOk, OnOk};
 ghost use Rattle.std.specs.List.{list_all, list_any};
 ghost use Rattle.libhyphen_rule.specs.Found.{placed, placed_all};
 ghost use Rattle.libhyphen_rule.specs.Words.{begins, change_in_characters, changes_of_characters, characters};
@@ -13,17 +14,22 @@ use libhyphen_files::bytes::continues;
 use std::alloc::{AllocError, Global};
 
 // Returns whether a text stands in a word from a byte on.
+#[inline(always)]
 fn stands_at(text: &[u8], at: usize, part: &[u8]) -> bool
     ensures { result ≡ stands_at text.now at part.now }
 {
-    if at <= text.len() {
-        text[at..].starts_with(part)
-    } else {
-        part.is_empty()
+    if at >= text.len() {
+        return part.is_empty();
+    }
+    match part {
+        [] => true,
+        [only] => text[at] == *only,
+        [first, ..] => text[at] == *first && text[at..].starts_with(part),
     }
 }
 
 // Returns whether a text begins or ends at the place behind a byte.
+#[inline(always)]
 fn is_beside(text: &[u8], byte: usize, part: &[u8]) -> bool
     requires { byte < usize.MAX }
     ensures { result ≡ is_beside text.now byte part.now }
@@ -32,40 +38,41 @@ fn is_beside(text: &[u8], byte: usize, part: &[u8]) -> bool
         || part.len() <= byte + 1 && stands_at(text, byte + 1 - part.len(), part)
 }
 
-// Returns whether one of some texts begins or ends at the place behind a byte.
-fn some_is_beside(parts: &[Vec<u8>], text: &[u8], byte: usize) -> bool
-    requires { byte < usize.MAX }
-    ensures { result ≡ list_any (is_beside text.now byte) (map (λ part. part.items) parts.now) }
+// Returns, for each number of a byte, whether the byte occurs in a text.
+#[inline(always)]
+fn occurring(text: &[u8]) -> [bool; 256]
+    ensures { (b : ℕ) → b < 256 → slice_index_or result b false ≡ list_any (λ byte. byte == b) text.now }
 {
-    for part in parts {
-        if is_beside(text, byte, part) {
-            return true;
-        }
+    let mut occurs = [false; 256];
+    for byte in text {
+        occurs[*byte as usize] = true;
     }
-    false
+    occurs
 }
 
-// Returns whether a text may begin or end at a place of a word: whether its first byte occurs there.
-fn may_stand(part: &[u8], text: &[u8]) -> bool
-    ensures { result ≡ false → (byte : ℕ) → is_beside text.now byte part.now ≡ false }
+// Returns whether a text may begin or end at a place of a word: whether its first byte is one of those that occur in
+// the word.
+#[inline(always)]
+fn may_stand(part: &[u8], occurs: &[bool; 256]) -> bool
+    ensures { result ≡ false → (text : List ℕ)
+        → ((b : ℕ) → b < 256 → slice_index_or occurs.now b false ≡ list_any (λ byte. byte == b) text)
+        → (byte : ℕ) → is_beside text byte part.now ≡ false }
 {
     match part {
         [] => true,
-        [first, ..] => text.contains(first),
+        [first, ..] => occurs[*first as usize],
     }
 }
 
-// Returns whether one of some texts may begin or end at a place of a word.
-fn may_be_beside(parts: &[Vec<u8>], text: &[u8]) -> bool
-    ensures { result ≡ false
-        → (byte : ℕ) → list_any (is_beside text.now byte) (map (λ part. part.items) parts.now) ≡ false }
+// Puts another byte in the place of each digit beside which one text begins or ends.
+fn take_beside_one(part: &[u8], instead: u8, text: &[u8], digits: &mut [u8])
+    ensures { digits.new ≡ digits_beside (part.now ∷ []) instead text.now digits.old }
 {
-    for part in parts {
-        if may_stand(part, text) {
-            return true;
+    for (byte, digit) in digits.iter_mut().enumerate() {
+        if is_beside(text, byte, part) {
+            *digit = instead;
         }
     }
-    false
 }
 
 // Puts another byte in the place of each digit beside which a text without breaks begins or ends.
@@ -75,12 +82,13 @@ fn may_be_beside(parts: &[Vec<u8>], text: &[u8]) -> bool
 pub(crate) fn take_beside(parts: &[Vec<u8>], instead: u8, text: &[u8], digits: &mut [u8])
     ensures { digits.new ≡ digits_beside (map (λ part. part.items) parts.now) instead text.now digits.old }
 {
-    if !may_be_beside(parts, text) {
+    if parts.is_empty() {
         return;
     }
-    for (byte, digit) in digits.iter_mut().enumerate() {
-        if some_is_beside(parts, text, byte) {
-            *digit = instead;
+    let occurs = occurring(text);
+    for part in parts {
+        if may_stand(part, &occurs) {
+            take_beside_one(part, instead, text, digits);
         }
     }
 }

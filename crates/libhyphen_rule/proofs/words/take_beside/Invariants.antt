@@ -1,13 +1,7 @@
-use Rattle.std.proofs.Common.{◌≡◌, ◌≤◌, ◌<◌, ℕ, map, if◌then◌else◌}
-use Rattle.std.specs.Prelude.{slice_index}
-use Rattle.std.specs.List.{list_any}
-use Rattle.libhyphen_rule.specs.Words.{is_beside}
+use Rattle.std.proofs.Common.{◌≡◌, map, take}
+use Rattle.libhyphen_rule.specs.Words.{digits_beside}
 use Rattle.libhyphen_rule.proofs.words.take_beside.Given as goal
 
-abbrev pub invariant-loop-byte : goal.invariant-loop-byte
-invariant-loop-byte l = record {
-  done : (k : ℕ) → k < l.byte → slice_index l.digits k
-      ≡ (if list_any (is_beside l.text k) (map (λ part. part.items) l.parts) then l.instead
-      else slice_index l.fn.digits k);
-  left : (k : ℕ) → l.byte ≤ k → slice_index l.digits k ≡ slice_index l.fn.digits k;
-}
+abbrev pub invariant-loop-part : goal.invariant-loop-part
+invariant-loop-part l =
+    l.digits ≡ digits_beside (map (λ part. part.items) (take l.part-index l.parts)) l.instead l.text l.fn.digits
