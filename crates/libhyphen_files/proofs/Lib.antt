@@ -7,3 +7,4 @@ pub mod LevelsLemmas
 pub mod Nodes
 pub mod SettingsLemmas
 pub mod CutTexts
+pub mod OrdinaryBytes

@@ -5,4 +5,5 @@ pub mod Patterns
 pub mod Levels
 pub mod Vectors
 pub mod Files
+pub mod Ordinary
 pub mod Private

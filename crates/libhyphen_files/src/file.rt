@@ -1,9 +1,10 @@
 //! A whole `.dic`: the rules that its bytes give.
 
-ghost use Rattle.std.specs.Prelude.{◌≡◌, ◌≤◌, length, map, IfOk};
+ghost use Rattle.std.specs.Prelude.{◌≡◌, ◌≤◌, false, length, map, IfOk, IsTrue};
 ghost use Rattle.std.specs.List.{position_or_len, list_any, before_first, after_first};
 ghost use Rattle.libhyphen_files.specs.Files.{rules_of, rules_of_lines, charset_of, is_utf8_name, is_next_level};
 ghost use Rattle.libhyphen_files.specs.Files.{level_of, default_top, default_minima, first_set, dash_lines, dashes};
+ghost use Rattle.libhyphen_files.specs.Ordinary.{may_begin_with, AreOrdinary, IsOrdinary, IsOrdinaryIn};
 
 use crate::level::{FrozenLevel, GrowingLevel};
 use crate::lines::lines_of;
@@ -21,10 +22,13 @@ pub struct LevelDictionary {
     utf8: bool,
     top: FrozenLevel,
     below: FrozenLevel,
+    // For each byte whether it is one of most words.
+    ordinary: [bool; 256],
 }
 
 impl Model for LevelDictionary {
     ghost use Rattle.libhyphen_files.specs.Files.{Rules};
+    ghost use Rattle.libhyphen_files.specs.Ordinary.{AreOrdinary};
     ghost use Rattle.libhyphen_files.specs.Private.Codes.{rules_code};
 
     ghost Value = { Rules };
@@ -32,6 +36,8 @@ impl Model for LevelDictionary {
     ghost coded = { rules_code };
 
     ghost view = { λ d. record { charset = d.charset.items; utf8 = d.utf8; top = d.top; below = d.below } };
+
+    ghost invariant = { λ d. AreOrdinary d.utf8 d.top.no_hyphen d.ordinary };
 }
 
 impl LevelDictionary {
@@ -61,6 +67,15 @@ impl LevelDictionary {
         ensures { result.now ≡ self.now.below }
     {
         &self.below
+    }
+
+    /// Tests whether a byte is one of most words: no byte 0, no digit, in UTF-8 a character of its own, and the first
+    /// byte of no text without breaks of the level at the top.
+    #[inline(always)]
+    pub fn is_ordinary(&self, byte: u8) -> bool
+        ensures { IsTrue result → IsOrdinary self.now byte }
+    {
+        self.ordinary[byte as usize]
     }
 }
 
@@ -115,12 +130,58 @@ fn dictionary_of_levels(
     ensures { IfOk result (λ dictionary. dictionary
         ≡ record { charset = charset.now; utf8 = utf8; top = top; below = below }) }
 {
+    let top = top.freeze(alloc)?;
+    let ordinary = ordinary_bytes(utf8, top.no_hyphen());
     Ok(LevelDictionary {
         charset: charset.to_vec(alloc)?,
         utf8,
-        top: top.freeze(alloc)?,
+        top,
         below: below.freeze(alloc)?,
+        ordinary,
     })
+}
+
+// Tests whether a text begins with a byte. One without bytes stands everywhere, so it counts as one that does.
+fn may_begin_with(text: &[u8], byte: u8) -> bool
+    ensures { result ≡ may_begin_with byte text.now }
+{
+    match text {
+        [] => true,
+        [first, ..] => *first == byte,
+    }
+}
+
+// Tests whether none of some texts begins with a byte.
+fn begins_none(texts: &[Vec<u8>], byte: u8) -> bool
+    ensures { IsTrue result → list_any (may_begin_with byte) (map (λ text. text.items) texts.now) ≡ false }
+{
+    for text in texts {
+        if may_begin_with(text, byte) {
+            return false;
+        }
+    }
+    true
+}
+
+// Tests whether a byte is one of most words, by the texts without breaks.
+fn is_ordinary(utf8: bool, no_hyphen: &[Vec<u8>], byte: u8) -> bool
+    ensures { IsTrue result → IsOrdinaryIn utf8 (map (λ text. text.items) no_hyphen.now) byte }
+{
+    if byte == 0 || byte.is_ascii_digit() || utf8 && byte >= 128 {
+        return false;
+    }
+    begins_none(no_hyphen, byte)
+}
+
+// Marks the bytes of most words, by the texts without breaks.
+fn ordinary_bytes(utf8: bool, no_hyphen: &[Vec<u8>]) -> [bool; 256]
+    ensures { AreOrdinary utf8 (map (λ text. text.items) no_hyphen.now) result }
+{
+    let mut marks = [false; 256];
+    for byte in 0..marks.len() {
+        marks[byte] = is_ordinary(utf8, no_hyphen, byte as u8);
+    }
+    marks
 }
 
 // Returns the charset that a first line names: what is before a byte 0, a line feed or a carriage return.

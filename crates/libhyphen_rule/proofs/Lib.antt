@@ -28,3 +28,4 @@ pub mod UnchangedDigits
 pub mod UnchangedWords
 pub mod UnchangedCalls
 pub mod UnchangedParts
+pub mod OrdinaryWords

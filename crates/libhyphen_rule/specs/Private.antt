@@ -5,3 +5,4 @@ pub mod Pass
 pub mod Unchanged
 pub mod Lanes
 pub mod UnchangedParts
+pub mod Ordinary

@@ -14,6 +14,7 @@ use crate::digits::read_digits;
 use crate::found::WordFound;
 use crate::minima::{take_left, take_right};
 use crate::one_level::PlacedChange;
+use crate::ordinary::ordinary_answer;
 use crate::parts::{has_change, word_found};
 use crate::unchanged_parts::word_unchanged;
 use crate::words::{
@@ -73,7 +74,7 @@ fn own_minima(own: &Minima) -> CallMinima
 }
 
 // Returns the minima of a dictionary, or of each the greater one of it and of a caller's.
-fn least_of(own: &Minima, given: Option<CallMinima>) -> CallMinima
+pub(crate) fn least_of(own: &Minima, given: Option<CallMinima>) -> CallMinima
     ensures { result ≡ least_of own.now given }
 {
     let mut least = own_minima(own);
@@ -88,7 +89,7 @@ fn least_of(own: &Minima, given: Option<CallMinima>) -> CallMinima
 
 // Returns the minimum of a whole word.
 #[tactic(auto, unfolding(crate::specs::Calls::at_least_two))]
-fn at_least_two(least: i32) -> i32
+pub(crate) fn at_least_two(least: i32) -> i32
     ensures { result ≡ at_least_two least }
 {
     if 0 < least { least } else { 2 }
@@ -338,6 +339,9 @@ pub fn hyphenate<'d>(
     ensures { IfOk result (λ answer. option_map answer_view answer
         ≡ answer_of dictionary.now minima text.now size) }
 {
+    if let Some(known) = ordinary_answer(alloc, dictionary, minima, text, size)? {
+        return Ok(Some(known));
+    }
     let utf8 = dictionary.is_utf8();
     if utf8 && begins_within(text) {
         return Ok(None);

@@ -215,6 +215,23 @@ pub(crate) fn word_unchanged(
     if has_digit(word) {
         return Ok(None);
     }
+    word_without_digits(alloc, dictionary, left, right, word, behind)
+}
+
+// Returns the digits of a word that has none itself, as `word_unchanged` does.
+pub(crate) fn word_without_digits(
+    alloc: Global,
+    dictionary: &LevelDictionary,
+    left: i32,
+    right: i32,
+    word: &[u8],
+    behind: &[u8],
+) -> Result<Option<Vec<u8>>, AllocError>
+    requires { HasNoDigits word.now }
+    ensures found { IfOk result (λ found. IfSome found (λ digits. IsUnchanged
+        (word_found dictionary.now (record { left = left; right = right }) word.now behind.now) digits.items)) }
+    ensures digits { IfOk result (λ found. IfSome found (λ digits. length digits.items ≡ length word.now)) }
+{
     let levels = BothLevels {
         dictionary,
         left,

@@ -9,18 +9,18 @@ use Rattle.libhyphen_rule.proofs.UnchangedCalls.{in_characters_is, unchanged_is,
 use Rattle.libhyphen_rule.proofs.calls.hyphenate.Goals.{else-utf8-via-then-utf8+else-begins_within, else-utf8-via-else-utf8}
 use Rattle.libhyphen_rule.proofs.calls.hyphenate.Goals as goal
 
-pub returns-in-Some : goal.returns-in-Some
-returns-in-Some c =
+pub returns-in-Some-2 : goal.returns-in-Some-2
+returns-in-Some-2 c =
     let rules_now = c.args.dictionary.now in
     let text = c.args.text.now in
     let whole : begins_within rules_now text ≡ false = elim c.else-utf8.branch [
       | else-utf8-via-then-utf8+else-begins_within w ↦ whole_of_utf8 rules_now text (sym w.begins_within.ensures ∙ w.if-begins_within.false)
       | else-utf8-via-else-utf8 w ↦ whole_of_bytes rules_now text (sym c.is_utf8-utf8.ensures ∙ w.if-utf8.false)
     ] in
-    let found : IsUnchanged (found_by_call rules_now c.args.minima text c.args.size) c.in-Some.plain.items = rw c.in-Some.is at c.in_ok-plain.ensures.found in
-    let kept = with_items_is c.in-Some.plain c.take_kept.new.digits (c.take_kept.auto.digits ∙ c.deref_mut.ensures.len) in
-    let digits : List ℕ = (with_items c.in-Some.plain c.take_kept.new.digits).items in
-    unchanged_is rules_now c.args.minima text c.args.size c.in-Some.plain.items digits c.in_ok-answer.answer whole found
+    let found : IsUnchanged (found_by_call rules_now c.args.minima text c.args.size) c.in-Some-2.plain.items = rw c.in-Some-2.is at c.in_ok-plain.ensures.found in
+    let kept = with_items_is c.in-Some-2.plain c.take_kept.new.digits (c.take_kept.auto.digits ∙ c.deref_mut.ensures.len) in
+    let digits : List ℕ = (with_items c.in-Some-2.plain c.take_kept.new.digits).items in
+    unchanged_is rules_now c.args.minima text c.args.size c.in-Some-2.plain.items digits c.in_ok-answer.answer whole found
     (kept ∙ c.take_kept.ensures ∙ ap (digits_kept rules_now c.args.minima text) c.deref_mut.ensures.value)
     (c.in_ok-answer.ensures.digits
     ∙ ap (λ utf8. cond {A = List ℕ} utf8 (digits_of_characters (take c.args.size text) digits) digits) c.is_utf8-utf8.ensures)

@@ -1,0 +1,140 @@
+-- Words of ordinary bytes: libhyphen sees them as they are.
+use Rattle.std.proofs.Common.{◌≡◌, ◌∙◌, ℕ, suc, ◌+◌, ◌<◌, ◌≤◌, Bool, true, false, cond, List, [], ◌∷◌, length, take, get_or, Option, Some, refl, sym, ap, subst, arith}
+use Rattle.std.specs.Prelude.{◌==◌, ◌||◌, ◌&&◌, not, slice_index}
+use Rattle.std.specs.Char.{is_ascii_digit}
+use Rattle.std.specs.List.{list_all, list_any, position_or_len}
+use Rattle.std.proofs.lemmas.Bool.{ne_eqb}
+use Rattle.std.proofs.lemmas.Bool.Decides.{nat_tests}
+use Rattle.std.proofs.lemmas.List.{get_or-take, length-take-le, take_all}
+use Rattle.libhyphen_files.specs.Bytes.{before_nul, continues}
+use Rattle.libhyphen_files.specs.Files.{Rules}
+use Rattle.libhyphen_files.specs.Ordinary.{IsOrdinary, may_begin_with}
+use Rattle.libhyphen_rule.specs.Calls.{answer_of, begins_within, digits_kept, found_by_call, taken_digit}
+use Rattle.libhyphen_rule.specs.Found.{answer_view}
+use Rattle.libhyphen_rule.specs.Private.Ordinary.{AllOrdinary}
+use Rattle.libhyphen_rule.specs.Private.Unchanged.{HasNoDigits, IsUnchanged}
+use Rattle.libhyphen_rule.specs.Words.{digits_beside, digits_of_characters, is_beside}
+use Rattle.libhyphen_rule.specs.declared.calls.CallAnswer.{CallAnswer}
+use Rattle.libhyphen_rule.specs.declared.calls.CallMinima.{CallMinima}
+use Rattle.libhyphen_rule.proofs.Absent.{digits_stay, not_beside}
+use Rattle.libhyphen_rule.proofs.Ascii.{ascii_digits, is_small}
+use Rattle.libhyphen_rule.proofs.UnchangedCalls.{unchanged_is, whole_of_bytes, whole_of_utf8}
+use Rattle.libhyphen_rule.proofs.UnchangedParts.{no_digits}
+
+-- ---- What holds for each byte.
+
+none_of : (p : ℕ → Bool) (xs : List ℕ) → ((k : ℕ) → k < length xs → p (get_or xs k 0) ≡ false) → list_any p xs ≡ false
+none_of p [] none = refl
+none_of p (x ∷ xs) none =
+    let first : p x ≡ false = none 0 (omega arith) in
+    ap (λ b. b || list_any p xs) first ∙ none_of p xs (λ k l. none (suc k) (omega (arith, l)))
+
+all_of : (p : ℕ → Bool) (xs : List ℕ) → ((k : ℕ) → k < length xs → p (get_or xs k 0) ≡ true) → list_all p xs ≡ true
+all_of p [] all = refl
+all_of p (x ∷ xs) all =
+    let first : p x ≡ true = all 0 (omega arith) in
+    ap (λ b. b && list_all p xs) first ∙ all_of p xs (λ k l. all (suc k) (omega (arith, l)))
+
+ends_nowhere : (p : ℕ → Bool) (xs : List ℕ) → list_any p xs ≡ false → length xs ≤ position_or_len p xs
+ends_nowhere p [] none = omega arith
+ends_nowhere p (x ∷ xs) none = by (p x) none (ends_nowhere p xs)
+  where
+    by : (b : Bool) → (b || list_any p xs) ≡ false → (list_any p xs ≡ false → length xs ≤ position_or_len p xs)
+        → suc (length xs) ≤ cond (not b) (1 + position_or_len p xs) 0
+    by true h rest = absurd (cc)
+    by false h rest = omega (arith, rest h)
+
+-- The first bytes of such a text are such a text.
+pub ordinary_word : (rules : Rules) (text : List ℕ) (size : ℕ) → size ≤ length text → AllOrdinary rules text → AllOrdinary rules (take size text)
+ordinary_word rules text size within all = λ k l.
+    let below : k < size = omega (arith, l, length-take-le size text within) in
+    subst (λ (b : ℕ). IsOrdinary rules b) (sym (get_or-take size text k 0 below)) (all k (omega (arith, below, within)))
+
+-- Such a text has no digits.
+pub ordinary_digits : (rules : Rules) (text : List ℕ) → AllOrdinary rules text → HasNoDigits text
+ordinary_digits rules text all = no_digits text (none_of is_ascii_digit text (λ k l. (all k l).no_digit))
+
+-- C reads all of such a text.
+pub ordinary_seen : (rules : Rules) (text : List ℕ) → AllOrdinary rules text → before_nul text ≡ text
+ordinary_seen rules text all =
+    take_all (position_or_len (λ b. b == 0) text) text
+    (ends_nowhere (λ b. b == 0) text (none_of (λ b. b == 0) text (λ k l. ne_eqb (get_or text k 0) 0 (all k l).no_nul)))
+
+-- ---- Texts without breaks.
+
+other : (first x : ℕ) → (first == x) ≡ false → (x == first) ≡ false
+other first x h = grind (arith, nat_tests)
+
+left_none : (a b : Bool) → (a || b) ≡ false → a ≡ false
+left_none true b h = h
+left_none false b h = refl
+
+right_none : (a b : Bool) → (a || b) ≡ false → b ≡ false
+right_none true b h = absurd (cc)
+right_none false b h = h
+
+part_absent : (text part : List ℕ) (byte : ℕ) → 0 < length text
+    → ((k : ℕ) → k < length text → may_begin_with (get_or text k 0) part ≡ false) → is_beside text byte part ≡ false
+part_absent text [] byte some none = let no : true ≡ false = none 0 some in absurd (cc)
+part_absent text (first ∷ rest) byte some none =
+    not_beside text (first ∷ rest) byte false (omega arith)
+    (sym (none_of (λ y. y == first) text (λ k l. other first (get_or text k 0) (none k l)))) refl
+
+parts_absent : (parts : List (List ℕ)) (text : List ℕ) (byte : ℕ) → 0 < length text
+    → ((k : ℕ) → k < length text → list_any (may_begin_with (get_or text k 0)) parts ≡ false)
+    → list_any (is_beside text byte) parts ≡ false
+parts_absent [] text byte some none = refl
+parts_absent (part ∷ parts) text byte some none =
+    let here : is_beside text byte part ≡ false = part_absent text part byte some
+    (λ k l. left_none (may_begin_with (get_or text k 0) part) (list_any (may_begin_with (get_or text k 0)) parts) (none k l)) in
+    let rest : list_any (is_beside text byte) parts ≡ false = parts_absent parts text byte some
+    (λ k l. right_none (may_begin_with (get_or text k 0) part) (list_any (may_begin_with (get_or text k 0)) parts) (none k l)) in
+    ap (λ b. b || list_any (is_beside text byte) parts) here ∙ rest
+
+-- No text without breaks takes a digit away.
+kept_in : (parts : List (List ℕ)) (instead : ℕ) (text digits : List ℕ) → length digits ≤ length text
+    → ((k : ℕ) → k < length text → list_any (may_begin_with (get_or text k 0)) parts ≡ false)
+    → digits ≡ digits_beside parts instead text digits
+kept_in parts instead text [] within none = refl
+kept_in parts instead text (digit ∷ digits) within none =
+    digits_stay parts instead text (digit ∷ digits) (λ byte. parts_absent parts text byte (omega (arith, within)) none)
+
+-- ---- Characters.
+
+whole : (rules : Rules) (text : List ℕ) → AllOrdinary rules text → begins_within rules text ≡ false
+whole rules text all =
+    elim rules.utf8 as (λ u. rules.utf8 ≡ u → begins_within rules text ≡ false) [
+      | true ↦ λ is. whole_of_utf8 rules text (first text (λ l. (all 0 l).one_character is))
+      | false ↦ λ is. whole_of_bytes rules text is
+    ] refl
+  where
+    first : (xs : List ℕ) → (0 < length xs → slice_index xs 0 < 128) → continues (slice_index xs 0) ≡ false
+    first [] small = refl
+    first (x ∷ xs) small = let low : x < 128 = small (omega arith) in grind (arith, nat_tests)
+
+in_characters : (rules : Rules) (word digits : List ℕ) → AllOrdinary rules word → length digits ≡ length word
+    → digits ≡ cond rules.utf8 (digits_of_characters word digits) digits
+in_characters rules word digits all long =
+    elim rules.utf8 as (λ u. rules.utf8 ≡ u → digits ≡ cond u (digits_of_characters word digits) digits) [
+      | true ↦ λ is. ascii_digits word digits
+          (all_of is_small word (λ k l. low (get_or word k 0) ((all k l).one_character is))) long
+      | false ↦ λ is. refl
+    ] refl
+  where
+    low : (b : ℕ) → b < 128 → is_small b ≡ true
+    low b l = grind (arith, nat_tests)
+
+-- The answer for such a word is what is found.
+pub ordinary_is : (rules : Rules) (given : Option CallMinima) (text : List ℕ) (size : ℕ) (answer : CallAnswer)
+    → size ≤ length text → AllOrdinary rules text
+    → IsUnchanged (found_by_call rules given text size) answer.digits.items → length answer.digits.items ≡ size
+    → answer.changes.items ≡ [] → answer.made ≡ false
+    → Some (answer_view answer) ≡ answer_of rules given text size
+ordinary_is rules given text size answer within all is long none made =
+    let digits : List ℕ = answer.digits.items in
+    let kept : digits ≡ digits_kept rules given text digits =
+    kept_in rules.top.no_hyphen (taken_digit given) text digits (omega (arith, long, within)) (λ k l. (all k l).begins_no_text)
+    ∙ ap (λ (seen : List ℕ). digits_beside rules.top.no_hyphen (taken_digit given) seen digits) (sym (ordinary_seen rules text all)) in
+    unchanged_is rules given text size digits digits answer (whole rules text all) is kept
+    (in_characters rules (take size text) digits (ordinary_word rules text size within all) (long ∙ sym (length-take-le size text within)))
+    none made
