@@ -1,12 +1,11 @@
 -- One pass over the frame of a word.
 use Rattle.std.proofs.Common.{◌≡◌, ℕ, ◌+◌, ◌-◌, ◌<◌, ◌≢◌, Bool, true, false, cond, List, [], ◌∷◌, length, drop, Option, Some, None, refl, sym, ap, ◌∙◌, arith, inl, inr}
-use Rattle.std.proofs.lemmas.Bool.{cases_eq, cases_lt, ne_eqb}
+use Rattle.std.proofs.lemmas.Bool.{cases_eq, ne_eqb}
 use Rattle.std.specs.Prelude.{◌==◌, option_and_then, slice_get, slice_index, slice_range}
 use Rattle.std.proofs.lemmas.List.{length-append, get_or-take, get_or-drop}
 use Rattle.hyphenation_breaks.specs.Ascii.{dot}
 use mir.Val.{bool_byte}
 use Rattle.hyphenation_trie.specs.Trie.{Tree, node_text, entries_of_key, IsTrie}
-use Rattle.hyphenation_trie.specs.Links.{IsReport}
 use Rattle.libhyphen_files.specs.Patterns.{Pattern, first_place}
 use Rattle.libhyphen_files.specs.Vectors.{pattern_of_node}
 

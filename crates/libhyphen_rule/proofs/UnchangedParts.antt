@@ -8,7 +8,7 @@ use Rattle.std.specs.Option.{option_or}
 use Rattle.std.proofs.lemmas.List.{drop-map, get_or-append_right, get_or-drop, get_or-set_other, get_or-set_same, get_or-take, get_or_append_left, get_or_default, length-drop, length-replicate, length-set, length-take-le, set-get_or, take-map}
 use Rattle.std.proofs.lemmas.Slice.{drop-put_mid}
 use borrow.Rule.Slice.PartMut.{post_of, put_mid, same_len_mid}
-use Rattle.std.proofs.lemmas.List.FromFn.{fill_by_all, length-map-range_with_len}
+use Rattle.std.proofs.lemmas.List.FromFn.{fill_by_all}
 use Rattle.libhyphen_files.specs.Bytes.{before_nul}
 use Rattle.libhyphen_files.specs.Files.{Rules}
 use Rattle.libhyphen_files.specs.Levels.{Level}
@@ -19,7 +19,7 @@ use Rattle.libhyphen_rule.specs.Parts.{Asked, Asking, Found, PartMinima, Parting
 use Rattle.libhyphen_rule.specs.Private.Unchanged.{HasNoDigits, IsUnchanged}
 use Rattle.libhyphen_rule.specs.Private.UnchangedParts.{found_unchanged, part_unchanged}
 use Rattle.libhyphen_rule.proofs.PlacesOfParts.{map_range_agree}
-use Rattle.libhyphen_rule.proofs.WordsFound.{below_alone, below_whole, left_kept, left_of, put_of, right_kept, right_of, seen_set, top_of}
+use Rattle.libhyphen_rule.proofs.WordsFound.{below_alone, below_whole, left_of, put_of, right_of, seen_set, top_of}
 use Rattle.libhyphen_rule.proofs.Partings.{append_none, found_whole, parted_asked}
 
 -- ---- Lists without changes.

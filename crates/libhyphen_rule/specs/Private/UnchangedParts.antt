@@ -1,6 +1,6 @@
 -- Texts without changes, with their parts.
 use Rattle.std.specs.Prelude.{ℕ, false, List, length, replicate, None}
-use Rattle.libhyphen_rule.specs.Parts.{Asked, Found, Texts, asked_of, part_text}
+use Rattle.libhyphen_rule.specs.Parts.{Asked, Found, asked_of, part_text}
 
 -- These digits are found, and no change.
 abbrev pub found_unchanged : List ℕ → ℕ → Found

@@ -1,4 +1,4 @@
-use Rattle.std.proofs.Common.{◌≡◌, ◌∙◌, Bool, sym, ap, cond, List, ℕ}
+use Rattle.std.proofs.Common.{◌∙◌, Bool, sym, ap, cond, List, ℕ}
 use Rattle.libhyphen_rule.specs.Words.{digits_of_characters}
 use Rattle.libhyphen_rule.proofs.Ascii.{ascii_digits}
 use Rattle.libhyphen_rule.proofs.calls.unchanged_answer.Goals.{then-utf8+then-not-is_ascii+in_ok-digits, else-utf8, else-utf8-via-then-utf8+else-not-is_ascii, else-utf8-via-else-utf8}
