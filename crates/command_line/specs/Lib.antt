@@ -1,2 +1,3 @@
 pub mod About
+pub mod Files
 pub mod Statuses

@@ -1,12 +1,14 @@
-//! Shared by the programs: the version, the arguments, the messages, and the texts of `--help` and `--version`.
+//! Shared by the programs: the version, the arguments, the files, the messages, and the texts of `--help` and `--version`.
 #![tactic(auto)]
 
 ghost use Rattle.std.specs.Prelude.{◌≡◌, ◌≢◌};
 ghost use Rattle.std.specs.IoError.{error_kind};
 
 mod about;
+mod files;
 
 pub use about::write_help_or_version;
+pub use files::{Listed, NamedFiles};
 use hyphenation_load::is_out_of_memory;
 use std::alloc::Global;
 use std::env::Env;

@@ -1,3 +1,6 @@
 pub mod Minima
 pub mod Names
 pub mod Writing
+pub mod Reading
+pub mod Made
+pub mod Dic

@@ -1,6 +1,7 @@
 -- How the program `hyphenate-convert` reads its arguments.
-use Rattle.std.specs.Prelude.{◌≡◌, ℕ, List, [], ◌∷◌, codes, map, Option, Some, None}
+use Rattle.std.specs.Prelude.{◌≡◌, ◌==◌, ℕ, Bool, false, List, [], ◌∷◌, codes, map, Option, Some, None}
 use Rattle.std.specs.Borrow.{Bor}
+use Rattle.std.specs.List.{ends_with}
 use Rattle.std.specs.Str.Parse.{digits_value, without_leading_plus}
 use Rattle.hyphenation_grammar.specs.Form.{kind_of_name}
 use Rattle.hyphenation_grammar.specs.declared.form.Kind.{Kind}
@@ -25,3 +26,12 @@ ParsesAs (kind ∷ code ∷ left ∷ right ∷ paths) parsed =
     × ParsesAsMinimum left.now parsed.left × ParsesAsMinimum right.now parsed.right
     × (parsed.paths ≡ map (λ path. path.now) paths)
 ParsesAs _ parsed = ⊥
+
+-- The path is that of a .dic.
+abbrev pub is_dic_path : List ℕ → Bool
+is_dic_path path = ends_with (λ a b. a == b) path (codes ".dic")
+
+-- The paths are that of one .dic.
+abbrev pub is_dic_alone : List (List ℕ) → Bool
+is_dic_alone (path ∷ []) = is_dic_path path
+is_dic_alone _ = false

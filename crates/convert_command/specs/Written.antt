@@ -1,35 +1,66 @@
 -- The output and the statuses of the program `hyphenate-convert`.
-use Rattle.std.specs.Prelude.{◌≡◌, ◌⊎◌, ℕ, List, Option, IfSome}
+use Rattle.std.specs.Prelude.{◌≡◌, ◌≢◌, ◌⊎◌, ℕ, Bool, true, false, List, [], Option, Some, None, IfSome, map, slice_index_or}
 use Rattle.std.specs.Borrow.{Bor}
 use Rattle.std.specs.Io.KnownBytes.{Appends}
-use Rattle.hyphenation_breaks.specs.Break.{Change}
+use Rattle.std.specs.List.{AllZip}
+use Rattle.command_line.specs.Files.{known_bytes}
+use Rattle.hyphenation_breaks.specs.Break.{Break, Change}
 use Rattle.hyphenation_breaks.specs.Dictionary.{Contents}
+use Rattle.hyphenation_grammar.specs.Reading.{no_payload, change_as_payload, place_as_listing, break_as_listing}
 use Rattle.hyphenation_grammar.specs.declared.form.Kind.{Kind}
 use Rattle.hyphenation_grammar.specs.declared.form.Kind.TheVariants.{Standard, Extended}
 use Rattle.hyphenation_writer.specs.Canonical.{standard_text, extended_text}
-use Rattle.convert_command.specs.Arguments.{ParsedArgs, ParsesAs}
+use Rattle.libreoffice_files.specs.LibreOffice.{contents_of_dic}
+use Rattle.tex_files.specs.Converting.{contents_of_files}
+use Rattle.tex_files.specs.declared.group.File.{File}
+use Rattle.convert_command.specs.Arguments.{ParsedArgs, ParsesAs, is_dic_alone}
 
 -- The dictionary is of that language, and has each minimum that is given.
 abbrev pub IsFor : {C B : Type 0} → List ℕ → Option ℕ → Option ℕ → Contents C B → Type 0
 IsFor code left right dictionary = (dictionary.language ≡ code) × IfSome left (λ given. dictionary.left ≡ given)
     × IfSome right (λ given. dictionary.right ≡ given)
 
--- The canonical text of a dictionary of that kind, language and minima was appended.
-abbrev pub Writes : Kind → List ℕ → Option ℕ → Option ℕ → Option (List ℕ) → Option (List ℕ) → Type 0
-Writes Standard code left right old new = (dictionary : Contents (Unit {0}) ℕ)
-    × IsFor code left right dictionary × Appends old new (standard_text dictionary)
-Writes Extended code left right old new = (dictionary : Contents (Option Change) (ℕ × Option Change))
-    × IsFor code left right dictionary × Appends old new (extended_text dictionary)
+-- These are the bytes of a file, where that is known. It is not known that there is no such file.
+abbrev pub AreBytesOf : Option (Option (List ℕ)) → List ℕ → Type 0
+AreBytesOf file bytes = (file ≢ Some None) × IfSome (known_bytes file) (λ known. bytes ≡ known)
 
--- The canonical text of a dictionary that parsed arguments ask for was appended.
-abbrev pub WritesParsed : {W : Type 0} → ParsedArgs → (W → Option (List ℕ)) → W → W → Type 0
-WritesParsed parsed contents old new =
-    Writes parsed.kind parsed.code parsed.left parsed.right (contents old) (contents new)
+-- These are the bytes of the files of paths, in their order.
+abbrev pub AreBytesAt : (List ℕ → Option (Option (List ℕ))) → List (List ℕ) → List (List ℕ) → Type 0
+AreBytesAt bytes_of paths all = AllZip (λ path bytes. AreBytesOf (bytes_of path) bytes) paths all
 
--- The canonical text of a dictionary that the arguments ask for was appended.
-abbrev pub WritesFor : {W : Type 0} → List (Bor (List ℕ)) → (W → Option (List ℕ)) → W → W → Type 0
-WritesFor args contents old new =
-    (parsed : ParsedArgs) × ParsesAs args parsed × WritesParsed parsed contents old new
+-- A dictionary is that of files with these bytes: of a .dic, which is the only file, or of files of TeX and plain ones, in
+-- their order. Minima that are not given are the files' own.
+abbrev pub IsMadeOf : {C B : Type 0} → (C → Option Change) → (Option Change → C) → (Break → B) → Bool → List ℕ
+    → Option ℕ → Option ℕ → List (List ℕ) → Contents C B → Type 0
+IsMadeOf change_of payload_of listing_of true code left right all dictionary =
+    dictionary ≡ contents_of_dic change_of payload_of code left right (slice_index_or all 0 [])
+IsMadeOf change_of payload_of listing_of false code left right all dictionary =
+    (files : List File) × (least_left : ℕ) × (least_right : ℕ) × (map (λ file. file.bytes.now) files ≡ all)
+    × (dictionary ≡ contents_of_files payload_of listing_of code least_left least_right files)
+
+-- The canonical text of the dictionary of that kind, language and minima, which files with these bytes make, was appended.
+abbrev pub Writes : Kind → Bool → List ℕ → Option ℕ → Option ℕ → List (List ℕ) → Option (List ℕ) → Option (List ℕ)
+    → Type 0
+Writes Standard is_dic code left right all old new = (dictionary : Contents (Unit {0}) ℕ)
+    × IsFor code left right dictionary
+    × IsMadeOf (λ _. None) no_payload place_as_listing is_dic code left right all dictionary
+    × Appends old new (standard_text dictionary)
+Writes Extended is_dic code left right all old new = (dictionary : Contents (Option Change) (ℕ × Option Change))
+    × IsFor code left right dictionary
+    × IsMadeOf change_as_payload change_as_payload break_as_listing is_dic code left right all dictionary
+    × Appends old new (extended_text dictionary)
+
+-- The canonical text of the dictionary that parsed arguments ask for was appended: it is of the bytes of their files.
+abbrev pub WritesParsed : {W : Type 0} → ParsedArgs → Bool → (List ℕ → Option (Option (List ℕ))) → (W → Option (List ℕ))
+    → W → W → Type 0
+WritesParsed parsed is_dic bytes_of contents old new = (all : List (List ℕ)) × AreBytesAt bytes_of parsed.paths all
+    × Writes parsed.kind is_dic parsed.code parsed.left parsed.right all (contents old) (contents new)
+
+-- The canonical text of the dictionary that the arguments ask for was appended.
+abbrev pub WritesFor : {W : Type 0} → List (Bor (List ℕ)) → (List ℕ → Option (Option (List ℕ))) → (W → Option (List ℕ))
+    → W → W → Type 0
+WritesFor args bytes_of contents old new = (parsed : ParsedArgs) × ParsesAs args parsed
+    × WritesParsed parsed (is_dic_alone parsed.paths) bytes_of contents old new
 
 -- The statuses.
 -- 0: done. 2: the arguments have no form, or the minima are missing. 3: a file can't be opened, read or understood.

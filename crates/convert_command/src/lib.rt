@@ -3,30 +3,29 @@
 //! It makes a dictionary text from files of hyphenation patterns.
 #![tactic(auto)]
 
-ghost use Rattle.std.specs.Prelude.{◌≡◌, ◌≢◌, ◌⊎◌, None, Some, OnOk, IfOk, IfErr};
+ghost use Rattle.std.specs.Prelude.{◌≡◌, ◌≢◌, ◌⊎◌, ◌∷◌, ◌++◌, [], false, None, Some, OnOk, IfOk, IfErr, map, slice_index_or};
 ghost use Rattle.command_line.specs.About.{help_or_version, WritesHelp};
 ghost use Rattle.command_line.specs.Statuses.{BeforeOutput};
 ghost use Rattle.hyphenation_load.specs.Load.{AppendsTo};
-ghost use Rattle.convert_command.specs.Written.{IsFor, WritesParsed, WritesFor, IsExitStatus};
-ghost use Rattle.convert_command.specs.Private.Requests.{parsed_request};
+ghost use Rattle.convert_command.specs.Written.{IsFor, AreBytesOf, AreBytesAt, IsMadeOf, WritesParsed, WritesFor, IsExitStatus};
+ghost use Rattle.convert_command.specs.Private.Requests.{parsed_request, is_dic};
 ghost use Rattle.convert_command.specs.Private.Statuses.{IsStatusOf, MissesMinima};
 
 mod request;
 
-use command_line::{VERSION, write_help_or_version, write_message};
+use command_line::{NamedFiles, VERSION, write_help_or_version, write_message};
 use hyphenation_breaks::entry::{Listing, Payload};
 use hyphenation_breaks::extended::Subregion;
 use hyphenation_grammar::form::Kind;
-use hyphenation_load::{Error, Load, is_out_of_memory};
+use hyphenation_load::{Error, Load, is_out_of_memory, read_all};
 use libreoffice_files::dic::convert_dic;
 use pattern_results::converted::Converted;
 use pattern_results::errors::ConvertError;
 use pattern_results::notes::Note;
 use request::{BadArgs, Input, Request, form_of};
 use std::alloc::{AllocError, Global};
-use std::fs::Files;
-use std::io::{Read, Write};
-use std::{fs, io};
+use std::io;
+use std::io::Write;
 use tex_files::convert::convert_with_notes;
 use tex_files::group::{File, Form};
 use tex_files::head_minima::minima_for;
@@ -79,29 +78,40 @@ impl From<ConvertError> for Failure {
 }
 
 // All bytes of a file.
-fn read_file<F: Files>(rt: &F, alloc: Global, path: &str) -> io::Result<Vec<u8>> {
-    let mut file = fs::open(rt, path)?;
-    let mut bytes = Vec::new(alloc);
-    file.read_to_end(&mut bytes)?;
-    Ok(bytes)
+fn read_file<F: NamedFiles>(files: &F, alloc: Global, path: &str) -> io::Result<Vec<u8>>
+    ensures { IfOk result (λ bytes. AreBytesOf (F.bytes files.now path.now) bytes.items) }
+{
+    let mut file = files.open(path)?;
+    read_all(alloc, &mut file)
+}
+
+// Adds the bytes of a file.
+fn push(all: &mut Vec<Vec<u8>>, bytes: Vec<u8>) -> Result<(), AllocError>
+    ensures { OnOk result (all.new.items ≡ all.old.items ++ bytes ∷ []) }
+{
+    all.push(bytes)?;
+    Ok(())
 }
 
 // All bytes of each file, in their order.
-fn read_files<F: Files>(rt: &F, alloc: Global, paths: &[&str]) -> Result<Vec<Vec<u8>>, Failure>
-    ensures { IfErr result (λ failure. failure ≢ Failure.Minima) }
+fn read_files<F: NamedFiles>(
+    files: &F,
+    alloc: Global,
+    paths: &[&str],
+) -> Result<Vec<Vec<u8>>, Failure>
+    ensures of_paths { IfOk result (λ all. AreBytesAt (F.bytes files.now) (map (λ path. path.now) paths.now)
+        (map (λ bytes. bytes.items) all.items)) }
+    ensures not_minima { IfErr result (λ failure. failure ≢ Failure.Minima) }
 {
-    let mut files = Vec::new(alloc);
+    let mut all = Vec::new(alloc);
     for (index, path) in paths.iter().enumerate() {
-        match read_file(rt, alloc, path) {
-            Ok(bytes) => {
-                if files.push(bytes).is_err() {
-                    return Err(Failure::Memory);
-                }
-            }
+        let bytes = match read_file(files, alloc, path) {
+            Ok(bytes) => bytes,
             Err(e) => return Err(Failure::Reading(index, e)),
-        }
+        };
+        push(&mut all, bytes)?;
     }
-    Ok(files)
+    Ok(all)
 }
 
 // The files with their forms.
@@ -109,7 +119,9 @@ fn with_forms<'a>(
     alloc: Global,
     paths: &[&str],
     files: &'a [Vec<u8>],
-) -> Result<Vec<File<'a>>, AllocError> {
+) -> Result<Vec<File<'a>>, AllocError>
+    ensures { IfOk result (λ made. map (λ file. file.bytes.now) made.items ≡ map (λ bytes. bytes.items) files.now) }
+{
     let mut with_forms = Vec::new(alloc);
     for (index, bytes) in files.iter().enumerate() {
         let form = match paths.get(index) {
@@ -129,6 +141,8 @@ fn convert_tex<C: Payload, B: Listing>(
 ) -> Result<Converted<C, B>, Failure>
     ensures as_asked { IfOk result (λ found.
         IsFor request.now.language request.now.left request.now.right found.dictionary) }
+    ensures of_files { IfOk result (λ found. IsMadeOf C.change_of C.payload_of B.listing_of false request.now.language
+        request.now.left request.now.right (map (λ one. one.items) bytes.now) found.dictionary) }
     ensures misses_minima { IfErr result (MissesMinima request.now.left request.now.right) }
 {
     let files = with_forms(alloc, request.paths, bytes)?;
@@ -142,8 +156,18 @@ fn convert_tex<C: Payload, B: Listing>(
     }
 }
 
+// The bytes of the first file.
+fn first_of(bytes: &[Vec<u8>]) -> &[u8]
+    ensures { result.now ≡ slice_index_or (map (λ one. one.items) bytes.now) 0 [] }
+{
+    match bytes.first() {
+        Some(first) => first.as_slice(),
+        None => &[],
+    }
+}
+
 // The dictionary of the files.
-#[tactic(auto, using(crate::proofs::Minima::dic_is_for))]
+#[tactic(auto, using(crate::proofs::Minima::dic_is_for, crate::proofs::Made::dic_is_made))]
 fn convert_files<C: Payload, B: Listing>(
     alloc: Global,
     request: &Request<'_>,
@@ -151,21 +175,19 @@ fn convert_files<C: Payload, B: Listing>(
 ) -> Result<Converted<C, B>, Failure>
     ensures as_asked { IfOk result (λ found.
         IsFor request.now.language request.now.left request.now.right found.dictionary) }
+    ensures of_files { IfOk result (λ found. IsMadeOf C.change_of C.payload_of B.listing_of (is_dic request.now.input)
+        request.now.language request.now.left request.now.right (map (λ one. one.items) bytes.now) found.dictionary) }
     ensures misses_minima { IfErr result (MissesMinima request.now.left request.now.right) }
 {
     match request.input {
         Input::Tex => convert_tex(alloc, request, bytes),
         Input::Dic => {
-            let first = match bytes.first() {
-                Some(first) => first.as_slice(),
-                None => &[],
-            };
             let converted = convert_dic(
                 alloc,
                 request.language,
                 request.left,
                 request.right,
-                first,
+                first_of(bytes),
             )?;
             Ok(converted)
         }
@@ -191,17 +213,18 @@ fn write_text<D: Load, O: Write>(
 
 // Reads the files, makes a dictionary of them and writes it. Returns the notes on it.
 #[tactic(auto, using(crate::proofs::Writing::standard_written, crate::proofs::Writing::extended_written))]
-fn run<F: Files, O: Write>(
-    rt: &F,
+fn run<F: NamedFiles, O: Write>(
+    files: &F,
     alloc: Global,
     request: &Request<'_>,
     output: &mut O,
 ) -> Result<Vec<Note>, Failure>
-    ensures written { OnOk result (WritesParsed (parsed_request request.now) O.contents output.old output.new) }
+    ensures written { OnOk result (WritesParsed (parsed_request request.now) (is_dic request.now.input)
+        (F.bytes files.now) O.contents output.old output.new) }
     ensures untouched { IfErr result (λ failure. (failure ≡ Failure.Writing) ⊎ (output.new ≡ output.old)) }
     ensures misses_minima { IfErr result (MissesMinima request.now.left request.now.right) }
 {
-    let bytes = read_files(rt, alloc, request.paths)?;
+    let bytes = read_files(files, alloc, request.paths)?;
     match request.kind {
         Kind::Standard => {
             let Converted { dictionary, notes } = convert_files::<(), usize>(
@@ -337,8 +360,8 @@ fn report_rejected_args<E: Write>(
 /// let args = ["standard", "en-us", "2", "3", "hyph-en-us.tex"];
 /// answer(&rt, rt.alloc(), &args, &mut rt.stdout(), &mut rt.stderr())
 /// ```
-pub fn answer<F: Files, O: Write, E: Write>(
-    rt: &F,
+pub fn answer<F: NamedFiles, O: Write, E: Write>(
+    files: &F,
     alloc: Global,
     args: &[&str],
     output: &mut O,
@@ -346,7 +369,7 @@ pub fn answer<F: Files, O: Write, E: Write>(
 ) -> u8
     ensures help { WritesHelp NAME.now VERSION.now USAGE.now args.now (Some result) O.contents output.old output.new }
     ensures written { help_or_version NAME.now VERSION.now USAGE.now args.now ≡ None → result ≡ 0 →
-        WritesFor args.now O.contents output.old output.new }
+        WritesFor args.now (F.bytes files.now) O.contents output.old output.new }
     ensures exit_status { help_or_version NAME.now VERSION.now USAGE.now args.now ≡ None → IsExitStatus result }
     ensures untouched { BeforeOutput result (output.new ≡ output.old) }
 {
@@ -357,7 +380,7 @@ pub fn answer<F: Files, O: Write, E: Write>(
         Ok(request) => request,
         Err(bad_args) => return report_rejected_args(alloc, args, bad_args, errors),
     };
-    match run(rt, alloc, &request, output) {
+    match run(files, alloc, &request, output) {
         Ok(notes) => {
             report_notes(alloc, request.paths, &notes, errors);
             0

@@ -2,8 +2,8 @@
 
 ghost use Rattle.std.specs.Prelude.{◌≡◌, ◌<◌, ◌+◌, ◌==◌, IfOk, IfSome, None, MatchOption, drop, length, map, option_copied, option_map, position};
 ghost use Rattle.convert_command.specs.Private.Tags.{name_in, tag_in, is_other, other_language_from};
-ghost use Rattle.convert_command.specs.Arguments.{ParsesAs, ParsesAsMinimum};
-ghost use Rattle.convert_command.specs.Private.Requests.{parsed_request};
+ghost use Rattle.convert_command.specs.Arguments.{ParsesAs, ParsesAsMinimum, is_dic_path, is_dic_alone};
+ghost use Rattle.convert_command.specs.Private.Requests.{parsed_request, is_dic};
 
 use hyphenation_breaks::language::Language;
 use hyphenation_grammar::form::Kind;
@@ -134,12 +134,35 @@ fn first_bad_ending(paths: &[&str]) -> Option<BadArgs> {
     None
 }
 
-// The sort of the files, by their paths.
-fn input_of(paths: &[&str]) -> Result<Input, BadArgs> {
+// Whether a path is that of a .dic.
+#[tactic(auto, using(crate::proofs::Dic::ends_dic))]
+fn is_dic_path(path: &str) -> bool
+    ensures { result ≡ is_dic_path path.now }
+{
+    path.ends_with(".dic")
+}
+
+// Whether the paths are that of one .dic.
+fn is_dic_alone(paths: &[&str]) -> bool
+    ensures { result ≡ is_dic_alone (map (λ path. path.now) paths.now) }
+{
     match paths {
-        [] => return Err(BadArgs::NoForm),
-        [path] if path.ends_with(".dic") => return Ok(Input::Dic),
-        _ => {}
+        [path] => is_dic_path(path),
+        _ => false,
+    }
+}
+
+// The sort of the files, by their paths.
+fn input_of(paths: &[&str]) -> Result<Input, BadArgs>
+    ensures alone { IfOk result (λ input. is_dic input ≡ is_dic_alone (map (λ path. path.now) paths.now)) }
+    ensures one_language { IfOk result (λ input. input ≡ Input.Tex →
+        other_language_from None 0 (map (λ path. path.now) paths.now) ≡ None) }
+{
+    if paths.is_empty() {
+        return Err(BadArgs::NoForm);
+    }
+    if is_dic_alone(paths) {
+        return Ok(Input::Dic);
     }
     if let Some(bad_args) = first_bad_ending(paths) {
         return Err(bad_args);
@@ -166,7 +189,9 @@ fn minimum_of(text: &str) -> Option<Option<u8>>
 impl<'w> Request<'w> {
     /// Parses arguments `KIND CODE LEFT RIGHT FILE..`. The error says why they are rejected.
     pub fn from_args(args: &'w [&'w str]) -> Result<Request<'w>, BadArgs>
-        ensures { IfOk result (λ request. ParsesAs args.now (parsed_request request)) }
+        ensures parsed { IfOk result (λ request. ParsesAs args.now (parsed_request request)) }
+        ensures input { IfOk result (λ request.
+            is_dic request.input ≡ is_dic_alone (map (λ path. path.now) request.paths.now)) }
     {
         let [kind, code, left, right, paths @ ..] = args else {
             return Err(BadArgs::NoForm);

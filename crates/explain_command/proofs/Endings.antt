@@ -30,6 +30,6 @@ ends_unread [] input unread r some kept u = absurd (omega arith)
 ends_unread (w ∷ ws) input unread r some kept u = (kept, u)
 
 -- The words that are given are explained.
-pub explains_given : (explains : List (List ℕ) → List ℕ → Type 0) (words : List (List ℕ)) (text : List ℕ) → explains words text → ExplainsWords explains words text
-explains_given explains [] text h = ([], h)
-explains_given explains (w ∷ ws) text h = h
+pub explains_given : (explains : List (List ℕ) → List ℕ → Type 0) (words : List (Bor (List ℕ))) (input : Option (List ℕ)) (text : List ℕ) → 0 < length words → explains (texts_now words) text → ExplainsWords explains (texts_now words) input text
+explains_given explains [] input text some h = absurd (omega arith)
+explains_given explains (w ∷ ws) input text some h = h

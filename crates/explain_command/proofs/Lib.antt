@@ -1,3 +1,4 @@
 pub mod Joined
 pub mod Endings
 pub mod Drawings
+pub mod Known

@@ -1,7 +1,13 @@
 -- The texts that explain words, joined, and the text of a run.
-use Rattle.std.specs.Prelude.{◌≡◌, ℕ, List, [], ◌∷◌, Option, IfSome}
+use Rattle.std.specs.Prelude.{◌≡◌, ℕ, List, [], ◌∷◌, Option, IfSome, ⊤}
+use Rattle.std.specs.Borrow.{Bor}
+use Rattle.std.specs.Iterator.{DrainsIf}
+use Rattle.std.specs.Str.Iter.{split_whitespace_rest, split_whitespace_steps}
+use Rattle.std.specs.declared.str.SplitWhitespace.{SplitWhitespace}
 use Rattle.std.specs.List.{AllZip, join_with_byte}
+use Rattle.command_line.specs.Files.{known_bytes}
 use Rattle.hyphenation_breaks.specs.Ascii.{line_feed}
+use Rattle.hyphenation_breaks.specs.Borrowed.{texts_now}
 use Rattle.hyphenation_breaks.specs.Break.{plain_break}
 use Rattle.hyphenation_grammar.specs.Reading.{standard_contents, extended_contents}
 use Rattle.hyphenation_grammar.specs.declared.form.Kind.{Kind}
@@ -14,6 +20,7 @@ use Rattle.explanations.specs.Svg.{Drawn, document_of}
 use Rattle.explanations.specs.Texts.{Explains, IsDrawn}
 use Rattle.explanations.specs.declared.style.Style.{Style}
 use Rattle.explanations.specs.declared.style.Style.TheVariants.{Picture, Lines, Svg}
+use Rattle.explain_command.specs.Arguments.{ParsedArgs}
 
 -- The text has a text for each word, which explains it, in the order of the words, and an empty line between two.
 abbrev pub AreJoined : (List ℕ → List ℕ → Type 0) → List (List ℕ) → List ℕ → Type 0
@@ -31,10 +38,16 @@ AreExplained explains draws Picture words text = AreJoined (explains Picture) wo
 AreExplained explains draws Lines words text = AreJoined (explains Lines) words text
 AreExplained explains draws Svg words text = AreDrawn draws words text
 
--- The text explains the given words or, without any, some words.
-abbrev pub ExplainsWords : (List (List ℕ) → List ℕ → Type 0) → List (List ℕ) → List ℕ → Type 0
-ExplainsWords explains [] text = (words : List (List ℕ)) × explains words text
-ExplainsWords explains (word ∷ words) text = explains (word ∷ words) text
+-- The words of a text: its parts between white space.
+abbrev pub AreWordsOf : List ℕ → List (Bor (List ℕ)) → Type 0
+AreWordsOf text words =
+    (it : SplitWhitespace) × (split_whitespace_rest it ≡ text) × DrainsIf split_whitespace_steps ⊤ it words
+
+-- The text explains the given words or, without any, those of the input, if its bytes are known.
+abbrev pub ExplainsWords : (List (List ℕ) → List ℕ → Type 0) → List (List ℕ) → Option (List ℕ) → List ℕ → Type 0
+ExplainsWords explains [] input text = (words : List (Bor (List ℕ)))
+    × IfSome input (λ bytes. AreWordsOf bytes words) × explains (texts_now words) text
+ExplainsWords explains (word ∷ words) input text = explains (word ∷ words) text
 
 -- The text explains a word by the dictionary of that kind that bytes give.
 abbrev pub explains_by : Kind → List ℕ → Style → List ℕ → List ℕ → Type 0
@@ -50,13 +63,20 @@ draws_by Standard bytes word drawing = IsDrawn no_change plain_break (standard_c
 draws_by Extended bytes word drawing = IsDrawn own_change own_break (extended_contents bytes) word
     (fitted_breaks_of (extended_rules (extended_contents bytes)) word) drawing
 
--- If the bytes of a dictionary of that kind are known, the text explains the given words by it or, without any, some words.
-abbrev pub ExplainsBy : Kind → Style → List (List ℕ) → Option (List ℕ) → List ℕ → Type 0
-ExplainsBy kind style words known text = IfSome known
-    (λ bytes. ExplainsWords (AreExplained (explains_by kind bytes) (draws_by kind bytes) style) words text)
+-- If the bytes of a dictionary of that kind are known, the text explains by it the given words or, without any, those of
+-- the input.
+abbrev pub ExplainsBy : Kind → Style → List (List ℕ) → Option (List ℕ) → Option (List ℕ) → List ℕ → Type 0
+ExplainsBy kind style words dictionary input text = IfSome dictionary
+    (λ bytes. ExplainsWords (AreExplained (explains_by kind bytes) (draws_by kind bytes) style) words input text)
 
 -- Such a text was appended to the contents of a writer.
-abbrev pub WritesExplained : {W : Type 0} → Kind → Style → List (List ℕ) → Option (List ℕ) → (W → Option (List ℕ)) → W → W
-    → Type 0
-WritesExplained kind style words known contents old new =
-    (text : List ℕ) × ExplainsBy kind style words known text × AppendsTo contents old new text
+abbrev pub WritesExplained : {W : Type 0} → Kind → Style → List (List ℕ) → Option (List ℕ) → Option (List ℕ)
+    → (W → Option (List ℕ)) → W → W → Type 0
+WritesExplained kind style words dictionary input contents old new =
+    (text : List ℕ) × ExplainsBy kind style words dictionary input text × AppendsTo contents old new text
+
+-- What the arguments ask for was appended, by the file at their path.
+abbrev pub WritesFor : {W : Type 0} → ParsedArgs → (List ℕ → Option (Option (List ℕ))) → Option (List ℕ)
+    → (W → Option (List ℕ)) → W → W → Type 0
+WritesFor parsed bytes_of input contents old new = WritesExplained parsed.kind parsed.style parsed.words
+    (known_bytes (bytes_of parsed.path)) input contents old new

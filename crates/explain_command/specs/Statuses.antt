@@ -1,8 +1,8 @@
 -- How a run of the program `hyphenate-explain` ends, and the status of each end.
-use Rattle.std.specs.Prelude.{◌≡◌, ℕ, List, [], ◌∷◌, Result, Ok, Err, Option, IfSome, ⊤}
-use Rattle.std.specs.Borrow.{Bor}
-use Rattle.explain_command.specs.Arguments.{parsed_args}
-use Rattle.hyphenation.specs.Engine.{JudgesText, BeforeReading}
+use Rattle.std.specs.Prelude.{◌≡◌, ℕ, List, [], ◌∷◌, Result, Ok, Err, Option, ⊤}
+use Rattle.command_line.specs.Files.{known_bytes}
+use Rattle.explain_command.specs.Arguments.{ParsedArgs}
+use Rattle.hyphenation.specs.Engine.{JudgesDictionary, JudgesText, BeforeReading}
 use Rattle.hyphenation.specs.declared.engine.RunError.{RunError}
 use Rattle.hyphenation.specs.declared.engine.RunError.TheVariants.{Dictionary, Edit, TextNotUtf8, Input, Output, Memory}
 
@@ -29,11 +29,12 @@ abbrev pub EndsFor : {X : Type 0} → List (List ℕ) → Option (List ℕ) → 
 EndsFor [] input unread ended = HasNoEdit ended × JudgesText input ended × BeforeReading ended unread
 EndsFor (word ∷ words) input unread ended = HasNoEdit ended × unread
 
--- The status is that of an end which a run with these words may have.
-abbrev pub EndsWith : List (List ℕ) → Option (List ℕ) → Type 0 → ℕ → Type 0
-EndsWith words input unread status =
-    (ended : Result (Unit {0}) RunError) × (status ≡ status_of ended) × EndsFor words input unread ended
+-- The file at the path of the arguments is judged as a dictionary of the kind and the language that they name.
+abbrev pub JudgesFile : ParsedArgs → (List ℕ → Option (Option (List ℕ))) → Result (Unit {0}) RunError → Type 0
+JudgesFile parsed bytes_of ended =
+    JudgesDictionary parsed.kind parsed.code (known_bytes (bytes_of parsed.path)) ended
 
--- For arguments that have the form, the status is that of an end which a run with their words may have.
-abbrev pub EndsForArgs : List (Bor (List ℕ)) → Option (List ℕ) → Type 0 → ℕ → Type 0
-EndsForArgs args input unread status = IfSome (parsed_args args) (λ parsed. EndsWith parsed.words input unread status)
+-- The status is that of an end which a run for these arguments may have, with an input of those bytes, if they are known.
+abbrev pub EndsWith : ParsedArgs → (List ℕ → Option (Option (List ℕ))) → Option (List ℕ) → Type 0 → ℕ → Type 0
+EndsWith parsed bytes_of input unread status = (ended : Result (Unit {0}) RunError) × (status ≡ status_of ended)
+    × JudgesFile parsed bytes_of ended × EndsFor parsed.words input unread ended

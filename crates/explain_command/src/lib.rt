@@ -3,7 +3,7 @@
 //! For each word it writes the patterns that occur in it, the values that they give, and the fact that decides.
 #![tactic(auto)]
 
-ghost use Rattle.std.specs.Prelude.{◌≡◌, ◌≢◌, List, ℕ, Err, None, Some, OnOk};
+ghost use Rattle.std.specs.Prelude.{◌≡◌, ◌≢◌, List, ℕ, Err, None, Some, IfSome, OnOk};
 ghost use Rattle.std.specs.IoError.{error_kind};
 ghost use Rattle.hyphenation_load.specs.Load.{AppendsTo};
 ghost use Rattle.hyphenation.specs.Engine.{BeforeWriting, IsUnwritten};
@@ -11,22 +11,22 @@ ghost use Rattle.hyphenation_breaks.specs.Borrowed.{texts_now};
 ghost use Rattle.command_line.specs.About.{help_or_version, WritesHelp};
 ghost use Rattle.command_line.specs.Statuses.{BeforeOutput};
 ghost use Rattle.explain_command.specs.Arguments.{parsed_args};
-ghost use Rattle.explain_command.specs.Statuses.{status_of, EndsFor, EndsForArgs};
+ghost use Rattle.explain_command.specs.Explained.{WritesFor};
+ghost use Rattle.explain_command.specs.Statuses.{status_of, EndsFor, EndsWith, JudgesFile};
 ghost use Rattle.explain_command.specs.Private.Requests.{parsed_request};
 
 mod request;
 mod run;
 
-use command_line::{VERSION, write_help_or_version, write_message};
+use command_line::{NamedFiles, VERSION, write_help_or_version, write_message};
 use hyphenation::engine::RunError;
 use hyphenation::load::Error;
 use hyphenation_load::is_out_of_memory;
 use request::Request;
 pub use run::run_explain;
 use std::alloc::Global;
-use std::fs::Files;
+use std::io;
 use std::io::{ErrorKind, Read, Write};
-use std::{fs, io};
 
 /// The name of the program.
 pub const NAME: &str = "hyphenate-explain";
@@ -39,18 +39,22 @@ pub const USAGE: &str =
 pub const NO_MEMORY: &str = "hyphenate-explain: no memory\n";
 
 // Opens the dictionary, and explains the words.
-fn run_request<F: Files, I: Read, O: Write>(
-    rt: &F,
+fn run_request<F: NamedFiles, I: Read, O: Write>(
+    files: &F,
     alloc: Global,
     request: &Request<'_>,
     input: &mut I,
     output: &mut O,
 ) -> Result<(), RunError>
+    ensures dictionary { JudgesFile (parsed_request request.now) (F.bytes files.now) result }
+    ensures written { OnOk result (WritesFor (parsed_request request.now) (F.bytes files.now) (I.remaining input.old)
+        O.contents output.old output.new) }
+    ensures there { OnOk result (F.bytes files.now request.now.path.now ≢ Some None) }
     ensures ended { EndsFor (texts_now request.now.words.now) (I.remaining input.old) (input.new ≡ input.old) result }
     ensures untouched { BeforeWriting result (output.new ≡ output.old) }
     ensures appends_some_text { OnOk result ((text : List ℕ) × AppendsTo O.contents output.old output.new text) }
 {
-    let mut dictionary = fs::open(rt, request.path).map_err(opening_error)?;
+    let mut dictionary = files.open(request.path).map_err(opening_error)?;
     run_explain(
         alloc,
         request.kind,
@@ -126,8 +130,8 @@ fn report<E: Write>(alloc: Global, path: &str, error: &RunError, errors: &mut E)
 /// let args = ["standard", "en-gb", "examples/firkin.txt", "firkins"];
 /// answer(&rt, rt.alloc(), &args, &mut rt.stdin(), &mut rt.stdout(), &mut rt.stderr())
 /// ```
-pub fn answer<F: Files, I: Read, O: Write, E: Write>(
-    rt: &F,
+pub fn answer<F: NamedFiles, I: Read, O: Write, E: Write>(
+    files: &F,
     alloc: Global,
     args: &[&str],
     input: &mut I,
@@ -138,7 +142,15 @@ pub fn answer<F: Files, I: Read, O: Write, E: Write>(
     ensures usage { help_or_version NAME.now VERSION.now USAGE.now args.now ≡ None → parsed_args args.now ≡ None →
         (result ≡ 2) × (input.new ≡ input.old) }
     ensures ended { help_or_version NAME.now VERSION.now USAGE.now args.now ≡ None →
-        EndsForArgs args.now (I.remaining input.old) (input.new ≡ input.old) result }
+        IfSome (parsed_args args.now) (λ parsed.
+        EndsWith parsed (F.bytes files.now) (I.remaining input.old)
+        (input.new ≡ input.old) result) }
+    ensures written { help_or_version NAME.now VERSION.now USAGE.now args.now ≡ None → result ≡ 0 →
+        IfSome (parsed_args args.now) (λ parsed.
+        WritesFor parsed (F.bytes files.now) (I.remaining input.old)
+        O.contents output.old output.new) }
+    ensures there { help_or_version NAME.now VERSION.now USAGE.now args.now ≡ None → result ≡ 0 →
+        IfSome (parsed_args args.now) (λ parsed. F.bytes files.now parsed.path ≢ Some None) }
     ensures untouched { BeforeOutput result (output.new ≡ output.old) }
     ensures appends_some_text { result ≡ 0 → (text : List ℕ) × AppendsTo O.contents output.old output.new text }
 {
@@ -149,7 +161,7 @@ pub fn answer<F: Files, I: Read, O: Write, E: Write>(
         let _ = errors.write_all(USAGE.as_bytes());
         return 2;
     };
-    match run_request(rt, alloc, &request, input, output) {
+    match run_request(files, alloc, &request, input, output) {
         Ok(()) => 0,
         Err(error) => report(alloc, request.path, &error, errors),
     }

@@ -1,12 +1,14 @@
 //! A run, from the bytes of a dictionary to the text that is written.
 
-ghost use Rattle.std.specs.Prelude.{◌≡◌, ◌++◌, ℕ, List, IfErr, IfOk, OnOk, map};
+ghost use Rattle.std.specs.Prelude.{◌≡◌, ◌++◌, ℕ, List, IfErr, IfOk, IfSome, OnOk, map};
+ghost use Rattle.std.specs.Borrow.{Bor};
 ghost use Rattle.std.specs.List.{AllZip};
 ghost use Rattle.hyphenation_load.specs.Load.{AppendsTo};
 ghost use Rattle.hyphenation.specs.Engine.{BeforeWriting, JudgesDictionary, IsUnwritten, IsTextError, JudgesText};
 ghost use Rattle.hyphenation_breaks.specs.Borrowed.{texts_now};
 ghost use Rattle.explanations.specs.Drawings.{drawn};
-ghost use Rattle.explain_command.specs.Explained.{AreDrawn, AreExplained, AreJoined, ExplainsWords, ExplainsBy, WritesExplained};
+ghost use Rattle.explain_command.specs.Explained.{AreWordsOf, AreDrawn, AreExplained, AreJoined, ExplainsWords, ExplainsBy};
+ghost use Rattle.explain_command.specs.Explained.{WritesExplained};
 ghost use Rattle.explain_command.specs.Private.Joined.{gap_before};
 ghost use Rattle.explain_command.specs.Statuses.{EndsFor};
 
@@ -100,8 +102,8 @@ fn explained_input<D: Explain, I: Read>(
     ensures judged { JudgesText (I.remaining input.old) result }
     ensures text_error { IfErr result IsTextError }
     ensures text { IfOk result (λ text.
-        (words : List (List ℕ))
-        × AreExplained (D.explains dictionary.now) (D.draws dictionary.now) style words text.items) }
+        (words : List (Bor (List ℕ))) × IfSome (I.remaining input.old) (λ bytes. AreWordsOf bytes words)
+        × AreExplained (D.explains dictionary.now) (D.draws dictionary.now) style (texts_now words) text.items) }
 {
     let text = read_input(alloc, input)?;
     let words: Vec<&str> = text.split_whitespace().collect(alloc)?;
@@ -120,7 +122,7 @@ fn explained_words<D: Explain, I: Read>(
     ensures text_error { IfErr result IsTextError }
     ensures text { IfOk result (λ text.
         ExplainsWords (AreExplained (D.explains dictionary.now) (D.draws dictionary.now) style)
-        (texts_now words.now) text.items) }
+        (texts_now words.now) (I.remaining input.old) text.items) }
 {
     if words.is_empty() {
         return explained_input(alloc, dictionary, style, input);
@@ -141,7 +143,8 @@ fn standard_text<D: Read, I: Read>(
     ensures ended { EndsFor (texts_now words.now) (I.remaining input.old) (input.new ≡ input.old) result }
     ensures unwritten { IfErr result IsUnwritten }
     ensures text { IfOk result (λ text.
-        ExplainsBy Kind.Standard style (texts_now words.now) (D.remaining reader.old) text.items) }
+        ExplainsBy Kind.Standard style (texts_now words.now) (D.remaining reader.old)
+        (I.remaining input.old) text.items) }
 {
     let dictionary = Standard::from_reader(alloc, lang, reader)?;
     explained_words(alloc, &dictionary, style, words, input)
@@ -160,7 +163,8 @@ fn extended_text<D: Read, I: Read>(
     ensures ended { EndsFor (texts_now words.now) (I.remaining input.old) (input.new ≡ input.old) result }
     ensures unwritten { IfErr result IsUnwritten }
     ensures text { IfOk result (λ text.
-        ExplainsBy Kind.Extended style (texts_now words.now) (D.remaining reader.old) text.items) }
+        ExplainsBy Kind.Extended style (texts_now words.now) (D.remaining reader.old)
+        (I.remaining input.old) text.items) }
 {
     let dictionary = Extended::from_reader(alloc, lang, reader)?;
     explained_words(alloc, &dictionary, style, words, input)
@@ -180,7 +184,8 @@ fn text_by<D: Read, I: Read>(
     ensures ended { EndsFor (texts_now words.now) (I.remaining input.old) (input.new ≡ input.old) result }
     ensures unwritten { IfErr result IsUnwritten }
     ensures text { IfOk result (λ text.
-        ExplainsBy kind style (texts_now words.now) (D.remaining reader.old) text.items) }
+        ExplainsBy kind style (texts_now words.now) (D.remaining reader.old)
+        (I.remaining input.old) text.items) }
 {
     match kind {
         Kind::Standard => standard_text(alloc, lang, style, words, reader, input),
@@ -213,7 +218,7 @@ pub fn run_explain<D: Read, I: Read, O: Write>(
     ensures dictionary { JudgesDictionary kind lang (D.remaining dictionary.old) result }
     ensures ended { EndsFor (texts_now words.now) (I.remaining input.old) (input.new ≡ input.old) result }
     ensures written { OnOk result (WritesExplained kind style (texts_now words.now) (D.remaining dictionary.old)
-        O.contents output.old output.new) }
+        (I.remaining input.old) O.contents output.old output.new) }
     ensures appends_some_text { OnOk result ((text : List ℕ) × AppendsTo O.contents output.old output.new text) }
     ensures untouched { BeforeWriting result (output.new ≡ output.old) }
 {

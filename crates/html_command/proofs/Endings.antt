@@ -28,18 +28,18 @@ is_judged (NotUtf8 valid line) page h = (λ e. absurd (omega (arith, e)), λ e. 
 is_judged Writing page h = (λ e. absurd (omega (arith, e)), λ e. absurd (omega (arith, e)))
 is_judged Memory page h = (λ e. absurd (omega (arith, e)), λ e. absurd (omega (arith, e)))
 
-judged : {W : Type 0} (args : ParsedArgs) (failure : Failure) (input : Option (List ℕ))
+judged : {W : Type 0} (args : ParsedArgs) (bytes_of : List ℕ → Option (Option (List ℕ))) (usual : List (List ℕ)) (failure : Failure) (input : Option (List ℕ))
     (contents : W → Option (List ℕ)) (old new : W) → IfSome input (λ page. JudgesPage page (Err failure))
-    → EndsFor (Some args) (status_of failure) input contents old new
-judged args failure None contents old new h = (is_status failure, tt)
-judged args failure (Some page) contents old new h =
+    → EndsFor (Some args) bytes_of usual (status_of failure) input contents old new
+judged args bytes_of usual failure None contents old new h = (is_status failure, tt)
+judged args bytes_of usual failure (Some page) contents old new h =
     (is_status failure, (is_judged failure page h, λ e. absurd (is_not_done failure e)))
 
-pub ended_by_failure : {W : Type 0} (parsed : Option ParsedArgs) (args : ParsedArgs) (failure : Failure) (status : ℕ)
+pub ended_by_failure : {W : Type 0} (parsed : Option ParsedArgs) (args : ParsedArgs) (bytes_of : List ℕ → Option (Option (List ℕ))) (usual : List (List ℕ)) (failure : Failure) (status : ℕ)
     (input : Option (List ℕ)) (contents : W → Option (List ℕ)) (old new : W) → parsed ≡ Some args
     → status ≡ status_of failure → IfSome input (λ page. JudgesPage page (Err failure))
-    → EndsFor parsed status input contents old new
-ended_by_failure parsed args failure status input contents old new e s h =
-    subst (λ parsed. EndsFor parsed status input contents old new) (sym e)
-    (subst (λ status. EndsFor (Some args) status input contents old new) (sym s)
-    (judged args failure input contents old new h))
+    → EndsFor parsed bytes_of usual status input contents old new
+ended_by_failure parsed args bytes_of usual failure status input contents old new e s h =
+    subst (λ parsed. EndsFor parsed bytes_of usual status input contents old new) (sym e)
+    (subst (λ status. EndsFor (Some args) bytes_of usual status input contents old new) (sym s)
+    (judged args bytes_of usual failure input contents old new h))

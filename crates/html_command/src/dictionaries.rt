@@ -1,15 +1,19 @@
 //! Dictionaries of either kind: their reading, and the folders in which they are searched.
 
-ghost use Rattle.std.specs.Prelude.{◌≡◌, ◌∷◌, ◌++◌, [], IfErr, IfOk, IfSome, OnOk, map};
+ghost use Rattle.std.specs.Prelude.{◌≡◌, ◌∷◌, ◌++◌, [], IfErr, IfOk, IfSome, OnOk, codes, map, option_map};
 ghost use Rattle.std.specs.String.{string_bytes};
 ghost use Rattle.hyphenation_load.specs.Load.{IsNotIo, IsNotOutOfMemory};
+ghost use Rattle.hyphenation_breaks.specs.Borrowed.{texts_now};
 ghost use Rattle.html_command.specs.Dictionaries.{is_extended_head, is_extended, LoadsAny, code_of, BeginsWith, HasCodesOf};
-ghost use Rattle.html_command.specs.Private.Requests.{parsed_request};
+ghost use Rattle.html_command.specs.Dictionaries.{AreGiven, IsOfFile, IsOfFileIfThere, IsOfFirst, path_in, paths_in, paths_of_code, usual_variant};
+ghost use Rattle.html_command.specs.Dictionaries.{AddsFound, AreDictionariesFor, IsFoundIn};
+ghost use Rattle.html_command.specs.Private.Requests.{parsed_dictionary, parsed_request};
 ghost use Rattle.html_command.specs.Private.Statuses.{IsDictionaryFailure};
 
 use crate::failure::Failure;
 use crate::languages::{languages_of, without_last_part};
 use crate::request::{GivenDictionary, Request};
+use command_line::NamedFiles;
 use hyphenation_breaks::language::Language;
 use hyphenation_dictionary::dictionary::{Extended, Standard};
 use hyphenation_grammar::form::{Form, Kind, Version};
@@ -17,8 +21,6 @@ use hyphenation_grammar::lines::{is_head, next_line};
 use hyphenation_html::{AnyDictionary, LanguageDictionary};
 use hyphenation_load::{Error, Load, is_out_of_memory, read_all};
 use std::alloc::{AllocError, Global};
-use std::fs;
-use std::fs::Files;
 use std::io::{ErrorKind, Read};
 
 // Whether the first line of a text is that of an extended dictionary.
@@ -96,14 +98,16 @@ fn refused(alloc: Global, path: &str, cause: Error) -> Failure
 }
 
 // The dictionary of a path. `None` if there is no such file.
-fn load_if_there<F: Files>(
-    rt: &F,
+#[tactic(auto, using(crate::proofs::Files::not_there))]
+fn load_if_there<F: NamedFiles>(
+    files: &F,
     alloc: Global,
     path: &str,
 ) -> Result<Option<AnyDictionary>, Failure>
-    ensures { IfErr result IsDictionaryFailure }
+    ensures found { IfOk result (IsOfFileIfThere (F.bytes files.now path.now)) }
+    ensures failure { IfErr result IsDictionaryFailure }
 {
-    let mut file = match fs::open(rt, path) {
+    let mut file = match files.open(path) {
         Ok(file) => file,
         Err(e) => {
             if matches!(e.kind(), ErrorKind::NotFound) {
@@ -119,10 +123,11 @@ fn load_if_there<F: Files>(
 }
 
 // The dictionary of a path.
-fn load<F: Files>(rt: &F, alloc: Global, path: &str) -> Result<AnyDictionary, Failure>
-    ensures { IfErr result IsDictionaryFailure }
+fn load<F: NamedFiles>(files: &F, alloc: Global, path: &str) -> Result<AnyDictionary, Failure>
+    ensures loaded { IfOk result (IsOfFile (F.bytes files.now path.now)) }
+    ensures failure { IfErr result IsDictionaryFailure }
 {
-    let mut file = match fs::open(rt, path) {
+    let mut file = match files.open(path) {
         Ok(file) => file,
         Err(e) => return Err(refused(alloc, path, Error::IO(e))),
     };
@@ -138,7 +143,8 @@ fn with_code(
     code: &str,
     dictionary: AnyDictionary,
 ) -> Result<LanguageDictionary, AllocError>
-    ensures { IfOk result (λ language. code_of language ≡ code.now) }
+    ensures code { IfOk result (λ language. code_of language ≡ code.now) }
+    ensures dictionary { IfOk result (λ language. language.dictionary ≡ dictionary) }
 {
     let code = String::from_str(alloc, code)?;
     Ok(LanguageDictionary { code, dictionary })
@@ -146,24 +152,27 @@ fn with_code(
 
 // Adds a dictionary.
 fn push(all: &mut Vec<LanguageDictionary>, language: LanguageDictionary) -> Result<(), AllocError>
-    ensures { OnOk result (map code_of all.new.items ≡ map code_of all.old.items ++ code_of language ∷ []) }
+    ensures codes { OnOk result (map code_of all.new.items ≡ map code_of all.old.items ++ code_of language ∷ []) }
+    ensures pushed { OnOk result (all.new.items ≡ all.old.items ++ language ∷ []) }
 {
     all.push(language)?;
     Ok(())
 }
 
 // The dictionaries that the arguments give, in their order.
-fn load_given<F: Files>(
-    rt: &F,
+#[tactic(auto, using(crate::proofs::Given::codes_of_given))]
+fn load_given<F: NamedFiles>(
+    files: &F,
     alloc: Global,
     given: &[GivenDictionary<'_>],
 ) -> Result<Vec<LanguageDictionary>, Failure>
     ensures codes { IfOk result (λ all. map code_of all.items ≡ map (λ one. one.language) given.now) }
+    ensures given { IfOk result (λ all. AreGiven (F.bytes files.now) (map parsed_dictionary given.now) all.items) }
     ensures failure { IfErr result IsDictionaryFailure }
 {
     let mut all = Vec::new(alloc);
     for one in given {
-        let dictionary = load(rt, alloc, one.path)?;
+        let dictionary = load(files, alloc, one.path)?;
         let language = with_code(alloc, one.language.code(), dictionary)?;
         push(&mut all, language)?;
     }
@@ -171,7 +180,9 @@ fn load_given<F: Files>(
 }
 
 // The name of the dictionary for a language whose patterns come in variants alone.
-fn usual_variant(code: &str) -> Option<&'static str> {
+fn usual_variant(code: &str) -> Option<&'static str>
+    ensures { option_map (λ name. name.now) result ≡ usual_variant code.now }
+{
     match code {
         "de" => Some("de-1996"),
         "el" => Some("el-monoton"),
@@ -183,43 +194,82 @@ fn usual_variant(code: &str) -> Option<&'static str> {
     }
 }
 
+// The path of a dictionary of a name in a folder.
+fn path_in(alloc: Global, folder: &str, name: &str, ending: &str) -> Result<String, AllocError>
+    ensures { IfOk result (λ path. string_bytes path ≡ path_in folder.now name.now ending.now) }
+{
+    format!(in alloc; "{folder}/{name}.{ending}")
+}
+
+// The dictionary of a name with an ending, from a folder.
+fn find_ending<F: NamedFiles>(
+    files: &F,
+    alloc: Global,
+    folder: &str,
+    name: &str,
+    ending: &str,
+) -> Result<Option<AnyDictionary>, Failure>
+    ensures found { IfOk result (IsOfFileIfThere (F.bytes files.now (path_in folder.now name.now ending.now))) }
+    ensures failure { IfErr result IsDictionaryFailure }
+{
+    let path = path_in(alloc, folder, name, ending)?;
+    load_if_there(files, alloc, &path)
+}
+
+// The dictionary of a name, from a folder: a standard one, else an extended one.
+fn find_in<F: NamedFiles>(
+    files: &F,
+    alloc: Global,
+    folder: &str,
+    name: &str,
+) -> Result<Option<AnyDictionary>, Failure>
+    ensures found { IfOk result (λ found. IsOfFirst (F.bytes files.now) (path_in folder.now name.now (codes "txt")
+        ∷ path_in folder.now name.now (codes "extended.txt") ∷ []) found) }
+    ensures failure { IfErr result IsDictionaryFailure }
+{
+    if let Some(dictionary) = find_ending(files, alloc, folder, name, "txt")? {
+        return Ok(Some(dictionary));
+    }
+    find_ending(files, alloc, folder, name, "extended.txt")
+}
+
 // The dictionary of a name, from the first of the folders that has one: a standard one, else an extended one.
-fn find_name<F: Files>(
-    rt: &F,
+fn find_name<F: NamedFiles>(
+    files: &F,
     alloc: Global,
     folders: &[&str],
     name: &str,
 ) -> Result<Option<AnyDictionary>, Failure>
-    ensures { IfErr result IsDictionaryFailure }
+    ensures found { IfOk result (IsOfFirst (F.bytes files.now) (paths_in (texts_now folders.now) name.now)) }
+    ensures failure { IfErr result IsDictionaryFailure }
 {
     for folder in folders {
-        for ending in ["txt", "extended.txt"] {
-            let path = format!(in alloc; "{folder}/{name}.{ending}")?;
-            if let Some(dictionary) = load_if_there(rt, alloc, &path)? {
-                return Ok(Some(dictionary));
-            }
+        if let Some(dictionary) = find_in(files, alloc, folder, name)? {
+            return Ok(Some(dictionary));
         }
     }
     Ok(None)
 }
 
 // The dictionary of a code, from the folders. A text that is no code has none, so that no path leaves the folders.
-fn find_code<F: Files>(
-    rt: &F,
+#[tactic(auto, using(crate::proofs::Codes::of_no_code, crate::proofs::Codes::of_code, crate::proofs::Codes::of_variant, crate::proofs::Codes::of_nothing))]
+fn find_code<F: NamedFiles>(
+    files: &F,
     alloc: Global,
     folders: &[&str],
     code: &str,
 ) -> Result<Option<AnyDictionary>, Failure>
-    ensures { IfErr result IsDictionaryFailure }
+    ensures found { IfOk result (IsOfFirst (F.bytes files.now) (paths_of_code (texts_now folders.now) code.now)) }
+    ensures failure { IfErr result IsDictionaryFailure }
 {
     if Language::from_code(code).is_none() {
         return Ok(None);
     }
-    if let Some(dictionary) = find_name(rt, alloc, folders, code)? {
+    if let Some(dictionary) = find_name(files, alloc, folders, code)? {
         return Ok(Some(dictionary));
     }
     match usual_variant(code) {
-        Some(name) => find_name(rt, alloc, folders, name),
+        Some(name) => find_name(files, alloc, folders, name),
         None => Ok(None),
     }
 }
@@ -231,14 +281,15 @@ fn has_code(all: &[LanguageDictionary], code: &str) -> bool {
 
 // The dictionary of a language, from the folders: that of its tag in small letters, or else of the longest part of it,
 // up to a hyphen, that has one. `None` if there is none, or it is there already.
-fn find_language<F: Files>(
-    rt: &F,
+fn find_language<F: NamedFiles>(
+    files: &F,
     alloc: Global,
     folders: &[&str],
     tag: &str,
     all: &[LanguageDictionary],
 ) -> Result<Option<LanguageDictionary>, Failure>
-    ensures { IfErr result IsDictionaryFailure }
+    ensures found { IfOk result (λ found. IfSome found (IsFoundIn (F.bytes files.now) (texts_now folders.now))) }
+    ensures failure { IfErr result IsDictionaryFailure }
 {
     let tag = tag.to_ascii_lowercase(alloc)?;
     let mut rest = Some(tag.as_str());
@@ -246,7 +297,7 @@ fn find_language<F: Files>(
         if has_code(all, code) {
             return Ok(None);
         }
-        if let Some(dictionary) = find_code(rt, alloc, folders, code)? {
+        if let Some(dictionary) = find_code(files, alloc, folders, code)? {
             return Ok(Some(with_code(alloc, code, dictionary)?));
         }
         rest = without_last_part(code);
@@ -255,18 +306,19 @@ fn find_language<F: Files>(
 }
 
 // Adds the dictionary of a language, if one is found.
-#[tactic(auto, using(crate::proofs::Beginnings::begins_itself, crate::proofs::Beginnings::begins_with_one_more))]
-fn add_found<F: Files>(
-    rt: &F,
+#[tactic(auto, using(crate::proofs::Beginnings::begins_itself, crate::proofs::Beginnings::begins_with_one_more, crate::proofs::Codes::adds_none, crate::proofs::Codes::adds_one))]
+fn add_found<F: NamedFiles>(
+    files: &F,
     alloc: Global,
     folders: &[&str],
     tag: &str,
     all: &mut Vec<LanguageDictionary>,
 ) -> Result<(), Failure>
     ensures added { OnOk result (BeginsWith (map code_of all.new.items) (map code_of all.old.items)) }
+    ensures found { OnOk result (AddsFound (F.bytes files.now) (texts_now folders.now) all.old.items all.new.items) }
     ensures failure { IfErr result IsDictionaryFailure }
 {
-    let Some(language) = find_language(rt, alloc, folders, tag, all)? else {
+    let Some(language) = find_language(files, alloc, folders, tag, all)? else {
         return Ok(());
     };
     push(all, language)?;
@@ -274,9 +326,9 @@ fn add_found<F: Files>(
 }
 
 // Adds the dictionaries of a language and of those that a page may name.
-#[tactic(auto, using(crate::proofs::Beginnings::begins_with_less))]
-fn add_named<F: Files>(
-    rt: &F,
+#[tactic(auto, using(crate::proofs::Beginnings::begins_with_less, crate::proofs::Codes::adds_more, crate::proofs::Codes::adds_none, crate::proofs::Codes::begins_added))]
+fn add_named<F: NamedFiles>(
+    files: &F,
     alloc: Global,
     folders: &[&str],
     language: &str,
@@ -284,12 +336,13 @@ fn add_named<F: Files>(
     all: &mut Vec<LanguageDictionary>,
 ) -> Result<(), Failure>
     ensures added { OnOk result (BeginsWith (map code_of all.new.items) (map code_of all.old.items)) }
+    ensures found { OnOk result (AddsFound (F.bytes files.now) (texts_now folders.now) all.old.items all.new.items) }
     ensures failure { IfErr result IsDictionaryFailure }
 {
-    add_found(rt, alloc, folders, language, all)?;
+    add_found(files, alloc, folders, language, all)?;
     let languages = languages_of(alloc, page)?;
     for language in &languages {
-        add_found(rt, alloc, folders, language, all)?;
+        add_found(files, alloc, folders, language, all)?;
     }
     Ok(())
 }
@@ -298,24 +351,26 @@ fn add_named<F: Files>(
 ///
 /// These are searched in the folder that the arguments name, or else in these folders if no dictionary is given. Each is
 /// of a language that the page may name, or of the one that the arguments name for it.
-#[tactic(auto, using(crate::proofs::Beginnings::without_given))]
-pub(crate) fn load_for_page<F: Files>(
-    rt: &F,
+#[tactic(auto, using(crate::proofs::Beginnings::without_given, crate::proofs::Codes::found_in_usual))]
+pub(crate) fn load_for_page<F: NamedFiles>(
+    files: &F,
     alloc: Global,
     request: &Request<'_>,
     folders: &[&str],
     page: &str,
 ) -> Result<Vec<LanguageDictionary>, Failure>
     ensures codes { IfOk result (λ all. HasCodesOf (parsed_request request.now) (map code_of all.items)) }
+    ensures dictionaries { IfOk result (λ all. AreDictionariesFor (F.bytes files.now) (parsed_request request.now)
+        (texts_now folders.now) all.items) }
     ensures failure { IfErr result IsDictionaryFailure }
 {
-    let mut all = load_given(rt, alloc, &request.given)?;
+    let mut all = load_given(files, alloc, &request.given)?;
     if let Some(folder) = request.folder {
-        add_named(rt, alloc, &[folder], request.language, page, &mut all)?;
+        add_named(files, alloc, &[folder], request.language, page, &mut all)?;
         return Ok(all);
     }
     if request.given.is_empty() {
-        add_named(rt, alloc, folders, request.language, page, &mut all)?;
+        add_named(files, alloc, folders, request.language, page, &mut all)?;
         return Ok(all);
     }
     Ok(all)

@@ -8,6 +8,7 @@ ghost use Rattle.command_line.specs.About.{WritesHelp};
 ghost use Rattle.command_line.specs.Statuses.{BeforeOutput};
 ghost use Rattle.html_command.specs.Arguments.{parsed_args};
 ghost use Rattle.hyphenation_breaks.specs.Ascii.{line_feed};
+ghost use Rattle.hyphenation_breaks.specs.Borrowed.{texts_now};
 ghost use Rattle.html_command.specs.Written.{asked_text, WritesPage, EndsFor};
 ghost use Rattle.html_command.specs.Private.Requests.{parsed_request};
 ghost use Rattle.html_command.specs.Private.Statuses.{IsReadingFailure, IsWritingFailure, JudgesPage};
@@ -18,7 +19,7 @@ pub mod folders;
 mod languages;
 mod request;
 
-use command_line::{VERSION, write_help_or_version};
+use command_line::{NamedFiles, VERSION, write_help_or_version};
 use dictionaries::load_for_page;
 pub use failure::NO_MEMORY;
 use failure::{Failure, report};
@@ -26,7 +27,6 @@ use hyphenation_html::{LanguageDictionary, hyphenate_html};
 use hyphenation_load::{is_out_of_memory, read_all};
 use request::Request;
 use std::alloc::{AllocError, Global};
-use std::fs::Files;
 use std::io::{Read, Write};
 
 /// The name of the program.
@@ -97,19 +97,20 @@ fn make_tables(
 }
 
 // Writes the text of a page with marks.
-fn write_page<F: Files, O: Write>(
-    rt: &F,
+fn write_page<F: NamedFiles, O: Write>(
+    files: &F,
     alloc: Global,
     request: &Request<'_>,
     folders: &[&str],
     page: &str,
     output: &mut O,
 ) -> Result<usize, Failure>
-    ensures written { OnOk result (WritesPage (parsed_request request.now) page.now O.contents output.old output.new) }
+    ensures written { OnOk result (WritesPage (parsed_request request.now) (F.bytes files.now) (texts_now folders.now)
+        page.now O.contents output.old output.new) }
     ensures untouched { IfErr result (λ failure. (failure ≡ Failure.Writing) ⊎ (output.new ≡ output.old)) }
     ensures failure { IfErr result IsWritingFailure }
 {
-    let mut dictionaries = load_for_page(rt, alloc, request, folders, page)?;
+    let mut dictionaries = load_for_page(files, alloc, request, folders, page)?;
     make_tables(alloc, &mut dictionaries, page.len())?;
     let text = hyphenate_html(
         alloc,
@@ -125,8 +126,8 @@ fn write_page<F: Files, O: Write>(
 }
 
 // Reads a page, and writes it with marks. Returns how many dictionaries there were for it.
-fn run<F: Files, I: Read, O: Write>(
-    rt: &F,
+fn run<F: NamedFiles, I: Read, O: Write>(
+    files: &F,
     alloc: Global,
     request: &Request<'_>,
     folders: &[&str],
@@ -135,12 +136,13 @@ fn run<F: Files, I: Read, O: Write>(
 ) -> Result<usize, Failure>
     ensures judged { IfSome (I.remaining input.old) (λ page. JudgesPage page result) }
     ensures written { OnOk result (IfSome (I.remaining input.old)
-        (λ page. WritesPage (parsed_request request.now) page O.contents output.old output.new)) }
+        (λ page. WritesPage (parsed_request request.now) (F.bytes files.now) (texts_now folders.now)
+        page O.contents output.old output.new)) }
     ensures untouched { IfErr result (λ failure. (failure ≡ Failure.Writing) ⊎ (output.new ≡ output.old)) }
 {
     let bytes = read_page(alloc, input)?;
     match std::str::from_utf8(&bytes) {
-        Ok(page) => write_page(rt, alloc, request, folders, page, output),
+        Ok(page) => write_page(files, alloc, request, folders, page, output),
         Err(e) => Err(not_utf8(&bytes, e.valid_up_to())),
     }
 }
@@ -164,8 +166,8 @@ fn run<F: Files, I: Read, O: Write>(
 /// let args = ["--lang", "en=en-us.txt"];
 /// answer(&rt, rt.alloc(), &args, &[], &mut rt.stdin(), &mut rt.stdout(), &mut rt.stderr())
 /// ```
-pub fn answer<F: Files, I: Read, O: Write, E: Write>(
-    rt: &F,
+pub fn answer<F: NamedFiles, I: Read, O: Write, E: Write>(
+    files: &F,
     alloc: Global,
     args: &[&str],
     folders: &[&str],
@@ -176,7 +178,8 @@ pub fn answer<F: Files, I: Read, O: Write, E: Write>(
     ensures help { WritesHelp NAME.now VERSION.now USAGE.now args.now (Some result) O.contents output.old output.new }
     ensures unread { asked_text args.now ≡ None → parsed_args args.now ≡ None → input.new ≡ input.old }
     ensures ended { asked_text args.now ≡ None →
-        EndsFor (parsed_args args.now) result (I.remaining input.old) O.contents output.old output.new }
+        EndsFor (parsed_args args.now) (F.bytes files.now) (texts_now folders.now) result (I.remaining input.old)
+        O.contents output.old output.new }
     ensures untouched { BeforeOutput result (output.new ≡ output.old) }
 {
     if let Some(status) = write_help_or_version(NAME, USAGE, args, output) {
@@ -190,7 +193,7 @@ pub fn answer<F: Files, I: Read, O: Write, E: Write>(
         }
         Err(_) => return report(alloc, &Failure::Memory, errors),
     };
-    match run(rt, alloc, &request, folders, input, output) {
+    match run(files, alloc, &request, folders, input, output) {
         Ok(dictionaries) => {
             if dictionaries == 0 {
                 let _ = errors.write_all(NO_DICTIONARY.as_bytes());

@@ -9,19 +9,18 @@ ghost use Rattle.std.specs.IoError.{error_kind};
 ghost use Rattle.hyphenation.specs.Engine.{BeforeWriting, IsUnwritten};
 ghost use Rattle.command_line.specs.Statuses.{BeforeOutput};
 ghost use Rattle.hyphenate_command.specs.Arguments.{parsed_args, score_args, text_args, lines_args};
-ghost use Rattle.hyphenate_command.specs.Statuses.{status_of, EndsFor, BeforeText, EndsWith};
+ghost use Rattle.hyphenate_command.specs.Statuses.{status_of, EndsFor, BeforeText, EndsWith, JudgesFile, WritesFor};
 ghost use Rattle.hyphenate_command.specs.Private.Requests.{parsed_task, parsed_request};
 
-use command_line::write_message;
+use command_line::{NamedFiles, write_message};
 use hyphenation::Language;
 use hyphenation::engine::{Kind, RunError, number_of, run, run_score};
 use hyphenation::load::Error;
 use hyphenation_load::is_out_of_memory;
 use linefill::run_fill;
 use std::alloc::Global;
-use std::fs::Files;
+use std::io;
 use std::io::{ErrorKind, Read, Write};
-use std::{fs, io};
 
 /// The usage, for arguments of no form.
 pub const USAGE: &str =
@@ -128,24 +127,29 @@ impl<'w> Request<'w> {
 }
 
 // Opens the dictionary, and does the task.
-fn run_request<F: Files, I: Read, O: Write>(
-    rt: &F,
+fn run_request<F: NamedFiles, I: Read, O: Write>(
+    files: &F,
     alloc: Global,
     request: &Request<'_>,
     input: &mut I,
     output: &mut O,
 ) -> Result<(), RunError>
+    ensures dictionary { JudgesFile (parsed_request request.now) (F.bytes files.now) result }
+    ensures written { OnOk result (WritesFor (parsed_request request.now) (F.bytes files.now) (I.remaining input.old)
+        O.contents output.old output.new) }
+    ensures there { OnOk result (F.bytes files.now request.now.path.now ≢ Some None) }
     ensures ended { EndsFor (parsed_task request.now.task) (I.remaining input.old) result }
     ensures unread { BeforeText (parsed_task request.now.task) result (input.new ≡ input.old) }
     ensures untouched { BeforeWriting result (output.new ≡ output.old) }
     ensures appends_some_text { OnOk result ((text : List ℕ) × AppendsTo O.contents output.old output.new text) }
 {
-    let mut dictionary = fs::open(rt, request.path).map_err(opening_error)?;
+    let mut dictionary = files.open(request.path).map_err(opening_error)?;
+    let language = request.language;
     match request.task {
         Task::Score { kind, word } => run_score(
             alloc,
             kind,
-            request.language,
+            language,
             word,
             &mut dictionary,
             output,
@@ -153,7 +157,7 @@ fn run_request<F: Files, I: Read, O: Write>(
         Task::Text { kind, mark, edits } => run(
             alloc,
             kind,
-            request.language,
+            language,
             edits,
             mark,
             &mut dictionary,
@@ -162,7 +166,7 @@ fn run_request<F: Files, I: Read, O: Write>(
         ),
         Task::Lines { columns } => run_fill(
             alloc,
-            request.language,
+            language,
             columns,
             &mut dictionary,
             input,
@@ -236,8 +240,8 @@ fn report<E: Write>(alloc: Global, path: &str, error: &RunError, errors: &mut E)
 /// let args = ["score", "standard", "en-gb", "examples/firkin.txt", "firkins"];
 /// answer(&rt, rt.alloc(), &args, &mut rt.stdin(), &mut rt.stdout(), &mut rt.stderr())    // 0, and 0 2 5 1 0 0
 /// ```
-pub fn answer<F: Files, I: Read, O: Write, E: Write>(
-    rt: &F,
+pub fn answer<F: NamedFiles, I: Read, O: Write, E: Write>(
+    files: &F,
     alloc: Global,
     args: &[&str],
     input: &mut I,
@@ -246,7 +250,10 @@ pub fn answer<F: Files, I: Read, O: Write, E: Write>(
 ) -> u8
     ensures usage { parsed_args args.now ≡ None → (result ≡ 2) × (input.new ≡ input.old) }
     ensures ended { IfSome (parsed_args args.now) (λ parsed.
-        EndsWith parsed.task (I.remaining input.old) (input.new ≡ input.old) result) }
+        EndsWith parsed (F.bytes files.now) (I.remaining input.old) (input.new ≡ input.old) result) }
+    ensures written { result ≡ 0 → IfSome (parsed_args args.now) (λ parsed.
+        WritesFor parsed (F.bytes files.now) (I.remaining input.old) O.contents output.old output.new) }
+    ensures there { result ≡ 0 → IfSome (parsed_args args.now) (λ parsed. F.bytes files.now parsed.path ≢ Some None) }
     ensures untouched { BeforeOutput result (output.new ≡ output.old) }
     ensures appends_some_text { result ≡ 0 → (text : List ℕ) × AppendsTo O.contents output.old output.new text }
 {
@@ -254,7 +261,7 @@ pub fn answer<F: Files, I: Read, O: Write, E: Write>(
         let _ = errors.write_all(USAGE.as_bytes());
         return 2;
     };
-    match run_request(rt, alloc, &request, input, output) {
+    match run_request(files, alloc, &request, input, output) {
         Ok(()) => 0,
         Err(error) => report(alloc, request.path, &error, errors),
     }

@@ -1,8 +1,9 @@
 -- The output and the statuses of the program `hyphenate-lines`.
-use Rattle.std.specs.Prelude.{◌≡◌, ◌⊎◌, ◌||◌, ℕ, Bool, List, [], if◌then◌else◌, IsUtf8, Option, Some, None, IfSome, slice_index_or, ⊤}
+use Rattle.std.specs.Prelude.{◌≡◌, ◌≢◌, ◌⊎◌, ◌||◌, ℕ, Bool, List, [], if◌then◌else◌, IsUtf8, Option, Some, None, IfSome, slice_index_or, ⊤}
 use Rattle.std.specs.Borrow.{Bor}
 use Rattle.std.specs.Io.KnownBytes.{Appends}
 use Rattle.std.specs.List.{flat_map}
+use Rattle.command_line.specs.Files.{known_bytes}
 use Rattle.hyphenation_breaks.specs.Break.{Break}
 use Rattle.hyphenation_grammar.specs.Form.{head_of}
 use Rattle.hyphenation_grammar.specs.Judging.{refusal_of}
@@ -65,10 +66,11 @@ abbrev pub WritesLines : {W : Type 0} → ParsedArgs → Option (List ℕ) → O
 WritesLines parsed dictionary input contents old new =
     (page : List ℕ) × ReturnsLines parsed dictionary input page × Appends (contents old) (contents new) page
 
--- The lines that the arguments ask for were appended to an output, by some dictionary of the language that they name.
-abbrev pub WritesFor : {W : Type 0} → List (Bor (List ℕ)) → Option (List ℕ) → (W → Option (List ℕ)) → W → W → Type 0
-WritesFor args input contents old new =
-    (parsed : ParsedArgs) × (parsed_args args ≡ Some parsed) × WritesLines parsed None input contents old new
+-- The lines that the arguments ask for were appended to an output, by the dictionary that the bytes of their path give.
+abbrev pub WritesFor : {W : Type 0} → List (Bor (List ℕ)) → (List ℕ → Option (Option (List ℕ))) → Option (List ℕ)
+    → (W → Option (List ℕ)) → W → W → Type 0
+WritesFor args bytes_of input contents old new = (parsed : ParsedArgs) × (parsed_args args ≡ Some parsed)
+    × (bytes_of parsed.path ≢ Some None) × WritesLines parsed (known_bytes (bytes_of parsed.path)) input contents old new
 
 -- A paragraph of a text is too long, by the dictionary of that kind that bytes give. The text is that of the input, if it
 -- is known, and is UTF-8. The dictionary is of the language that the arguments name.
@@ -88,10 +90,11 @@ HasLongParagraphBy parsed dictionary input = (bytes : List ℕ) × IfSome dictio
 abbrev pub IsNotUtf8 : Option (List ℕ) → Type 0
 IsNotUtf8 input = IfSome input (λ text. ¬ (IsUtf8 text))
 
--- The input is refused: it is not UTF-8, or a paragraph of it is too long for what the arguments ask for.
-abbrev pub RefusesInput : List (Bor (List ℕ)) → Option (List ℕ) → Type 0
-RefusesInput args input = (parsed : ParsedArgs) × (parsed_args args ≡ Some parsed)
-    × (IsNotUtf8 input ⊎ HasLongParagraphBy parsed None input)
+-- The input is refused: it is not UTF-8, or a paragraph of it is too long for what the arguments ask for, by the
+-- dictionary that the bytes of their path give.
+abbrev pub RefusesInput : List (Bor (List ℕ)) → (List ℕ → Option (Option (List ℕ))) → Option (List ℕ) → Type 0
+RefusesInput args bytes_of input = (parsed : ParsedArgs) × (parsed_args args ≡ Some parsed)
+    × (IsNotUtf8 input ⊎ HasLongParagraphBy parsed (known_bytes (bytes_of parsed.path)) input)
 
 -- If no help was asked for and the arguments have no form, this holds.
 abbrev pub OnNoForm : Option (List ℕ) → Option ParsedArgs → Type 0 → Type 0

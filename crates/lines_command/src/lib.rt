@@ -3,24 +3,23 @@
 //! It sets the paragraphs of a text in lines, by a dictionary of either kind.
 #![tactic(auto)]
 
-ghost use Rattle.std.specs.Prelude.{◌≡◌, ◌⊎◌, None, Some, OnOk, IfErr};
+ghost use Rattle.std.specs.Prelude.{◌≡◌, ◌≢◌, ◌⊎◌, None, Some, OnOk, IfErr};
 ghost use Rattle.command_line.specs.About.{help_or_version as asked, WritesHelp};
+ghost use Rattle.command_line.specs.Files.{known_bytes};
 ghost use Rattle.command_line.specs.Statuses.{BeforeOutput};
 ghost use Rattle.lines_command.specs.Arguments.{parsed_args};
 ghost use Rattle.lines_command.specs.Private.Requests.{parsed_request};
-ghost use Rattle.lines_command.specs.Private.Statuses.{status_of, JudgesInputOf, BeforeReading};
+ghost use Rattle.lines_command.specs.Private.Statuses.{status_of, JudgesDictionary, JudgesInputOf, BeforeReading};
 ghost use Rattle.lines_command.specs.Written.{WritesLines, WritesFor, RefusesInput, IsExitStatus};
 ghost use Rattle.lines_command.specs.Written.{OnNoForm, OnDone, OnRefusedDictionary, OnRefusedInput};
 
 mod request;
 mod run;
 
-use command_line::{VERSION, write_help_or_version, write_message};
+use command_line::{NamedFiles, VERSION, write_help_or_version, write_message};
 use request::Request;
 use run::{Failure, dictionary_failure, run};
 use std::alloc::Global;
-use std::fs;
-use std::fs::Files;
 use std::io::{Read, Write};
 
 /// The name of the program.
@@ -34,20 +33,24 @@ pub const USAGE: &str =
 pub const NO_MEMORY: &str = "hyphenate-lines: no memory\n";
 
 // Opens the dictionary, and writes the lines of the input.
-fn run_request<F: Files, I: Read, O: Write>(
-    rt: &F,
+fn run_request<F: NamedFiles, I: Read, O: Write>(
+    files: &F,
     alloc: Global,
     request: &Request<'_>,
     input: &mut I,
     output: &mut O,
 ) -> Result<(), Failure>
-    ensures written { OnOk result (WritesLines (parsed_request request.now) None
-        (I.remaining input.old) O.contents output.old output.new) }
-    ensures input { IfErr result (JudgesInputOf (parsed_request request.now) None (I.remaining input.old)) }
+    ensures dictionary { JudgesDictionary (parsed_request request.now)
+        (known_bytes (F.bytes files.now request.now.path.now)) result }
+    ensures written { OnOk result (WritesLines (parsed_request request.now)
+        (known_bytes (F.bytes files.now request.now.path.now)) (I.remaining input.old) O.contents output.old output.new) }
+    ensures there { OnOk result (F.bytes files.now request.now.path.now ≢ Some None) }
+    ensures input { IfErr result (JudgesInputOf (parsed_request request.now)
+        (known_bytes (F.bytes files.now request.now.path.now)) (I.remaining input.old)) }
     ensures unread { IfErr result (BeforeReading (input.new ≡ input.old)) }
     ensures untouched { IfErr result (λ failure. (failure ≡ Failure.Writing) ⊎ (output.new ≡ output.old)) }
 {
-    let mut dictionary = fs::open(rt, request.path).map_err(dictionary_failure)?;
+    let mut dictionary = files.open(request.path).map_err(dictionary_failure)?;
     run(alloc, request, &mut dictionary, input, output)
 }
 
@@ -105,8 +108,8 @@ fn report<E: Write>(alloc: Global, path: &str, failure: &Failure, errors: &mut E
 /// let args = ["--width", "40", "en-gb", "examples/firkin.txt"];
 /// answer(&rt, rt.alloc(), &args, &mut rt.stdin(), &mut rt.stdout(), &mut rt.stderr())
 /// ```
-pub fn answer<F: Files, I: Read, O: Write, E: Write>(
-    rt: &F,
+pub fn answer<F: NamedFiles, I: Read, O: Write, E: Write>(
+    files: &F,
     alloc: Global,
     args: &[&str],
     input: &mut I,
@@ -117,11 +120,11 @@ pub fn answer<F: Files, I: Read, O: Write, E: Write>(
     ensures usage { OnNoForm (asked NAME.now VERSION.now USAGE.now args.now) (parsed_args args.now)
         ((result ≡ 2) × (input.new ≡ input.old)) }
     ensures written { OnDone (asked NAME.now VERSION.now USAGE.now args.now) result
-        (WritesFor args.now (I.remaining input.old) O.contents output.old output.new) }
+        (WritesFor args.now (F.bytes files.now) (I.remaining input.old) O.contents output.old output.new) }
     ensures unread { OnRefusedDictionary (asked NAME.now VERSION.now USAGE.now args.now) result
         (input.new ≡ input.old) }
     ensures refused_input { OnRefusedInput (asked NAME.now VERSION.now USAGE.now args.now) result
-        (RefusesInput args.now (I.remaining input.old)) }
+        (RefusesInput args.now (F.bytes files.now) (I.remaining input.old)) }
     ensures exit_status { asked NAME.now VERSION.now USAGE.now args.now ≡ None → IsExitStatus result }
     ensures untouched { BeforeOutput result (output.new ≡ output.old) }
 {
@@ -132,7 +135,7 @@ pub fn answer<F: Files, I: Read, O: Write, E: Write>(
         let _ = errors.write_all(USAGE.as_bytes());
         return 2;
     };
-    match run_request(rt, alloc, &request, input, output) {
+    match run_request(files, alloc, &request, input, output) {
         Ok(()) => 0,
         Err(failure) => report(alloc, request.path, &failure, errors),
     }

@@ -17,7 +17,7 @@ returns-then-is_empty-clause-ended g c =
 pub returns-then-is_empty-clause-text : goal.returns-then-is_empty-clause-text
 returns-then-is_empty-clause-text g c =
     let empty : length c.args.words.now ≡ 0 = search rules in
-    subst (λ (ws : List (List ℕ)). IfOk c.explained_input.result (λ text. ExplainsWords (AreExplained (g.D.Explain.explains c.args.dictionary.now) (g.D.Explain.draws c.args.dictionary.now) c.args.style) ws text.items)) (sym (no_words c.args.words.now empty))
+    subst (λ (ws : List (List ℕ)). IfOk c.explained_input.result (λ text. ExplainsWords (AreExplained (g.D.Explain.explains c.args.dictionary.now) (g.D.Explain.draws c.args.dictionary.now) c.args.style) ws (g.I.Read.remaining c.args.input.now) text.items)) (sym (no_words c.args.words.now empty))
     c.explained_input.ensures.text
 
 pub returns-in_err-explained-clause-ended : goal.returns-in_err-explained-clause-ended
@@ -32,4 +32,6 @@ returns-clause-ended g c =
     ends_unread c.args.words.now _ _ _ some tt refl
 
 pub returns-clause-text : goal.returns-clause-text
-returns-clause-text g c = explains_given (AreExplained (g.D.Explain.explains c.args.dictionary.now) (g.D.Explain.draws c.args.dictionary.now) c.args.style) (texts_now c.args.words.now) _ c.in_ok-explained.ensures
+returns-clause-text g c =
+    let some : 0 < length c.args.words.now = search rules in
+    explains_given (AreExplained (g.D.Explain.explains c.args.dictionary.now) (g.D.Explain.draws c.args.dictionary.now) c.args.style) c.args.words.now _ _ some c.in_ok-explained.ensures

@@ -15,7 +15,8 @@ returns-clause-text g c =
     let style = c.args.style in
     let words : List (List ℕ) = texts_now c.args.words.now in
     let known : Option (List ℕ) = g.D.Read.remaining c.args.reader.now in
-    let explained : Contents (Unit {0}) ℕ → List ℕ → Type 0 = λ d t. ExplainsWords (AreExplained (λ style word text. Explains no_change plain_break d style word (all_breaks_of (standard_rules d) word) text) (λ word drawing. IsDrawn no_change plain_break d word (all_breaks_of (standard_rules d) word) drawing) style) words t in
-    IfOk-weaker c.explained_words.result (λ text. explained c.in_ok-dictionary.dictionary text.items) (λ text. ExplainsBy Standard style words known text.items)
+    let input : Option (List ℕ) = g.I.Read.remaining c.args.input.now in
+    let explained : Contents (Unit {0}) ℕ → List ℕ → Type 0 = λ d t. ExplainsWords (AreExplained (λ style word text. Explains no_change plain_break d style word (all_breaks_of (standard_rules d) word) text) (λ word drawing. IsDrawn no_change plain_break d word (all_breaks_of (standard_rules d) word) drawing) style) words input t in
+    IfOk-weaker c.explained_words.result (λ text. explained c.in_ok-dictionary.dictionary text.items) (λ text. ExplainsBy Standard style words known input text.items)
     (λ text h. IfSome_then known c.in_ok-dictionary.ensures.loaded (λ bytes loaded. subst (λ d. explained d text.items) loaded.1 h))
     c.explained_words.ensures.text

@@ -1,9 +1,13 @@
-use Rattle.std.proofs.Common.{◌≡◌, ℕ, List, map, refl, ap, ◌∙◌}
+use Rattle.std.proofs.Common.{◌≡◌, ℕ, List, map, refl, ap, subst, ◌∙◌}
 use Rattle.std.specs.Prelude.{Option, option_map}
 use Rattle.std.specs.Borrow.{Bor}
 use Rattle.html_command.specs.Dictionaries.{code_of}
 use Rattle.html_command.specs.Private.Requests.{parsed_request}
 use Rattle.html_command.specs.declared.request.GivenDictionary.{GivenDictionary}
+use Rattle.hyphenation_breaks.specs.Borrowed.{texts_now}
+use Rattle.html_command.specs.Dictionaries.{AreGiven}
+use Rattle.html_command.specs.Private.Requests.{parsed_dictionary}
+use Rattle.html_command.proofs.Codes.{found_in_folder_of, given_only}
 use Rattle.html_command.proofs.Beginnings.{with_folder, given_alone}
 use Rattle.html_command.proofs.dictionaries.load_for_page.Goals as goal
 
@@ -28,3 +32,17 @@ returns-clause-codes g c =
     codes ∙ ap (λ (given : List GivenDictionary). map (λ one. one.language) given) same in
     given_alone (parsed_request c.args.request.now) c.args.request.now.given.items (map code_of c.in_ok-all.all.items)
     refl loaded
+
+pub returns-in-Some-clause-dictionaries : goal.returns-in-Some-clause-dictionaries
+returns-in-Some-clause-dictionaries g c =
+    found_in_folder_of (g.F.NamedFiles.bytes c.args.files.now) (parsed_request c.args.request.now) (texts_now c.args.folders.now) c.in-Some.folder.now
+    c.args.request.now.given.items c.in_ok-all.all.items c.add_named.new.all.items refl
+    (ap (λ (folder : Option (Bor (List ℕ))). option_map (λ path. path.now) folder) c.in-Some.is)
+    (subst (λ given. AreGiven (g.F.NamedFiles.bytes c.args.files.now) (map parsed_dictionary given) c.in_ok-all.all.items) c.deref.ensures.value c.in_ok-all.ensures.given)
+    c.in_ok-add_named.ensures.found
+
+pub returns-clause-dictionaries : goal.returns-clause-dictionaries
+returns-clause-dictionaries g c =
+    given_only (g.F.NamedFiles.bytes c.args.files.now) (parsed_request c.args.request.now) (texts_now c.args.folders.now)
+    c.args.request.now.given.items c.in_ok-all.all.items refl
+    (subst (λ given. AreGiven (g.F.NamedFiles.bytes c.args.files.now) (map parsed_dictionary given) c.in_ok-all.all.items) c.deref.ensures.value c.in_ok-all.ensures.given)
