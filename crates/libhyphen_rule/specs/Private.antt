@@ -6,3 +6,4 @@ pub mod Unchanged
 pub mod Lanes
 pub mod UnchangedParts
 pub mod Ordinary
+pub mod Occurring

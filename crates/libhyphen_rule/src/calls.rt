@@ -1,22 +1,22 @@
 //! The calls of libhyphen.
 
-ghost use Rattle.std.specs.Prelude.{◌≡◌, ◌<◌, ◌≤◌, ◌++◌, ◌∷◌, [], IfOk, IfSome, None, length, replicate, take, drop, slice_index, false, if◌then◌else◌};
+ghost use Rattle.std.specs.Prelude.{◌≡◌, ◌<◌, ◌≤◌, ◌++◌, ◌∷◌, [], IfOk, IfSome, IsTrue, None, Some, length, replicate, take, drop, slice_index, false, if◌then◌else◌};
 ghost use Rattle.std.specs.Option.{option_map};
 ghost use Rattle.libhyphen_rule.specs.Found.{placed_all, found_of, answer_view};
 ghost use Rattle.libhyphen_files.specs.Bytes.{before_nul, continues};
 ghost use Rattle.libhyphen_rule.specs.Calls.{answer_of, inner_digit, inner_digits, plain_digits, text_of_call};
 ghost use Rattle.libhyphen_rule.specs.Calls.{found_by_call, changes_in_characters, taken_digit, greater, least_of, at_least_two};
 ghost use Rattle.libhyphen_rule.specs.Parts.{without_left, without_right};
-ghost use Rattle.libhyphen_rule.specs.Private.Unchanged.{IsUnchanged};
+ghost use Rattle.libhyphen_rule.specs.Private.Ordinary.{AllOrdinary};
+ghost use Rattle.libhyphen_rule.specs.Private.Unchanged.{HasNoDigits, IsUnchanged};
 ghost use Rattle.libhyphen_rule.specs.Words.{changes_of_characters, digits_beside, digits_of_characters};
 
 use crate::digits::read_digits;
 use crate::found::WordFound;
 use crate::minima::{take_left, take_right};
 use crate::one_level::PlacedChange;
-use crate::ordinary::ordinary_answer;
 use crate::parts::{has_change, word_found};
-use crate::unchanged_parts::word_unchanged;
+use crate::unchanged_parts::{has_digit, word_without_digits};
 use crate::words::{
     changes_of_characters, digits_of_characters, is_ascii, take_beside, written_word,
 };
@@ -74,7 +74,7 @@ fn own_minima(own: &Minima) -> CallMinima
 }
 
 // Returns the minima of a dictionary, or of each the greater one of it and of a caller's.
-pub(crate) fn least_of(own: &Minima, given: Option<CallMinima>) -> CallMinima
+fn least_of(own: &Minima, given: Option<CallMinima>) -> CallMinima
     ensures { result ≡ least_of own.now given }
 {
     let mut least = own_minima(own);
@@ -89,7 +89,7 @@ pub(crate) fn least_of(own: &Minima, given: Option<CallMinima>) -> CallMinima
 
 // Returns the minimum of a whole word.
 #[tactic(auto, unfolding(crate::specs::Calls::at_least_two))]
-pub(crate) fn at_least_two(least: i32) -> i32
+fn at_least_two(least: i32) -> i32
     ensures { result ≡ at_least_two least }
 {
     if 0 < least { least } else { 2 }
@@ -190,6 +190,38 @@ fn found_by_call<'d>(
     Ok(without_right(utf8, at_least_two(least.right), word, text, found))
 }
 
+// Returns the digits that both levels find in the first bytes of a text, a word without digits, but not those of the places
+// that are too near to its ends; `None` where a pattern counts that may change letters. `seen` is the text up to its first
+// byte 0. The only error is out of memory.
+fn digits_by_call(
+    alloc: Global,
+    dictionary: &LevelDictionary,
+    minima: Option<CallMinima>,
+    text: &[u8],
+    size: usize,
+    seen: &[u8],
+) -> Result<Option<Vec<u8>>, AllocError>
+    requires within { size ≤ length text.now }
+    requires word { HasNoDigits (take size text.now) }
+    requires seen { seen.now ≡ before_nul text.now }
+    ensures found { IfOk result (λ found. IfSome found
+        (λ digits. IsUnchanged (found_by_call dictionary.now minima text.now size) digits.items)) }
+    ensures digits { IfOk result (λ found. IfSome found (λ digits. length digits.items ≡ size)) }
+{
+    let (word, behind) = text.split_at(size);
+    let least = least_of(dictionary.top().minima(), minima);
+    let utf8 = dictionary.is_utf8();
+    let (left, right) = (least.compound_left, least.compound_right);
+    let found = word_without_digits(alloc, dictionary, left, right, word, behind)?;
+    let Some(mut digits) = found else {
+        return Ok(None);
+    };
+    let (left, right) = (at_least_two(least.left), at_least_two(least.right));
+    take_left(utf8, left, seen, &mut digits, &mut []);
+    take_right(utf8, right, word, seen, &mut digits, &mut []);
+    Ok(Some(digits))
+}
+
 // Returns the digits that both levels find in the first bytes of a text, a word, without those of the places that are too near
 // to its ends; `None` where the word has digits, or a pattern counts that may change letters. The only error is out of memory.
 fn unchanged_by_call(
@@ -204,19 +236,50 @@ fn unchanged_by_call(
         (λ digits. IsUnchanged (found_by_call dictionary.now minima text.now size) digits.items)) }
     ensures digits { IfOk result (λ found. IfSome found (λ digits. length digits.items ≡ size)) }
 {
-    let (word, behind) = text.split_at(size);
-    let seen = before_nul(text);
-    let least = least_of(dictionary.top().minima(), minima);
-    let utf8 = dictionary.is_utf8();
-    let (left, right) = (least.compound_left, least.compound_right);
-    let found = word_unchanged(alloc, dictionary, left, right, word, behind)?;
-    let Some(mut digits) = found else {
+    if has_digit(&text[..size]) {
+        return Ok(None);
+    }
+    digits_by_call(alloc, dictionary, minima, text, size, before_nul(text))
+}
+
+// Tests whether each byte of a text is one of most words.
+#[inline(always)]
+fn all_ordinary(dictionary: &LevelDictionary, text: &[u8]) -> bool
+    ensures { IsTrue result → AllOrdinary dictionary.now text.now }
+{
+    for byte in text.iter() {
+        if !dictionary.is_ordinary(*byte) {
+            return false;
+        }
+    }
+    true
+}
+
+// Returns the answer for a word, the first bytes of a text, if all bytes of the text are ordinary, and no pattern
+// counts that may change letters. The digits of its bytes are then those of its characters, and no text without breaks
+// takes one away. The only error is out of memory.
+fn ordinary_answer<'d>(
+    alloc: Global,
+    dictionary: &'d LevelDictionary,
+    minima: Option<CallMinima>,
+    text: &[u8],
+    size: usize,
+) -> Result<Option<CallAnswer<'d>>, AllocError>
+    requires { size ≤ length text.now }
+    ensures { IfOk result (λ found. IfSome found (λ answer. Some (answer_view answer)
+        ≡ answer_of dictionary.now minima text.now size)) }
+{
+    if !all_ordinary(dictionary, text) {
+        return Ok(None);
+    }
+    let Some(digits) = digits_by_call(alloc, dictionary, minima, text, size, text)? else {
         return Ok(None);
     };
-    let (left, right) = (at_least_two(least.left), at_least_two(least.right));
-    take_left(utf8, left, seen, &mut digits, &mut []);
-    take_right(utf8, right, word, seen, &mut digits, &mut []);
-    Ok(Some(digits))
+    Ok(Some(CallAnswer {
+        digits,
+        changes: Vec::new(alloc),
+        made: false,
+    }))
 }
 
 // Takes the places away beside which a text without breaks begins or ends, in the first bytes of a text, a word.

@@ -5,9 +5,8 @@
 //! own words, what holds for each file and each word. The other modules, from the bottom up: `counting` finds the patterns
 //! that count; `digits` and `cells` keep what they give; `letters` and `minima` take away breaks too near to an end; `parts`
 //! parts a compound by the level at the top, and breaks its parts by the level below; `unchanged` and `unchanged_parts` do the
-//! same, with less work, where no pattern counts that changes letters, as in most words; `ordinary` answers for such a word at
-//! once, if its bytes are those of most words; `words` takes away breaks beside texts without breaks, counts characters, and
-//! writes the word with its breaks.
+//! same, with less work, where no pattern counts that changes letters, as in most words; `words` takes away breaks beside texts
+//! without breaks, counts characters, and writes the word with its breaks.
 #![tactic(auto)]
 
 pub mod calls;
@@ -19,7 +18,6 @@ pub mod laws;
 mod letters;
 mod minima;
 pub mod one_level;
-mod ordinary;
 mod parts;
 mod unchanged;
 mod unchanged_parts;

@@ -15,7 +15,7 @@ ghost use Rattle.hyphenation_dictionary.specs.Parts.{patterns_of};
 ghost use Rattle.hyphenation_trie.specs.Trie.{EachBeginsKey};
 ghost use Rattle.libhyphen_files.specs.Vectors.{AreVectors, BeginsNoKey};
 ghost use Rattle.libhyphen_rule.specs.OneLevel.{changes_by, digits_by, level_changes, level_digits};
-ghost use Rattle.libhyphen_rule.specs.Private.Lanes.{AllKnown, IsPassed};
+ghost use Rattle.libhyphen_rule.specs.Private.Lanes.{AllKnown, PassesByte};
 ghost use Rattle.libhyphen_rule.specs.Private.Unchanged.{HasNoDigits};
 
 use crate::digits::clear;
@@ -70,8 +70,8 @@ fn all_known(seen: u8x16) -> bool
     seen.simd_gt(u8x16::splat(9)).to_bitmask() == 0
 }
 
-// What is known of a frame when some of its bytes are read: the node of the longest text there, the digits of the 16
-// last places, and for each lane the greatest number of all vectors that were met.
+// A frame of which some bytes are read: the node of the longest text there, the digits of the 16 last places, and for
+// each lane the greatest number of all vectors that were met.
 #[derive(Clone, Copy, Drop)]
 struct FramePass {
     node: usize,
@@ -94,8 +94,7 @@ fn passed_byte(
     requires node { pass.node < length patterns.now.texts }
     requires lanes { (length pass.last ≡ 16) × (length pass.seen ≡ 16) }
     requires room { at + 16 ≤ length list.old }
-    ensures passed { (frame : List ℕ) → at < length frame → byte ≡ slice_index frame at
-        → IsPassed patterns.now frame at pass list.old → IsPassed patterns.now frame (at + 1) result list.new }
+    ensures passed { PassesByte patterns.now at byte pass list.old result list.new }
     ensures room { length list.new ≡ length list.old }
 {
     patterns.invariant();

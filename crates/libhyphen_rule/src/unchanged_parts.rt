@@ -1,15 +1,13 @@
 //! Compounds in which no pattern counts that changes letters. A part is then some bytes of the word, so nothing is
 //! copied.
 
-ghost use Rattle.std.specs.Prelude.{◌≡◌, ◌⊎◌, ◌+◌, ◌≤◌, ℕ, [], None, IfOk, IfSome, IsFalse, IsTrue};
-ghost use Rattle.std.specs.Prelude.{length, replicate};
+ghost use Rattle.std.specs.Prelude.{◌≡◌, ◌⊎◌, ◌+◌, ◌≤◌, [], IfOk, IfSome, IsFalse, IsTrue, length};
 ghost use Rattle.std.specs.Char.{is_ascii_digit};
 ghost use Rattle.std.specs.List.{list_any};
 ghost use Rattle.libhyphen_rule.specs.Found.{asked_in, minima_of};
-ghost use Rattle.libhyphen_rule.specs.Parts.{found_below, found_in, word_found};
-ghost use Rattle.libhyphen_rule.specs.Parts.{without_left_of_part, without_right_of_part};
+ghost use Rattle.libhyphen_rule.specs.Parts.{found_in, word_found};
 ghost use Rattle.libhyphen_rule.specs.Private.Unchanged.{HasNoDigits, IsUnchanged};
-ghost use Rattle.libhyphen_rule.specs.Private.UnchangedParts.{found_unchanged, part_unchanged};
+ghost use Rattle.libhyphen_rule.specs.Private.UnchangedParts.{FindsBelow, IsUnchangedWord, LeavesLeft, LeavesRight, part_unchanged};
 
 use crate::minima::{take_left, take_right};
 use crate::parts::{AskedText, BothLevels, MOST_DEPTH, ends_part, has_break};
@@ -19,7 +17,7 @@ use libhyphen_files::bytes::before_nul;
 use std::alloc::{AllocError, Global};
 
 // Tests whether a word has a digit.
-fn has_digit(word: &[u8]) -> bool
+pub(crate) fn has_digit(word: &[u8]) -> bool
     ensures { result ≡ list_any is_ascii_digit word.now }
 {
     word.iter().any(|byte| byte.is_ascii_digit())
@@ -29,9 +27,7 @@ fn has_digit(word: &[u8]) -> bool
 // it then.
 fn take_left_end(levels: BothLevels<'_>, asked: AskedText<'_>, digits: &mut [u8])
     requires behind { IsFalse asked.at_left → asked.behind.now ≡ [] }
-    ensures digits { (parts : ℕ) → found_unchanged digits.new parts
-        ≡ without_left_of_part levels.entry.dictionary.now.utf8 (minima_of levels.entry) (asked_in asked.entry)
-        (found_unchanged digits.old parts) }
+    ensures digits { LeavesLeft levels.entry asked.entry digits.old digits.new }
     ensures length { length digits.new ≡ length digits.old }
 {
     if !asked.at_left {
@@ -50,9 +46,7 @@ fn take_left_end(levels: BothLevels<'_>, asked: AskedText<'_>, digits: &mut [u8]
 fn take_right_end(levels: BothLevels<'_>, asked: AskedText<'_>, digits: &mut [u8])
     requires behind { IsFalse asked.at_right → asked.behind.now ≡ [] }
     requires length { length digits.old ≡ length asked.text.now }
-    ensures digits { (parts : ℕ) → found_unchanged digits.new parts
-        ≡ without_right_of_part levels.entry.dictionary.now.utf8 (minima_of levels.entry) (asked_in asked.entry)
-        (found_unchanged digits.old parts) }
+    ensures digits { LeavesRight levels.entry asked.entry digits.old digits.new }
     ensures length { length digits.new ≡ length digits.old }
 {
     if !asked.at_right {
@@ -81,9 +75,7 @@ fn unchanged_below(
     requires behind { IsFalse asked.at_left ⊎ IsFalse asked.at_right → asked.behind.now ≡ [] }
     requires list { length asked.text.now + 18 ≤ length list.old }
     requires digits { length digits.old ≡ length asked.text.now }
-    ensures found { IsTrue result → (parts : ℕ) → found_unchanged digits.new parts
-        ≡ found_below levels.entry.dictionary.now (minima_of levels.entry) parts (asked_in asked.entry)
-        (replicate (length asked.entry.text.now) None) }
+    ensures found { IsTrue result → FindsBelow levels.entry asked.entry digits.new }
     ensures list_length { length list.new ≡ length list.old }
     ensures digits_length { length digits.new ≡ length digits.old }
 {
@@ -197,28 +189,9 @@ fn read_word(
     unchanged_in(levels, MOST_DEPTH, word.len(), asked, list, digits).is_some()
 }
 
-// Returns the digits of a word by both levels, before the minima of the whole word; `None` where the word has digits,
-// or a pattern counts that may change letters. `behind` is what stands behind the word; `left` and `right` are the least
-// numbers of letters in its parts. The only error is out of memory.
-pub(crate) fn word_unchanged(
-    alloc: Global,
-    dictionary: &LevelDictionary,
-    left: i32,
-    right: i32,
-    word: &[u8],
-    behind: &[u8],
-) -> Result<Option<Vec<u8>>, AllocError>
-    ensures found { IfOk result (λ found. IfSome found (λ digits. IsUnchanged
-        (word_found dictionary.now (record { left = left; right = right }) word.now behind.now) digits.items)) }
-    ensures digits { IfOk result (λ found. IfSome found (λ digits. length digits.items ≡ length word.now)) }
-{
-    if has_digit(word) {
-        return Ok(None);
-    }
-    word_without_digits(alloc, dictionary, left, right, word, behind)
-}
-
-// Returns the digits of a word that has none itself, as `word_unchanged` does.
+// Returns the digits of a word by both levels, before the minima of the whole word; `None` where a pattern counts that may
+// change letters. The word has no digits. `behind` is what stands behind it; `left` and `right` are the least numbers of
+// letters in its parts. The only error is out of memory.
 pub(crate) fn word_without_digits(
     alloc: Global,
     dictionary: &LevelDictionary,
@@ -228,8 +201,8 @@ pub(crate) fn word_without_digits(
     behind: &[u8],
 ) -> Result<Option<Vec<u8>>, AllocError>
     requires { HasNoDigits word.now }
-    ensures found { IfOk result (λ found. IfSome found (λ digits. IsUnchanged
-        (word_found dictionary.now (record { left = left; right = right }) word.now behind.now) digits.items)) }
+    ensures found { IfOk result (λ found. IfSome found
+        (λ digits. IsUnchangedWord dictionary.now left right word.now behind.now digits.items)) }
     ensures digits { IfOk result (λ found. IfSome found (λ digits. length digits.items ≡ length word.now)) }
 {
     let levels = BothLevels {

@@ -8,6 +8,7 @@ ghost use Rattle.libhyphen_rule.specs.Found.{placed, placed_all};
 ghost use Rattle.libhyphen_rule.specs.Words.{begins, change_in_characters, changes_of_characters, characters};
 ghost use Rattle.libhyphen_rule.specs.Words.{digits_beside, digits_of_characters, is_beside, is_last, passed_over};
 ghost use Rattle.libhyphen_rule.specs.Words.{stands_at, with_mark, written_word};
+ghost use Rattle.libhyphen_rule.specs.Private.Occurring.{AreOccurring};
 
 use crate::one_level::PlacedChange;
 use libhyphen_files::bytes::continues;
@@ -41,7 +42,7 @@ fn is_beside(text: &[u8], byte: usize, part: &[u8]) -> bool
 // Returns, for each number of a byte, whether the byte occurs in a text.
 #[inline(always)]
 fn occurring(text: &[u8]) -> [bool; 256]
-    ensures { (b : ℕ) → b < 256 → slice_index_or result b false ≡ list_any (λ byte. byte == b) text.now }
+    ensures { AreOccurring result text.now }
 {
     let mut occurs = [false; 256];
     for byte in text {
@@ -54,8 +55,7 @@ fn occurring(text: &[u8]) -> [bool; 256]
 // the word.
 #[inline(always)]
 fn may_stand(part: &[u8], occurs: &[bool; 256]) -> bool
-    ensures { result ≡ false → (text : List ℕ)
-        → ((b : ℕ) → b < 256 → slice_index_or occurs.now b false ≡ list_any (λ byte. byte == b) text)
+    ensures { result ≡ false → (text : List ℕ) → AreOccurring occurs.now text
         → (byte : ℕ) → is_beside text byte part.now ≡ false }
 {
     match part {

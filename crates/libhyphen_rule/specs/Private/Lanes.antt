@@ -36,3 +36,9 @@ pub record IsPassed (tree : Tree Pattern) (frame : List ℕ) (bytes : ℕ) (pass
   pub seen_lanes : length pass.seen ≡ 16
   pub longest : IsLongest tree.texts (take bytes frame) pass.node
   pub found : AllKnown pass.seen → IsFound (counted_up_to (patterns_of tree) frame bytes) bytes pass.last list
+
+-- One byte more of each frame is read that has this byte next.
+abbrev pub PassesByte : Tree Pattern → ℕ → ℕ → FramePass → List ℕ → FramePass → List ℕ → Type 0
+PassesByte tree at byte pass old passed new =
+    (frame : List ℕ) → at < length frame → byte ≡ slice_index frame at → IsPassed tree frame at pass old
+    → IsPassed tree frame (at + 1) passed new

@@ -1,46 +1,6 @@
-use Rattle.std.proofs.Common.{◌≡◌, ◌∙◌, rules, take, drop, [], w32, to_z, of_z, subst}
-use Rattle.std.specs.Prelude.{ℤ}
-use Rattle.std.specs.Vec.{with_items}
-use Rattle.std.proofs.lemmas.List.{with_items_is}
-use Rattle.libhyphen_files.specs.Bytes.{before_nul}
-use Rattle.libhyphen_rule.specs.Calls.{found_by_call, least_of, at_least_two, part_minima}
-use Rattle.libhyphen_rule.specs.Minima.{digits_but, left_goes, right_goes}
-use Rattle.libhyphen_rule.specs.Parts.{Found, PartMinima, word_found}
-use Rattle.libhyphen_rule.specs.Private.Unchanged.{IsUnchanged}
-use Rattle.libhyphen_rule.proofs.UnchangedCalls.{unchanged_left, unchanged_right}
+use Rattle.std.proofs.Common.{sym, take}
+use Rattle.libhyphen_rule.proofs.UnchangedParts.{no_digits}
 use Rattle.libhyphen_rule.proofs.calls.unchanged_by_call.Goals as goal
 
-pub returns-clause-found : goal.returns-clause-found
-unfolding found_by_call
-returns-clause-found c =
-    let rules_now = c.args.dictionary.now in
-    let given = c.least_of-least.result in
-    let least = least_of rules_now.top.minima c.args.minima in
-    let as_given : (least : ℤ) → ℤ = λ least. to_z w32 (of_z w32 least) in
-    let passed : PartMinima = record { left = as_given given.compound_left; right = as_given given.compound_right } in
-    let digits = c.in-Some.digits.items in
-    let told : IsUnchanged (word_found rules_now passed c.split_at.result.0.now c.split_at.result.1.now) digits =
-    rw c.in-Some.is at c.in_ok-found.ensures.found in
-    let passed_left : as_given given.compound_left ≡ least.compound_left = search rules in
-    let passed_right : as_given given.compound_right ≡ least.compound_right = search rules in
-    let word : c.split_at.result.0.now ≡ take c.args.size c.args.text.now = search rules in
-    let behind : c.split_at.result.1.now ≡ drop c.args.size c.args.text.now = search rules in
-    let utf8 : c.is_utf8-utf8.result ≡ rules_now.utf8 = search rules in
-    let text : c.before_nul-seen.result.now ≡ before_nul c.args.text.now = search rules in
-    let least_left : as_given c.at_least_two-left.result ≡ at_least_two least.left = search rules in
-    let least_right : as_given c.at_least_two-right.result ≡ at_least_two least.right = search rules in
-    let found : IsUnchanged (word_found rules_now (part_minima least) (take c.args.size c.args.text.now) (drop c.args.size c.args.text.now)) digits =
-    subst (λ (f : Found). IsUnchanged f digits)
-    (λ i. word_found rules_now (record { left = passed_left i; right = passed_right i }) (word i) (behind i)) told in
-    let left : c.take_left.new.digits ≡ digits_but (left_goes rules_now.utf8 (at_least_two least.left) (before_nul c.args.text.now) []) digits =
-    c.take_left.ensures.digits
-    ∙ (λ i. digits_but (left_goes (utf8 i) (least_left i) (text i) []) (c.deref_mut.ensures.value i)) in
-    let kept = with_items_is c.in-Some.digits c.take_left.new.digits (c.take_left.auto.digits ∙ c.deref_mut.ensures.len) in
-    let right : c.take_right.new.digits
-    ≡ digits_but (right_goes rules_now.utf8 (at_least_two least.right) (take c.args.size c.args.text.now) (before_nul c.args.text.now) []) c.take_left.new.digits =
-    c.take_right.ensures.digits
-    ∙ (λ i. digits_but (right_goes (utf8 i) (least_right i) (word i) (text i) []) ((c.deref_mut-2.ensures.value ∙ kept) i)) in
-    let kept_again = with_items_is (with_items c.in-Some.digits c.take_left.new.digits) c.take_right.new.digits
-    (c.take_right.auto.digits ∙ c.deref_mut-2.ensures.len) in
-    unchanged_right rules_now.utf8 (at_least_two least.right) (take c.args.size c.args.text.now) (before_nul c.args.text.now) _ _ _
-    (unchanged_left rules_now.utf8 (at_least_two least.left) (before_nul c.args.text.now) _ _ _ found left) (kept_again ∙ right)
+pub digits_by_call-requires-clause-word : goal.digits_by_call-requires-clause-word
+digits_by_call-requires-clause-word c = no_digits (take c.args.size c.args.text.now) (sym c.if-has_digit.ensures)

@@ -7,16 +7,13 @@ use Rattle.libhyphen_rule.specs.Calls.{found_by_call, least_of, at_least_two, pa
 use Rattle.libhyphen_rule.specs.Minima.{digits_but, left_goes, right_goes}
 use Rattle.libhyphen_rule.specs.Parts.{Found, PartMinima, word_found}
 use Rattle.libhyphen_rule.specs.Private.Unchanged.{HasNoDigits, IsUnchanged}
-use Rattle.libhyphen_rule.proofs.OrdinaryWords.{ordinary_digits, ordinary_seen, ordinary_word}
 use Rattle.libhyphen_rule.proofs.UnchangedCalls.{unchanged_left, unchanged_right}
-use Rattle.libhyphen_rule.proofs.ordinary.ordinary_by_call.Goals as goal
+use Rattle.libhyphen_rule.proofs.calls.digits_by_call.Goals as goal
 
 pub word_without_digits-requires : goal.word_without_digits-requires
 word_without_digits-requires c =
-    let rules_now = c.args.dictionary.now in
     let word : c.split_at.result.0.now ≡ take c.args.size c.args.text.now = search rules in
-    subst (λ (xs : List ℕ). HasNoDigits xs) (sym word)
-    (ordinary_digits rules_now (take c.args.size c.args.text.now) (ordinary_word rules_now c.args.text.now c.args.size c.requires.within c.requires.ordinary))
+    subst (λ (xs : List ℕ). HasNoDigits xs) (sym word) c.requires.word
 
 pub returns-clause-found : goal.returns-clause-found
 unfolding found_by_call
@@ -34,7 +31,7 @@ returns-clause-found c =
     let word : c.split_at.result.0.now ≡ take c.args.size c.args.text.now = search rules in
     let behind : c.split_at.result.1.now ≡ drop c.args.size c.args.text.now = search rules in
     let utf8 : c.is_utf8-utf8.result ≡ rules_now.utf8 = search rules in
-    let text : c.args.text.now ≡ before_nul c.args.text.now = sym (ordinary_seen rules_now c.args.text.now c.requires.ordinary) in
+    let text : c.args.seen.now ≡ before_nul c.args.text.now = c.requires.seen in
     let least_left : as_given c.at_least_two-left.result ≡ at_least_two least.left = search rules in
     let least_right : as_given c.at_least_two-right.result ≡ at_least_two least.right = search rules in
     let found : IsUnchanged (word_found rules_now (part_minima least) (take c.args.size c.args.text.now) (drop c.args.size c.args.text.now)) digits =
