@@ -60,6 +60,10 @@ IsOfFirst bytes_of (path ∷ paths) found =
 abbrev pub path_in : List ℕ → List ℕ → List ℕ → List ℕ
 path_in folder name ending = folder ++ (codes "/" ++ (name ++ (codes "." ++ ending)))
 
+-- The paths at which a dictionary of that name may be in a folder: a standard one, then an extended one.
+abbrev pub paths_of_name : List ℕ → List ℕ → List (List ℕ)
+paths_of_name folder name = path_in folder name (codes "txt") ∷ path_in folder name (codes "extended.txt") ∷ []
+
 -- The paths at which a dictionary of that name may be in folders: in each a standard one, then an extended one.
 abbrev pub paths_in : List (List ℕ) → List ℕ → List (List ℕ)
 paths_in [] name = []

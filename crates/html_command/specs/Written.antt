@@ -9,7 +9,7 @@ use Rattle.hyphenation_html.specs.Places.{marked_page, IsDone}
 use Rattle.hyphenation_html.specs.declared.languages.LanguageDictionary.{LanguageDictionary}
 use Rattle.hyphenation_html.specs.declared.settings.Settings.{Settings}
 use Rattle.html_command.specs.declared.TheConstants.{NAME, USAGE}
-use Rattle.html_command.specs.Arguments.{ParsedArgs}
+use Rattle.html_command.specs.Arguments.{ParsedArgs, parsed_args}
 use Rattle.html_command.specs.Dictionaries.{code_of, AreDictionariesFor, HasCodesOf}
 
 -- The text that the arguments ask for by `--help` or `--version`, if they do.
@@ -58,3 +58,9 @@ abbrev pub EndsFor : {W : Type 0} → Option ParsedArgs → (List ℕ → Option
 EndsFor None bytes_of usual status input contents old new = (status ≡ 2) ⊎ (status ≡ 6)
 EndsFor (Some args) bytes_of usual status input contents old new = IsRunStatus status
     × IfSome input (λ page. JudgedAs status page × (status ≡ 0 → WritesPage args bytes_of usual page contents old new))
+
+-- If no help was asked for, the program ends so for its arguments.
+abbrev pub EndsUnlessAsked : {W : Type 0} → List (Bor (List ℕ)) → (List ℕ → Option (Option (List ℕ))) → List (List ℕ) → ℕ
+    → Option (List ℕ) → (W → Option (List ℕ)) → W → W → Type 0
+EndsUnlessAsked args bytes_of usual status input contents old new =
+    asked_text args ≡ None → EndsFor (parsed_args args) bytes_of usual status input contents old new

@@ -5,8 +5,8 @@ ghost use Rattle.std.specs.String.{string_bytes};
 ghost use Rattle.hyphenation_load.specs.Load.{IsNotIo, IsNotOutOfMemory};
 ghost use Rattle.hyphenation_breaks.specs.Borrowed.{texts_now};
 ghost use Rattle.html_command.specs.Dictionaries.{is_extended_head, is_extended, LoadsAny, code_of, BeginsWith, HasCodesOf};
-ghost use Rattle.html_command.specs.Dictionaries.{AreGiven, IsOfFile, IsOfFileIfThere, IsOfFirst, path_in, paths_in, paths_of_code, usual_variant};
-ghost use Rattle.html_command.specs.Dictionaries.{AddsFound, AreDictionariesFor, IsFoundIn};
+ghost use Rattle.html_command.specs.Dictionaries.{AreGiven, IsOfFile, IsOfFileIfThere, IsOfFirst, path_in, paths_of_name, paths_in, paths_of_code};
+ghost use Rattle.html_command.specs.Dictionaries.{usual_variant, AddsFound, AreDictionariesFor, IsFoundIn};
 ghost use Rattle.html_command.specs.Private.Requests.{parsed_dictionary, parsed_request};
 ghost use Rattle.html_command.specs.Private.Statuses.{IsDictionaryFailure};
 
@@ -223,8 +223,7 @@ fn find_in<F: NamedFiles>(
     folder: &str,
     name: &str,
 ) -> Result<Option<AnyDictionary>, Failure>
-    ensures found { IfOk result (λ found. IsOfFirst (F.bytes files.now) (path_in folder.now name.now (codes "txt")
-        ∷ path_in folder.now name.now (codes "extended.txt") ∷ []) found) }
+    ensures found { IfOk result (IsOfFirst (F.bytes files.now) (paths_of_name folder.now name.now)) }
     ensures failure { IfErr result IsDictionaryFailure }
 {
     if let Some(dictionary) = find_ending(files, alloc, folder, name, "txt")? {

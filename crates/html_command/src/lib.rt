@@ -9,8 +9,8 @@ ghost use Rattle.command_line.specs.Statuses.{BeforeOutput};
 ghost use Rattle.html_command.specs.Arguments.{parsed_args};
 ghost use Rattle.hyphenation_breaks.specs.Ascii.{line_feed};
 ghost use Rattle.hyphenation_breaks.specs.Borrowed.{texts_now};
-ghost use Rattle.html_command.specs.Written.{asked_text, WritesPage, EndsFor};
-ghost use Rattle.html_command.specs.Private.Requests.{parsed_request};
+ghost use Rattle.html_command.specs.Written.{asked_text, WritesPage, EndsUnlessAsked};
+ghost use Rattle.html_command.specs.Private.Requests.{parsed_request, WritesPageOf};
 ghost use Rattle.html_command.specs.Private.Statuses.{IsReadingFailure, IsWritingFailure, JudgesPage};
 
 pub mod dictionaries;
@@ -135,9 +135,8 @@ fn run<F: NamedFiles, I: Read, O: Write>(
     output: &mut O,
 ) -> Result<usize, Failure>
     ensures judged { IfSome (I.remaining input.old) (λ page. JudgesPage page result) }
-    ensures written { OnOk result (IfSome (I.remaining input.old)
-        (λ page. WritesPage (parsed_request request.now) (F.bytes files.now) (texts_now folders.now)
-        page O.contents output.old output.new)) }
+    ensures written { OnOk result (WritesPageOf request.now (F.bytes files.now) (texts_now folders.now)
+        (I.remaining input.old) O.contents output.old output.new) }
     ensures untouched { IfErr result (λ failure. (failure ≡ Failure.Writing) ⊎ (output.new ≡ output.old)) }
 {
     let bytes = read_page(alloc, input)?;
@@ -177,9 +176,8 @@ pub fn answer<F: NamedFiles, I: Read, O: Write, E: Write>(
 ) -> u8
     ensures help { WritesHelp NAME.now VERSION.now USAGE.now args.now (Some result) O.contents output.old output.new }
     ensures unread { asked_text args.now ≡ None → parsed_args args.now ≡ None → input.new ≡ input.old }
-    ensures ended { asked_text args.now ≡ None →
-        EndsFor (parsed_args args.now) (F.bytes files.now) (texts_now folders.now) result (I.remaining input.old)
-        O.contents output.old output.new }
+    ensures ended { EndsUnlessAsked args.now (F.bytes files.now) (texts_now folders.now) result
+        (I.remaining input.old) O.contents output.old output.new }
     ensures untouched { BeforeOutput result (output.new ≡ output.old) }
 {
     if let Some(status) = write_help_or_version(NAME, USAGE, args, output) {

@@ -1,5 +1,6 @@
 -- How a run of the program `hyphenate` ends, and the status of each end.
 use Rattle.std.specs.Prelude.{◌≡◌, ℕ, List, [], Result, Ok, Err, Option, IfErr, IfSome}
+use Rattle.std.specs.Borrow.{Bor}
 use Rattle.hyphenation.specs.Engine.{IsScoreError, JudgesDictionary, JudgesEdits, JudgesText, BeforeReading, IfBothKnown, breaks_by, score_by}
 use Rattle.command_line.specs.Files.{known_bytes}
 use Rattle.hyphenation_hyphenator.specs.Hyphenated.{hyphenated_text}
@@ -9,7 +10,7 @@ use Rattle.hyphenation_grammar.specs.declared.form.Kind.{Kind}
 use Rattle.hyphenation.specs.declared.engine.RunError.{RunError}
 use Rattle.hyphenation.specs.declared.engine.RunError.TheVariants.{Dictionary, Edit, TextNotUtf8, Input, Output, Memory}
 use Rattle.hyphenation_grammar.specs.declared.form.Kind.TheVariants.{Standard}
-use Rattle.hyphenate_command.specs.Arguments.{ParsedArgs, ParsedTask, score, text, lines}
+use Rattle.hyphenate_command.specs.Arguments.{ParsedArgs, ParsedTask, score, text, lines, parsed_args}
 
 -- The status of a run.
 -- 0: done. 2: an edit is refused. 3: the dictionary can't be opened, read or accepted, or is of another language.
@@ -52,6 +53,12 @@ abbrev pub WritesFor : {W : Type 0} → ParsedArgs → (List ℕ → Option (Opt
     → (W → Option (List ℕ)) → W → W → Type 0
 WritesFor parsed bytes_of input contents old new =
     WritesTask parsed.task (known_bytes (bytes_of parsed.path)) input contents old new
+
+-- The same for the arguments of a command line, if they have a form.
+abbrev pub WritesAnswer : {W : Type 0} → List (Bor (List ℕ)) → (List ℕ → Option (Option (List ℕ))) → Option (List ℕ)
+    → (W → Option (List ℕ)) → W → W → Type 0
+WritesAnswer args bytes_of input contents old new =
+    IfSome (parsed_args args) (λ parsed. WritesFor parsed bytes_of input contents old new)
 
 -- The file at the path of the arguments is judged as a dictionary of the kind and the language that they name.
 abbrev pub JudgesFile : ParsedArgs → (List ℕ → Option (Option (List ℕ))) → Result (Unit {0}) RunError → Type 0

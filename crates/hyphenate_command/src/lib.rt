@@ -9,7 +9,7 @@ ghost use Rattle.std.specs.IoError.{error_kind};
 ghost use Rattle.hyphenation.specs.Engine.{BeforeWriting, IsUnwritten};
 ghost use Rattle.command_line.specs.Statuses.{BeforeOutput};
 ghost use Rattle.hyphenate_command.specs.Arguments.{parsed_args, score_args, text_args, lines_args};
-ghost use Rattle.hyphenate_command.specs.Statuses.{status_of, EndsFor, BeforeText, EndsWith, JudgesFile, WritesFor};
+ghost use Rattle.hyphenate_command.specs.Statuses.{status_of, EndsFor, BeforeText, EndsWith, JudgesFile, WritesFor, WritesAnswer};
 ghost use Rattle.hyphenate_command.specs.Private.Requests.{parsed_task, parsed_request};
 
 use command_line::{NamedFiles, write_message};
@@ -251,8 +251,8 @@ pub fn answer<F: NamedFiles, I: Read, O: Write, E: Write>(
     ensures usage { parsed_args args.now ≡ None → (result ≡ 2) × (input.new ≡ input.old) }
     ensures ended { IfSome (parsed_args args.now) (λ parsed.
         EndsWith parsed (F.bytes files.now) (I.remaining input.old) (input.new ≡ input.old) result) }
-    ensures written { result ≡ 0 → IfSome (parsed_args args.now) (λ parsed.
-        WritesFor parsed (F.bytes files.now) (I.remaining input.old) O.contents output.old output.new) }
+    ensures written { result ≡ 0 → WritesAnswer args.now (F.bytes files.now) (I.remaining input.old) O.contents
+        output.old output.new }
     ensures there { result ≡ 0 → IfSome (parsed_args args.now) (λ parsed. F.bytes files.now parsed.path ≢ Some None) }
     ensures untouched { BeforeOutput result (output.new ≡ output.old) }
     ensures appends_some_text { result ≡ 0 → (text : List ℕ) × AppendsTo O.contents output.old output.new text }

@@ -1,4 +1,4 @@
--- What a run says, where the bytes of a file are known.
+-- The clauses of a run, where the bytes of a file are known.
 use Rattle.std.proofs.Common.{◌≡◌, ℕ, List, sym, subst}
 use Rattle.std.specs.Prelude.{Option, Some, None, Result, Ok, Err, OnOk, IfErr, IfSome}
 use Rattle.lines_command.specs.Arguments.{ParsedArgs}
@@ -13,7 +13,7 @@ pub same_bytes : (known left : Option (List ℕ)) (bytes : List ℕ) → IfSome 
 same_bytes None left bytes e read = tt
 same_bytes (Some k) left bytes e read = subst (λ l. IfSome l (λ k. bytes ≡ k)) e read
 
--- What is written by a reader is by the bytes of its file.
+-- Lines that are written by a reader are by the bytes of its file.
 pub writes_by_known : {W : Type 0} → (known left input : Option (List ℕ)) (result : Result (Unit {0}) Failure) (parsed : ParsedArgs)
     (contents : W → Option (List ℕ)) (old new : W) → IfSome known (λ k. left ≡ Some k)
     → OnOk result (WritesLines parsed left input contents old new) → OnOk result (WritesLines parsed known input contents old new)

@@ -3,7 +3,9 @@ use Rattle.std.specs.Prelude.{◌≡◌, ◌≢◌, ◌⊎◌, ◌||◌, ℕ, Bo
 use Rattle.std.specs.Borrow.{Bor}
 use Rattle.std.specs.Io.KnownBytes.{Appends}
 use Rattle.std.specs.List.{flat_map}
+use Rattle.command_line.specs.About.{help_or_version}
 use Rattle.command_line.specs.Files.{known_bytes}
+use Rattle.command_line.specs.declared.TheConstants.{VERSION}
 use Rattle.hyphenation_breaks.specs.Break.{Break}
 use Rattle.hyphenation_grammar.specs.Form.{head_of}
 use Rattle.hyphenation_grammar.specs.Judging.{refusal_of}
@@ -19,6 +21,11 @@ use Rattle.paragraphs.specs.Pages.{IsPage, HasTooLong}
 use Rattle.paragraphs.specs.Parts.{ArePlain}
 use Rattle.paragraphs.specs.Paragraphs.{ended, paragraphs}
 use Rattle.lines_command.specs.Arguments.{ParsedArgs, parsed_args, style_for, aim_for}
+use Rattle.lines_command.specs.declared.TheConstants.{NAME, USAGE}
+
+-- The text that the arguments ask for by `--help` or `--version`, if they do.
+abbrev pub asked_text : List (Bor (List ℕ)) → Option (List ℕ)
+asked_text args = help_or_version NAME.now VERSION.now USAGE.now args
 
 -- The line is the head of an extended dictionary.
 abbrev pub is_extended_head : List ℕ → Bool
@@ -66,11 +73,17 @@ abbrev pub WritesLines : {W : Type 0} → ParsedArgs → Option (List ℕ) → O
 WritesLines parsed dictionary input contents old new =
     (page : List ℕ) × ReturnsLines parsed dictionary input page × Appends (contents old) (contents new) page
 
+-- The same, by the file at the path of the arguments.
+abbrev pub WritesByFile : {W : Type 0} → ParsedArgs → (List ℕ → Option (Option (List ℕ))) → Option (List ℕ)
+    → (W → Option (List ℕ)) → W → W → Type 0
+WritesByFile parsed bytes_of input contents old new =
+    WritesLines parsed (known_bytes (bytes_of parsed.path)) input contents old new
+
 -- The lines that the arguments ask for were appended to an output, by the dictionary that the bytes of their path give.
 abbrev pub WritesFor : {W : Type 0} → List (Bor (List ℕ)) → (List ℕ → Option (Option (List ℕ))) → Option (List ℕ)
     → (W → Option (List ℕ)) → W → W → Type 0
 WritesFor args bytes_of input contents old new = (parsed : ParsedArgs) × (parsed_args args ≡ Some parsed)
-    × (bytes_of parsed.path ≢ Some None) × WritesLines parsed (known_bytes (bytes_of parsed.path)) input contents old new
+    × (bytes_of parsed.path ≢ Some None) × WritesByFile parsed bytes_of input contents old new
 
 -- A paragraph of a text is too long, by the dictionary of that kind that bytes give. The text is that of the input, if it
 -- is known, and is UTF-8. The dictionary is of the language that the arguments name.

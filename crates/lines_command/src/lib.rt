@@ -4,13 +4,13 @@
 #![tactic(auto)]
 
 ghost use Rattle.std.specs.Prelude.{◌≡◌, ◌≢◌, ◌⊎◌, None, Some, OnOk, IfErr};
-ghost use Rattle.command_line.specs.About.{help_or_version as asked, WritesHelp};
+ghost use Rattle.command_line.specs.About.{WritesHelp};
 ghost use Rattle.command_line.specs.Files.{known_bytes};
 ghost use Rattle.command_line.specs.Statuses.{BeforeOutput};
 ghost use Rattle.lines_command.specs.Arguments.{parsed_args};
 ghost use Rattle.lines_command.specs.Private.Requests.{parsed_request};
 ghost use Rattle.lines_command.specs.Private.Statuses.{status_of, JudgesDictionary, JudgesInputOf, BeforeReading};
-ghost use Rattle.lines_command.specs.Written.{WritesLines, WritesFor, RefusesInput, IsExitStatus};
+ghost use Rattle.lines_command.specs.Written.{asked_text, WritesByFile, WritesFor, RefusesInput, IsExitStatus};
 ghost use Rattle.lines_command.specs.Written.{OnNoForm, OnDone, OnRefusedDictionary, OnRefusedInput};
 
 mod request;
@@ -42,8 +42,8 @@ fn run_request<F: NamedFiles, I: Read, O: Write>(
 ) -> Result<(), Failure>
     ensures dictionary { JudgesDictionary (parsed_request request.now)
         (known_bytes (F.bytes files.now request.now.path.now)) result }
-    ensures written { OnOk result (WritesLines (parsed_request request.now)
-        (known_bytes (F.bytes files.now request.now.path.now)) (I.remaining input.old) O.contents output.old output.new) }
+    ensures written { OnOk result (WritesByFile (parsed_request request.now) (F.bytes files.now)
+        (I.remaining input.old) O.contents output.old output.new) }
     ensures there { OnOk result (F.bytes files.now request.now.path.now ≢ Some None) }
     ensures input { IfErr result (JudgesInputOf (parsed_request request.now)
         (known_bytes (F.bytes files.now request.now.path.now)) (I.remaining input.old)) }
@@ -117,15 +117,13 @@ pub fn answer<F: NamedFiles, I: Read, O: Write, E: Write>(
     errors: &mut E,
 ) -> u8
     ensures help { WritesHelp NAME.now VERSION.now USAGE.now args.now (Some result) O.contents output.old output.new }
-    ensures usage { OnNoForm (asked NAME.now VERSION.now USAGE.now args.now) (parsed_args args.now)
-        ((result ≡ 2) × (input.new ≡ input.old)) }
-    ensures written { OnDone (asked NAME.now VERSION.now USAGE.now args.now) result
+    ensures usage { OnNoForm (asked_text args.now) (parsed_args args.now) ((result ≡ 2) × (input.new ≡ input.old)) }
+    ensures written { OnDone (asked_text args.now) result
         (WritesFor args.now (F.bytes files.now) (I.remaining input.old) O.contents output.old output.new) }
-    ensures unread { OnRefusedDictionary (asked NAME.now VERSION.now USAGE.now args.now) result
-        (input.new ≡ input.old) }
-    ensures refused_input { OnRefusedInput (asked NAME.now VERSION.now USAGE.now args.now) result
+    ensures unread { OnRefusedDictionary (asked_text args.now) result (input.new ≡ input.old) }
+    ensures refused_input { OnRefusedInput (asked_text args.now) result
         (RefusesInput args.now (F.bytes files.now) (I.remaining input.old)) }
-    ensures exit_status { asked NAME.now VERSION.now USAGE.now args.now ≡ None → IsExitStatus result }
+    ensures exit_status { asked_text args.now ≡ None → IsExitStatus result }
     ensures untouched { BeforeOutput result (output.new ≡ output.old) }
 {
     if let Some(status) = write_help_or_version(NAME, USAGE, args, output) {

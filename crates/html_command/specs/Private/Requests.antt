@@ -1,6 +1,7 @@
 -- How a request in code stands for parsed arguments.
-use Rattle.std.specs.Prelude.{◌≡◌, ℕ, Bool, true, false, List, map, Option, None, Some, option_map}
+use Rattle.std.specs.Prelude.{◌≡◌, ℕ, Bool, true, false, List, map, Option, None, Some, IfSome, option_map}
 use Rattle.html_command.specs.Arguments.{ParsedArgs}
+use Rattle.html_command.specs.Written.{WritesPage}
 use Rattle.html_command.specs.declared.request.GivenDictionary.{GivenDictionary}
 use Rattle.html_command.specs.declared.request.Request.{Request}
 
@@ -24,3 +25,9 @@ parsed_request request = record {
 abbrev pub IsTaken : Bool → Option ParsedArgs → ParsedArgs → Type 0
 IsTaken true wanted found = wanted ≡ Some found
 IsTaken false wanted found = wanted ≡ None
+
+-- If the bytes of the page are known, it was appended with its marks, as a request asks for it.
+abbrev pub WritesPageOf : {W : Type 0} → Request → (List ℕ → Option (Option (List ℕ))) → List (List ℕ) → Option (List ℕ)
+    → (W → Option (List ℕ)) → W → W → Type 0
+WritesPageOf request bytes_of usual input contents old new =
+    IfSome input (λ page. WritesPage (parsed_request request) bytes_of usual page contents old new)
