@@ -1,9 +1,9 @@
--- What is known of files, and what a list of files holds.
+-- The bytes of files that are known, and the files that a list holds.
 use Rattle.std.specs.Prelude.{ℕ, List, [], ◌∷◌, if◌then◌else◌, Option, Some, None}
 use Rattle.std.specs.Borrow.{Bor}
 use Rattle.hyphenation_grammar.specs.Lines.{is_same}
 
--- The bytes of a file, if they are known. What is known of it is nothing, or that there is none, or its bytes.
+-- The bytes of a file, if they are known. Else nothing is known of it, or it is known that there is none.
 abbrev pub known_bytes : Option (Option (List ℕ)) → Option (List ℕ)
 known_bytes (Some known) = known
 known_bytes None = None

@@ -10,8 +10,8 @@ use std::{fs, io};
 
 /// Files that can be opened by their paths.
 ///
-/// What is known of the file at a path is said by `bytes`: `None` if nothing is known, `Some None` if there is no such
-/// file, and else `Some (Some bytes)`.
+/// `bytes` says what is known of the file at a path: `None` if nothing is known, `Some None` if there is no such file,
+/// and else `Some (Some bytes)`.
 pub trait NamedFiles {
     /// A file that was opened.
     type File: Read + Drop;
@@ -36,7 +36,7 @@ pub trait NamedFiles {
             error_kind e ≢ ErrorKind.NotFound)) };
 }
 
-// Of the files of a runtime nothing is known.
+// Nothing is known of the files of a runtime.
 impl<F: Files> NamedFiles for F {
     type File = F::File;
 

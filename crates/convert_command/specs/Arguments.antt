@@ -3,8 +3,15 @@ use Rattle.std.specs.Prelude.{◌≡◌, ◌==◌, ℕ, Bool, false, List, [], �
 use Rattle.std.specs.Borrow.{Bor}
 use Rattle.std.specs.List.{ends_with}
 use Rattle.std.specs.Str.Parse.{digits_value, without_leading_plus}
+use Rattle.command_line.specs.About.{help_or_version}
+use Rattle.command_line.specs.declared.TheConstants.{VERSION}
 use Rattle.hyphenation_grammar.specs.Form.{kind_of_name}
 use Rattle.hyphenation_grammar.specs.declared.form.Kind.{Kind}
+use Rattle.convert_command.specs.declared.TheConstants.{NAME, USAGE}
+
+-- The text that the arguments ask for by `--help` or `--version`, if they do.
+abbrev pub asked_text : List (Bor (List ℕ)) → Option (List ℕ)
+asked_text args = help_or_version NAME.now VERSION.now USAGE.now args
 
 -- Arguments: the kind of the dictionary, the code of its language, the minima that are given, and the paths of files.
 pub record ParsedArgs : Type 0 where

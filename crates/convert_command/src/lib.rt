@@ -4,11 +4,12 @@
 #![tactic(auto)]
 
 ghost use Rattle.std.specs.Prelude.{◌≡◌, ◌≢◌, ◌⊎◌, ◌∷◌, ◌++◌, [], false, None, Some, OnOk, IfOk, IfErr, map, slice_index_or};
-ghost use Rattle.command_line.specs.About.{help_or_version, WritesHelp};
+ghost use Rattle.command_line.specs.About.{WritesHelp};
 ghost use Rattle.command_line.specs.Statuses.{BeforeOutput};
 ghost use Rattle.hyphenation_load.specs.Load.{AppendsTo};
-ghost use Rattle.convert_command.specs.Written.{IsFor, AreBytesOf, AreBytesAt, IsMadeOf, WritesParsed, WritesFor, IsExitStatus};
-ghost use Rattle.convert_command.specs.Private.Requests.{parsed_request, is_dic};
+ghost use Rattle.convert_command.specs.Arguments.{asked_text};
+ghost use Rattle.convert_command.specs.Written.{IsFor, AreBytesOf, AreBytesAt, WritesParsed, WritesFor, IsExitStatus};
+ghost use Rattle.convert_command.specs.Private.Requests.{parsed_request, is_dic, IsMadeFor};
 ghost use Rattle.convert_command.specs.Private.Statuses.{IsStatusOf, MissesMinima};
 
 mod request;
@@ -141,8 +142,8 @@ fn convert_tex<C: Payload, B: Listing>(
 ) -> Result<Converted<C, B>, Failure>
     ensures as_asked { IfOk result (λ found.
         IsFor request.now.language request.now.left request.now.right found.dictionary) }
-    ensures of_files { IfOk result (λ found. IsMadeOf C.change_of C.payload_of B.listing_of false request.now.language
-        request.now.left request.now.right (map (λ one. one.items) bytes.now) found.dictionary) }
+    ensures of_files { IfOk result (λ found. IsMadeFor C.change_of C.payload_of B.listing_of false request.now bytes.now
+        found.dictionary) }
     ensures misses_minima { IfErr result (MissesMinima request.now.left request.now.right) }
 {
     let files = with_forms(alloc, request.paths, bytes)?;
@@ -175,8 +176,8 @@ fn convert_files<C: Payload, B: Listing>(
 ) -> Result<Converted<C, B>, Failure>
     ensures as_asked { IfOk result (λ found.
         IsFor request.now.language request.now.left request.now.right found.dictionary) }
-    ensures of_files { IfOk result (λ found. IsMadeOf C.change_of C.payload_of B.listing_of (is_dic request.now.input)
-        request.now.language request.now.left request.now.right (map (λ one. one.items) bytes.now) found.dictionary) }
+    ensures of_files { IfOk result (λ found. IsMadeFor C.change_of C.payload_of B.listing_of (is_dic request.now.input)
+        request.now bytes.now found.dictionary) }
     ensures misses_minima { IfErr result (MissesMinima request.now.left request.now.right) }
 {
     match request.input {
@@ -368,9 +369,9 @@ pub fn answer<F: NamedFiles, O: Write, E: Write>(
     errors: &mut E,
 ) -> u8
     ensures help { WritesHelp NAME.now VERSION.now USAGE.now args.now (Some result) O.contents output.old output.new }
-    ensures written { help_or_version NAME.now VERSION.now USAGE.now args.now ≡ None → result ≡ 0 →
+    ensures written { asked_text args.now ≡ None → result ≡ 0 →
         WritesFor args.now (F.bytes files.now) O.contents output.old output.new }
-    ensures exit_status { help_or_version NAME.now VERSION.now USAGE.now args.now ≡ None → IsExitStatus result }
+    ensures exit_status { asked_text args.now ≡ None → IsExitStatus result }
     ensures untouched { BeforeOutput result (output.new ≡ output.old) }
 {
     if let Some(status) = write_help_or_version(NAME, USAGE, args, output) {

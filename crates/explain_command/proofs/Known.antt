@@ -1,4 +1,4 @@
--- What a run writes, where the bytes of a file are known.
+-- The text that a run writes, where the bytes of a file are known.
 use Rattle.std.proofs.Common.{◌≡◌, ℕ, List, subst}
 use Rattle.std.specs.Prelude.{Option, Some, None, Result, Ok, Err, OnOk, IfSome}
 use Rattle.hyphenation.specs.declared.engine.RunError.{RunError}

@@ -1,12 +1,19 @@
 -- How the program `hyphenate-explain` reads its arguments.
 use Rattle.std.specs.Prelude.{ℕ, List, [], ◌∷◌, codes, if◌then◌else◌, map, Option, Some, None, option_and_then}
 use Rattle.std.specs.Borrow.{Bor}
+use Rattle.command_line.specs.About.{help_or_version}
+use Rattle.command_line.specs.declared.TheConstants.{VERSION}
 use Rattle.hyphenation_breaks.specs.Language.{is_code}
 use Rattle.hyphenation_grammar.specs.Form.{kind_of_name}
 use Rattle.hyphenation_grammar.specs.Lines.{is_same}
 use Rattle.hyphenation_grammar.specs.declared.form.Kind.{Kind}
 use Rattle.explanations.specs.declared.style.Style.{Style}
 use Rattle.explanations.specs.declared.style.Style.TheVariants.{Picture, Lines, Svg}
+use Rattle.explain_command.specs.declared.TheConstants.{NAME, USAGE}
+
+-- The text that the arguments ask for by `--help` or `--version`, if they do.
+abbrev pub asked_text : List (Bor (List ℕ)) → Option (List ℕ)
+asked_text args = help_or_version NAME.now VERSION.now USAGE.now args
 
 -- Arguments: the style, the kind of the dictionary, the code of its language, its path, and words.
 pub record ParsedArgs : Type 0 where

@@ -20,7 +20,7 @@ use Rattle.explanations.specs.Svg.{Drawn, document_of}
 use Rattle.explanations.specs.Texts.{Explains, IsDrawn}
 use Rattle.explanations.specs.declared.style.Style.{Style}
 use Rattle.explanations.specs.declared.style.Style.TheVariants.{Picture, Lines, Svg}
-use Rattle.explain_command.specs.Arguments.{ParsedArgs}
+use Rattle.explain_command.specs.Arguments.{ParsedArgs, parsed_args}
 
 -- The text has a text for each word, which explains it, in the order of the words, and an empty line between two.
 abbrev pub AreJoined : (List ℕ → List ℕ → Type 0) → List (List ℕ) → List ℕ → Type 0
@@ -49,6 +49,13 @@ ExplainsWords explains [] input text = (words : List (Bor (List ℕ)))
     × IfSome input (λ bytes. AreWordsOf bytes words) × explains (texts_now words) text
 ExplainsWords explains (word ∷ words) input text = explains (word ∷ words) text
 
+-- The text explains in this style the given words or, without any, those of the input. `explains` explains a word, and
+-- `draws` draws it.
+abbrev pub ExplainsGiven : (Style → List ℕ → List ℕ → Type 0) → (List ℕ → Drawn → Type 0) → Style → List (Bor (List ℕ))
+    → Option (List ℕ) → List ℕ → Type 0
+ExplainsGiven explains draws style words input text =
+    ExplainsWords (AreExplained explains draws style) (texts_now words) input text
+
 -- The text explains a word by the dictionary of that kind that bytes give.
 abbrev pub explains_by : Kind → List ℕ → Style → List ℕ → List ℕ → Type 0
 explains_by Standard bytes style word text = Explains no_change plain_break (standard_contents bytes) style word
@@ -75,8 +82,20 @@ abbrev pub WritesExplained : {W : Type 0} → Kind → Style → List (List ℕ)
 WritesExplained kind style words dictionary input contents old new =
     (text : List ℕ) × ExplainsBy kind style words dictionary input text × AppendsTo contents old new text
 
--- What the arguments ask for was appended, by the file at their path.
+-- Such a text for the given words was appended to the contents of a writer.
+abbrev pub WritesGiven : {W : Type 0} → Kind → Style → List (Bor (List ℕ)) → Option (List ℕ) → Option (List ℕ)
+    → (W → Option (List ℕ)) → W → W → Type 0
+WritesGiven kind style words dictionary input contents old new =
+    WritesExplained kind style (texts_now words) dictionary input contents old new
+
+-- The text that parsed arguments ask for was appended, by the file at their path.
 abbrev pub WritesFor : {W : Type 0} → ParsedArgs → (List ℕ → Option (Option (List ℕ))) → Option (List ℕ)
     → (W → Option (List ℕ)) → W → W → Type 0
 WritesFor parsed bytes_of input contents old new = WritesExplained parsed.kind parsed.style parsed.words
     (known_bytes (bytes_of parsed.path)) input contents old new
+
+-- If the arguments have a form, the text that they ask for was appended.
+abbrev pub WritesAsked : {W : Type 0} → List (Bor (List ℕ)) → (List ℕ → Option (Option (List ℕ))) → Option (List ℕ)
+    → (W → Option (List ℕ)) → W → W → Type 0
+WritesAsked args bytes_of input contents old new =
+    IfSome (parsed_args args) (λ parsed. WritesFor parsed bytes_of input contents old new)

@@ -1,7 +1,8 @@
 -- How a run of the program `hyphenate-explain` ends, and the status of each end.
-use Rattle.std.specs.Prelude.{◌≡◌, ℕ, List, [], ◌∷◌, Result, Ok, Err, Option, ⊤}
+use Rattle.std.specs.Prelude.{◌≡◌, ℕ, List, [], ◌∷◌, Result, Ok, Err, Option, IfSome, ⊤}
+use Rattle.std.specs.Borrow.{Bor}
 use Rattle.command_line.specs.Files.{known_bytes}
-use Rattle.explain_command.specs.Arguments.{ParsedArgs}
+use Rattle.explain_command.specs.Arguments.{ParsedArgs, parsed_args}
 use Rattle.hyphenation.specs.Engine.{JudgesDictionary, JudgesText, BeforeReading}
 use Rattle.hyphenation.specs.declared.engine.RunError.{RunError}
 use Rattle.hyphenation.specs.declared.engine.RunError.TheVariants.{Dictionary, Edit, TextNotUtf8, Input, Output, Memory}
@@ -38,3 +39,8 @@ JudgesFile parsed bytes_of ended =
 abbrev pub EndsWith : ParsedArgs → (List ℕ → Option (Option (List ℕ))) → Option (List ℕ) → Type 0 → ℕ → Type 0
 EndsWith parsed bytes_of input unread status = (ended : Result (Unit {0}) RunError) × (status ≡ status_of ended)
     × JudgesFile parsed bytes_of ended × EndsFor parsed.words input unread ended
+
+-- If the arguments have a form, the status is that of such an end.
+abbrev pub EndsAsAsked : List (Bor (List ℕ)) → (List ℕ → Option (Option (List ℕ))) → Option (List ℕ) → Type 0 → ℕ → Type 0
+EndsAsAsked args bytes_of input unread status =
+    IfSome (parsed_args args) (λ parsed. EndsWith parsed bytes_of input unread status)

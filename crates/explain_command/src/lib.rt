@@ -8,11 +8,11 @@ ghost use Rattle.std.specs.IoError.{error_kind};
 ghost use Rattle.hyphenation_load.specs.Load.{AppendsTo};
 ghost use Rattle.hyphenation.specs.Engine.{BeforeWriting, IsUnwritten};
 ghost use Rattle.hyphenation_breaks.specs.Borrowed.{texts_now};
-ghost use Rattle.command_line.specs.About.{help_or_version, WritesHelp};
+ghost use Rattle.command_line.specs.About.{WritesHelp};
 ghost use Rattle.command_line.specs.Statuses.{BeforeOutput};
-ghost use Rattle.explain_command.specs.Arguments.{parsed_args};
-ghost use Rattle.explain_command.specs.Explained.{WritesFor};
-ghost use Rattle.explain_command.specs.Statuses.{status_of, EndsFor, EndsWith, JudgesFile};
+ghost use Rattle.explain_command.specs.Arguments.{asked_text, parsed_args};
+ghost use Rattle.explain_command.specs.Explained.{WritesFor, WritesAsked};
+ghost use Rattle.explain_command.specs.Statuses.{status_of, EndsFor, EndsAsAsked, JudgesFile};
 ghost use Rattle.explain_command.specs.Private.Requests.{parsed_request};
 
 mod request;
@@ -139,17 +139,13 @@ pub fn answer<F: NamedFiles, I: Read, O: Write, E: Write>(
     errors: &mut E,
 ) -> u8
     ensures help { WritesHelp NAME.now VERSION.now USAGE.now args.now (Some result) O.contents output.old output.new }
-    ensures usage { help_or_version NAME.now VERSION.now USAGE.now args.now ≡ None → parsed_args args.now ≡ None →
+    ensures usage { asked_text args.now ≡ None → parsed_args args.now ≡ None →
         (result ≡ 2) × (input.new ≡ input.old) }
-    ensures ended { help_or_version NAME.now VERSION.now USAGE.now args.now ≡ None →
-        IfSome (parsed_args args.now) (λ parsed.
-        EndsWith parsed (F.bytes files.now) (I.remaining input.old)
-        (input.new ≡ input.old) result) }
-    ensures written { help_or_version NAME.now VERSION.now USAGE.now args.now ≡ None → result ≡ 0 →
-        IfSome (parsed_args args.now) (λ parsed.
-        WritesFor parsed (F.bytes files.now) (I.remaining input.old)
-        O.contents output.old output.new) }
-    ensures there { help_or_version NAME.now VERSION.now USAGE.now args.now ≡ None → result ≡ 0 →
+    ensures ended { asked_text args.now ≡ None →
+        EndsAsAsked args.now (F.bytes files.now) (I.remaining input.old) (input.new ≡ input.old) result }
+    ensures written { asked_text args.now ≡ None → result ≡ 0 →
+        WritesAsked args.now (F.bytes files.now) (I.remaining input.old) O.contents output.old output.new }
+    ensures there { asked_text args.now ≡ None → result ≡ 0 →
         IfSome (parsed_args args.now) (λ parsed. F.bytes files.now parsed.path ≢ Some None) }
     ensures untouched { BeforeOutput result (output.new ≡ output.old) }
     ensures appends_some_text { result ≡ 0 → (text : List ℕ) × AppendsTo O.contents output.old output.new text }

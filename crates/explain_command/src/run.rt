@@ -1,14 +1,12 @@
 //! A run, from the bytes of a dictionary to the text that is written.
 
-ghost use Rattle.std.specs.Prelude.{◌≡◌, ◌++◌, ℕ, List, IfErr, IfOk, IfSome, OnOk, map};
-ghost use Rattle.std.specs.Borrow.{Bor};
+ghost use Rattle.std.specs.Prelude.{◌≡◌, ◌++◌, ℕ, List, [], IfErr, IfOk, OnOk, map};
 ghost use Rattle.std.specs.List.{AllZip};
 ghost use Rattle.hyphenation_load.specs.Load.{AppendsTo};
 ghost use Rattle.hyphenation.specs.Engine.{BeforeWriting, JudgesDictionary, IsUnwritten, IsTextError, JudgesText};
 ghost use Rattle.hyphenation_breaks.specs.Borrowed.{texts_now};
 ghost use Rattle.explanations.specs.Drawings.{drawn};
-ghost use Rattle.explain_command.specs.Explained.{AreWordsOf, AreDrawn, AreExplained, AreJoined, ExplainsWords, ExplainsBy};
-ghost use Rattle.explain_command.specs.Explained.{WritesExplained};
+ghost use Rattle.explain_command.specs.Explained.{AreDrawn, AreExplained, AreJoined, ExplainsBy, ExplainsGiven, WritesGiven};
 ghost use Rattle.explain_command.specs.Private.Joined.{gap_before};
 ghost use Rattle.explain_command.specs.Statuses.{EndsFor};
 
@@ -102,8 +100,7 @@ fn explained_input<D: Explain, I: Read>(
     ensures judged { JudgesText (I.remaining input.old) result }
     ensures text_error { IfErr result IsTextError }
     ensures text { IfOk result (λ text.
-        (words : List (Bor (List ℕ))) × IfSome (I.remaining input.old) (λ bytes. AreWordsOf bytes words)
-        × AreExplained (D.explains dictionary.now) (D.draws dictionary.now) style (texts_now words) text.items) }
+        ExplainsGiven (D.explains dictionary.now) (D.draws dictionary.now) style [] (I.remaining input.old) text.items) }
 {
     let text = read_input(alloc, input)?;
     let words: Vec<&str> = text.split_whitespace().collect(alloc)?;
@@ -121,8 +118,8 @@ fn explained_words<D: Explain, I: Read>(
     ensures ended { EndsFor (texts_now words.now) (I.remaining input.old) (input.new ≡ input.old) result }
     ensures text_error { IfErr result IsTextError }
     ensures text { IfOk result (λ text.
-        ExplainsWords (AreExplained (D.explains dictionary.now) (D.draws dictionary.now) style)
-        (texts_now words.now) (I.remaining input.old) text.items) }
+        ExplainsGiven (D.explains dictionary.now) (D.draws dictionary.now) style words.now
+        (I.remaining input.old) text.items) }
 {
     if words.is_empty() {
         return explained_input(alloc, dictionary, style, input);
@@ -217,7 +214,7 @@ pub fn run_explain<D: Read, I: Read, O: Write>(
 ) -> Result<(), RunError>
     ensures dictionary { JudgesDictionary kind lang (D.remaining dictionary.old) result }
     ensures ended { EndsFor (texts_now words.now) (I.remaining input.old) (input.new ≡ input.old) result }
-    ensures written { OnOk result (WritesExplained kind style (texts_now words.now) (D.remaining dictionary.old)
+    ensures written { OnOk result (WritesGiven kind style words.now (D.remaining dictionary.old)
         (I.remaining input.old) O.contents output.old output.new) }
     ensures appends_some_text { OnOk result ((text : List ℕ) × AppendsTo O.contents output.old output.new text) }
     ensures untouched { BeforeWriting result (output.new ≡ output.old) }

@@ -1,6 +1,10 @@
 -- How a request in code stands for parsed arguments.
-use Rattle.std.specs.Prelude.{Bool, true, false, map}
+use Rattle.std.specs.Prelude.{ℕ, Bool, true, false, List, map, Option}
+use Rattle.std.specs.declared.vec.Vec.{Vec}
+use Rattle.hyphenation_breaks.specs.Break.{Break, Change}
+use Rattle.hyphenation_breaks.specs.Dictionary.{Contents}
 use Rattle.convert_command.specs.Arguments.{ParsedArgs}
+use Rattle.convert_command.specs.Written.{IsMadeOf}
 use Rattle.convert_command.specs.declared.request.Input.{Input}
 use Rattle.convert_command.specs.declared.request.Input.TheVariants.{Dic, Tex}
 use Rattle.convert_command.specs.declared.request.Request.{Request}
@@ -19,3 +23,9 @@ parsed_request request = record {
 abbrev pub is_dic : Input → Bool
 is_dic Dic = true
 is_dic Tex = false
+
+-- A dictionary is that of files with these bytes, for the language and the minima of a request.
+abbrev pub IsMadeFor : {C B Y : Type 0} → (C → Option Change) → (Option Change → C) → (Break → B) → Bool → Request
+    → List (Vec ℕ Y) → Contents C B → Type 0
+IsMadeFor change_of payload_of listing_of is_one_dic request files dictionary = IsMadeOf change_of payload_of listing_of
+    is_one_dic request.language request.left request.right (map (λ one. one.items) files) dictionary
