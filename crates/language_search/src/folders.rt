@@ -89,8 +89,8 @@ fn push_folders_of_system(alloc: Global, folders: &mut Vec<String>) -> Result<()
 /// Then come `/usr/local/share/hyphenation` and `/usr/share/hyphenation`. The error says that memory was refused.
 ///
 /// ```text
-/// folders_of(alloc, "/a::/b", "", "/home/ada")?
-/// // /a, /b, /home/ada/.local/share/hyphenation, /usr/local/share/hyphenation, /usr/share/hyphenation
+/// folders_of(alloc, "/a::/b", "", "/users/ada")?
+/// // /a, /b, /users/ada/.local/share/hyphenation, /usr/local/share/hyphenation, /usr/share/hyphenation
 /// ```
 pub fn folders_of(
     alloc: Global,

@@ -5,14 +5,14 @@
 //! [`codes_of`] and [`paths_of_code`] give the same paths code by code.
 //!
 //! ```text
-//! let folders = folders_of(alloc, "", "", "/home/ada")?;
-//! paths_of(alloc, &["/home/ada/.local/share/hyphenation"], "de_CH")?
-//! // /home/ada/.local/share/hyphenation/de-ch.txt
-//! // /home/ada/.local/share/hyphenation/de-ch.extended.txt
-//! // /home/ada/.local/share/hyphenation/de.txt
-//! // /home/ada/.local/share/hyphenation/de.extended.txt
-//! // /home/ada/.local/share/hyphenation/de-1996.txt
-//! // /home/ada/.local/share/hyphenation/de-1996.extended.txt
+//! let folders = folders_of(alloc, "", "", "/users/ada")?;
+//! paths_of(alloc, &["/users/ada/.local/share/hyphenation"], "de_CH")?
+//! // /users/ada/.local/share/hyphenation/de-ch.txt
+//! // /users/ada/.local/share/hyphenation/de-ch.extended.txt
+//! // /users/ada/.local/share/hyphenation/de.txt
+//! // /users/ada/.local/share/hyphenation/de.extended.txt
+//! // /users/ada/.local/share/hyphenation/de-1996.txt
+//! // /users/ada/.local/share/hyphenation/de-1996.extended.txt
 //! ```
 #![tactic(auto)]
 

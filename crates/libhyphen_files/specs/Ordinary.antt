@@ -10,18 +10,16 @@ may_begin_with byte [] = true
 may_begin_with byte (first ∷ rest) = first == byte
 
 -- A byte of most words, by the texts without breaks.
-pub record IsOrdinaryIn (utf8 : Bool) (texts : List (List ℕ)) (byte : ℕ) : Type 0 where
+pub record IsOrdinaryIn (texts : List (List ℕ)) (byte : ℕ) : Type 0 where
   pub no_nul : byte ≢ 0
   pub no_digit : is_ascii_digit byte ≡ false
-  pub one_character : utf8 ≡ true → byte < 128
   pub begins_no_text : list_any (may_begin_with byte) texts ≡ false
 
--- A byte of most words: no byte 0, no digit, in UTF-8 a character of its own, and the first byte of no text without
--- breaks.
+-- A byte of most words: no byte 0, no digit, and the first byte of no text without breaks.
 abbrev pub IsOrdinary : Rules → ℕ → Type 0
-IsOrdinary rules byte = IsOrdinaryIn rules.utf8 rules.top.no_hyphen byte
+IsOrdinary rules byte = IsOrdinaryIn rules.top.no_hyphen byte
 
 -- Only bytes of most words are marked.
-pub record AreOrdinary (utf8 : Bool) (texts : List (List ℕ)) (marks : List Bool) : Type 0 where
+pub record AreOrdinary (texts : List (List ℕ)) (marks : List Bool) : Type 0 where
   pub bytes : length marks ≡ 256
-  pub each : (byte : ℕ) → byte < 256 → slice_index_or marks byte false ≡ true → IsOrdinaryIn utf8 texts byte
+  pub each : (byte : ℕ) → byte < 256 → slice_index_or marks byte false ≡ true → IsOrdinaryIn texts byte

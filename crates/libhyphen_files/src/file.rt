@@ -37,7 +37,7 @@ impl Model for LevelDictionary {
 
     ghost view = { λ d. record { charset = d.charset.items; utf8 = d.utf8; top = d.top; below = d.below } };
 
-    ghost invariant = { λ d. AreOrdinary d.utf8 d.top.no_hyphen d.ordinary };
+    ghost invariant = { λ d. AreOrdinary d.top.no_hyphen d.ordinary };
 }
 
 impl LevelDictionary {
@@ -69,8 +69,8 @@ impl LevelDictionary {
         &self.below
     }
 
-    /// Tests whether a byte is one of most words: no byte 0, no digit, in UTF-8 a character of its own, and the first
-    /// byte of no text without breaks of the level at the top.
+    /// Tests whether a byte is one of most words: no byte 0, no digit, and the first byte of no text without breaks of the
+    /// level at the top.
     #[inline(always)]
     pub fn is_ordinary(&self, byte: u8) -> bool
         ensures { IsTrue result → IsOrdinary self.now byte }
@@ -131,7 +131,7 @@ fn dictionary_of_levels(
         ≡ record { charset = charset.now; utf8 = utf8; top = top; below = below }) }
 {
     let top = top.freeze(alloc)?;
-    let ordinary = ordinary_bytes(utf8, top.no_hyphen());
+    let ordinary = ordinary_bytes(top.no_hyphen());
     Ok(LevelDictionary {
         charset: charset.to_vec(alloc)?,
         utf8,
@@ -164,22 +164,22 @@ fn begins_none(texts: &[Vec<u8>], byte: u8) -> bool
 }
 
 // Tests whether a byte is one of most words, by the texts without breaks.
-fn is_ordinary(utf8: bool, no_hyphen: &[Vec<u8>], byte: u8) -> bool
-    ensures { IsTrue result → IsOrdinaryIn utf8 (map (λ text. text.items) no_hyphen.now) byte }
+fn is_ordinary(no_hyphen: &[Vec<u8>], byte: u8) -> bool
+    ensures { IsTrue result → IsOrdinaryIn (map (λ text. text.items) no_hyphen.now) byte }
 {
-    if byte == 0 || byte.is_ascii_digit() || utf8 && byte >= 128 {
+    if byte == 0 || byte.is_ascii_digit() {
         return false;
     }
     begins_none(no_hyphen, byte)
 }
 
 // Marks the bytes of most words, by the texts without breaks.
-fn ordinary_bytes(utf8: bool, no_hyphen: &[Vec<u8>]) -> [bool; 256]
-    ensures { AreOrdinary utf8 (map (λ text. text.items) no_hyphen.now) result }
+fn ordinary_bytes(no_hyphen: &[Vec<u8>]) -> [bool; 256]
+    ensures { AreOrdinary (map (λ text. text.items) no_hyphen.now) result }
 {
     let mut marks = [false; 256];
     for byte in 0..marks.len() {
-        marks[byte] = is_ordinary(utf8, no_hyphen, byte as u8);
+        marks[byte] = is_ordinary(no_hyphen, byte as u8);
     }
     marks
 }

@@ -1,24 +1,20 @@
 -- Words of ordinary bytes: libhyphen sees them as they are.
 use Rattle.std.proofs.Common.{◌≡◌, ◌∙◌, ℕ, suc, ◌+◌, ◌<◌, ◌≤◌, Bool, true, false, cond, List, [], ◌∷◌, length, take, get_or, Option, Some, refl, sym, ap, subst, arith}
-use Rattle.std.specs.Prelude.{◌==◌, ◌||◌, ◌&&◌, not, slice_index}
+use Rattle.std.specs.Prelude.{◌==◌, ◌||◌, ◌&&◌, not, Result, Ok, Err, IfOk, IfSome, None}
 use Rattle.std.specs.Char.{is_ascii_digit}
 use Rattle.std.specs.List.{list_all, list_any, position_or_len}
 use Rattle.std.proofs.lemmas.Bool.{ne_eqb}
 use Rattle.std.proofs.lemmas.Bool.Decides.{nat_tests}
 use Rattle.std.proofs.lemmas.List.{get_or-take, length-take-le, take_all}
-use Rattle.libhyphen_files.specs.Bytes.{before_nul, continues}
+use Rattle.libhyphen_files.specs.Bytes.{before_nul}
 use Rattle.libhyphen_files.specs.Files.{Rules}
 use Rattle.libhyphen_files.specs.Ordinary.{IsOrdinary, may_begin_with}
-use Rattle.libhyphen_rule.specs.Calls.{answer_of, begins_within, digits_kept, found_by_call, taken_digit}
-use Rattle.libhyphen_rule.specs.Found.{answer_view}
-use Rattle.libhyphen_rule.specs.Private.Ordinary.{AllOrdinary}
+use Rattle.libhyphen_rule.specs.Calls.{digits_kept, found_by_call, taken_digit}
+use Rattle.libhyphen_rule.specs.Private.Ordinary.{AllOrdinary, KeepsDigits}
 use Rattle.libhyphen_rule.specs.Private.Unchanged.{HasNoDigits, IsUnchanged}
-use Rattle.libhyphen_rule.specs.Words.{digits_beside, digits_of_characters, is_beside}
-use Rattle.libhyphen_rule.specs.declared.calls.CallAnswer.{CallAnswer}
+use Rattle.libhyphen_rule.specs.Words.{digits_beside, is_beside}
 use Rattle.libhyphen_rule.specs.declared.calls.CallMinima.{CallMinima}
 use Rattle.libhyphen_rule.proofs.Absent.{digits_stay, not_beside}
-use Rattle.libhyphen_rule.proofs.Ascii.{ascii_digits, is_small}
-use Rattle.libhyphen_rule.proofs.UnchangedCalls.{unchanged_is, whole_of_bytes, whole_of_utf8}
 use Rattle.libhyphen_rule.proofs.UnchangedParts.{no_digits}
 
 -- ---- What holds for each byte.
@@ -99,42 +95,23 @@ kept_in parts instead text [] within none = refl
 kept_in parts instead text (digit ∷ digits) within none =
     digits_stay parts instead text (digit ∷ digits) (λ byte. parts_absent parts text byte (omega (arith, within)) none)
 
--- ---- Characters.
+-- The digits of such a word stay.
+pub ordinary_kept : (rules : Rules) (given : Option CallMinima) (text digits : List ℕ) → AllOrdinary rules text → length digits ≤ length text
+    → digits ≡ digits_kept rules given text digits
+ordinary_kept rules given text digits all within =
+    kept_in rules.top.no_hyphen (taken_digit given) text digits within (λ k l. (all k l).begins_no_text)
+    ∙ ap (λ (seen : List ℕ). digits_beside rules.top.no_hyphen (taken_digit given) seen digits) (sym (ordinary_seen rules text all))
 
-whole : (rules : Rules) (text : List ℕ) → AllOrdinary rules text → begins_within rules text ≡ false
-whole rules text all =
-    elim rules.utf8 as (λ u. rules.utf8 ≡ u → begins_within rules text ≡ false) [
-      | true ↦ λ is. whole_of_utf8 rules text (first text (λ l. (all 0 l).one_character is))
-      | false ↦ λ is. whole_of_bytes rules text is
-    ] refl
-  where
-    first : (xs : List ℕ) → (0 < length xs → slice_index xs 0 < 128) → continues (slice_index xs 0) ≡ false
-    first [] small = refl
-    first (x ∷ xs) small = let low : x < 128 = small (omega arith) in grind (arith, nat_tests)
-
-in_characters : (rules : Rules) (word digits : List ℕ) → AllOrdinary rules word → length digits ≡ length word
-    → digits ≡ cond rules.utf8 (digits_of_characters word digits) digits
-in_characters rules word digits all long =
-    elim rules.utf8 as (λ u. rules.utf8 ≡ u → digits ≡ cond u (digits_of_characters word digits) digits) [
-      | true ↦ λ is. ascii_digits word digits
-          (all_of is_small word (λ k l. low (get_or word k 0) ((all k l).one_character is))) long
-      | false ↦ λ is. refl
-    ] refl
-  where
-    low : (b : ℕ) → b < 128 → is_small b ≡ true
-    low b l = grind (arith, nat_tests)
-
--- The answer for such a word is what is found.
-pub ordinary_is : (rules : Rules) (given : Option CallMinima) (text : List ℕ) (size : ℕ) (answer : CallAnswer)
-    → size ≤ length text → AllOrdinary rules text
-    → IsUnchanged (found_by_call rules given text size) answer.digits.items → length answer.digits.items ≡ size
-    → answer.changes.items ≡ [] → answer.made ≡ false
-    → Some (answer_view answer) ≡ answer_of rules given text size
-ordinary_is rules given text size answer within all is long none made =
-    let digits : List ℕ = answer.digits.items in
-    let kept : digits ≡ digits_kept rules given text digits =
-    kept_in rules.top.no_hyphen (taken_digit given) text digits (omega (arith, long, within)) (λ k l. (all k l).begins_no_text)
-    ∙ ap (λ (seen : List ℕ). digits_beside rules.top.no_hyphen (taken_digit given) seen digits) (sym (ordinary_seen rules text all)) in
-    unchanged_is rules given text size digits digits answer (whole rules text all) is kept
-    (in_characters rules (take size text) digits (ordinary_word rules text size within all) (long ∙ sym (length-take-le size text within)))
-    none made
+-- The same of a result, where the digits are found without a change.
+pub kept_if : {X E : Type 0} (items : X → List ℕ) (rules : Rules) (given : Option CallMinima) (text : List ℕ) (size : ℕ) (result : Result (Option X) E)
+    → AllOrdinary rules text → size ≤ length text
+    → IfOk result (λ found. IfSome found (λ d. IsUnchanged (found_by_call rules given text size) (items d)))
+    → IfOk result (λ found. IfSome found (λ d. length (items d) ≡ size))
+    → IfOk result (λ found. IfSome found (λ d. KeepsDigits rules given text size (items d)))
+kept_if items rules given text size (Ok (Some d)) all within is long = record {
+  first = items d;
+  found = is;
+  kept = ordinary_kept rules given text (items d) all (omega (arith, long, within));
+}
+kept_if items rules given text size (Ok None) all within is long = tt
+kept_if items rules given text size (Err e) all within is long = tt

@@ -8,7 +8,7 @@ ghost use Rattle.libhyphen_files.specs.Bytes.{before_nul, continues};
 ghost use Rattle.libhyphen_rule.specs.Calls.{answer_of, inner_digit, inner_digits, plain_digits, text_of_call};
 ghost use Rattle.libhyphen_rule.specs.Calls.{found_by_call, changes_in_characters, taken_digit, greater, least_of, at_least_two};
 ghost use Rattle.libhyphen_rule.specs.Parts.{without_left, without_right};
-ghost use Rattle.libhyphen_rule.specs.Private.Ordinary.{AllOrdinary};
+ghost use Rattle.libhyphen_rule.specs.Private.Ordinary.{AllOrdinary, KeepsDigits};
 ghost use Rattle.libhyphen_rule.specs.Private.Unchanged.{HasNoDigits, IsUnchanged};
 ghost use Rattle.libhyphen_rule.specs.Words.{changes_of_characters, digits_beside, digits_of_characters};
 
@@ -256,33 +256,6 @@ fn all_ordinary(dictionary: &LevelDictionary, text: &[u8]) -> bool
     true
 }
 
-// Returns the answer for a word, the first bytes of a text, if all bytes of the text are ordinary, and no pattern
-// counts that may change letters. The digits of its bytes are then those of its characters, and no text without breaks
-// takes one away. The only error is out of memory.
-fn ordinary_answer<'d>(
-    alloc: Global,
-    dictionary: &'d LevelDictionary,
-    minima: Option<CallMinima>,
-    text: &[u8],
-    size: usize,
-) -> Result<Option<CallAnswer<'d>>, AllocError>
-    requires { size ≤ length text.now }
-    ensures { IfOk result (λ found. IfSome found (λ answer. Some (answer_view answer)
-        ≡ answer_of dictionary.now minima text.now size)) }
-{
-    if !all_ordinary(dictionary, text) {
-        return Ok(None);
-    }
-    let Some(digits) = digits_by_call(alloc, dictionary, minima, text, size, text)? else {
-        return Ok(None);
-    };
-    Ok(Some(CallAnswer {
-        digits,
-        changes: Vec::new(alloc),
-        made: false,
-    }))
-}
-
 // Takes the places away beside which a text without breaks begins or ends, in the first bytes of a text, a word.
 fn take_kept(
     dictionary: &LevelDictionary,
@@ -302,6 +275,29 @@ fn take_kept(
         before_nul(text),
         digits,
     );
+}
+
+// Returns the digits of a call for each byte of a word, the first bytes of a text; `None` where a pattern counts that may change
+// letters, or the word has digits. Beside a text of ordinary bytes stands no text without breaks. The only error is out of memory.
+fn kept_digits(
+    alloc: Global,
+    dictionary: &LevelDictionary,
+    minima: Option<CallMinima>,
+    text: &[u8],
+    size: usize,
+) -> Result<Option<Vec<u8>>, AllocError>
+    requires { size ≤ length text.now }
+    ensures kept { IfOk result (λ found. IfSome found (λ digits. KeepsDigits dictionary.now minima text.now size digits.items)) }
+    ensures digits { IfOk result (λ found. IfSome found (λ digits. length digits.items ≡ size)) }
+{
+    if all_ordinary(dictionary, text) {
+        return digits_by_call(alloc, dictionary, minima, text, size, text);
+    }
+    let Some(mut plain) = unchanged_by_call(alloc, dictionary, minima, text, size)? else {
+        return Ok(None);
+    };
+    take_kept(dictionary, minima, text, &mut plain);
+    Ok(Some(plain))
 }
 
 // Returns the changes of a word's characters. The word is the first bytes of a text. The only error is out of memory.
@@ -403,15 +399,11 @@ pub fn hyphenate<'d>(
     ensures { IfOk result (λ answer. option_map answer_view answer
         ≡ answer_of dictionary.now minima text.now size) }
 {
-    if let Some(known) = ordinary_answer(alloc, dictionary, minima, text, size)? {
-        return Ok(Some(known));
-    }
     let utf8 = dictionary.is_utf8();
     if utf8 && begins_within(text) {
         return Ok(None);
     }
-    if let Some(mut plain) = unchanged_by_call(alloc, dictionary, minima, text, size)? {
-        take_kept(dictionary, minima, text, &mut plain);
+    if let Some(plain) = kept_digits(alloc, dictionary, minima, text, size)? {
         let answer = unchanged_answer(alloc, utf8, &text[..size], plain)?;
         return Ok(Some(answer));
     }

@@ -99,18 +99,18 @@ fn a_code_has_at_most_32_bytes(rt: HostRuntime) -> Result<(), Fail> {
 const FOLDERS: [(&str, (&str, &str, &str), &str); 5] = [
     (
         "listed folders come first, without empty ones",
-        (":/a::b c:", "/data", "/home/ada"),
+        (":/a::b c:", "/data", "/users/ada"),
         "/a b c /data/hyphenation /usr/local/share/hyphenation /usr/share/hyphenation ",
     ),
     (
         "the user's data folder takes the place of the one at home",
-        ("", "/data", "/home/ada"),
+        ("", "/data", "/users/ada"),
         "/data/hyphenation /usr/local/share/hyphenation /usr/share/hyphenation ",
     ),
     (
         "without a data folder it is the one at home",
-        ("", "", "/home/ada"),
-        "/home/ada/.local/share/hyphenation /usr/local/share/hyphenation /usr/share/hyphenation ",
+        ("", "", "/users/ada"),
+        "/users/ada/.local/share/hyphenation /usr/local/share/hyphenation /usr/share/hyphenation ",
     ),
     (
         "the data folder needs no home",

@@ -6,5 +6,5 @@ abbrev pub invariant-loop-byte : goal.invariant-loop-byte
 invariant-loop-byte l = record {
   bytes : length l.marks ≡ 256;
   each : (byte : ℕ) → byte < l.byte → get_or l.marks byte false ≡ true
-      → IsOrdinaryIn l.utf8 (map (λ text. text.items) l.no_hyphen) byte;
+      → IsOrdinaryIn (map (λ text. text.items) l.no_hyphen) byte;
 }
