@@ -204,7 +204,7 @@ def try_own(given, path):
 
 
 def try_folders(program):
-    """The folders of dictionaries that the environment names: the first variable that is there counts, and has several."""
+    """The folders of dictionaries in their order. Those of the system must have no English one."""
     def soft_hyphens(**variables):
         ran = subprocess.run([program], input=b"<p lang=en>firkin", env=variables, capture_output=True, check=True)
         return ran.stdout.decode().count(SOFT)
@@ -222,7 +222,7 @@ def try_folders(program):
             ({"HYPHENATION_PATH": f"{none}::{path}", "HOME": home}, 1),
             ({"XDG_DATA_HOME": data, "HOME": home}, 2),
             ({"HOME": home}, 3),
-            ({"HYPHENATION_PATH": none, "HOME": home}, 0),
+            ({"HYPHENATION_PATH": none, "HOME": home}, 3),
             ({}, 0),
         ):
             found = soft_hyphens(**variables)

@@ -1,47 +1,13 @@
 -- The dictionaries that folders have for codes.
-use Rattle.std.proofs.Common.{◌≡◌, ◌∙◌, ℕ, Bool, true, false, List, [], ◌∷◌, ◌++◌, map, refl, sym, ap, subst, append_assoc, append-nil}
-use Rattle.std.specs.List.{All}
+use Rattle.std.proofs.Common.{◌≡◌, ◌∙◌, ℕ, List, [], ◌∷◌, ◌++◌, map, refl, sym, ap, subst, append_assoc, append-nil}
 use Rattle.std.specs.Option.{option_map_or}
 use Rattle.std.proofs.lemmas.List.Elements.{All-append, All-cons, All-nil}
-use Rattle.std.specs.Prelude.{Option, None, Some, if◌then◌else◌, option_map}
-use Rattle.std.specs.Borrow.{Bor}
-use Rattle.hyphenation_breaks.specs.Language.{is_code}
-use Rattle.hyphenation_html.specs.declared.dictionary.AnyDictionary.{AnyDictionary}
+use Rattle.std.specs.Prelude.{Option, None, Some}
 use Rattle.hyphenation_html.specs.declared.languages.LanguageDictionary.{LanguageDictionary}
-use Rattle.html_command.proofs.Files.{none_then, some_stays}
 use Rattle.html_command.specs.Arguments.{ParsedArgs}
 use Rattle.html_command.specs.Private.Requests.{parsed_dictionary}
 use Rattle.html_command.specs.declared.request.GivenDictionary.{GivenDictionary}
-use Rattle.html_command.specs.Dictionaries.{AreDictionariesFor, AreGiven, BeginsWith, IsOfFirst, IsFoundIn, AddsFound, code_of, folders_for, paths_in, paths_in_if, paths_of_code, usual_variant}
-
--- The paths of a text, by whether it is a code.
-abbrev paths_by : Bool → List (List ℕ) → List ℕ → List (List ℕ)
-paths_by known folders code = if known then paths_in folders code ++ paths_in_if folders (usual_variant code) else []
-
-pub of_no_code : (bytes_of : List ℕ → Option (Option (List ℕ))) (folders : List (List ℕ)) (code : List ℕ) → is_code code ≡ false
-    → IsOfFirst bytes_of (paths_of_code folders code) None
-of_no_code bytes_of folders code e = subst (λ b. IsOfFirst bytes_of (paths_by b folders code) None) (sym e) refl
-
-pub of_code : (bytes_of : List ℕ → Option (Option (List ℕ))) (folders : List (List ℕ)) (code : List ℕ) (dictionary : AnyDictionary) → is_code code ≡ true
-    → IsOfFirst bytes_of (paths_in folders code) (Some dictionary) → IsOfFirst bytes_of (paths_of_code folders code) (Some dictionary)
-of_code bytes_of folders code dictionary e h =
-    subst (λ b. IsOfFirst bytes_of (paths_by b folders code) (Some dictionary)) (sym e)
-    (some_stays bytes_of (paths_in folders code) (paths_in_if folders (usual_variant code)) dictionary h)
-
-pub of_variant : (bytes_of : List ℕ → Option (Option (List ℕ))) (folders : List (List ℕ)) (code name : List ℕ) (found : Option AnyDictionary) → is_code code ≡ true
-    → IsOfFirst bytes_of (paths_in folders code) None → Some name ≡ usual_variant code → IsOfFirst bytes_of (paths_in folders name) found
-    → IsOfFirst bytes_of (paths_of_code folders code) found
-of_variant bytes_of folders code name found e none named h =
-    subst (λ b. IsOfFirst bytes_of (paths_by b folders code) found) (sym e)
-    (none_then bytes_of (paths_in folders code) (paths_in_if folders (usual_variant code)) found none
-    (subst (λ variant. IsOfFirst bytes_of (paths_in_if folders variant) found) named h))
-
-pub of_nothing : (bytes_of : List ℕ → Option (Option (List ℕ))) (folders : List (List ℕ)) (code : List ℕ) → is_code code ≡ true
-    → IsOfFirst bytes_of (paths_in folders code) None → None ≡ usual_variant code → IsOfFirst bytes_of (paths_of_code folders code) None
-of_nothing bytes_of folders code e none named =
-    subst (λ b. IsOfFirst bytes_of (paths_by b folders code) None) (sym e)
-    (none_then bytes_of (paths_in folders code) (paths_in_if folders (usual_variant code)) None none
-    (subst (λ variant. IsOfFirst bytes_of (paths_in_if folders variant) None) named refl))
+use Rattle.html_command.specs.Dictionaries.{AreDictionariesFor, AreGiven, BeginsWith, IsFoundIn, AddsFound, code_of, folders_for}
 
 pub adds_none : (bytes_of : List ℕ → Option (Option (List ℕ))) (folders : List (List ℕ)) (all : List LanguageDictionary) → AddsFound bytes_of folders all all
 adds_none bytes_of folders all = ([], sym (append-nil all), All-nil (IsFoundIn bytes_of folders))

@@ -1,10 +1,10 @@
 -- Dictionaries of either kind, and those of a run.
-use Rattle.std.specs.Prelude.{◌≡◌, ◌≢◌, ◌⊎◌, ℕ, Bool, true, false, ◌||◌, if◌then◌else◌, List, [], ◌∷◌, ◌++◌, codes, map, slice_index_or, Option, None, Some, IfSome, Result, Ok, Err}
+use Rattle.std.specs.Prelude.{◌≡◌, ◌≢◌, ◌⊎◌, ℕ, Bool, true, false, ◌||◌, if◌then◌else◌, List, [], ◌∷◌, ◌++◌, map, slice_index_or, Option, None, Some, IfSome, Result, Ok, Err}
 use Rattle.std.specs.List.{All, AllZip}
 use Rattle.std.specs.Option.{option_map_or}
 use Rattle.std.specs.String.{string_bytes}
 use Rattle.command_line.specs.Files.{known_bytes}
-use Rattle.hyphenation_breaks.specs.Language.{is_code}
+use Rattle.hyphenation_breaks.specs.Language.{IsCode}
 use Rattle.hyphenation_grammar.specs.Form.{head_of}
 use Rattle.hyphenation_grammar.specs.Judging.{refusal_of}
 use Rattle.hyphenation_grammar.specs.Lines.{is_same, lines_of}
@@ -17,6 +17,7 @@ use Rattle.hyphenation_load.specs.Load.{IsLoadError}
 use Rattle.hyphenation_html.specs.declared.dictionary.AnyDictionary.{AnyDictionary}
 use Rattle.hyphenation_html.specs.declared.dictionary.AnyDictionary.TheVariants.{Standard as OfStandard, Extended as OfExtended}
 use Rattle.hyphenation_html.specs.declared.languages.LanguageDictionary.{LanguageDictionary}
+use Rattle.language_search.specs.Paths.{paths_of_code}
 use Rattle.html_command.specs.Arguments.{ParsedArgs}
 
 -- A line is line 1 of an extended dictionary.
@@ -56,42 +57,6 @@ IsOfFirst bytes_of (path ∷ paths) found =
     ((dictionary : AnyDictionary) × (found ≡ Some dictionary) × IsOfFile (bytes_of path) dictionary)
     ⊎ ((known_bytes (bytes_of path) ≡ None) × IsOfFirst bytes_of paths found)
 
--- The path of a dictionary of that name in a folder, with that ending.
-abbrev pub path_in : List ℕ → List ℕ → List ℕ → List ℕ
-path_in folder name ending = folder ++ (codes "/" ++ (name ++ (codes "." ++ ending)))
-
--- The paths at which a dictionary of that name may be in a folder: a standard one, then an extended one.
-abbrev pub paths_of_name : List ℕ → List ℕ → List (List ℕ)
-paths_of_name folder name = path_in folder name (codes "txt") ∷ path_in folder name (codes "extended.txt") ∷ []
-
--- The paths at which a dictionary of that name may be in folders: in each a standard one, then an extended one.
-abbrev pub paths_in : List (List ℕ) → List ℕ → List (List ℕ)
-paths_in [] name = []
-paths_in (folder ∷ folders) name =
-    path_in folder name (codes "txt") ∷ path_in folder name (codes "extended.txt") ∷ paths_in folders name
-
--- The name of the dictionary for a language whose patterns come in variants alone.
-abbrev pub usual_variant : List ℕ → Option (List ℕ)
-usual_variant code =
-    if is_same code (codes "de") then Some (codes "de-1996")
-    else (if is_same code (codes "el") then Some (codes "el-monoton")
-    else (if is_same code (codes "en") then Some (codes "en-us")
-    else (if is_same code (codes "mn") then Some (codes "mn-cyrl")
-    else (if is_same code (codes "sh") then Some (codes "sh-latn")
-    else (if is_same code (codes "sr") then Some (codes "sr-cyrl")
-    else None)))))
-
--- The paths of a name in folders, where there is one.
-abbrev pub paths_in_if : List (List ℕ) → Option (List ℕ) → List (List ℕ)
-paths_in_if folders None = []
-paths_in_if folders (Some name) = paths_in folders name
-
--- The paths at which the dictionary of a code may be in folders: by the code, and then by its usual variant. A text that is
--- no code has none, so that no path leaves the folders.
-abbrev pub paths_of_code : List (List ℕ) → List ℕ → List (List ℕ)
-paths_of_code folders code =
-    if is_code code then paths_in folders code ++ paths_in_if folders (usual_variant code) else []
-
 -- The code of the language that a dictionary serves.
 abbrev pub code_of : LanguageDictionary → List ℕ
 code_of language = string_bytes language.code
@@ -111,10 +76,11 @@ abbrev pub AreGiven : (List ℕ → Option (Option (List ℕ))) → List (List �
 AreGiven bytes_of given dictionaries =
     AllZip (λ one language. (code_of language ≡ one.0) × IsOfFile (bytes_of one.1) language.dictionary) given dictionaries
 
--- A dictionary is the first that folders have for the code of its language.
+-- The language of a dictionary is a code, and the dictionary is the first that folders have for it.
 abbrev pub IsFoundIn : (List ℕ → Option (Option (List ℕ))) → List (List ℕ) → LanguageDictionary → Type 0
 IsFoundIn bytes_of folders language =
-    IsOfFirst bytes_of (paths_of_code folders (code_of language)) (Some language.dictionary)
+    IsCode (code_of language)
+    × IsOfFirst bytes_of (paths_of_code folders (code_of language)) (Some language.dictionary)
 
 -- The dictionaries begin with those before, and each other one is found in the folders.
 abbrev pub AddsFound : (List ℕ → Option (Option (List ℕ))) → List (List ℕ) → List LanguageDictionary

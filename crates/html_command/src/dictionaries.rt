@@ -1,17 +1,18 @@
-//! Dictionaries of either kind: their reading, and the folders in which they are searched.
+//! Dictionaries of either kind: their reading, and those that folders have.
 
-ghost use Rattle.std.specs.Prelude.{◌≡◌, ◌∷◌, ◌++◌, [], IfErr, IfOk, IfSome, OnOk, codes, map, option_map};
+ghost use Rattle.std.specs.Prelude.{◌≡◌, ◌∷◌, ◌++◌, [], Contains, IfErr, IfOk, IfSome, OnOk, map};
 ghost use Rattle.std.specs.String.{string_bytes};
 ghost use Rattle.hyphenation_load.specs.Load.{IsNotIo, IsNotOutOfMemory};
 ghost use Rattle.hyphenation_breaks.specs.Borrowed.{texts_now};
+ghost use Rattle.language_search.specs.Tags.{codes_of};
 ghost use Rattle.html_command.specs.Dictionaries.{is_extended_head, is_extended, LoadsAny, code_of, BeginsWith, HasCodesOf};
-ghost use Rattle.html_command.specs.Dictionaries.{AreGiven, IsOfFile, IsOfFileIfThere, IsOfFirst, path_in, paths_of_name, paths_in, paths_of_code};
-ghost use Rattle.html_command.specs.Dictionaries.{usual_variant, AddsFound, AreDictionariesFor, IsFoundIn};
+ghost use Rattle.html_command.specs.Dictionaries.{AreGiven, IsOfFile, IsOfFileIfThere, IsOfFirst};
+ghost use Rattle.html_command.specs.Dictionaries.{AddsFound, AreDictionariesFor, IsFoundIn};
 ghost use Rattle.html_command.specs.Private.Requests.{parsed_dictionary, parsed_request};
 ghost use Rattle.html_command.specs.Private.Statuses.{IsDictionaryFailure};
 
 use crate::failure::Failure;
-use crate::languages::{languages_of, without_last_part};
+use crate::languages::languages_of;
 use crate::request::{GivenDictionary, Request};
 use command_line::NamedFiles;
 use hyphenation_breaks::language::Language;
@@ -20,6 +21,7 @@ use hyphenation_grammar::form::{Form, Kind, Version};
 use hyphenation_grammar::lines::{is_head, next_line};
 use hyphenation_html::{AnyDictionary, LanguageDictionary};
 use hyphenation_load::{Error, Load, is_out_of_memory, read_all};
+use language_search::{codes_of, paths_of_code};
 use std::alloc::{AllocError, Global};
 use std::io::{ErrorKind, Read};
 
@@ -179,107 +181,49 @@ fn load_given<F: NamedFiles>(
     Ok(all)
 }
 
-// The name of the dictionary for a language whose patterns come in variants alone.
-fn usual_variant(code: &str) -> Option<&'static str>
-    ensures { option_map (λ name. name.now) result ≡ usual_variant code.now }
-{
-    match code {
-        "de" => Some("de-1996"),
-        "el" => Some("el-monoton"),
-        "en" => Some("en-us"),
-        "mn" => Some("mn-cyrl"),
-        "sh" => Some("sh-latn"),
-        "sr" => Some("sr-cyrl"),
-        _ => None,
-    }
+// Whether one of the dictionaries has that code.
+fn has_code(all: &[LanguageDictionary], code: &str) -> bool {
+    all.iter().any(|one| one.code.as_str() == code)
 }
 
-// The path of a dictionary of a name in a folder.
-fn path_in(alloc: Global, folder: &str, name: &str, ending: &str) -> Result<String, AllocError>
-    ensures { IfOk result (λ path. string_bytes path ≡ path_in folder.now name.now ending.now) }
-{
-    format!(in alloc; "{folder}/{name}.{ending}")
-}
-
-// The dictionary of a name with an ending, from a folder.
-fn find_ending<F: NamedFiles>(
+// The dictionary of the first path at which there is a file.
+fn load_first<F: NamedFiles>(
     files: &F,
     alloc: Global,
-    folder: &str,
-    name: &str,
-    ending: &str,
+    paths: &[String],
 ) -> Result<Option<AnyDictionary>, Failure>
-    ensures found { IfOk result (IsOfFileIfThere (F.bytes files.now (path_in folder.now name.now ending.now))) }
+    ensures found { IfOk result (IsOfFirst (F.bytes files.now) (map string_bytes paths.now)) }
     ensures failure { IfErr result IsDictionaryFailure }
 {
-    let path = path_in(alloc, folder, name, ending)?;
-    load_if_there(files, alloc, &path)
-}
-
-// The dictionary of a name, from a folder: a standard one, else an extended one.
-fn find_in<F: NamedFiles>(
-    files: &F,
-    alloc: Global,
-    folder: &str,
-    name: &str,
-) -> Result<Option<AnyDictionary>, Failure>
-    ensures found { IfOk result (IsOfFirst (F.bytes files.now) (paths_of_name folder.now name.now)) }
-    ensures failure { IfErr result IsDictionaryFailure }
-{
-    if let Some(dictionary) = find_ending(files, alloc, folder, name, "txt")? {
-        return Ok(Some(dictionary));
-    }
-    find_ending(files, alloc, folder, name, "extended.txt")
-}
-
-// The dictionary of a name, from the first of the folders that has one: a standard one, else an extended one.
-fn find_name<F: NamedFiles>(
-    files: &F,
-    alloc: Global,
-    folders: &[&str],
-    name: &str,
-) -> Result<Option<AnyDictionary>, Failure>
-    ensures found { IfOk result (IsOfFirst (F.bytes files.now) (paths_in (texts_now folders.now) name.now)) }
-    ensures failure { IfErr result IsDictionaryFailure }
-{
-    for folder in folders {
-        if let Some(dictionary) = find_in(files, alloc, folder, name)? {
+    for path in paths {
+        if let Some(dictionary) = load_if_there(files, alloc, path)? {
             return Ok(Some(dictionary));
         }
     }
     Ok(None)
 }
 
-// The dictionary of a code, from the folders. A text that is no code has none, so that no path leaves the folders.
-#[tactic(auto, using(crate::proofs::Codes::of_no_code, crate::proofs::Codes::of_code, crate::proofs::Codes::of_variant, crate::proofs::Codes::of_nothing))]
+// The dictionary of a code, from the folders.
 fn find_code<F: NamedFiles>(
     files: &F,
     alloc: Global,
     folders: &[&str],
-    code: &str,
-) -> Result<Option<AnyDictionary>, Failure>
-    ensures found { IfOk result (IsOfFirst (F.bytes files.now) (paths_of_code (texts_now folders.now) code.now)) }
+    language: &Language,
+) -> Result<Option<LanguageDictionary>, Failure>
+    ensures found { IfOk result (λ found. IfSome found (IsFoundIn (F.bytes files.now) (texts_now folders.now))) }
+    ensures code { IfOk result (λ found. IfSome found (λ one. code_of one ≡ language.now)) }
     ensures failure { IfErr result IsDictionaryFailure }
 {
-    if Language::from_code(code).is_none() {
+    language.invariant();
+    let paths = paths_of_code(alloc, folders, language)?;
+    let Some(dictionary) = load_first(files, alloc, &paths)? else {
         return Ok(None);
-    }
-    if let Some(dictionary) = find_name(files, alloc, folders, code)? {
-        return Ok(Some(dictionary));
-    }
-    match usual_variant(code) {
-        Some(name) => find_name(files, alloc, folders, name),
-        None => Ok(None),
-    }
+    };
+    Ok(Some(with_code(alloc, language.code(), dictionary)?))
 }
 
-// Whether one of the dictionaries has that code.
-fn has_code(all: &[LanguageDictionary], code: &str) -> bool {
-    all.iter().any(|one| one.code.as_str() == code)
-}
-
-// The dictionary of a language, from the folders: that of its tag in small letters, or else of the longest part of it,
-// up to a hyphen, that has one. `None` if there is none, or it is there already.
+// The dictionary of a language, from the folders: that of the longest of its codes that has one. `None` if there is none,
+// or it is there already.
 fn find_language<F: NamedFiles>(
     files: &F,
     alloc: Global,
@@ -288,18 +232,17 @@ fn find_language<F: NamedFiles>(
     all: &[LanguageDictionary],
 ) -> Result<Option<LanguageDictionary>, Failure>
     ensures found { IfOk result (λ found. IfSome found (IsFoundIn (F.bytes files.now) (texts_now folders.now))) }
+    ensures code { IfOk result (λ found. IfSome found (λ language. Contains (codes_of tag.now) (code_of language))) }
     ensures failure { IfErr result IsDictionaryFailure }
 {
-    let tag = tag.to_ascii_lowercase(alloc)?;
-    let mut rest = Some(tag.as_str());
-    while let Some(code) = rest {
-        if has_code(all, code) {
+    let languages = codes_of(alloc, tag)?;
+    for language in &languages {
+        if has_code(all, language.code()) {
             return Ok(None);
         }
-        if let Some(dictionary) = find_code(files, alloc, folders, code)? {
-            return Ok(Some(with_code(alloc, code, dictionary)?));
+        if let Some(found) = find_code(files, alloc, folders, language)? {
+            return Ok(Some(found));
         }
-        rest = without_last_part(code);
     }
     Ok(None)
 }

@@ -3,8 +3,6 @@
 //! `hyphenation_html` decides of which language a text of the page is. Here each `lang=` counts, wherever it stands. So
 //! a few more dictionaries may be loaded than the page needs.
 
-ghost use Rattle.std.specs.Prelude.{◌<◌, IfSome, length};
-
 use html_pieces::references::{has_ampersand, read};
 use std::alloc::{AllocError, Global};
 use std::collections::BTreeSet;
@@ -99,18 +97,4 @@ pub fn languages_of(alloc: Global, page: &str) -> Result<BTreeSet<String>, Alloc
         }
     }
     Ok(languages)
-}
-
-/// Returns the tag of a language without its last part, or `None` if it has one part alone.
-///
-/// ```text
-/// without_last_part("de-ch-1996")      // Some("de-ch")
-/// ```
-pub fn without_last_part(tag: &str) -> Option<&str>
-    ensures { IfSome result (λ front. length front.now < length tag.now) }
-{
-    match tag.rsplit_once('-') {
-        Some((front, _)) => Some(front),
-        None => None,
-    }
 }
