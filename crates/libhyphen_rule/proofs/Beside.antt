@@ -16,7 +16,7 @@ or_none false = refl
 -- One text is beside a place if some of it alone is.
 pub digits_beside_one : (part : List ℕ) (instead : ℕ) (text digits new : List ℕ) → length new ≡ length digits
     → ((k : ℕ) → k < length digits
-        → slice_index new k ≡ (if is_beside text k part then instead else slice_index digits k))
+    → slice_index new k ≡ (if is_beside text k part then instead else slice_index digits k))
     → new ≡ digits_beside (part ∷ []) instead text digits
 digits_beside_one part instead text digits new same each =
     fill_by_all (λ byte. if list_any (is_beside text byte) (part ∷ []) then instead else slice_index digits byte)
@@ -38,19 +38,19 @@ digits_beside_more parts part instead text digits =
     let before = λ (byte : ℕ). if list_any (is_beside text byte) parts then instead else slice_index digits byte in
     let so_far = digits_beside parts instead text digits in
     let here = λ (byte : ℕ).
-        if list_any (is_beside text byte) (part ∷ []) then instead else slice_index so_far byte in
+    if list_any (is_beside text byte) (part ∷ []) then instead else slice_index so_far byte in
     let all = λ (byte : ℕ).
-        if list_any (is_beside text byte) (parts ++ part ∷ []) then instead else slice_index digits byte in
+    if list_any (is_beside text byte) (parts ++ part ∷ []) then instead else slice_index digits byte in
     let long : length so_far ≡ n = length-map-range_with_len before 0 n in
     let each : (k : ℕ) → k < n → get_or (digits_beside (part ∷ []) instead text so_far) k 0 ≡ all k
     = λ k l.
-        get_or-map-range_with_len here 0 (length so_far) k k 0 (omega (arith, l, long)) (omega arith)
-        ∙ ap (λ (d : ℕ). if list_any (is_beside text k) (part ∷ []) then instead else d)
-        (get_or-map-range_with_len before 0 n k k 0 l (omega arith))
-        ∙ twice (list_any (is_beside text k) parts) (list_any (is_beside text k) (part ∷ [])) instead
-        (slice_index digits k)
-        ∙ ap (λ (b : Bool). if b then instead else slice_index digits k)
-        (sym (list_any-append (is_beside text k) parts (part ∷ []))) in
+    get_or-map-range_with_len here 0 (length so_far) k k 0 (omega (arith, l, long)) (omega arith)
+    ∙ ap (λ (d : ℕ). if list_any (is_beside text k) (part ∷ []) then instead else d)
+    (get_or-map-range_with_len before 0 n k k 0 l (omega arith))
+    ∙ twice (list_any (is_beside text k) parts) (list_any (is_beside text k) (part ∷ [])) instead
+    (slice_index digits k)
+    ∙ ap (λ (b : Bool). if b then instead else slice_index digits k)
+    (sym (list_any-append (is_beside text k) parts (part ∷ []))) in
     fill_by_all all (digits_beside (part ∷ []) instead text so_far) n 0
     (length-map-range_with_len here 0 (length so_far) ∙ long) each
 

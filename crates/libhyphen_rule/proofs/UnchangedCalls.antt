@@ -61,9 +61,9 @@ unchanged_but goes found digits fewer is same less =
     let at : goes found.changes ≡ goes [] = ap goes is.no_changes ∙ sym (same (length digits)) in
     let long : length digits ≡ length fewer = sym (ap (λ xs. length xs) less ∙ digits_but_length (goes []) digits) in record {
       digits_are = ap (λ (g : ℕ → Bool). digits_but g found.digits) at ∙ ap (digits_but (goes [])) is.digits_are
-      ∙ sym less;
+          ∙ sym less;
       no_changes = ap (changes_but (goes found.changes)) is.no_changes ∙ none_but (goes found.changes) (length digits)
-      ∙ ap no_changes long;
+          ∙ ap no_changes long;
       not_made = is.not_made;
     }
 
