@@ -485,7 +485,7 @@ impl Handle {
                 continue;
             }
             checked(status, 0, 0)?;
-            // so many bytes were written
+            // The call wrote this many bytes.
             unsafe { bytes.set_len(count) };
             return Ok(bytes);
         }
@@ -517,7 +517,7 @@ pub fn paths(tag: &str, path: &str, data_home: &str, home: &str) -> Result<Strin
             continue;
         }
         checked(status, 0, 0)?;
-        // so many bytes were written
+        // The call wrote this many bytes.
         unsafe { bytes.set_len(count) };
         return Ok(text(bytes));
     }
