@@ -1,6 +1,7 @@
 pub mod KeyNodes
 pub mod NodeTexts
 pub mod TrieNodes
+pub mod Trails
 pub mod ChainsGrow
 pub mod GrowingNodes
 pub mod HeldNodes
@@ -15,5 +16,6 @@ pub mod LookedUp
 pub mod KnownNodes
 pub mod TableOrder
 pub mod TableSteps
+pub mod NumberedSteps
 pub mod TableMade
 pub mod TableRows

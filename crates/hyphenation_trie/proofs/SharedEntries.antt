@@ -1,6 +1,6 @@
 -- Entries that several nodes have in common.
 use Rattle.std.proofs.Common.{◌≡◌, ◌≢◌, ◌-◌, ◌^◌, ℕ, zero, suc, ◌<◌, ◌≤◌, List, [], ◌∷◌, length, map, get_or, set, Option, Some, None, refl, sym, ap, subst, ◌∙◌, arith}
-use Rattle.std.specs.Prelude.{IsSome}
+use Rattle.std.specs.Prelude.{IsSome, unwrap_or}
 use Rattle.std.proofs.lemmas.List.{length-map, map-set}
 use Rattle.hyphenation_trie.specs.Private.States.{span_in}
 use Rattle.hyphenation_trie.specs.Private.Trie.{tree_of, texts_of, with_entries, entries_there}
@@ -60,3 +60,11 @@ seen-shared {E} froms spans es xs i span now is there =
     let news : map (entries_there es) (set spans i now) ≡ set (map (entries_there es) spans) i (Some xs) =
     map-set (entries_there es) spans i now ∙ ap (λ (o : Option (List E)). set (map (entries_there es) spans) i o) (ap (entries_there es) is ∙ there) in
     λ k. record { texts = texts_of froms; entries = news k }
+
+-- a value that is there
+pub some_is : {X : Type 0} (o : Option (List X)) → IsSome o → o ≡ Some (unwrap_or o [])
+some_is None h = absurd cc
+some_is (Some x) h = refl
+
+pub some_there : {X : Type 0} (o : Option (List X)) (xs : List X) → o ≡ Some xs → IsSome o
+some_there {X = X} o xs is = subst (λ (x : Option (List X)). IsSome x) (sym is) refl

@@ -6,7 +6,8 @@ use Rattle.std.proofs.lemmas.List.{length-append, length-drop, length-map, get_o
 use Rattle.hyphenation_breaks.specs.Ranks.{greatest_rank}
 use Rattle.hyphenation_breaks.specs.declared.entry.Entry.{Entry}
 use Rattle.hyphenation_trie.specs.Links.{EndsWith}
-use Rattle.hyphenation_trie.specs.Private.Known.{AreClasses, AreKnown, AreRows, HasChild, IsCellTo, IsLongestInner}
+use Rattle.hyphenation_trie.specs.Private.Known.{AreClasses, AreKnown}
+use Rattle.hyphenation_trie.specs.Steps.{AreRows, HasChild, IsCellTo, IsLongestInner}
 use Rattle.hyphenation_trie.specs.Tables.{IsStepTo, IsTable, IsTail, cell_at}
 use Rattle.hyphenation_trie.specs.Trie.{Tree, node_text, entries_of_key, IsTrie}
 use Rattle.hyphenation_trie.specs.Vectors.{AreNear, AreNearEntries, IsVector}

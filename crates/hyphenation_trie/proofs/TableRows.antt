@@ -7,7 +7,8 @@ use Rattle.std.proofs.Math.Nat.{mul-le-mul_right}
 use Rattle.std.proofs.Math.Seq.{take-append_seam}
 use Rattle.hyphenation_trie.specs.Trie.{Tree, node_text, IsTrie}
 use Rattle.hyphenation_trie.specs.Links.{EndsWith, IsLongest}
-use Rattle.hyphenation_trie.specs.Private.Known.{AreByDepth, AreClasses, HasChild, IsLongestInner, IsCellTo, AreRows}
+use Rattle.hyphenation_trie.specs.Private.Known.{AreByDepth, AreClasses}
+use Rattle.hyphenation_trie.specs.Steps.{HasChild, IsLongestInner, IsCellTo, AreRows}
 use Rattle.hyphenation_trie.specs.Private.Links.{HasNoChild}
 use Rattle.hyphenation_trie.specs.Private.States.{LinkedTree, links_of, IsLinked}
 use Rattle.hyphenation_trie.specs.declared.frozen.Links.{Links}

@@ -2,7 +2,9 @@ pub mod Counts
 pub mod Trie
 pub mod Links
 pub mod Keys
+pub mod Trail
 pub mod Laws
+pub mod Steps
 pub mod Vectors
 pub mod Tables
 pub mod Private

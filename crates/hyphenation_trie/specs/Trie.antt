@@ -1,5 +1,5 @@
 -- Tries, as the texts of their nodes.
-use Rattle.std.specs.Prelude.{◌≡◌, ℕ, ◌<◌, nat_eq, if◌then◌else◌, List, [], ◌∷◌, ◌++◌, length, Option, None, Some, slice_index_or, IsSome, take, ◌⊎◌}
+use Rattle.std.specs.Prelude.{◌≡◌, ℕ, ◌<◌, nat_eq, if◌then◌else◌, List, [], ◌∷◌, ◌++◌, length, Option, None, Some, slice_index_or, unwrap_or, IsSome, take, ◌⊎◌}
 use Rattle.std.specs.Cmp.Lexicographic.{pointwise}
 
 -- A trie as its nodes: the text of each, and its entries if the text is a key. A node is its index in both lists.
@@ -20,6 +20,10 @@ entries_at (t ∷ ts) (e ∷ es) q = if pointwise nat_eq t q then e else entries
 -- The entries of a text, if it is a key.
 abbrev pub entries_of_key : {E : Type 0} → Tree E → List ℕ → Option (List E)
 entries_of_key t q = entries_at t.texts t.entries q
+
+-- The entries of a node; none if its text is not a key.
+abbrev pub entries_of_node : {E : Type 0} → Tree E → ℕ → List E
+entries_of_node t node = unwrap_or (slice_index_or t.entries node None) []
 
 -- The invariant of a trie: its first node is the root, with the empty text. No two nodes have the same text. Each node but
 -- the root is the child of another: its text is that one's with one more byte.

@@ -1,18 +1,20 @@
 //! A trie that grows by keys with their entries, inserted one after the other.
 
 ghost use Rattle.std.specs.Prelude.{◌≡◌, ◌≢◌, ◌+◌, ◌<◌, ◌++◌, [], ◌∷◌, ℕ, length, slice_index, Some, None, IfOk, OnOk, OnErr, is_some, IfSome, IfNone};
-ghost use Rattle.std.specs.Prelude.{option_copied, slice_index_or};
-ghost use Rattle.hyphenation_trie.specs.Trie.{node_text, entries_of_key, IsTrie, AddsFront, KeepsNodes, KeepsKeys, SetsKey, EachBeginsKey};
+ghost use Rattle.std.specs.Prelude.{option_copied, slice_index_or, IsSome};
+ghost use Rattle.hyphenation_trie.specs.Trie.{node_text, entries_of_key, entries_of_node, IsTrie, AddsFront, KeepsNodes, KeepsKeys, SetsKey, EachBeginsKey};
+ghost use Rattle.hyphenation_trie.specs.Trail.{IsTrail};
 ghost use Rattle.hyphenation_trie.specs.Private.Trie.{with_child, Grows, with_entries};
 
 use crate::Automaton;
 use crate::automaton::link_all;
 use crate::children::Children;
 use crate::frozen::Frozen;
-use crate::lists::{append_all, list_of_first};
+use crate::lists::{append_all, list_of_first, push_both};
 use crate::nodes_by_depth::NodesByDepth;
 use crate::rows::rows_of;
 use crate::state::{Span, State, entries_in};
+use crate::trail::Trail;
 use std::alloc::{AllocError, Global};
 use std::fmt;
 use std::marker::Model;
@@ -112,6 +114,39 @@ impl<E: Drop> Trie<E> {
         Ok(had)
     }
 
+    /// Moves entries to a key as [`Trie::insert`] does, along the nodes of the key before.
+    ///
+    /// Keys in order begin with the same bytes, and no child is looked up for these. After an error the trail is of no use.
+    ///
+    /// ```text
+    /// let mut trail = Trail::new(alloc);
+    /// trie.insert_along(b"rk", &mut trail, &mut entries)?;
+    /// trie.insert_along(b"rkin", &mut trail, &mut others)?;      // looks up `i` and `n` alone
+    /// ```
+    #[inline(always)]
+    pub fn insert_along(
+        &mut self,
+        key: &[u8],
+        trail: &mut Trail,
+        entries: &mut Vec<E>,
+    ) -> Result<bool, AllocError>
+        requires { IsTrail self.old trail.old }
+        ensures trail { OnOk result (IsTrail self.new trail.new) }
+        ensures key_set { OnOk result (SetsKey self.old self.new key.now entries.old.items) }
+        ensures had { IfOk result (λ had. had ≡ is_some (entries_of_key self.old key.now)) }
+        ensures entries_moved { OnOk result (entries.new.items ≡ []) }
+        ensures begins { OnOk result (EachBeginsKey self.old → EachBeginsKey self.new) }
+        ensures same_keys_on_error { OnErr result (KeepsKeys self.old self.new) }
+        ensures entries_kept_on_error { OnErr result (entries.new.items ≡ entries.old.items) }
+        ensures adds { AddsFront self.old self.new key.now }
+        ensures nodes { KeepsNodes self.old self.new }
+    {
+        let node = self.path_along(key, trail)?;
+        self.invariant();
+        let had = self.set_entries(node, entries)?;
+        Ok(had)
+    }
+
     /// Gives a key the entries of a node, in place of the entries that it had, and returns whether it was a key.
     ///
     /// `entries` are those of the node `like`, as [`Trie::entries_of_node`] returns them. Both have them in common then, so
@@ -135,7 +170,33 @@ impl<E: Drop> Trie<E> {
         self.invariant();
         let node = self.path(key)?;
         self.invariant();
-        Ok(self.share_entries(node, like, entries))
+        Ok(self.share_entries(node, like))
+    }
+
+    /// Gives a key the entries of a node as [`Trie::insert_as`] does, along the nodes of the key before. The text of the node
+    /// `like` is a key.
+    #[inline(always)]
+    pub fn insert_along_as(
+        &mut self,
+        key: &[u8],
+        trail: &mut Trail,
+        like: usize,
+    ) -> Result<bool, AllocError>
+        requires trail { IsTrail self.old trail.old }
+        requires like { IsSome (slice_index_or self.old.entries like None) }
+        ensures trail { OnOk result (IsTrail self.new trail.new) }
+        ensures key_set { OnOk result (SetsKey self.old self.new key.now (entries_of_node self.old like)) }
+        ensures had { IfOk result (λ had. had ≡ is_some (entries_of_key self.old key.now)) }
+        ensures begins { OnOk result (EachBeginsKey self.old → EachBeginsKey self.new) }
+        ensures same_keys_on_error { OnErr result (KeepsKeys self.old self.new) }
+        ensures adds { AddsFront self.old self.new key.now }
+        ensures nodes { KeepsNodes self.old self.new }
+    {
+        self.invariant();
+        let node = self.path_along(key, trail)?;
+        self.invariant();
+        let had = self.share_entries(node, like);
+        Ok(had)
     }
 
     /// Returns the number of nodes, with the root. The last node is the one that was added last.
@@ -250,6 +311,33 @@ impl<E: Drop> Trie<E> {
         Ok(node)
     }
 
+    // Returns the node of a text, and adds it if there is none, along the nodes of the key before. The only error is out of
+    // memory; nodes may be added then.
+    fn path_along(&mut self, text: &[u8], trail: &mut Trail) -> Result<u32, AllocError>
+        requires { IsTrail self.old trail.old }
+        ensures trail { OnOk result (IsTrail self.new trail.new) }
+        ensures node { IfOk result (λ j. (j < length self.new.texts) × (node_text self.new j ≡ text.now)) }
+        ensures keys_stay { KeepsKeys self.old self.new }
+        ensures adds { AddsFront self.old self.new text.now }
+        ensures nodes { KeepsNodes self.old self.new }
+    {
+        let known = trail.common(text);
+        let mut node = if known == 0 {
+            self.root()
+        } else {
+            trail.nodes[known - 1]
+        };
+        trail.key.truncate(known);
+        trail.nodes.truncate(known);
+        for at in known..text.len() {
+            self.invariant();
+            let byte = text[at];
+            node = self.step(node, byte)?;
+            push_both(&mut trail.key, byte, &mut trail.nodes, node)?;
+        }
+        Ok(node)
+    }
+
     // Moves entries to a node, in place of the entries that it had, and returns whether its text was a key. The only error is
     // out of memory.
     #[inline(always)]
@@ -267,10 +355,10 @@ impl<E: Drop> Trie<E> {
     }
 
     // Gives a node the entries of another node, in place of the entries that it had, and returns whether its text was a key.
-    fn share_entries(&mut self, node: u32, like: usize, entries: &[E]) -> bool
+    fn share_entries(&mut self, node: u32, like: usize) -> bool
         requires node { node < length self.old.texts }
-        requires like { slice_index_or self.old.entries like None ≡ Some entries.now }
-        ensures set { self.new ≡ with_entries self.old node entries.now }
+        requires like { IsSome (slice_index_or self.old.entries like None) }
+        ensures set { self.new ≡ with_entries self.old node (entries_of_node self.old like) }
         ensures had { result ≡ is_some (entries_of_key self.old (node_text self.old node)) }
     {
         let span = self.states[like].span;

@@ -38,11 +38,13 @@ pub mod parts;
 mod rows;
 mod state;
 pub mod table;
+mod trail;
 
 pub use automaton::Automaton;
 pub use growing::Trie;
 pub use look_ups::LookUps;
 use std::alloc::AllocError;
+pub use trail::Trail;
 
 /// Returns a number in 32 bits, as a dictionary holds the numbers of its nodes, cells and entries, and places in keys.
 ///

@@ -12,6 +12,7 @@ ghost use Rattle.hyphenation_trie.specs.Trie.{entries_of_key};
 mod classes;
 mod order;
 mod rows;
+pub mod steps;
 mod vectors;
 
 use super::{Automaton, LookUps};

@@ -39,7 +39,12 @@ none_listed_from : (places first : ℕ) → flat_map change_listed (enumerate_fr
 none_listed_from zero first = refl
 none_listed_from (suc places) first = none_listed_from places (first + 1)
 
-no_texts_listed : (places : ℕ) → listed_texts (none_at places) ≡ []
+-- Places without changes list none.
+pub no_changes_listed : (places : ℕ) → listed_changes (none_at places) ≡ []
+unfolding listed_changes
+no_changes_listed places = none_listed_from places 0
+
+pub no_texts_listed : (places : ℕ) → listed_texts (none_at places) ≡ []
 unfolding listed_texts
 no_texts_listed zero = refl
 no_texts_listed (suc places) = no_texts_listed places

@@ -1,6 +1,6 @@
 //! The calls, for a dictionary that is loaded.
 
-ghost use Rattle.std.specs.Prelude.{◌≡◌, ◌≤◌, ◌<◌, IfOk, length};
+ghost use Rattle.std.specs.Prelude.{◌≡◌, ◌⊎◌, ◌≤◌, ◌<◌, [], false, IfOk, length};
 ghost use Rattle.c_calls.specs.Statuses.{into};
 ghost use Rattle.libhyphen_files.specs.Files.{rules_of};
 ghost use Rattle.libhyphen_rule.specs.Calls.{answer_of, Answer};
@@ -16,7 +16,7 @@ use c_calls::buffers::fill_buffer;
 use c_calls::statuses::{BAD_ENDS, DONE, NOT_UTF8, OUT_OF_MEMORY};
 use libhyphen_files::LevelDictionary;
 use libhyphen_rule::calls::{
-    CallAnswer, CallMinima, hyphenate, plain_digits, write_word as written_word,
+    CallAnswer, CallMinima, hyphenate, plain_digits, short_digits, write_word as written_word,
 };
 use std::alloc::{AllocError, Global};
 
@@ -45,6 +45,98 @@ fn texts_of(alloc: Global, answer: &CallAnswer<'_>) -> Result<Vec<u8>, AllocErro
     ensures { IfOk result (λ v. v.items ≡ listed_texts (answer_view answer.now).changes) }
 {
     listed_texts(alloc, &answer.changes)
+}
+
+// Writes the digits of an answer without changes. The result is the status.
+fn write_plain(
+    found: &[u8],
+    digits: &mut [u8],
+    count: &mut usize,
+    changes: &mut [LevelChange],
+    number: &mut usize,
+    texts: &mut [u8],
+    total: &mut usize,
+    made: &mut bool,
+) -> u32
+    ensures status { (result ≡ 0) ⊎ (result ≡ 1) }
+    ensures digits { FillsOne found.now (into digits.old digits.new count.old count.new) result }
+    ensures changes { FillsOne [] (into changes.old changes.new number.old number.new) result }
+    ensures texts { FillsOne [] (into texts.old texts.new total.old total.new) result }
+    ensures short { OneIsShort result (length digits.old < count.new) (length changes.old < number.new)
+        (length texts.old < total.new) }
+    ensures made { Says false made.old made.new result }
+{
+    let filled = fill_three(
+        found,
+        digits,
+        count,
+        &[],
+        changes,
+        number,
+        &[],
+        texts,
+        total,
+    );
+    if filled == DONE {
+        *made = false;
+    }
+    filled
+}
+
+// As [`write_word`], for a word that the text has.
+fn write_any_word(
+    dictionary: &LevelDictionary,
+    alloc: Global,
+    minima: Option<CallMinima>,
+    text: &[u8],
+    size: usize,
+    digits: &mut [u8],
+    count: &mut usize,
+    changes: &mut [LevelChange],
+    number: &mut usize,
+    texts: &mut [u8],
+    total: &mut usize,
+    made: &mut bool,
+) -> u32
+    requires { size ≤ length text.now }
+    ensures status { IsStatus dictionary.now minima text.now size result }
+    ensures digits { FillsOne (digits_in (answer_of dictionary.now minima text.now size))
+        (into digits.old digits.new count.old count.new) result }
+    ensures changes { FillsOne (changes_in (answer_of dictionary.now minima text.now size))
+        (into changes.old changes.new number.old number.new) result }
+    ensures texts { FillsOne (texts_in (answer_of dictionary.now minima text.now size))
+        (into texts.old texts.new total.old total.new) result }
+    ensures short { OneIsShort result (length digits.old < count.new) (length changes.old < number.new)
+        (length texts.old < total.new) }
+    ensures made { Says (made_in (answer_of dictionary.now minima text.now size)) made.old made.new result }
+{
+    let Ok(answer) = hyphenate(alloc, dictionary, minima, text, size) else {
+        return OUT_OF_MEMORY;
+    };
+    let Some(answer) = answer else {
+        return NOT_UTF8;
+    };
+    let Ok(listed) = changes_of(alloc, &answer) else {
+        return OUT_OF_MEMORY;
+    };
+    let Ok(said) = texts_of(alloc, &answer) else {
+        return OUT_OF_MEMORY;
+    };
+    let status = fill_three(
+        &answer.digits,
+        digits,
+        count,
+        &listed,
+        changes,
+        number,
+        &said,
+        texts,
+        total,
+    );
+    if status == DONE {
+        *made = answer.made;
+    }
+    status
 }
 
 /// Writes the digits of a word's characters, the changes of their places, and the texts of the changes, each to the front
@@ -77,33 +169,25 @@ pub fn write_word(
     if size > text.len() {
         return BAD_ENDS;
     }
-    let Ok(answer) = hyphenate(alloc, dictionary, minima, text, size) else {
-        return OUT_OF_MEMORY;
-    };
-    let Some(answer) = answer else {
-        return NOT_UTF8;
-    };
-    let Ok(listed) = changes_of(alloc, &answer) else {
-        return OUT_OF_MEMORY;
-    };
-    let Ok(said) = texts_of(alloc, &answer) else {
-        return OUT_OF_MEMORY;
-    };
-    let status = fill_three(
-        &answer.digits,
-        digits,
-        count,
-        &listed,
-        changes,
-        number,
-        &said,
-        texts,
-        total,
-    );
-    if status == DONE {
-        *made = answer.made;
+    if size <= 64 {
+        let mut room = [b'0'; 64];
+        let found = &mut room[..size];
+        if let Some(length) = short_digits(dictionary, minima, text, size, found) {
+            return write_plain(
+                &found[..length],
+                digits,
+                count,
+                changes,
+                number,
+                texts,
+                total,
+                made,
+            );
+        }
     }
-    status
+    write_any_word(
+        dictionary, alloc, minima, text, size, digits, count, changes, number, texts, total, made,
+    )
 }
 
 /// Writes a word with an equals sign at each of its breaks, and with the texts of changes, to the front of a buffer. The

@@ -1,5 +1,5 @@
 -- Levels without changes.
-use Rattle.std.proofs.Common.{◌≡◌, ◌∙◌, ap, sym, subst, refl, ℕ, Bool, true, false, cond, List, [], ◌∷◌, Option, Some, None, is_some, arith}
+use Rattle.std.proofs.Common.{◌≡◌, ◌∙◌, ap, sym, subst, refl, ℕ, Bool, true, false, cond, List, [], ◌∷◌, length, Option, Some, None, is_some, arith}
 use Rattle.std.specs.Ordering.{nat_cmp, eq_by_cmp}
 use Rattle.std.specs.Option.{option_and_then}
 use Rattle.std.specs.List.{slice_get}
@@ -8,7 +8,9 @@ use Rattle.std.specs.FinMap as finite
 use Rattle.std.specs.FinMap.{get-insert, get-from_entries}
 use Rattle.hyphenation_breaks.specs.Dictionary.{TextMap}
 use Rattle.hyphenation_dictionary.specs.Parts.{patterns_of}
+use Rattle.hyphenation_trie.specs.Trail.{IsTrail}
 use Rattle.hyphenation_trie.specs.Trie.{Tree, EachBeginsKey}
+use Rattle.hyphenation_trie.specs.declared.trail.Trail.{Trail}
 use Rattle.libhyphen_files.specs.Levels.{HasNoChanges, pattern_at}
 use Rattle.libhyphen_files.specs.Patterns.{Pattern}
 
@@ -41,3 +43,9 @@ inserted_without_change patterns key pattern before none q p found =
 pub none_if : {X : Type 0} (o : Option X) → is_some o ≡ false → o ≡ None
 none_if None unset = refl
 none_if (Some x) unset = absurd cc
+
+pub empty_trail : (t : Tree Pattern) (trail : Trail) → trail.key.items ≡ [] → trail.nodes.items ≡ [] → IsTrail t trail
+empty_trail t trail key nodes = record {
+  nodes = ap length nodes ∙ sym (ap length key);
+  each = λ k lt. absurd (omega (arith, lt, ap length key));
+}

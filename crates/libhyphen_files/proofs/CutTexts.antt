@@ -8,7 +8,7 @@ use Rattle.libhyphen_files.specs.Patterns.{fields_of, text_of}
 
 -- ---- No element passes.
 
-position_or_len_none : {X : Type 0} (p : X → Bool) (xs : List X) → position p xs ≡ None
+pub position_or_len_none : {X : Type 0} (p : X → Bool) (xs : List X) → position p xs ≡ None
     → length xs ≤ position_or_len p xs
 position_or_len_none p xs none = grind (arith, common_steps)
 

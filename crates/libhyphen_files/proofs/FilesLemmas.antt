@@ -1,5 +1,5 @@
 -- The lines of a file, as the levels that they make.
-use Rattle.std.proofs.Common.{◌≡◌, ◌∙◌, ◌+◌, ◌-◌, ◌<◌, ◌≤◌, ◌||◌, nat_lt, ap, sym, refl, ℕ, Bool, true, false, not, cond, List, [], ◌∷◌, codes, length, length-drop, map, take, drop, get_or, fold, arith, Bor}
+use Rattle.std.proofs.Common.{◌≡◌, ◌∙◌, ◌+◌, ◌-◌, ◌<◌, ◌≤◌, ◌||◌, nat_lt, ap, sym, refl, ℕ, Bool, true, false, not, cond, List, [], ◌∷◌, length, length-drop, map, take, drop, get_or, fold, arith, Bor}
 use Rattle.std.specs.List.{position_or_len, prefix_len, list_any, before_first, after_first}
 use Rattle.std.proofs.Math.ListN.{get_or-map}
 use Rattle.std.specs.List.{take-map}
@@ -101,17 +101,6 @@ pub level_done : (utf8 : Bool) (lines : List (Bor (List ℕ))) (i : ℕ) (level 
 level_done utf8 lines i level over is =
     let all : length (texts lines) ≤ i = rw count over in
     is ∙ ap (level_of utf8) (take_all i (texts lines) all)
-
-fold_four : {A B : Type 0} (f : B → A → B) (b : B) (w x y z : A) → f (f (f (f b w) x) y) z ≡ fold f b (w ∷ x ∷ y ∷ z ∷ [])
-fold_four f b w x y z = refl
-
-pub dashed : (utf8 : Bool) (none one two three : Level) → utf8 ≡ true → none ≡ empty_level → one ≡ with_line utf8 none (codes "1'1") → two ≡ with_line utf8 one (codes "1-1")
-    → three ≡ with_line utf8 two (49 ∷ 0xE2 ∷ 0x80 ∷ 0x93 ∷ 49 ∷ []) → with_line utf8 three (49 ∷ 0xE2 ∷ 0x80 ∷ 0x99 ∷ 49 ∷ []) ≡ level_of utf8 (dash_lines utf8)
-dashed false none one two three set e0 e1 e2 e3 = absurd cc
-dashed true none one two three set e0 e1 e2 e3 =
-    ap (λ (l : Level). with_line true l (49 ∷ 0xE2 ∷ 0x80 ∷ 0x99 ∷ 49 ∷ [])) (e3 ∙ ap (λ (l : Level). with_line true l (49 ∷ 0xE2 ∷ 0x80 ∷ 0x93 ∷ 49 ∷ []))
-    (e2 ∙ ap (λ (l : Level). with_line true l (codes "1-1")) (e1 ∙ ap (λ (l : Level). with_line true l (codes "1'1")) e0)))
-    ∙ fold_four (with_line true) empty_level (codes "1'1") (codes "1-1") (49 ∷ 0xE2 ∷ 0x80 ∷ 0x93 ∷ 49 ∷ []) (49 ∷ 0xE2 ∷ 0x80 ∷ 0x99 ∷ 49 ∷ [])
 
 abbrev with_both : Minima → List (List ℕ) → Level → Level
 with_both minima no_hyphen level = record { minima = minima; no_hyphen = no_hyphen; patterns = level.patterns }

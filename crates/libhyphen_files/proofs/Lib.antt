@@ -5,6 +5,10 @@ pub mod FilesLemmas
 pub mod FirstBytes
 pub mod LevelsLemmas
 pub mod Nodes
+pub mod NumberedNodes
 pub mod SettingsLemmas
 pub mod CutTexts
 pub mod OrdinaryBytes
+pub mod PlainLines
+pub mod FirstLines
+pub mod SharedPatterns

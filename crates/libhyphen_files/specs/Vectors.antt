@@ -1,10 +1,12 @@
 -- The digits that a node's own pattern gives, as a vector of the last places.
-use Rattle.std.specs.Prelude.{◌≡◌, ℕ, ◌+◌, ◌<◌, ◌==◌, if◌then◌else◌, List, [], ◌∷◌, length, Option, None, Some, option_and_then, slice_get, slice_index, slice_index_or, Bool, false}
+use Rattle.std.specs.Prelude.{◌≡◌, ℕ, ◌+◌, ◌<◌, ◌==◌, if◌then◌else◌, List, [], ◌∷◌, length, Option, None, Some, option_and_then, slice_get, slice_index, slice_index_or, Bool, false, IfSome}
 use Rattle.hyphenation_breaks.specs.Ascii.{digit_zero}
 use Rattle.hyphenation_breaks.specs.Dictionary.{TextMap}
+use Rattle.hyphenation_trie.specs.Steps.{AreSteps}
 use Rattle.hyphenation_trie.specs.Trie.{Tree, node_text, entries_of_key}
 use Rattle.libhyphen_files.specs.Levels.{pattern_at}
 use Rattle.libhyphen_files.specs.Patterns.{Change, Pattern}
+use Rattle.libhyphen_files.specs.declared.vectors.NodeVectors.{NodeVectors}
 
 -- The pattern of a node's text, if that is a key. The root has none.
 abbrev pub pattern_of_node : Tree Pattern → ℕ → Option Pattern
@@ -36,10 +38,17 @@ pub record IsNodeVector (tree : Tree Pattern) (node : ℕ) (vector : List ℕ) :
   pub known : slice_index vector 0 < 10
       → IsVectorOf (pattern_of_node tree node) (length (node_text tree node)) vector
 
--- The vectors of all nodes.
-pub record AreVectors (tree : Tree Pattern) (vectors : List (List ℕ)) : Type 0 where
-  pub nodes : length vectors ≡ length tree.texts
-  pub each : (node : ℕ) → node < length tree.texts → IsNodeVector tree node (slice_index_or vectors node [])
+-- The number is one of a vector of the node.
+pub record IsNumberOf (tree : Tree Pattern) (vectors : List (List ℕ)) (node number : ℕ) : Type 0 where
+  pub within : number < length vectors
+  pub vector : IsNodeVector tree node (slice_index_or vectors number [])
+
+-- The vectors of all nodes, by their numbers. If there is a table of steps, it has these numbers.
+pub record AreVectors (tree : Tree Pattern) (vectors : NodeVectors) : Type 0 where
+  pub nodes : length vectors.numbers.items ≡ length tree.texts
+  pub each : (node : ℕ) → node < length tree.texts
+      → IsNumberOf tree vectors.vectors.items node (slice_index vectors.numbers.items node)
+  pub steps : IfSome vectors.steps (λ steps. AreSteps tree vectors.numbers.items steps)
 
 -- No key begins with the byte.
 abbrev pub BeginsNoKey : TextMap (List Pattern) → ℕ → Type 0

@@ -4,6 +4,7 @@ ghost use Rattle.std.specs.Prelude.{◌≡◌, ◌≤◌, false, length, map, If
 ghost use Rattle.std.specs.List.{position_or_len, list_any, before_first, after_first};
 ghost use Rattle.libhyphen_files.specs.Files.{rules_of, rules_of_lines, charset_of, is_utf8_name, is_next_level};
 ghost use Rattle.libhyphen_files.specs.Files.{level_of, default_top, default_minima, first_set, dash_lines, dashes};
+ghost use Rattle.libhyphen_files.specs.Private.Growing.{IsGrowing, level_in};
 ghost use Rattle.libhyphen_files.specs.Ordinary.{may_begin_with, AreOrdinary, IsOrdinary, IsOrdinaryIn};
 
 use crate::level::{FrozenLevel, GrowingLevel};
@@ -127,8 +128,10 @@ fn dictionary_of_levels(
     top: GrowingLevel,
     below: GrowingLevel,
 ) -> Result<LevelDictionary, AllocError>
+    requires top { IsGrowing top }
+    requires below { IsGrowing below }
     ensures { IfOk result (λ dictionary. dictionary
-        ≡ record { charset = charset.now; utf8 = utf8; top = top; below = below }) }
+        ≡ record { charset = charset.now; utf8 = utf8; top = level_in top; below = level_in below }) }
 {
     let top = top.freeze(alloc)?;
     let ordinary = ordinary_bytes(top.no_hyphen());
@@ -243,19 +246,27 @@ fn next_level(lines: &[&[u8]]) -> usize
 }
 
 // Tests whether a line parts two levels.
+#[inline(always)]
 fn is_next_level(line: &[u8]) -> bool
     ensures { result ≡ is_next_level line.now }
 {
-    line.starts_with(b"NEXTLEVEL")
+    match line {
+        [b'N', ..] => line.starts_with(b"NEXTLEVEL"),
+        _ => false,
+    }
 }
+
+// The most nodes for which a level takes room in advance.
+const MOST_ROOM: usize = 100_000;
 
 // Returns the level of some lines. The only error is out of memory.
 fn level_of(alloc: Global, utf8: bool, lines: &[&[u8]]) -> Result<GrowingLevel, AllocError>
-    ensures { IfOk result (λ level. level ≡ level_of utf8 (map (λ l. l.now) lines.now)) }
+    ensures level { IfOk result (λ level. level_in level ≡ level_of utf8 (map (λ l. l.now) lines.now)) }
+    ensures growing { IfOk result (λ level. IsGrowing level) }
 {
-    let mut level = GrowingLevel::new(alloc)?;
+    let mut level = GrowingLevel::with_room(alloc, lines.len().min(MOST_ROOM))?;
     for line in lines {
-        level = level.with_line(alloc, utf8, line)?;
+        level.add_line(alloc, utf8, line)?;
     }
     Ok(level)
 }
@@ -263,7 +274,8 @@ fn level_of(alloc: Global, utf8: bool, lines: &[&[u8]]) -> Result<GrowingLevel, 
 // Returns the level at the top where the file has one level: it parts compounds at hyphens and apostrophes, and its
 // minima are those of the file. The only error is out of memory.
 fn default_top(alloc: Global, utf8: bool, below: &GrowingLevel) -> Result<GrowingLevel, AllocError>
-    ensures { IfOk result (λ top. top ≡ default_top utf8 below.now) }
+    ensures level { IfOk result (λ top. level_in top ≡ default_top utf8 (level_in below.now)) }
+    ensures growing { IfOk result (λ top. IsGrowing top) }
 {
     let mut top = dash_level(alloc, utf8)?;
     top.minima = default_minima(&below.minima);
@@ -273,16 +285,15 @@ fn default_top(alloc: Global, utf8: bool, below: &GrowingLevel) -> Result<Growin
 
 // Returns the level with the patterns that break at hyphens and apostrophes. The only error is out of memory.
 fn dash_level(alloc: Global, utf8: bool) -> Result<GrowingLevel, AllocError>
-    ensures { IfOk result (λ level. level ≡ level_of utf8 (dash_lines utf8)) }
+    ensures level { IfOk result (λ level. level_in level ≡ level_of utf8 (dash_lines utf8)) }
+    ensures growing { IfOk result (λ level. IsGrowing level) }
 {
-    let level = GrowingLevel::new(alloc)?;
-    let level = level.with_line(alloc, utf8, b"1'1")?;
-    let level = level.with_line(alloc, utf8, b"1-1")?;
-    if !utf8 {
-        return Ok(level);
+    let lines: [&[u8]; 4] = [b"1'1", b"1-1", b"1\xE2\x80\x931", b"1\xE2\x80\x991"];
+    if utf8 {
+        level_of(alloc, utf8, &lines)
+    } else {
+        level_of(alloc, utf8, &lines[..2])
     }
-    let level = level.with_line(alloc, utf8, b"1\xE2\x80\x931")?;
-    level.with_line(alloc, utf8, b"1\xE2\x80\x991")
 }
 
 // Returns these hyphens and apostrophes. The only error is out of memory.

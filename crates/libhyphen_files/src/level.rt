@@ -3,21 +3,23 @@
 //! A level grows line by line, and is then frozen. The last line of each setting counts, and so does the last line with
 //! a key.
 
-ghost use Rattle.std.specs.Prelude.{◌≡◌, [], ◌∷◌, IfOk, OnOk, IsFalse, map};
+ghost use Rattle.std.specs.Prelude.{◌≡◌, ◌≤◌, [], IfOk, IsSome, IsTrue, None, slice_index_or, IfSome, OnOk, IsFalse, length, map, take};
 ghost use Rattle.hyphenation_dictionary.specs.Maker.{with_pair};
 ghost use Rattle.hyphenation_dictionary.specs.Parts.{patterns_of};
-ghost use Rattle.hyphenation_trie.specs.Trie.{EachBeginsKey};
-ghost use Rattle.libhyphen_files.specs.Levels.{empty_level, with_line, with_text, with_pattern, HasNoChanges};
+ghost use Rattle.hyphenation_trie.specs.Trail.{IsTrail};
+ghost use Rattle.hyphenation_trie.specs.Trie.{EachBeginsKey, entries_of_node};
+ghost use Rattle.libhyphen_files.specs.Levels.{empty_level, with_line, with_text, HasNoChanges};
+ghost use Rattle.libhyphen_files.specs.Private.Growing.{HasDigits, IsGrowing, IsPlain, level_in, unchanging, with_key, with_spelt};
 ghost use Rattle.libhyphen_files.specs.Private.Settings.{may_be_setting};
 ghost use Rattle.libhyphen_files.specs.Vectors.{AreVectors, BeginsNoKey};
 
 use crate::bytes::before_nul;
 use crate::minima::Minima;
-use crate::pattern::{StoredPattern, pattern_of};
+use crate::pattern::{Spelling, StoredPattern, pattern_of, spell_into, spelt_alone};
 use crate::settings::{setting, texts_without_breaks, without_name};
-use crate::vectors::{first_bytes, vectors_of};
+use crate::vectors::{NodeVectors, first_bytes, vectors_of};
 use hyphenation_dictionary::laws::inserted_key_is_added;
-use hyphenation_trie::{Automaton, Trie};
+use hyphenation_trie::{Automaton, Trail, Trie};
 use std::alloc::{AllocError, Global};
 use std::marker::Model;
 
@@ -35,8 +37,8 @@ pub struct FrozenLevel {
     patterns: Automaton<StoredPattern>,
     // Whether some pattern may have a change.
     has_changes: bool,
-    // The vector of each node.
-    vectors: Vec<[u8; 16]>,
+    // The vectors of the nodes.
+    vectors: NodeVectors,
     // For each byte whether it may begin a key.
     first_bytes: [bool; 256],
 }
@@ -61,7 +63,7 @@ impl Model for FrozenLevel {
 
     ghost invariant = { λ l. EachBeginsKey l.patterns
         × (IsFalse l.has_changes → HasNoChanges (patterns_of l.patterns))
-        × AreVectors l.patterns l.vectors.items × AreFirst (patterns_of l.patterns) l.first_bytes };
+        × AreVectors l.patterns l.vectors × AreFirst (patterns_of l.patterns) l.first_bytes };
 }
 
 impl FrozenLevel {
@@ -87,12 +89,8 @@ impl FrozenLevel {
         &self.patterns
     }
 
-    /// Returns the keys, as [`patterns`](FrozenLevel::patterns) does, and the vector of each node: the digits that its
-    /// own pattern gives to the 16 last places, counted from 0.
-    ///
-    /// If the first lane is 10 or more, nothing is known of the node's pattern. Otherwise it changes no letters, and
-    /// has no digits but those of the vector.
-    pub fn patterns_with_vectors(&self) -> (&Automaton<StoredPattern>, &[[u8; 16]])
+    /// Returns the keys, as [`patterns`](FrozenLevel::patterns) does, and the vectors of the nodes.
+    pub fn patterns_with_vectors(&self) -> (&Automaton<StoredPattern>, &NodeVectors)
         ensures known { patterns_of result.0.now ≡ self.now.patterns }
         ensures begins { EachBeginsKey result.0.now }
         ensures vectors { AreVectors result.0.now result.1.now }
@@ -115,40 +113,31 @@ impl FrozenLevel {
     }
 }
 
-// A level that grows line by line.
+// A level that grows line by line. After an error its trie may have nodes that begin no key.
 #[derive(Drop)]
 pub(crate) struct GrowingLevel {
     pub(crate) minima: Minima,
     pub(crate) no_hyphen: Vec<Vec<u8>>,
     pub(crate) patterns: Trie<StoredPattern>,
     pub(crate) has_changes: bool,
+    // Room for the key and the digits of a line.
+    spelling: Spelling,
+    // Room for the pattern of a line.
+    pattern: Vec<StoredPattern>,
+    // The nodes along the key of the line before.
+    trail: Trail,
+    // For each slot the node of a key whose pattern may have the digits looked for. It guides a search and proves nothing.
+    known: Vec<u32>,
 }
 
-impl Model for GrowingLevel {
-    ghost use Rattle.std.specs.Prelude.{map, IsFalse};
-    ghost use Rattle.hyphenation_dictionary.specs.Parts.{patterns_of};
-    ghost use Rattle.hyphenation_trie.specs.Trie.{EachBeginsKey};
-    ghost use Rattle.libhyphen_files.specs.Levels.{Level, HasNoChanges};
-    ghost use Rattle.libhyphen_files.specs.Private.Codes.{level_code};
-
-    ghost Value = { Level };
-
-    ghost coded = { level_code };
-
-    ghost view = { λ l. record {
-      minima = l.minima;
-      no_hyphen = map (λ text. text.items) l.no_hyphen.items;
-      patterns = patterns_of l.patterns;
-    } };
-
-    ghost invariant = { λ l. EachBeginsKey l.patterns
-        × (IsFalse l.has_changes → HasNoChanges (patterns_of l.patterns)) };
-}
+// The number of slots. Files have some hundred to some thousand different lists of digits.
+const SLOTS: usize = 4096;
 
 impl GrowingLevel {
-    // Returns the level without lines. The only error is out of memory.
-    pub(crate) fn new(alloc: Global) -> Result<GrowingLevel, AllocError>
-        ensures { IfOk result (λ level. level ≡ empty_level) }
+    // Returns the level without lines, with room for so many nodes. The only error is out of memory.
+    pub(crate) fn with_room(alloc: Global, nodes: usize) -> Result<GrowingLevel, AllocError>
+        ensures empty { IfOk result (λ level. level_in level ≡ empty_level) }
+        ensures growing { IfOk result (λ level. IsGrowing level) }
     {
         let minima = Minima {
             left: 0,
@@ -159,105 +148,142 @@ impl GrowingLevel {
         Ok(GrowingLevel {
             minima,
             no_hyphen: Vec::new(alloc),
-            patterns: Trie::new(alloc)?,
+            patterns: Trie::with_room(alloc, nodes)?,
             has_changes: false,
+            spelling: Spelling::new(alloc),
+            pattern: Vec::new(alloc),
+            trail: Trail::new(alloc),
+            known: vec![in alloc; 0u32; SLOTS]?,
         })
     }
 
-    // Returns the level with one more line of a file. A comment adds nothing, and what follows a byte 0 is not seen.
-    // The only error is out of memory. A level that is grown by value is gone after an error, when its trie may have
-    // nodes that begin no key.
-    pub(crate) fn with_line(
-        self,
+    // Adds one more line of a file. A comment adds nothing, and what follows a byte 0 is not seen. The only error is out of
+    // memory.
+    #[inline(always)]
+    pub(crate) fn add_line(
+        &mut self,
         alloc: Global,
         utf8: bool,
         line: &[u8],
-    ) -> Result<GrowingLevel, AllocError>
-        ensures { IfOk result (λ level. level ≡ with_line utf8 self line.now) }
+    ) -> Result<(), AllocError>
+        requires { IsGrowing self.old }
+        ensures added { OnOk result (level_in self.new ≡ with_line utf8 (level_in self.old) line.now) }
+        ensures growing { OnOk result (IsGrowing self.new) }
     {
-        if line.starts_with(b"%") {
-            return Ok(self);
+        if let Some(spelt) = plain_part(line) {
+            self.add_spelt(alloc, spelt)?;
+            return Ok(());
         }
-        let read = before_nul(line);
-        if may_be_setting(read) {
-            self.with_text(alloc, utf8, read)
-        } else {
-            self.with_pattern(alloc, utf8, read)
-        }
+        self.add_other(alloc, utf8, line)
     }
 
-    // Returns the level with one more line, which is no comment and has no byte 0. The last line of each setting
-    // counts. The only error is out of memory.
-    fn with_text(
-        mut self,
-        alloc: Global,
-        utf8: bool,
-        line: &[u8],
-    ) -> Result<GrowingLevel, AllocError>
-        ensures { IfOk result (λ level. level ≡ with_text utf8 self line.now) }
+    // Adds one more line of a file, whatever it is. The only error is out of memory.
+    fn add_other(&mut self, alloc: Global, utf8: bool, line: &[u8]) -> Result<(), AllocError>
+        requires { IsGrowing self.old }
+        ensures added { OnOk result (level_in self.new ≡ with_line utf8 (level_in self.old) line.now) }
+        ensures growing { OnOk result (IsGrowing self.new) }
+    {
+        if line.starts_with(b"%") {
+            return Ok(());
+        }
+        self.add_text(alloc, utf8, before_nul(line))?;
+        Ok(())
+    }
+
+    // Adds one more line, which is no comment and has no byte 0. The last line of each setting counts. The only error is out
+    // of memory.
+    fn add_text(&mut self, alloc: Global, utf8: bool, line: &[u8]) -> Result<(), AllocError>
+        requires { IsGrowing self.old }
+        ensures added { OnOk result (level_in self.new ≡ with_text utf8 (level_in self.old) line.now) }
+        ensures growing { OnOk result (IsGrowing self.new) }
     {
         if let Some(number) = setting(line, b"LEFTHYPHENMIN") {
             self.minima.left = number;
-            return Ok(self);
+            return Ok(());
         }
         if let Some(number) = setting(line, b"RIGHTHYPHENMIN") {
             self.minima.right = number;
-            return Ok(self);
+            return Ok(());
         }
         if let Some(number) = setting(line, b"COMPOUNDLEFTHYPHENMIN") {
             self.minima.compound_left = number;
-            return Ok(self);
+            return Ok(());
         }
         if let Some(number) = setting(line, b"COMPOUNDRIGHTHYPHENMIN") {
             self.minima.compound_right = number;
-            return Ok(self);
+            return Ok(());
         }
         if let Some(texts) = without_name(line, b"NOHYPHEN") {
             self.no_hyphen = texts_without_breaks(alloc, texts)?;
-            return Ok(self);
+            return Ok(());
         }
-        self.with_pattern(alloc, utf8, line)
+        let (count, pattern) = pattern_of(alloc, utf8, line, &mut self.spelling)?;
+        self.add_pattern(count, pattern)?;
+        Ok(())
     }
 
-    // Returns the level with one more pattern. The last line with a key counts; the empty key never does. The only
-    // error is out of memory.
-    fn with_pattern(
-        self,
-        alloc: Global,
-        utf8: bool,
-        line: &[u8],
-    ) -> Result<GrowingLevel, AllocError>
-        ensures { IfOk result (λ level. level ≡ with_pattern utf8 self line.now) }
+    // Adds the pattern without a change that a text spells. A key of an earlier pattern with these digits has it in common with
+    // the new one, so that it takes no more memory. The only error is out of memory.
+    #[inline(always)]
+    fn add_spelt(&mut self, alloc: Global, spelt: &[u8]) -> Result<(), AllocError>
+        requires { IsGrowing self.old }
+        ensures added { OnOk result (level_in self.new ≡ with_spelt (level_in self.old) spelt.now) }
+        ensures growing { OnOk result (IsGrowing self.new) }
     {
-        let (key, pattern) = pattern_of(alloc, utf8, line)?;
-        if key.is_empty() {
-            return Ok(self);
+        let found = spell_into(spelt, &mut self.spelling)?;
+        if found.count == 0 {
+            return Ok(());
         }
-        let GrowingLevel {
-            minima,
-            no_hyphen,
-            mut patterns,
-            has_changes,
-        } = self;
-        let has_changes = has_changes || pattern.change.is_some();
-        add_pattern(alloc, &mut patterns, &key, pattern)?;
-        Ok(GrowingLevel {
-            minima,
-            no_hyphen,
-            patterns,
-            has_changes,
-        })
+        let slot = found.hash % SLOTS;
+        let like = node_in(&self.known, slot);
+        let digits = &self.spelling.digits[..found.count + 1];
+        if has_digits(&self.patterns, like, digits) {
+            let key = &self.spelling.key[..found.count];
+            add_like(&mut self.patterns, key, &mut self.trail, like)?;
+            return Ok(());
+        }
+        let digits = Vec::from_slice(alloc, digits)?;
+        let change = None;
+        self.add_pattern(found.count, StoredPattern { digits, change })?;
+        set_node(&mut self.known, slot, self.trail.node());
+        Ok(())
+    }
+
+    // Adds a pattern, whose key has `count` bytes and is at the front of its buffer. The last pattern of a key counts; the
+    // empty key never does. The only error is out of memory.
+    #[inline(always)]
+    fn add_pattern(&mut self, count: usize, pattern: StoredPattern) -> Result<(), AllocError>
+        requires growing { IsGrowing self.old }
+        requires within { count ≤ length self.old.spelling.key.items }
+        ensures added { OnOk result (level_in self.new
+            ≡ with_key (level_in self.old) (take count self.old.spelling.key.items) pattern) }
+        ensures growing { OnOk result (IsGrowing self.new) }
+    {
+        if count == 0 {
+            return Ok(());
+        }
+        let has_changes = self.has_changes || pattern.change.is_some();
+        self.pattern.push(pattern)?;
+        let key = &self.spelling.key[..count];
+        add_pattern(&mut self.patterns, key, &mut self.trail, &mut self.pattern)?;
+        self.has_changes = has_changes;
+        Ok(())
     }
 
     // Makes the level ready for words. The only error is out of memory.
     pub(crate) fn freeze(self, alloc: Global) -> Result<FrozenLevel, AllocError>
-        ensures { IfOk result (λ level. level ≡ self) }
+        requires { IsGrowing self }
+        ensures { IfOk result (λ level. level ≡ level_in self) }
     {
         let GrowingLevel {
             minima,
             no_hyphen,
             patterns,
             has_changes,
+            spelling: _,
+            pattern: _,
+            trail: _,
+            known: _,
         } = self;
         let patterns = patterns.freeze(alloc)?;
         let vectors = vectors_of(alloc, &patterns)?;
@@ -273,6 +299,18 @@ impl GrowingLevel {
     }
 }
 
+// Returns what a line spells, if the line can be nothing but a pattern without a change.
+#[inline(always)]
+fn plain_part(line: &[u8]) -> Option<&[u8]>
+    ensures { IfSome result (λ part. IsPlain line.now part.now) }
+{
+    if line.starts_with(b"%") || may_be_setting(line) {
+        return None;
+    }
+    let part = spelt_alone(line)?;
+    Some(part)
+}
+
 // Tests whether a line begins with a byte with which the name of a setting does.
 #[inline(always)]
 fn may_be_setting(line: &[u8]) -> bool
@@ -284,22 +322,88 @@ fn may_be_setting(line: &[u8]) -> bool
     }
 }
 
-// Gives a key its pattern, in place of the one that it had. The only error is out of memory.
-fn add_pattern(
-    alloc: Global,
+// Returns the node in a slot; the root, which is no key, if there is none.
+#[inline(always)]
+fn node_in(known: &[u32], slot: usize) -> usize {
+    if slot < known.len() {
+        return known[slot] as usize;
+    }
+    0
+}
+
+// Sets the node in a slot.
+#[inline(always)]
+fn set_node(known: &mut [u32], slot: usize, node: u32) {
+    if slot < known.len() {
+        known[slot] = node;
+    }
+}
+
+// Tests whether a node has a pattern without a change that has these digits.
+#[inline(always)]
+fn has_digits(patterns: &Trie<StoredPattern>, node: usize, digits: &[u8]) -> bool
+    ensures { IsTrue result → HasDigits patterns.now node digits.now }
+{
+    let Some(entries) = patterns.entries_of_node(node) else {
+        return false;
+    };
+    match entries {
+        [pattern] => is_unchanging(pattern, digits),
+        _ => false,
+    }
+}
+
+// Tests whether a pattern changes nothing and has these digits.
+#[inline(always)]
+fn is_unchanging(pattern: &StoredPattern, digits: &[u8]) -> bool
+    ensures { IsTrue result → pattern.now ≡ unchanging digits.now }
+{
+    if pattern.change.is_some() {
+        return false;
+    }
+    pattern.digits.as_slice() == digits
+}
+
+// Gives a key the patterns of a node, in place of those that it had. The only error is out of memory.
+#[inline(always)]
+fn add_like(
     patterns: &mut Trie<StoredPattern>,
     key: &[u8],
-    pattern: StoredPattern,
+    trail: &mut Trail,
+    like: usize,
 ) -> Result<(), AllocError>
+    requires trail { IsTrail patterns.old trail.old }
+    requires like { IsSome (slice_index_or patterns.old.entries like None) }
+    ensures trail { OnOk result (IsTrail patterns.new trail.new) }
     ensures added { OnOk result (patterns_of patterns.new
-        ≡ with_pair (patterns_of patterns.old) (key.now, pattern ∷ [])) }
+        ≡ with_pair (patterns_of patterns.old) (key.now, entries_of_node patterns.old like)) }
     ensures begins { OnOk result (EachBeginsKey patterns.old → EachBeginsKey patterns.new) }
 {
-    let mut patterns_of_key = Vec::with_capacity(alloc, 1)?;
-    patterns_of_key.push(pattern)?;
     inserted_key_is_added::<StoredPattern>();
     patterns.invariant();
-    patterns.insert(key, &mut patterns_of_key)?;
+    patterns.insert_along_as(key, trail, like)?;
+    patterns.invariant();
+    Ok(())
+}
+
+// Moves a pattern to its key, in place of the one that it had. The only error is out of memory.
+#[inline(always)]
+fn add_pattern(
+    patterns: &mut Trie<StoredPattern>,
+    key: &[u8],
+    trail: &mut Trail,
+    pattern: &mut Vec<StoredPattern>,
+) -> Result<(), AllocError>
+    requires { IsTrail patterns.old trail.old }
+    ensures trail { OnOk result (IsTrail patterns.new trail.new) }
+    ensures added { OnOk result (patterns_of patterns.new
+        ≡ with_pair (patterns_of patterns.old) (key.now, pattern.old.items)) }
+    ensures begins { OnOk result (EachBeginsKey patterns.old → EachBeginsKey patterns.new) }
+    ensures moved { OnOk result (pattern.new.items ≡ []) }
+{
+    inserted_key_is_added::<StoredPattern>();
+    patterns.invariant();
+    patterns.insert_along(key, trail, pattern)?;
     patterns.invariant();
     Ok(())
 }

@@ -1,9 +1,10 @@
 //! The lines of a `.dic`, with the most bytes that libhyphen reads of each.
 
-ghost use Rattle.std.specs.Prelude.{◌≡◌, ◌==◌, ◌||◌, nat_le, IfOk, map};
-ghost use Rattle.hyphenation_breaks.specs.Ascii.{line_feed};
+ghost use Rattle.std.specs.Prelude.{◌≡◌, IfOk, map};
 ghost use Rattle.libhyphen_files.specs.Lines.{lines_of};
+ghost use Rattle.libhyphen_files.specs.Private.Sizes.{line_size};
 
+use memchr::memchr;
 use std::alloc::{AllocError, Global};
 
 const MOST_OF_FIRST: usize = 19;
@@ -16,26 +17,25 @@ pub(crate) fn lines_of(alloc: Global, bytes: &[u8]) -> Result<Vec<&[u8]>, AllocE
     ensures { IfOk result (λ lines. map (λ line. line.now) lines.items ≡ lines_of bytes.now) }
 {
     let mut lines = Vec::new(alloc);
-    let mut start = 0;
+    let mut rest = bytes;
     let mut room = MOST_OF_FIRST;
-    for (i, byte) in bytes.iter().enumerate() {
-        if ends_line(*byte, room) {
-            lines.push(&bytes[start..=i])?;
-            start = i + 1;
-            room = MOST_OF_OTHER;
-        } else {
-            room -= 1;
-        }
-    }
-    if start < bytes.len() {
-        lines.push(&bytes[start..])?;
+    while !rest.is_empty() {
+        let size = line_size(rest, room);
+        lines.push(&rest[..size])?;
+        rest = &rest[size..];
+        room = MOST_OF_OTHER;
     }
     Ok(lines)
 }
 
-// Tests whether a byte is the last one of its line, which has room for some bytes with this one.
-fn ends_line(byte: u8, room: usize) -> bool
-    ensures { result ≡ (byte == line_feed || nat_le room 1) }
+// Returns the number of bytes of the first line of a text, where a line has room for some bytes.
+#[inline(always)]
+fn line_size(text: &[u8], room: usize) -> usize
+    ensures { result ≡ line_size room text.now }
 {
-    byte == b'\n' || room <= 1
+    let window = &text[..text.len().min(room)];
+    match memchr(b'\n', window) {
+        Some(at) => at + 1,
+        None => window.len(),
+    }
 }

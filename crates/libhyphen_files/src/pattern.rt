@@ -1,6 +1,6 @@
 //! A line with a pattern: its key, the digits at its places, and maybe a change of letters.
 
-ghost use Rattle.std.specs.Prelude.{◌≡◌, ◌<◌, ◌≤◌, ◌%◌, ◌==◌, nat_le, false, true, IfOk, MatchOption, [], ◌∷◌, filter, length, position};
+ghost use Rattle.std.specs.Prelude.{◌≡◌, ◌+◌, ◌<◌, ◌≤◌, ◌%◌, ◌==◌, nat_le, IfOk, IfSome, OnOk, filter, length, position, take};
 ghost use Rattle.std.specs.List.{list_any, before_first, after_first, slice_split};
 ghost use Rattle.hyphenation_breaks.specs.Ascii.{digit_zero};
 ghost use Rattle.libhyphen_files.specs.Patterns.{before_blank, no_digit, digits_from, begins_with_dot, without_line_end, fields_of, text_of};
@@ -8,6 +8,7 @@ ghost use Rattle.libhyphen_files.specs.Patterns.{one_less, region_written, first
 ghost use Rattle.libhyphen_files.specs.Patterns.{char_end, start_taken, cut_in_bytes, start_in_bytes, start_behind_dot};
 ghost use Rattle.libhyphen_files.specs.Patterns.{region_in_bytes, with_cut, region_of, change_with, changing_digits, key_of, pattern_of};
 ghost use Rattle.libhyphen_files.specs.Private.Cuts.{IsRest, ArePartsOf};
+ghost use Rattle.libhyphen_files.specs.Private.Growing.{SpellsAlone, ends_spelling};
 
 use crate::numbers::{number_byte, signed};
 use std::alloc::{AllocError, Global};
@@ -92,26 +93,102 @@ fn before_blank(text: &[u8]) -> &[u8]
     }
 }
 
-// Returns the key and the digits that a text spells. The only error is out of memory.
-fn key_and_digits(alloc: Global, spelt: &[u8]) -> Result<(Vec<u8>, Vec<u8>), AllocError>
-    ensures key { IfOk result (λ found. found.0.items ≡ filter no_digit spelt.now) }
+// Room for the key and the digits of one line after the other.
+#[derive(Drop)]
+pub(crate) struct Spelling {
+    pub(crate) key: Vec<u8>,
+    pub(crate) digits: Vec<u8>,
+}
+
+impl Spelling {
+    // Returns room for nothing, which grows.
+    pub(crate) fn new(alloc: Global) -> Spelling {
+        Spelling {
+            key: Vec::new(alloc),
+            digits: Vec::new(alloc),
+        }
+    }
+
+    // Makes room for the bytes of a text, and for one digit more. The only error is out of memory.
+    #[inline(always)]
+    fn make_room(&mut self, spelt: &[u8]) -> Result<(), AllocError>
+        ensures key { OnOk result (length spelt.now ≤ length self.new.key.items) }
+        ensures digits { OnOk result (length spelt.now < length self.new.digits.items) }
+    {
+        if self.key.len() < spelt.len() {
+            self.key.resize(spelt.len(), 0)?;
+        }
+        if self.digits.len() <= spelt.len() {
+            self.digits.resize(spelt.len() + 1, 0)?;
+        }
+        Ok(())
+    }
+}
+
+// The length of a key, and a hash of its digits. Equal digits have equal hashes; nothing else is known of these.
+#[derive(Clone, Copy)]
+pub(crate) struct Spelt {
+    pub(crate) count: usize,
+    pub(crate) hash: usize,
+}
+
+// Writes the key and the digits that a text spells to the fronts of two buffers, and returns the length of the key.
+#[inline(always)]
+fn spell(spelt: &[u8], key: &mut [u8], digits: &mut [u8]) -> Spelt
+    requires key { length spelt.now ≤ length key.old }
+    requires digits { length spelt.now < length digits.old }
+    ensures within { result.count ≤ length spelt.now }
+    ensures key { take result.count key.new ≡ filter no_digit spelt.now }
+    ensures digits { take (result.count + 1) digits.new ≡ digits_from digit_zero spelt.now }
+{
+    let mut count = 0;
+    let mut digit = b'0';
+    let mut hash = 0usize;
+    for byte in spelt {
+        // The next byte writes anew what a digit writes, so that no test for digits need be a branch.
+        key[count] = *byte;
+        digits[count] = digit;
+        let is_digit = byte.is_ascii_digit();
+        let hash_with = hash.wrapping_mul(33).wrapping_add(digit as usize);
+        hash = if is_digit { hash } else { hash_with };
+        digit = if is_digit { *byte } else { b'0' };
+        count = if is_digit { count } else { count + 1 };
+    }
+    digits[count] = digit;
+    hash = hash.wrapping_mul(33).wrapping_add(digit as usize);
+    Spelt { count, hash }
+}
+
+// Writes the key and the digits that a text spells to the fronts of their buffers, and returns the length of the key. The
+// only error is out of memory.
+#[inline(always)]
+pub(crate) fn spell_into(spelt: &[u8], spelling: &mut Spelling) -> Result<Spelt, AllocError>
+    ensures key_within { IfOk result (λ found. found.count ≤ length spelling.new.key.items) }
+    ensures digits_within { IfOk result (λ found. found.count < length spelling.new.digits.items) }
+    ensures key { IfOk result (λ found. take found.count spelling.new.key.items ≡ filter no_digit spelt.now) }
+    ensures digits { IfOk result (λ found.
+        take (found.count + 1) spelling.new.digits.items ≡ digits_from digit_zero spelt.now) }
+{
+    spelling.make_room(spelt)?;
+    let found = spell(spelt, &mut spelling.key, &mut spelling.digits);
+    Ok(found)
+}
+
+// Writes the key that a text spells to the front of a buffer, and returns the length of the key, and the digits. The only
+// error is out of memory.
+pub(crate) fn key_and_digits(
+    alloc: Global,
+    spelt: &[u8],
+    spelling: &mut Spelling,
+) -> Result<(usize, Vec<u8>), AllocError>
+    ensures within { IfOk result (λ found. found.0 ≤ length spelling.new.key.items) }
+    ensures key { IfOk result (λ found. take found.0 spelling.new.key.items ≡ filter no_digit spelt.now) }
     ensures digits { IfOk result (λ found. found.1.items ≡ digits_from digit_zero spelt.now) }
     ensures some { IfOk result (λ found. 0 < length found.1.items) }
 {
-    let mut key = Vec::with_capacity(alloc, spelt.len())?;
-    let mut digits = Vec::with_capacity(alloc, spelt.len().saturating_add(1))?;
-    let mut digit = b'0';
-    for byte in spelt {
-        if byte.is_ascii_digit() {
-            digit = *byte;
-            continue;
-        }
-        key.push(*byte)?;
-        digits.push(digit)?;
-        digit = b'0';
-    }
-    digits.push(digit)?;
-    Ok((key, digits))
+    let found = spell_into(spelt, spelling)?;
+    let digits = Vec::from_slice(alloc, &spelling.digits[..found.count + 1])?;
+    Ok((found.count, digits))
 }
 
 // Tests whether a key begins with a dot.
@@ -344,22 +421,48 @@ fn drop_digit_before_dot(key: &[u8], digits: &mut Vec<u8>)
     }
 }
 
-// Returns the key of a line, and the pattern without it. The only error is out of memory.
+// Writes the key of a line to the front of a buffer, and returns the length of the key, and the pattern without it. The only
+// error is out of memory.
 pub(crate) fn pattern_of(
     alloc: Global,
     utf8: bool,
     line: &[u8],
-) -> Result<(Vec<u8>, StoredPattern), AllocError>
-    ensures key { IfOk result (λ pair. pair.0.items ≡ key_of line.now) }
+    spelling: &mut Spelling,
+) -> Result<(usize, StoredPattern), AllocError>
+    ensures within { IfOk result (λ pair. pair.0 ≤ length spelling.new.key.items) }
+    ensures key { IfOk result (λ pair. take pair.0 spelling.new.key.items ≡ key_of line.now) }
     ensures pattern { IfOk result (λ pair. pair.1 ≡ pattern_of utf8 line.now) }
 {
     let (before, after) = cut_at(line, b'/');
-    let (key, mut digits) = key_and_digits(alloc, before_blank(before))?;
+    let (count, mut digits) = key_and_digits(alloc, before_blank(before), spelling)?;
     let Some(after) = after else {
         let change = None;
-        return Ok((key, StoredPattern { digits, change }));
+        return Ok((count, StoredPattern { digits, change }));
     };
-    drop_digit_before_dot(&key, &mut digits);
-    let change = Some(change_with(alloc, utf8, &key, before.len(), after)?);
-    Ok((key, StoredPattern { digits, change }))
+    let key = &spelling.key[..count];
+    drop_digit_before_dot(key, &mut digits);
+    let change = Some(change_with(alloc, utf8, key, before.len(), after)?);
+    Ok((count, StoredPattern { digits, change }))
+}
+
+// Returns the index of the first space, control character or slash of a text.
+#[inline(always)]
+fn stop_position(text: &[u8]) -> Option<usize>
+    ensures { result ≡ position ends_spelling text.now }
+{
+    text.iter().position(|b| *b <= b' ' || *b == b'/')
+}
+
+// Returns what a line spells, if that is followed by no more than one byte, which is no slash.
+#[inline(always)]
+pub(crate) fn spelt_alone(line: &[u8]) -> Option<&[u8]>
+    ensures { IfSome result (λ part. SpellsAlone line.now part.now) }
+{
+    let Some(end) = stop_position(line) else {
+        return Some(line);
+    };
+    if end + 1 == line.len() && line[end] != b'/' {
+        return Some(&line[..end]);
+    }
+    None
 }

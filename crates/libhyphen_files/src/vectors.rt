@@ -1,14 +1,16 @@
 //! The digits that each node's own pattern gives, as vectors of the last places, and the bytes that begin keys.
 
-ghost use Rattle.std.specs.Prelude.{◌≡◌, ◌+◌, ◌<◌, IfOk, IfSome, IsFalse, length, option_copied, slice_index, take};
+ghost use Rattle.std.specs.Prelude.{◌≡◌, ◌+◌, ◌<◌, [], IfErr, IfOk, IfSome, IsFalse, IsTrue, OnOk, Some, length, option_copied};
+ghost use Rattle.std.specs.Prelude.{slice_index, slice_index_or, take};
 ghost use Rattle.hyphenation_breaks.specs.Ascii.{digit_zero};
 ghost use Rattle.hyphenation_dictionary.specs.Parts.{patterns_of};
-ghost use Rattle.libhyphen_files.specs.Private.Vectors.{HasDigitsOf};
-ghost use Rattle.libhyphen_files.specs.Vectors.{AreFirst, AreVectors, BeginsNoKey, IsVectorOf, pattern_of_node};
+ghost use Rattle.libhyphen_files.specs.Private.Vectors.{AreNodesNumbered, AreNumbered, HasDigitsOf, IsAt, KeepsVectors};
+ghost use Rattle.libhyphen_files.specs.Vectors.{AreFirst, AreVectors, BeginsNoKey, IsNumberOf, IsVectorOf, pattern_of_node};
 
 use crate::pattern::StoredPattern;
 use hyphenation_dictionary::laws::keys_are_looked_up;
 use hyphenation_trie::laws::keys_have_nodes;
+use hyphenation_trie::table::steps::{Steps, make_steps};
 use hyphenation_trie::{Automaton, LookUps};
 use std::alloc::{AllocError, Global};
 
@@ -31,6 +33,32 @@ pub fn pattern_of_node<'d>(
 // A vector that says nothing of its node's pattern.
 const UNKNOWN: [u8; 16] = [255; 16];
 
+// The greatest number of vectors.
+const MOST: usize = 4096;
+
+// The number of slots by which an equal vector is found: twice that of vectors, so that a search soon comes to a free one.
+const SLOTS: usize = 8192;
+
+// The number of slots that a search reads at most. A vector that is not found by then is added once more, which is no error.
+const TRIES: usize = 64;
+
+// A free slot holds this, which is the number of no vector.
+const FREE: u32 = u32::MAX;
+
+/// The vectors of all nodes. A vector has the digits that a node's own pattern gives to the 16 last places, counted from 0.
+///
+/// If the first lane is 10 or more, nothing is known of the node's pattern. Otherwise it changes no letters, and has no digits
+/// but those of the vector.
+#[derive(Drop)]
+pub struct NodeVectors {
+    /// For each node the number of its vector.
+    pub numbers: Vec<u32>,
+    /// The vectors.
+    pub vectors: Vec<[u8; 16]>,
+    /// The steps from node to node, with these numbers, if they fit into a table.
+    pub steps: Option<Steps>,
+}
+
 // Returns the number that a digit writes. `None` if the byte is no digit.
 fn digit_value(byte: u8) -> Option<u8>
     ensures { IfSome result (λ value. byte ≡ digit_zero + value) }
@@ -42,25 +70,27 @@ fn digit_value(byte: u8) -> Option<u8>
     }
 }
 
-// Returns the vector with the digit of one more place of a key with so many bytes. `None` if the byte is no digit, or if
-// it is a digit other than 0 more than 15 bytes before the key's end. A digit past the key's end does not count.
+// Writes the digit of one more place of a key with so many bytes into a vector, and returns whether it could: the byte is a
+// digit, and no digit other than 0 more than 15 bytes before the key's end. A digit past the key's end does not count.
 #[tactic(auto, using(crate::proofs::DigitVectors::digit_far, crate::proofs::DigitVectors::digit_past))]
 #[inline(always)]
-fn with_place(mut vector: [u8; 16], digits: &[u8], place: usize, bytes: usize) -> Option<[u8; 16]>
+fn put_place(vector: &mut [u8; 16], digits: &[u8], place: usize, bytes: usize) -> bool
     requires place { place < length digits.now }
-    requires before { HasDigitsOf (take place digits.now) bytes vector }
-    ensures { IfSome result (λ next. HasDigitsOf (take (place + 1) digits.now) bytes next) }
+    requires before { HasDigitsOf (take place digits.now) bytes vector.old }
+    ensures { IsTrue result → HasDigitsOf (take (place + 1) digits.now) bytes vector.new }
 {
     if place > bytes {
-        return Some(vector);
+        return true;
     }
-    let value = digit_value(digits[place])?;
+    let Some(value) = digit_value(digits[place]) else {
+        return false;
+    };
     let distance = bytes - place;
     if distance <= 15 {
         vector[15 - distance] = value;
-        return Some(vector);
+        return true;
     }
-    if value == 0 { Some(vector) } else { None }
+    value == 0
 }
 
 // Returns the vector of the digits of a key with so many bytes. `None` if a byte is no digit, or if a place more than
@@ -70,19 +100,18 @@ fn vector_of_digits(digits: &[u8], bytes: usize) -> Option<[u8; 16]>
 {
     let mut vector = [0; 16];
     for place in 0..digits.len() {
-        vector = with_place(vector, digits, place, bytes)?;
+        if !put_place(&mut vector, digits, place, bytes) {
+            return None;
+        }
     }
     Some(vector)
 }
 
-// Returns the vector of a node with this pattern, if it has one, and so many bytes.
-fn vector_of(pattern: Option<&StoredPattern>, bytes: usize) -> [u8; 16]
+// Returns the vector of a node with this pattern and so many bytes.
+fn vector_of(pattern: &StoredPattern, bytes: usize) -> [u8; 16]
     ensures lanes { length result ≡ 16 }
-    ensures known { slice_index result 0 < 10 → IsVectorOf (option_copied pattern.entry) bytes result }
+    ensures known { slice_index result 0 < 10 → IsVectorOf (Some pattern.now) bytes result }
 {
-    let Some(pattern) = pattern else {
-        return [0; 16];
-    };
     if pattern.change.is_some() {
         return UNKNOWN;
     }
@@ -92,20 +121,134 @@ fn vector_of(pattern: Option<&StoredPattern>, bytes: usize) -> [u8; 16]
     }
 }
 
+// Returns the slot at which the search for a vector begins: the highest bits of a product, which all bits of the vector
+// change.
+fn first_slot(vector: &[u8; 16]) -> usize
+    ensures { result < 8192 }
+{
+    let bytes = u128::from_le_bytes(*vector);
+    let high = (bytes >> 64) as u64;
+    let low = (bytes % (1 << 64)) as u64;
+    let mixed = low ^ high.wrapping_mul(0x9e3779b97f4a7c15);
+    (mixed.wrapping_mul(0xd6e8feb86659fd93) >> 51) as usize
+}
+
+// Returns the number of an equal vector, or else the slot for a new one. A slot is a hint: the vector that it leads to is
+// compared.
+fn find_vector(vectors: &[[u8; 16]], slots: &[u32], vector: &[u8; 16]) -> Result<usize, usize>
+    requires slots { length slots.now ≡ 8192 }
+    ensures found { IfOk result (λ number.
+        (number < length vectors.now) × (slice_index_or vectors.now number [] ≡ vector.now)) }
+    ensures slot { IfErr result (λ slot. slot < length slots.now) }
+{
+    let first = first_slot(vector);
+    for step in 0..TRIES {
+        let slot = (first + step) % SLOTS;
+        let number = slots[slot] as usize;
+        // The number of no vector is in a free slot.
+        if number >= vectors.len() {
+            return Err(slot);
+        }
+        if vectors[number] == *vector {
+            return Ok(number);
+        }
+    }
+    Err(first)
+}
+
+// Returns the number of a vector, which is added if no vector is equal. Where there are too many, it is the number of the one
+// that says nothing. The only error is out of memory.
+fn find_or_add(
+    vectors: &mut Vec<[u8; 16]>,
+    slots: &mut [u32],
+    vector: &[u8; 16],
+) -> Result<u32, AllocError>
+    requires numbered { AreNumbered vectors.old.items }
+    requires slots { length slots.old ≡ 8192 }
+    ensures slots { length slots.new ≡ length slots.old }
+    ensures numbered { OnOk result (AreNumbered vectors.new.items) }
+    ensures kept { OnOk result (KeepsVectors vectors.old.items vectors.new.items) }
+    ensures found { IfOk result (λ number. IsAt vectors.new.items number vector.now) }
+{
+    match find_vector(vectors, slots, vector) {
+        Ok(number) => Ok(number as u32),
+        Err(slot) => {
+            let number = vectors.len();
+            if number == MOST {
+                return Ok(1);
+            }
+            vectors.push(*vector)?;
+            slots[slot] = number as u32;
+            Ok(number as u32)
+        }
+    }
+}
+
+// Returns the number of a node's vector. The only error is out of memory.
+fn number_of(
+    patterns: &Automaton<StoredPattern>,
+    node: usize,
+    vectors: &mut Vec<[u8; 16]>,
+    slots: &mut [u32],
+) -> Result<u32, AllocError>
+    requires node { node < length patterns.now.texts }
+    requires numbered { AreNumbered vectors.old.items }
+    requires slots { length slots.old ≡ 8192 }
+    ensures slots { length slots.new ≡ length slots.old }
+    ensures numbered { OnOk result (AreNumbered vectors.new.items) }
+    ensures kept { OnOk result (KeepsVectors vectors.old.items vectors.new.items) }
+    ensures found { IfOk result (λ number. IsNumberOf patterns.now vectors.new.items node number) }
+{
+    let Some(pattern) = pattern_of_node(patterns, node) else {
+        return Ok(0);
+    };
+    let vector = vector_of(pattern, patterns.depth(node));
+    find_or_add(vectors, slots, &vector)
+}
+
+// The numbers of all nodes, and the vectors.
+#[derive(Drop)]
+struct Numbered {
+    numbers: Vec<u32>,
+    vectors: Vec<[u8; 16]>,
+}
+
+// Returns the numbers of all nodes, and the vectors. The only error is out of memory.
+fn numbered_vectors(
+    alloc: Global,
+    patterns: &Automaton<StoredPattern>,
+) -> Result<Numbered, AllocError>
+    ensures { IfOk result (λ n. AreNodesNumbered patterns.now n.numbers.items n.vectors.items (length patterns.now.texts)) }
+{
+    patterns.invariant();
+    let nodes = patterns.nodes();
+    let mut vectors = Vec::new(alloc);
+    vectors.push([0u8; 16])?;
+    vectors.push(UNKNOWN)?;
+    let mut slots = vec![in alloc; FREE; SLOTS]?;
+    let mut numbers = Vec::with_capacity(alloc, nodes)?;
+    numbers.push(0u32)?;
+    for node in 1..nodes {
+        let number = number_of(patterns, node, &mut vectors, &mut slots)?;
+        numbers.push(number)?;
+    }
+    Ok(Numbered { numbers, vectors })
+}
+
 // Returns the vectors of all nodes. The only error is out of memory.
 pub(crate) fn vectors_of(
     alloc: Global,
     patterns: &Automaton<StoredPattern>,
-) -> Result<Vec<[u8; 16]>, AllocError>
-    ensures { IfOk result (λ vectors. AreVectors patterns.now vectors.items) }
+) -> Result<NodeVectors, AllocError>
+    ensures { IfOk result (λ vectors. AreVectors patterns.now vectors) }
 {
-    let nodes = patterns.nodes();
-    let mut vectors = Vec::with_capacity(alloc, nodes)?;
-    for node in 0..nodes {
-        let pattern = pattern_of_node(patterns, node);
-        vectors.push(vector_of(pattern, patterns.depth(node)))?;
-    }
-    Ok(vectors)
+    let Numbered { numbers, vectors } = numbered_vectors(alloc, patterns)?;
+    let steps = make_steps(alloc, patterns, &numbers)?;
+    Ok(NodeVectors {
+        numbers,
+        vectors,
+        steps,
+    })
 }
 
 // Tests whether a node's text begins with a byte. Only then may a key.

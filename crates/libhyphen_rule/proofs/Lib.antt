@@ -25,6 +25,7 @@ pub mod Regions
 pub mod ClosedPatterns
 pub mod UnchangedLanes
 pub mod UnchangedDigits
+pub mod PassedVectors
 pub mod UnchangedWords
 pub mod UnchangedCalls
 pub mod UnchangedParts

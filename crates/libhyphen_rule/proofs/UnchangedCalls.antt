@@ -6,7 +6,7 @@ use Rattle.std.proofs.lemmas.List.{get_or-replicate, get_or_past, length-map, le
 use Rattle.std.proofs.lemmas.List.FromFn.{fill_by_all, length-map-range_with_len}
 use Rattle.libhyphen_files.specs.Bytes.{continues}
 use Rattle.libhyphen_files.specs.Files.{Rules}
-use Rattle.libhyphen_rule.specs.Calls.{Answer, answer_of, answer_of_found, begins_within, changes_in_characters, digits_kept, found_by_call}
+use Rattle.libhyphen_rule.specs.Calls.{Answer, answer_of, answer_of_found, begins_within, changes_in_characters, digits_kept, found_by_call, plain_answer}
 use Rattle.libhyphen_rule.specs.Found.{answer_view, placed, placed_all, placed_or_none}
 use Rattle.libhyphen_rule.specs.Minima.{changes_but, digits_but, left_goes, right_goes, goes_before, goes_after}
 use Rattle.libhyphen_rule.specs.OneLevel.{ChangeAt}
@@ -184,6 +184,21 @@ unchanged_is rules given text size first digits answer whole is same tells none 
     ∙ ap (λ (xs : List ℕ). length xs) is.digits_are in
     ap Some (view_none answer answer.digits.items false refl none made
     ∙ unchanged_by rules.utf8 text size found first digits kept answer.digits.items is same_kept long tells)
+    ∙ some_answer rules given text size whole
+
+-- The same, by the digits alone.
+pub plain_is : (rules : Rules) (given : Option CallMinima) (text : List ℕ) (size : ℕ) (first digits told : List ℕ)
+    → begins_within rules text ≡ false → IsUnchanged (found_by_call rules given text size) first
+    → digits ≡ digits_kept rules given text first
+    → told ≡ cond rules.utf8 (digits_of_characters (take size text) digits) digits
+    → Some (plain_answer told) ≡ answer_of rules given text size
+plain_is rules given text size first digits told whole is same tells =
+    let found : Found = found_by_call rules given text size in
+    let kept : List ℕ = digits_kept rules given text found.digits in
+    let same_kept : digits ≡ kept = same ∙ ap (digits_kept rules given text) (sym is.digits_are) in
+    let long : length kept ≡ length first = length-map-range_with_len _ 0 (length found.digits)
+    ∙ ap (λ (xs : List ℕ). length xs) is.digits_are in
+    ap Some (unchanged_by rules.utf8 text size found first digits kept told is same_kept long tells)
     ∙ some_answer rules given text size whole
 
 -- The answer in characters.

@@ -1,6 +1,6 @@
 -- The answers of libhyphen's calls for a word.
 -- Source: libhyphen 2.8.8, hyphen.h and hyphen.c.
-use Rattle.std.specs.Prelude.{ℕ, ℤ, pos, ◌+◌, ◌&&◌, int_le, int_lt, nat_lt, Bool, true, if◌then◌else◌, List, [], ◌∷◌, ◌++◌, length, map, take, drop, Option, None, Some, slice_index}
+use Rattle.std.specs.Prelude.{ℕ, ℤ, pos, ◌+◌, ◌&&◌, int_le, int_lt, nat_lt, Bool, true, false, if◌then◌else◌, List, [], ◌∷◌, ◌++◌, length, map, replicate, take, drop, Option, None, Some, slice_index}
 use Rattle.std.specs.List.{range_with_len}
 use Rattle.hyphenation_breaks.specs.Ascii.{digit_zero}
 use Rattle.libhyphen_files.specs.Bytes.{before_nul, continues}
@@ -69,6 +69,10 @@ pub record Answer : Type 0 where
   pub digits : List ℕ
   pub changes : List (Option ChangeAt)
   pub made : Bool
+
+-- An answer with these digits, and without changes.
+abbrev pub plain_answer : List ℕ → Answer
+plain_answer digits = record { digits = digits; changes = replicate (length digits) None; made = false }
 
 -- The changes of the characters of a word.
 abbrev pub changes_in_characters : List ℕ → ℕ → List (Option ChangeAt) → List (Option ChangeAt)

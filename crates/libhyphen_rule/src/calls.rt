@@ -6,7 +6,7 @@ ghost use Rattle.std.specs.Option.{option_map};
 ghost use Rattle.libhyphen_rule.specs.Found.{placed_all, found_of, answer_view};
 ghost use Rattle.libhyphen_files.specs.Bytes.{before_nul, continues};
 ghost use Rattle.libhyphen_rule.specs.Calls.{answer_of, inner_digit, inner_digits, plain_digits, text_of_call};
-ghost use Rattle.libhyphen_rule.specs.Calls.{found_by_call, changes_in_characters, taken_digit, greater, least_of, at_least_two};
+ghost use Rattle.libhyphen_rule.specs.Calls.{found_by_call, changes_in_characters, taken_digit, greater, least_of, at_least_two, plain_answer};
 ghost use Rattle.libhyphen_rule.specs.Parts.{without_left, without_right};
 ghost use Rattle.libhyphen_rule.specs.Private.Ordinary.{AllOrdinary, KeepsDigits};
 ghost use Rattle.libhyphen_rule.specs.Private.Unchanged.{HasNoDigits, IsUnchanged};
@@ -17,9 +17,10 @@ use crate::found::WordFound;
 use crate::minima::{take_left, take_right};
 use crate::one_level::PlacedChange;
 use crate::parts::{has_change, word_found};
-use crate::unchanged_parts::{has_digit, word_without_digits};
+use crate::unchanged_parts::{has_digit, read_short_word, word_without_digits};
 use crate::words::{
-    changes_of_characters, digits_of_characters, is_ascii, take_beside, written_word,
+    changes_of_characters, digits_of_characters, is_ascii, keep_last_digits, take_beside,
+    written_word,
 };
 use libhyphen_files::LevelDictionary;
 use libhyphen_files::bytes::{before_nul, continues};
@@ -298,6 +299,86 @@ fn kept_digits(
     };
     take_kept(dictionary, minima, text, &mut plain);
     Ok(Some(plain))
+}
+
+// Finds the digits of both levels in the first bytes of a text, a word without digits and of at most 64 bytes, but not those of
+// the places that are too near to its ends. Returns false, with anything in the list, where a pattern counts that may change
+// letters. The text has no byte 0.
+fn put_digits_by_call(
+    dictionary: &LevelDictionary,
+    minima: Option<CallMinima>,
+    text: &[u8],
+    size: usize,
+    digits: &mut [u8],
+) -> bool
+    requires within { size ≤ length text.now }
+    requires word { HasNoDigits (take size text.now) }
+    requires seen { text.now ≡ before_nul text.now }
+    requires short { size ≤ 64 }
+    requires digits { length digits.old ≡ size }
+    ensures found { IsTrue result → IsUnchanged (found_by_call dictionary.now minima text.now size) digits.new }
+    ensures digits { length digits.new ≡ size }
+{
+    let (word, behind) = text.split_at(size);
+    let least = least_of(dictionary.top().minima(), minima);
+    let utf8 = dictionary.is_utf8();
+    let (left, right) = (least.compound_left, least.compound_right);
+    if !read_short_word(dictionary, left, right, word, behind, digits) {
+        return false;
+    }
+    let (left, right) = (at_least_two(least.left), at_least_two(least.right));
+    take_left(utf8, left, text, digits, &mut []);
+    take_right(utf8, right, word, text, digits, &mut []);
+    true
+}
+
+// Leaves of the digits of a word's bytes those of its characters, at the front of the list. Returns how many there are.
+fn keep_digits(utf8: bool, word: &[u8], digits: &mut [u8]) -> usize
+    requires { length digits.old ≡ length word.now }
+    ensures digits { take result digits.new ≡ (if utf8 then digits_of_characters word.now digits.old else digits.old) }
+    ensures count { result ≤ length word.now }
+    ensures length { length digits.new ≡ length digits.old }
+{
+    if utf8 && !is_ascii(word) {
+        keep_last_digits(word, digits)
+    } else {
+        word.len()
+    }
+}
+
+/// Writes the digits of a word's characters to the front of a list, and returns how many there are; `None`, with anything in
+/// the list, where [`hyphenate`] must be asked. No memory is taken.
+///
+/// The answer of [`hyphenate`] has these digits then, and no changes. The word has at most 64 bytes, and the list a place for
+/// each. The result is `None` if the text has a digit, or the first byte of a text without breaks, or if a pattern counts that may
+/// change letters.
+///
+/// ```text
+/// let dictionary = load(alloc, b"UTF-8\nr5kin\n")?;
+/// short_digits(&dictionary, None, b"firkin", 6, &mut digits)    // 6, and the digits are 000500
+/// ```
+pub fn short_digits(
+    dictionary: &LevelDictionary,
+    minima: Option<CallMinima>,
+    text: &[u8],
+    size: usize,
+    digits: &mut [u8],
+) -> Option<usize>
+    requires within { size ≤ length text.now }
+    requires short { size ≤ 64 }
+    requires digits { length digits.old ≡ size }
+    ensures answer { IfSome result (λ count. Some (plain_answer (take count digits.new)) ≡ answer_of dictionary.now minima text.now size) }
+    ensures count { IfSome result (λ count. count ≤ size) }
+    ensures digits { length digits.new ≡ size }
+{
+    let utf8 = dictionary.is_utf8();
+    if utf8 && begins_within(text) || !all_ordinary(dictionary, text) {
+        return None;
+    }
+    if !put_digits_by_call(dictionary, minima, text, size, digits) {
+        return None;
+    }
+    Some(keep_digits(utf8, &text[..size], digits))
 }
 
 // Returns the changes of a word's characters. The word is the first bytes of a text. The only error is out of memory.

@@ -1,10 +1,10 @@
 //! Words in which no pattern counts that changes letters: their digits, found in one pass without a look at changes.
 //!
-//! The pass steps from node to node of the automaton, one step for each byte of the word's frame. Each node has a
-//! vector: the digits that its own pattern gives to the 16 last places, counted from 0. The pass keeps the digits of
-//! these places in one register. With each byte it moves them by one place, raises them to those of the vector, and
-//! writes them to a list. A digit that is moved out of the register is written for good, since no pattern that ends
-//! later gives one so far back.
+//! The pass reads one cell of a table of steps for each byte of the word's frame, or steps from node to node of the
+//! automaton where there is no table. Each node has a vector: the digits that its own pattern gives to the 16 last places,
+//! counted from 0. The pass keeps the digits of these places in one register. With each byte it moves them by one place,
+//! raises them to those of the vector, and writes them to a list. A digit that is moved out of the register is written for
+//! good, since no pattern that ends later gives one so far back.
 //!
 //! A vector with a lane above 9 does not tell the node's pattern. The pass goes on then, and its digits are not used.
 
@@ -12,18 +12,21 @@ ghost use Rattle.std.specs.Prelude.{◌≡◌, ℕ, List, ◌+◌, ◌<◌, ◌�
 ghost use Rattle.std.specs.Prelude.{length, replicate, slice_index};
 ghost use Rattle.hyphenation_breaks.specs.Ascii.{digit_zero, dot};
 ghost use Rattle.hyphenation_dictionary.specs.Parts.{patterns_of};
+ghost use Rattle.hyphenation_trie.specs.Steps.{AreSteps};
 ghost use Rattle.hyphenation_trie.specs.Trie.{EachBeginsKey};
 ghost use Rattle.libhyphen_files.specs.Vectors.{AreVectors, BeginsNoKey};
 ghost use Rattle.libhyphen_rule.specs.OneLevel.{changes_by, digits_by, level_changes, level_digits};
-ghost use Rattle.libhyphen_rule.specs.Private.Lanes.{AllKnown, PassesByte};
+ghost use Rattle.libhyphen_rule.specs.Private.Lanes.{AllKnown, AtNode, AtRow, IsReadWhole, PassesByte, TakesVector};
 ghost use Rattle.libhyphen_rule.specs.Private.Unchanged.{HasNoDigits};
 
 use crate::digits::clear;
 use hyphenation_dictionary::laws::keys_are_looked_up;
 use hyphenation_trie::laws::{keys_have_nodes, longest_goes_on};
+use hyphenation_trie::table::steps::Steps;
 use hyphenation_trie::{Automaton, LookUps};
 use libhyphen_files::level::FrozenLevel;
 use libhyphen_files::pattern::StoredPattern;
+use libhyphen_files::vectors::NodeVectors;
 use std::simd::prelude::*;
 
 // Moves the lanes by one to the front, with 0 at the end.
@@ -70,20 +73,45 @@ fn all_known(seen: u8x16) -> bool
     seen.simd_gt(u8x16::splat(9)).to_bitmask() == 0
 }
 
-// A frame of which some bytes are read: the node of the longest text there, the digits of the 16 last places, and for
-// each lane the greatest number of all vectors that were met.
+// A frame of which some bytes are read: the node of the longest text there, or the row for it, the digits of the 16 last
+// places, and for each lane the greatest number of all vectors that were met.
 #[derive(Clone, Copy, Drop)]
 struct FramePass {
-    node: usize,
+    place: usize,
     last: u8x16,
     seen: u8x16,
 }
 
-// Reads one byte more of a frame.
+// Takes the vector of one byte more of a frame.
 #[inline(always)]
-fn passed_byte(
+fn passed_vector(
+    pass: FramePass,
+    place: usize,
+    vector: &[u8; 16],
+    list: &mut [u8],
+    at: usize,
+) -> FramePass
+    requires lanes { (length pass.last ≡ 16) × (length pass.seen ≡ 16) × (length vector.now ≡ 16) }
+    requires room { at + 16 ≤ length list.old }
+    ensures takes { TakesVector vector.now at pass list.old result list.new }
+    ensures place { result.place ≡ place }
+    ensures room { length list.new ≡ length list.old }
+{
+    let vector = u8x16::from_array(*vector);
+    let last = greater(moved(pass.last), vector);
+    store(last, list, at);
+    FramePass {
+        place,
+        last,
+        seen: greater(pass.seen, vector),
+    }
+}
+
+// Reads one byte more of a frame, by a step from node to node.
+#[inline(always)]
+fn passed_by_links(
     patterns: &Automaton<StoredPattern>,
-    vectors: &[[u8; 16]],
+    vectors: &NodeVectors,
     pass: FramePass,
     byte: u8,
     list: &mut [u8],
@@ -91,25 +119,45 @@ fn passed_byte(
 ) -> FramePass
     requires begins { EachBeginsKey patterns.now }
     requires vectors { AreVectors patterns.now vectors.now }
-    requires node { pass.node < length patterns.now.texts }
+    requires node { pass.place < length patterns.now.texts }
     requires lanes { (length pass.last ≡ 16) × (length pass.seen ≡ 16) }
     requires room { at + 16 ≤ length list.old }
-    ensures passed { PassesByte patterns.now at byte pass list.old result list.new }
+    ensures passed { PassesByte (AtNode patterns.now) patterns.now at byte pass list.old result list.new }
     ensures room { length list.new ≡ length list.old }
 {
     patterns.invariant();
     keys_have_nodes::<StoredPattern>();
     longest_goes_on::<StoredPattern>();
     keys_are_looked_up::<StoredPattern>();
-    let node = patterns.step(pass.node, byte, &mut LookUps::new());
-    let vector = u8x16::from_array(vectors[node]);
-    let last = greater(moved(pass.last), vector);
-    store(last, list, at);
-    FramePass {
-        node,
-        last,
-        seen: greater(pass.seen, vector),
-    }
+    let node = patterns.step(pass.place, byte, &mut LookUps::new());
+    let number = vectors.numbers[node] as usize;
+    passed_vector(pass, node, &vectors.vectors[number], list, at)
+}
+
+// Reads one byte more of a frame, by a table of steps.
+#[inline(always)]
+fn passed_by_steps(
+    patterns: &Automaton<StoredPattern>,
+    vectors: &NodeVectors,
+    steps: &Steps,
+    pass: FramePass,
+    byte: u8,
+    list: &mut [u8],
+    at: usize,
+) -> FramePass
+    requires begins { EachBeginsKey patterns.now }
+    requires vectors { AreVectors patterns.now vectors.now }
+    requires row { (text : List ℕ) × AtRow patterns.now vectors.now steps.now text pass.place }
+    requires lanes { (length pass.last ≡ 16) × (length pass.seen ≡ 16) }
+    requires room { at + 16 ≤ length list.old }
+    ensures passed { PassesByte (AtRow patterns.now vectors.now steps.now) patterns.now at byte pass list.old result list.new }
+    ensures room { length list.new ≡ length list.old }
+{
+    patterns.invariant();
+    keys_have_nodes::<StoredPattern>();
+    keys_are_looked_up::<StoredPattern>();
+    let (row, number) = steps.step(patterns, pass.place, byte);
+    passed_vector(pass, row, &vectors.vectors[number], list, at)
 }
 
 // Puts the digits of a word's places, by the list in which they are counted from 0. The place behind the last byte has
@@ -133,12 +181,92 @@ fn put_digits(list: &[u8], digits: &mut [u8])
     digits[inner] = b'0';
 }
 
+// Reads the frame of a word without digits, by steps from node to node.
+#[inline(always)]
+fn read_by_links(
+    patterns: &Automaton<StoredPattern>,
+    vectors: &NodeVectors,
+    word: &[u8],
+    list: &mut [u8],
+) -> FramePass
+    requires begins { EachBeginsKey patterns.now }
+    requires vectors { AreVectors patterns.now vectors.now }
+    requires word { HasNoDigits word.now }
+    requires list { length word.now + 18 ≤ length list.old }
+    ensures read { IsReadWhole patterns.now word.now result list.new }
+    ensures room { length list.new ≡ length list.old }
+{
+    patterns.invariant();
+    let none = u8x16::splat(0);
+    let start = FramePass {
+        place: patterns.root(),
+        last: none,
+        seen: none,
+    };
+    let mut pass = passed_by_links(patterns, vectors, start, b'.', list, 0);
+    for at in 0..word.len() {
+        pass = passed_by_links(patterns, vectors, pass, word[at], list, at + 1);
+    }
+    passed_by_links(patterns, vectors, pass, b'.', list, word.len() + 1)
+}
+
+// Reads the frame of a word without digits, by a table of steps.
+#[inline(always)]
+fn read_by_steps(
+    patterns: &Automaton<StoredPattern>,
+    vectors: &NodeVectors,
+    steps: &Steps,
+    word: &[u8],
+    list: &mut [u8],
+) -> FramePass
+    requires begins { EachBeginsKey patterns.now }
+    requires vectors { AreVectors patterns.now vectors.now }
+    requires steps { AreSteps patterns.now vectors.now.numbers.items steps.now }
+    requires word { HasNoDigits word.now }
+    requires list { length word.now + 18 ≤ length list.old }
+    ensures read { IsReadWhole patterns.now word.now result list.new }
+    ensures room { length list.new ≡ length list.old }
+{
+    let none = u8x16::splat(0);
+    let start = FramePass {
+        place: steps.first_row(patterns),
+        last: none,
+        seen: none,
+    };
+    let mut pass = passed_by_steps(patterns, vectors, steps, start, b'.', list, 0);
+    for at in 0..word.len() {
+        pass = passed_by_steps(patterns, vectors, steps, pass, word[at], list, at + 1);
+    }
+    passed_by_steps(patterns, vectors, steps, pass, b'.', list, word.len() + 1)
+}
+
+// Reads the frame of a word without digits.
+#[inline(always)]
+fn read_whole(
+    patterns: &Automaton<StoredPattern>,
+    vectors: &NodeVectors,
+    word: &[u8],
+    list: &mut [u8],
+) -> FramePass
+    requires begins { EachBeginsKey patterns.now }
+    requires vectors { AreVectors patterns.now vectors.now }
+    requires word { HasNoDigits word.now }
+    requires list { length word.now + 18 ≤ length list.old }
+    ensures read { IsReadWhole patterns.now word.now result list.new }
+    ensures room { length list.new ≡ length list.old }
+{
+    match &vectors.steps {
+        Some(steps) => read_by_steps(patterns, vectors, steps, word, list),
+        None => read_by_links(patterns, vectors, word, list),
+    }
+}
+
 // Finds the digits of a word's places by some patterns, in one pass over the word's frame. Returns false where a
 // pattern counts that may change letters. The word has no digits.
 #[inline(always)]
 fn read_frame(
     patterns: &Automaton<StoredPattern>,
-    vectors: &[[u8; 16]],
+    vectors: &NodeVectors,
     word: &[u8],
     list: &mut [u8],
     digits: &mut [u8],
@@ -154,18 +282,7 @@ fn read_frame(
     ensures list_length { length list.new ≡ length list.old }
     ensures digits_length { length digits.new ≡ length digits.old }
 {
-    patterns.invariant();
-    let none = u8x16::splat(0);
-    let start = FramePass {
-        node: patterns.root(),
-        last: none,
-        seen: none,
-    };
-    let mut pass = passed_byte(patterns, vectors, start, b'.', list, 0);
-    for at in 0..word.len() {
-        pass = passed_byte(patterns, vectors, pass, word[at], list, at + 1);
-    }
-    pass = passed_byte(patterns, vectors, pass, b'.', list, word.len() + 1);
+    let pass = read_whole(patterns, vectors, word, list);
     if !all_known(pass.seen) {
         return false;
     }

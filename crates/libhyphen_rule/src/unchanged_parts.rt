@@ -220,3 +220,29 @@ pub(crate) fn word_without_digits(
     };
     if is_found { Ok(Some(digits)) } else { Ok(None) }
 }
+
+// Finds the digits of a word by both levels, before the minima of the whole word. Returns false, with anything in the list,
+// where a pattern counts that may change letters. The word has at most 64 bytes, and no digits. `behind` is what stands behind it;
+// `left` and `right` are the least numbers of letters in its parts.
+pub(crate) fn read_short_word(
+    dictionary: &LevelDictionary,
+    left: i32,
+    right: i32,
+    word: &[u8],
+    behind: &[u8],
+    digits: &mut [u8],
+) -> bool
+    requires word { HasNoDigits word.now }
+    requires short { length word.now ≤ 64 }
+    requires digits { length digits.old ≡ length word.now }
+    ensures found { IsTrue result → IsUnchangedWord dictionary.now left right word.now behind.now digits.new }
+    ensures digits { length digits.new ≡ length digits.old }
+{
+    let levels = BothLevels {
+        dictionary,
+        left,
+        right,
+    };
+    let mut list = [0u8; 96];
+    read_word(levels, word, behind, &mut list, digits)
+}

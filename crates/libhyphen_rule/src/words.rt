@@ -1,7 +1,7 @@
 //! The last steps over a whole word: texts beside which no break stands, the word written with its breaks, and
 //! characters.
 
-ghost use Rattle.std.specs.Prelude.{◌≡◌, ◌<◌, ◌==◌, ℕ, false, List, [], ◌∷◌, nat_lt, length, map, option_map};
+ghost use Rattle.std.specs.Prelude.{◌≡◌, ◌<◌, ◌≤◌, ◌==◌, ℕ, false, List, [], ◌∷◌, nat_lt, length, map, option_map, take};
 ghost use Rattle.std.specs.Prelude.{slice_index_or, slice_range, IfOk, OnOk};
 ghost use Rattle.std.specs.List.{list_all, list_any};
 ghost use Rattle.libhyphen_rule.specs.Found.{placed, placed_all};
@@ -177,6 +177,24 @@ pub(crate) fn digits_of_characters(
         }
     }
     Ok(found)
+}
+
+// Moves the digit behind the last byte of each character of a word in UTF-8 to the front of the list. Returns how many
+// there are. The rest of the list has anything then.
+pub(crate) fn keep_last_digits(word: &[u8], digits: &mut [u8]) -> usize
+    requires { length digits.old ≡ length word.now }
+    ensures digits { take result digits.new ≡ digits_of_characters word.now digits.old }
+    ensures count { result ≤ length word.now }
+    ensures length { length digits.new ≡ length digits.old }
+{
+    let mut count = 0;
+    for byte in 0..word.len() {
+        if is_last(word, byte) {
+            digits[count] = digits[byte];
+            count += 1;
+        }
+    }
+    count
 }
 
 // Returns the number of characters that begin in a text.

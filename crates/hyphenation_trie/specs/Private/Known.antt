@@ -3,7 +3,6 @@ use Rattle.std.specs.Prelude.{◌≡◌, ℕ, ◌+◌, ◌*◌, ◌/◌, ◌%◌
 use Rattle.hyphenation_breaks.specs.Dictionary.{Patterns}
 use Rattle.hyphenation_breaks.specs.Ranks.{greatest_rank}
 use Rattle.hyphenation_breaks.specs.declared.entry.Entry.{Entry}
-use Rattle.hyphenation_trie.specs.Links.{EndsWith, IsLongest}
 use Rattle.hyphenation_trie.specs.Trie.{Tree, node_text, entries_of_key}
 use Rattle.hyphenation_trie.specs.Vectors.{AreNearEntries, IsVector, keys_at_end}
 
@@ -48,36 +47,3 @@ pub record AreClasses (texts : List (List ℕ)) (classes : List ℕ) (quarter : 
   pub below : (b : ℕ) → b < 256 → slice_index classes b < quarter * 4
   pub apart : (b c : ℕ) → b < 256 → c < 256 → slice_index classes b ≡ slice_index classes c → 0 < slice_index classes b → b ≡ c
   pub used : (j b : ℕ) (front : List ℕ) → j < length texts → b < 256 → slice_index_or texts j [] ≡ front ++ b ∷ [] → 0 < slice_index classes b
-
--- The node has a child.
-abbrev pub HasChild : {E : Type 0} → Tree E → ℕ → Type 0
-HasChild tree node =
-    (child : ℕ) × (byte : ℕ) × (child < length tree.texts) × (node_text tree child ≡ node_text tree node ++ byte ∷ [])
-
--- Among the nodes with children whose texts end this text, the node is the one with the longest. It may also be the text's
--- own node or the root.
-pub record IsLongestInner {E : Type 0} (tree : Tree E) (text : List ℕ) (node : ℕ) : Type 0 where
-  pub within : node < length tree.texts
-  pub ends : EndsWith text (node_text tree node)
-  pub most : (k : ℕ) → k < length tree.texts → HasChild tree k → EndsWith text (node_text tree k)
-      → length (node_text tree k) ≤ length (node_text tree node)
-
--- A cell for this text: it leads to the row of the longest node with children that ends the text, and holds the number of
--- the longest node that does.
-pub record IsCellTo {E : Type 0} (tree : Tree E) (numbers rows : List ℕ) (quarter : ℕ) (text : List ℕ) (cell : ℕ) : Type 0 where
-  pub row : ℕ
-  pub within : row < length rows
-  pub next : cell / 4096 ≡ row * quarter
-  pub inner : IsLongestInner tree text (slice_index rows row)
-  pub node : ℕ
-  pub longest : IsLongest tree.texts text node
-  pub number : cell % 4096 ≡ slice_index numbers node
-
--- The cells are those of the rows of these nodes. The first is that of the root.
-pub record AreRows {E : Type 0} (tree : Tree E) (numbers classes : List ℕ) (quarter : ℕ) (cells rows : List ℕ) : Type 0 where
-  pub has_root : 0 < length rows
-  pub root : slice_index rows 0 ≡ 0
-  pub room : length rows * quarter * 4 ≤ length cells
-  pub each : (row byte : ℕ) → row < length rows → byte < 256
-      → IsCellTo tree numbers rows quarter (node_text tree (slice_index rows row) ++ byte ∷ [])
-      (slice_index cells (row * quarter * 4 + slice_index classes byte))

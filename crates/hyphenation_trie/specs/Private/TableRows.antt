@@ -1,7 +1,7 @@
 -- Rows of a table while they are made.
 use Rattle.std.specs.Prelude.{◌≡◌, ◌≢◌, ◌==◌, ℕ, zero, suc, ◌+◌, ◌*◌, ◌-◌, ◌^◌, ◌<◌, ◌≤◌, ◌⊎◌, if◌then◌else◌, Bool, true, false, List, [], ◌∷◌, ◌++◌, length, slice_index, slice_index_or}
 use Rattle.hyphenation_trie.specs.Trie.{Tree, node_text}
-use Rattle.hyphenation_trie.specs.Private.Known.{HasChild, IsLongestInner}
+use Rattle.hyphenation_trie.specs.Steps.{HasChild, IsLongestInner}
 use Rattle.hyphenation_trie.specs.Private.States.{LinkedTree, links_of}
 
 -- Each node with children is marked.

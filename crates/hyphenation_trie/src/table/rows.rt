@@ -5,7 +5,8 @@
 //! takes its other cells from the row of its link. Rows are in the order of depths, so the row of the link is complete by then.
 
 ghost use Rattle.std.specs.Prelude.{◌≡◌, ◌+◌, ◌*◌, ◌-◌, ◌^◌, ◌<◌, ◌≤◌, ℕ, List, length, slice_index, IfOk, IfSome, OnOk};
-ghost use Rattle.hyphenation_trie.specs.Private.Known.{AreByDepth, AreClasses, AreRows};
+ghost use Rattle.hyphenation_trie.specs.Private.Known.{AreByDepth, AreClasses};
+ghost use Rattle.hyphenation_trie.specs.Steps.{AreRows};
 ghost use Rattle.hyphenation_trie.specs.Private.States.{IsLinked};
 ghost use Rattle.hyphenation_trie.specs.Private.TableRows.{filled, free_cell, link_row, AreChildCells, AreFilled, AreInner, AreRowsOf};
 

@@ -1,5 +1,6 @@
 use Rattle.std.proofs.Common.{ℕ, List, subst}
-use Rattle.hyphenation_trie.specs.Private.Known.{AreClasses, AreKnown, AreRows}
+use Rattle.hyphenation_trie.specs.Private.Known.{AreClasses, AreKnown}
+use Rattle.hyphenation_trie.specs.Steps.{AreRows}
 use Rattle.hyphenation_trie.specs.declared.table.Table.{Table}
 use Rattle.hyphenation_trie.proofs.TableMade.{row_texts, table_is}
 use Rattle.hyphenation_trie.proofs.table.make_table.Goals as goal

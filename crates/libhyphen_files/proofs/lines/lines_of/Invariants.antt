@@ -1,10 +1,12 @@
-use Rattle.std.proofs.Common.{◌≡◌, ◌-◌, ◌≤◌, ◌++◌, drop, take, map}
+use Rattle.std.proofs.Common.{◌≡◌, ◌<◌, ◌++◌, [], length, map}
 use Rattle.libhyphen_files.specs.Lines.{lines_from, lines_of}
 use Rattle.libhyphen_files.proofs.lines.lines_of.Given as goal
 
-abbrev pub invariant-loop-i : goal.invariant-loop-i
-invariant-loop-i l = record {
-  begun : l.start ≤ l.i;
-  lines : map (λ line. line.now) l.lines.items ++ lines_from (take (l.i - l.start) (drop l.start l.bytes)) l.room (drop l.i l.bytes)
-      ≡ lines_of l.bytes;
+abbrev pub invariant-loop-rest : goal.invariant-loop-rest
+invariant-loop-rest l = record {
+  room : 0 < l.room;
+  lines : map (λ line. line.now) l.lines.items ++ lines_from [] l.room l.rest ≡ lines_of l.bytes;
 }
+
+abbrev pub decreases-loop-rest : goal.decreases-loop-rest
+decreases-loop-rest l = length l.rest

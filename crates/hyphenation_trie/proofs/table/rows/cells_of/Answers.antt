@@ -1,5 +1,6 @@
 use Rattle.std.proofs.Common.{◌≡◌, ◌+◌, ◌*◌, ◌^◌, ◌<◌, ◌++◌, ℕ, List, length, take, drop, slice_index, sym, ap, subst, ◌∙◌, arith}
-use Rattle.hyphenation_trie.specs.Private.Known.{AreClasses, AreRows}
+use Rattle.hyphenation_trie.specs.Private.Known.{AreClasses}
+use Rattle.hyphenation_trie.specs.Steps.{AreRows}
 use Rattle.hyphenation_trie.specs.Private.TableRows.{AreFilled, link_row}
 use Rattle.hyphenation_trie.proofs.TableRows.{free_rows, lent_back, rows_right}
 use Rattle.hyphenation_trie.proofs.table.rows.cells_of.Goals as goal

@@ -8,5 +8,9 @@ use Rattle.libhyphen_files.proofs.level.GrowingLevel.freeze.Goals as goal
 
 pub invariant_of-result : goal.invariant_of-result
 invariant_of-result c =
-    let was = subst (λ (t : Tree Pattern). EachBeginsKey t × (IsFalse c.self.inside.has_changes → HasNoChanges (patterns_of t))) (sym c.in_ok-patterns.ensures) c.self.invariant in
-    (was.0, was.1, c.in_ok-vectors.ensures, c.first_bytes-first_bytes.ensures)
+    let same = sym c.in_ok-patterns.ensures in (
+      subst (λ (t : Tree Pattern). EachBeginsKey t) same c.requires.begins,
+      subst (λ (t : Tree Pattern). IsFalse c.args.self.has_changes → HasNoChanges (patterns_of t)) same c.requires.changes,
+      c.in_ok-vectors.ensures,
+      c.first_bytes-first_bytes.ensures,
+    )

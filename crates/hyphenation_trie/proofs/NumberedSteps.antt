@@ -1,0 +1,107 @@
+-- Steps of a table with a number for each node: what the cell of a row leads to.
+use Rattle.std.proofs.Common.{◌≡◌, ℕ, suc, ◌+◌, ◌*◌, ◌/◌, ◌%◌, ◌<◌, ◌≤◌, List, [], ◌∷◌, ◌++◌, length, get_or, slice_index, refl, sym, ap, subst, ◌∙◌, arith, inl, inr}
+use Rattle.std.proofs.lemmas.List.{get_or_default}
+use Rattle.std.proofs.Math.Nat.{mul-le-mul_right, suc-mul}
+use Rattle.hyphenation_trie.specs.Links.{EndsWith, IsLongest}
+use Rattle.hyphenation_trie.specs.Steps.{HasChild, IsLongestInner, IsCellTo, AreSteps, StandsFor, IsStepOf}
+use Rattle.hyphenation_trie.specs.Trie.{Tree, node_text, IsTrie}
+use Rattle.hyphenation_trie.specs.declared.table.steps.Steps.{Steps}
+use Rattle.hyphenation_trie.proofs.Suffixes.{Ends-both, Ends-trans, Ends-push, Ends-nil, length-push, parent}
+
+-- Among the nodes with children whose texts end a text, the node is the one with the longest.
+module _ {E : Type 0} (tree : Tree E) (trie : IsTrie tree) (text : List ℕ) (byte node : ℕ) (now : IsLongestInner tree text node) where
+  -- so a node that ends the text with one more byte ends the node's text with the byte
+  ends_inner : (k : ℕ) → k < length tree.texts → EndsWith (text ++ byte ∷ []) (node_text tree k) → EndsWith (node_text tree node ++ byte ∷ []) (node_text tree k)
+  ends_inner k lk e =
+      let own = node_text tree node in
+      let short : length (node_text tree k) ≤ length (own ++ byte ∷ []) =
+      elim (parent tree.texts trie.root trie.closed text byte k lk e) [
+        | inl nil ↦ omega arith
+        | inr h ↦ omega (arith, now.most h.0 h.1 (k, byte, lk, h.3) h.2, h.4, length-push own byte)
+      ] in
+      Ends-both (text ++ byte ∷ []) (own ++ byte ∷ []) (node_text tree k) (Ends-push text own byte now.ends) e short
+
+  -- the longest node that ends these ends both
+  longest_on : (next : ℕ) → IsLongest tree.texts (node_text tree node ++ byte ∷ []) next → IsLongest tree.texts (text ++ byte ∷ []) next
+  longest_on next then = record {
+    within = then.within;
+    ends = Ends-trans (text ++ byte ∷ []) (node_text tree node ++ byte ∷ []) (node_text tree next) (Ends-push text (node_text tree node) byte now.ends) then.ends;
+    most = λ k lk e. then.most k lk (ends_inner k lk e);
+  }
+
+  inner_on : (next : ℕ) → IsLongestInner tree (node_text tree node ++ byte ∷ []) next → IsLongestInner tree (text ++ byte ∷ []) next
+  inner_on next then = record {
+    within = then.within;
+    ends = Ends-trans (text ++ byte ∷ []) (node_text tree node ++ byte ∷ []) (node_text tree next) (Ends-push text (node_text tree node) byte now.ends) then.ends;
+    most = λ k lk child e. then.most k lk child (ends_inner k lk e);
+  }
+
+-- the cell of a byte in the row of a text
+abbrev cell_of : Steps → ℕ → ℕ → ℕ
+cell_of steps start byte = slice_index steps.cells.items (start * 4 + slice_index steps.classes.items byte)
+
+-- what the cell of a row at a byte leads to
+step_is : {E : Type 0} (tree : Tree E) → IsTrie tree → (numbers : List ℕ) (steps : Steps) (start : ℕ) (text : List ℕ) (byte cell : ℕ) → byte < 256 → cell ≡ cell_of steps start byte → StandsFor tree numbers steps start text
+    → IsStepOf tree numbers steps (text ++ byte ∷ []) (cell / 4096) (cell % 4096)
+step_is tree trie numbers steps start text byte cell small is on =
+    let there : cell ≡ cell_of steps (on.row * on.quarter) byte = is ∙ ap (λ (r : ℕ). cell_of steps r byte) on.start_is in
+    let node : ℕ = slice_index on.rows on.row in
+    let to : IsCellTo tree numbers on.rows on.quarter (node_text tree node ++ byte ∷ []) cell =
+    subst (λ (k : ℕ). IsCellTo tree numbers on.rows on.quarter (node_text tree node ++ byte ∷ []) k) (sym there) (on.are_steps.cells.each on.row byte on.within small) in
+    record {
+      stands = record {
+        rows = on.rows;
+        quarter = on.quarter;
+        are_steps = on.are_steps;
+        row = to.row;
+        within = to.within;
+        start_is = to.next;
+        inner = inner_on tree trie text byte node on.inner (slice_index on.rows to.row) to.inner;
+      };
+      node = to.node;
+      longest = longest_on tree trie text byte node on.inner to.node to.longest;
+      number_is = to.number;
+    }
+
+-- the row ends within the cells
+row_in : {E : Type 0} (tree : Tree E) (numbers : List ℕ) (steps : Steps) (start : ℕ) (text : List ℕ) (on : StandsFor tree numbers steps start text) → start * 4 + on.quarter * 4 ≤ length steps.cells.items
+row_in tree numbers steps start text on =
+    let times = mul-le-mul_right {m = suc on.row} {n = length on.rows} on.quarter (omega (arith, on.within)) in
+    let one = suc-mul on.row on.quarter in
+    omega (arith, on.start_is, on.are_steps.cells.room, times, one)
+
+-- the class of a byte is one, and its cell is there
+pub class_in : {E : Type 0} (tree : Tree E) (numbers : List ℕ) (steps : Steps) (start : ℕ) (text : List ℕ) (byte class : ℕ) → byte < 256 → StandsFor tree numbers steps start text
+    → class ≡ get_or steps.classes.items byte class → (byte < length steps.classes.items) × (start * 4 + class < length steps.cells.items)
+class_in tree numbers steps start text byte class small on class_read =
+    let t = on.are_steps in
+    let known : class ≡ slice_index steps.classes.items byte = class_read ∙ get_or_default steps.classes.items byte class 0 (omega (arith, t.classes)) in
+    let low = t.below byte small in
+    (omega (arith, t.classes), omega (arith, known, low, row_in tree numbers steps start text on))
+
+-- a cell that was read is that of the row at the byte
+pub step_read : {E : Type 0} (tree : Tree E) → IsTrie tree → (numbers : List ℕ) (steps : Steps) (start : ℕ) (text : List ℕ) (byte class cell : ℕ) → byte < 256 → StandsFor tree numbers steps start text
+    → class ≡ get_or steps.classes.items byte class → cell ≡ get_or steps.cells.items (start * 4 + class) cell → IsStepOf tree numbers steps (text ++ byte ∷ []) (cell / 4096) (cell % 4096)
+step_read tree trie numbers steps start text byte class cell small on class_read cell_read =
+    let known : class ≡ slice_index steps.classes.items byte = class_read ∙ get_or_default steps.classes.items byte class 0 (omega (arith, on.are_steps.classes)) in
+    let within = class_in tree numbers steps start text byte class small on class_read in
+    let is : cell ≡ cell_of steps start byte = cell_read ∙ get_or_default steps.cells.items (start * 4 + class) cell 0 within.1 ∙ ap (λ (k : ℕ). slice_index steps.cells.items (start * 4 + k)) known in
+    step_is tree trie numbers steps start text byte cell small is on
+
+-- the row of the empty text
+pub first_stands : {E : Type 0} (tree : Tree E) → IsTrie tree → (numbers : List ℕ) (steps : Steps) → AreSteps tree numbers steps → StandsFor tree numbers steps 0 []
+first_stands tree trie numbers steps is =
+    let root = is.2.cells.root in
+    record {
+      rows = is.0;
+      quarter = is.1;
+      are_steps = is.2;
+      row = 0;
+      within = is.2.cells.has_root;
+      start_is = omega arith;
+      inner = subst (λ (k : ℕ). IsLongestInner tree [] k) (sym root) (record {
+        within = trie.has_root;
+        ends = subst (λ (t : List ℕ). EndsWith [] t) (sym trie.root) (Ends-nil []);
+        most = λ k lk child e. omega (arith, e.0);
+      });
+    }

@@ -1,0 +1,73 @@
+//! Steps by rows of cells, with a number for each node.
+//!
+//! A row stands for a node with children, and has a cell for each class of bytes. The cell of a byte leads to the row of the
+//! longest node with children that ends the row's text with the byte. It also has the number of the longest node that does,
+//! with children or without. The caller chooses the numbers.
+
+ghost use Rattle.std.specs.Prelude.{◌≡◌, ◌<◌, ℕ, List, [], length, slice_index, IfOk, IfSome};
+ghost use Rattle.hyphenation_trie.specs.Steps.{AreSteps, StandsFor, StepsBy};
+
+use super::classes::classes_of;
+use super::order::nodes_by_depth;
+use super::rows::cells_of;
+use crate::Automaton;
+use std::alloc::{AllocError, Global};
+
+/// A table of steps with a number for each node.
+#[derive(Drop)]
+pub struct Steps {
+    /// The cells of all rows. A cell holds where the next row begins, in units of four cells, times 4096, plus a number.
+    pub cells: Vec<u32>,
+    /// The class of each byte.
+    pub classes: Vec<u8>,
+}
+
+impl Steps {
+    /// Returns where the row of the empty text begins, in units of four cells.
+    #[inline(always)]
+    pub fn first_row<E: Drop>(&self, automaton: &Automaton<E>) -> usize
+        ensures { (numbers : List ℕ) → AreSteps automaton.now numbers self.now
+            → StandsFor automaton.now numbers self.now result [] }
+    {
+        automaton.invariant();
+        0
+    }
+
+    /// Reads one byte from a row: returns where the next row begins, in units of four cells, and the number of the longest
+    /// node.
+    #[inline(always)]
+    pub fn step<E: Drop>(&self, automaton: &Automaton<E>, start: usize, byte: u8) -> (usize, usize)
+        requires row { (numbers : List ℕ) × (text : List ℕ) × StandsFor automaton.now numbers self.now start text }
+        ensures { StepsBy automaton.now self.now start byte result.0 result.1 }
+    {
+        automaton.invariant();
+        let cell = self.cells[start * 4 + self.classes[byte as usize] as usize];
+        ((cell >> 12) as usize, (cell % 4096) as usize)
+    }
+}
+
+/// Makes a table of the steps of an automaton, with a number for each node, or returns `None` where there can be none of this
+/// form.
+///
+/// There is none if the rows would have 4,194,304 cells or more, or if all 256 bytes are in keys. The numbers are below 4096, and that of
+/// the root is 0. The only error is out of memory.
+pub fn make_steps<E: Drop>(
+    alloc: Global,
+    automaton: &Automaton<E>,
+    numbers: &[u32],
+) -> Result<Option<Steps>, AllocError>
+    requires nodes { length numbers.now ≡ length automaton.now.texts }
+    requires few { (j : ℕ) → j < length automaton.now.texts → slice_index numbers.now j < 4096 }
+    requires root { slice_index numbers.now 0 ≡ 0 }
+    ensures { IfOk result (λ made. IfSome made (λ steps. AreSteps automaton.now numbers.now steps)) }
+{
+    automaton.invariant();
+    let Some((classes, quarter)) = classes_of(alloc, automaton)? else {
+        return Ok(None);
+    };
+    let order = nodes_by_depth(alloc, automaton)?;
+    let Some(cells) = cells_of(alloc, automaton, &order, numbers, &classes, quarter)? else {
+        return Ok(None);
+    };
+    Ok(Some(Steps { cells, classes }))
+}

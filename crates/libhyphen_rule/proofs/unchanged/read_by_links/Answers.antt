@@ -1,0 +1,43 @@
+use Rattle.std.proofs.Common.{◌≡◌, ◌+◌, length, refl, ap, ◌∙◌, arith}
+use Rattle.std.proofs.lemmas.List.{get_or-replicate}
+use Rattle.libhyphen_rule.specs.Counting.{framed}
+use Rattle.libhyphen_rule.specs.Private.Lanes.{AtNode}
+use Rattle.libhyphen_rule.proofs.LongestStart.{longest_none}
+use Rattle.libhyphen_rule.proofs.RaisedDigits.{length-framed}
+use Rattle.libhyphen_rule.proofs.UnchangedWords.{frame_byte, none_passed, read_whole}
+use Rattle.libhyphen_rule.proofs.unchanged.read_by_links.Goals as goal
+
+pub loop-at-init : goal.loop-at-init
+loop-at-init c =
+    let tree = c.args.patterns.now in
+    let frame = framed c.args.word.now in
+    record {
+      len = c.passed_by_links-pass.ensures.room;
+      passed = c.passed_by_links-pass.ensures.passed frame (omega (arith, length-framed c.args.word.now)) refl
+          (none_passed (AtNode tree) tree frame _ c.args.list.now (longest_none tree c.invariant.ensures frame c.root.result c.root.ensures.root) refl refl (λ lane lt. get_or-replicate 16 lane 0 0 lt));
+    }
+
+pub passed_by_links-pass-requires-in-loop-at-clause-node : goal.passed_by_links-pass-requires-in-loop-at-clause-node
+passed_by_links-pass-requires-in-loop-at-clause-node c = c.loop-at.invariant.passed.stands_there.within
+
+pub passed_by_links-pass-requires-in-loop-at-clause-lanes : goal.passed_by_links-pass-requires-in-loop-at-clause-lanes
+passed_by_links-pass-requires-in-loop-at-clause-lanes c = (c.loop-at.invariant.passed.lanes, c.loop-at.invariant.passed.seen_lanes)
+
+pub loop-at-preserved : goal.loop-at-preserved
+loop-at-preserved c =
+    let word = c.args.word.now in
+    record {
+      len = c.passed_by_links-pass-in-loop-at.ensures.room ∙ c.loop-at.invariant.len;
+      passed = c.passed_by_links-pass-in-loop-at.ensures.passed (framed word) (omega (arith, length-framed word)) (frame_byte word c.requires.word c.loop-at.at (omega arith)) c.loop-at.invariant.passed;
+    }
+
+pub passed_by_links-requires-clause-node : goal.passed_by_links-requires-clause-node
+passed_by_links-requires-clause-node c = c.loop-at.invariant.passed.stands_there.within
+
+pub passed_by_links-requires-clause-lanes : goal.passed_by_links-requires-clause-lanes
+passed_by_links-requires-clause-lanes c = (c.loop-at.invariant.passed.lanes, c.loop-at.invariant.passed.seen_lanes)
+
+pub returns-clause-read : goal.returns-clause-read
+returns-clause-read c =
+    read_whole (AtNode c.args.patterns.now) c.args.patterns.now c.args.word.now c.loop-at.at c.loop-at.pass c.passed_by_links.result c.loop-at.list c.passed_by_links.new.list
+    c.requires.word (omega arith) c.loop-at.invariant.passed c.passed_by_links.ensures.passed

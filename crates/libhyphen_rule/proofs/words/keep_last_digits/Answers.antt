@@ -1,0 +1,50 @@
+use Rattle.std.proofs.Common.{◌≡◌, ◌∙◌, ◌+◌, ◌<◌, ℕ, List, ap, arith, map, length, refl, sym, take, [], ◌∷◌, ◌++◌}
+use Rattle.std.specs.Prelude.{filter, slice_index}
+use Rattle.std.specs.List.{range_with_len}
+use Rattle.std.proofs.lemmas.Grind.{take-set_at}
+use Rattle.std.proofs.lemmas.List.{get_or-set_other, length-set}
+use Rattle.libhyphen_rule.specs.Words.{is_last, last_bytes}
+use Rattle.libhyphen_rule.proofs.WordSteps.{kept_more, left_more}
+use Rattle.libhyphen_rule.proofs.words.keep_last_digits.Goals as goal
+use Rattle.libhyphen_rule.proofs.words.keep_last_digits.Goals.{then-is_last, else-is_last}
+
+pub loop-byte-preserved : goal.loop-byte-preserved
+loop-byte-preserved c =
+    let n : ℕ = c.loop-byte.byte in
+    let count : ℕ = c.loop-byte.count in
+    let digits : List ℕ = c.loop-byte.digits in
+    let new : List ℕ = c.if-is_last.digits in
+    let last = is_last c.args.word.now in
+    let digit = λ (byte : ℕ). slice_index c.args.digits.now byte in
+    let inv = c.loop-byte.invariant in
+    let within : count < length digits = omega (arith, inv.count, inv.length, c.requires, c.loop-byte-test.true) in
+    elim c.if-is_last.branch [
+      | then-is_last w ↦ record {
+        length = ap length w.digits-is ∙ length-set digits count (slice_index digits n) ∙ inv.length;
+        count = omega (arith, w.count-is, inv.count);
+        kept = ap (λ (k : ℕ). take k new) w.count-is ∙ ap (take (count + 1)) w.digits-is
+            ∙ take-set_at digits count (count + 1) (slice_index digits n) refl within
+            ∙ ap (λ (v : ℕ). take count digits ++ v ∷ []) (inv.later n (omega arith))
+            ∙ ap (λ (xs : List ℕ). xs ++ digit n ∷ []) inv.kept
+            ∙ sym (kept_more digit last n (sym c.is_last.ensures ∙ w.if-is_last.true));
+        later = λ byte le.
+            ap (λ (xs : List ℕ). slice_index xs byte) w.digits-is
+            ∙ get_or-set_other digits count byte (slice_index digits n) 0 (λ e. absurd (omega (arith, e, le, inv.count)))
+            ∙ inv.later byte (omega (arith, le));
+      }
+      | else-is_last w ↦ record {
+        length = ap length w.digits-is ∙ inv.length;
+        count = omega (arith, w.count-is, inv.count);
+        kept = ap (λ (k : ℕ). take k new) w.count-is ∙ ap (take count) w.digits-is ∙ inv.kept
+            ∙ sym (left_more digit last n (sym c.is_last.ensures ∙ w.if-is_last.false));
+        later = λ byte le. ap (λ (xs : List ℕ). slice_index xs byte) w.digits-is ∙ inv.later byte (omega (arith, le));
+      }
+    ]
+
+pub returns-clause-digits : goal.returns-clause-digits
+unfolding last_bytes
+returns-clause-digits c =
+    let digit = λ (byte : ℕ). slice_index c.args.digits.now byte in
+    let e : c.loop-byte.byte ≡ length c.args.word.now = omega arith in
+    c.loop-byte.invariant.kept
+    ∙ ap (λ (n : ℕ). map digit (filter (is_last c.args.word.now) (range_with_len 0 n))) e
