@@ -2,7 +2,7 @@
 use Rattle.std.specs.Prelude.{◌≡◌, ◌≢◌, ℕ, List, [], Option, None, Some, Result, Ok, Err, IfSome, MatchResult, slice_index_or, unwrap_or, ⊤}
 use Rattle.std.specs.Io.KnownBytes.{Appends}
 use Rattle.std.specs.IoError.{error_kind}
-use Rattle.std.specs.declared.io.ErrorKind.TheVariants.{OutOfMemory}
+use Rattle.std.specs.declared.io.ErrorKind.TheVariants.{NotFound, OutOfMemory}
 use Rattle.hyphenation_grammar.specs.Lines.{lines_of, language_of}
 use Rattle.hyphenation_grammar.specs.declared.Cause.{Cause}
 use Rattle.hyphenation_grammar.specs.declared.Error.{Error}
@@ -47,6 +47,18 @@ LoadsIn refusal contents language asked bytes result =
     (λ dictionary. (refusal bytes ≡ None) × (dictionary ≡ contents bytes) × (language (contents bytes) ≡ asked))
     (IsLoadErrorIn (refusal bytes) asked (language (contents bytes)))
 
+-- The result is the error that there is no such file.
+abbrev pub IsNotThere : {D : Type 0} → Result D Error → Type 0
+IsNotThere (Err (IO e)) = error_kind e ≡ NotFound
+IsNotThere _ = ⊥
+
+-- Loading the file at a path, of which this is known: its bytes, that there is no such file, or nothing.
+abbrev pub LoadsFile : {D : Type 0} → (List ℕ → Option (ℕ × Cause)) → (List ℕ → D) → (D → List ℕ) → List ℕ
+    → Option (Option (List ℕ)) → Result D Error → Type 0
+LoadsFile refusal contents language asked None result = ⊤
+LoadsFile refusal contents language asked (Some None) result = IsNotThere result
+LoadsFile refusal contents language asked (Some (Some bytes)) result = LoadsIn refusal contents language asked bytes result
+
 -- Loading a path fails by I/O or for memory, or returns what the bytes of some file give, if they are known.
 abbrev pub LoadsSomeFile : {F D : Type 0} → (F → Option (List ℕ)) → (List ℕ → Option (ℕ × Cause)) → (List ℕ → D)
     → (D → List ℕ) → List ℕ → Result D Error → Type 0
@@ -75,6 +87,12 @@ IsNotIo _ = ⊤
 abbrev pub IsNotOutOfMemory : Error → Type 0
 IsNotOutOfMemory (IO e) = error_kind e ≢ OutOfMemory
 IsNotOutOfMemory _ = ⊤
+
+-- An error of reading as one of loading: memory was refused, or an I/O error of another kind.
+abbrev pub IsReadError : Error → Type 0
+IsReadError (IO e) = error_kind e ≢ OutOfMemory
+IsReadError (Memory e) = ⊤
+IsReadError _ = ⊥
 
 -- A text was appended to the contents of a writer, if these are known.
 abbrev pub AppendsTo : {W : Type 0} → (W → Option (List ℕ)) → W → W → List ℕ → Type 0

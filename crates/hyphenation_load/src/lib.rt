@@ -4,13 +4,14 @@
 //! judged, and a text is whole before any of it is written.
 #![tactic(auto)]
 
-ghost use Rattle.std.specs.Prelude.{◌≡◌, ◌≢◌, ◌↔◌, Ok, Err, None, List, ℕ, IfOk, IfErr, IfSome, IsTrue, Option, OnOk, MatchResult, alloc_error};
+ghost use Rattle.std.specs.Prelude.{◌≡◌, ◌≢◌, ◌↔◌, Ok, Err, None, Some, List, ℕ, IfOk, IfErr, IfSome, IsTrue, Option, OnOk, MatchResult, alloc_error};
 ghost use Rattle.std.specs.Io.KnownBytes.{IsAtEnd};
 ghost use Rattle.std.specs.IoError.{error_kind};
 ghost use Rattle.hyphenation_grammar.specs.declared.Cause.{Cause};
-ghost use Rattle.hyphenation_load.specs.Load.{Loads, LoadsIn, LoadsSomeFile, RespectsLanguage, HasNoMismatch};
-ghost use Rattle.hyphenation_load.specs.Load.{IsNotIo, IsNotOutOfMemory, AppendsTo, IfMemory, IsWriteError};
-ghost use Rattle.hyphenation_load.specs.Private.Load.{error_of, ChecksLanguage, IsReadError};
+ghost use Rattle.hyphenation_load.specs.Load.{Loads, LoadsIn, LoadsFile, LoadsSomeFile, IsNotThere, RespectsLanguage, HasNoMismatch};
+ghost use Rattle.named_files.specs.Files.{known_bytes};
+ghost use Rattle.hyphenation_load.specs.Load.{IsNotIo, IsNotOutOfMemory, AppendsTo, IfMemory, IsReadError, IsWriteError};
+ghost use Rattle.hyphenation_load.specs.Private.Load.{error_of, ChecksLanguage};
 
 use hyphenation_breaks::breaks::Break;
 use hyphenation_breaks::entry::Payload;
@@ -19,10 +20,10 @@ use hyphenation_dictionary::dictionary::{Dictionary, Extended, Standard};
 pub use hyphenation_grammar::{Cause, Error, Result};
 use hyphenation_reader::reader::{Refusal, take_extended, take_standard};
 use hyphenation_writer::writer::{write_extended, write_standard};
+use named_files::NamedFiles;
 use std::alloc::{AllocError, Global};
-use std::fs::Files;
+use std::io;
 use std::io::{ErrorKind, Read, Write};
-use std::{fs, io};
 
 /// A kind of dictionary that is loaded from its text and written as one.
 pub trait Load: Sized {
@@ -88,13 +89,15 @@ pub trait Load: Sized {
 
     /// Loads a dictionary of the language `lang` from the file at a path: opens it, and reads it by `from_reader`.
     ///
-    /// If it can't be opened, the error is `Error::Memory` if its kind is `OutOfMemory`, else `Error::IO` with it.
+    /// If it can't be opened, the error is `Error::Memory` if its kind is `OutOfMemory`, else `Error::IO` with it. If
+    /// there is no such file, its kind is `NotFound`.
     ///
     /// ```text
     /// let lang = Language::from_code("en-gb").unwrap();
     /// let dictionary = Standard::from_path(&rt, rt.alloc(), lang, "examples/firkin.txt")?;
     /// ```
-    fn from_path<F: Files>(rt: &F, alloc: Global, lang: Language, path: &str) -> Result<Self>
+    fn from_path<F: NamedFiles>(rt: &F, alloc: Global, lang: Language, path: &str) -> Result<Self>
+        ensures of_file { LoadsFile refusal contents language lang (F.bytes rt.now path.now) result }
         ensures of_some_file { LoadsSomeFile F.File.remaining refusal contents language lang result }
         ensures in_language { RespectsLanguage language lang result }
         ensures not_out_of_memory { IfErr result IsNotOutOfMemory };
@@ -174,8 +177,14 @@ fn error_of(refusal: Refusal) -> Error
     }
 }
 
-// An error of opening or reading as an error of loading.
-fn error_of_reading(e: io::Error) -> Error
+/// Returns an error of opening or reading a dictionary as an error of loading it.
+///
+/// It is `Error::Memory` if its kind is `OutOfMemory`, else `Error::IO` with it.
+///
+/// ```text
+/// error_of_reading(io::Error::from(ErrorKind::NotFound))       // Error::IO
+/// ```
+pub fn error_of_reading(e: io::Error) -> Error
     ensures out_of_memory { error_kind e ≡ ErrorKind.OutOfMemory → result ≡ Error.Memory alloc_error }
     ensures other { error_kind e ≢ ErrorKind.OutOfMemory → result ≡ Error.IO e }
     ensures read_error { IsReadError result }
@@ -186,11 +195,21 @@ fn error_of_reading(e: io::Error) -> Error
     Error::IO(e)
 }
 
-// Opens the file at a path.
-fn opened<F: Files>(rt: &F, path: &str) -> Result<F::File>
-    ensures { IfErr result IsReadError }
+/// Opens the file at a path, to load a dictionary from it.
+///
+/// The errors are those of [`error_of_reading`]. If there is no such file, the error is `Error::IO` of the kind
+/// `NotFound`.
+///
+/// ```text
+/// let mut file = open_dictionary(&rt, "examples/firkin.txt")?;
+/// ```
+pub fn open_dictionary<F: NamedFiles>(rt: &F, path: &str) -> Result<F::File>
+    ensures bytes { IfOk result (λ file. IfSome (known_bytes (F.bytes rt.now path.now)) (λ known.
+        F.File.remaining file ≡ Some known)) }
+    ensures absent { F.bytes rt.now path.now ≡ Some None → IsNotThere result }
+    ensures read_error { IfErr result IsReadError }
 {
-    fs::open(rt, path).map_err(error_of_reading)
+    rt.open(path).map_err(error_of_reading)
 }
 
 // Writes a text that was made, or returns the error that memory for it was refused.
@@ -238,8 +257,13 @@ impl Load for Standard {
         of_language(lang, Self::any_from_reader(alloc, reader)?)
     }
 
-    fn from_path<F: Files>(rt: &F, alloc: Global, lang: Language, path: &str) -> Result<Standard> {
-        let mut file = opened(rt, path)?;
+    fn from_path<F: NamedFiles>(
+        rt: &F,
+        alloc: Global,
+        lang: Language,
+        path: &str,
+    ) -> Result<Standard> {
+        let mut file = open_dictionary(rt, path)?;
         Self::from_reader(alloc, lang, &mut file)
     }
 
@@ -284,8 +308,13 @@ impl Load for Extended {
         of_language(lang, Self::any_from_reader(alloc, reader)?)
     }
 
-    fn from_path<F: Files>(rt: &F, alloc: Global, lang: Language, path: &str) -> Result<Extended> {
-        let mut file = opened(rt, path)?;
+    fn from_path<F: NamedFiles>(
+        rt: &F,
+        alloc: Global,
+        lang: Language,
+        path: &str,
+    ) -> Result<Extended> {
+        let mut file = open_dictionary(rt, path)?;
         Self::from_reader(alloc, lang, &mut file)
     }
 

@@ -1,10 +1,8 @@
 -- Which results of loading a refused text, a language and an error of reading give.
-use Rattle.std.specs.Prelude.{◌≡◌, ◌≢◌, ℕ, List, Result, Ok, Err, alloc_error, ⊤}
-use Rattle.std.specs.IoError.{error_kind}
-use Rattle.std.specs.declared.io.ErrorKind.TheVariants.{OutOfMemory}
+use Rattle.std.specs.Prelude.{◌≡◌, ◌≢◌, ℕ, List, Result, Ok, Err, alloc_error}
 use Rattle.hyphenation_breaks.specs.Dictionary.{Contents}
 use Rattle.hyphenation_grammar.specs.declared.Error.{Error}
-use Rattle.hyphenation_grammar.specs.declared.Error.TheVariants.{Deserialization, IO, LanguageMismatch, Memory}
+use Rattle.hyphenation_grammar.specs.declared.Error.TheVariants.{Deserialization, LanguageMismatch, Memory}
 use Rattle.hyphenation_reader.specs.declared.reader.Refusal.{Refusal}
 use Rattle.hyphenation_reader.specs.declared.reader.Refusal.TheVariants.{Memory as NoMemory, Fault}
 
@@ -19,9 +17,3 @@ ChecksLanguage asked dictionary (Err _) = ⊥
 abbrev pub error_of : Refusal → Error
 error_of NoMemory = Memory alloc_error
 error_of (Fault line cause) = Deserialization line cause
-
--- An error of reading as one of loading: memory was refused, or an I/O error of another kind.
-abbrev pub IsReadError : Error → Type 0
-IsReadError (IO e) = error_kind e ≢ OutOfMemory
-IsReadError (Memory e) = ⊤
-IsReadError _ = ⊥
