@@ -18,7 +18,7 @@ use Rattle.explanations.specs.Private.Facts.{facts_of}
 use Rattle.explanations.specs.Rows.{row_of, AreAllOccurrences, LiesWithin}
 use Rattle.explanations.specs.Svg.{Drawn}
 use Rattle.explanations.specs.Texts.{AreFacts, Explains, IsDrawn, IsTextOf, drawing_of}
-use Rattle.explanations.specs.declared.explanation.Explanation.{Explanation}
+use Rattle.explanations.specs.declared.facts.Explanation.{Explanation}
 use Rattle.explanations.specs.declared.style.Style.{Style}
 use Rattle.explanations.proofs.RowsSoFar.{all_within}
 

@@ -4,8 +4,8 @@ use Rattle.std.specs.Prelude.{ℕ, List, [], ◌∷◌, Option, Some, None}
 use Rattle.hyphenation_hyphenator.specs.Folding.{fold_case}
 use Rattle.hyphenation_hyphenator.specs.Opportunities.{Rules, boundaries_by}
 use Rattle.hyphenation_hyphenator.specs.SoftHyphens.{soft_hyphens}
-use Rattle.explanations.specs.declared.explanation.Decision.{Decision}
-use Rattle.explanations.specs.declared.explanation.Decision.TheVariants.{SoftHyphens, TooShort, Exception, Patterns}
+use Rattle.explanations.specs.declared.facts.Decision.{Decision}
+use Rattle.explanations.specs.declared.facts.Decision.TheVariants.{SoftHyphens, TooShort, Exception, Patterns}
 
 -- The fact that decides, by the places of soft hyphens, the boundaries if there are any, and the listed breaks if there
 -- are any: the first of these, in this order, else the patterns.

@@ -5,4 +5,5 @@ pub mod Picture
 pub mod Svg
 pub mod Drawings
 pub mod Texts
+pub mod Words
 pub mod Private

@@ -7,8 +7,8 @@ use Rattle.hyphenation_breaks.specs.Break.{Change, before_of, after_of, is_bound
 use Rattle.hyphenation_breaks.specs.declared.entry.Entry.{Entry}
 use Rattle.hyphenation_score.specs.Scoring.{Scored}
 use Rattle.explanations.specs.Rows.{PatternRow}
-use Rattle.explanations.specs.declared.explanation.Decision.{Decision}
-use Rattle.explanations.specs.declared.explanation.Decision.TheVariants.{SoftHyphens, TooShort, Exception, Patterns}
+use Rattle.explanations.specs.declared.facts.Decision.{Decision}
+use Rattle.explanations.specs.declared.facts.Decision.TheVariants.{SoftHyphens, TooShort, Exception, Patterns}
 
 -- A text without its spaces.
 abbrev pub without_spaces : List ℕ → List ℕ

@@ -15,7 +15,7 @@ use Rattle.explanations.specs.Lines.{named_line, text_line, pattern_line, score_
 use Rattle.explanations.specs.Picture.{without_spaces, row_line, score_line, break_line_of, decision_text}
 use Rattle.explanations.specs.Rows.{PatternRow, AreAllOccurrences}
 use Rattle.explanations.specs.Svg.{Drawn, columns_from, note_column, word_column, word_title, frame_row, pattern_rows, scores_row, row_element, breaks_row, scores_note, longest_note, document_of}
-use Rattle.explanations.specs.declared.explanation.Decision.{Decision}
+use Rattle.explanations.specs.declared.facts.Decision.{Decision}
 use Rattle.explanations.specs.declared.style.Style.{Style}
 use Rattle.explanations.specs.declared.style.Style.TheVariants.{Picture, Lines, Svg}
 

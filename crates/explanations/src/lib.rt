@@ -14,7 +14,7 @@
 #![tactic(auto)]
 
 mod columns;
-mod explanation;
+mod facts;
 mod layout;
 mod lines;
 mod marks;
@@ -28,8 +28,8 @@ mod svg_document;
 mod svg_pieces;
 mod texts;
 
-pub use explanation::{Decision, Explanation, explain};
+pub use facts::{Decision, Explanation, explain};
 pub use pattern_rows::{Row, rows};
 pub use style::Style;
 pub use svg_document::{Drawing, document};
-pub use texts::Explain;
+pub use texts::{drawing, explanation};

@@ -11,7 +11,7 @@ ghost use Rattle.explanations.specs.Lines.{text_line, place_field};
 ghost use Rattle.explanations.specs.Private.Drawing.{scores_by};
 ghost use Rattle.explanations.specs.Rows.{row_of, LiesWithin};
 
-use crate::explanation::Decision;
+use crate::facts::Decision;
 use crate::pattern_rows::Row;
 use hyphenation_breaks::breaks::Break;
 use hyphenation_breaks::entry::{Entry, Listing, Payload};

@@ -6,7 +6,7 @@ ghost use Rattle.explanations.specs.Picture.{noted_value, halves_of, replaced_by
 ghost use Rattle.explanations.specs.Picture.{decision_text, with_minima};
 ghost use Rattle.explanations.specs.Private.Drawing.{scores_by};
 
-use crate::explanation::Decision;
+use crate::facts::Decision;
 use crate::lines::{append, push_number};
 use hyphenation_breaks::breaks::Break;
 use hyphenation_breaks::entry::{Entry, Payload};

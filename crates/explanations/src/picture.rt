@@ -13,7 +13,7 @@ ghost use Rattle.explanations.specs.Picture.{entry_note, score_note, row_line, s
 ghost use Rattle.explanations.specs.Private.Drawing.{Draws, scores_by};
 ghost use Rattle.explanations.specs.Rows.{row_of, LiesWithin};
 
-use crate::explanation::Decision;
+use crate::facts::Decision;
 use crate::layout::{Layout, columns_of_value};
 use crate::lines::push_number;
 use crate::notes::{push_decision_text, push_entry_notes, push_score_notes};

@@ -12,7 +12,7 @@ ghost use Rattle.explanations.specs.Svg.{breaks_row, columns_from, frame_row, lo
 ghost use Rattle.explanations.specs.Svg.{scores_note, scores_row, word_column, word_title};
 
 use crate::columns::word_column;
-use crate::explanation::Decision;
+use crate::facts::Decision;
 use crate::lines::push_number;
 use crate::marks::{no_marks, row_marks, score_marks};
 use crate::notes::{push_decision_text, push_entry_notes, push_score_notes};

@@ -9,11 +9,12 @@ ghost use Rattle.explanations.specs.Private.Drawing.{Draws};
 ghost use Rattle.explanations.specs.Rows.{row_of, LiesWithin};
 ghost use Rattle.explanations.specs.Drawings.{drawn};
 ghost use Rattle.explanations.specs.Texts.{Explains, IsDrawn, IsTextOf};
+ghost use Rattle.explanations.specs.Words.{IsDrawingOf, IsExplanation};
 ghost use Rattle.explanations.specs.Private.Facts.{AddsRows, document_by, drawing_by, drawn_by, facts_of, lines_by};
 ghost use Rattle.explanations.specs.Private.Facts.{longest_by, picture_by};
 
 use crate::columns::{columns_of, note_column};
-use crate::explanation::{Explanation, explain};
+use crate::facts::{Explanation, explain};
 use crate::layout::Layout;
 use crate::lines::{
     name_of, push_bounds_line, push_breaks_line, push_exception, push_minima_line, push_patterns,
@@ -24,9 +25,10 @@ use crate::picture::{push_break_line, push_frame_line, push_rows, push_score_lin
 use crate::style::Style;
 use crate::svg::{push_breaks_row, push_frame_row, push_pattern_rows, push_scores_row, push_title};
 use crate::svg_document::{Drawing, document};
+use any_dictionary::AnyDictionary;
 use hyphenation_breaks::breaks::Break;
 use hyphenation_breaks::entry::{Listing, Payload};
-use hyphenation_dictionary::dictionary::{Dictionary, Extended, Standard};
+use hyphenation_dictionary::dictionary::Dictionary;
 use hyphenation_hyphenator::hyphenator::Hyphenator;
 use hyphenation_segments::Word;
 use hyphenation_segments::iter::push_marked;
@@ -279,81 +281,53 @@ fn drawing_of<C: Payload, B: Listing, O: Break>(
     drawing_by(alloc, &facts, minima, word.text, &word.breaks, &hyphenated)
 }
 
-/// A dictionary of either kind, which explains the breaks of words.
-pub trait Explain {
-    ghost use Rattle.std.specs.Prelude.{ℕ, List};
-    ghost use Rattle.explanations.specs.Drawings.{drawn};
-    ghost use Rattle.explanations.specs.Svg.{Drawn};
-    ghost use Rattle.explanations.specs.declared.style.Style.{Style};
-
-    /// Whether a text explains a word in a style.
-    ghost explains: { Self → Style → List ℕ → List ℕ → Type 0 };
-    /// Whether a drawing explains a word.
-    ghost draws: { Self → List ℕ → Drawn → Type 0 };
-
-    /// Returns the text that explains a word as written: the patterns that occur in it, its scores, the facts that
-    /// decide, and the word with a hyphen at each of its breaks.
-    ///
-    /// The only error is out of memory.
-    ///
-    /// ```text
-    /// dictionary.explanation(alloc, Style::Picture, "firkins")?    // the picture drawn above
-    /// ```
-    fn explanation(&self, alloc: Global, style: Style, word: &str) -> Result<Vec<u8>, AllocError>
-        ensures { IfOk result (λ text. explains self.now style word.now text.items) };
-
-    /// Returns the drawing of a word in SVG, which [`document`](crate::document) puts into a document.
-    ///
-    /// The only error is out of memory.
-    ///
-    /// ```text
-    /// dictionary.drawing(alloc, "firkins")?.rows    // 8: the lines of the picture drawn above
-    /// ```
-    fn drawing(&self, alloc: Global, word: &str) -> Result<Drawing, AllocError>
-        ensures { IfOk result (λ drawing. draws self.now word.now (drawn drawing)) };
-}
-
-impl Explain for Standard {
-    ghost use Rattle.hyphenation_breaks.specs.Break.{plain_break};
-    ghost use Rattle.hyphenation_hyphenator.specs.Opportunities.{no_change, standard_rules, all_breaks_of};
-    ghost use Rattle.explanations.specs.Texts.{Explains, IsDrawn};
-
-    ghost explains = { λ dictionary style word text. Explains no_change plain_break dictionary style word
-        (all_breaks_of (standard_rules dictionary) word) text };
-
-    ghost draws = { λ dictionary word drawing. IsDrawn no_change plain_break dictionary word
-        (all_breaks_of (standard_rules dictionary) word) drawing };
-
-    fn explanation(&self, alloc: Global, style: Style, word: &str) -> Result<Vec<u8>, AllocError> {
-        let word = self.hyphenate(alloc, word)?;
-        text_of(alloc, self, style, &word)
-    }
-
-    fn drawing(&self, alloc: Global, word: &str) -> Result<Drawing, AllocError> {
-        let word = self.hyphenate(alloc, word)?;
-        drawing_of(alloc, self, &word)
+/// Returns the text that explains a word as written, by a dictionary: the patterns that occur in it, its scores, the
+/// facts that decide, and the word with a hyphen at each of its breaks.
+///
+/// The only error is out of memory.
+///
+/// ```text
+/// explanation(alloc, &dictionary, Style::Picture, "firkins")?      // the picture drawn above
+/// ```
+pub fn explanation(
+    alloc: Global,
+    dictionary: &AnyDictionary,
+    style: Style,
+    word: &str,
+) -> Result<Vec<u8>, AllocError>
+    ensures { IfOk result (λ text. IsExplanation dictionary.now style word.now text.items) }
+{
+    match dictionary {
+        AnyDictionary::Standard(standard) => {
+            let word = standard.hyphenate(alloc, word)?;
+            text_of(alloc, standard, style, &word)
+        }
+        AnyDictionary::Extended(extended) => {
+            let word = extended.hyphenate(alloc, word)?;
+            text_of(alloc, extended, style, &word)
+        }
     }
 }
 
-impl Explain for Extended {
-    ghost use Rattle.hyphenation_hyphenator.specs.Fitting.{fitted_breaks_of};
-    ghost use Rattle.hyphenation_hyphenator.specs.Opportunities.{own_break, extended_rules};
-    ghost use Rattle.hyphenation_score.specs.Scoring.{own_change};
-    ghost use Rattle.explanations.specs.Texts.{Explains, IsDrawn};
-
-    ghost explains = { λ dictionary style word text. Explains own_change own_break dictionary style word
-        (fitted_breaks_of (extended_rules dictionary) word) text };
-
-    ghost draws = { λ dictionary word drawing. IsDrawn own_change own_break dictionary word
-        (fitted_breaks_of (extended_rules dictionary) word) drawing };
-
-    fn explanation(&self, alloc: Global, style: Style, word: &str) -> Result<Vec<u8>, AllocError> {
-        let word = self.hyphenate(alloc, word)?;
-        text_of(alloc, self, style, &word)
-    }
-
-    fn drawing(&self, alloc: Global, word: &str) -> Result<Drawing, AllocError> {
-        let word = self.hyphenate(alloc, word)?;
-        drawing_of(alloc, self, &word)
+/// Returns the drawing in SVG that explains a word as written, by a dictionary. [`document`](crate::document) puts it into a
+/// document.
+///
+/// The only error is out of memory.
+///
+/// ```text
+/// drawing(alloc, &dictionary, "firkins")?.rows      // 8: the lines of the picture drawn above
+/// ```
+pub fn drawing(alloc: Global, dictionary: &AnyDictionary, word: &str) -> Result<Drawing, AllocError>
+    ensures { IfOk result (λ drawing. IsDrawingOf dictionary.now word.now (drawn drawing)) }
+{
+    match dictionary {
+        AnyDictionary::Standard(standard) => {
+            let word = standard.hyphenate(alloc, word)?;
+            drawing_of(alloc, standard, &word)
+        }
+        AnyDictionary::Extended(extended) => {
+            let word = extended.hyphenate(alloc, word)?;
+            drawing_of(alloc, extended, &word)
+        }
     }
 }

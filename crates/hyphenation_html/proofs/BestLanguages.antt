@@ -2,10 +2,10 @@
 use Rattle.std.proofs.Common.{◌≡◌, ℕ, ◌&&◌, Bool, true, false, List, [], ◌∷◌, map, length, nat_lt, refl, ap, sym, ◌∙◌, Option, Some, None, if◌then◌else◌}
 use Rattle.std.specs.Option.{option_map}
 use Rattle.hyphenation_html.specs.Languages.{coded, breaking, languages_by, code_length, better, best_from, best_of, serves}
-use Rattle.hyphenation_html.specs.declared.dictionary.AnyDictionary.{AnyDictionary}
+use Rattle.any_dictionary.specs.declared.AnyDictionary.{AnyDictionary}
 use Rattle.hyphenation_html.specs.declared.languages.LanguageDictionary.{LanguageDictionary}
 use Rattle.hyphenation_html.specs.Words.{within_limits}
-use Rattle.hyphenation_html.specs.Dictionaries.{places_by}
+use Rattle.any_dictionary.specs.Dictionaries.{places_by}
 use Rattle.hyphenation_html.specs.Private.Marked.{marked_text}
 use Rattle.std.specs.Option.{option_map_or}
 use Rattle.hyphenation_html.specs.declared.settings.Settings.{Settings}

@@ -1,7 +1,6 @@
 pub mod Boundaries
 pub mod Slices
 pub mod TextSteps
-pub mod PlainPlaces
 pub mod Limits
 pub mod BestLanguages
 pub mod WordMarks

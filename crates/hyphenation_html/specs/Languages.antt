@@ -4,9 +4,10 @@ use Rattle.std.specs.Prelude.{ℕ, ◌==◌, ◌||◌, ◌&&◌, Bool, List, map
 use Rattle.std.specs.Option.{option_map_or}
 use Rattle.std.specs.String.{string_bytes}
 use Rattle.html_pieces.specs.Bytes.{is_same_name}
-use Rattle.hyphenation_html.specs.Dictionaries.{Breaks, places_by}
+use Rattle.any_dictionary.specs.Dictionaries.{places_by}
+use Rattle.hyphenation_html.specs.Dictionaries.{Breaks}
 use Rattle.hyphenation_html.specs.Words.{within_limits}
-use Rattle.hyphenation_html.specs.declared.dictionary.AnyDictionary.{AnyDictionary}
+use Rattle.any_dictionary.specs.declared.AnyDictionary.{AnyDictionary}
 use Rattle.hyphenation_html.specs.declared.languages.LanguageDictionary.{LanguageDictionary}
 use Rattle.hyphenation_html.specs.declared.settings.Settings.{Settings}
 

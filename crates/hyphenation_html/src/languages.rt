@@ -4,7 +4,7 @@ ghost use Rattle.std.specs.Prelude.{◌≡◌, map};
 ghost use Rattle.std.specs.Option.{option_map};
 ghost use Rattle.hyphenation_html.specs.Languages.{coded, serves, better, best_of};
 
-use crate::dictionary::AnyDictionary;
+use any_dictionary::AnyDictionary;
 use html_pieces::bytes::is_same_name;
 
 /// A dictionary, and the code of the language that it serves.

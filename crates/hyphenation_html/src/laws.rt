@@ -5,8 +5,9 @@
 ghost use Rattle.hyphenation_html.specs.Languages.{breaks_under};
 ghost use Rattle.hyphenation_html.specs.Laws.{HaveNoneLeft};
 
-use crate::dictionary::{AnyDictionary, limited_breaks_fit};
+use crate::dictionary::limited_breaks_fit;
 use crate::settings::Settings;
+use any_dictionary::AnyDictionary;
 use hyphenation_hyphenator::hyphenator::laws::plain_breaks_fit_where_ascending;
 use hyphenation_segments::iter::laws::{marked_segments_join, segments_join};
 

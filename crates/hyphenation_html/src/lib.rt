@@ -2,18 +2,21 @@
 //!
 //! [`hyphenate_html`] puts a mark where the words of a page's text may be broken, each by the dictionary of its language
 //! ([`LanguageDictionary`]). Nothing else of the page changes. The crate `html_pieces` tells text from markup.
+//! [`hyphenate_text`] does the same for a text without markup, by one dictionary.
 #![tactic(auto)]
 
 mod dictionary;
 mod languages;
 pub mod laws;
 mod page;
+mod plain;
 mod settings;
 mod text;
 mod touching;
 mod words;
 
-pub use dictionary::AnyDictionary;
+pub use any_dictionary::AnyDictionary;
 pub use languages::LanguageDictionary;
 pub use page::hyphenate_html;
+pub use plain::hyphenate_text;
 pub use settings::Settings;

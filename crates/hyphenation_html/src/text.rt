@@ -2,12 +2,12 @@
 
 ghost use Rattle.std.specs.Prelude.{◌≡◌, ◌++◌, OnOk};
 ghost use Rattle.std.specs.String.{string_bytes};
-ghost use Rattle.hyphenation_html.specs.Dictionaries.{places_by};
+ghost use Rattle.any_dictionary.specs.Dictionaries.{places_by};
 ghost use Rattle.hyphenation_html.specs.Private.Marked.{marked_word, marked_word_by, marked_token_by, token_unless, marked_text_by};
 
-use crate::dictionary::AnyDictionary;
 use crate::settings::Settings;
 use crate::words::{is_left_whole, is_passed_over};
+use any_dictionary::AnyDictionary;
 use html_pieces::bytes::is_white_space;
 use hyphenation_segments::iter::laws::marked_segments_join;
 use hyphenation_segments::iter::push_marked;
@@ -26,7 +26,7 @@ fn push_breaking(
         ≡ string_bytes output.old ++ marked_word (places_by dictionary.now) mark.now word.now) }
 {
     marked_segments_join();
-    let word = dictionary.hyphenate(alloc, word)?;
+    let word = dictionary.with_plain_breaks(alloc, word)?;
     push_marked(output, &word, mark)
 }
 

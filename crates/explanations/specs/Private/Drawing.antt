@@ -9,7 +9,7 @@ use Rattle.hyphenation_hyphenator.specs.Boundaries.{boundaries}
 use Rattle.hyphenation_score.specs.Scoring.{Scored, score_of_winner}
 use Rattle.explanations.specs.Decisions.{decision_from}
 use Rattle.explanations.specs.Picture.{without_spaces}
-use Rattle.explanations.specs.declared.explanation.Decision.{Decision}
+use Rattle.explanations.specs.declared.facts.Decision.{Decision}
 
 -- But for spaces, the new text is the old one with this piece at its end.
 abbrev pub Draws : List ℕ → List ℕ → List ℕ → Type 0

@@ -6,7 +6,7 @@ use Rattle.explanations.specs.Private.Drawing.{scores_by}
 use Rattle.explanations.specs.Rows.{row_of}
 use Rattle.explanations.specs.Svg.{Drawn, document_of}
 use Rattle.explanations.specs.Texts.{Facts, lines_of, picture_of, drawn_rows, longest_of, drawing_at, drawing_of}
-use Rattle.explanations.specs.declared.explanation.Explanation.{Explanation}
+use Rattle.explanations.specs.declared.facts.Explanation.{Explanation}
 
 -- The facts that an explanation holds, with the minima, the word as written and its breaks.
 abbrev pub facts_of : {C B : Type 0} → (C → Option Change) → (B → Break) → Explanation C B → ℕ × ℕ → List ℕ → List Break

@@ -8,7 +8,7 @@ use Rattle.explanations.specs.Picture.{entry_value, score_value, decision_text}
 use Rattle.explanations.specs.Private.Drawing.{scores_by}
 use Rattle.explanations.specs.Rows.{PatternRow}
 use Rattle.explanations.specs.Svg.{row_element, letters_row, row_marks, row_note, pattern_mark, pattern_rows, breaks_row, word_column}
-use Rattle.explanations.specs.declared.explanation.Decision.{Decision}
+use Rattle.explanations.specs.declared.facts.Decision.{Decision}
 use Rattle.explanations.specs.declared.marks.Mark.{Mark}
 
 -- The element of a pattern's row, of this number.

@@ -1,4 +1,4 @@
-use Rattle.hyphenation_html.specs.Dictionaries.{places_by}
+use Rattle.any_dictionary.specs.Dictionaries.{places_by}
 use Rattle.hyphenation_html.specs.Words.{within_limits}
 use Rattle.hyphenation_html.proofs.MarkedTexts.{Laws}
 use Rattle.hyphenation_html.proofs.SecondRun.{second_run}

@@ -1,7 +1,7 @@
 use Rattle.std.proofs.Common.{◌++◌, ◌∙◌, ap}
 use Rattle.std.specs.String.{string_bytes}
 use Rattle.std.proofs.lemmas.Result.{on_ok_weaker}
-use Rattle.hyphenation_html.specs.Dictionaries.{places_by}
+use Rattle.any_dictionary.specs.Dictionaries.{places_by}
 use Rattle.hyphenation_html.proofs.WordMarks.{plainly_marked}
 use Rattle.hyphenation_html.proofs.text.push_breaking.Goals as goal
 

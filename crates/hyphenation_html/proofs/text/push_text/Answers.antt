@@ -3,7 +3,7 @@ use Rattle.std.specs.String.{string_bytes}
 use Rattle.std.proofs.lemmas.Str.{IsCharBoundary-after_ascii}
 use Rattle.hyphenation_html.proofs.TextSteps.{text_first, text_on, text_cut, white_is_ascii}
 use Rattle.html_pieces.specs.Bytes as specs
-use Rattle.hyphenation_html.specs.Dictionaries.{places_by}
+use Rattle.any_dictionary.specs.Dictionaries.{places_by}
 use Rattle.hyphenation_html.specs.Words.{within_limits}
 use Rattle.hyphenation_html.proofs.text.push_text.Goals as goal
 use Rattle.hyphenation_html.proofs.text.push_text.Goals.{then-is_white_space+in_ok-push_token_unless+in_ok-push_str, else-is_white_space}

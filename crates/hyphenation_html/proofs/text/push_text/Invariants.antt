@@ -1,6 +1,6 @@
 use Rattle.std.proofs.Common.{◌++◌}
 use Rattle.std.specs.String.{string_bytes}
-use Rattle.hyphenation_html.specs.Dictionaries.{places_by}
+use Rattle.any_dictionary.specs.Dictionaries.{places_by}
 use Rattle.hyphenation_html.specs.Words.{within_limits}
 use Rattle.hyphenation_html.specs.Private.Marked.{marked_text}
 use Rattle.hyphenation_html.proofs.TextSteps.{TextTold}

@@ -3,7 +3,7 @@ use Rattle.std.specs.List.{flat_map}
 use Rattle.std.specs.String.{string_bytes}
 use Rattle.word_pieces.specs.Pieces.{pieces_left}
 use Rattle.unicode_segmentation.specs.Word.{word_bounds}
-use Rattle.hyphenation_html.specs.Dictionaries.{places_by}
+use Rattle.any_dictionary.specs.Dictionaries.{places_by}
 use Rattle.hyphenation_html.specs.Words.{within_limits}
 use Rattle.hyphenation_html.specs.Private.Marked.{marked_word}
 use Rattle.hyphenation_html.proofs.text.push_token.Given as goal

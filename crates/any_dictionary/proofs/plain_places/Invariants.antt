@@ -1,6 +1,6 @@
 use Rattle.std.proofs.Common.{◌≡◌, ◌++◌, map, drop}
-use Rattle.hyphenation_html.specs.Dictionaries.{plain_places}
-use Rattle.hyphenation_html.proofs.dictionary.plain_places.Given as goal
+use Rattle.any_dictionary.specs.Dictionaries.{plain_places}
+use Rattle.any_dictionary.proofs.plain_places.Given as goal
 
 abbrev pub invariant-loop-b : goal.invariant-loop-b
 invariant-loop-b g l =

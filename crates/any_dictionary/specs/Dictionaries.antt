@@ -1,0 +1,68 @@
+-- Dictionaries of either kind: the texts that give them, and the breaks of words.
+use Rattle.std.specs.Prelude.{ℕ, not, List, map, filter, Option}
+use Rattle.hyphenation_breaks.specs.Break.{Break, is_changed}
+use Rattle.hyphenation_grammar.specs.Judging.{refusal_of}
+use Rattle.hyphenation_grammar.specs.Reading.{break_as_listing, extended_contents, place_as_listing, standard_contents}
+use Rattle.hyphenation_grammar.specs.declared.Cause.{Cause}
+use Rattle.hyphenation_grammar.specs.declared.form.Kind.{Kind}
+use Rattle.hyphenation_grammar.specs.declared.form.Kind.TheVariants.{Standard, Extended}
+use Rattle.hyphenation_hyphenator.specs.Fitting.{fitted_breaks_of}
+use Rattle.hyphenation_hyphenator.specs.Opportunities.{standard_rules, extended_rules, all_breaks_of}
+use Rattle.hyphenation_reader.specs.Edits.{after_edit}
+use Rattle.hyphenation_writer.specs.Canonical.{extended_text, standard_text}
+use Rattle.any_dictionary.specs.Kinds.{kind_in}
+use Rattle.any_dictionary.specs.declared.AnyDictionary.{AnyDictionary}
+use Rattle.any_dictionary.specs.declared.AnyDictionary.TheVariants as of
+
+-- ---- the texts that give them
+
+-- The dictionary that an accepted text of that kind gives.
+abbrev pub contents_as : Kind → List ℕ → AnyDictionary
+contents_as Standard text = of.Standard (standard_contents text)
+contents_as Extended text = of.Extended (extended_contents text)
+
+-- The dictionary that an accepted text gives, of the kind that its first line names.
+abbrev pub contents_of : List ℕ → AnyDictionary
+contents_of text = contents_as (kind_in text) text
+
+-- The first fault of a text, as one of the kind that its first line names; none if it is accepted.
+abbrev pub refusal_by_head : List ℕ → Option (ℕ × Cause)
+refusal_by_head text = refusal_of (kind_in text) text
+
+-- The canonical text of a dictionary.
+abbrev pub canonical_text : AnyDictionary → List ℕ
+canonical_text (of.Standard standard) = standard_text standard
+canonical_text (of.Extended extended) = extended_text extended
+
+-- ---- what they are
+
+-- The kind of a dictionary.
+abbrev pub kind_by : AnyDictionary → Kind
+kind_by (of.Standard standard) = Standard
+kind_by (of.Extended extended) = Extended
+
+-- The code of a dictionary's language.
+abbrev pub language_by : AnyDictionary → List ℕ
+language_by (of.Standard standard) = standard.language
+language_by (of.Extended extended) = extended.language
+
+-- The dictionary after an edit of its exceptions.
+abbrev pub edited : AnyDictionary → List ℕ → AnyDictionary
+edited (of.Standard standard) edit = of.Standard (after_edit place_as_listing standard edit)
+edited (of.Extended extended) edit = of.Extended (after_edit break_as_listing extended edit)
+
+-- ---- the breaks of words
+
+-- The breaks of a word as written, with their changes.
+abbrev pub breaks_by : AnyDictionary → List ℕ → List Break
+breaks_by (of.Standard standard) word = all_breaks_of (standard_rules standard) word
+breaks_by (of.Extended extended) word = fitted_breaks_of (extended_rules extended) word
+
+-- The places of the breaks that have no change.
+abbrev pub plain_places : List Break → List ℕ
+plain_places breaks = map (λ b. b.place) (filter (λ b. not (is_changed b)) breaks)
+
+-- The places at which a dictionary breaks a word without a change. Another break would change letters of a line that
+-- does not end there.
+abbrev pub places_by : AnyDictionary → List ℕ → List ℕ
+places_by dictionary word = plain_places (breaks_by dictionary word)

@@ -1,0 +1,4 @@
+pub mod Kinds
+pub mod Dictionaries
+pub mod Laws
+pub mod Private

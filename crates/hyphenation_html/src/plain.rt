@@ -1,0 +1,61 @@
+//! Texts without markup.
+
+ghost use Rattle.std.specs.Prelude.{◌≡◌, false, IfOk};
+ghost use Rattle.std.specs.String.{string_bytes};
+ghost use Rattle.hyphenation_html.specs.Laws.{IsPageWithMarks, soft_hyphen};
+ghost use Rattle.hyphenation_html.specs.Private.Marked.{marked_text_by};
+ghost use Rattle.hyphenation_html.specs.Texts.{hyphenated};
+
+use crate::dictionary::limited_breaks_fit;
+use crate::laws::a_second_run_finds_no_break;
+use crate::settings::Settings;
+use crate::text::push_text;
+use any_dictionary::AnyDictionary;
+use hyphenation_hyphenator::hyphenator::laws::plain_breaks_fit_where_ascending;
+use hyphenation_segments::iter::laws::{marked_segments_join, segments_join};
+use std::alloc::{AllocError, Global};
+
+// Returns a text that was written token by token.
+fn written(
+    alloc: Global,
+    dictionary: &AnyDictionary,
+    settings: &Settings<'_>,
+    text: &str,
+) -> Result<String, AllocError>
+    ensures { IfOk result (λ output. string_bytes output
+        ≡ marked_text_by settings.now dictionary.now false false text.now) }
+{
+    let mut output = String::with_capacity(alloc, text.len())?;
+    push_text(&mut output, alloc, dictionary, settings, text, false, false)?;
+    Ok(output)
+}
+
+/// Returns a text without markup with the mark at each break of its words that changes no letters.
+///
+/// A part of the text between ASCII white space is left whole if it has a soft hyphen, or is an address. So are words that
+/// the settings leave alone; their class is not asked. Without the marks the result is the text, byte for byte. With soft
+/// hyphens as marks a second run changes nothing.
+///
+/// An error says that memory was refused.
+///
+/// ```text
+/// hyphenate_text(alloc, &dictionary, &Settings { mark: "-", ..Settings::new() }, "Hyphenation")?;    // Hy-phen-a-tion
+/// ```
+pub fn hyphenate_text(
+    alloc: Global,
+    dictionary: &AnyDictionary,
+    settings: &Settings<'_>,
+    text: &str,
+) -> Result<String, AllocError>
+    ensures marked { IfOk result (λ output. string_bytes output ≡ hyphenated settings.now dictionary.now text.now) }
+    ensures kept { IfOk result (λ output. IsPageWithMarks settings.now.mark.now text.now (string_bytes output)) }
+    ensures twice { settings.now.mark.now ≡ soft_hyphen → IfOk result (λ made.
+        hyphenated settings.now dictionary.now (string_bytes made) ≡ string_bytes made) }
+{
+    plain_breaks_fit_where_ascending();
+    segments_join();
+    marked_segments_join();
+    limited_breaks_fit(dictionary, settings);
+    a_second_run_finds_no_break(dictionary, settings);
+    written(alloc, dictionary, settings, text)
+}
