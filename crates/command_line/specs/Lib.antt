@@ -1,3 +1,9 @@
+pub mod Private
 pub mod About
-pub mod Files
+pub mod OptionLaws
+pub mod Options
+pub mod Reading
+pub mod Failures
+pub mod Dictionaries
+pub mod Inputs
 pub mod Statuses

@@ -5,11 +5,16 @@ ghost use Rattle.std.specs.Prelude.{◌≡◌, ◌≢◌};
 ghost use Rattle.std.specs.IoError.{error_kind};
 
 mod about;
-mod files;
+pub mod dictionaries;
+mod failure;
+pub mod folders;
+pub mod inputs;
+pub mod options;
 
 pub use about::write_help_or_version;
-pub use files::{Listed, NamedFiles};
+pub use failure::{Failure, Refusal, report, write_failure};
 use hyphenation_load::is_out_of_memory;
+pub use named_files::{Listed, NamedFiles};
 use std::alloc::Global;
 use std::env::Env;
 use std::fmt::Display;
@@ -19,15 +24,16 @@ use std::{env, io};
 /// The version of all programs. The file `VERSION` has the same, and `tests/figures` compares them.
 pub const VERSION: &str = "0.1.0";
 
-/// Calls a function with the arguments of the program, without its name, and returns what that returns.
+/// Calls a function with the words of the command line, and returns what that returns.
 ///
-/// The error says that an argument is not UTF-8, or, of the kind `OutOfMemory`, that memory was refused.
-pub fn with_args<R: Env + Alloc, T, F: FnOnce(&[&str]) -> T>(rt: &R, call: F) -> io::Result<T>
+/// The first word is the path by which the program was called. The error says that a word is not UTF-8, or, of the kind
+/// `OutOfMemory`, that memory was refused.
+pub fn with_words<R: Env + Alloc, T, F: FnOnce(&[&str]) -> T>(rt: &R, call: F) -> io::Result<T>
     requires { F.IsAlwaysCallable call }
 {
-    let args: Vec<String<R::A>, R::A> = env::args(rt)?.skip(1).collect(rt.alloc())?;
-    let args: Vec<&str, R::A> = args.iter().map(|arg| arg.as_str()).collect(rt.alloc())?;
-    Ok(call(&args))
+    let words: Vec<String<R::A>, R::A> = env::args(rt)?.collect(rt.alloc())?;
+    let words: Vec<&str, R::A> = words.iter().map(|word| word.as_str()).collect(rt.alloc())?;
+    Ok(call(&words))
 }
 
 /// Writes why the arguments could not be had, and returns the status to end with.

@@ -1,0 +1,4 @@
+pub mod EqualsSign
+pub mod OptionTexts
+pub mod OptionsRead
+pub mod Files

@@ -1,0 +1,23 @@
+-- How a reader of arguments stands for the definitions.
+use Rattle.std.specs.Prelude.{◌≡◌, Result, Ok, Err}
+use Rattle.command_line.specs.Options.{ReadArguments, RefusedArgument, Next, Any, ValueOf, OperandsAlone}
+use Rattle.command_line.specs.Reading.{as_read, IsReadError}
+use Rattle.command_line.specs.declared.options.Next.{Next as NextInCode}
+use Rattle.command_line.specs.declared.options.Next.TheVariants.{Any as AnyInCode, ValueOf as ValueInCode, OperandsAlone as OperandsInCode}
+use Rattle.command_line.specs.declared.options.Reader.{Reader}
+use Rattle.command_line.specs.declared.options.ReadError.{ReadError}
+
+-- Which arguments may come next.
+abbrev pub as_next : NextInCode → Next
+as_next AnyInCode = Any
+as_next (ValueInCode name) = ValueOf name.now
+as_next OperandsInCode = OperandsAlone
+
+-- A reader has read these arguments, and these may come next.
+abbrev pub IsReader : Reader → ReadArguments → Next → Type 0
+IsReader reader read next = (as_read reader.arguments ≡ read) × (as_next reader.next ≡ next)
+
+-- One more argument was read as wanted, or the step has such an error.
+abbrev pub IsStep : Result (Unit {0}) ReadError → Result (ReadArguments × Next) RefusedArgument → Reader → Type 0
+IsStep (Ok done) wanted reader = wanted ≡ Ok (as_read reader.arguments, as_next reader.next)
+IsStep (Err e) wanted reader = IsReadError wanted e

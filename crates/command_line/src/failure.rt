@@ -1,0 +1,137 @@
+//! Why a program wrote nothing, or not all: one type for all programs, with its status and its message.
+
+ghost use Rattle.std.specs.Prelude.{◌≡◌, IfSome, OnOk};
+ghost use Rattle.hyphenation_load.specs.Load.{AppendsTo};
+ghost use Rattle.command_line.specs.Failures.{failure_line, status_of};
+
+use crate::options::write_whole;
+use hyphenation_load::Error;
+use std::alloc::{AllocError, Global};
+use std::fmt::{Display, Formatter};
+use std::io::Write;
+use std::{fmt, io};
+
+/// Why an input is refused.
+#[derive(Clone, Copy)]
+pub enum Refusal {
+    /// It is UTF-8 up to so many bytes, and not beyond; that place is in the line of this number, from 1.
+    NotUtf8 { valid: usize, line: usize },
+    /// A paragraph of it is too long.
+    LongParagraph,
+}
+
+/// Why a program wrote nothing, or not all.
+#[derive(Drop)]
+pub enum Failure {
+    /// The dictionary at this path can't be opened, read or accepted.
+    Dictionary { path: String, cause: Error },
+    /// No folder has a dictionary of this language.
+    NoDictionary { language: String },
+    /// The input of this name is refused.
+    Refused { input: String, cause: Refusal },
+    /// The input of this name can't be read.
+    Reading { input: String },
+    /// The output of this name can't be written.
+    Writing { output: String },
+    /// The result can't be written.
+    Output,
+    /// Memory was refused.
+    Memory,
+}
+
+impl From<AllocError> for Failure {
+    ghost use Rattle.std.specs.Prelude.{◌≡◌};
+    ghost use Rattle.command_line.specs.declared.failure.Failure.TheVariants.{Memory};
+
+    ghost from_gives = { λ _ result. result ≡ Memory };
+
+    fn from(_error: AllocError) -> Failure {
+        Failure::Memory
+    }
+}
+
+/// Writes the words for why an input is refused, as `not UTF-8: line 2, after 17 bytes`.
+impl Display for Refusal {
+    ghost use Rattle.std.specs.Prelude.{Some};
+    ghost use Rattle.command_line.specs.Failures.{refusal_words};
+
+    ghost output = { λ refusal. Some (refusal_words refusal) };
+
+    fn fmt<W: fmt::Write>(&self, f: &mut Formatter<W>) -> fmt::Result {
+        match self {
+            Refusal::NotUtf8 { valid, line } => {
+                write!(f, "not UTF-8: line {line}, after {valid} bytes")
+            }
+            Refusal::LongParagraph => f.write_str("a paragraph is too long"),
+        }
+    }
+}
+
+/// Writes why a run failed, as `de.txt: line 1: not the head of this kind of dictionary`.
+impl Display for Failure {
+    ghost use Rattle.command_line.specs.Failures.{failure_text};
+
+    ghost output = { failure_text };
+
+    fn fmt<W: fmt::Write>(&self, f: &mut Formatter<W>) -> fmt::Result {
+        match self {
+            Failure::Dictionary { path, cause } => write!(f, "{path}: {cause}"),
+            Failure::NoDictionary { language } => {
+                write!(
+                    f,
+                    "{language}: there is no dictionary of this language; hyphenate-languages makes those that it can"
+                )
+            }
+            Failure::Refused { input, cause } => write!(f, "{input}: {cause}"),
+            Failure::Reading { input } => write!(f, "{input}: can't be read"),
+            Failure::Writing { output } => write!(f, "{output}: can't be written"),
+            Failure::Output => f.write_str("the result can't be written"),
+            Failure::Memory => f.write_str("no memory"),
+        }
+    }
+}
+
+/// Writes why a run of the program of this name failed, in a line.
+///
+/// It is one write, or, if memory for that is refused, some. The error is that of the writer.
+///
+/// ```text
+/// write_failure(alloc, "hyphenate-lines", &Failure::Memory, &mut rt.stderr())?      // hyphenate-lines: no memory
+/// ```
+pub fn write_failure<W: Write>(
+    alloc: Global,
+    name: &str,
+    failure: &Failure,
+    output: &mut W,
+) -> io::Result<()>
+    ensures { OnOk result
+        (IfSome (failure_line name.now failure.now) (AppendsTo W.contents output.old output.new)) }
+{
+    write_whole(alloc, &format_args!("{name}: {failure}\n"), output)
+}
+
+/// Writes why a run of the program of this name failed, as `write_failure` does, and returns its status.
+///
+/// An error of writing changes nothing.
+///
+/// | Status | When |
+/// |---|---|
+/// | 3 | a dictionary can't be opened, read or accepted, or there is none |
+/// | 4 | an input is refused |
+/// | 5 | an input can't be read, or a result can't be written |
+/// | 6 | memory was refused |
+///
+/// ```text
+/// report(alloc, "hyphenate-lines", &Failure::Memory, &mut rt.stderr())      // hyphenate-lines: no memory
+/// ```
+pub fn report<E: Write>(alloc: Global, name: &str, failure: &Failure, errors: &mut E) -> u8
+    ensures { result ≡ status_of failure.now }
+{
+    let _ = write_failure(alloc, name, failure, errors);
+    match failure {
+        Failure::Dictionary { .. } | Failure::NoDictionary { .. } => 3,
+        Failure::Refused { .. } => 4,
+        Failure::Reading { .. } | Failure::Writing { .. } | Failure::Output => 5,
+        Failure::Memory => 6,
+    }
+}

@@ -1,0 +1,105 @@
+//! The programs that one file holds, and which of them a command line calls.
+#![tactic(auto)]
+
+ghost use Rattle.std.specs.Prelude.{◌≡◌, option_map};
+ghost use Rattle.hyphenation_breaks.specs.Borrowed.{texts_now};
+ghost use Rattle.program_names.specs.Names.{called, called_by_first, file_name, program_of};
+
+/// A program.
+#[derive(Clone, Copy, PartialEq, Eq, Debug)]
+pub enum Program {
+    /// `hyphenate`
+    Hyphenate,
+    /// `hyphenate-canonical`
+    Canonical,
+    /// `hyphenate-convert`
+    Convert,
+    /// `hyphenate-explain`
+    Explain,
+    /// `hyphenate-html`
+    Html,
+    /// `hyphenate-lines`
+    Lines,
+    /// `hyphenate-text`
+    Text,
+}
+
+// Returns the name of the file at a path.
+fn file_name(path: &[u8]) -> &[u8]
+    ensures { result.now ≡ file_name path.now }
+{
+    let mut end = path;
+    for at in 0..path.len() {
+        if path[at] == b'/' {
+            end = &path[at + 1..];
+        }
+    }
+    end
+}
+
+// Returns the program of a name.
+#[tactic(auto, unfolding(crate::specs::Names::program_of))]
+fn program_of(name: &[u8]) -> Option<Program>
+    ensures { result ≡ program_of name.now }
+{
+    if name == b"hyphenate".as_slice() {
+        Some(Program::Hyphenate)
+    } else if name == b"hyphenate-canonical".as_slice() {
+        Some(Program::Canonical)
+    } else if name == b"hyphenate-convert".as_slice() {
+        Some(Program::Convert)
+    } else if name == b"hyphenate-explain".as_slice() {
+        Some(Program::Explain)
+    } else if name == b"hyphenate-html".as_slice() {
+        Some(Program::Html)
+    } else if name == b"hyphenate-lines".as_slice() {
+        Some(Program::Lines)
+    } else if name == b"hyphenate-text".as_slice() {
+        Some(Program::Text)
+    } else {
+        None
+    }
+}
+
+/// Returns the program by whose name the file at a path is called: the last part of the path. `None` if that is no
+/// program's name.
+///
+/// ```text
+/// program_at(b"/usr/bin/hyphenate-lines")       // Some(Program::Lines)
+/// ```
+pub fn program_at(path: &[u8]) -> Option<Program>
+    ensures { result ≡ program_of (file_name path.now) }
+{
+    program_of(file_name(path))
+}
+
+/// Returns the program that a command line calls, with its arguments. `None` if it calls none.
+///
+/// The first word is the path of the file that was called, and the last part of it the name of the program. Where that
+/// is no program's name, the next word names it.
+///
+/// ```text
+/// called(&["/usr/bin/hyphenate-lines", "de"])             // Lines, with "de"
+/// called(&["./programs", "hyphenate-lines", "de"])        // the same
+/// called(&["./programs", "de"])                           // None
+/// ```
+pub fn called<'w>(words: &'w [&'w str]) -> Option<(Program, &'w [&'w str])>
+    ensures { option_map (λ found. (found.0, texts_now found.1.now)) result ≡ called (texts_now words.now) }
+{
+    let (path, args) = words.split_first()?;
+    match program_at(path.as_bytes()) {
+        Some(program) => Some((program, args)),
+        None => called_by_first(args),
+    }
+}
+
+// Returns the program that the first of some arguments names, with the others.
+fn called_by_first<'w>(args: &'w [&'w str]) -> Option<(Program, &'w [&'w str])>
+    ensures { option_map (λ found. (found.0, texts_now found.1.now)) result ≡ called_by_first (texts_now args.now) }
+{
+    let (name, others) = args.split_first()?;
+    match program_of(name.as_bytes()) {
+        Some(program) => Some((program, others)),
+        None => None,
+    }
+}
