@@ -1,0 +1,119 @@
+-- Lines that stay as they are.
+use Rattle.std.specs.Prelude.{ℕ, ◌-◌, ◌==◌, ◌&&◌, ◌||◌, nat_eq, nat_lt, Bool, true, false, not, if◌then◌else◌, List, [], ◌∷◌, length, map, drop, codes, chars, Option, Some, None}
+use Rattle.std.specs.Char.{is_ascii_digit, is_ascii_graphic, to_ascii_lowercase}
+use Rattle.std.specs.Char.Unicode.Alphabetic.{is_alphabetic}
+use Rattle.std.specs.Char.Unicode.Numeric.{is_numeric}
+use Rattle.std.specs.Cmp.Lexicographic.{pointwise}
+use Rattle.std.specs.Int.{is_in_range}
+use Rattle.std.specs.List.{list_all, list_any, prefix_len, take_while}
+use Rattle.hyphenation_breaks.specs.Ascii.{hash, space}
+use Rattle.written_texts.specs.Prefixes.{begins, is_deep, unquoted, bare, rest_of}
+use Rattle.written_texts.specs.declared.place.Place.{Place}
+use Rattle.written_texts.specs.declared.place.Place.TheVariants.{Beginning, Head, Body, Fence, Signature}
+
+-- ---- the head of a mail
+
+-- A byte may be in the name of a field: it is a printable character of ASCII, but no colon.
+abbrev pub is_name_byte : ℕ → Bool
+is_name_byte b = is_ascii_graphic b && not (b == 58)
+
+-- The name that a line begins with, up to a colon.
+abbrev pub name_of : List ℕ → List ℕ
+name_of line = take_while is_name_byte line
+
+-- A line is a field: it begins with a name and a colon.
+abbrev pub is_field : List ℕ → Bool
+is_field line = nat_lt 0 (length (name_of line)) && begins (drop (length (name_of line)) line) (codes ":")
+
+-- Two names are one. Small letters and capitals are alike.
+abbrev pub is_same_name : List ℕ → List ℕ → Bool
+is_same_name a b = pointwise nat_eq (map to_ascii_lowercase a) (map to_ascii_lowercase b)
+
+-- The names of the fields with one of which the head of a mail begins.
+abbrev pub usual_names : List (List ℕ)
+usual_names =
+    codes "From" ∷ codes "To" ∷ codes "Cc" ∷ codes "Subject" ∷ codes "Date" ∷ codes "Reply-To" ∷ codes "Sender"
+    ∷ codes "Message-ID" ∷ codes "Received" ∷ codes "Return-Path" ∷ codes "Delivered-To" ∷ codes "Newsgroups" ∷ []
+
+-- A line is a field with a usual name.
+abbrev pub is_usual_field : List ℕ → Bool
+is_usual_field line = is_field line && list_any (is_same_name (name_of line)) usual_names
+
+-- A line goes on with the field before it.
+abbrev pub goes_on : List ℕ → Bool
+goes_on line = begins line (codes " ") || begins line (9 ∷ [])
+
+-- A line parts the mails of a mailbox: it begins with `From ` and ends in a year.
+abbrev pub is_from_line : List ℕ → Bool
+is_from_line line = begins line (codes "From ") && list_all is_ascii_digit (drop (length line - 4) line)
+
+-- ---- other lines
+
+-- A line begins or ends lines of code: it has three backquotes.
+abbrev pub is_fence : List ℕ → Bool
+is_fence line = begins (bare line) (codes "```")
+
+-- A line is the mark of a signature.
+abbrev pub is_signature_mark : List ℕ → Bool
+is_signature_mark line = pointwise nat_eq (bare line) (codes "-- ") || pointwise nat_eq (bare line) (codes "--")
+
+-- The number of hashes that a text begins with.
+abbrev pub hashes : List ℕ → ℕ
+hashes text = prefix_len (λ b. b == hash) text
+
+-- A line is a heading: it has one to six hashes and a space.
+abbrev pub is_heading : List ℕ → Bool
+is_heading line =
+    nat_lt 0 (hashes (bare line)) && nat_lt (hashes (bare line)) 7 && begins (drop (hashes (bare line)) (bare line)) (codes " ")
+
+-- A character is a letter or a digit.
+abbrev pub is_letter : ℕ → Bool
+is_letter c = is_alphabetic c || is_numeric c
+
+-- A line has a letter or a digit after its prefix.
+abbrev pub has_letters : List ℕ → Bool
+has_letters line = list_any is_letter (chars (rest_of line))
+
+-- A line is no prose: it is a heading, a row of a table, or has no letter.
+abbrev pub is_no_prose : List ℕ → Bool
+is_no_prose line = is_heading line || begins (bare line) (codes "|") || not (has_letters line)
+
+-- A line or its text after the quote is indented as code is.
+abbrev pub is_code : List ℕ → Bool
+is_code line = is_deep line || is_deep (unquoted line)
+
+-- ---- where a line stands
+
+-- The place after a line that stays as it is; none if it does not stay. No head, and no code, is in the middle of a paragraph,
+-- which goes on where `joins` is true.
+abbrev pub place_in_body : Bool → List ℕ → Option Place
+place_in_body joins line =
+    if not joins && is_from_line line then Some Head
+    else if not joins && is_code line then Some Body
+    else if is_fence line then Some Fence
+    else if is_signature_mark line then Some Signature
+    else if is_no_prose line then Some Body else None
+
+-- The same for a line with a word, at any place outside of fences.
+abbrev pub place_of_words : Place → Bool → List ℕ → Option Place
+place_of_words Beginning joins line = if is_usual_field line then Some Head else place_in_body joins line
+place_of_words Head joins line = if is_field line || goes_on line then Some Head else place_in_body joins line
+place_of_words Body joins line = place_in_body joins line
+place_of_words Fence joins line = if is_fence line then Some Body else Some Fence
+place_of_words Signature joins line = Some Signature
+
+-- A place is within fences.
+abbrev pub is_fenced : Place → Bool
+is_fenced Beginning = false
+is_fenced Head = false
+is_fenced Body = false
+is_fenced Fence = true
+is_fenced Signature = false
+
+-- A byte is white space.
+abbrev pub is_white : ℕ → Bool
+is_white b = b == space || is_in_range 9 13 b
+
+-- A line has nothing beside quote signs and white space, and is not within fences.
+abbrev pub is_empty_line : Place → List ℕ → Bool
+is_empty_line place line = not (is_fenced place) && list_all is_white (unquoted line)

@@ -1,0 +1,16 @@
+//! Where a line stands in a text.
+
+/// Where a line stands in a text.
+#[derive(Clone, Copy, Debug)]
+pub enum Place {
+    /// Before the first line.
+    Beginning,
+    /// In the head of a mail.
+    Head,
+    /// Among paragraphs.
+    Body,
+    /// Within fences of code.
+    Fence,
+    /// In a signature.
+    Signature,
+}
