@@ -11,6 +11,7 @@ use Rattle.hyphenation_grammar.specs.declared.form.Kind.{Kind}
 use Rattle.hyphenation_grammar.specs.declared.form.Kind.TheVariants.{Standard, Extended}
 use Rattle.hyphenation_hyphenator.specs.Hyphenated.{hyphenated_text}
 use Rattle.linefill.specs.Lines.{lines_by}
+use Rattle.any_dictionary.specs.Kinds as kinds
 use Rattle.c_calls.specs.Dictionaries.{Dictionary, kind_of, given, language_of, minima_of, breaks_by, places_by, values_by, as_change, texts_of, edited, text_of}
 use Rattle.c_calls.specs.declared.changes.BreakChange.{BreakChange}
 
@@ -21,6 +22,16 @@ abbrev pub kind_numbered : ℕ → Option Kind
 kind_numbered zero = Some Standard
 kind_numbered (suc zero) = Some Extended
 kind_numbered _ = None
+
+-- 0 is the standard kind, 1 the extended one, and 2 none.
+abbrev pub kind_number : Option Kind → ℕ
+kind_number (Some Standard) = 0
+kind_number (Some Extended) = 1
+kind_number None = 2
+
+-- The number of the kind that the first line of a dictionary text names.
+abbrev pub kind_named : List ℕ → ℕ
+kind_named text = kind_number (kinds.kind_of text)
 
 -- The causes in the order of the tests, from 1 on.
 abbrev pub cause_number : Cause → ℕ

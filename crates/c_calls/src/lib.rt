@@ -14,7 +14,7 @@ ghost use Rattle.c_calls.specs.Lists.{WritesLists};
 ghost use Rattle.c_calls.specs.Paths.{WritesPaths};
 ghost use Rattle.c_calls.specs.Patterns.{LoadsDic};
 ghost use Rattle.c_calls.specs.Statuses.{kind_numbered, Loads, Shares, Edits, MakesTable, WritesLanguage, WritesMinima};
-ghost use Rattle.c_calls.specs.Statuses.{WritesBreaks, WritesValues, Changes, into, loading};
+ghost use Rattle.c_calls.specs.Statuses.{kind_named, WritesBreaks, WritesValues, Changes, into, loading};
 ghost use Rattle.c_calls.specs.Statuses.{WritesMarkedText, WritesLines, WritesCanonicalText};
 ghost use Rattle.c_calls.specs.TexFiles.{LoadsPatterns, PlacesFault};
 
@@ -44,6 +44,16 @@ use statuses::{
 };
 use std::alloc::Global;
 use tex::NoDictionary;
+
+/// Returns the kind that the first line of a dictionary text names. It is 0 for a standard dictionary, 1 for an extended
+/// one, and 2 if the line names none.
+///
+/// The rest of the text is not read. A text that is accepted as one of a kind names that kind.
+pub fn kind_of(bytes: &[u8]) -> u32
+    ensures { result ≡ kind_named bytes.now }
+{
+    numbers::kind_number(any_dictionary::kind_of(bytes))
+}
 
 /// Loads a dictionary of a kind from its text. It takes the place of the dictionary that the handle held.
 ///

@@ -1,7 +1,7 @@
 //! The numbers by which C names kinds and causes.
 
 ghost use Rattle.std.specs.Prelude.{◌≡◌};
-ghost use Rattle.c_calls.specs.Statuses.{cause_number, kind_numbered};
+ghost use Rattle.c_calls.specs.Statuses.{cause_number, kind_number, kind_numbered};
 
 use hyphenation_grammar::Cause;
 use hyphenation_grammar::form::Kind;
@@ -14,6 +14,17 @@ pub fn kind_numbered(number: u32) -> Option<Kind>
         0 => Some(Kind::Standard),
         1 => Some(Kind::Extended),
         _ => None,
+    }
+}
+
+/// The number of a kind: 0 is standard, 1 extended, and 2 none.
+pub fn kind_number(kind: Option<Kind>) -> u32
+    ensures { result ≡ kind_number kind }
+{
+    match kind {
+        Some(Kind::Standard) => 0,
+        Some(Kind::Extended) => 1,
+        None => 2,
     }
 }
 

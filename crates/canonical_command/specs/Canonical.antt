@@ -1,27 +1,100 @@
 -- The arguments, the output and the statuses of the program `hyphenate-canonical`.
-use Rattle.std.specs.Prelude.{◌≡◌, ◌⊎◌, ℕ, List, [], ◌∷◌, Option, None, IfSome}
+use Rattle.std.specs.Prelude.{◌≡◌, ◌⊎◌, ℕ, Bool, true, List, [], ◌∷◌, codes, is_some, Option, Some, None, IfSome, Result, Ok, Err, ⊤}
 use Rattle.std.specs.Borrow.{Bor}
-use Rattle.hyphenation_grammar.specs.declared.form.Kind.{Kind}
-use Rattle.hyphenation_grammar.specs.declared.form.Kind.TheVariants.{Standard, Extended}
-use Rattle.hyphenation_grammar.specs.Form.{kind_of_name}
-use Rattle.hyphenation_grammar.specs.Reading.{standard_contents, extended_contents}
-use Rattle.hyphenation_writer.specs.Canonical.{standard_text, extended_text}
+use Rattle.std.specs.String.{string_bytes}
+use Rattle.any_dictionary.specs.Dictionaries.{canonical_text, contents_of, refusal_by_head}
+use Rattle.any_dictionary.specs.declared.AnyDictionary.{AnyDictionary}
+use Rattle.command_line.specs.About.{help_or_version}
+use Rattle.command_line.specs.Dictionaries.{KnownFiles, IsOfArgument, IsFailureOf}
+use Rattle.command_line.specs.Failures.{status_of}
+use Rattle.command_line.specs.Options.{ReadArguments, RefusedArgument, refused, after_step, read_arguments}
+use Rattle.command_line.specs.declared.TheConstants.{VERSION}
+use Rattle.command_line.specs.declared.failure.Failure.{Failure}
+use Rattle.command_line.specs.declared.failure.Failure.TheVariants as failed
+use Rattle.command_line.specs.declared.options.Expected.TheVariants.{NoMore}
+use Rattle.hyphenation_breaks.specs.Borrowed.{texts_now}
+use Rattle.hyphenation_load.specs.Load.{AppendsTo, IsLoadError}
+use Rattle.canonical_command.specs.declared.TheConstants.{NAME, USAGE}
 
--- The kind that the arguments name: there must be one argument, the name of a kind.
-abbrev pub kind_of_args : List (Bor (List ℕ)) → Option Kind
-kind_of_args (name ∷ []) = kind_of_name name.now
-kind_of_args _ = None
+-- ---- arguments
 
--- If the arguments name a kind, and the bytes of the input are known, this holds of them.
-abbrev pub IfAsked : List (Bor (List ℕ)) → Option (List ℕ) → (Kind → List ℕ → Type 0) → Type 0
-IfAsked args input P = IfSome (kind_of_args args) (λ kind. IfSome input (λ bytes. P kind bytes))
+-- The text that the arguments ask for by `--help` or `--version`, if they do.
+abbrev pub asked_text : List (Bor (List ℕ)) → Option (List ℕ)
+asked_text args = help_or_version NAME.now VERSION.now USAGE.now args
 
--- The canonical text of the dictionary that an accepted text of a kind gives.
-abbrev pub reordered : Kind → List ℕ → List ℕ
-reordered Standard bytes = standard_text (standard_contents bytes)
-reordered Extended bytes = extended_text (extended_contents bytes)
+-- The path or the language that operands name. None stands for standard input.
+abbrev pub named_by : List (List ℕ) → Result (Option (List ℕ)) RefusedArgument
+named_by [] = Ok None
+named_by (dictionary ∷ []) = Ok (Some dictionary)
+named_by (dictionary ∷ other ∷ rest) = Err (refused other None NoMore)
 
--- The statuses if the arguments name a kind.
--- 0: done. 3: the text is refused. 5: it can't be read, or the result can't be written. 6: memory was refused.
-abbrev pub IsExitStatus : ℕ → Type 0
-IsExitStatus status = (status ≡ 0) ⊎ (status ≡ 3) ⊎ (status ≡ 5) ⊎ (status ≡ 6)
+-- The path or the language that all arguments name, or the first argument that is refused.
+abbrev pub parsed_args : List (Bor (List ℕ)) → Result (Option (List ℕ)) RefusedArgument
+parsed_args args = after_step (λ read. named_by read.operands) (read_arguments [] (texts_now args))
+
+-- ---- dictionaries
+
+-- A dictionary is that of standard input: if its bytes are known, they are accepted and give the dictionary.
+abbrev pub IsOfInput : Option (List ℕ) → AnyDictionary → Type 0
+IsOfInput left dictionary =
+    IfSome left (λ bytes. (refusal_by_head bytes ≡ None) × (dictionary ≡ contents_of bytes))
+
+-- A dictionary is that of the path or the language, or of standard input.
+abbrev pub IsAsked : Option (List ℕ) → KnownFiles → List (Bor (List ℕ)) → Option (List ℕ) → AnyDictionary → Type 0
+IsAsked None bytes_of folders left dictionary = IsOfInput left dictionary
+IsAsked (Some argument) bytes_of folders left dictionary = IsOfArgument bytes_of (texts_now folders) argument dictionary
+
+-- ---- failures
+
+-- Standard input fails so: it is refused for this error, or it can't be read.
+abbrev pub IsFailureOfInput : Option (List ℕ) → Failure → Type 0
+IsFailureOfInput left (failed.Dictionary path cause) = (string_bytes path ≡ codes "standard input")
+    × IfSome left (λ bytes. IsLoadError (refusal_by_head bytes) cause)
+IsFailureOfInput left (failed.Reading input) = string_bytes input ≡ codes "standard input"
+IsFailureOfInput left failed.Memory = ⊤
+IsFailureOfInput left _ = ⊥
+
+-- The loading of the dictionary fails so.
+abbrev pub IsFailureOfLoading : Option (List ℕ) → KnownFiles → List (Bor (List ℕ)) → Option (List ℕ) → Failure → Type 0
+IsFailureOfLoading None bytes_of folders left failure = IsFailureOfInput left failure
+IsFailureOfLoading (Some argument) bytes_of folders left failure = IsFailureOf bytes_of (texts_now folders) argument failure
+
+-- The program fails so: in loading the dictionary, or after that the output can't be written.
+abbrev pub IsFailureFor : Option (List ℕ) → KnownFiles → List (Bor (List ℕ)) → Option (List ℕ) → Failure → Type 0
+IsFailureFor named bytes_of folders left failed.Output =
+    (dictionary : AnyDictionary) × IsAsked named bytes_of folders left dictionary
+IsFailureFor named bytes_of folders left failed.Memory = ⊤
+IsFailureFor named bytes_of folders left failure = IsFailureOfLoading named bytes_of folders left failure
+
+-- ---- how the program ends
+
+-- The canonical text of the dictionary was appended to an output.
+abbrev pub Writes : {W : Type 0} → Option (List ℕ) → KnownFiles → List (Bor (List ℕ)) → Option (List ℕ)
+    → (W → Option (List ℕ)) → W → W → Type 0
+Writes named bytes_of folders left contents old new = (dictionary : AnyDictionary)
+    × IsAsked named bytes_of folders left dictionary × AppendsTo contents old new (canonical_text dictionary)
+
+-- The program ends with the status of a failure. The output is as it was, unless it is the output that failed.
+abbrev pub EndsBy : {W : Type 0} → Option (List ℕ) → KnownFiles → List (Bor (List ℕ)) → Option (List ℕ) → ℕ → W → W → Type 0
+EndsBy named bytes_of folders left status old new = (failure : Failure) × (status ≡ status_of failure)
+    × IsFailureFor named bytes_of folders left failure × ((failure ≡ failed.Output) ⊎ (new ≡ old))
+
+-- How the program ends for its arguments. If one is refused, the status is 2, or memory was refused. Else the status is 0,
+-- and the text was written, or it is that of a failure.
+abbrev pub EndsFor : {W : Type 0} → Result (Option (List ℕ)) RefusedArgument → KnownFiles → List (Bor (List ℕ)) → Option (List ℕ)
+    → ℕ → (W → Option (List ℕ)) → W → W → Type 0
+EndsFor (Err refused) bytes_of folders left status contents old new = (status ≡ 2) ⊎ (status ≡ 6)
+EndsFor (Ok named) bytes_of folders left status contents old new =
+    ((status ≡ 0) × Writes named bytes_of folders left contents old new)
+    ⊎ EndsBy named bytes_of folders left status old new
+
+-- If no help was asked for, the program ends so for its arguments.
+abbrev pub EndsUnlessAsked : {W : Type 0} → List (Bor (List ℕ)) → KnownFiles → List (Bor (List ℕ)) → Option (List ℕ)
+    → ℕ → (W → Option (List ℕ)) → W → W → Type 0
+EndsUnlessAsked args bytes_of folders left status contents old new =
+    asked_text args ≡ None → EndsFor (parsed_args args) bytes_of folders left status contents old new
+
+-- Arguments name a dictionary, or one of them is refused. So standard input is not asked for.
+abbrev pub asks_no_input : Result (Option (List ℕ)) RefusedArgument → Bool
+asks_no_input (Ok named) = is_some named
+asks_no_input (Err refused) = true

@@ -1,143 +1,172 @@
 //! The program `hyphenate-canonical` without its `main`: its arguments, messages and statuses.
 //!
-//! It puts a dictionary text in order, of the kind that its argument names.
+//! It puts a dictionary text in order, of the kind that its first line names.
 #![tactic(auto)]
 
-ghost use Rattle.std.specs.Prelude.{◌≡◌, None, Some, OnOk, IfErr, IfSome, IsSome};
-ghost use Rattle.hyphenation_grammar.specs.Judging.{refusal_of};
-ghost use Rattle.hyphenation_load.specs.Load.{AppendsTo, IsLoadError};
-ghost use Rattle.command_line.specs.About.{help_or_version, WritesHelp};
-ghost use Rattle.canonical_command.specs.Canonical.{kind_of_args, reordered, IfAsked, IsExitStatus};
+ghost use Rattle.std.specs.Prelude.{◌≡◌, ◌⊎◌, true, is_some, Ok, Some, option_copied, OnOk, IfErr, IfOk};
+ghost use Rattle.command_line.specs.About.{WritesHelp};
+ghost use Rattle.command_line.specs.Reading.{IsReadError};
 ghost use Rattle.command_line.specs.Statuses.{BeforeOutput};
-ghost use Rattle.canonical_command.specs.Private.Statuses.{status_of_error, UnlessIo};
+ghost use Rattle.hyphenation_breaks.specs.Borrowed.{texts_now};
+ghost use Rattle.canonical_command.specs.Canonical.{asks_no_input, named_by, parsed_args};
+ghost use Rattle.canonical_command.specs.Canonical.{EndsUnlessAsked, IsAsked, IsFailureFor, IsFailureOfLoading, Writes};
+ghost use Rattle.canonical_command.specs.Private.Refusals.{IsRefusalOf};
 
-use command_line::{VERSION, write_help_or_version, write_message};
-use hyphenation_dictionary::dictionary::{Extended, Standard};
-use hyphenation_grammar::form::Kind;
-use hyphenation_load::{Error, Load, Result};
+use any_dictionary::AnyDictionary;
+use command_line::dictionaries::load_dictionary;
+use command_line::options::{BadArgument, Expected, ReadError, read, report_bad_argument};
+use command_line::{Failure, NamedFiles, VERSION, report, write_help_or_version};
+use hyphenation_load::{Error, Load};
 use std::alloc::Global;
 use std::io::{Read, Write};
 
 /// The name of the program.
 pub const NAME: &str = "hyphenate-canonical";
 
-/// The usage, for `--help` and for arguments of no form.
-pub const USAGE: &str =
-    "usage: hyphenate-canonical KIND\n       hyphenate-canonical --help\n       hyphenate-canonical --version\n";
+/// The usage, for `--help`.
+pub const USAGE: &str = "\
+usage: hyphenate-canonical [DICTIONARY]
+       hyphenate-canonical --help
+       hyphenate-canonical --version
+Puts a dictionary text in order, of the kind that its first line names.
+  DICTIONARY  a dictionary text, by its path, which has a / or a .; or the
+              language of one that hyphenate-languages made; standard input
+              without DICTIONARY
+";
 
 /// The message if memory was refused.
 pub const NO_MEMORY: &str = "hyphenate-canonical: no memory\n";
 
-// The kind that the arguments name.
-fn kind_of(args: &[&str]) -> Option<Kind>
-    ensures { result ≡ kind_of_args args.now }
+// Returns the path or the language that operands name. `None` stands for standard input.
+fn named_by<'w>(operands: &[&'w str]) -> Result<Option<&'w str>, ReadError<'w>>
+    ensures named { IfOk result (λ named. named_by (texts_now operands.now) ≡ Ok (option_copied named)) }
+    ensures refused { IfErr result (IsReadError (named_by (texts_now operands.now))) }
 {
-    match args {
-        [name] => Kind::from_name(name),
-        _ => None,
+    match operands {
+        [] => Ok(None),
+        [dictionary] => Ok(Some(*dictionary)),
+        [_, other, ..] => Err(ReadError::Bad(BadArgument {
+            argument: *other,
+            value: None,
+            expected: Expected::NoMore,
+        })),
     }
 }
 
-// Loads a dictionary from its text, and writes its canonical text.
-fn put_in_order<D: Load + Drop, R: Read, W: Write>(
-    alloc: Global,
-    input: &mut R,
-    output: &mut W,
-) -> Result<()>
-    ensures accepted { OnOk result (IfSome (R.remaining input.old) (λ bytes. D.refusal bytes ≡ None)) }
-    ensures written { OnOk result (IfSome (R.remaining input.old) (λ bytes.
-        AppendsTo W.contents output.old output.new (D.canonical (D.contents bytes)))) }
-    ensures refused { IfErr result (λ e. IfSome (R.remaining input.old) (λ bytes. IsLoadError (D.refusal bytes) e)) }
-    ensures untouched { UnlessIo result (output.new ≡ output.old) }
+// Returns the path or the language that the arguments name.
+fn parsed_args<'w>(alloc: Global, args: &'w [&'w str]) -> Result<Option<&'w str>, ReadError<'w>>
+    ensures parsed { IfOk result (λ named. parsed_args args.now ≡ Ok (option_copied named)) }
+    ensures refused { IfErr result (IsReadError (parsed_args args.now)) }
 {
-    let dictionary = D::any_from_reader(alloc, input)?;
-    dictionary.to_writer(alloc, output)
+    let arguments = read(alloc, &[], args)?;
+    named_by(&arguments.operands)
 }
 
-// Puts a text of either kind in order.
-fn put_kind_in_order<R: Read, W: Write>(
-    alloc: Global,
-    kind: Kind,
-    input: &mut R,
-    output: &mut W,
-) -> Result<()>
-    ensures accepted { OnOk result (IfSome (R.remaining input.old) (λ bytes. refusal_of kind bytes ≡ None)) }
-    ensures written { OnOk result (IfSome (R.remaining input.old) (λ bytes.
-        AppendsTo W.contents output.old output.new (reordered kind bytes))) }
-    ensures refused { IfErr result (λ e. IfSome (R.remaining input.old) (λ bytes.
-        IsLoadError (refusal_of kind bytes) e)) }
-    ensures untouched { UnlessIo result (output.new ≡ output.old) }
+// Returns why standard input gave no dictionary, as a failure of the program.
+fn refused(alloc: Global, cause: Error) -> Failure
+    ensures { IsRefusalOf cause result }
 {
-    match kind {
-        Kind::Standard => put_in_order::<Standard, R, W>(alloc, input, output),
-        Kind::Extended => put_in_order::<Extended, R, W>(alloc, input, output),
+    let Ok(name) = String::from_str(alloc, "standard input") else {
+        return Failure::Memory;
+    };
+    match cause {
+        Error::Memory(_) => Failure::Memory,
+        Error::IO(_) => Failure::Reading { input: name },
+        cause => Failure::Dictionary { path: name, cause },
     }
 }
 
-// Writes an error, and returns the status that it ends the program with. An error of that writing changes nothing.
-fn report<E: Write>(alloc: Global, error: &Error, errors: &mut E) -> u8
-    ensures { result ≡ status_of_error error.now }
+// Returns the dictionary of a path or a language, or of standard input.
+fn load<F: NamedFiles, I: Read>(
+    files: &F,
+    alloc: Global,
+    folders: &[&str],
+    named: Option<&str>,
+    input: &mut I,
+) -> Result<AnyDictionary, Failure>
+    ensures loaded { IfOk result (IsAsked (option_copied named.entry) (F.bytes files.now) folders.now
+        (I.remaining input.old)) }
+    ensures failure { IfErr result (IsFailureOfLoading (option_copied named.entry) (F.bytes files.now)
+        folders.now (I.remaining input.old)) }
+    ensures unread { is_some (option_copied named.entry) ≡ true → input.new ≡ input.old }
 {
-    write_message(
-        alloc,
-        &format_args!("hyphenate-canonical: {error}\n"),
-        errors,
-    );
-    match error {
-        Error::IO(_) => 5,
-        Error::Memory(_) => 6,
-        _ => 3,
+    if let Some(argument) = named {
+        return load_dictionary(files, alloc, folders, argument);
+    }
+    match AnyDictionary::any_from_reader(alloc, input) {
+        Ok(dictionary) => Ok(dictionary),
+        Err(cause) => Err(refused(alloc, cause)),
+    }
+}
+
+// Writes the canonical text of the dictionary of a path or a language, or of standard input.
+fn put_in_order<F: NamedFiles, I: Read, O: Write>(
+    files: &F,
+    alloc: Global,
+    folders: &[&str],
+    named: Option<&str>,
+    input: &mut I,
+    output: &mut O,
+) -> Result<(), Failure>
+    ensures written { OnOk result (Writes (option_copied named.entry) (F.bytes files.now) folders.now
+        (I.remaining input.old) O.contents output.old output.new) }
+    ensures failure { IfErr result (IsFailureFor (option_copied named.entry) (F.bytes files.now) folders.now
+        (I.remaining input.old)) }
+    ensures unread { is_some (option_copied named.entry) ≡ true → input.new ≡ input.old }
+    ensures untouched { IfErr result (λ failure. (failure ≡ Failure.Output) ⊎ (output.new ≡ output.old)) }
+{
+    let dictionary = load(files, alloc, folders, named, input)?;
+    match dictionary.to_writer(alloc, output) {
+        Ok(()) => Ok(()),
+        Err(Error::Memory(_)) => Err(Failure::Memory),
+        Err(_) => Err(Failure::Output),
     }
 }
 
 /// Does what the arguments ask for, and returns the status to end with.
 ///
+/// The whole text is made before the first byte of it is written. A language is looked for in `folders`.
+///
 /// | Status | When |
 /// |---|---|
 /// | 0 | it is done |
-/// | 2 | the arguments are not one kind, `--help` or `--version` |
-/// | 3 | the text is refused |
-/// | 5 | the text can't be read, or the result can't be written |
+/// | 2 | an argument is refused |
+/// | 3 | the dictionary can't be opened, read or accepted, or there is none of the language |
+/// | 5 | standard input can't be read, or the result can't be written |
 /// | 6 | memory was refused |
 ///
 /// A message for any status but 0 is written to `errors`, except if the text of `--help` or `--version` can't be
-/// written. The output is as it was unless the status is 0 or 5.
+/// written. The output is as it was unless the status is 0, or the output can't be written. Standard input is read only
+/// if no dictionary is named.
 ///
 /// ```text
-/// answer(rt.alloc(), &["standard"], &mut rt.stdin(), &mut rt.stdout(), &mut rt.stderr())
+/// answer(&rt, rt.alloc(), &["en-us.txt"], &[], &mut rt.stdin(), &mut rt.stdout(), &mut rt.stderr())
 /// ```
-pub fn answer<R: Read, W: Write, E: Write>(
+pub fn answer<F: NamedFiles, I: Read, O: Write, E: Write>(
+    files: &F,
     alloc: Global,
     args: &[&str],
-    input: &mut R,
-    output: &mut W,
+    folders: &[&str],
+    input: &mut I,
+    output: &mut O,
     errors: &mut E,
 ) -> u8
-    ensures usage { kind_of_args args.now ≡ None → help_or_version NAME.now VERSION.now USAGE.now args.now ≡ None →
-        result ≡ 2 }
-    ensures unread { kind_of_args args.now ≡ None → input.new ≡ input.old }
-    ensures help { kind_of_args args.now ≡ None →
-        WritesHelp NAME.now VERSION.now USAGE.now args.now (Some result) W.contents output.old output.new }
-    ensures exit_status { IsSome (kind_of_args args.now) → IsExitStatus result }
-    ensures accepted { result ≡ 0 → IfAsked args.now (R.remaining input.old) (λ kind bytes.
-        refusal_of kind bytes ≡ None) }
-    ensures written { result ≡ 0 → IfAsked args.now (R.remaining input.old) (λ kind bytes.
-        AppendsTo W.contents output.old output.new (reordered kind bytes)) }
-    ensures refused { result ≡ 3 → IfAsked args.now (R.remaining input.old) (λ kind bytes.
-        IsSome (refusal_of kind bytes)) }
+    ensures help { WritesHelp NAME.now VERSION.now USAGE.now args.now (Some result) O.contents output.old output.new }
+    ensures ended { EndsUnlessAsked args.now (F.bytes files.now) folders.now (I.remaining input.old) result
+        O.contents output.old output.new }
+    ensures unread { asks_no_input (parsed_args args.now) ≡ true → input.new ≡ input.old }
     ensures untouched { BeforeOutput result (output.new ≡ output.old) }
 {
-    let Some(kind) = kind_of(args) else {
-        return match write_help_or_version(NAME, USAGE, args, output) {
-            Some(status) => status,
-            None => {
-                let _ = errors.write_all(USAGE.as_bytes());
-                2
-            }
-        };
+    if let Some(status) = write_help_or_version(NAME, USAGE, args, output) {
+        return status;
+    }
+    let named = match parsed_args(alloc, args) {
+        Ok(named) => named,
+        Err(ReadError::Bad(bad)) => return report_bad_argument(alloc, NAME, &bad, errors),
+        Err(ReadError::Memory) => return report(alloc, NAME, &Failure::Memory, errors),
     };
-    match put_kind_in_order(alloc, kind, input, output) {
+    match put_in_order(files, alloc, folders, named, input, output) {
         Ok(()) => 0,
-        Err(error) => report(alloc, &error, errors),
+        Err(failure) => report(alloc, NAME, &failure, errors),
     }
 }

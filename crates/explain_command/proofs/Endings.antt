@@ -1,35 +1,31 @@
--- How runs end, by the words that are given.
-use Rattle.std.proofs.Common.{◌≡◌, ℕ, ◌<◌, List, [], ◌∷◌, length, refl, arith}
-use Rattle.std.specs.Prelude.{Option, Result, Ok, Err, IfErr}
+-- How the program ends, by how its steps end.
+use Rattle.std.proofs.Common.{◌≡◌, ℕ, List, Option, refl, subst, inl, inr}
+use Rattle.std.specs.Prelude.{◌⊎◌, Result, Ok, Err}
 use Rattle.std.specs.Borrow.{Bor}
-use Rattle.hyphenation.specs.Engine.{JudgesText, IsTextError}
-use Rattle.hyphenation_breaks.specs.Borrowed.{texts_now}
-use Rattle.hyphenation.specs.declared.engine.RunError.{RunError}
-use Rattle.hyphenation.specs.declared.engine.RunError.TheVariants.{Dictionary, Edit, TextNotUtf8, Input, Output, Memory}
-use Rattle.explain_command.specs.Explained.{ExplainsWords}
-use Rattle.explain_command.specs.Statuses.{HasNoEdit, EndsFor}
+use Rattle.command_line.specs.Dictionaries.{KnownFiles}
+use Rattle.command_line.specs.Failures.{status_of}
+use Rattle.command_line.specs.Options.{RefusedArgument}
+use Rattle.command_line.specs.declared.failure.Failure.{Failure}
+use Rattle.command_line.specs.declared.failure.Failure.TheVariants as failed
+use Rattle.explain_command.specs.Arguments.{ParsedArgs}
+use Rattle.explain_command.specs.Endings.{EndsFor, IsFailureFor}
+use Rattle.explain_command.specs.Explained.{Writes}
 
--- An input that was judged as a text.
-pub ends_of_input : {X : Type 0} (input : Option (List ℕ)) (unread : Type 0) (r : Result X RunError) → JudgesText input r → IfErr r IsTextError → EndsFor [] input unread r
-ends_of_input input unread (Ok x) j e = (tt, j, tt)
-ends_of_input input unread (Err (Dictionary x)) j e = absurd e
-ends_of_input input unread (Err (Edit n)) j e = absurd e
-ends_of_input input unread (Err TextNotUtf8) j e = (tt, j, tt)
-ends_of_input input unread (Err (Input x)) j e = (tt, j, tt)
-ends_of_input input unread (Err (Output x)) j e = absurd e
-ends_of_input input unread (Err Memory) j e = (tt, j, tt)
+-- Where memory was refused, whatever the arguments are.
+pub memory_ends : {W : Type 0} (parsed : Result ParsedArgs RefusedArgument) (bytes_of : KnownFiles) (folders : List (Bor (List ℕ))) (left : Option (List ℕ)) (status : ℕ) (contents : W → Option (List ℕ)) (old new : W)
+    → status ≡ 6 → new ≡ old → EndsFor parsed bytes_of folders left status contents old new
+memory_ends (Err refused) bytes_of folders left status contents old new e kept = inr e
+memory_ends (Ok parsed) bytes_of folders left status contents old new e kept = inr (failed.Memory, e, inl tt, inr kept)
 
--- No word was given.
-pub no_words : (words : List (Bor (List ℕ))) → length words ≡ 0 → texts_now words ≡ []
-no_words [] e = refl
-no_words (w ∷ ws) e = absurd (omega arith)
+-- Where the text was written.
+pub done_ends : {W : Type 0} (parsed : ParsedArgs) (bytes_of : KnownFiles) (folders : List (Bor (List ℕ))) (left : Option (List ℕ)) (contents : W → Option (List ℕ)) (old begun new : W)
+    → begun ≡ old → Writes parsed bytes_of folders left contents begun new → EndsFor (Ok parsed) bytes_of folders left 0 contents old new
+done_ends parsed bytes_of folders left contents old begun new kept written =
+    inl (refl, subst (λ o. Writes parsed bytes_of folders left contents o new) kept written)
 
--- With words the input is as it was.
-pub ends_unread : {X : Type 0} (words : List (Bor (List ℕ))) (input : Option (List ℕ)) (unread : Type 0) (r : Result X RunError) → 0 < length words → HasNoEdit r → unread → EndsFor (texts_now words) input unread r
-ends_unread [] input unread r some kept u = absurd (omega arith)
-ends_unread (w ∷ ws) input unread r some kept u = (kept, u)
-
--- The words that are given are explained.
-pub explains_given : (explains : List (List ℕ) → List ℕ → Type 0) (words : List (Bor (List ℕ))) (input : Option (List ℕ)) (text : List ℕ) → 0 < length words → explains (texts_now words) text → ExplainsWords explains (texts_now words) input text
-explains_given explains [] input text some h = absurd (omega arith)
-explains_given explains (w ∷ ws) input text some h = h
+-- Where the run failed.
+pub failure_ends : {W : Type 0} (parsed : ParsedArgs) (bytes_of : KnownFiles) (folders : List (Bor (List ℕ))) (left : Option (List ℕ)) (failure : Failure) (status : ℕ) (contents : W → Option (List ℕ)) (old begun new : W)
+    → status ≡ status_of failure → begun ≡ old → IsFailureFor parsed bytes_of folders left failure → (failure ≡ failed.Output) ⊎ (new ≡ begun)
+    → EndsFor (Ok parsed) bytes_of folders left status contents old new
+failure_ends parsed bytes_of folders left failure status contents old begun new e kept fails untouched =
+    inr (failure, e, fails, subst (λ o. (failure ≡ failed.Output) ⊎ (new ≡ o)) kept untouched)

@@ -1,4 +1,5 @@
 pub mod Joined
-pub mod Endings
 pub mod Drawings
-pub mod Known
+pub mod Parsing
+pub mod Runs
+pub mod Endings

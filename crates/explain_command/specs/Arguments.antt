@@ -1,41 +1,47 @@
 -- How the program `hyphenate-explain` reads its arguments.
-use Rattle.std.specs.Prelude.{ℕ, List, [], ◌∷◌, codes, if◌then◌else◌, map, Option, Some, None, option_and_then}
+use Rattle.std.specs.Prelude.{◌≡◌, ℕ, Bool, false, List, [], ◌∷◌, codes, if◌then◌else◌, map, None, Result, Ok, Err, unwrap_or}
 use Rattle.std.specs.Borrow.{Bor}
-use Rattle.command_line.specs.About.{help_or_version}
-use Rattle.command_line.specs.declared.TheConstants.{VERSION}
-use Rattle.hyphenation_breaks.specs.Language.{is_code}
-use Rattle.hyphenation_grammar.specs.Form.{kind_of_name}
+use Rattle.std.specs.List.{last_or}
+use Rattle.hyphenation_breaks.specs.Borrowed.{texts_now}
 use Rattle.hyphenation_grammar.specs.Lines.{is_same}
-use Rattle.hyphenation_grammar.specs.declared.form.Kind.{Kind}
+use Rattle.command_line.specs.Options.{GivenOption, ReadArguments, RefusedArgument, refused, after_step, read_arguments}
+use Rattle.command_line.specs.declared.options.Expected.TheVariants.{Operand}
+use Rattle.command_line.specs.declared.options.OptionForm.{OptionForm}
 use Rattle.explanations.specs.declared.style.Style.{Style}
 use Rattle.explanations.specs.declared.style.Style.TheVariants.{Picture, Lines, Svg}
-use Rattle.explain_command.specs.declared.TheConstants.{NAME, USAGE}
 
--- The text that the arguments ask for by `--help` or `--version`, if they do.
-abbrev pub asked_text : List (Bor (List ℕ)) → Option (List ℕ)
-asked_text args = help_or_version NAME.now VERSION.now USAGE.now args
-
--- Arguments: the style, the kind of the dictionary, the code of its language, its path, and words.
+-- Arguments: the style, the path or the language of a dictionary, and the words that are given.
 pub record ParsedArgs : Type 0 where
   pub style : Style
-  pub kind : Kind
-  pub code : List ℕ
-  pub path : List ℕ
+  pub dictionary : List ℕ
   pub words : List (List ℕ)
 
--- Arguments of the form `KIND CODE PATH [WORD..]`, for a style. None if they have no such form.
-abbrev pub styled_args : Style → List (Bor (List ℕ)) → Option ParsedArgs
-styled_args style (kind ∷ code ∷ path ∷ words) = option_and_then
-    (λ kind. if is_code code.now
-    then Some (record { style = style; kind = kind; code = code.now; path = path.now; words = map (λ word. word.now) words })
-    else None)
-    (kind_of_name kind.now)
-styled_args style _ = None
+-- The style that the option of a name asks for: a drawing for `--svg`, else lines.
+abbrev pub style_by : List ℕ → Style
+style_by name = if is_same name (codes "--svg") then Svg else Lines
 
--- All arguments: lines after `--plain`, a drawing after `--svg`, else pictures.
-abbrev pub parsed_args : List (Bor (List ℕ)) → Option ParsedArgs
-parsed_args (first ∷ rest) =
-    if is_same first.now (codes "--plain") then styled_args Lines rest
-    else if is_same first.now (codes "--svg") then styled_args Svg rest
-    else styled_args Picture (first ∷ rest)
-parsed_args [] = None
+-- The style that options ask for. The last one counts; without any it is pictures.
+abbrev pub style_of : List GivenOption → Style
+style_of given = unwrap_or (last_or None (map (λ one. style_by one.name) given)) Picture
+
+-- The arguments of a style and operands. The first operand is the dictionary, and the others are words.
+abbrev pub args_of : Style → List (List ℕ) → Result ParsedArgs RefusedArgument
+args_of style [] = Err (refused (codes "DICTIONARY") None Operand)
+args_of style (dictionary ∷ words) = Ok (record { style = style; dictionary = dictionary; words = words })
+
+-- Arguments that are read.
+abbrev pub args_as_read : ReadArguments → Result ParsedArgs RefusedArgument
+args_as_read read = args_of (style_of read.given) read.operands
+
+-- The names of options, each with whether it takes a value.
+abbrev pub names_of : List OptionForm → List (List ℕ × Bool)
+names_of forms = map (λ form. (form.name.now, form.takes_value)) forms
+
+-- The options of the program.
+abbrev pub option_names : List (List ℕ × Bool)
+option_names = (codes "--plain", false) ∷ (codes "--svg", false) ∷ []
+
+-- Arguments are parsed so, by the options of the program: as these arguments, or as the first one that is refused.
+abbrev pub IsParsed : List (Bor (List ℕ)) → Result ParsedArgs RefusedArgument → Type 0
+IsParsed args parsed = (forms : List OptionForm) × (names_of forms ≡ option_names)
+    × (parsed ≡ after_step args_as_read (read_arguments forms (texts_now args)))

@@ -1,4 +1,4 @@
 pub mod Private
 pub mod Arguments
 pub mod Explained
-pub mod Statuses
+pub mod Endings

@@ -1,50 +1,121 @@
-//! The arguments of the program.
+//! Parses the arguments of the program.
 
-ghost use Rattle.std.specs.Prelude.{◌≡◌, None, Some, MatchOption};
-ghost use Rattle.explain_command.specs.Arguments.{parsed_args, styled_args};
-ghost use Rattle.explain_command.specs.Private.Requests.{parsed_request};
+ghost use Rattle.std.specs.Prelude.{◌≡◌, IfErr, IfOk, Ok, map};
+ghost use Rattle.hyphenation_breaks.specs.Borrowed.{texts_now};
+ghost use Rattle.command_line.specs.Reading.{as_given, as_read, IsReadError};
+ghost use Rattle.explain_command.specs.Arguments.{args_as_read, args_of, names_of, option_names, style_by, style_of, IsParsed};
+ghost use Rattle.explain_command.specs.Private.Requests.{parsed_request, AreRefused};
 
+use command_line::options::{Arguments, BadArgument, Expected, Given, OptionForm, ReadError, read};
 use explanations::Style;
-use hyphenation::Language;
-use hyphenation::engine::Kind;
+use std::alloc::{AllocError, Global};
 
-// The arguments as parsed.
+// The options of the program.
+const OPTIONS: [OptionForm; 2] = [
+    OptionForm {
+        name: "--plain",
+        takes_value: false,
+    },
+    OptionForm {
+        name: "--svg",
+        takes_value: false,
+    },
+];
+
+/// The arguments as parsed.
 #[derive(Drop)]
-pub(crate) struct Request<'w> {
-    pub(crate) style: Style,
-    pub(crate) kind: Kind,
-    pub(crate) language: Language,
-    pub(crate) path: &'w str,
-    pub(crate) words: &'w [&'w str],
+pub struct Request<'w> {
+    /// The style of the texts.
+    pub style: Style,
+    /// The path or the language of the dictionary.
+    pub dictionary: &'w str,
+    /// The words that are given.
+    pub words: Vec<&'w str>,
+}
+
+// Returns the style that the option of a name asks for.
+fn style_by(name: &str) -> Style
+    ensures { result ≡ style_by name.now }
+{
+    if name == "--svg" {
+        Style::Svg
+    } else {
+        Style::Lines
+    }
+}
+
+// Returns the style that options ask for: that of the last one.
+fn style_of(given: &[Given<'_>]) -> Style
+    ensures { result ≡ style_of (map as_given given.now) }
+{
+    let mut style = None;
+    for one in given {
+        style = Some(style_by(one.name));
+    }
+    style.unwrap_or(Style::Picture)
+}
+
+// Returns the given words.
+fn words_of<'w>(alloc: Global, words: &[&'w str]) -> Result<Vec<&'w str>, AllocError>
+    ensures { IfOk result (λ copied. texts_now copied.items ≡ texts_now words.now) }
+{
+    let mut copied = Vec::new(alloc);
+    copied.extend_from_slice(words)?;
+    Ok(copied)
+}
+
+// Returns the request of a style and operands.
+fn with_operands<'w>(
+    alloc: Global,
+    style: Style,
+    operands: &[&'w str],
+) -> Result<Request<'w>, ReadError<'w>>
+    ensures parsed { IfOk result (λ request. args_of style (texts_now operands.now) ≡ Ok (parsed_request request)) }
+    ensures refused { IfErr result (IsReadError (args_of style (texts_now operands.now))) }
+{
+    let Some((dictionary, words)) = operands.split_first() else {
+        return Err(ReadError::Bad(BadArgument {
+            argument: "DICTIONARY",
+            value: None,
+            expected: Expected::Operand,
+        }));
+    };
+    Ok(Request {
+        style,
+        dictionary: *dictionary,
+        words: words_of(alloc, words)?,
+    })
+}
+
+// Returns the request of arguments that are read.
+fn of_arguments<'w>(alloc: Global, arguments: &Arguments<'w>) -> Result<Request<'w>, ReadError<'w>>
+    ensures parsed { IfOk result (λ request. args_as_read (as_read arguments.now) ≡ Ok (parsed_request request)) }
+    ensures refused { IfErr result (IsReadError (args_as_read (as_read arguments.now))) }
+{
+    with_operands(alloc, style_of(&arguments.given), &arguments.operands)
+}
+
+// Returns the request of arguments, by the options of the program.
+fn by_forms<'w>(
+    alloc: Global,
+    forms: &[OptionForm],
+    args: &'w [&'w str],
+) -> Result<Request<'w>, ReadError<'w>>
+    requires { names_of forms.now ≡ option_names }
+    ensures parsed { IfOk result (λ request. IsParsed args.now (Ok (parsed_request request))) }
+    ensures refused { IfErr result (AreRefused args.now) }
+{
+    let arguments = read(alloc, forms, args)?;
+    of_arguments(alloc, &arguments)
 }
 
 impl<'w> Request<'w> {
-    // The request, if the arguments have the form. A first argument `--plain` always chooses lines, and `--svg` a drawing.
-    pub(crate) fn from_args(args: &'w [&'w str]) -> Option<Request<'w>>
-        ensures { MatchOption result (parsed_args args.now ≡ None)
-            (λ request. parsed_args args.now ≡ Some (parsed_request request)) }
+    /// Parses arguments `[--plain | --svg] DICTIONARY [WORD..]`. The error is the first that is refused, or says that memory
+    /// was refused.
+    pub fn from_args(alloc: Global, args: &'w [&'w str]) -> Result<Request<'w>, ReadError<'w>>
+        ensures parsed { IfOk result (λ request. IsParsed args.now (Ok (parsed_request request))) }
+        ensures refused { IfErr result (AreRefused args.now) }
     {
-        match args.split_first() {
-            Some((first, rest)) if *first == "--plain" => Self::with_style(Style::Lines, rest),
-            Some((first, rest)) if *first == "--svg" => Self::with_style(Style::Svg, rest),
-            _ => Self::with_style(Style::Picture, args),
-        }
-    }
-
-    // The request of arguments `KIND CODE PATH [WORD..]`, for a style.
-    fn with_style(style: Style, args: &'w [&'w str]) -> Option<Request<'w>>
-        ensures { MatchOption result (styled_args style args.now ≡ None)
-            (λ request. styled_args style args.now ≡ Some (parsed_request request)) }
-    {
-        match args {
-            [kind, code, path, words @ ..] => Some(Request {
-                style,
-                kind: Kind::from_name(kind)?,
-                language: Language::from_code(code)?,
-                path,
-                words,
-            }),
-            _ => None,
-        }
+        by_forms(alloc, &OPTIONS, args)
     }
 }

@@ -1,20 +1,23 @@
-//! A run, from the bytes of a dictionary to the text that is written.
+//! A run of the program: from a dictionary and words to the text that is written.
 
-ghost use Rattle.std.specs.Prelude.{◌≡◌, ◌++◌, ℕ, List, [], IfErr, IfOk, OnOk, map};
+ghost use Rattle.std.specs.Prelude.{◌≡◌, ◌⊎◌, ◌++◌, codes, true, IfErr, IfOk, OnOk, map};
 ghost use Rattle.std.specs.List.{AllZip};
-ghost use Rattle.hyphenation_load.specs.Load.{AppendsTo};
-ghost use Rattle.hyphenation.specs.Engine.{BeforeWriting, JudgesDictionary, IsUnwritten, IsTextError, JudgesText};
-ghost use Rattle.hyphenation_breaks.specs.Borrowed.{texts_now};
-ghost use Rattle.explanations.specs.Drawings.{drawn};
-ghost use Rattle.explain_command.specs.Explained.{AreDrawn, AreExplained, AreJoined, ExplainsBy, ExplainsGiven, WritesGiven};
+ghost use Rattle.command_line.specs.Inputs.{IsFailureOfInput};
+ghost use Rattle.explain_command.specs.Endings.{has_words, IsFailureFor, IsFailureOfWords};
+ghost use Rattle.explain_command.specs.Explained.{AreDrawn, AreExplained, AreJoined};
+ghost use Rattle.explain_command.specs.Explained.{ExplainsGiven, ExplainsInput, Writes};
 ghost use Rattle.explain_command.specs.Private.Joined.{gap_before};
-ghost use Rattle.explain_command.specs.Statuses.{EndsFor};
+ghost use Rattle.explain_command.specs.Private.Requests.{parsed_request, BeforeReading};
+ghost use Rattle.explanations.specs.Drawings.{drawn};
+ghost use Rattle.explanations.specs.Words.{IsDrawingOf, IsExplanation};
+ghost use Rattle.hyphenation_breaks.specs.Borrowed.{texts_now};
 
-use explanations::{Drawing, Explain, Style, document};
-use hyphenation::engine::{Kind, RunError, read_input};
-use hyphenation::extended::Extended;
-use hyphenation::load::Load;
-use hyphenation::{Language, Standard};
+use crate::request::Request;
+use any_dictionary::AnyDictionary;
+use command_line::dictionaries::load_dictionary;
+use command_line::inputs::read_text;
+use command_line::{Failure, NamedFiles};
+use explanations::{Drawing, Style, document, drawing, explanation};
 use std::alloc::{AllocError, Global};
 use std::io::{Read, Write};
 
@@ -29,59 +32,65 @@ fn push_after(text: &mut Vec<u8>, index: usize, explanation: &[u8]) -> Result<()
 }
 
 // Returns the texts that explain words, with an empty line between two. The only error is out of memory.
-fn joined<D: Explain>(
+fn joined(
     alloc: Global,
-    dictionary: &D,
+    dictionary: &AnyDictionary,
     style: Style,
     words: &[&str],
 ) -> Result<Vec<u8>, AllocError>
-    ensures { IfOk result (λ text. AreJoined (D.explains dictionary.now style) (texts_now words.now) text.items) }
+    ensures { IfOk result (λ text. AreJoined (IsExplanation dictionary.now style) (texts_now words.now) text.items) }
 {
     let mut text = Vec::new(alloc);
     for (index, word) in words.iter().enumerate() {
-        let explanation = dictionary.explanation(alloc, style, word)?;
-        push_after(&mut text, index, &explanation)?;
+        let explained = explanation(alloc, dictionary, style, word)?;
+        push_after(&mut text, index, &explained)?;
     }
     Ok(text)
 }
 
 // Returns the drawings that explain words. The only error is out of memory.
-fn drawings_of<D: Explain>(
+fn drawings_of(
     alloc: Global,
-    dictionary: &D,
+    dictionary: &AnyDictionary,
     words: &[&str],
 ) -> Result<Vec<Drawing>, AllocError>
     ensures { IfOk result (λ drawings.
-        AllZip (D.draws dictionary.now) (texts_now words.now) (map drawn drawings.items)) }
+        AllZip (IsDrawingOf dictionary.now) (texts_now words.now) (map drawn drawings.items)) }
 {
     let mut drawings = Vec::new(alloc);
     for word in words {
-        drawings.push(dictionary.drawing(alloc, word)?)?;
+        drawings.push(drawing(alloc, dictionary, word)?)?;
     }
     Ok(drawings)
 }
 
 // Returns the document of the drawings that explain words. The only error is out of memory.
-fn drawn_words<D: Explain>(
+fn drawn_words(
     alloc: Global,
-    dictionary: &D,
+    dictionary: &AnyDictionary,
     words: &[&str],
 ) -> Result<Vec<u8>, AllocError>
-    ensures { IfOk result (λ text. AreDrawn (D.draws dictionary.now) (texts_now words.now) text.items) }
+    ensures { IfOk result (λ text. AreDrawn (IsDrawingOf dictionary.now) (texts_now words.now) text.items) }
 {
     let drawings = drawings_of(alloc, dictionary, words)?;
     document(alloc, &drawings)
 }
 
-// Returns the text that explains words in a style. The only error is out of memory.
-fn explained<D: Explain>(
+/// Returns the text that explains words in a style, by a dictionary.
+///
+/// Pictures and lines have an empty line between those of two words. With [`Style::Svg`] it is one document, with a drawing
+/// for each word below the one before. The only error is out of memory.
+///
+/// ```text
+/// explained(alloc, &dictionary, Style::Picture, &["firkins", "present"])?
+/// ```
+pub fn explained(
     alloc: Global,
-    dictionary: &D,
+    dictionary: &AnyDictionary,
     style: Style,
     words: &[&str],
 ) -> Result<Vec<u8>, AllocError>
-    ensures { IfOk result (λ text. AreExplained (D.explains dictionary.now) (D.draws dictionary.now) style
-        (texts_now words.now) text.items) }
+    ensures { IfOk result (λ text. AreExplained dictionary.now style (texts_now words.now) text.items) }
 {
     match style {
         Style::Picture => joined(alloc, dictionary, Style::Picture, words),
@@ -90,135 +99,74 @@ fn explained<D: Explain>(
     }
 }
 
-// Returns the texts that explain the words of an input, which white space parts.
-fn explained_input<D: Explain, I: Read>(
+// Returns the text that explains the words of standard input, which white space parts.
+fn explained_input<F: NamedFiles, I: Read>(
+    files: &F,
     alloc: Global,
-    dictionary: &D,
+    dictionary: &AnyDictionary,
     style: Style,
     input: &mut I,
-) -> Result<Vec<u8>, RunError>
-    ensures judged { JudgesText (I.remaining input.old) result }
-    ensures text_error { IfErr result IsTextError }
-    ensures text { IfOk result (λ text.
-        ExplainsGiven (D.explains dictionary.now) (D.draws dictionary.now) style [] (I.remaining input.old) text.items) }
+) -> Result<Vec<u8>, Failure>
+    ensures text { IfOk result (λ text. ExplainsInput dictionary.now style (F.bytes files.now)
+        (I.remaining input.old) text.items) }
+    ensures failure { IfErr result (IsFailureOfInput (F.bytes files.now) (I.remaining input.old) (codes "-")) }
 {
-    let text = read_input(alloc, input)?;
+    let text = read_text(files, alloc, "-", input)?;
     let words: Vec<&str> = text.split_whitespace().collect(alloc)?;
     Ok(explained(alloc, dictionary, style, &words)?)
 }
 
-// Returns the texts that explain the given words or, without any, those of an input.
-fn explained_words<D: Explain, I: Read>(
+// Returns the text that explains the given words or, without any, those of standard input.
+fn explained_words<F: NamedFiles, I: Read>(
+    files: &F,
     alloc: Global,
-    dictionary: &D,
+    dictionary: &AnyDictionary,
     style: Style,
     words: &[&str],
     input: &mut I,
-) -> Result<Vec<u8>, RunError>
-    ensures ended { EndsFor (texts_now words.now) (I.remaining input.old) (input.new ≡ input.old) result }
-    ensures text_error { IfErr result IsTextError }
-    ensures text { IfOk result (λ text.
-        ExplainsGiven (D.explains dictionary.now) (D.draws dictionary.now) style words.now
-        (I.remaining input.old) text.items) }
+) -> Result<Vec<u8>, Failure>
+    ensures text { IfOk result (λ text. ExplainsGiven dictionary.now style (F.bytes files.now)
+        (I.remaining input.old) (texts_now words.now) text.items) }
+    ensures failure { IfErr result (IsFailureOfWords (F.bytes files.now) (I.remaining input.old) (texts_now words.now)) }
+    ensures unread { has_words (texts_now words.now) ≡ true → input.new ≡ input.old }
 {
-    if words.is_empty() {
-        return explained_input(alloc, dictionary, style, input);
-    }
-    Ok(explained(alloc, dictionary, style, words)?)
-}
-
-// Returns the texts of words by the standard dictionary of that language that a reader's bytes give.
-fn standard_text<D: Read, I: Read>(
-    alloc: Global,
-    lang: Language,
-    style: Style,
-    words: &[&str],
-    reader: &mut D,
-    input: &mut I,
-) -> Result<Vec<u8>, RunError>
-    ensures dictionary { JudgesDictionary Kind.Standard lang (D.remaining reader.old) result }
-    ensures ended { EndsFor (texts_now words.now) (I.remaining input.old) (input.new ≡ input.old) result }
-    ensures unwritten { IfErr result IsUnwritten }
-    ensures text { IfOk result (λ text.
-        ExplainsBy Kind.Standard style (texts_now words.now) (D.remaining reader.old)
-        (I.remaining input.old) text.items) }
-{
-    let dictionary = Standard::from_reader(alloc, lang, reader)?;
-    explained_words(alloc, &dictionary, style, words, input)
-}
-
-// Returns the texts of words by the extended dictionary of that language that a reader's bytes give.
-fn extended_text<D: Read, I: Read>(
-    alloc: Global,
-    lang: Language,
-    style: Style,
-    words: &[&str],
-    reader: &mut D,
-    input: &mut I,
-) -> Result<Vec<u8>, RunError>
-    ensures dictionary { JudgesDictionary Kind.Extended lang (D.remaining reader.old) result }
-    ensures ended { EndsFor (texts_now words.now) (I.remaining input.old) (input.new ≡ input.old) result }
-    ensures unwritten { IfErr result IsUnwritten }
-    ensures text { IfOk result (λ text.
-        ExplainsBy Kind.Extended style (texts_now words.now) (D.remaining reader.old)
-        (I.remaining input.old) text.items) }
-{
-    let dictionary = Extended::from_reader(alloc, lang, reader)?;
-    explained_words(alloc, &dictionary, style, words, input)
-}
-
-// Returns the texts of words by the dictionary of that kind and language that a reader's bytes give.
-fn text_by<D: Read, I: Read>(
-    alloc: Global,
-    kind: Kind,
-    lang: Language,
-    style: Style,
-    words: &[&str],
-    reader: &mut D,
-    input: &mut I,
-) -> Result<Vec<u8>, RunError>
-    ensures dictionary { JudgesDictionary kind lang (D.remaining reader.old) result }
-    ensures ended { EndsFor (texts_now words.now) (I.remaining input.old) (input.new ≡ input.old) result }
-    ensures unwritten { IfErr result IsUnwritten }
-    ensures text { IfOk result (λ text.
-        ExplainsBy kind style (texts_now words.now) (D.remaining reader.old)
-        (I.remaining input.old) text.items) }
-{
-    match kind {
-        Kind::Standard => standard_text(alloc, lang, style, words, reader, input),
-        Kind::Extended => extended_text(alloc, lang, style, words, reader, input),
+    match words {
+        [] => explained_input(files, alloc, dictionary, style, input),
+        [_, ..] => Ok(explained(alloc, dictionary, style, words)?),
     }
 }
 
-/// Loads a dictionary of that kind and language, and writes a text that explains each word, in a style.
+/// Writes the text that a request asks for, once all of it is made.
 ///
-/// With `Style::Svg` it is one document, with a drawing for each word below the one before.
-/// Without any word, those of an input are explained, which is read to its end and must be UTF-8. Nothing is written before
-/// the whole text is there. The errors are `Dictionary`, `TextNotUtf8`, `Input`, `Output` and `Memory`.
-///
-/// ```text
-/// let mut dictionary = &b"hyphenation 1 standard\nlanguage en-us\nminima 2 3\np hy3ph\n"[..];
-/// let lang = Language::english_us();
-/// let (input, output) = (&mut rt.stdin(), &mut rt.stdout());
-/// run_explain(alloc, Kind::Standard, lang, Style::Picture, &["hyphen"], &mut dictionary, input, output)?;
-/// ```
-pub fn run_explain<D: Read, I: Read, O: Write>(
+/// The dictionary is loaded first. Then standard input is read to its end, if no word is given. The first step that fails
+/// gives the failure. After [`Failure::Output`] a beginning may be written; after any other nothing is.
+pub fn run<F: NamedFiles, I: Read, O: Write>(
+    files: &F,
     alloc: Global,
-    kind: Kind,
-    lang: Language,
-    style: Style,
-    words: &[&str],
-    dictionary: &mut D,
+    request: &Request<'_>,
+    folders: &[&str],
     input: &mut I,
     output: &mut O,
-) -> Result<(), RunError>
-    ensures dictionary { JudgesDictionary kind lang (D.remaining dictionary.old) result }
-    ensures ended { EndsFor (texts_now words.now) (I.remaining input.old) (input.new ≡ input.old) result }
-    ensures written { OnOk result (WritesGiven kind style words.now (D.remaining dictionary.old)
+) -> Result<(), Failure>
+    ensures written { OnOk result (Writes (parsed_request request.now) (F.bytes files.now) folders.now
         (I.remaining input.old) O.contents output.old output.new) }
-    ensures appends_some_text { OnOk result ((text : List ℕ) × AppendsTo O.contents output.old output.new text) }
-    ensures untouched { BeforeWriting result (output.new ≡ output.old) }
+    ensures failure { IfErr result (IsFailureFor (parsed_request request.now) (F.bytes files.now) folders.now
+        (I.remaining input.old)) }
+    ensures unread { has_words (texts_now request.now.words.items) ≡ true → input.new ≡ input.old }
+    ensures dictionary_first { IfErr result (BeforeReading (input.new ≡ input.old)) }
+    ensures untouched { IfErr result (λ failure. (failure ≡ Failure.Output) ⊎ (output.new ≡ output.old)) }
 {
-    let text = text_by(alloc, kind, lang, style, words, dictionary, input)?;
-    output.write_all(&text).map_err(RunError::Output)
+    let dictionary = load_dictionary(files, alloc, folders, request.dictionary)?;
+    let text = explained_words(
+        files,
+        alloc,
+        &dictionary,
+        request.style,
+        &request.words,
+        input,
+    )?;
+    match output.write_all(&text) {
+        Ok(()) => Ok(()),
+        Err(_) => Err(Failure::Output),
+    }
 }

@@ -15,7 +15,7 @@ mod memory_free;
 mod runs;
 mod scores_and_breaks;
 
-use command_line::with_args;
+use command_line::with_words;
 use std::alloc::Global;
 use std::io;
 use std::io::{Read, Write};
@@ -62,7 +62,7 @@ fn run_args(rt: &HostRuntime, args: &[&str]) -> io::Result<u8> {
 }
 
 fn main(rt: HostRuntime) -> ExitCode {
-    let result = with_args(&rt, |args| run_args(&rt, args));
+    let result = with_words(&rt, |words| run_args(&rt, words.get(1..).unwrap_or(&[])));
     match result {
         Ok(Ok(status)) => ExitCode::from(status),
         _ => ExitCode::from(1),

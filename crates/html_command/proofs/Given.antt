@@ -3,9 +3,10 @@ use Rattle.std.proofs.Common.{◌≡◌, ℕ, ◌+◌, ◌<◌, List, [], ◌∷
 use Rattle.std.specs.List.{AllZip}
 use Rattle.std.specs.Prelude.{Option}
 use Rattle.std.proofs.lemmas.List.{map_push, take_more}
-use Rattle.hyphenation_html.specs.declared.dictionary.AnyDictionary.{AnyDictionary}
+use Rattle.any_dictionary.specs.declared.AnyDictionary.{AnyDictionary}
+use Rattle.command_line.specs.Dictionaries.{IsOfFile}
 use Rattle.hyphenation_html.specs.declared.languages.LanguageDictionary.{LanguageDictionary}
-use Rattle.html_command.specs.Dictionaries.{AreGiven, IsOfFile, code_of}
+use Rattle.html_command.specs.Dictionaries.{AreGiven, code_of}
 use Rattle.html_command.specs.Private.Requests.{parsed_dictionary}
 use Rattle.html_command.specs.declared.request.GivenDictionary.{GivenDictionary}
 

@@ -1,6 +1,6 @@
 pub mod Beginnings
 pub mod Endings
 pub mod Options
-pub mod Files
+pub mod Refused
 pub mod Given
 pub mod Codes

@@ -1,143 +1,21 @@
-//! Dictionaries of either kind: their reading, and those that folders have.
+//! The dictionaries of a page: those that the arguments give, and those that folders have.
 
 ghost use Rattle.std.specs.Prelude.{◌≡◌, ◌∷◌, ◌++◌, [], Contains, IfErr, IfOk, IfSome, OnOk, map};
-ghost use Rattle.std.specs.String.{string_bytes};
-ghost use Rattle.hyphenation_load.specs.Load.{IsNotIo, IsNotOutOfMemory};
 ghost use Rattle.hyphenation_breaks.specs.Borrowed.{texts_now};
 ghost use Rattle.language_search.specs.Tags.{codes_of};
-ghost use Rattle.html_command.specs.Dictionaries.{is_extended_head, is_extended, LoadsAny, code_of, BeginsWith, HasCodesOf};
-ghost use Rattle.html_command.specs.Dictionaries.{AreGiven, IsOfFile, IsOfFileIfThere, IsOfFirst};
-ghost use Rattle.html_command.specs.Dictionaries.{AddsFound, AreDictionariesFor, IsFoundIn};
+ghost use Rattle.html_command.specs.Dictionaries.{code_of, BeginsWith, HasCodesOf, AreGiven, AddsFound, AreDictionariesFor, IsFoundIn};
 ghost use Rattle.html_command.specs.Private.Requests.{parsed_dictionary, parsed_request};
 ghost use Rattle.html_command.specs.Private.Statuses.{IsDictionaryFailure};
 
-use crate::failure::Failure;
 use crate::languages::languages_of;
 use crate::request::{GivenDictionary, Request};
-use command_line::NamedFiles;
+use any_dictionary::AnyDictionary;
+use command_line::dictionaries::{load_file, load_first};
+use command_line::{Failure, NamedFiles};
 use hyphenation_breaks::language::Language;
-use hyphenation_dictionary::dictionary::{Extended, Standard};
-use hyphenation_grammar::form::{Form, Kind, Version};
-use hyphenation_grammar::lines::{is_head, next_line};
-use hyphenation_html::{AnyDictionary, LanguageDictionary};
-use hyphenation_load::{Error, Load, is_out_of_memory, read_all};
+use hyphenation_html::LanguageDictionary;
 use language_search::{codes_of, paths_of_code};
 use std::alloc::{AllocError, Global};
-use std::io::{ErrorKind, Read};
-
-// Whether the first line of a text is that of an extended dictionary.
-fn is_extended(text: &[u8]) -> bool
-    ensures { result ≡ is_extended text.now }
-{
-    match next_line(text) {
-        Some((line, _)) => is_extended_head(line),
-        None => false,
-    }
-}
-
-// Whether a line is line 1 of an extended dictionary.
-fn is_extended_head(line: &[u8]) -> bool
-    ensures { result ≡ is_extended_head line.now }
-{
-    let first = Form {
-        kind: Kind::Extended,
-        version: Version::First,
-    };
-    let second = Form {
-        kind: Kind::Extended,
-        version: Version::Second,
-    };
-    is_head(first, line) || is_head(second, line)
-}
-
-/// Loads a dictionary of the kind that the first line of its text names.
-///
-/// A first line that names no kind is refused as that of a standard dictionary. The errors are those of
-/// `Load::any_from_reader`.
-///
-/// ```text
-/// let mut text = &b"hyphenation 1 extended\nlanguage hu\nminima 2 2\n"[..];
-/// any_from_reader(alloc, &mut text)?      // AnyDictionary::Extended
-/// ```
-pub fn any_from_reader<R: Read>(
-    alloc: Global,
-    reader: &mut R,
-) -> hyphenation_load::Result<AnyDictionary>
-    ensures loaded { IfSome (R.remaining reader.old) (λ bytes. LoadsAny bytes result) }
-    ensures not_out_of_memory { IfErr result IsNotOutOfMemory }
-{
-    match read_all(alloc, reader) {
-        Ok(text) => any_from_text(alloc, text),
-        Err(e) => Ok(AnyDictionary::Standard(Standard::from_read(alloc, Err(e))?)),
-    }
-}
-
-// The dictionary of a text, of the kind that its first line names.
-fn any_from_text(alloc: Global, text: Vec<u8>) -> hyphenation_load::Result<AnyDictionary>
-    ensures loaded { LoadsAny text.items result }
-    ensures no_io_error { IsNotIo result }
-{
-    if is_extended(&text) {
-        Ok(AnyDictionary::Extended(Extended::from_read(alloc, Ok(text))?))
-    } else {
-        Ok(AnyDictionary::Standard(Standard::from_read(alloc, Ok(text))?))
-    }
-}
-
-// Why a dictionary was not loaded from a path, as a failure of the program.
-fn refused(alloc: Global, path: &str, cause: Error) -> Failure
-    ensures { IsDictionaryFailure result }
-{
-    let is_memory = match &cause {
-        Error::Memory(_) => true,
-        Error::IO(e) => is_out_of_memory(e),
-        _ => false,
-    };
-    match String::from_str(alloc, path) {
-        Ok(path) if !is_memory => Failure::Dictionary { path, cause },
-        _ => Failure::Memory,
-    }
-}
-
-// The dictionary of a path. `None` if there is no such file.
-#[tactic(auto, using(crate::proofs::Files::not_there))]
-fn load_if_there<F: NamedFiles>(
-    files: &F,
-    alloc: Global,
-    path: &str,
-) -> Result<Option<AnyDictionary>, Failure>
-    ensures found { IfOk result (IsOfFileIfThere (F.bytes files.now path.now)) }
-    ensures failure { IfErr result IsDictionaryFailure }
-{
-    let mut file = match files.open(path) {
-        Ok(file) => file,
-        Err(e) => {
-            if matches!(e.kind(), ErrorKind::NotFound) {
-                return Ok(None);
-            }
-            return Err(refused(alloc, path, Error::IO(e)));
-        }
-    };
-    match any_from_reader(alloc, &mut file) {
-        Ok(dictionary) => Ok(Some(dictionary)),
-        Err(cause) => Err(refused(alloc, path, cause)),
-    }
-}
-
-// The dictionary of a path.
-fn load<F: NamedFiles>(files: &F, alloc: Global, path: &str) -> Result<AnyDictionary, Failure>
-    ensures loaded { IfOk result (IsOfFile (F.bytes files.now path.now)) }
-    ensures failure { IfErr result IsDictionaryFailure }
-{
-    let mut file = match files.open(path) {
-        Ok(file) => file,
-        Err(e) => return Err(refused(alloc, path, Error::IO(e))),
-    };
-    match any_from_reader(alloc, &mut file) {
-        Ok(dictionary) => Ok(dictionary),
-        Err(cause) => Err(refused(alloc, path, cause)),
-    }
-}
 
 // A dictionary with the code of its language.
 fn with_code(
@@ -162,7 +40,7 @@ fn push(all: &mut Vec<LanguageDictionary>, language: LanguageDictionary) -> Resu
 }
 
 // The dictionaries that the arguments give, in their order.
-#[tactic(auto, using(crate::proofs::Given::codes_of_given))]
+#[tactic(auto, using(crate::proofs::Given::codes_of_given, crate::proofs::Refused::file_is_refused))]
 fn load_given<F: NamedFiles>(
     files: &F,
     alloc: Global,
@@ -174,7 +52,7 @@ fn load_given<F: NamedFiles>(
 {
     let mut all = Vec::new(alloc);
     for one in given {
-        let dictionary = load(files, alloc, one.path)?;
+        let dictionary = load_file(files, alloc, one.path)?;
         let language = with_code(alloc, one.language.code(), dictionary)?;
         push(&mut all, language)?;
     }
@@ -186,24 +64,8 @@ fn has_code(all: &[LanguageDictionary], code: &str) -> bool {
     all.iter().any(|one| one.code.as_str() == code)
 }
 
-// The dictionary of the first path at which there is a file.
-fn load_first<F: NamedFiles>(
-    files: &F,
-    alloc: Global,
-    paths: &[String],
-) -> Result<Option<AnyDictionary>, Failure>
-    ensures found { IfOk result (IsOfFirst (F.bytes files.now) (map string_bytes paths.now)) }
-    ensures failure { IfErr result IsDictionaryFailure }
-{
-    for path in paths {
-        if let Some(dictionary) = load_if_there(files, alloc, path)? {
-            return Ok(Some(dictionary));
-        }
-    }
-    Ok(None)
-}
-
 // The dictionary of a code, from the folders.
+#[tactic(auto, using(crate::proofs::Refused::one_is_refused))]
 fn find_code<F: NamedFiles>(
     files: &F,
     alloc: Global,

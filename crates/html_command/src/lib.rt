@@ -3,28 +3,24 @@
 //! It writes a page with a mark where the words of its text may be broken, and leaves all else as it is.
 #![tactic(auto)]
 
-ghost use Rattle.std.specs.Prelude.{◌≡◌, ◌⊎◌, ◌+◌, ◌<◌, ◌==◌, IfErr, IfOk, IfSome, None, OnOk, Some, count_by, length, take};
+ghost use Rattle.std.specs.Prelude.{◌≡◌, ◌⊎◌, IfErr, IfSome, None, OnOk, Some};
 ghost use Rattle.command_line.specs.About.{WritesHelp};
 ghost use Rattle.command_line.specs.Statuses.{BeforeOutput};
 ghost use Rattle.html_command.specs.Arguments.{parsed_args};
-ghost use Rattle.hyphenation_breaks.specs.Ascii.{line_feed};
 ghost use Rattle.hyphenation_breaks.specs.Borrowed.{texts_now};
 ghost use Rattle.html_command.specs.Written.{asked_text, WritesPage, EndsUnlessAsked};
 ghost use Rattle.html_command.specs.Private.Requests.{parsed_request, WritesPageOf};
-ghost use Rattle.html_command.specs.Private.Statuses.{IsReadingFailure, IsWritingFailure, JudgesPage};
+ghost use Rattle.html_command.specs.Private.Statuses.{IsWritingFailure, JudgesPage};
 
 pub mod dictionaries;
-mod failure;
-pub mod folders;
 mod languages;
 mod request;
 
-use command_line::{NamedFiles, VERSION, write_help_or_version};
+use command_line::inputs::read_text;
+use command_line::{Failure, NamedFiles, VERSION, report, write_help_or_version};
 use dictionaries::load_for_page;
-pub use failure::NO_MEMORY;
-use failure::{Failure, report};
 use hyphenation_html::{LanguageDictionary, hyphenate_html};
-use hyphenation_load::{is_out_of_memory, read_all};
+use languages::languages_of;
 use request::Request;
 use std::alloc::{AllocError, Global};
 use std::io::{Read, Write};
@@ -50,36 +46,31 @@ Writes an HTML or XHTML page with soft hyphens in the words of its text.
 Of an extended dictionary the breaks that change no letter are used.
 ";
 
-// The note if there is no dictionary for the page.
+/// The message if memory was refused.
+pub const NO_MEMORY: &str = "hyphenate-html: no memory\n";
+
+// The note if there is no dictionary for the languages of the page.
 const NO_DICTIONARY: &str =
     "hyphenate-html: note: no dictionary for a language that the page names, so nothing is changed\n";
 
-// All bytes of the page.
-fn read_page<I: Read>(alloc: Global, input: &mut I) -> Result<Vec<u8>, Failure>
-    ensures read { IfOk result (λ bytes. IfSome (I.remaining input.old) (λ page. bytes.items ≡ page)) }
-    ensures failure { IfErr result IsReadingFailure }
-{
-    match read_all(alloc, input) {
-        Ok(bytes) => Ok(bytes),
-        Err(e) => {
-            if is_out_of_memory(&e) {
-                return Err(Failure::Memory);
-            }
-            Err(Failure::Reading)
-        }
-    }
-}
+// The note if the page names no language, and the arguments name none for it.
+const NO_LANGUAGE: &str =
+    "hyphenate-html: note: the page names no language, so nothing is changed; --language names it\n";
 
-// The failure of a page that is UTF-8 up to so many bytes, and not beyond.
-fn not_utf8(page: &[u8], valid: usize) -> Failure
-    requires { valid < length page.now }
-    ensures { result ≡ Failure.NotUtf8 valid (count_by (λ byte. byte == line_feed) (take valid page.now) + 1) }
-{
-    let ended = page[..valid].iter().filter(|byte| **byte == b'\n').count();
-    Failure::NotUtf8 {
-        valid,
-        line: ended + 1,
+// Returns the note for a page with so many dictionaries.
+fn note_of(
+    alloc: Global,
+    dictionaries: usize,
+    language: &str,
+    page: &str,
+) -> Result<Option<&'static str>, AllocError> {
+    if dictionaries > 0 {
+        return Ok(None);
     }
+    if language.is_empty() && languages_of(alloc, page)?.is_empty() {
+        return Ok(Some(NO_LANGUAGE));
+    }
+    Ok(Some(NO_DICTIONARY))
 }
 
 // Makes the tables of dictionaries that pay for a page of so many bytes. The only error is out of memory.
@@ -104,10 +95,10 @@ fn write_page<F: NamedFiles, O: Write>(
     folders: &[&str],
     page: &str,
     output: &mut O,
-) -> Result<usize, Failure>
+) -> Result<Option<&'static str>, Failure>
     ensures written { OnOk result (WritesPage (parsed_request request.now) (F.bytes files.now) (texts_now folders.now)
         page.now O.contents output.old output.new) }
-    ensures untouched { IfErr result (λ failure. (failure ≡ Failure.Writing) ⊎ (output.new ≡ output.old)) }
+    ensures untouched { IfErr result (λ failure. (failure ≡ Failure.Output) ⊎ (output.new ≡ output.old)) }
     ensures failure { IfErr result IsWritingFailure }
 {
     let mut dictionaries = load_for_page(files, alloc, request, folders, page)?;
@@ -119,13 +110,15 @@ fn write_page<F: NamedFiles, O: Write>(
         &request.settings,
         page,
     )?;
+    let note = note_of(alloc, dictionaries.len(), request.language, page)?;
     match output.write_all(text.as_bytes()) {
-        Ok(()) => Ok(dictionaries.len()),
-        Err(_) => Err(Failure::Writing),
+        Ok(()) => Ok(note),
+        Err(_) => Err(Failure::Output),
     }
 }
 
-// Reads a page, and writes it with marks. Returns how many dictionaries there were for it.
+// Reads a page, and writes it with marks. Returns a note if it has no dictionary.
+#[tactic(auto, using(crate::proofs::Refused::page_is_refused, crate::proofs::Refused::page_fails_later))]
 fn run<F: NamedFiles, I: Read, O: Write>(
     files: &F,
     alloc: Global,
@@ -133,17 +126,14 @@ fn run<F: NamedFiles, I: Read, O: Write>(
     folders: &[&str],
     input: &mut I,
     output: &mut O,
-) -> Result<usize, Failure>
+) -> Result<Option<&'static str>, Failure>
     ensures judged { IfSome (I.remaining input.old) (λ page. JudgesPage page result) }
     ensures written { OnOk result (WritesPageOf request.now (F.bytes files.now) (texts_now folders.now)
         (I.remaining input.old) O.contents output.old output.new) }
-    ensures untouched { IfErr result (λ failure. (failure ≡ Failure.Writing) ⊎ (output.new ≡ output.old)) }
+    ensures untouched { IfErr result (λ failure. (failure ≡ Failure.Output) ⊎ (output.new ≡ output.old)) }
 {
-    let bytes = read_page(alloc, input)?;
-    match std::str::from_utf8(&bytes) {
-        Ok(page) => write_page(files, alloc, request, folders, page, output),
-        Err(e) => Err(not_utf8(&bytes, e.valid_up_to())),
-    }
+    let page = read_text(files, alloc, "-", input)?;
+    write_page(files, alloc, request, folders, &page, output)
 }
 
 /// Does what the arguments ask for, and returns the status to end with.
@@ -189,15 +179,15 @@ pub fn answer<F: NamedFiles, I: Read, O: Write, E: Write>(
             let _ = errors.write_all(USAGE.as_bytes());
             return 2;
         }
-        Err(_) => return report(alloc, &Failure::Memory, errors),
+        Err(_) => return report(alloc, NAME, &Failure::Memory, errors),
     };
     match run(files, alloc, &request, folders, input, output) {
-        Ok(dictionaries) => {
-            if dictionaries == 0 {
-                let _ = errors.write_all(NO_DICTIONARY.as_bytes());
+        Ok(note) => {
+            if let Some(note) = note {
+                let _ = errors.write_all(note.as_bytes());
             }
             0
         }
-        Err(failure) => report(alloc, &failure, errors),
+        Err(failure) => report(alloc, NAME, &failure, errors),
     }
 }

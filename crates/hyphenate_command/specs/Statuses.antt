@@ -2,7 +2,7 @@
 use Rattle.std.specs.Prelude.{◌≡◌, ℕ, List, [], Result, Ok, Err, Option, IfErr, IfSome}
 use Rattle.std.specs.Borrow.{Bor}
 use Rattle.hyphenation.specs.Engine.{IsScoreError, JudgesDictionary, JudgesEdits, JudgesText, BeforeReading, IfBothKnown, breaks_by, score_by}
-use Rattle.command_line.specs.Files.{known_bytes}
+use Rattle.named_files.specs.Files.{known_bytes}
 use Rattle.hyphenation_hyphenator.specs.Hyphenated.{hyphenated_text}
 use Rattle.hyphenation_load.specs.Load.{AppendsTo}
 use Rattle.linefill.specs.Run.{fill_output}

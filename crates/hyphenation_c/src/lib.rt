@@ -10,7 +10,7 @@ ghost use Rattle.c_calls.specs.Lists.{WritesLists};
 ghost use Rattle.c_calls.specs.Paths.{WritesPaths};
 ghost use Rattle.c_calls.specs.Patterns.{LoadsDic};
 ghost use Rattle.c_calls.specs.Statuses.{kind_numbered, Loads, Shares, Edits, MakesTable, WritesLanguage, WritesMinima};
-ghost use Rattle.c_calls.specs.Statuses.{WritesBreaks, WritesValues, Changes, into, loading};
+ghost use Rattle.c_calls.specs.Statuses.{kind_named, WritesBreaks, WritesValues, Changes, into, loading};
 ghost use Rattle.c_calls.specs.Statuses.{WritesMarkedText, WritesLines, WritesCanonicalText};
 ghost use Rattle.c_calls.specs.TexFiles.{LoadsPatterns, PlacesFault};
 ghost use Rattle.level_calls.specs.Levels.{holds as holds_levels, Loads as LoadsLevels, minima_given, answer_by};
@@ -24,6 +24,15 @@ use level_calls::handle::Handle as LevelsHandle;
 use level_calls::head::LevelHead;
 use level_calls::minima::LevelMinima;
 use std::alloc::Global;
+
+/// Returns the kind that the first line of a dictionary text names. It is 0 for a standard dictionary, 1 for an extended
+/// one, and 2 if the line names none.
+#[unsafe(no_mangle)]
+pub extern "C" fn hyphenation_kind_of(bytes: &[u8]) -> u32
+    ensures { result ≡ kind_named bytes.now }
+{
+    c_calls::kind_of(bytes)
+}
 
 /// Loads a dictionary of a kind from its text. It takes the place of the dictionary that the handle held.
 #[unsafe(no_mangle)]

@@ -1,5 +1,5 @@
 pub mod PlainBreaks
-pub mod Pages
-pub mod OptionsTaken
-pub mod Loaded
-pub mod Known
+pub mod Numbers
+pub mod Requests
+pub mod Runs
+pub mod Endings

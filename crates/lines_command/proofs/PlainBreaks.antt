@@ -6,13 +6,13 @@ use Rattle.std.specs.Option.{option_map, option_and_then, option_map_or, unwrap_
 use Rattle.std.proofs.lemmas.List.Elements.{All-nil, All-map, All-filter}
 use Rattle.hyphenation_breaks.specs.Break.{Break, Change, plain_break}
 use Rattle.hyphenation_breaks.specs.Dictionary.{Contents, Patterns, entries_of_keys}
-use Rattle.hyphenation_grammar.specs.Reading.{standard_contents}
-use Rattle.hyphenation_grammar.specs.declared.form.Kind.{Kind}
-use Rattle.hyphenation_grammar.specs.declared.form.Kind.TheVariants.{Standard, Extended}
 use Rattle.hyphenation_hyphenator.specs.Folding.{fold_case}
 use Rattle.hyphenation_hyphenator.specs.Opportunities.{no_change, within, winning_break, breaks_at_odd_values, standard_rules, breaks_within, boundaries_by, opportunities_in, opportunities, break_carried_back, breaks_as_written, all_breaks_of}
 use Rattle.hyphenation_hyphenator.specs.SoftHyphens.{soft_hyphens}
-use Rattle.lines_command.specs.Written.{breaks_by, PlainIfStandard}
+use Rattle.any_dictionary.specs.Dictionaries.{breaks_by, kind_by}
+use Rattle.any_dictionary.specs.declared.AnyDictionary.{AnyDictionary}
+use Rattle.any_dictionary.specs.declared.AnyDictionary.TheVariants as of
+use Rattle.lines_command.specs.Written.{PlainIfStandard}
 use Rattle.paragraphs.specs.Parts.{IsPlain, ArePlain}
 
 plain_breaks : (places : List ℕ) → All IsPlain (map plain_break places)
@@ -55,7 +55,7 @@ written_plain word folded plain =
 standard_plain : {C : Type 0} (contents : Contents C ℕ) → ArePlain (all_breaks_of (standard_rules contents))
 standard_plain contents word = written_plain word (opportunities (standard_rules contents) (fold_case word)) (opportunities_plain contents (fold_case word))
 
--- The breaks of a dictionary text of any kind.
-pub plain_by : (kind : Kind) (bytes : List ℕ) → PlainIfStandard kind (breaks_by kind bytes)
-plain_by Standard bytes = standard_plain (standard_contents bytes)
-plain_by Extended bytes = tt
+-- The breaks of a dictionary of either kind.
+pub plain_by : (dictionary : AnyDictionary) → PlainIfStandard (kind_by dictionary) (breaks_by dictionary)
+plain_by (of.Standard standard) = standard_plain standard
+plain_by (of.Extended extended) = tt

@@ -1,16 +1,19 @@
 -- How the program `hyphenate-lines` reads its arguments.
-use Rattle.std.specs.Prelude.{ℕ, ◌^◌, nat_lt, ◌&&◌, not, Bool, true, false, if◌then◌else◌, is_some, List, [], ◌∷◌, codes, Option, Some, None, option_map, option_and_then, unwrap_or}
+use Rattle.std.specs.Prelude.{◌≡◌, ℕ, ◌==◌, ◌&&◌, not, Bool, true, false, if◌then◌else◌, is_some, List, [], ◌∷◌, map, codes, Option, Some, None, Result, Ok, Err, unwrap_or}
 use Rattle.std.specs.Borrow.{Bor}
-use Rattle.hyphenation_breaks.specs.Language.{is_code}
-use Rattle.hyphenation_grammar.specs.Lines.{is_same, starts_with, number_of}
+use Rattle.hyphenation_breaks.specs.Borrowed.{texts_now}
+use Rattle.command_line.specs.Options.{GivenOption, ReadArguments, RefusedArgument, refused, after_step, read_arguments, is_given, last_value, number_given}
+use Rattle.command_line.specs.declared.options.Expected.TheVariants.{EvenLines, Operand}
+use Rattle.command_line.specs.declared.options.OptionForm.{OptionForm}
 use Rattle.paragraphs.specs.Parts.{Style}
 use Rattle.paragraphs.specs.declared.setting.Aim.{Aim}
 use Rattle.paragraphs.specs.declared.setting.Aim.TheVariants.{Full, Even}
 
--- The options: the columns of a line; whether lines are even; the columns below which the last line of a paragraph lacks
+-- The options: whether texts are paragraphs alone; the columns of a line; whether lines are even; the columns below which the last line of a paragraph lacks
 -- some; how many lines in a row may end in a hyphen, if it is limited; the cost of a hyphen; the text before the first
 -- line, if it has its own; the text before the others.
 pub record ParsedOptions : Type 0 where
+  pub plain : Bool
   pub columns : ℕ
   pub even : Bool
   pub last_columns : ℕ
@@ -19,59 +22,74 @@ pub record ParsedOptions : Type 0 where
   pub first : Option (List ℕ)
   pub indent : List ℕ
 
--- Arguments: the options, the code of a language, and the path of a dictionary.
+-- Arguments: the options, the path or the language of a dictionary, and the names of the inputs.
 pub record ParsedArgs : Type 0 where
   pub options : ParsedOptions
-  pub code : List ℕ
-  pub path : List ℕ
+  pub dictionary : List ℕ
+  pub inputs : List (List ℕ)
 
--- The options where none is given.
-abbrev pub no_options : ParsedOptions
-no_options = record { columns = 72; even = false; last_columns = 0; ladder = None; price = 0; first = None; indent = [] }
+-- The number that limits a row of hyphens; 0 stands for no limit.
+abbrev pub limit_of : ℕ → Option ℕ
+limit_of n = if n == 0 then None else Some n
 
--- The number below a bound that a text spells; none if it is no such number.
-abbrev pub number_below : ℕ → List ℕ → Option ℕ
-number_below bound text = option_and_then (λ n. if nat_lt n bound then Some n else None) (number_of text)
-
--- The number from 1 to 255 that a text spells; none if it is no such number.
-abbrev pub ladder_of : List ℕ → Option ℕ
-ladder_of text = option_and_then (λ n. if nat_lt 0 n then Some n else None) (number_below (2 ^ 8) text)
-
--- The options with one more, by its name and value; none if there is no such option.
-abbrev pub with_value : ParsedOptions → List ℕ → List ℕ → Option ParsedOptions
-with_value options name value =
-    if is_same name (codes "--width") then option_map (λ n. record options { columns = n }) (number_below (2 ^ 16) value)
-    else (if is_same name (codes "--last") then option_map (λ n. record options { last_columns = n }) (number_below (2 ^ 16) value)
-    else (if is_same name (codes "--ladder") then option_map (λ n. record options { ladder = Some n }) (ladder_of value)
-    else (if is_same name (codes "--price") then option_map (λ n. record options { price = n }) (number_below (2 ^ 32) value)
-    else (if is_same name (codes "--first") then Some (record options { first = Some value })
-    else (if is_same name (codes "--indent") then Some (record options { indent = value })
-    else None)))))
-
--- A ladder is asked for, and lines are not even.
+-- A limit is asked for, and lines are not even.
 abbrev pub has_idle_ladder : ParsedOptions → Bool
 has_idle_ladder options = is_some options.ladder && not options.even
 
--- The arguments after the options are the code of a language and a path, and no others. A ladder is for even lines alone.
-abbrev pub positional : ParsedOptions → List ℕ → List ℕ → List (Bor (List ℕ)) → Option ParsedArgs
-positional options code path [] =
-    if has_idle_ladder options then None
-    else (if is_code code then Some (record { options = options; code = code; path = path }) else None)
-positional options code path (other ∷ others) = None
+-- The options, unless they have a limit that is for even lines alone.
+abbrev pub if_limit_serves : Option (List ℕ) → ParsedOptions → Result ParsedOptions RefusedArgument
+if_limit_serves ladder options =
+    if has_idle_ladder options then Err (refused (codes "--ladder") ladder EvenLines) else Ok options
 
--- Arguments after some options. An argument that begins with `--` is an option, and each but `--even` has a value.
-abbrev pub parsed_after : ParsedOptions → List (Bor (List ℕ)) → Option ParsedArgs
-parsed_after options [] = None
-parsed_after options (arg ∷ []) = None
-parsed_after options (arg ∷ value ∷ others) =
-    if is_same arg.now (codes "--even") then parsed_after (record options { even = true }) (value ∷ others)
-    else (if starts_with (codes "--") arg.now
-    then option_and_then (λ more. parsed_after more others) (with_value options arg.now value.now)
-    else positional options arg.now value.now others)
+-- The options by those that are given. The last of those of one name counts. The first that is refused decides, in this
+-- order.
+abbrev pub options_of : List GivenOption → Result ParsedOptions RefusedArgument
+options_of given =
+    after_step (λ columns. after_step (λ last_columns. after_step (λ ladder. after_step (λ price.
+    if_limit_serves (last_value (codes "--ladder") given) (record {
+      plain = is_given (codes "--plain") given;
+      columns = columns;
+      even = is_given (codes "--even") given;
+      last_columns = last_columns;
+      ladder = limit_of ladder;
+      price = price;
+      first = last_value (codes "--first") given;
+      indent = unwrap_or (last_value (codes "--indent") given) [];
+    }))
+    (number_given (codes "--price") 0 4294967295 0 given))
+    (number_given (codes "--ladder") 1 255 0 given))
+    (number_given (codes "--last") 0 65535 0 given))
+    (number_given (codes "--width") 0 65535 72 given)
 
--- All arguments; none if they have no such form.
-abbrev pub parsed_args : List (Bor (List ℕ)) → Option ParsedArgs
-parsed_args args = parsed_after no_options args
+-- The names of the inputs: standard input, if none is named.
+abbrev pub inputs_of : List (List ℕ) → List (List ℕ)
+inputs_of [] = codes "-" ∷ []
+inputs_of (name ∷ names) = name ∷ names
+
+-- The arguments of options and operands. The first operand is the dictionary, and the others are inputs.
+abbrev pub args_of : ParsedOptions → List (List ℕ) → Result ParsedArgs RefusedArgument
+args_of options [] = Err (refused (codes "DICTIONARY") None Operand)
+args_of options (dictionary ∷ names) =
+    Ok (record { options = options; dictionary = dictionary; inputs = inputs_of names })
+
+-- Arguments that are read.
+abbrev pub args_as_read : ReadArguments → Result ParsedArgs RefusedArgument
+args_as_read read = after_step (λ options. args_of options read.operands) (options_of read.given)
+
+-- The names of options, each with whether it takes a value.
+abbrev pub names_of : List OptionForm → List (List ℕ × Bool)
+names_of forms = map (λ form. (form.name.now, form.takes_value)) forms
+
+-- The options of the program.
+abbrev pub option_names : List (List ℕ × Bool)
+option_names =
+    (codes "--plain", false) ∷ (codes "--width", true) ∷ (codes "--even", false) ∷ (codes "--price", true)
+    ∷ (codes "--last", true) ∷ (codes "--ladder", true) ∷ (codes "--indent", true) ∷ (codes "--first", true) ∷ []
+
+-- Arguments are parsed so, by the options of the program: as these arguments, or as the first one that is refused.
+abbrev pub IsParsed : List (Bor (List ℕ)) → Result ParsedArgs RefusedArgument → Type 0
+IsParsed args parsed = (forms : List OptionForm) × (names_of forms ≡ option_names)
+    × (parsed ≡ after_step args_as_read (read_arguments forms (texts_now args)))
 
 -- The style that options ask for.
 abbrev pub style_for : ParsedOptions → Style

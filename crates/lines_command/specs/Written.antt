@@ -1,134 +1,152 @@
 -- The output and the statuses of the program `hyphenate-lines`.
-use Rattle.std.specs.Prelude.{◌≡◌, ◌≢◌, ◌⊎◌, ◌||◌, ℕ, Bool, List, [], if◌then◌else◌, IsUtf8, Option, Some, None, IfSome, slice_index_or, ⊤}
+use Rattle.std.specs.Prelude.{◌≡◌, ◌⊎◌, ℕ, Bool, not, true, false, List, [], ◌∷◌, if◌then◌else◌, Option, None, Result, Ok, Err, ⊤}
 use Rattle.std.specs.Borrow.{Bor}
-use Rattle.std.specs.Io.KnownBytes.{Appends}
-use Rattle.std.specs.List.{flat_map}
-use Rattle.command_line.specs.About.{help_or_version}
-use Rattle.command_line.specs.Files.{known_bytes}
-use Rattle.command_line.specs.declared.TheConstants.{VERSION}
-use Rattle.hyphenation_breaks.specs.Break.{Break}
-use Rattle.hyphenation_grammar.specs.Form.{head_of}
-use Rattle.hyphenation_grammar.specs.Judging.{refusal_of}
-use Rattle.hyphenation_grammar.specs.Reading.{standard_contents, extended_contents}
-use Rattle.hyphenation_grammar.specs.Lines.{is_same, lines_of}
+use Rattle.std.specs.List.{concat, flat_map, list_any}
+use Rattle.std.specs.String.{string_bytes}
 use Rattle.hyphenation_grammar.specs.declared.form.Kind.{Kind}
 use Rattle.hyphenation_grammar.specs.declared.form.Kind.TheVariants.{Standard, Extended}
-use Rattle.hyphenation_grammar.specs.declared.form.Version.TheVariants.{First, Second}
-use Rattle.hyphenation_hyphenator.specs.Fitting.{fitted_breaks_of}
-use Rattle.hyphenation_hyphenator.specs.Opportunities.{all_breaks_of, standard_rules, extended_rules}
-use Rattle.hyphenation_load.specs.Load.{language_of_text, IsAcceptedIn}
+use Rattle.hyphenation_breaks.specs.Break.{Break}
+use Rattle.hyphenation_load.specs.Load.{AppendsTo}
+use Rattle.any_dictionary.specs.Dictionaries.{breaks_by, kind_by}
+use Rattle.any_dictionary.specs.declared.AnyDictionary.{AnyDictionary}
+use Rattle.command_line.specs.About.{help_or_version}
+use Rattle.command_line.specs.Dictionaries.{KnownFiles, IsOfArgument, IsFailureOf}
+use Rattle.command_line.specs.Failures.{status_of}
+use Rattle.command_line.specs.Inputs.{is_standard_input, shown_name, IsTextOf, AreTextsOf, IsFailureOfInput}
+use Rattle.command_line.specs.Options.{RefusedArgument}
+use Rattle.command_line.specs.declared.TheConstants.{VERSION}
+use Rattle.command_line.specs.declared.failure.Failure.{Failure}
+use Rattle.command_line.specs.declared.failure.Failure.TheVariants as failed
+use Rattle.command_line.specs.declared.failure.Refusal.TheVariants.{LongParagraph}
 use Rattle.paragraphs.specs.Pages.{IsPage, HasTooLong}
-use Rattle.paragraphs.specs.Parts.{ArePlain}
+use Rattle.paragraphs.specs.Parts.{Style, ArePlain}
 use Rattle.paragraphs.specs.Paragraphs.{ended, paragraphs}
-use Rattle.lines_command.specs.Arguments.{ParsedArgs, parsed_args, style_for, aim_for}
+use Rattle.paragraphs.specs.declared.setting.Aim.{Aim}
+use Rattle.written_texts.specs.Blocks.{blocks}
+use Rattle.written_texts.specs.Written.{IsWritten, HasTooLong as HasTooLongWritten}
+use Rattle.lines_command.specs.Arguments.{ParsedArgs, ParsedOptions, IsParsed, style_for, aim_for}
 use Rattle.lines_command.specs.declared.TheConstants.{NAME, USAGE}
 
 -- The text that the arguments ask for by `--help` or `--version`, if they do.
 abbrev pub asked_text : List (Bor (List ℕ)) → Option (List ℕ)
 asked_text args = help_or_version NAME.now VERSION.now USAGE.now args
 
--- The line is the head of an extended dictionary.
-abbrev pub is_extended_head : List ℕ → Bool
-is_extended_head line = is_same line (head_of Extended First) || is_same line (head_of Extended Second)
-
--- The kind that the first line of a dictionary text names. Any other line counts as the head of a standard one.
-abbrev pub kind_by_head : List ℕ → Kind
-kind_by_head line = if is_extended_head line then Extended else Standard
-
--- The kind of a dictionary text.
-abbrev pub kind_in : List ℕ → Kind
-kind_in bytes = kind_by_head (slice_index_or (lines_of bytes) 0 [])
-
--- The breaks of a word as written by the dictionary of that kind that a text gives.
-abbrev pub breaks_by : Kind → List ℕ → List ℕ → List Break
-breaks_by Standard bytes = all_breaks_of (standard_rules (standard_contents bytes))
-breaks_by Extended bytes = fitted_breaks_of (extended_rules (extended_contents bytes))
+-- ---- what is written
 
 -- A standard dictionary has plain breaks alone.
 abbrev pub PlainIfStandard : Kind → (List ℕ → List Break) → Type 0
 PlainIfStandard Standard breaks_of = ArePlain breaks_of
 PlainIfStandard Extended breaks_of = ⊤
 
--- These are the lines of a text, by the dictionary of that kind that bytes give. The text is that of the input, if it is
--- known, and is UTF-8. The dictionary is of the language that the arguments name.
-pub record FillsInput (parsed : ParsedArgs) (kind : Kind) (bytes : List ℕ) (input : Option (List ℕ)) (lines : List (List ℕ)) : Type 0 where
-  pub accepted : IsAcceptedIn (refusal_of kind bytes) parsed.code (language_of_text bytes)
-  pub text : List ℕ
-  pub read : IfSome input (λ known. text ≡ known)
-  pub utf8 : IsUtf8 text
-  pub plain : PlainIfStandard kind (breaks_by kind bytes)
-  pub filled : IsPage (aim_for parsed.options) (breaks_by kind bytes) (style_for parsed.options) parsed.options.columns text lines
+-- These are the lines of a text: of its paragraphs alone, if it is plain, else of a text as people write it.
+abbrev pub AreLines : Bool → Aim → (List ℕ → List Break) → Style → ℕ → List ℕ → List (List ℕ) → Type 0
+AreLines true aim breaks_of style columns text lines = IsPage aim breaks_of style columns text lines
+AreLines false aim breaks_of style columns text lines = IsWritten aim breaks_of style columns text lines
 
--- The page has these lines, each with a line feed after it, by the dictionary that some bytes give. They are those of the
--- dictionary, if it is known.
-pub record ReturnsLines (parsed : ParsedArgs) (dictionary input : Option (List ℕ)) (page : List ℕ) : Type 0 where
-  pub bytes : List ℕ
-  pub read : IfSome dictionary (λ known. bytes ≡ known)
-  pub lines : List (List ℕ)
-  pub filled : FillsInput parsed (kind_in bytes) bytes input lines
-  pub whole : page ≡ flat_map ended lines
+-- A page has the lines of a text as options ask for them, each with a line feed after it.
+abbrev pub IsPageOf : ParsedOptions → AnyDictionary → List ℕ → List ℕ → Type 0
+IsPageOf options dictionary text page = (lines : List (List ℕ))
+    × AreLines options.plain (aim_for options) (breaks_by dictionary) (style_for options) options.columns text lines
+    × (page ≡ flat_map ended lines)
 
--- Such a page was appended to an output.
-abbrev pub WritesLines : {W : Type 0} → ParsedArgs → Option (List ℕ) → Option (List ℕ) → (W → Option (List ℕ)) → W → W → Type 0
-WritesLines parsed dictionary input contents old new =
-    (page : List ℕ) × ReturnsLines parsed dictionary input page × Appends (contents old) (contents new) page
+-- Each text has its page.
+abbrev pub ArePagesOf : ParsedOptions → AnyDictionary → List (List ℕ) → List (List ℕ) → Type 0
+ArePagesOf options dictionary [] [] = ⊤
+ArePagesOf options dictionary (text ∷ texts) (page ∷ pages) =
+    IsPageOf options dictionary text page × ArePagesOf options dictionary texts pages
+ArePagesOf options dictionary _ _ = ⊥
 
--- The same, by the file at the path of the arguments.
-abbrev pub WritesByFile : {W : Type 0} → ParsedArgs → (List ℕ → Option (Option (List ℕ))) → Option (List ℕ)
+-- An output has the pages of these inputs, one after the other, by a dictionary.
+pub record HasPages (options : ParsedOptions) (dictionary : AnyDictionary) (bytes_of : KnownFiles) (left : Option (List ℕ)) (names : List (List ℕ)) (output : List ℕ) : Type 0 where
+  pub texts : List (List ℕ)
+  pub read : AreTextsOf bytes_of left names texts
+  pub pages : List (List ℕ)
+  pub each : ArePagesOf options dictionary texts pages
+  pub whole : output ≡ concat pages
+
+-- An output is what arguments ask for: the pages of their inputs, by the dictionary that they name.
+pub record IsResult (parsed : ParsedArgs) (bytes_of : KnownFiles) (folders : List (List ℕ)) (left : Option (List ℕ)) (output : List ℕ) : Type 0 where
+  pub dictionary : AnyDictionary
+  pub named : IsOfArgument bytes_of folders parsed.dictionary dictionary
+  pub plain : PlainIfStandard (kind_by dictionary) (breaks_by dictionary)
+  pub pages : HasPages parsed.options dictionary bytes_of left parsed.inputs output
+
+-- ---- failures
+
+-- A paragraph of a text is too long: of one that is plain, or of one as people write it.
+abbrev pub HasLongParagraph : Bool → (List ℕ → List Break) → Style → List ℕ → Type 0
+HasLongParagraph true breaks_of style text = HasTooLong breaks_of style (paragraphs text)
+HasLongParagraph false breaks_of style text = HasTooLongWritten breaks_of style (blocks text)
+
+-- An input fails so: it can't be read, it is not UTF-8, or a paragraph of its text is too long.
+abbrev pub IsFailureOfText : ParsedOptions → AnyDictionary → KnownFiles → Option (List ℕ) → List ℕ → Failure → Type 0
+IsFailureOfText options dictionary bytes_of left name (failed.Refused input LongParagraph) =
+    (string_bytes input ≡ shown_name name) × ((text : List ℕ) × IsTextOf bytes_of left name text
+    × HasLongParagraph options.plain (breaks_by dictionary) (style_for options) text)
+IsFailureOfText options dictionary bytes_of left name failure = IsFailureOfInput bytes_of left name failure
+
+-- The bytes that standard input has left after an input was read, if they are known.
+abbrev pub left_after : Option (List ℕ) → List ℕ → Option (List ℕ)
+left_after left name = if is_standard_input name then None else left
+
+-- One of some inputs fails so, and each one before it has a text.
+abbrev pub IsFailureAmong : ParsedOptions → AnyDictionary → KnownFiles → Option (List ℕ) → List (List ℕ) → Failure → Type 0
+IsFailureAmong options dictionary bytes_of left [] failure = ⊥
+IsFailureAmong options dictionary bytes_of left (name ∷ names) failure =
+    IsFailureOfText options dictionary bytes_of left name failure
+    ⊎ (((text : List ℕ) × IsTextOf bytes_of left name text)
+    × IsFailureAmong options dictionary bytes_of (left_after left name) names failure)
+
+-- One of the inputs that arguments name fails so, with the dictionary that they name.
+abbrev pub IsFailureOfInputs : ParsedArgs → KnownFiles → List (List ℕ) → Option (List ℕ) → Failure → Type 0
+IsFailureOfInputs parsed bytes_of folders left failure = (dictionary : AnyDictionary)
+    × IsOfArgument bytes_of folders parsed.dictionary dictionary
+    × IsFailureAmong parsed.options dictionary bytes_of left parsed.inputs failure
+
+-- The program fails so for arguments: the dictionary is refused or not found, an input fails, the output can't be written,
+-- or memory was refused.
+abbrev pub IsFailureFor : ParsedArgs → KnownFiles → List (List ℕ) → Option (List ℕ) → Failure → Type 0
+IsFailureFor parsed bytes_of folders left (failed.Dictionary path cause) =
+    IsFailureOf bytes_of folders parsed.dictionary (failed.Dictionary path cause)
+IsFailureFor parsed bytes_of folders left (failed.NoDictionary language) =
+    IsFailureOf bytes_of folders parsed.dictionary (failed.NoDictionary language)
+IsFailureFor parsed bytes_of folders left (failed.Writing output) = ⊥
+IsFailureFor parsed bytes_of folders left failed.Output = (page : List ℕ) × IsResult parsed bytes_of folders left page
+IsFailureFor parsed bytes_of folders left failed.Memory = ⊤
+IsFailureFor parsed bytes_of folders left failure = IsFailureOfInputs parsed bytes_of folders left failure
+
+-- ---- how the program ends
+
+-- The result of the arguments was appended to an output.
+abbrev pub WritesResult : {W : Type 0} → ParsedArgs → KnownFiles → List (List ℕ) → Option (List ℕ)
     → (W → Option (List ℕ)) → W → W → Type 0
-WritesByFile parsed bytes_of input contents old new =
-    WritesLines parsed (known_bytes (bytes_of parsed.path)) input contents old new
+WritesResult parsed bytes_of folders left contents old new =
+    (page : List ℕ) × IsResult parsed bytes_of folders left page × AppendsTo contents old new page
 
--- The lines that the arguments ask for were appended to an output, by the dictionary that the bytes of their path give.
-abbrev pub WritesFor : {W : Type 0} → List (Bor (List ℕ)) → (List ℕ → Option (Option (List ℕ))) → Option (List ℕ)
-    → (W → Option (List ℕ)) → W → W → Type 0
-WritesFor args bytes_of input contents old new = (parsed : ParsedArgs) × (parsed_args args ≡ Some parsed)
-    × (bytes_of parsed.path ≢ Some None) × WritesByFile parsed bytes_of input contents old new
+-- The program ends with the status of a failure. The output is as it was, unless it is the output that failed.
+abbrev pub EndsBy : {W : Type 0} → ParsedArgs → KnownFiles → List (List ℕ) → Option (List ℕ) → ℕ → W → W → Type 0
+EndsBy parsed bytes_of folders left status old new = (failure : Failure) × (status ≡ status_of failure)
+    × IsFailureFor parsed bytes_of folders left failure × ((failure ≡ failed.Output) ⊎ (new ≡ old))
 
--- A paragraph of a text is too long, by the dictionary of that kind that bytes give. The text is that of the input, if it
--- is known, and is UTF-8. The dictionary is of the language that the arguments name.
-pub record HasLongParagraph (parsed : ParsedArgs) (kind : Kind) (bytes : List ℕ) (input : Option (List ℕ)) : Type 0 where
-  pub accepted : IsAcceptedIn (refusal_of kind bytes) parsed.code (language_of_text bytes)
-  pub text : List ℕ
-  pub read : IfSome input (λ known. text ≡ known)
-  pub utf8 : IsUtf8 text
-  pub long : HasTooLong (breaks_by kind bytes) (style_for parsed.options) (paragraphs text)
+-- How the program ends for its arguments. If one is refused, the status is 2, or memory was refused. Else the status is 0,
+-- and what they ask for was written, or it is that of a failure.
+abbrev pub EndsFor : {W : Type 0} → Result ParsedArgs RefusedArgument → KnownFiles → List (List ℕ) → Option (List ℕ)
+    → ℕ → (W → Option (List ℕ)) → W → W → Type 0
+EndsFor (Err refused) bytes_of folders left status contents old new = (status ≡ 2) ⊎ (status ≡ 6)
+EndsFor (Ok parsed) bytes_of folders left status contents old new =
+    ((status ≡ 0) × WritesResult parsed bytes_of folders left contents old new)
+    ⊎ EndsBy parsed bytes_of folders left status old new
 
--- The same, by the dictionary that some bytes give. They are those of the dictionary, if it is known.
-abbrev pub HasLongParagraphBy : ParsedArgs → Option (List ℕ) → Option (List ℕ) → Type 0
-HasLongParagraphBy parsed dictionary input = (bytes : List ℕ) × IfSome dictionary (λ known. bytes ≡ known)
-    × HasLongParagraph parsed (kind_in bytes) bytes input
+-- Standard input is none of the inputs of arguments, or one of the arguments is refused.
+abbrev pub names_files_alone : Result ParsedArgs RefusedArgument → Bool
+names_files_alone (Ok parsed) = not (list_any is_standard_input parsed.inputs)
+names_files_alone (Err refused) = true
 
--- The input, if it is known, is not UTF-8.
-abbrev pub IsNotUtf8 : Option (List ℕ) → Type 0
-IsNotUtf8 input = IfSome input (λ text. ¬ (IsUtf8 text))
-
--- The input is refused: it is not UTF-8, or a paragraph of it is too long for what the arguments ask for, by the
--- dictionary that the bytes of their path give.
-abbrev pub RefusesInput : List (Bor (List ℕ)) → (List ℕ → Option (Option (List ℕ))) → Option (List ℕ) → Type 0
-RefusesInput args bytes_of input = (parsed : ParsedArgs) × (parsed_args args ≡ Some parsed)
-    × (IsNotUtf8 input ⊎ HasLongParagraphBy parsed (known_bytes (bytes_of parsed.path)) input)
-
--- If no help was asked for and the arguments have no form, this holds.
-abbrev pub OnNoForm : Option (List ℕ) → Option ParsedArgs → Type 0 → Type 0
-OnNoForm asked parsed P = asked ≡ None → parsed ≡ None → P
-
--- If no help was asked for and the status is 0, this holds.
-abbrev pub OnDone : Option (List ℕ) → ℕ → Type 0 → Type 0
-OnDone asked status P = asked ≡ None → status ≡ 0 → P
-
--- If no help was asked for and the status is 3, this holds.
-abbrev pub OnRefusedDictionary : Option (List ℕ) → ℕ → Type 0 → Type 0
-OnRefusedDictionary asked status P = asked ≡ None → status ≡ 3 → P
-
--- If no help was asked for and the status is 4, this holds.
-abbrev pub OnRefusedInput : Option (List ℕ) → ℕ → Type 0 → Type 0
-OnRefusedInput asked status P = asked ≡ None → status ≡ 4 → P
-
--- The statuses.
--- 0: done. 2: the arguments have no form. 3: the dictionary can't be opened, read or accepted, or is of another language.
--- 4: the text is not UTF-8, or a paragraph is too long. 5: the text can't be read, or the result can't be written.
--- 6: memory was refused.
-abbrev pub IsExitStatus : ℕ → Type 0
-IsExitStatus status =
-    (status ≡ 0) ⊎ (status ≡ 2) ⊎ (status ≡ 3) ⊎ (status ≡ 4) ⊎ (status ≡ 5) ⊎ (status ≡ 6)
+-- If no help was asked for, the program ends so for its arguments. Standard input is then left as it was if it is none of
+-- the inputs.
+abbrev pub EndsUnlessAsked : {W I : Type 0} → List (Bor (List ℕ)) → KnownFiles → List (List ℕ) → (I → Option (List ℕ)) → I → I
+    → ℕ → (W → Option (List ℕ)) → W → W → Type 0
+EndsUnlessAsked args bytes_of folders remaining before after status contents old new =
+    asked_text args ≡ None → (parsed : Result ParsedArgs RefusedArgument) × IsParsed args parsed
+    × EndsFor parsed bytes_of folders (remaining before) status contents old new
+    × (names_files_alone parsed ≡ true → after ≡ before)

@@ -1,17 +1,59 @@
 //! Parses the arguments of the program.
 
-ghost use Rattle.std.specs.Prelude.{◌≡◌, ◌^◌, option_map};
-ghost use Rattle.lines_command.specs.Arguments.{number_below, ladder_of, with_value, parsed_args, positional, style_for, aim_for};
-ghost use Rattle.lines_command.specs.Private.Requests.{parsed_options, parsed_request};
+ghost use Rattle.std.specs.Prelude.{◌≡◌, ◌++◌, ◌∷◌, [], codes, IfErr, IfOk, Ok, OnOk, option_copied, option_map, unwrap_or};
+ghost use Rattle.hyphenation_breaks.specs.Borrowed.{texts_now};
+ghost use Rattle.command_line.specs.Options.{last_value, number_given};
+ghost use Rattle.command_line.specs.Reading.{as_read, given_options, IsAsWanted, IsReadError};
+ghost use Rattle.lines_command.specs.Arguments.{limit_of, if_limit_serves, options_of, inputs_of, args_of, args_as_read};
+ghost use Rattle.lines_command.specs.Arguments.{style_for, aim_for, names_of, option_names, IsParsed};
+ghost use Rattle.lines_command.specs.Private.Requests.{parsed_options, parsed_request, AreAsWanted, AreRefused};
 ghost use Rattle.paragraphs.specs.Styles.{style_of};
 
-use hyphenation_breaks::language::Language;
-use hyphenation_grammar::lines::{number_of, starts_with};
+use command_line::options::{Arguments, BadArgument, Expected, OptionForm, ReadError, read};
 use paragraphs::{Aim, Style};
+use std::alloc::{AllocError, Global};
+
+// The options of the program.
+const OPTIONS: [OptionForm; 8] = [
+    OptionForm {
+        name: "--plain",
+        takes_value: false,
+    },
+    OptionForm {
+        name: "--width",
+        takes_value: true,
+    },
+    OptionForm {
+        name: "--even",
+        takes_value: false,
+    },
+    OptionForm {
+        name: "--price",
+        takes_value: true,
+    },
+    OptionForm {
+        name: "--last",
+        takes_value: true,
+    },
+    OptionForm {
+        name: "--ladder",
+        takes_value: true,
+    },
+    OptionForm {
+        name: "--indent",
+        takes_value: true,
+    },
+    OptionForm {
+        name: "--first",
+        takes_value: true,
+    },
+];
 
 /// The options as parsed.
 #[derive(Clone, Copy)]
 pub struct Options<'w> {
+    /// Whether texts are paragraphs alone, and not as people write them.
+    pub plain: bool,
     /// The columns of a line.
     pub columns: u16,
     /// Whether the lines are even, and not as full as possible.
@@ -31,85 +73,106 @@ pub struct Options<'w> {
 /// The arguments as parsed.
 #[derive(Drop)]
 pub struct Request<'w> {
+    /// The options.
     pub options: Options<'w>,
-    pub language: Language,
-    pub path: &'w str,
+    /// The path or the language of the dictionary.
+    pub dictionary: &'w str,
+    /// The names of the inputs.
+    pub inputs: Vec<&'w str>,
 }
 
-// A number below 2^16.
-fn number_to_65535(text: &str) -> Option<u16>
-    ensures { result ≡ number_below (2 ^ 16) text.now }
+// The number of columns that is the value of an option, or `otherwise` if it is not given.
+fn columns_given<'w>(
+    arguments: &Arguments<'w>,
+    name: &'static str,
+    otherwise: u16,
+) -> Result<u16, BadArgument<'w>>
+    ensures { IsAsWanted result (number_given name.now 0 65535 otherwise (given_options arguments.now)) }
 {
-    let number = number_of(text.as_bytes())?;
-    u16::try_from(number).ok()
+    let number = arguments.number(name, 0, 65535, usize::from(otherwise))?;
+    Ok(number as u16)
 }
 
-// A number from 1 to 255.
-fn ladder_of(text: &str) -> Option<u8>
-    ensures { result ≡ ladder_of text.now }
+// The price of a hyphen.
+fn price_given<'w>(arguments: &Arguments<'w>) -> Result<u32, BadArgument<'w>>
+    ensures { IsAsWanted result (number_given (codes "--price") 0 4294967295 0 (given_options arguments.now)) }
 {
-    let number = number_of(text.as_bytes())?;
+    let number = arguments.number("--price", 0, 4294967295, 0)?;
+    Ok(number as u32)
+}
+
+// The limit of a row of hyphens; 0 if there is none.
+fn ladder_given<'w>(arguments: &Arguments<'w>) -> Result<u8, BadArgument<'w>>
+    ensures { IsAsWanted result (number_given (codes "--ladder") 1 255 0 (given_options arguments.now)) }
+{
+    let number = arguments.number("--ladder", 1, 255, 0)?;
+    Ok(number as u8)
+}
+
+// The limit that a number stands for.
+fn limit_of(number: u8) -> Option<u8>
+    ensures { result ≡ limit_of number }
+{
     if number == 0 {
         return None;
     }
-    u8::try_from(number).ok()
+    Some(number)
 }
 
-// A number below 2^32.
-fn number_in_32_bits(text: &str) -> Option<u32>
-    ensures { result ≡ number_below (2 ^ 32) text.now }
+// The text before the first line of a paragraph, if it has its own.
+fn first_given<'w>(arguments: &Arguments<'w>) -> Option<&'w str>
+    ensures { option_map (λ text. text.now) result ≡ last_value (codes "--first") (given_options arguments.now) }
 {
-    let number = number_of(text.as_bytes())?;
-    u32::try_from(number).ok()
+    arguments.last("--first")
+}
+
+// The text before the lines of a paragraph.
+fn indent_given<'w>(arguments: &Arguments<'w>) -> &'w str
+    ensures { result.now ≡ unwrap_or (last_value (codes "--indent") (given_options arguments.now)) [] }
+{
+    match arguments.last("--indent") {
+        Some(text) => text,
+        None => "",
+    }
+}
+
+// The options, unless they have a limit that is for even lines alone.
+fn if_limit_serves<'w>(
+    ladder: Option<&'w str>,
+    options: Options<'w>,
+) -> Result<Options<'w>, BadArgument<'w>>
+    ensures { AreAsWanted result (if_limit_serves (option_copied ladder.entry) (parsed_options options.entry)) }
+{
+    if options.ladder.is_some() && !options.even {
+        return Err(BadArgument {
+            argument: "--ladder",
+            value: ladder,
+            expected: Expected::EvenLines,
+        });
+    }
+    Ok(options)
 }
 
 impl<'w> Options<'w> {
-    // The options where none is given.
-    const NONE: Options<'static> = Options {
-        columns: 72,
-        even: false,
-        last_columns: 0,
-        ladder: None,
-        price: 0,
-        first: None,
-        indent: "",
-    };
-
-    // The options with one more, whose value is the next argument.
-    fn with_value(self, name: &str, value: &'w str) -> Option<Options<'w>>
-        ensures { option_map parsed_options result ≡ with_value (parsed_options self.entry) name.now value.now }
+    // Returns the options by those that are given.
+    fn from_arguments(arguments: &Arguments<'w>) -> Result<Options<'w>, BadArgument<'w>>
+        ensures { AreAsWanted result (options_of (given_options arguments.now)) }
     {
-        if name == "--width" {
-            let columns = number_to_65535(value)?;
-            Some(Options { columns, ..self })
-        } else if name == "--last" {
-            let last_columns = number_to_65535(value)?;
-            Some(Options {
-                last_columns,
-                ..self
-            })
-        } else if name == "--ladder" {
-            let most = ladder_of(value)?;
-            Some(Options {
-                ladder: Some(most),
-                ..self
-            })
-        } else if name == "--price" {
-            let price = number_in_32_bits(value)?;
-            Some(Options { price, ..self })
-        } else if name == "--first" {
-            Some(Options {
-                first: Some(value),
-                ..self
-            })
-        } else if name == "--indent" {
-            Some(Options {
-                indent: value,
-                ..self
-            })
-        } else {
-            None
-        }
+        let columns = columns_given(arguments, "--width", 72)?;
+        let last_columns = columns_given(arguments, "--last", 0)?;
+        let ladder = ladder_given(arguments)?;
+        let price = price_given(arguments)?;
+        let options = Options {
+            plain: arguments.has("--plain"),
+            columns,
+            even: arguments.has("--even"),
+            last_columns,
+            ladder: limit_of(ladder),
+            price,
+            first: first_given(arguments),
+            indent: indent_given(arguments),
+        };
+        if_limit_serves(arguments.last("--ladder"), options)
     }
 
     /// Returns the style that the options ask for. The first line has the indent of the others if none is given for it.
@@ -138,50 +201,94 @@ impl<'w> Options<'w> {
     }
 }
 
-// The request of the arguments after the options, `CODE PATH`. A ladder is for even lines alone.
-fn positional<'w>(
-    options: Options<'w>,
-    code: &str,
-    path: &'w str,
-    others: &[&str],
-) -> Option<Request<'w>>
-    ensures { option_map parsed_request result
-        ≡ positional (parsed_options options.entry) code.now path.now others.now }
+// Appends a name.
+fn push<'w>(names: &mut Vec<&'w str>, name: &'w str) -> Result<(), AllocError>
+    ensures { OnOk result (texts_now names.new.items ≡ texts_now names.old.items ++ name.now ∷ []) }
 {
-    if !others.is_empty() {
-        return None;
+    names.push(name)?;
+    Ok(())
+}
+
+// Returns a copy of names.
+fn copied<'w>(alloc: Global, names: &[&'w str]) -> Result<Vec<&'w str>, AllocError>
+    ensures { IfOk result (λ copies. texts_now copies.items ≡ texts_now names.now) }
+{
+    let mut copies = Vec::new(alloc);
+    for name in names {
+        push(&mut copies, *name)?;
     }
-    if options.ladder.is_some() && !options.even {
-        return None;
+    Ok(copies)
+}
+
+// Returns the names of the inputs.
+#[tactic(auto, using(crate::proofs::Requests::some_inputs))]
+fn inputs_of<'w>(alloc: Global, names: &[&'w str]) -> Result<Vec<&'w str>, AllocError>
+    ensures { IfOk result (λ inputs. texts_now inputs.items ≡ inputs_of (texts_now names.now)) }
+{
+    if names.is_empty() {
+        let mut inputs = Vec::new(alloc);
+        push(&mut inputs, "-")?;
+        return Ok(inputs);
     }
-    Some(Request {
-        options,
-        language: Language::from_code(code)?,
-        path,
-    })
+    copied(alloc, names)
+}
+
+// Returns the request of options and operands.
+fn with_operands<'w>(
+    alloc: Global,
+    options: Options<'w>,
+    operands: &[&'w str],
+) -> Result<Request<'w>, ReadError<'w>>
+    ensures parsed { IfOk result (λ request.
+        args_of (parsed_options options.entry) (texts_now operands.now) ≡ Ok (parsed_request request)) }
+    ensures refused { IfErr result (IsReadError (args_of (parsed_options options.entry) (texts_now operands.now))) }
+{
+    match operands {
+        [dictionary, names @ ..] => Ok(Request {
+            options,
+            dictionary: *dictionary,
+            inputs: inputs_of(alloc, names)?,
+        }),
+        [] => Err(ReadError::Bad(BadArgument {
+            argument: "DICTIONARY",
+            value: None,
+            expected: Expected::Operand,
+        })),
+    }
+}
+
+// Returns the request of arguments that are read.
+fn of_arguments<'w>(alloc: Global, arguments: &Arguments<'w>) -> Result<Request<'w>, ReadError<'w>>
+    ensures parsed { IfOk result (λ request. args_as_read (as_read arguments.now) ≡ Ok (parsed_request request)) }
+    ensures refused { IfErr result (IsReadError (args_as_read (as_read arguments.now))) }
+{
+    match Options::from_arguments(arguments) {
+        Ok(options) => with_operands(alloc, options, &arguments.operands),
+        Err(bad) => Err(ReadError::Bad(bad)),
+    }
+}
+
+// Returns the request of arguments, by the forms of the options.
+fn by_forms<'w>(
+    alloc: Global,
+    forms: &[OptionForm],
+    args: &'w [&'w str],
+) -> Result<Request<'w>, ReadError<'w>>
+    requires { names_of forms.now ≡ option_names }
+    ensures parsed { IfOk result (λ request. IsParsed args.now (Ok (parsed_request request))) }
+    ensures refused { IfErr result (AreRefused args.now) }
+{
+    let arguments = read(alloc, forms, args)?;
+    of_arguments(alloc, &arguments)
 }
 
 impl<'w> Request<'w> {
-    /// Parses arguments `[OPTION..] CODE PATH`. `None` where they have no such form.
-    pub fn from_args(args: &'w [&'w str]) -> Option<Request<'w>>
-        ensures { option_map parsed_request result ≡ parsed_args args.now }
+    /// Parses arguments `[OPTION..] DICTIONARY [FILE..]`. The error is the first that is refused, or says that memory was
+    /// refused.
+    pub fn from_args(alloc: Global, args: &'w [&'w str]) -> Result<Request<'w>, ReadError<'w>>
+        ensures parsed { IfOk result (λ request. IsParsed args.now (Ok (parsed_request request))) }
+        ensures refused { IfErr result (AreRefused args.now) }
     {
-        let mut options = Options::NONE;
-        let mut rest = args;
-        while let [arg, value, others @ ..] = rest {
-            if *arg == "--even" {
-                options = Options {
-                    even: true,
-                    ..options
-                };
-                rest = &rest[1..];
-            } else if starts_with(b"--", arg.as_bytes()) {
-                options = options.with_value(arg, value)?;
-                rest = others;
-            } else {
-                return positional(options, arg, value, others);
-            }
-        }
-        None
+        by_forms(alloc, &OPTIONS, args)
     }
 }

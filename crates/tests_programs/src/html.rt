@@ -249,32 +249,41 @@ fn each_text_is_hyphenated_by_the_dictionary_of_its_language(rt: HostRuntime) ->
     expect_pages(&rt, "variants", VARIANTS)
 }
 
-// The note where there is no dictionary.
-const NOTE: &str =
+// The notes where there is no dictionary.
+const NO_DICTIONARY: &str =
     "hyphenate-html: note: no dictionary for a language that the page names, so nothing is changed\n";
 
-// Pages that stay as they are, and what they show.
-const WITHOUT: &[(&str, &str)] = &[
-    ("a language without a dictionary", "<p lang=nl>firkin"),
-    ("no language", "<p>firkin"),
+const NO_LANGUAGE: &str =
+    "hyphenate-html: note: the page names no language, so nothing is changed; --language names it\n";
+
+// Pages that stay as they are, what they show, and their notes.
+const WITHOUT: &[(&str, &str, &str)] = &[
+    (
+        "a language without a dictionary",
+        "<p lang=nl>firkin",
+        NO_DICTIONARY,
+    ),
+    ("no language", "<p>firkin", NO_LANGUAGE),
     (
         "a path in the folder is no code",
         "<p lang='../found/de'>firkin",
+        NO_DICTIONARY,
     ),
     (
         "a path to a dictionary beside the folder is no code",
         "<p lang='../beside/nl'>firkin",
+        NO_DICTIONARY,
     ),
-    ("an empty page", ""),
+    ("an empty page", "", NO_LANGUAGE),
 ];
 
 #[test]
 fn a_page_without_a_dictionary_stays_as_it_is(rt: HostRuntime) -> Result<(), Fail> {
     for folder in ["found", "/no/such"] {
         let program = Html { folders: &[folder] };
-        for (shows, page) in WITHOUT {
+        for (shows, page, note) in WITHOUT {
             let args: &[&str] = &[];
-            let run = (*shows, args, page.as_bytes(), 0, *page, NOTE);
+            let run = (*shows, args, page.as_bytes(), 0, *page, *note);
             expect_runs(rt.alloc(), &program, FILES, &[run])?;
         }
     }
@@ -304,7 +313,7 @@ const REFUSALS: &[Run<'static>] = &[
         b"<p>\na\n\xc3\xa4\xff",
         4,
         "",
-        "hyphenate-html: the page is not UTF-8: line 3, after 8 bytes of the page\n",
+        "hyphenate-html: standard input: not UTF-8: line 3, after 8 bytes\n",
     ),
 ];
 
@@ -343,7 +352,7 @@ const FAILURES: &[FailingRun<'static>] = &[
         b"<p>firkin",
         5,
         "",
-        "hyphenate-html: the page can't be read\n",
+        "hyphenate-html: standard input: can't be read\n",
     ),
     (
         "a page that can't be written",

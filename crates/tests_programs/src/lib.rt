@@ -13,6 +13,8 @@ mod dictionary_errors;
 #[cfg(test)]
 mod explain;
 #[cfg(test)]
+mod failures;
+#[cfg(test)]
 mod faults;
 #[cfg(test)]
 mod harness;
@@ -24,5 +26,9 @@ mod hyphenate;
 mod lines;
 #[cfg(test)]
 mod memory_files;
+#[cfg(test)]
+mod options;
+#[cfg(test)]
+mod text;
 #[cfg(test)]
 mod usage;

@@ -23,9 +23,13 @@ usage: hyphenate KIND CODE PATH MARK [EDIT..]
 ";
 
 const CANONICAL: &str = "\
-usage: hyphenate-canonical KIND
+usage: hyphenate-canonical [DICTIONARY]
        hyphenate-canonical --help
        hyphenate-canonical --version
+Puts a dictionary text in order, of the kind that its first line names.
+  DICTIONARY  a dictionary text, by its path, which has a / or a .; or the
+              language of one that hyphenate-languages made; standard input
+              without DICTIONARY
 ";
 
 const CONVERT: &str = "\
@@ -36,10 +40,16 @@ usage: hyphenate-convert KIND CODE LEFT RIGHT FILE..
 ";
 
 const EXPLAIN: &str = "\
-usage: hyphenate-explain [--plain | --svg] KIND CODE PATH [WORD..]
+usage: hyphenate-explain [--plain | --svg] DICTIONARY [WORD..]
        hyphenate-explain --help
        hyphenate-explain --version
-       KIND: standard or extended. Without a WORD, the words of standard input are explained
+Shows why words break where they do: the patterns in each word, the values that
+they give, and the fact that decides.
+  DICTIONARY  a dictionary text, by its path, which has a / or a .; or the
+              language of one that hyphenate-languages made
+  WORD        a word; the words of standard input without WORD
+  --plain     lines for programs, in place of pictures
+  --svg       a drawing in SVG, in place of pictures
 ";
 
 const HTML: &str = "\
@@ -60,15 +70,29 @@ Of an extended dictionary the breaks that change no letter are used.
 ";
 
 const LINES: &str = "\
-usage: hyphenate-lines [OPTION..] CODE PATH < TEXT
+usage: hyphenate-lines [OPTION..] DICTIONARY [FILE..]
        hyphenate-lines --help
        hyphenate-lines --version
-       OPTION: --width N, --even, --price P, --last N, --indent TEXT, --first TEXT,
-               --ladder N (1 to 255, only with --even)
+Writes texts in lines, with words broken where a dictionary says. Quotes,
+items and heads of mails keep their form.
+  DICTIONARY     a dictionary text, by its path, which has a / or a .; or the
+                 language of one that hyphenate-languages made
+  FILE           a text; standard input for -, or without FILE
+  --width N      the columns of a line, 72 without it
+  --even         lines of the least cost, in place of lines as full as can be
+  --price P      with --even, the cost of a hyphen
+  --last N       with --even, the columns that a last line must have
+  --ladder N     only with --even: the hyphens in a row, 1 to 255
+  --indent TEXT  before each line of a paragraph
+  --first TEXT   before its first line, in place of that of the others
+  --plain        texts are paragraphs alone, with an empty line between two
 ";
 
 // Arguments, and what they show.
 type Args<'a> = (&'a str, &'a [&'a str]);
+
+// Arguments that are refused, what they show, and the message.
+type Refused<'a> = (&'a str, &'a [&'a str], &'a str);
 
 const FOR_HYPHENATE: &[Args<'static>] = &[
     ("no argument", &[]),
@@ -147,9 +171,22 @@ const FOR_HYPHENATE: &[Args<'static>] = &[
     ("--help", &["--help"]),
 ];
 
-const FOR_CANONICAL: &[Args<'static>] = &[
-    ("no kind", &["latin"]),
-    ("one argument too many", &["standard", "en-gb"]),
+const FOR_CANONICAL: &[Refused<'static>] = &[
+    (
+        "one argument too many",
+        &["a.txt", "b.txt", "c.txt"],
+        "hyphenate-canonical: b.txt: one argument too many\nTry 'hyphenate-canonical --help'.\n",
+    ),
+    (
+        "an option",
+        &["a.txt", "--plain=1"],
+        "hyphenate-canonical: --plain: no such option\nTry 'hyphenate-canonical --help'.\n",
+    ),
+    (
+        "--help with another argument",
+        &["--help", "a.txt"],
+        "hyphenate-canonical: --help: no such option\nTry 'hyphenate-canonical --help'.\n",
+    ),
 ];
 
 const FOR_CONVERT: &[Args<'static>] = &[
@@ -166,11 +203,27 @@ const FOR_CONVERT: &[Args<'static>] = &[
     ("no kind", &["latin", "xx", "2", "3", "a.dic"]),
 ];
 
-const FOR_EXPLAIN: &[Args<'static>] = &[
-    ("no argument", &[]),
-    ("no kind", &["--plain", "neither", "x", "a.txt", "word"]),
-    ("capitals in the code", &["standard", "X", "a.txt", "word"]),
-    ("no path", &["--svg", "standard", "x"]),
+const FOR_EXPLAIN: &[Refused<'static>] = &[
+    (
+        "no argument",
+        &[],
+        "hyphenate-explain: DICTIONARY: is missing\nTry 'hyphenate-explain --help'.\n",
+    ),
+    (
+        "no dictionary",
+        &["--svg", "--"],
+        "hyphenate-explain: DICTIONARY: is missing\nTry 'hyphenate-explain --help'.\n",
+    ),
+    (
+        "another option, between operands",
+        &["a.txt", "--picture", "word"],
+        "hyphenate-explain: --picture: no such option\nTry 'hyphenate-explain --help'.\n",
+    ),
+    (
+        "a value of an option that takes none",
+        &["a.txt", "--svg=1"],
+        "hyphenate-explain: --svg=1: takes no value\nTry 'hyphenate-explain --help'.\n",
+    ),
 ];
 
 const FOR_HTML: &[Args<'static>] = &[
@@ -188,33 +241,58 @@ const FOR_HTML: &[Args<'static>] = &[
     ("--help with another argument", &["--help", "--version"]),
 ];
 
-const FOR_LINES: &[Args<'static>] = &[
-    ("a path alone", &["firkin.txt"]),
-    ("two codes", &["en-gb", "another", "firkin.txt"]),
+// Arguments that `hyphenate-lines` refuses, and the first line of its message.
+const FOR_LINES: &[(&str, &[&str], &str)] = &[
+    ("no dictionary", &[], "DICTIONARY: is missing"),
+    (
+        "no dictionary after an option",
+        &["--width", "9"],
+        "DICTIONARY: is missing",
+    ),
     (
         "a width above 65535",
-        &["--width", "65536", "en-gb", "firkin.txt"],
+        &["--width", "65536", "firkin.txt"],
+        "--width=65536: not a number from 0 to 65535",
     ),
     (
         "a width that is no number",
-        &["--width", "en-gb", "firkin.txt"],
+        &["--width", "firkin.txt"],
+        "--width=firkin.txt: not a number from 0 to 65535",
+    ),
+    (
+        "an option without its value",
+        &["firkin.txt", "--width"],
+        "--width: a value is missing",
+    ),
+    (
+        "a value for an option that takes none",
+        &["--even=1", "firkin.txt"],
+        "--even=1: takes no value",
     ),
     (
         "an option that is none",
-        &["--narrow", "9", "en-gb", "firkin.txt"],
+        &["--narrow", "9", "firkin.txt"],
+        "--narrow: no such option",
     ),
-    ("capitals in the code", &["EN", "firkin.txt"]),
+    (
+        "a price above 32 bits",
+        &["--price=4294967296", "firkin.txt"],
+        "--price=4294967296: not a number from 0 to 4294967295",
+    ),
     (
         "a ladder without --even",
-        &["--ladder", "2", "en-gb", "firkin.txt"],
+        &["--ladder", "2", "firkin.txt"],
+        "--ladder=2: only with --even",
     ),
     (
         "a ladder of 0",
-        &["--even", "--ladder", "0", "en-gb", "firkin.txt"],
+        &["--even", "--ladder", "0", "firkin.txt"],
+        "--ladder=0: not a number from 1 to 255",
     ),
     (
         "a ladder above 255",
-        &["--even", "--ladder", "256", "en-gb", "firkin.txt"],
+        &["--even", "--ladder", "256", "firkin.txt"],
+        "--ladder=256: not a number from 1 to 255",
     ),
 ];
 
@@ -253,15 +331,48 @@ fn expect_usage<P: Program>(
     Ok(())
 }
 
+// Fails unless the program writes its message for each of these arguments.
+fn expect_refused<P: Program>(alloc: Global, program: &P, all: &[Refused<'_>]) -> Result<(), Fail> {
+    for (shows, args, message) in all {
+        expect_unread(alloc, program, (*shows, *args), 2, "", message)?;
+    }
+    Ok(())
+}
+
+#[test]
+fn bad_arguments_are_named(rt: HostRuntime) -> Result<(), Fail> {
+    let alloc = rt.alloc();
+    expect_refused(alloc, &Canonical, FOR_CANONICAL)?;
+    expect_refused(alloc, &Explain, FOR_EXPLAIN)
+}
+
 #[test]
 fn bad_arguments_get_the_usage(rt: HostRuntime) -> Result<(), Fail> {
     let alloc = rt.alloc();
     expect_usage(alloc, &Hyphenate, HYPHENATE, FOR_HYPHENATE)?;
-    expect_usage(alloc, &Canonical, CANONICAL, FOR_CANONICAL)?;
     expect_usage(alloc, &Convert, CONVERT, FOR_CONVERT)?;
-    expect_usage(alloc, &Explain, EXPLAIN, FOR_EXPLAIN)?;
-    expect_usage(alloc, &Html { folders: &[] }, HTML, FOR_HTML)?;
-    expect_usage(alloc, &Lines, LINES, FOR_LINES)
+    expect_usage(alloc, &Html { folders: &[] }, HTML, FOR_HTML)
+}
+
+#[test]
+fn lines_name_the_argument_that_is_refused(rt: HostRuntime) -> Result<(), Fail> {
+    let alloc = rt.alloc();
+    for (shows, args, reason) in FOR_LINES {
+        let message = format!(in alloc;
+            "hyphenate-lines: {reason}
+Try 'hyphenate-lines --help'.
+"
+        )?;
+        expect_unread(
+            alloc,
+            &Lines { folders: &[] },
+            (shows, args),
+            2,
+            "",
+            &message,
+        )?;
+    }
+    Ok(())
 }
 
 // Fails unless the program writes this usage for `--help`, and its version for `--version`.
@@ -294,7 +405,12 @@ fn the_usage_and_the_version_are_written_where_asked_for(rt: HostRuntime) -> Res
         HTML,
         "hyphenate-html 0.1.0\n",
     )?;
-    expect_about(alloc, &Lines, LINES, "hyphenate-lines 0.1.0\n")
+    expect_about(
+        alloc,
+        &Lines { folders: &[] },
+        LINES,
+        "hyphenate-lines 0.1.0\n",
+    )
 }
 
 // Texts for arguments that can't be read: the program's own usage and message about memory, and the same as written out.

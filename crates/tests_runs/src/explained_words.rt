@@ -1,12 +1,12 @@
 //! Texts that explain words: pictures, in which each letter is below itself in the frame, lines for programs, and drawings.
 
-use explain_command::run_explain;
+use any_dictionary::AnyDictionary;
+use explain_command::explained;
 use explanations::Style;
-use hyphenation::Language;
-use hyphenation::engine::Kind;
+use hyphenation_load::Load;
 use std::alloc::Global;
 use std::test::Fail;
-use test_support::expect_written;
+use test_support::expect_equal_bytes;
 
 // A standard dictionary of the patterns that occur in `firkin` in British English, and an exception.
 const FIRKIN: &str =
@@ -16,30 +16,19 @@ const FIRKIN: &str =
 const ASSZONNYAL: &str =
     "hyphenation 1 extended\nlanguage x\nminima 2 2\np .as1szo 3,1,2,2,szsz\np on1nya 2,1,2,2,nyny\ne esszé 2,1,2,2,szsz\n";
 
-// Fails unless a run over these words has this output.
+// Fails unless the words are explained so.
 fn expect_explained(
     alloc: Global,
     shows: &str,
-    kind: Kind,
     dictionary: &str,
     style: Style,
     words: &[&str],
     wanted: &str,
 ) -> Result<(), Fail> {
-    let lang = Language::from_code("x").ok_or("x is a code")?;
-    let (mut reader, mut input) = (dictionary.as_bytes(), &b""[..]);
-    let mut output: Vec<u8> = Vec::new(alloc);
-    let end = run_explain(
-        alloc,
-        kind,
-        lang,
-        style,
-        words,
-        &mut reader,
-        &mut input,
-        &mut output,
-    );
-    expect_written(shows, &end, &output, wanted.as_bytes())
+    let mut reader = dictionary.as_bytes();
+    let dictionary = AnyDictionary::any_from_reader(alloc, &mut reader)?;
+    let text = explained(alloc, &dictionary, style, words)?;
+    expect_equal_bytes(shows, &text, wanted.as_bytes())
 }
 
 // The rows of a word, and below it those of a word with a letter that is escaped and a mark that joins the one before it.
@@ -64,11 +53,10 @@ const DRAWN: &str =
 </svg>
 ";
 
-// Rows: what each shows, the dictionary with its kind, the style, the words, and the text.
-const EXPLAINED: [(&str, Kind, &str, Style, &[&str], &str); 13] = [
+// Rows: what each shows, the dictionary, the style, the words, and the text.
+const EXPLAINED: [(&str, &str, Style, &[&str], &str); 13] = [
     (
         "rows are below their letters",
-        Kind::Standard,
         FIRKIN,
         Style::Picture,
         &["firkins"],
@@ -84,7 +72,6 @@ const EXPLAINED: [(&str, Kind, &str, Style, &[&str], &str); 13] = [
     ),
     (
         "a capital that folds to fewer bytes has its columns",
-        Kind::Standard,
         FIRKIN,
         Style::Picture,
         &["ẞirks"],
@@ -97,7 +84,6 @@ const EXPLAINED: [(&str, Kind, &str, Style, &[&str], &str); 13] = [
     ),
     (
         "an exception decides",
-        Kind::Standard,
         FIRKIN,
         Style::Picture,
         &["Present"],
@@ -108,7 +94,6 @@ const EXPLAINED: [(&str, Kind, &str, Style, &[&str], &str); 13] = [
     ),
     (
         "a word may be too short",
-        Kind::Standard,
         FIRKIN,
         Style::Picture,
         &["kin"],
@@ -121,7 +106,6 @@ const EXPLAINED: [(&str, Kind, &str, Style, &[&str], &str); 13] = [
     ),
     (
         "a change is said at its row and at the scores",
-        Kind::Extended,
         ASSZONNYAL,
         Style::Picture,
         &["asszonnyal"],
@@ -134,7 +118,6 @@ const EXPLAINED: [(&str, Kind, &str, Style, &[&str], &str); 13] = [
     ),
     (
         "a wide letter has two columns",
-        Kind::Standard,
         FIRKIN,
         Style::Picture,
         &["中rkins"],
@@ -148,7 +131,6 @@ const EXPLAINED: [(&str, Kind, &str, Style, &[&str], &str); 13] = [
     ),
     (
         "a mark that joins the letter before it has no columns",
-        Kind::Standard,
         FIRKIN,
         Style::Picture,
         &["a\u{301}rkins"],
@@ -162,7 +144,6 @@ const EXPLAINED: [(&str, Kind, &str, Style, &[&str], &str); 13] = [
     ),
     (
         "a word of 40 letters has its rows below its letters",
-        Kind::Standard,
         FIRKIN,
         Style::Picture,
         &["aaaaaaaaaaaaaaaaaaaaaaaaaaaaaaaaaaaarkin"],
@@ -177,7 +158,6 @@ const EXPLAINED: [(&str, Kind, &str, Style, &[&str], &str); 13] = [
     ),
     (
         "a soft hyphen has no columns, and decides",
-        Kind::Standard,
         FIRKIN,
         Style::Picture,
         &["fi\u{ad}rkins"],
@@ -192,7 +172,6 @@ const EXPLAINED: [(&str, Kind, &str, Style, &[&str], &str); 13] = [
     ),
     (
         "lines have all facts",
-        Kind::Standard,
         FIRKIN,
         Style::Lines,
         &["Firkins"],
@@ -214,7 +193,6 @@ hyphenated\tFir-k-ins
     ),
     (
         "lines have changes",
-        Kind::Extended,
         ASSZONNYAL,
         Style::Lines,
         &["Esszé"],
@@ -232,7 +210,6 @@ hyphenated\tEsz-szé
     ),
     (
         "a soft hyphen decides",
-        Kind::Standard,
         FIRKIN,
         Style::Lines,
         &["fi\u{ad}s"],
@@ -250,7 +227,6 @@ hyphenated\tfi-\u{ad}s
     ),
     (
         "each word is a group of rows below the one before",
-        Kind::Standard,
         FIRKIN,
         Style::Svg,
         &["rkin", "<é\u{301}"],
@@ -260,8 +236,8 @@ hyphenated\tfi-\u{ad}s
 
 #[test]
 fn words_are_explained(rt: HostRuntime) -> Result<(), Fail> {
-    for (shows, kind, dictionary, style, words, text) in &EXPLAINED {
-        expect_explained(rt.alloc(), shows, *kind, dictionary, *style, words, text)?;
+    for (shows, dictionary, style, words, text) in &EXPLAINED {
+        expect_explained(rt.alloc(), shows, dictionary, *style, words, text)?;
     }
     Ok(())
 }

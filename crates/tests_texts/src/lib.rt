@@ -3,6 +3,8 @@
 #![tactic(auto)]
 
 #[cfg(test)]
+mod any_kind;
+#[cfg(test)]
 mod cases;
 #[cfg(test)]
 mod charsets;

@@ -1,6 +1,6 @@
 use Rattle.std.proofs.Common.{rules}
 use Rattle.hyphenate_command.proofs.Known.{by_known}
-use Rattle.command_line.specs.Files.{known_bytes}
+use Rattle.named_files.specs.Files.{known_bytes}
 use Rattle.linefill.specs.Run.{fill_output}
 use Rattle.hyphenate_command.proofs.run_request.Goals as goal
 

@@ -1,12 +1,20 @@
 -- How a request in code stands for parsed arguments.
-use Rattle.std.specs.Prelude.{option_map}
-use Rattle.lines_command.specs.Arguments.{ParsedOptions, ParsedArgs}
+use Rattle.std.specs.Prelude.{◌≡◌, ℕ, List, option_map, Result, Ok, Err, ⊤}
+use Rattle.std.specs.Borrow.{Bor}
+use Rattle.hyphenation_breaks.specs.Borrowed.{texts_now}
+use Rattle.command_line.specs.Options.{RefusedArgument}
+use Rattle.command_line.specs.Reading.{as_refused}
+use Rattle.command_line.specs.declared.options.BadArgument.{BadArgument}
+use Rattle.command_line.specs.declared.options.ReadError.{ReadError}
+use Rattle.command_line.specs.declared.options.ReadError.TheVariants.{Bad, Memory}
+use Rattle.lines_command.specs.Arguments.{ParsedOptions, ParsedArgs, IsParsed}
 use Rattle.lines_command.specs.declared.request.Options.{Options}
 use Rattle.lines_command.specs.declared.request.Request.{Request}
 
 -- The parsed options.
 abbrev pub parsed_options : Options → ParsedOptions
 parsed_options options = record {
+  plain = options.plain;
   columns = options.columns;
   even = options.even;
   last_columns = options.last_columns;
@@ -20,6 +28,16 @@ parsed_options options = record {
 abbrev pub parsed_request : Request → ParsedArgs
 parsed_request request = record {
   options = parsed_options request.options;
-  code = request.language;
-  path = request.path.now;
+  dictionary = request.dictionary.now;
+  inputs = texts_now request.inputs.items;
 }
+
+-- Options are as wanted, or the wanted refusal.
+abbrev pub AreAsWanted : Result Options BadArgument → Result ParsedOptions RefusedArgument → Type 0
+AreAsWanted (Ok options) wanted = wanted ≡ Ok (parsed_options options)
+AreAsWanted (Err bad) wanted = wanted ≡ Err (as_refused bad)
+
+-- Arguments are refused so, or memory was refused.
+abbrev pub AreRefused : List (Bor (List ℕ)) → ReadError → Type 0
+AreRefused args (Bad bad) = IsParsed args (Err (as_refused bad))
+AreRefused args Memory = ⊤

@@ -1,28 +1,17 @@
-use Rattle.std.proofs.Common.{map}
-use Rattle.std.specs.String.{string_bytes}
-use Rattle.std.proofs.lemmas.Str.{IsUtf8-string_bytes}
-use Rattle.lines_command.proofs.PlainBreaks.{plain_by}
-use Rattle.lines_command.proofs.Pages.{page_as}
-use Rattle.lines_command.specs.Arguments.{aim_for, style_for}
+use Rattle.std.proofs.Common.{◌≡◌, IfErr, sym, subst}
+use Rattle.any_dictionary.specs.Dictionaries.{breaks_by}
+use Rattle.lines_command.specs.Arguments.{style_for}
 use Rattle.lines_command.specs.Private.Requests.{parsed_options}
-use Rattle.lines_command.specs.Written.{breaks_by}
-use Rattle.paragraphs.specs.Styles.{style_of}
+use Rattle.lines_command.specs.Written.{HasLongParagraph}
+use Rattle.paragraphs.specs.declared.text.FillError.TheVariants.{TooLong}
 use Rattle.lines_command.proofs.run.lines_of.Goals as goal
 
-pub returns-clause-filled : goal.returns-clause-filled
-returns-clause-filled g c =
-    let kind = g.K.FillDictionary.kind in
-    let bytes = c.args.bytes.now in
-    let options = parsed_options c.args.request.now.options in
-    let loaded = c.in_ok-dictionary.ensures.loaded in
-    record {
-      accepted = loaded.0;
-      text = string_bytes c.in_ok-text.text;
-      read = c.in_ok-text.ensures.text;
-      utf8 = IsUtf8-string_bytes c.in_ok-text.text;
-      plain = plain_by kind bytes;
-      filled =
-          page_as c.aim.result (aim_for options) (g.K.FillDictionary.breaks_of c.in_ok-dictionary.dictionary) (breaks_by kind bytes) (style_of c.style.result) (style_for options)
-          options.columns c.deref.result.now (string_bytes c.in_ok-text.text) (map string_bytes c.in_ok-lines.lines.items)
-          c.aim.ensures loaded.1 c.style.ensures c.deref.ensures c.in_ok-lines.ensures.page;
-    }
+pub returns-in-Standard-clause-too_long : goal.returns-in-Standard-clause-too_long
+returns-in-Standard-clause-too_long c =
+    subst (λ d. IfErr c.filled.result (λ e. e ≡ TooLong → HasLongParagraph c.args.options.now.plain (breaks_by d) (style_for (parsed_options c.args.options.now)) c.args.text.now))
+    (sym c.in-Standard.is) c.filled.ensures.too_long
+
+pub returns-in-Extended-clause-too_long : goal.returns-in-Extended-clause-too_long
+returns-in-Extended-clause-too_long c =
+    subst (λ d. IfErr c.filled-in-Extended.result (λ e. e ≡ TooLong → HasLongParagraph c.args.options.now.plain (breaks_by d) (style_for (parsed_options c.args.options.now)) c.args.text.now))
+    (sym c.in-Extended.is) c.filled-in-Extended.ensures.too_long

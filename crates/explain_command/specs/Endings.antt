@@ -1,0 +1,82 @@
+-- How the program `hyphenate-explain` ends, and the status of each end.
+use Rattle.std.specs.Prelude.{◌≡◌, ◌⊎◌, ℕ, Bool, true, false, List, [], ◌∷◌, codes, Option, None, Result, Ok, Err}
+use Rattle.std.specs.Borrow.{Bor}
+use Rattle.any_dictionary.specs.declared.AnyDictionary.{AnyDictionary}
+use Rattle.command_line.specs.About.{help_or_version}
+use Rattle.command_line.specs.Dictionaries.{KnownFiles, IsOfArgument, IsFailureOf}
+use Rattle.command_line.specs.Failures.{status_of}
+use Rattle.command_line.specs.Inputs.{IsFailureOfInput}
+use Rattle.command_line.specs.Options.{RefusedArgument}
+use Rattle.command_line.specs.declared.TheConstants.{VERSION}
+use Rattle.command_line.specs.declared.failure.Failure.{Failure}
+use Rattle.command_line.specs.declared.failure.Failure.TheVariants as failed
+use Rattle.hyphenation_breaks.specs.Borrowed.{texts_now}
+use Rattle.explain_command.specs.Arguments.{ParsedArgs, IsParsed}
+use Rattle.explain_command.specs.Explained.{IsResult, Writes}
+use Rattle.explain_command.specs.declared.TheConstants.{NAME, USAGE}
+
+-- The text that the arguments ask for by `--help` or `--version`, if they do.
+abbrev pub asked_text : List (Bor (List ℕ)) → Option (List ℕ)
+asked_text args = help_or_version NAME.now VERSION.now USAGE.now args
+
+-- ---- failures
+
+-- The words fail so: none is given, and standard input can't be read or is not UTF-8. Else memory was refused.
+abbrev pub IsFailureOfWords : KnownFiles → Option (List ℕ) → List (List ℕ) → Failure → Type 0
+IsFailureOfWords bytes_of left [] failure = IsFailureOfInput bytes_of left (codes "-") failure
+IsFailureOfWords bytes_of left (word ∷ words) failure = failure ≡ failed.Memory
+
+-- The words of arguments fail so, after the dictionary that they name was loaded.
+abbrev pub IsFailureAfterLoading : ParsedArgs → KnownFiles → List (Bor (List ℕ)) → Option (List ℕ) → Failure → Type 0
+IsFailureAfterLoading parsed bytes_of folders left failure = (dictionary : AnyDictionary)
+    × IsOfArgument bytes_of (texts_now folders) parsed.dictionary dictionary × IsFailureOfWords bytes_of left parsed.words failure
+
+-- The output can't be written, though the text that arguments ask for was made.
+abbrev pub IsFailureOfOutput : ParsedArgs → KnownFiles → List (Bor (List ℕ)) → Option (List ℕ) → Failure → Type 0
+IsFailureOfOutput parsed bytes_of folders left failure =
+    (failure ≡ failed.Output) × ((text : List ℕ) × IsResult parsed bytes_of folders left text)
+
+-- The program fails so for arguments: the dictionary is refused or not found; or after that the words fail; or after that
+-- the output can't be written.
+abbrev pub IsFailureFor : ParsedArgs → KnownFiles → List (Bor (List ℕ)) → Option (List ℕ) → Failure → Type 0
+IsFailureFor parsed bytes_of folders left failure = IsFailureOf bytes_of (texts_now folders) parsed.dictionary failure
+    ⊎ IsFailureAfterLoading parsed bytes_of folders left failure
+    ⊎ IsFailureOfOutput parsed bytes_of folders left failure
+
+-- ---- how the program ends
+
+-- The program ends with the status of a failure. The output is as it was, unless it is the output that failed.
+abbrev pub EndsBy : {W : Type 0} → ParsedArgs → KnownFiles → List (Bor (List ℕ)) → Option (List ℕ) → ℕ → W → W → Type 0
+EndsBy parsed bytes_of folders left status old new = (failure : Failure) × (status ≡ status_of failure)
+    × IsFailureFor parsed bytes_of folders left failure × ((failure ≡ failed.Output) ⊎ (new ≡ old))
+
+-- How the program ends for its arguments. If one is refused, the status is 2, or memory was refused. Else the status is 0,
+-- and what they ask for was written, or it is that of a failure.
+abbrev pub EndsFor : {W : Type 0} → Result ParsedArgs RefusedArgument → KnownFiles → List (Bor (List ℕ)) → Option (List ℕ)
+    → ℕ → (W → Option (List ℕ)) → W → W → Type 0
+EndsFor (Err refused) bytes_of folders left status contents old new = (status ≡ 2) ⊎ (status ≡ 6)
+EndsFor (Ok parsed) bytes_of folders left status contents old new =
+    ((status ≡ 0) × Writes parsed bytes_of folders left contents old new)
+    ⊎ EndsBy parsed bytes_of folders left status old new
+
+-- There are words.
+abbrev pub has_words : List (List ℕ) → Bool
+has_words [] = false
+has_words (word ∷ words) = true
+
+-- Arguments have words, or one of the arguments is refused. So standard input is not asked for.
+abbrev pub asks_no_input : Result ParsedArgs RefusedArgument → Bool
+asks_no_input (Ok parsed) = has_words parsed.words
+asks_no_input (Err refused) = true
+
+-- The program ends so for its arguments. Where they don't ask for standard input, it is as it was.
+pub record Ends {W : Type 0} (parsed : Result ParsedArgs RefusedArgument) (bytes_of : KnownFiles) (folders : List (Bor (List ℕ))) (left : Option (List ℕ)) (unread : Type 0) (status : ℕ) (contents : W → Option (List ℕ)) (old new : W) : Type 0 where
+  pub ended : EndsFor parsed bytes_of folders left status contents old new
+  pub input_left : asks_no_input parsed ≡ true → unread
+
+-- If no help was asked for, the program ends so for its arguments.
+abbrev pub EndsUnasked : {W : Type 0} → List (Bor (List ℕ)) → KnownFiles → List (Bor (List ℕ)) → Option (List ℕ)
+    → Type 0 → ℕ → (W → Option (List ℕ)) → W → W → Type 0
+EndsUnasked args bytes_of folders left unread status contents old new = asked_text args ≡ None
+    → (parsed : Result ParsedArgs RefusedArgument) × IsParsed args parsed
+    × Ends parsed bytes_of folders left unread status contents old new

@@ -1,0 +1,4 @@
+pub mod Requests
+pub mod Runs
+pub mod Files
+pub mod Endings

@@ -1,0 +1,107 @@
+-- How the program `hyphenate-text` reads its arguments.
+use Rattle.std.specs.Prelude.{◌≡◌, ℕ, Bool, true, false, if◌then◌else◌, List, [], ◌∷◌, codes, map, Option, Some, None, Result, Ok, Err, unwrap_or}
+use Rattle.std.specs.Borrow.{Bor}
+use Rattle.std.specs.List.{list_any}
+use Rattle.hyphenation_breaks.specs.Borrowed.{texts_now}
+use Rattle.command_line.specs.Inputs.{is_standard_input}
+use Rattle.command_line.specs.Options.{GivenOption, ReadArguments, RefusedArgument, refused, after_step, read_arguments, is_given, last_value, number_given}
+use Rattle.command_line.specs.declared.options.Expected.TheVariants.{NoMore, Operand}
+use Rattle.command_line.specs.declared.options.OptionForm.{OptionForm}
+use Rattle.text_command.specs.declared.request.TheConstants.{SOFT_HYPHEN}
+
+-- Where results go: to the output, to the file at a path, or each to the file from which its text came.
+pub data Target : Type 0 where
+  ToOutput : Target
+  ToFile : List ℕ → Target
+  InPlace : Target
+
+-- The options: the mark; the least number of characters of a word that is broken; whether words that begin with a capital
+-- are left alone; where results go.
+pub record ParsedOptions : Type 0 where
+  pub mark : List ℕ
+  pub min_word : ℕ
+  pub skip_capitals : Bool
+  pub target : Target
+
+-- Arguments: the options, the path or the language of a dictionary, and the names of the texts.
+pub record ParsedArgs : Type 0 where
+  pub options : ParsedOptions
+  pub dictionary : List ℕ
+  pub inputs : List (List ℕ)
+
+-- Where results go, if there is the path of an output, or not, and each text is replaced, or not. Both are refused.
+abbrev pub target_by : Option (List ℕ) → Bool → Result Target RefusedArgument
+target_by (Some path) in_place =
+    if in_place then Err (refused (codes "--in-place") None NoMore) else Ok (ToFile path)
+target_by None in_place = if in_place then Ok InPlace else Ok ToOutput
+
+-- Where results go, by the options that are given.
+abbrev pub target_of : List GivenOption → Result Target RefusedArgument
+target_of given = target_by (last_value (codes "--output") given) (is_given (codes "--in-place") given)
+
+-- The options by those that are given. The last of those of one name counts. The first that is refused decides, in this
+-- order.
+abbrev pub options_of : List GivenOption → Result ParsedOptions RefusedArgument
+options_of given =
+    after_step (λ min_word. after_step (λ target. Ok (record {
+      mark = unwrap_or (last_value (codes "--mark") given) SOFT_HYPHEN.now;
+      min_word = min_word;
+      skip_capitals = is_given (codes "--skip-capitals") given;
+      target = target;
+    }))
+    (target_of given))
+    (number_given (codes "--min-word") 0 65535 0 given)
+
+-- The names of texts: standard input, if none is named.
+abbrev pub inputs_of : List (List ℕ) → List (List ℕ)
+inputs_of [] = codes "-" ∷ []
+inputs_of (name ∷ names) = name ∷ names
+
+-- The names of texts that are replaced: at least one, and none is standard input.
+abbrev pub replaced_of : List (List ℕ) → Result (List (List ℕ)) RefusedArgument
+replaced_of [] = Err (refused (codes "FILE") None Operand)
+replaced_of (name ∷ names) =
+    if list_any is_standard_input (name ∷ names) then Err (refused (codes "-") None NoMore)
+    else Ok (name ∷ names)
+
+-- The names of texts whose results go there.
+abbrev pub names_for : Target → List (List ℕ) → Result (List (List ℕ)) RefusedArgument
+names_for ToOutput names = Ok (inputs_of names)
+names_for (ToFile path) names = Ok (inputs_of names)
+names_for InPlace names = replaced_of names
+
+-- The arguments of options, a dictionary and the names of texts.
+abbrev pub args_with : ParsedOptions → List ℕ → List (List ℕ) → Result ParsedArgs RefusedArgument
+args_with options dictionary names =
+    after_step (λ inputs. Ok (record { options = options; dictionary = dictionary; inputs = inputs }))
+    (names_for options.target names)
+
+-- The arguments of options, a language and operands. Without a language the first operand is the dictionary, and the
+-- others are texts.
+abbrev pub args_of : ParsedOptions → Option (List ℕ) → List (List ℕ) → Result ParsedArgs RefusedArgument
+args_of options (Some language) operands = args_with options language operands
+args_of options None [] = Err (refused (codes "DICTIONARY") None Operand)
+args_of options None (dictionary ∷ names) = args_with options dictionary names
+
+-- Arguments that are read.
+abbrev pub args_as_read : ReadArguments → Result ParsedArgs RefusedArgument
+args_as_read read =
+    after_step (λ options. args_of options (last_value (codes "--lang") read.given) read.operands) (options_of read.given)
+
+-- All arguments by the forms of options, or the first that is refused.
+abbrev pub parsed_by : List OptionForm → List (Bor (List ℕ)) → Result ParsedArgs RefusedArgument
+parsed_by forms args = after_step args_as_read (read_arguments forms (texts_now args))
+
+-- The names of options, each with whether it takes a value.
+abbrev pub names_of : List OptionForm → List (List ℕ × Bool)
+names_of forms = map (λ form. (form.name.now, form.takes_value)) forms
+
+-- The options of the program.
+abbrev pub option_names : List (List ℕ × Bool)
+option_names =
+    (codes "--lang", true) ∷ (codes "--mark", true) ∷ (codes "--min-word", true) ∷ (codes "--skip-capitals", false)
+    ∷ (codes "--output", true) ∷ (codes "--in-place", false) ∷ []
+
+-- Arguments are parsed so, by the options of the program: as these arguments, or as the first one that is refused.
+abbrev pub IsParsed : List (Bor (List ℕ)) → Result ParsedArgs RefusedArgument → Type 0
+IsParsed args parsed = (forms : List OptionForm) × (names_of forms ≡ option_names) × (parsed ≡ parsed_by forms args)

@@ -1,0 +1,126 @@
+//! The program `hyphenate-text` without its `main`: its arguments, messages and statuses.
+//!
+//! It puts marks into plain texts where their words may be broken, and leaves all else as it is.
+#![tactic(auto)]
+
+ghost use Rattle.std.specs.Prelude.{◌≡◌, true, Some};
+ghost use Rattle.command_line.specs.About.{WritesHelp};
+ghost use Rattle.command_line.specs.Statuses.{BeforeOutput};
+ghost use Rattle.hyphenation_breaks.specs.Borrowed.{texts_now};
+ghost use Rattle.text_command.specs.Arguments.{parsed_by};
+ghost use Rattle.text_command.specs.Written.{names_files_alone, EndsFor, EndsUnlessAsked};
+
+mod request;
+mod run;
+
+use command_line::options::{OptionForm, ReadError, report_bad_argument};
+use command_line::{Failure, NamedFiles, VERSION, report, write_help_or_version};
+pub use replaced_files::{Recorded, ReplaceFiles};
+use request::{Request, option_forms};
+use run::run;
+use std::alloc::Global;
+use std::io::{Read, Write};
+
+/// The name of the program.
+pub const NAME: &str = "hyphenate-text";
+
+/// The usage, for `--help`.
+pub const USAGE: &str = "\
+usage: hyphenate-text [OPTION..] DICTIONARY [FILE..]
+       hyphenate-text [OPTION..] --lang CODE [FILE..]
+       hyphenate-text --help
+       hyphenate-text --version
+Writes plain texts with soft hyphens where a dictionary breaks their words.
+  DICTIONARY       a dictionary text, by its path, which has a / or a .; or the
+                   language of one that hyphenate-languages made
+  FILE             a text; standard input for -, or without FILE
+  --lang CODE      the language of the dictionary; then all operands are FILEs
+  --mark MARK      in place of the soft hyphen
+  --min-word N     shorter words are left alone; N counts characters
+  --skip-capitals  words that begin with a capital are left alone
+  --output FILE    the results go into this file, which is replaced
+  --in-place       each FILE is replaced by its result
+Of an extended dictionary the breaks that change no letter are used. Addresses,
+and what has a soft hyphen, are left alone.
+";
+
+/// The message if memory was refused.
+pub const NO_MEMORY: &str = "hyphenate-text: no memory\n";
+
+// Does what arguments ask for, by the forms of the options, and returns the status to end with.
+#[tactic(auto, using(crate::proofs::Endings::ends_done, crate::proofs::Endings::ends_by, crate::proofs::Endings::ends_refused, crate::proofs::Endings::ends_no_memory, crate::proofs::Runs::by_status))]
+fn answer_by<F: NamedFiles, S: ReplaceFiles, I: Read, O: Write, E: Write>(
+    files: &F,
+    store: &mut S,
+    alloc: Global,
+    forms: &[OptionForm],
+    args: &[&str],
+    folders: &[&str],
+    input: &mut I,
+    output: &mut O,
+    errors: &mut E,
+) -> u8
+    ensures ended { EndsFor (parsed_by forms.now args.now) (F.bytes files.now) (texts_now folders.now)
+        (I.remaining input.old) result O.contents output.old output.new S.written store.old store.new }
+    ensures unread { names_files_alone (parsed_by forms.now args.now) ≡ true → input.new ≡ input.old }
+    ensures dictionary_first { result ≡ 3 → input.new ≡ input.old }
+    ensures untouched { BeforeOutput result (output.new ≡ output.old) }
+{
+    let request = match Request::from_args(alloc, forms, args) {
+        Ok(request) => request,
+        Err(ReadError::Bad(bad)) => return report_bad_argument(alloc, NAME, &bad, errors),
+        Err(ReadError::Memory) => return report(alloc, NAME, &Failure::Memory, errors),
+    };
+    match run(files, store, alloc, &request, folders, input, output) {
+        Ok(()) => 0,
+        Err(failure) => report(alloc, NAME, &failure, errors),
+    }
+}
+
+/// Does what the arguments ask for, and returns the status to end with.
+///
+/// The texts are read by `files` and `input`. Their results go to `output`, one after the other, or into files that
+/// `store` replaces. All of them are made before the first byte is written. A language is looked for in `folders`.
+///
+/// | Status | When |
+/// |---|---|
+/// | 0 | it is done |
+/// | 2 | an argument is refused |
+/// | 3 | the dictionary can't be opened, read or accepted, or there is none of the language |
+/// | 4 | a text is not UTF-8 |
+/// | 5 | a text can't be read, or a result can't be written |
+/// | 6 | memory was refused |
+///
+/// A message for any status but 0 is written to `errors`, except if the text of `--help` or `--version` can't be
+/// written. The output is as it was unless the status is 0, or the output can't be written. Standard input is read only
+/// if it is one of the texts, and not with status 3.
+///
+/// ```text
+/// let args = ["--in-place", "examples/firkin.txt", "letter.txt"];
+/// answer(&rt, &mut &rt, rt.alloc(), &args, &[], &mut rt.stdin(), &mut rt.stdout(), &mut rt.stderr())
+/// ```
+#[tactic(auto, using(crate::proofs::Endings::parsed_ends))]
+pub fn answer<F: NamedFiles, S: ReplaceFiles, I: Read, O: Write, E: Write>(
+    files: &F,
+    store: &mut S,
+    alloc: Global,
+    args: &[&str],
+    folders: &[&str],
+    input: &mut I,
+    output: &mut O,
+    errors: &mut E,
+) -> u8
+    ensures help { WritesHelp NAME.now VERSION.now USAGE.now args.now (Some result) O.contents output.old output.new }
+    ensures ended { EndsUnlessAsked args.now (F.bytes files.now) (texts_now folders.now) I.remaining input.old input.new
+        result O.contents output.old output.new S.written store.old store.new }
+    ensures dictionary_first { result ≡ 3 → input.new ≡ input.old }
+    ensures untouched { BeforeOutput result (output.new ≡ output.old) }
+{
+    if let Some(status) = write_help_or_version(NAME, USAGE, args, output) {
+        return status;
+    }
+    let forms = option_forms();
+    answer_by(
+        files, store, alloc, &forms, args, folders, input, output, errors,
+    )
+}
