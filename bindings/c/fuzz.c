@@ -2,6 +2,7 @@
  * the rest is the word and the text that the dictionary is asked for. tests/fuzz builds and runs it. */
 #include "hyphenation.h"
 #include <stdlib.h>
+#include <string.h>
 
 #define ROOM 4096
 

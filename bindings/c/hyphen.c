@@ -4,6 +4,7 @@
 #include "hyphenation.h"
 #include <pthread.h>
 #include <stdlib.h>
+#include <string.h>
 
 /* The dictionary, and what of it the caller does not see: a .dic, or else a text of this library. Calls of several
  * threads wait for one another. */
