@@ -1,13 +1,11 @@
-"""The rows of languages/list, the paths of their files, and the names of dictionaries."""
+"""The rows of the list of languages, the codes of tags, the paths of files, and the names and folders of dictionaries."""
 
 import glob
 import os
-import sys
+import string
 from collections import namedtuple
 
 HERE = os.path.dirname(os.path.realpath(__file__))
-sys.path.insert(0, os.path.join(os.path.dirname(HERE), "tools"))
-from programs import ROOT, program, prove  # noqa: E402, F401
 
 # The folders in which Debian's packages have files of patterns. A file is taken from the first folder that has it.
 KNOWN_FOLDERS = (
@@ -16,18 +14,26 @@ KNOWN_FOLDERS = (
     "/usr/share/texlive/texmf-dist/tex/generic/hyph-utf8/patterns/tex",
     "/usr/share/hyphen",
 )
+# The folders of dictionaries of the system, which the programs search last.
+SYSTEM_FOLDERS = ("/usr/local/share/hyphenation", "/usr/share/hyphenation")
+# A tag is searched in small letters, and with - for _. Letters beyond ASCII stay.
+LONGEST_CODE = 32
+SEARCHED = str.maketrans(string.ascii_uppercase + "_", string.ascii_lowercase + "-")
 
-Row = namedtuple("Row", "language code kind left right preferred files")
+Row = namedtuple("Row", "language code kind left right preferred package files")
+
+
+def words_of_lines(name):
+    """The words of each line of a file of this folder, without comments."""
+    with open(os.path.join(HERE, name), encoding="utf-8") as lines:
+        return [line.split() for line in lines if line.strip() and not line.startswith("#")]
 
 
 def rows():
-    """The rows of languages/list, in its order."""
+    """The rows of the list, in its order."""
     found = []
-    with open(os.path.join(HERE, "list"), encoding="utf-8") as lines:
-        for line in lines:
-            if line.strip() and not line.startswith("#"):
-                language, code, kind, left, right, mark, *files = line.split()
-                found.append(Row(language.replace("_", " "), code, kind, left, right, mark == "prefer", files))
+    for language, code, kind, left, right, mark, package, *files in words_of_lines("list"):
+        found.append(Row(language.replace("_", " "), code, kind, left, right, mark == "prefer", package, files))
     return found
 
 
@@ -39,6 +45,25 @@ def choices():
     for same in found.values():
         same.sort(key=lambda row: not row.preferred)
     return found
+
+
+def variants():
+    """For each language whose patterns come in variants alone the code of the usual one."""
+    return dict(words_of_lines("variants"))
+
+
+def fronts(tag):
+    """A tag as it is searched, and then what stands before each of its hyphens, from the last one to the first. Those that
+    are longer than any code are left out."""
+    searched = tag.translate(SEARCHED)
+    ends = [len(searched), *(at for at in range(len(searched) - 1, -1, -1) if searched[at] == "-")]
+    return [searched[:end] for end in ends if end <= LONGEST_CODE]
+
+
+def code_of(tag, codes, usual):
+    """The code by which a tag is found, among codes and usual variants, or None. The programs search in the same order."""
+    names = (name for front in fronts(tag) for name in (front, usual.get(front)))
+    return next((name for name in names if name in codes), None)
 
 
 def folders(given):
@@ -56,13 +81,26 @@ def paths_of(row, searched):
     return None
 
 
-def default_folder():
-    """The folder of the dictionaries."""
-    first = os.environ.get("HYPHENATION_PATH", "").split(":")[0]
-    if first:
-        return first
+def row_there(same, searched):
+    """The first of these rows whose files are there, and their paths; or None."""
+    return next(((row, paths) for row in same for paths in [paths_of(row, searched)] if paths), None)
+
+
+def folder_of_user():
+    """The folder of dictionaries of the user's own."""
     data = os.environ.get("XDG_DATA_HOME") or os.path.expanduser("~/.local/share")
     return os.path.join(data, "hyphenation")
+
+
+def default_folder():
+    """The folder to which dictionaries go."""
+    return os.environ.get("HYPHENATION_PATH", "").split(":")[0] or folder_of_user()
+
+
+def dictionary_folders():
+    """The folders in which the programs search dictionaries."""
+    named = [folder for folder in os.environ.get("HYPHENATION_PATH", "").split(":") if folder]
+    return [*named, folder_of_user(), *SYSTEM_FOLDERS]
 
 
 def file_name(code, kind):
@@ -70,6 +108,6 @@ def file_name(code, kind):
     return f"{code}.txt" if kind == "standard" else f"{code}.{kind}.txt"
 
 
-def convert_command(row, paths):
-    """The call of hyphenate-convert for a row."""
-    return [program("hyphenate-convert"), row.kind, row.code, row.left, row.right, *paths]
+def convert_arguments(row, paths):
+    """The arguments of hyphenate-convert for a row."""
+    return [row.kind, row.code, row.left, row.right, *paths]
