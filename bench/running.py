@@ -4,8 +4,12 @@ import os
 import platform
 import re
 import subprocess
+import sys
 
 ROOT = os.path.dirname(os.path.dirname(os.path.realpath(__file__)))
+sys.path.insert(0, os.path.join(ROOT, "tools"))
+from programs import built  # noqa: E402, F401
+
 BIN = os.environ.get("HYPHENATE_BIN")
 COUNTED = ["valgrind", "--tool=callgrind", "--callgrind-out-file=/dev/null"]
 # Valgrind simulates a predictor of branches too.
@@ -14,12 +18,6 @@ PREDICTED = [*COUNTED, "--branch-sim=yes"]
 
 def left_out(what, why):
     print(f"left out: {what}: {why}", flush=True)
-
-
-def built(name):
-    """The file of a program: in the folder HYPHENATE_BIN, else in `out` of its crate."""
-    crate = "hyphenate_program" if name == "hyphenate" else name.replace("-", "_")
-    return os.path.join(BIN, name) if BIN else os.path.join(ROOT, "crates", crate, "out", crate)
 
 
 def processor():

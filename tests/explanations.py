@@ -344,7 +344,7 @@ def main():
         all_facts = [Facts(dictionary, word) for word in words]
 
         def run(*options, words=words):
-            found = subprocess.run([program, *options, dictionary.kind, "x", path, *words], capture_output=True, check=False)
+            found = subprocess.run([program, *options, path, "--", *words], capture_output=True, check=False)
             check(found.returncode == 0, number, options, found.returncode, found.stderr.decode())
             return found.stdout.decode()
 

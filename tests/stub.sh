@@ -9,7 +9,8 @@ tools=(basename bash cat chmod cp cut dirname env find iconv ln mkdir mktemp mv 
 # make_copy: makes the copy, in `copy`, and the folders of commands: `plain` without `rt`, and `stub` with it.
 #
 # The command writes each call to the file `calls`: the folder that it was called in, and its arguments. `rt try` passes
-# its arguments to the program `trial` of the copy, and says that this was a trial that ended. Without that program it
+# its arguments, after the folders and the name of the program, to the program `trial` of the copy, and says that this was a
+# trial that ended. Without that program it
 # fails. `rt run` makes the program `proved` of the copy the crate's, and fails without it. `rt lib` fails for a crate
 # that the file `unproved` names.
 make_copy() {
@@ -17,8 +18,8 @@ make_copy() {
   copy=$scratch/copy plain=$scratch/plain stub=$scratch/stub
   export STUB_COPY=$copy
   mkdir "$copy" "$plain" "$stub"
-  tar -C "$root" --exclude=out -cf - "${programs[@]}" install tools proof-times man LICENSE-APACHE LICENSE-MIT \
-    examples crates.txt HANDLES VERSION bindings/c crates | tar -C "$copy" -xf -
+  tar -C "$root" --exclude=out -cf - "${programs[@]}" hyphenate-languages languages install tools proof-times man \
+    LICENSE-APACHE LICENSE-MIT examples crates.txt HANDLES VERSION bindings/c crates | tar -C "$copy" -xf -
   find "$copy" -type f -exec touch -d '2 hours ago' {} +
   for it in "${tools[@]}"; do
     # The launcher works without iconv if there is none.
@@ -31,9 +32,9 @@ name=$(basename "$PWD")
 echo "$name: $*" >>"$top/calls"
 case $1 in
   try)
-    [ -x "$top/trial" ] || { echo 'run=none proved=no' >&2; exit 2; }
+    [[ -x $top/trial && $3 == HYPHENATION_PATH=/*: ]] || { echo 'run=none proved=no' >&2; exit 2; }
     status=0
-    "$top/trial" "${@:3}" || status=$?
+    "$top/trial" "${@:5}" || status=$?
     echo "run=ended status=$status runners=2 proved=no" >&2
     exit $status
     ;;

@@ -12,6 +12,17 @@ def program(name):
     return os.path.join(os.environ.get("HYPHENATE_BIN") or ROOT, name)
 
 
+def built(name):
+    """The file of a program that is proved: in the folder HYPHENATE_BIN, else a link to it, which goes by its name."""
+    if os.environ.get("HYPHENATE_BIN"):
+        return program(name)
+    link = os.path.join(ROOT, ".programs", name)
+    if not os.path.lexists(link):
+        os.makedirs(os.path.dirname(link), exist_ok=True)
+        os.symlink("../crates/hyphenate_program/out/hyphenate_program", link)
+    return link
+
+
 def prove(called, *names):
     """Proves and builds programs that are not current, for a script of that name. Many trial runs would take longer."""
     if os.environ.get("HYPHENATE_BIN"):

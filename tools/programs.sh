@@ -5,10 +5,12 @@
 # The programs, in `programs`: a line for each, and each is a link to the launcher too. The words after its name, in `forms`,
 # are for trial runs:
 # - FIRST:COUNT:INPUT:PATHS is a form of its arguments. Where they begin with FIRST (* is any) and are COUNT many (4+ is four
-#   or more), INPUT says whether the program reads standard input (`input`), and PATHS which of them are paths (5+ is the
-#   fifth and all after it).
+#   or more), INPUT says whether the program reads standard input (`input`; also where one of them is -), and PATHS
+#   which of them are paths (5+ is the fifth and all after it).
 # - --NAME is an option, --NAME=VALUE one whose value is the next argument: a path where VALUE is PATH, a code, = and a path
 #   where it is CODE=PATH. Options are not counted. Without such a word the program has no options but --help and --version.
+# - dictionary=N says that the argument of that number may be a language in the place of a path: it has no slash and no dot.
+# - first=--NAME says that the value of this option stands for the first argument.
 # - up-to=N is how many bytes of standard input a trial run takes, if not 1 MiB. It takes at most 64 MiB.
 programs=()
 declare -A forms=()
@@ -17,27 +19,39 @@ while read -r left right; do
   forms[$left]=$right
 done <<'LIST'
 hyphenate           standard:4+:input:3 extended:4+:input:3 score:5:-:4 fill:4:input:3
-hyphenate-canonical up-to=67108864 standard:1:input:- extended:1:input:-
+hyphenate-canonical --help up-to=67108864 dictionary=1 *:0:input:- *:1:-:1
 hyphenate-convert   *:5+:-:5+
-hyphenate-explain   --plain --svg up-to=8192 standard:3:input:3 extended:3:input:3 standard:4+:-:3 extended:4+:-:3
+hyphenate-explain   --plain --svg up-to=8192 dictionary=1 *:1:input:1 *:2+:-:1
 hyphenate-html      --lang=CODE=PATH --dictionaries=PATH --language=CODE --mark=MARK --class=CLASS --min-word=N *:0:input:-
-hyphenate-lines     --even --width=N --price=P --last=N --ladder=N --indent=TEXT --first=TEXT *:2:input:2
+hyphenate-lines     --plain --even --width=N --price=P --last=N --ladder=N --indent=TEXT --first=TEXT dictionary=1 *:1:input:1 *:2+:-:1+
+hyphenate-text      --lang=CODE --mark=MARK --min-word=N --skip-capitals --output=PATH --in-place first=--lang dictionary=1 *:1:input:1 *:2+:-:1+
 LIST
 
-# crate_of NAME: the crate of a program, in `crate`; libhyphenation is the static library for C.
+# The files of languages/ that hyphenate-languages needs where it is installed.
+of_languages=(list variants listed.py making.py)
+
+# crate_of NAME: the crate of a program, in `crate`; libhyphenation is the static library for C. All programs are one file,
+# which does the work of the one by whose name it is called.
 crate_of() {
   case $1 in
-    hyphenate) crate=hyphenate_program ;;
+    hyphenate | hyphenate-*) crate=hyphenate_program ;;
     libhyphenation) crate=hyphenation_c ;;
-    *) crate=${1//-/_} ;;
+    *) crate=$1 ;;
   esac
 }
 
-# file_of NAME: the file of a program or of the static library, in `file`. It is there once that is built.
+# file_of NAME: what is built for a program or the static library, in `built`, and by which name it is called, in `file`: for a
+# program that is a link. They are there once that is built.
 file_of() {
   crate_of "$1"
-  file=$root/crates/$crate/out/$crate
-  [ "$1" != libhyphenation ] || file=$root/crates/$crate/out/lib$crate.a
+  built=$root/crates/$crate/out/$crate
+  [ "$1" != libhyphenation ] || built=$root/crates/$crate/out/lib$crate.a
+  file=$built
+  if [ "$crate" = hyphenate_program ]; then
+    # rt takes no link in out/
+    file=$root/.programs/$1
+    [ ! -f "$built" ] || [ -e "$file" ] || { mkdir -p "$root/.programs" && ln -sf "../crates/$crate/out/$crate" "$file"; }
+  fi
 }
 
 # The crates that each crate uses, by crates.txt. Those of the toolchain have no line there. A static library has
@@ -67,10 +81,10 @@ is_current() {
   local -a order=()
   local newer
   file_of "$1"
-  [ -f "$file" ] || return 1
+  [ -f "$built" ] || return 1
   order_of "$crate"
   newer=$(find "$root/crates.txt" "${order[@]/#/$root/crates/}" -name out -prune -o \
-    -type f \( -name '*.rt' -o -name '*.antt' -o -name crates.txt \) -newer "$file" -print -quit)
+    -type f \( -name '*.rt' -o -name '*.antt' -o -name crates.txt \) -newer "$built" -print -quit)
   [ -z "$newer" ]
 }
 
