@@ -18,8 +18,10 @@ make_copy() {
   copy=$scratch/copy plain=$scratch/plain stub=$scratch/stub
   export STUB_COPY=$copy
   mkdir "$copy" "$plain" "$stub"
-  tar -C "$root" --exclude=out -cf - "${programs[@]}" hyphenate-languages languages install tools proof-times man \
-    LICENSE-APACHE LICENSE-MIT examples crates.txt HANDLES VERSION bindings/c crates | tar -C "$copy" -xf -
+  # Few of the proofs, since each crate that is proved gets copies of those below it.
+  tar -C "$root" --exclude=out --exclude=mutants --exclude='proofs/[!L]*' -cf - "${programs[@]}" hyphenate-languages \
+    languages install tools proof-times man LICENSE-APACHE LICENSE-MIT examples crates.txt HANDLES VERSION bindings/c \
+    crates | tar -C "$copy" -xf -
   find "$copy" -type f -exec touch -d '2 hours ago' {} +
   for it in "${tools[@]}"; do
     # The launcher works without iconv if there is none.
