@@ -3,11 +3,12 @@
   python3 in_place_of_pyphen.py weasyprint page.html page.pdf         a module, as by python3 -m
   python3 in_place_of_pyphen.py report.py ARGUMENT..                  a script, here one that uses ReportLab
 
-The dictionaries are those that hyphenation.pyphen finds: the folders that HYPHENATION_DICTIONARIES names, else those of
-Debian's packages hyphen-*. A program may take the first part of a broken word alone, as WeasyPrint 57 does, where
-ReportLab takes both. Give it standard dictionaries then, since a break that changes letters would lose some:
+The dictionaries are those that hyphenation.pyphen finds: those of hyphenate-languages, and else those of Debian's packages
+hyphen-*; or the ones in the folders that HYPHENATION_DICTIONARIES names. A program may take the first part of a broken word
+alone, as WeasyPrint 57 does, where ReportLab takes both. Give it standard dictionaries then, since a break that changes
+letters would lose some:
 
-  hyphenate-convert standard hu - - /usr/share/hyphen/hyph_hu_HU.dic > dictionaries/hu_HU.txt
+  hyphenate-convert standard hu - - /usr/share/hyphen/hyph_hu_HU.dic > dictionaries/hu.txt
   HYPHENATION_DICTIONARIES=dictionaries python3 in_place_of_pyphen.py weasyprint page.html page.pdf
 """
 
