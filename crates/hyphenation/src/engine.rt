@@ -3,22 +3,24 @@
 ghost use Rattle.std.specs.Prelude.{◌≡◌, ◌++◌, List, ℕ, OnOk, IfOk, IfErr, IfSome, decimal, map};
 ghost use Rattle.std.specs.String.{string_bytes};
 ghost use Rattle.hyphenation_load.specs.Load.{AppendsTo};
-ghost use Rattle.hyphenation.specs.Engine.{score_line, values_by, score_by, run_output, RunReturns, RunWrites};
+ghost use Rattle.any_dictionary.specs.Dictionaries.{contents_as, kind_by};
+ghost use Rattle.hyphenation.specs.Engine.{score_line, score_by, run_output, RunWrites};
 ghost use Rattle.hyphenation.specs.Engine.{JudgesDictionary, JudgesEdits, JudgesText};
 ghost use Rattle.hyphenation.specs.Engine.{BeforeReading, BeforeWriting, IsScoreError, IsUnwritten, HidesNoOutOfMemory};
-ghost use Rattle.hyphenation.specs.Private.Engine.{space_before};
+ghost use Rattle.hyphenation.specs.Private.Engine.{space_before, values_of, IsLoadingError};
 ghost use Rattle.hyphenation_breaks.specs.Borrowed.{texts_now};
 ghost use Rattle.hyphenation_breaks.specs.Dictionary.{entries_of_keys};
 ghost use Rattle.hyphenation_score.specs.Scoring.{values};
 
 mod text_run;
 
+use any_dictionary::AnyDictionary;
 use hyphenation_breaks::extended::Subregion;
 use hyphenation_breaks::language::Language;
-use hyphenation_dictionary::dictionary::{Extended, Standard};
+use hyphenation_dictionary::dictionary::Extended;
 pub use hyphenation_grammar::form::Kind;
 pub use hyphenation_grammar::number_of;
-use hyphenation_load::{Error, Load};
+use hyphenation_load::Error;
 use hyphenation_score::Score;
 use hyphenation_score::laws::scores_have_values;
 use std::alloc::{AllocError, Global};
@@ -100,7 +102,7 @@ fn values_alone(alloc: Global, scores: &[(u8, Option<&Subregion>)]) -> Result<Ve
 }
 
 // The values of a word by an extended dictionary, without the changes.
-fn values_of(alloc: Global, dictionary: &Extended, word: &str) -> Result<Vec<u8>, AllocError>
+fn extended_values(alloc: Global, dictionary: &Extended, word: &str) -> Result<Vec<u8>, AllocError>
     ensures { IfOk result (λ found. found.items ≡ values (entries_of_keys dictionary.now) word.now) }
 {
     scores_have_values::<Option<Subregion>>();
@@ -109,40 +111,31 @@ fn values_of(alloc: Global, dictionary: &Extended, word: &str) -> Result<Vec<u8>
     Ok(found)
 }
 
-// The values of a word by the standard dictionary of that language that a reader's bytes give.
-fn standard_values<D: Read>(
-    alloc: Global,
-    lang: Language,
-    word: &str,
-    reader: &mut D,
-) -> Result<Vec<u8>, RunError>
-    ensures dictionary { JudgesDictionary Kind.Standard lang (D.remaining reader.old) result }
-    ensures values { IfOk result (λ found.
-        IfSome (D.remaining reader.old) (λ bytes. found.items ≡ values_by Kind.Standard word.now bytes)) }
-    ensures unwritten { IfErr result IsUnwritten }
-    ensures score_error { IfErr result IsScoreError }
-    ensures not_out_of_memory { IfErr result HidesNoOutOfMemory }
+// The values of a word by a dictionary.
+fn values_of(alloc: Global, dictionary: &AnyDictionary, word: &str) -> Result<Vec<u8>, AllocError>
+    ensures { IfOk result (λ found. found.items ≡ values_of dictionary.now word.now) }
 {
-    let dictionary = Standard::from_reader(alloc, lang, reader)?;
-    Ok(dictionary.score(alloc, word)?)
+    match dictionary {
+        AnyDictionary::Standard(standard) => standard.score(alloc, word),
+        AnyDictionary::Extended(extended) => extended_values(alloc, extended, word),
+    }
 }
 
-// The values of a word by the extended dictionary of that language that a reader's bytes give.
-fn extended_values<D: Read>(
+// The dictionary of that kind and language that a reader's bytes give.
+fn load<D: Read>(
     alloc: Global,
+    kind: Kind,
     lang: Language,
-    word: &str,
     reader: &mut D,
-) -> Result<Vec<u8>, RunError>
-    ensures dictionary { JudgesDictionary Kind.Extended lang (D.remaining reader.old) result }
-    ensures values { IfOk result (λ found.
-        IfSome (D.remaining reader.old) (λ bytes. found.items ≡ values_by Kind.Extended word.now bytes)) }
-    ensures unwritten { IfErr result IsUnwritten }
-    ensures score_error { IfErr result IsScoreError }
+) -> Result<AnyDictionary, RunError>
+    ensures judged { JudgesDictionary kind lang (D.remaining reader.old) result }
+    ensures contents { IfOk result (λ dictionary.
+        IfSome (D.remaining reader.old) (λ bytes. dictionary ≡ contents_as kind bytes)) }
+    ensures of_kind { IfOk result (λ dictionary. kind_by dictionary ≡ kind) }
+    ensures loading_error { IfErr result IsLoadingError }
     ensures not_out_of_memory { IfErr result HidesNoOutOfMemory }
 {
-    let dictionary = Extended::from_reader(alloc, lang, reader)?;
-    Ok(values_of(alloc, &dictionary, word)?)
+    Ok(AnyDictionary::of_kind(alloc, kind, lang, reader)?)
 }
 
 // The line of a word's values by the dictionary of that kind and language that a reader's bytes give.
@@ -160,10 +153,8 @@ fn score_line<D: Read>(
     ensures score_error { IfErr result IsScoreError }
     ensures not_out_of_memory { IfErr result HidesNoOutOfMemory }
 {
-    let values = match kind {
-        Kind::Standard => standard_values(alloc, lang, word, reader)?,
-        Kind::Extended => extended_values(alloc, lang, word, reader)?,
-    };
+    let dictionary = load(alloc, kind, lang, reader)?;
+    let values = values_of(alloc, &dictionary, word)?;
     Ok(line_of(alloc, &values)?)
 }
 
@@ -196,32 +187,6 @@ pub fn run_score<D: Read, O: Write>(
 {
     let line = score_line(alloc, kind, lang, word, dictionary)?;
     output.write_all(line.as_bytes()).map_err(RunError::Output)
-}
-
-// The text of an input with its words hyphenated by the dictionary of that kind and language that a reader's bytes
-// give, after edits.
-fn text_by<D: Read, I: Read>(
-    alloc: Global,
-    kind: Kind,
-    lang: Language,
-    edits: &[&str],
-    mark: &str,
-    reader: &mut D,
-    input: &mut I,
-) -> Result<String, RunError>
-    ensures dictionary { JudgesDictionary kind lang (D.remaining reader.old) result }
-    ensures edits { JudgesEdits kind (texts_now edits.now) result }
-    ensures text { JudgesText (I.remaining input.old) result }
-    ensures output { RunReturns string_bytes result (run_output kind edits.now mark.now)
-        (D.remaining reader.old) (I.remaining input.old) }
-    ensures unwritten { IfErr result IsUnwritten }
-    ensures unread { BeforeReading result (input.new ≡ input.old) }
-    ensures not_out_of_memory { IfErr result HidesNoOutOfMemory }
-{
-    match kind {
-        Kind::Standard => run_text::<Standard, D, I>(alloc, lang, edits, mark, reader, input),
-        Kind::Extended => run_text::<Extended, D, I>(alloc, lang, edits, mark, reader, input),
-    }
 }
 
 /// Writes the text of an input with the mark at each break of its words, by a dictionary of that kind and language.
@@ -257,6 +222,6 @@ pub fn run<D: Read, I: Read, O: Write>(
     ensures unread { BeforeReading result (input.new ≡ input.old) }
     ensures not_out_of_memory { IfErr result HidesNoOutOfMemory }
 {
-    let text = text_by(alloc, kind, lang, edits, mark, dictionary, input)?;
+    let text = run_text(alloc, kind, lang, edits, mark, dictionary, input)?;
     output.write_all(text.as_bytes()).map_err(RunError::Output)
 }

@@ -1,10 +1,10 @@
-use Rattle.std.proofs.Common.{◌∙◌, ap}
-use Rattle.std.proofs.lemmas.Option.{IfSome_then}
+use Rattle.std.proofs.Common.{◌∙◌, ap, map}
 use Rattle.hyphenation_breaks.specs.Dictionary.{entries_of_keys}
-use Rattle.hyphenation_score.specs.Scoring.{values}
+use Rattle.hyphenation_score.specs.Scoring.{own_change}
 use Rattle.hyphenation.proofs.engine.extended_values.Goals as goal
 
-pub returns-clause-values : goal.returns-clause-values
-returns-clause-values g c =
-    IfSome_then (g.D.Read.remaining c.args.reader.now) c.in_ok-dictionary.ensures.loaded
-    (λ bytes read. c.in_ok-values_of.ensures ∙ ap (λ d. values (entries_of_keys d) c.args.word.now) read.1)
+pub returns : goal.returns
+returns c =
+    let pairs = ap (map (λ score. score.0)) c.deref.ensures.value in
+    let found = c.scores_have_values.ensures own_change (entries_of_keys c.args.dictionary.now) c.args.word.now c.in_ok-scores.scores.items c.in_ok-scores.ensures.scores in
+    c.in_ok-found.ensures ∙ pairs ∙ found
