@@ -1,5 +1,5 @@
 -- The places of breaks without a change.
-use Rattle.std.proofs.Common.{◌≡◌, ℕ, ◌+◌, ◌≤◌, ◌&&◌, Bool, true, false, not, List, [], ◌∷◌, map, filter, refl, ap, arith, IsTrue, if◌then◌else◌, nat_le}
+use Rattle.std.proofs.Common.{◌≡◌, ℕ, ◌+◌, ◌≤◌, ◌&&◌, Bool, true, false, not, List, [], ◌∷◌, map, filter, refl, ap, ◌∙◌, arith, IsTrue, if◌then◌else◌, nat_le}
 use Rattle.std.proofs.lemmas.Bool.Decides.{nat_tests}
 use Rattle.hyphenation_breaks.specs.Break.{Break, plain_break, is_changed, ascend_on, is_boundary}
 use Rattle.any_dictionary.specs.Dictionaries.{plain_places}
@@ -70,3 +70,11 @@ plain_ascend text least (b ∷ bs) a =
 pub plain_back : (places : List ℕ) → plain_places (map plain_break places) ≡ places
 plain_back [] = refl
 plain_back (p ∷ ps) = ap (λ qs. p ∷ qs) (plain_back ps)
+
+places_plain : (xs : List ℕ) → xs ≡ map (λ b. b.place) (map plain_break xs)
+places_plain [] = refl
+places_plain (x ∷ xs) = ap (λ l. x ∷ l) (places_plain xs)
+
+-- Places that stand for breaks without a change are the places of these breaks.
+pub found_places : (xs : List ℕ) (breaks : List Break) → map plain_break xs ≡ breaks → xs ≡ map (λ b. b.place) breaks
+found_places xs breaks e = places_plain xs ∙ ap (λ bs. map (λ b. b.place) bs) e

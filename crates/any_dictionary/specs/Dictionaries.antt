@@ -1,6 +1,7 @@
 -- Dictionaries of either kind: the texts that give them, and the breaks of words.
 use Rattle.std.specs.Prelude.{ℕ, not, List, map, filter, Option}
 use Rattle.hyphenation_breaks.specs.Break.{Break, is_changed}
+use Rattle.hyphenation_breaks.specs.Dictionary.{entries_of_keys}
 use Rattle.hyphenation_grammar.specs.Judging.{refusal_of}
 use Rattle.hyphenation_grammar.specs.Reading.{break_as_listing, extended_contents, place_as_listing, standard_contents}
 use Rattle.hyphenation_grammar.specs.declared.Cause.{Cause}
@@ -9,6 +10,7 @@ use Rattle.hyphenation_grammar.specs.declared.form.Kind.TheVariants.{Standard, E
 use Rattle.hyphenation_hyphenator.specs.Fitting.{fitted_breaks_of}
 use Rattle.hyphenation_hyphenator.specs.Opportunities.{standard_rules, extended_rules, all_breaks_of}
 use Rattle.hyphenation_reader.specs.Edits.{after_edit}
+use Rattle.hyphenation_score.specs.Scoring.{own_change, scores, values}
 use Rattle.hyphenation_writer.specs.Canonical.{extended_text, standard_text}
 use Rattle.any_dictionary.specs.Kinds.{kind_in}
 use Rattle.any_dictionary.specs.declared.AnyDictionary.{AnyDictionary}
@@ -46,6 +48,11 @@ abbrev pub language_by : AnyDictionary → List ℕ
 language_by (of.Standard standard) = standard.language
 language_by (of.Extended extended) = extended.language
 
+-- The minima of a dictionary: the least numbers of characters of a word before its first break and after its last one.
+abbrev pub minima_by : AnyDictionary → ℕ × ℕ
+minima_by (of.Standard standard) = (standard.left, standard.right)
+minima_by (of.Extended extended) = (extended.left, extended.right)
+
 -- The dictionary after an edit of its exceptions.
 abbrev pub edited : AnyDictionary → List ℕ → AnyDictionary
 edited (of.Standard standard) edit = of.Standard (after_edit place_as_listing standard edit)
@@ -58,6 +65,10 @@ abbrev pub breaks_by : AnyDictionary → List ℕ → List Break
 breaks_by (of.Standard standard) word = all_breaks_of (standard_rules standard) word
 breaks_by (of.Extended extended) word = fitted_breaks_of (extended_rules extended) word
 
+-- The places of all breaks of a word as written.
+abbrev pub all_places_by : AnyDictionary → List ℕ → List ℕ
+all_places_by dictionary word = map (λ b. b.place) (breaks_by dictionary word)
+
 -- The places of the breaks that have no change.
 abbrev pub plain_places : List Break → List ℕ
 plain_places breaks = map (λ b. b.place) (filter (λ b. not (is_changed b)) breaks)
@@ -66,3 +77,10 @@ plain_places breaks = map (λ b. b.place) (filter (λ b. not (is_changed b)) bre
 -- does not end there.
 abbrev pub places_by : AnyDictionary → List ℕ → List ℕ
 places_by dictionary word = plain_places (breaks_by dictionary word)
+
+-- ---- the values of words
+
+-- The values of a word's places by the patterns alone, from place 1 on. A word in capitals has those of its capitals.
+abbrev pub values_by : AnyDictionary → List ℕ → List ℕ
+values_by (of.Standard standard) word = values (entries_of_keys standard) word
+values_by (of.Extended extended) word = map (λ s. s.value) (scores own_change (entries_of_keys extended) word)

@@ -11,35 +11,40 @@
 //! ```
 #![tactic(auto)]
 
-ghost use Rattle.std.specs.Prelude.{◌≡◌, List, ℕ, IsTrue, IsUtf8, IfErr, IfOk, IfSome, OnErr, OnOk, map, not};
+ghost use Rattle.std.specs.Prelude.{◌≡◌, [], List, ℕ, IsTrue, IsUtf8, IfErr, IfOk, IfSome, OnErr, OnOk, not};
 ghost use Rattle.std.specs.Io.KnownBytes.{IsAtEnd};
 ghost use Rattle.std.specs.String.{string_bytes};
-ghost use Rattle.hyphenation_breaks.specs.Break.{Break, ascend_on};
+ghost use Rattle.hyphenation_breaks.specs.Break.{ascend_on};
 ghost use Rattle.hyphenation_grammar.specs.Judging.{refusal_of};
 ghost use Rattle.hyphenation_hyphenator.specs.Hyphenated.{hyphenated_text};
 ghost use Rattle.hyphenation_hyphenator.specs.Opportunities.{Ascending};
 ghost use Rattle.hyphenation_load.specs.Load.{LoadsIn, RespectsLanguage, IsNotOutOfMemory};
 ghost use Rattle.hyphenation_reader.specs.Edits.{is_good_edit};
 ghost use Rattle.hyphenation_segments.specs.Fits.{Fits};
-ghost use Rattle.any_dictionary.specs.Dictionaries.{breaks_by, contents_as, edited, kind_by, language_by, plain_places, places_by};
+ghost use Rattle.any_dictionary.specs.Dictionaries.{all_places_by, breaks_by, contents_as, edited, kind_by, language_by};
+ghost use Rattle.any_dictionary.specs.Dictionaries.{minima_by, places_by, values_by};
 
+mod from_breaks;
 mod kinds;
 pub mod laws;
 mod loading;
+mod places;
+mod values;
 
-use hyphenation_breaks::breaks::Break;
+pub use from_breaks::FromBreaks;
+use from_breaks::collected;
 use hyphenation_breaks::language::Language;
 use hyphenation_dictionary::dictionary::{Extended, Standard};
 use hyphenation_grammar::form::Kind;
-use hyphenation_hyphenator::hyphenator::Hyphenator;
-use hyphenation_hyphenator::hyphenator::laws::plain_breaks_fit_where_ascending;
 use hyphenation_hyphenator::text::hyphenated_text;
 use hyphenation_load::{Load, Result as LoadResult};
 use hyphenation_reader::edits::apply_edit;
 use hyphenation_segments::Word;
 pub use kinds::kind_of;
+use places::{all_breaks_fit, put_breaks, put_places, with_all_breaks, with_unchanged};
 use std::alloc::{AllocError, Global};
 use std::io::Read;
+use values::{extended_values, standard_values};
 
 /// A dictionary of either kind.
 #[derive(Drop)]
@@ -103,6 +108,20 @@ impl AnyDictionary {
         }
     }
 
+    /// Returns the minima: the least numbers of characters of a word before its first break and after its last one.
+    ///
+    /// ```text
+    /// let (left, right) = dictionary.minima();    // (2, 3) for British English
+    /// ```
+    pub fn minima(&self) -> (usize, usize)
+        ensures { result ≡ minima_by self.now }
+    {
+        match self {
+            AnyDictionary::Standard(standard) => standard.minima(),
+            AnyDictionary::Extended(extended) => extended.minima(),
+        }
+    }
+
     /// A law for proofs: the breaks of every word fit it, so they ascend strictly on its character boundaries. So do the
     /// places of those that change no letters.
     ///
@@ -115,6 +134,28 @@ impl AnyDictionary {
         match self {
             AnyDictionary::Standard(standard) => all_breaks_fit(standard),
             AnyDictionary::Extended(extended) => all_breaks_fit(extended),
+        }
+    }
+
+    /// Returns whether the dictionary has the table that [`AnyDictionary::make_table`] makes.
+    pub fn has_table(&self) -> bool {
+        match self {
+            AnyDictionary::Standard(standard) => standard.has_table(),
+            AnyDictionary::Extended(extended) => extended.has_table(),
+        }
+    }
+
+    /// Makes the table by which words are scored faster, and returns whether the dictionary has one. The contents stay as
+    /// they are.
+    ///
+    /// It is that of [`Dictionary::make_table`](hyphenation_dictionary::dictionary::Dictionary::make_table), which a few
+    /// dictionaries can't have. The only error is out of memory; the dictionary can be used on as it was.
+    pub fn make_table(&mut self, alloc: Global) -> Result<bool, AllocError>
+        ensures { self.new ≡ self.old }
+    {
+        match self {
+            AnyDictionary::Standard(standard) => standard.make_table(alloc),
+            AnyDictionary::Extended(extended) => extended.make_table(alloc),
         }
     }
 
@@ -174,6 +215,20 @@ impl AnyDictionary {
         ensures contents { self.new ≡ self.old }
     {
         let _made = self.make_table_for(alloc, text.len())?;
+        self.marked(alloc, text, mark)
+    }
+
+    /// Returns the text of [`hyphenated`](AnyDictionary::hyphenated), and makes no table for it.
+    ///
+    /// So a dictionary that others read at the same time can give it. The only error is out of memory.
+    ///
+    /// ```text
+    /// dictionary.marked(alloc, "Hyphenation, again.", "-")?     // Hy-phen-a-tion, again.
+    /// ```
+    pub fn marked(&self, alloc: Global, text: &str, mark: &str) -> Result<String, AllocError>
+        ensures { IfOk result (λ output. string_bytes output
+            ≡ hyphenated_text (breaks_by self.now) mark.now text.now) }
+    {
         match self {
             AnyDictionary::Standard(standard) => hyphenated_text(alloc, standard, text, mark),
             AnyDictionary::Extended(extended) => hyphenated_text(alloc, extended, text, mark),
@@ -201,55 +256,61 @@ impl AnyDictionary {
             AnyDictionary::Extended(extended) => with_unchanged(alloc, extended, word),
         }
     }
-}
-
-// Gives proofs that the breaks of a dictionary fit every word, and those without a change ascend on it.
-fn all_breaks_fit<'h, H: Hyphenator<'h>>(dictionary: &H)
-    ensures fit { (word : List ℕ) → IsUtf8 word → Fits word (H.breaks_of dictionary.now word) }
-    ensures ascend { (word : List ℕ) → IsUtf8 word → Ascending word (H.breaks_of dictionary.now word) }
-    ensures places { (word : List ℕ) → IsUtf8 word
-        → IsTrue (ascend_on word 0 (plain_places (H.breaks_of dictionary.now word))) }
-{
-    dictionary.breaks_fit();
-}
-
-// Returns a word with its breaks, where none changes letters. It takes no second list.
-fn with_all_breaks<'h, 't, H: Hyphenator<'h, Opportunity = usize>>(
-    alloc: Global,
-    dictionary: &'h H,
-    word: &'t str,
-) -> Result<Word<'t, usize>, AllocError>
-    ensures text { IfOk result (λ w. w.text.now ≡ word.now) }
-    ensures places { IfOk result (λ w. w.breaks.items ≡ plain_places (H.breaks_of dictionary.now word.now)) }
-{
-    dictionary.hyphenate(alloc, word)
-}
-
-// Returns a word with the breaks that change nothing.
-fn with_unchanged<'h, 't, H: Hyphenator<'h>>(
-    alloc: Global,
-    dictionary: &'h H,
-    word: &'t str,
-) -> Result<Word<'t, usize>, AllocError>
-    ensures text { IfOk result (λ w. w.text.now ≡ word.now) }
-    ensures places { IfOk result (λ w. w.breaks.items ≡ plain_places (H.breaks_of dictionary.now word.now)) }
-{
-    plain_breaks_fit_where_ascending();
-    all_breaks_fit(dictionary);
-    let breaks = dictionary.breaks(alloc, word)?;
-    let places = plain_places(alloc, &breaks)?;
-    Ok(Word::new(word, places))
-}
-
-// Returns the places of the breaks that change nothing.
-fn plain_places<B: Break>(alloc: Global, breaks: &[B]) -> Result<Vec<usize>, AllocError>
-    ensures { IfOk result (λ places. places.items ≡ plain_places (map B.meaning breaks.now)) }
-{
-    let mut places = Vec::new(alloc);
-    for b in breaks {
-        if !b.changed() {
-            places.push(b.place())?;
+    /// Puts the places of all breaks of a word as written into a list, in place of what it held.
+    ///
+    /// A caller with many words keeps one list: a standard dictionary takes memory for it alone. The only error is out of
+    /// memory, and after it the list is empty.
+    ///
+    /// ```text
+    /// let mut places = Vec::new(alloc);
+    /// dictionary.places_into(alloc, "Hyphenation", &mut places)?;      // 2, 6, 7
+    /// ```
+    pub fn places_into(
+        &self,
+        alloc: Global,
+        word: &str,
+        places: &mut Vec<usize>,
+    ) -> Result<(), AllocError>
+        ensures places { OnOk result (places.new.items ≡ all_places_by self.now word.now) }
+        ensures empty_on_error { OnErr result (places.new.items ≡ []) }
+    {
+        match self {
+            AnyDictionary::Standard(standard) => put_breaks(standard, word, places),
+            AnyDictionary::Extended(extended) => put_places(alloc, extended, word, places),
         }
     }
-    Ok(places)
+
+    /// Returns a value made of a word as written with all its breaks. The only error is out of memory.
+    ///
+    /// Breaks of a standard dictionary have another type than those of an extended one. So the type that is asked for is
+    /// made of breaks of any type ([`FromBreaks`]), and neither kind pays for the other.
+    ///
+    /// ```text
+    /// let marked: Marked = dictionary.collect_breaks(alloc, "Hyphenation")?;
+    /// ```
+    pub fn collect_breaks<M: FromBreaks>(&self, alloc: Global, word: &str) -> Result<M, AllocError>
+        ensures { IfOk result (λ made. M.is_of made (breaks_by self.now word.now)) }
+    {
+        match self {
+            AnyDictionary::Standard(standard) => collected(alloc, standard, word),
+            AnyDictionary::Extended(extended) => collected(alloc, extended, word),
+        }
+    }
+
+    /// Returns the values of a word's places by the patterns alone, from place 1 on.
+    ///
+    /// The word is taken as it is written: capitals are not made small, and neither exceptions nor minima play a part. The
+    /// only error is out of memory.
+    ///
+    /// ```text
+    /// dictionary.values(alloc, "firkin")?      // 0, 2, 5, 2, 0: an odd value allows a break
+    /// ```
+    pub fn values(&self, alloc: Global, word: &str) -> Result<Vec<u8>, AllocError>
+        ensures { IfOk result (λ values. values.items ≡ values_by self.now word.now) }
+    {
+        match self {
+            AnyDictionary::Standard(standard) => standard_values(alloc, standard, word),
+            AnyDictionary::Extended(extended) => extended_values(alloc, extended, word),
+        }
+    }
 }

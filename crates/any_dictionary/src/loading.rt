@@ -1,8 +1,10 @@
-//! Loading dictionaries of the kind that the first lines of their texts name, and writing them.
+//! Loading dictionaries, of a given kind or of the one that the first lines of their texts name, and writing them.
 
-ghost use Rattle.std.specs.Prelude.{◌≡◌, IfErr, IfOk, List, ℕ, MatchResult};
+ghost use Rattle.std.specs.Prelude.{◌≡◌, IfErr, IfOk, List, None, ℕ, MatchResult, OnOk};
+ghost use Rattle.hyphenation_grammar.specs.Judging.{refusal_of};
 ghost use Rattle.hyphenation_load.specs.Load.{Loads, IsNotIo};
-ghost use Rattle.any_dictionary.specs.Dictionaries.{contents_of, language_by, refusal_by_head};
+ghost use Rattle.hyphenation_reader.specs.Refusals.{IsRefusal};
+ghost use Rattle.any_dictionary.specs.Dictionaries.{contents_as, contents_of, language_by, refusal_by_head};
 ghost use Rattle.any_dictionary.specs.Private.Loading.{ChecksLanguage};
 
 use crate::AnyDictionary;
@@ -12,6 +14,7 @@ use hyphenation_breaks::language::Language;
 use hyphenation_dictionary::dictionary::{Extended, Standard};
 use hyphenation_grammar::form::Kind;
 use hyphenation_load::{Error, Load, Result, error_of_reading, open_dictionary, read_all};
+use hyphenation_reader::reader::{Refusal, read_extended, read_standard};
 use named_files::NamedFiles;
 use std::alloc::{AllocError, Global};
 use std::io;
@@ -40,6 +43,30 @@ fn of_language(lang: Language, dictionary: AnyDictionary) -> Result<AnyDictionar
         });
     }
     Ok(dictionary)
+}
+
+impl AnyDictionary {
+    /// Reads a dictionary of that kind, of any language, from its text.
+    ///
+    /// A text of the other kind is refused for its first line. The error is the first fault of the text, or out of memory.
+    ///
+    /// ```text
+    /// AnyDictionary::read(alloc, Kind::Extended, b"hyphenation 1 extended\nlanguage hu\nminima 2 2\n")?
+    /// ```
+    pub fn read(
+        alloc: Global,
+        kind: Kind,
+        text: &[u8],
+    ) -> std::result::Result<AnyDictionary, Refusal>
+        ensures accepted { OnOk result (refusal_of kind text.now ≡ None) }
+        ensures contents { IfOk result (λ dictionary. dictionary ≡ contents_as kind text.now) }
+        ensures refused { IfErr result (λ refusal. IsRefusal refusal (refusal_of kind text.now)) }
+    {
+        match kind {
+            Kind::Standard => Ok(AnyDictionary::Standard(read_standard(alloc, text)?)),
+            Kind::Extended => Ok(AnyDictionary::Extended(read_extended(alloc, text)?)),
+        }
+    }
 }
 
 impl Load for AnyDictionary {

@@ -1,5 +1,5 @@
 use Rattle.any_dictionary.proofs.PlainPlaces.{plain_ascend}
-use Rattle.any_dictionary.proofs.all_breaks_fit.Goals as goal
+use Rattle.any_dictionary.proofs.places.all_breaks_fit.Goals as goal
 
 pub returns-clause-places : goal.returns-clause-places
 returns-clause-places g c =
