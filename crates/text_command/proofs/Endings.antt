@@ -11,18 +11,19 @@ use Rattle.command_line.specs.declared.options.OptionForm.{OptionForm}
 use Rattle.hyphenation_load.specs.Load.{AppendsTo}
 use Rattle.replaced_files.specs.Files.{WrittenFiles, WritesFiles}
 use Rattle.text_command.specs.Arguments.{ParsedArgs, IsParsed, names_of, option_names, parsed_by}
-use Rattle.text_command.specs.Written.{AreResults, EndsFor, IsFailureFor, IsFailureOfWriting, WritesResults, files_of, names_files_alone, output_of}
+use Rattle.text_command.specs.Written.{AreResults, EndsFor, IsFailureBefore, names_files_alone}
+use Rattle.text_results.specs.Written.{IsFailureFor, IsFailureOfWriting, WritesResults, files_of, output_of}
 
 pub ends_done : {W S : Type 0} (parsed : Result ParsedArgs RefusedArgument) (args : ParsedArgs) (bytes_of : KnownFiles) (folders : List (List ℕ)) (left : Option (List ℕ))
     (contents : W → Option (List ℕ)) (old new : W) (written : S → Option WrittenFiles) (old_files new_files : S) → parsed ≡ Ok args
-    → WritesResults args bytes_of folders left contents old new written old_files new_files
+    → WritesResults (AreResults args bytes_of folders left) args.options.target args.inputs contents old new written old_files new_files
     → EndsFor parsed bytes_of folders left 0 contents old new written old_files new_files
 ends_done parsed args bytes_of folders left contents old new written old_files new_files e writes =
     subst (λ (p : Result ParsedArgs RefusedArgument). EndsFor p bytes_of folders left 0 contents old new written old_files new_files) (sym e) (inl (refl, writes))
 
 pub ends_by : {W S : Type 0} (parsed : Result ParsedArgs RefusedArgument) (args : ParsedArgs) (bytes_of : KnownFiles) (folders : List (List ℕ)) (left : Option (List ℕ))
     (status : ℕ) (failure : Failure) (contents : W → Option (List ℕ)) (old new : W) (written : S → Option WrittenFiles) (old_files new_files : S) → parsed ≡ Ok args
-    → status ≡ status_of failure → IsFailureFor args bytes_of folders left written old_files new_files failure → ((failure ≡ failed.Output) ⊎ (new ≡ old))
+    → status ≡ status_of failure → IsFailureFor (AreResults args bytes_of folders left) (IsFailureBefore args bytes_of folders left) args.options.target args.inputs written old_files new_files failure → ((failure ≡ failed.Output) ⊎ (new ≡ old))
     → EndsFor parsed bytes_of folders left status contents old new written old_files new_files
 ends_by parsed args bytes_of folders left status failure contents old new written old_files new_files e s fails kept =
     subst (λ (p : Result ParsedArgs RefusedArgument). EndsFor p bytes_of folders left status contents old new written old_files new_files) (sym e) (inr (failure, s, fails, kept))
@@ -55,7 +56,7 @@ pub writes_given : {W S T E : Type 0} (result : Result T E) (args : ParsedArgs) 
     → names ≡ args.inputs → given ≡ results → AreResults args bytes_of folders left results
     → OnOk result (AppendsTo contents old new (output_of args.options.target given))
     → OnOk result (WritesFiles (written old_files) (written new_files) (files_of args.options.target names given))
-    → OnOk result (WritesResults args bytes_of folders left contents old new written old_files new_files)
+    → OnOk result (WritesResults (AreResults args bytes_of folders left) args.options.target args.inputs contents old new written old_files new_files)
 writes_given (Ok x) args bytes_of folders left contents old new written old_files new_files names given results n r are output files = (
   given,
   subst (λ (rs : List (List ℕ)). AreResults args bytes_of folders left rs) (sym r) are,
@@ -68,7 +69,7 @@ pub fails_given : {S T : Type 0} (result : Result T Failure) (args : ParsedArgs)
     (written : S → Option WrittenFiles) (old_files new_files : S) (names given results : List (List ℕ))
     → names ≡ args.inputs → given ≡ results → AreResults args bytes_of folders left results
     → IfErr result (IsFailureOfWriting args.options.target names given (written old_files) (written new_files))
-    → IfErr result (IsFailureFor args bytes_of folders left written old_files new_files)
+    → IfErr result (IsFailureFor (AreResults args bytes_of folders left) (IsFailureBefore args bytes_of folders left) args.options.target args.inputs written old_files new_files)
 fails_given (Ok x) args bytes_of folders left written old_files new_files names given results n r are fails = tt
 fails_given (Err failure) args bytes_of folders left written old_files new_files names given results n r are fails =
     inr (

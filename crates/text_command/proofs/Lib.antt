@@ -1,4 +1,3 @@
 pub mod Requests
 pub mod Runs
-pub mod Files
 pub mod Endings

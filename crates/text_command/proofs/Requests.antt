@@ -1,37 +1,10 @@
--- Names of texts.
-use Rattle.std.proofs.Common.{◌≡◌, ℕ, ◌<◌, Bool, true, false, List, [], ◌∷◌, None, Ok, Err, IfErr, Option, length, refl, ap, sym, subst, ◌∙◌, arith, cond}
-use Rattle.std.specs.Borrow.{Bor}
-use Rattle.std.specs.List.{list_any}
+-- Arguments that are refused.
+use Rattle.std.proofs.Common.{◌≡◌, ℕ, List, Ok, IfErr, Option, ap, sym, subst, ◌∙◌}
 use Rattle.std.specs.Prelude.{Result, codes}
-use Rattle.command_line.specs.Inputs.{is_standard_input}
-use Rattle.command_line.specs.Options.{ReadArguments, RefusedArgument, refused, after_step, last_value}
+use Rattle.command_line.specs.Options.{ReadArguments, RefusedArgument, after_step, last_value}
 use Rattle.command_line.specs.Reading.{IsReadError}
-use Rattle.command_line.specs.declared.options.Expected.TheVariants.{NoMore, Operand}
 use Rattle.command_line.specs.declared.options.ReadError.{ReadError}
-use Rattle.hyphenation_breaks.specs.Borrowed.{texts_now}
-use Rattle.text_command.specs.Arguments.{ParsedArgs, ParsedOptions, args_as_read, args_of, inputs_of, options_of, replaced_of}
-
--- Texts that are named are those.
-pub some_inputs : (names : List (Bor (List ℕ))) → 0 < length names → inputs_of (texts_now names) ≡ texts_now names
-some_inputs [] some = absurd (omega (arith, some))
-some_inputs (name ∷ names) some = refl
-
-pub no_replaced : (names : List (Bor (List ℕ))) → length names ≡ 0 → replaced_of (texts_now names) ≡ Err (refused (codes "FILE") None Operand)
-no_replaced [] none = refl
-no_replaced (name ∷ names) none = absurd (omega (arith, none))
-
-by_input : (all : List (List ℕ)) (t is : Bool) → t ≡ is
-    → cond {A = Result (List (List ℕ)) RefusedArgument} t (Err (refused (codes "-") None NoMore)) (Ok all) ≡ cond is (Err (refused (codes "-") None NoMore)) (Ok all)
-by_input all t is e = ap (λ b. cond {A = Result (List (List ℕ)) RefusedArgument} b (Err (refused (codes "-") None NoMore)) (Ok all)) e
-
-pub some_replaced : (names : List (Bor (List ℕ))) → 0 < length names → list_any is_standard_input (texts_now names) ≡ false → replaced_of (texts_now names) ≡ Ok (texts_now names)
-some_replaced [] some none = absurd (omega (arith, some))
-some_replaced (name ∷ names) some none = by_input (texts_now (name ∷ names)) (list_any is_standard_input (texts_now (name ∷ names))) false none
-
-pub input_replaced : (names : List (Bor (List ℕ))) → 0 < length names → list_any is_standard_input (texts_now names) ≡ true
-    → replaced_of (texts_now names) ≡ Err (refused (codes "-") None NoMore)
-input_replaced [] some one = absurd (omega (arith, some))
-input_replaced (name ∷ names) some one = by_input (texts_now (name ∷ names)) (list_any is_standard_input (texts_now (name ∷ names))) true one
+use Rattle.text_command.specs.Arguments.{ParsedArgs, ParsedOptions, args_as_read, args_of, options_of}
 
 -- Operands that are refused after the options.
 pub refused_as : {A : Type 0} (read : ReadArguments) (options : ParsedOptions) (language : Option (List ℕ)) (operands : List (List ℕ)) (result : Result A ReadError)

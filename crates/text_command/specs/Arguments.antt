@@ -1,19 +1,12 @@
 -- How the program `hyphenate-text` reads its arguments.
-use Rattle.std.specs.Prelude.{◌≡◌, ℕ, Bool, true, false, if◌then◌else◌, List, [], ◌∷◌, codes, map, Option, Some, None, Result, Ok, Err, unwrap_or}
+use Rattle.std.specs.Prelude.{◌≡◌, ℕ, Bool, true, false, List, [], ◌∷◌, codes, map, Option, Some, None, Result, Ok, Err, unwrap_or}
 use Rattle.std.specs.Borrow.{Bor}
-use Rattle.std.specs.List.{list_any}
 use Rattle.hyphenation_breaks.specs.Borrowed.{texts_now}
-use Rattle.command_line.specs.Inputs.{is_standard_input}
 use Rattle.command_line.specs.Options.{GivenOption, ReadArguments, RefusedArgument, refused, after_step, read_arguments, is_given, last_value, number_given}
-use Rattle.command_line.specs.declared.options.Expected.TheVariants.{NoMore, Operand}
+use Rattle.command_line.specs.declared.options.Expected.TheVariants.{Operand}
 use Rattle.command_line.specs.declared.options.OptionForm.{OptionForm}
+use Rattle.text_results.specs.Targets.{Target, target_of, names_for}
 use Rattle.text_command.specs.declared.request.TheConstants.{SOFT_HYPHEN}
-
--- Where results go: to the output, to the file at a path, or each to the file from which its text came.
-pub data Target : Type 0 where
-  ToOutput : Target
-  ToFile : List ℕ → Target
-  InPlace : Target
 
 -- The options: the mark; the least number of characters of a word that is broken; whether words that begin with a capital
 -- are left alone; where results go.
@@ -29,16 +22,6 @@ pub record ParsedArgs : Type 0 where
   pub dictionary : List ℕ
   pub inputs : List (List ℕ)
 
--- Where results go, if there is the path of an output, or not, and each text is replaced, or not. Both are refused.
-abbrev pub target_by : Option (List ℕ) → Bool → Result Target RefusedArgument
-target_by (Some path) in_place =
-    if in_place then Err (refused (codes "--in-place") None NoMore) else Ok (ToFile path)
-target_by None in_place = if in_place then Ok InPlace else Ok ToOutput
-
--- Where results go, by the options that are given.
-abbrev pub target_of : List GivenOption → Result Target RefusedArgument
-target_of given = target_by (last_value (codes "--output") given) (is_given (codes "--in-place") given)
-
 -- The options by those that are given. The last of those of one name counts. The first that is refused decides, in this
 -- order.
 abbrev pub options_of : List GivenOption → Result ParsedOptions RefusedArgument
@@ -51,24 +34,6 @@ options_of given =
     }))
     (target_of given))
     (number_given (codes "--min-word") 0 65535 0 given)
-
--- The names of texts: standard input, if none is named.
-abbrev pub inputs_of : List (List ℕ) → List (List ℕ)
-inputs_of [] = codes "-" ∷ []
-inputs_of (name ∷ names) = name ∷ names
-
--- The names of texts that are replaced: at least one, and none is standard input.
-abbrev pub replaced_of : List (List ℕ) → Result (List (List ℕ)) RefusedArgument
-replaced_of [] = Err (refused (codes "FILE") None Operand)
-replaced_of (name ∷ names) =
-    if list_any is_standard_input (name ∷ names) then Err (refused (codes "-") None NoMore)
-    else Ok (name ∷ names)
-
--- The names of texts whose results go there.
-abbrev pub names_for : Target → List (List ℕ) → Result (List (List ℕ)) RefusedArgument
-names_for ToOutput names = Ok (inputs_of names)
-names_for (ToFile path) names = Ok (inputs_of names)
-names_for InPlace names = replaced_of names
 
 -- The arguments of options, a dictionary and the names of texts.
 abbrev pub args_with : ParsedOptions → List ℕ → List (List ℕ) → Result ParsedArgs RefusedArgument

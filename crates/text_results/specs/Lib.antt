@@ -1,0 +1,5 @@
+pub mod Private
+pub mod Targets
+pub mod Texts
+pub mod Written
+pub mod Reading

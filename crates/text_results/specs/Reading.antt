@@ -1,0 +1,36 @@
+-- Targets and texts in code, as the definitions have them.
+use Rattle.std.specs.Prelude.{◌≡◌, ℕ, List, map, Option, Result, Ok, Err}
+use Rattle.std.specs.Borrow.{Bor}
+use Rattle.std.specs.String.{string_bytes}
+use Rattle.std.specs.declared.string.String.{String}
+use Rattle.hyphenation_breaks.specs.Borrowed.{texts_now}
+use Rattle.command_line.specs.Options.{RefusedArgument}
+use Rattle.command_line.specs.Reading.{as_refused}
+use Rattle.command_line.specs.declared.failure.Failure.{Failure}
+use Rattle.command_line.specs.declared.options.BadArgument.{BadArgument}
+use Rattle.replaced_files.specs.Files.{WrittenFiles}
+use Rattle.text_results.specs.Targets.{Target, ToOutput, ToFile, InPlace}
+use Rattle.text_results.specs.Written.{files_of, IsFailureOfWriting}
+use Rattle.text_results.specs.declared.targets.Target as code
+use Rattle.text_results.specs.declared.targets.Target.TheVariants as goes
+
+-- Where results go.
+abbrev pub as_target : code.Target → Target
+as_target goes.Output = ToOutput
+as_target (goes.File path) = ToFile path.now
+as_target goes.InPlace = InPlace
+
+-- A target is the wanted one, or the wanted refusal.
+abbrev pub IsTarget : Result code.Target BadArgument → Result Target RefusedArgument → Type 0
+IsTarget (Ok target) wanted = wanted ≡ Ok (as_target target)
+IsTarget (Err bad) wanted = wanted ≡ Err (as_refused bad)
+
+-- The files that get results where these go to a target.
+abbrev pub files_for : {Z : Type 0} → code.Target → List (Bor (List ℕ)) → List (String Z) → WrittenFiles
+files_for target inputs results = files_of (as_target target) (texts_now inputs) (map string_bytes results)
+
+-- The failure of writing results to a target.
+abbrev pub IsFailureOfTarget : {Z : Type 0} → code.Target → List (Bor (List ℕ)) → List (String Z) → Option WrittenFiles
+    → Option WrittenFiles → Failure → Type 0
+IsFailureOfTarget target inputs results old new =
+    IsFailureOfWriting (as_target target) (texts_now inputs) (map string_bytes results) old new
