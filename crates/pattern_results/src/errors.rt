@@ -32,7 +32,13 @@ pub enum FileCause {
     Nothing,
 }
 
+/// Writes what is wrong in the line, as `two digits or two hyphens in one place`.
 impl fmt::Display for FileCause {
+    ghost use Rattle.std.specs.Prelude.{Some};
+    ghost use Rattle.pattern_results.specs.Messages.{fault_message};
+
+    ghost output = { λ cause. Some (fault_message cause) };
+
     fn fmt<W: fmt::Write>(&self, f: &mut fmt::Formatter<W>) -> fmt::Result {
         f.write_str(match self {
             FileCause::Command => "a TeX command or group within patterns or exceptions",

@@ -36,7 +36,13 @@ pub enum NoteKind {
     ExceptionRepeated,
 }
 
+/// Writes what was left out or decided, as `a repeated pattern: the last is taken`.
 impl fmt::Display for NoteKind {
+    ghost use Rattle.std.specs.Prelude.{Some};
+    ghost use Rattle.pattern_results.specs.Messages.{note_message};
+
+    ghost output = { λ kind. Some (note_message kind) };
+
     fn fmt<W: fmt::Write>(&self, f: &mut fmt::Formatter<W>) -> fmt::Result {
         f.write_str(match self {
             NoteKind::Setting => "a setting that a dictionary text can't say, left out",
