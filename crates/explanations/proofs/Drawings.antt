@@ -3,7 +3,7 @@ use Rattle.std.proofs.Common.{◌≡◌, ℕ, ◌+◌, ◌<◌, List, ◌∷◌,
 use Rattle.explanations.specs.Drawings.{drawn}
 use Rattle.explanations.specs.Svg.{Drawn, group, groups}
 use Rattle.explanations.specs.declared.svg_document.Drawing.{Drawing}
-use Rattle.explanations.proofs.Spaces.{pushed_more}
+use Rattle.explanations.proofs.Pieces.{pushed_more}
 
 -- Five pieces, appended one after the other.
 pub five_pieces : (t0 t1 t2 t3 t4 t5 p1 p2 p3 p4 p5 : List ℕ) → t1 ≡ t0 ++ p1 → t2 ≡ t1 ++ p2 → t3 ≡ t2 ++ p3 → t4 ≡ t3 ++ p4 → t5 ≡ t4 ++ p5 → t5 ≡ t0 ++ (p1 ++ (p2 ++ (p3 ++ (p4 ++ p5))))

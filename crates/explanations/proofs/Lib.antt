@@ -1,6 +1,6 @@
 pub mod RowsSoFar
 pub mod Prefixes
-pub mod Spaces
+pub mod Pieces
 pub mod Walks
 pub mod Scores
 pub mod Explaining

@@ -1,6 +1,7 @@
 pub mod Rows
 pub mod Decisions
 pub mod Lines
+pub mod Columns
 pub mod Picture
 pub mod Svg
 pub mod Drawings

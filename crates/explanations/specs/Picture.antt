@@ -1,27 +1,34 @@
 -- The facts about a word's breaks as a picture for people: lines whose spaces put each letter below itself.
-use Rattle.std.specs.Prelude.{ℕ, ◌+◌, ◌-◌, ◌==◌, if◌then◌else◌, not, List, [], ◌∷◌, ◌++◌, length, codes, filter, find, Option, Some, None, option_map, decimal, slice_get, slice_range, flat_map}
-use Rattle.std.specs.List.{range_with_len}
-use Rattle.std.specs.Option.{option_map_or}
+use Rattle.std.specs.Prelude.{ℕ, ◌+◌, ◌-◌, ◌==◌, if◌then◌else◌, List, [], ◌∷◌, ◌++◌, codes, find, replicate, Option, Some, None, option_map, decimal, slice_get, slice_index, slice_range, flat_map}
 use Rattle.hyphenation_breaks.specs.Ascii.{space, line_feed}
 use Rattle.hyphenation_breaks.specs.Break.{Change, before_of, after_of, is_boundary}
 use Rattle.hyphenation_breaks.specs.declared.entry.Entry.{Entry}
 use Rattle.hyphenation_score.specs.Scoring.{Scored}
+use Rattle.explanations.specs.Columns.{Columns, value_columns, indent, first_letter, rest_after, rest_after_word}
 use Rattle.explanations.specs.Rows.{PatternRow}
 use Rattle.explanations.specs.declared.facts.Decision.{Decision}
 use Rattle.explanations.specs.declared.facts.Decision.TheVariants.{SoftHyphens, TooShort, Exception, Patterns}
 
--- A text without its spaces.
-abbrev pub without_spaces : List ℕ → List ℕ
-without_spaces text = filter (λ b. not (b == space)) text
+-- So many spaces.
+abbrev pub spaces : ℕ → List ℕ
+spaces count = replicate count space
 
--- A value in decimal; nothing without one.
-abbrev pub value_text : Option ℕ → List ℕ
-value_text value = option_map_or decimal value []
+-- A value at the end of so many columns; spaces without one.
+abbrev pub placed_value : ℕ → Option ℕ → List ℕ
+placed_value columns None = spaces columns
+placed_value columns (Some value) = spaces (columns - value_columns value) ++ decimal value
 
--- A text with a value, or none, before each byte and at its end.
-abbrev pub letters_with : (ℕ → Option ℕ) → List ℕ → List ℕ
-letters_with value_at text =
-    flat_map (λ place. value_text (value_at place) ++ slice_range text place (place + 1)) (range_with_len 0 (length text + 1))
+-- A text that starts at this place of the frame, from one of its own places on: before each byte the columns for the value
+-- of its place, with the value if it has one. At the end the value alone.
+abbrev pub letters_below : Columns → ℕ → (ℕ → Option ℕ) → ℕ → List ℕ → List ℕ
+letters_below columns start value_at place [] = placed_value 0 (value_at place)
+letters_below columns start value_at place (byte ∷ bytes) =
+    placed_value (slice_index columns.values (start + place)) (value_at place)
+    ++ byte ∷ letters_below columns start value_at (place + 1) bytes
+
+-- The line of the frame: its bytes, each after the columns for a value.
+abbrev pub frame_line : Columns → List ℕ → List ℕ
+frame_line columns framed = letters_below columns 0 (λ _. None) 0 framed ++ line_feed ∷ []
 
 -- The value that entries have at a place.
 abbrev pub entry_value : {C : Type 0} → List (Entry C) → ℕ → Option ℕ
@@ -60,18 +67,25 @@ entry_note change_of entry = change_note entry.value (change_of entry.change)
 abbrev pub score_note : Scored → List ℕ
 score_note score = change_note score.value score.change
 
--- The line of a pattern: its text with its values, and the changes of these.
-abbrev pub row_line : {C : Type 0} → (C → Option Change) → List ℕ → PatternRow C → List ℕ
-row_line change_of framed row =
-    letters_with (entry_value row.entries) (slice_range framed row.start (row.start + row.bytes))
-    ++ (flat_map (entry_note change_of) row.entries ++ line_feed ∷ [])
+-- The line of a pattern: its text with its values, below the frame, and the changes of these.
+abbrev pub row_line : {C : Type 0} → (C → Option Change) → Columns → List ℕ → PatternRow C → List ℕ
+row_line change_of columns framed row = spaces (indent columns row.start)
+    ++ (letters_below columns row.start (entry_value row.entries) 0 (slice_range framed row.start (row.start + row.bytes))
+    ++ (flat_map (entry_note change_of) row.entries ++ line_feed ∷ []))
+
+-- A word with the value of each place between two characters.
+abbrev pub scored_letters : Columns → List ℕ → List Scored → List ℕ
+scored_letters columns folded scores = letters_below columns 1 (score_value folded scores) 0 folded
+
+-- A word with its values, below the word, and the spaces up to the words about it.
+abbrev pub scored_word : Columns → List ℕ → List Scored → List ℕ
+scored_word columns folded scores = spaces (indent columns 1)
+    ++ (scored_letters columns folded scores ++ spaces (rest_after_word columns))
 
 -- The line of a word's scores: its letters with the value of each place, and the changes of these.
-abbrev pub score_line : List ℕ → List Scored → List ℕ
-score_line folded scores =
-    letters_with (score_value folded scores) folded
-    ++ (codes "  the greatest value of each place"
-    ++ (flat_map score_note scores ++ line_feed ∷ []))
+abbrev pub score_line : Columns → List ℕ → List Scored → List ℕ
+score_line columns folded scores = scored_word columns folded scores
+    ++ (codes "  the greatest value of each place" ++ (flat_map score_note scores ++ line_feed ∷ []))
 
 -- Two numbers, the minima, after a text.
 abbrev pub with_minima : List ℕ → ℕ × ℕ → List ℕ
@@ -84,7 +98,11 @@ decision_text TooShort minima = with_minima (codes "too few characters for the m
 decision_text Exception minima = with_minima (codes "the breaks of an exception within the minima ") minima
 decision_text Patterns minima = with_minima (codes "odd values within the minima ") minima
 
--- The line of a word with its breaks, and the fact that decides.
-abbrev pub break_line_of : List ℕ → Decision → ℕ × ℕ → List ℕ
-break_line_of hyphenated decision minima =
-    hyphenated ++ (codes "  " ++ (decision_text decision minima ++ line_feed ∷ []))
+-- A text below the word's first letter, and the spaces up to the words about it.
+abbrev pub word_below : Columns → List ℕ → List ℕ
+word_below columns text = spaces (first_letter columns) ++ (text ++ spaces (rest_after columns text))
+
+-- The line of a word with its breaks, below the word, and the fact that decides.
+abbrev pub break_line_of : Columns → List ℕ → Decision → ℕ × ℕ → List ℕ
+break_line_of columns hyphenated decision minima =
+    word_below columns hyphenated ++ (codes "  " ++ (decision_text decision minima ++ line_feed ∷ []))

@@ -12,7 +12,8 @@ use Rattle.hyphenation_score.specs.Scoring.{Scored, frame, scores}
 use Rattle.hyphenation_segments.specs.Segments.{marked_word}
 use Rattle.explanations.specs.Decisions.{decision_by}
 use Rattle.explanations.specs.Lines.{named_line, text_line, pattern_line, score_fields, bound_fields, number_field, exception_line, decision_name, place_field}
-use Rattle.explanations.specs.Picture.{without_spaces, row_line, score_line, break_line_of, decision_text}
+use Rattle.explanations.specs.Columns.{Columns, columns_above}
+use Rattle.explanations.specs.Picture.{frame_line, row_line, score_line, break_line_of, decision_text}
 use Rattle.explanations.specs.Rows.{PatternRow, AreAllOccurrences}
 use Rattle.explanations.specs.Svg.{Drawn, columns_from, note_column, word_column, word_title, frame_row, pattern_rows, scores_row, row_element, breaks_row, scores_note, longest_note, document_of}
 use Rattle.explanations.specs.declared.facts.Decision.{Decision}
@@ -65,15 +66,15 @@ lines_of change_of facts =
     ++ (named_line (codes "breaks") (flat_map place_field facts.breaks)
     ++ text_line (codes "hyphenated") (hyphenated facts))))))))))
 
--- The line of the frame, above the rows.
-abbrev pub frame_line : List ℕ → List ℕ
-frame_line folded = frame folded ++ line_feed ∷ []
+-- The picture for people, by the columns of the frame.
+abbrev pub picture_at : {C : Type 0} → (C → Option Change) → Columns → Facts C → List ℕ
+picture_at change_of columns facts =
+    frame_line columns (frame facts.folded) ++ (flat_map (row_line change_of columns (frame facts.folded)) facts.rows
+    ++ (score_line columns facts.folded facts.scores ++ break_line_of columns (hyphenated facts) facts.decision facts.minima))
 
--- The picture for people, without the spaces that put letters below one another.
+-- The picture for people.
 abbrev pub picture_of : {C : Type 0} → (C → Option Change) → Facts C → List ℕ
-picture_of change_of facts =
-    frame_line facts.folded ++ (flat_map (row_line change_of (frame facts.folded)) facts.rows
-    ++ (score_line facts.folded facts.scores ++ break_line_of (hyphenated facts) facts.decision facts.minima))
+picture_of change_of facts = picture_at change_of (columns_above (frame facts.folded) facts.rows) facts
 
 -- The elements of a drawing, by the columns of the frame and the place of the notes.
 abbrev pub drawn_rows : {C : Type 0} → (C → Option Change) → List ℕ → ℕ → Facts C → List ℕ
@@ -102,10 +103,10 @@ abbrev pub drawing_of : {C : Type 0} → (C → Option Change) → Facts C → D
 drawing_of change_of facts = drawing_at change_of (columns_from 1 (chars (frame facts.folded)))
     (12 * note_column (columns_from 1 (chars (frame facts.folded))) (frame facts.folded) (hyphenated facts)) facts
 
--- The text is that of the facts in this style. A picture may have any spaces.
+-- The text is that of the facts in this style.
 abbrev pub IsTextOf : {C : Type 0} → Style → (C → Option Change) → Facts C → List ℕ → Type 0
 IsTextOf Lines change_of facts text = text ≡ lines_of change_of facts
-IsTextOf Picture change_of facts text = without_spaces text ≡ without_spaces (picture_of change_of facts)
+IsTextOf Picture change_of facts text = text ≡ picture_of change_of facts
 IsTextOf Svg change_of facts text = text ≡ document_of (drawing_of change_of facts ∷ [])
 
 -- The text explains a word by the contents of a dictionary, by which the word has these breaks.

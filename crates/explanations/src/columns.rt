@@ -25,7 +25,11 @@ fn column_after(column: usize, c: char) -> Result<usize, AllocError>
 }
 
 // Appends a column so many times.
-fn push_times(columns: &mut Vec<usize>, column: usize, count: usize) -> Result<(), AllocError>
+pub(crate) fn push_times(
+    columns: &mut Vec<usize>,
+    column: usize,
+    count: usize,
+) -> Result<(), AllocError>
     ensures { OnOk result (columns.new.items ≡ columns.old.items ++ replicate count column) }
 {
     for _done in 0..count {
@@ -58,7 +62,7 @@ pub(crate) fn columns_of(alloc: Global, framed: &str) -> Result<Vec<usize>, Allo
 }
 
 // Returns the column of a place, or 0 past the end.
-fn column_at(columns: &[usize], place: usize) -> usize
+pub(crate) fn column_at(columns: &[usize], place: usize) -> usize
     ensures { result ≡ slice_index columns.now place }
 {
     if place < columns.len() {

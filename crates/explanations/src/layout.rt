@@ -1,7 +1,17 @@
-//! The columns of a picture. No clause speaks of them: a picture is described without its spaces.
+//! The columns of a picture.
 
+ghost use Rattle.std.specs.Prelude.{◌≡◌, ◌+◌, chars, map, slice_index, IfOk, OnOk};
+ghost use Rattle.explanations.specs.Columns.{begins_from, column_before, column_past, columns_above, frame_columns};
+ghost use Rattle.explanations.specs.Columns.{first_letter, indent, rest_after, rest_after_word, shown_columns};
+ghost use Rattle.explanations.specs.Columns.{single_columns, value_columns, with_room_at, with_room_for};
+ghost use Rattle.explanations.specs.Columns.{with_room_for_entries};
+ghost use Rattle.explanations.specs.Private.Drawing.{held_columns};
+ghost use Rattle.explanations.specs.Rows.{row_of};
+
+use crate::columns::{column_at, push_times};
+use crate::numbers::sum;
 use crate::pattern_rows::Row;
-use hyphenation_breaks::entry::Payload;
+use hyphenation_breaks::entry::Entry;
 use std::alloc::{AllocError, Global};
 use unicode_width::{UnicodeWidthChar, UnicodeWidthStr};
 
@@ -19,7 +29,9 @@ pub(crate) struct Layout {
 }
 
 // The number of columns of a value.
-pub(crate) fn columns_of_value(value: u8) -> usize {
+pub(crate) fn columns_of_value(value: u8) -> usize
+    ensures { result ≡ value_columns value }
+{
     if value < 10 {
         1
     } else if value < 100 {
@@ -29,43 +41,102 @@ pub(crate) fn columns_of_value(value: u8) -> usize {
     }
 }
 
-// Returns one column for the value at each place of a frame between two characters. The only error is out of memory.
-fn single_columns(alloc: Global, framed: &str) -> Result<Vec<usize>, AllocError> {
-    let mut values = Vec::with_capacity(alloc, framed.len().saturating_add(1))?;
-    for byte in framed.as_bytes() {
-        let inside = 128 <= *byte && *byte < 192;
-        values.push(if inside { 0 } else { 1 })?;
-    }
+// The number of columns for a value of one digit before a byte.
+fn column_before(byte: u8) -> usize
+    ensures { result ≡ column_before byte }
+{
+    if 128 <= byte && byte < 192 { 0 } else { 1 }
+}
+
+// Returns the number of columns for a value of one digit at each place of a frame. The only error is out of memory.
+fn single_columns(alloc: Global, framed: &[u8]) -> Result<Vec<usize>, AllocError>
+    ensures { IfOk result (λ values. values.items ≡ single_columns framed.now) }
+{
+    let mut values: Vec<usize> = framed
+        .iter()
+        .map(|byte| column_before(*byte))
+        .collect(alloc)?;
     values.push(1)?;
     Ok(values)
 }
 
-// Makes room for the values of a row.
-fn widen<C>(values: &mut Vec<usize>, row: &Row<'_, C>) {
-    for entry in row.entries {
-        let place = row.start.saturating_add(entry.place as usize);
-        let columns = columns_of_value(entry.value);
-        if place < values.len() && values[place] < columns {
-            values[place] = columns;
-        }
+// Makes room for a value at a place.
+fn make_room(values: &mut Vec<usize>, place: usize, value: u8)
+    ensures { values.new.items ≡ with_room_at values.old.items place value }
+{
+    if place < values.len() {
+        values[place] = values[place].max(columns_of_value(value));
     }
 }
 
-// Returns the column at which the value of each place begins. The only error is out of memory.
-fn begins_of(alloc: Global, framed: &str, values: &[usize]) -> Result<Vec<usize>, AllocError> {
-    let mut begins = Vec::with_capacity(alloc, framed.len().saturating_add(1))?;
-    let mut column: usize = 0;
-    for c in framed.chars() {
-        let before = values.get(begins.len()).copied().unwrap_or(0);
+// Makes room for the values of entries, by where their row starts. The only error is out of memory.
+fn make_room_for_entries<C>(
+    values: &mut Vec<usize>,
+    start: usize,
+    entries: &[Entry<C>],
+) -> Result<(), AllocError>
+    ensures { OnOk result (values.new.items ≡ with_room_for_entries start values.old.items entries.now) }
+{
+    for entry in entries {
+        make_room(values, sum(start, entry.place as usize)?, entry.value);
+    }
+    Ok(())
+}
+
+// Makes room for the values of rows. The only error is out of memory.
+fn make_room_for<C>(values: &mut Vec<usize>, rows: &[Row<'_, C>]) -> Result<(), AllocError>
+    ensures { OnOk result (values.new.items ≡ with_room_for values.old.items (map row_of rows.now)) }
+{
+    for row in rows {
+        make_room_for_entries(values, row.start, row.entries)?;
+    }
+    Ok(())
+}
+
+// The number of columns of a character.
+fn shown_columns(c: char) -> usize
+    ensures { result ≡ shown_columns c }
+{
+    match c.width() {
+        Some(columns) => columns,
+        None => 0,
+    }
+}
+
+// Returns the column after a character at a place. The only error is out of memory.
+fn column_past(values: &[usize], place: usize, column: usize, c: char) -> Result<usize, AllocError>
+    ensures { IfOk result (λ past. past ≡ column_past values.now place column c) }
+{
+    sum(sum(column, column_at(values, place))?, shown_columns(c))
+}
+
+// Returns the column at which the value of each place begins, by the characters of a frame. The only error is out of memory.
+fn begins_of_chars(
+    alloc: Global,
+    letters: &[char],
+    values: &[usize],
+) -> Result<Vec<usize>, AllocError>
+    ensures { IfOk result (λ begins. begins.items ≡ begins_from values.now 0 0 letters.now) }
+{
+    let mut begins = Vec::new(alloc);
+    let mut place = 0;
+    let mut column = 0;
+    for letter in letters {
         begins.push(column)?;
-        column = column.saturating_add(before);
-        column = column.saturating_add(c.width().unwrap_or(0));
-        for _ in 1..c.len_utf8() {
-            begins.push(column)?;
-        }
+        column = column_past(values, place, column, *letter)?;
+        push_times(&mut begins, column, letter.len_utf8() - 1)?;
+        place = sum(place, letter.len_utf8())?;
     }
     begins.push(column)?;
     Ok(begins)
+}
+
+// Returns the column at which the value of each place of a frame begins. The only error is out of memory.
+fn begins_of(alloc: Global, framed: &str, values: &[usize]) -> Result<Vec<usize>, AllocError>
+    ensures { IfOk result (λ begins. begins.items ≡ begins_from values.now 0 0 (chars framed.now)) }
+{
+    let letters: Vec<char> = framed.chars().collect(alloc)?;
+    begins_of_chars(alloc, &letters, values)
 }
 
 impl Layout {
@@ -74,56 +145,62 @@ impl Layout {
         alloc: Global,
         framed: &str,
         rows: &[Row<'_, C>],
-    ) -> Result<Layout, AllocError> {
-        let mut values = single_columns(alloc, framed)?;
-        for row in rows {
-            widen(&mut values, row);
-        }
+    ) -> Result<Layout, AllocError>
+        ensures { IfOk result (λ layout. held_columns layout ≡ columns_above framed.now (map row_of rows.now)) }
+    {
+        let mut values = single_columns(alloc, framed.as_bytes())?;
+        make_room_for(&mut values, rows)?;
         let begins = begins_of(alloc, framed, &values)?;
         Ok(Layout { values, begins })
     }
 
     // Returns the number of columns of the frame.
-    fn width(&self) -> usize {
-        self.begins.last().copied().unwrap_or(0)
+    fn width(&self) -> usize
+        ensures { result ≡ frame_columns (held_columns self.now) }
+    {
+        column_at(&self.begins, self.begins.len().saturating_sub(1))
     }
 
     // Returns the column at which the value of a place of the frame begins, or 0 for a wide frame.
-    pub(crate) fn indent(&self, place: usize) -> usize {
+    pub(crate) fn indent(&self, place: usize) -> usize
+        ensures { result ≡ indent (held_columns self.now) place }
+    {
         if self.width() > MOST_COLUMNS {
             return 0;
         }
-        self.begins.get(place).copied().unwrap_or(0)
+        column_at(&self.begins, place)
     }
 
-    // Returns the number of columns for a value at a place of a text that starts in the frame, or 0 at the text's end.
-    pub(crate) fn columns_before(&self, start: usize, place: usize, length: usize) -> usize {
-        if place >= length {
-            return 0;
-        }
-        self.values
-            .get(start.saturating_add(place))
-            .copied()
-            .unwrap_or(0)
+    // Returns the number of columns for the value at a place of a text that starts in the frame. The only error is out of
+    // memory.
+    pub(crate) fn columns_before(&self, start: usize, place: usize) -> Result<usize, AllocError>
+        ensures { IfOk result (λ columns. columns ≡ slice_index (held_columns self.now).values (start + place)) }
+    {
+        Ok(column_at(&self.values, sum(start, place)?))
     }
 
-    // Returns the number of columns from the end of the word's scores to where words about a line begin.
-    pub(crate) fn rest_after_word(&self) -> usize {
-        let last = self.begins.len().saturating_sub(2);
-        let end = self.begins.get(last).copied().unwrap_or(0);
-        self.width().saturating_sub(end).saturating_add(2)
+    // Returns the number of columns from the end of the word's scores to where words about a line begin. The only error is
+    // out of memory.
+    pub(crate) fn rest_after_word(&self) -> Result<usize, AllocError>
+        ensures { IfOk result (λ columns. columns ≡ rest_after_word (held_columns self.now)) }
+    {
+        let end = column_at(&self.begins, self.begins.len().saturating_sub(2));
+        sum(self.width().saturating_sub(end), 2)
     }
 
-    // Returns the column of the word's first letter, or 0 for a wide frame.
-    pub(crate) fn first_letter(&self) -> usize {
-        self.indent(1).saturating_add(self.columns_before(1, 0, 1))
+    // Returns the column of the word's first letter. The only error is out of memory.
+    pub(crate) fn first_letter(&self) -> Result<usize, AllocError>
+        ensures { IfOk result (λ column. column ≡ first_letter (held_columns self.now)) }
+    {
+        sum(self.indent(1), column_at(&self.values, 1))
     }
 
-    // Returns the number of columns from the end of a text below the word to where words about a line begin.
-    pub(crate) fn rest_after(&self, text: &str) -> usize {
-        self.width()
-            .saturating_sub(self.first_letter())
-            .saturating_add(2)
-            .saturating_sub(text.width())
+    // Returns the number of columns from the end of a text below the word to where words about a line begin. The only error
+    // is out of memory.
+    pub(crate) fn rest_after(&self, text: &str) -> Result<usize, AllocError>
+        ensures { IfOk result (λ columns. columns ≡ rest_after (held_columns self.now) text.now) }
+    {
+        let below = self.width().saturating_sub(self.first_letter()?);
+        Ok(sum(below, 2)?.saturating_sub(text.width()))
     }
 }

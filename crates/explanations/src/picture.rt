@@ -1,16 +1,14 @@
 //! The picture for people, line by line. Functions named `push_..` append to a text.
-//!
-//! The columns of letters and the numbers of spaces have no clause: clauses speak of a line without its spaces.
 
-ghost use Rattle.std.specs.Prelude.{◌≡◌, ◌++◌, ◌+◌, ◌∷◌, ◌≤◌, [], Option, OnOk, decimal, flat_map, length, map};
-ghost use Rattle.std.specs.Prelude.{option_copied, slice_range};
+ghost use Rattle.std.specs.Prelude.{◌≡◌, ◌++◌, ◌+◌, ◌≤◌, None, OnOk, flat_map, length, map};
+ghost use Rattle.std.specs.Prelude.{option_copied};
 ghost use Rattle.std.specs.List.{All};
-ghost use Rattle.hyphenation_breaks.specs.Ascii.{line_feed};
 ghost use Rattle.hyphenation_breaks.specs.Break.{is_boundary};
-ghost use Rattle.hyphenation_score.specs.Scoring.{score_of_winner, value_of};
-ghost use Rattle.explanations.specs.Picture.{without_spaces, value_text, letters_with, entry_value, score_value};
-ghost use Rattle.explanations.specs.Picture.{entry_note, score_note, row_line, score_line, decision_text, break_line_of};
-ghost use Rattle.explanations.specs.Private.Drawing.{Draws, scores_by};
+ghost use Rattle.hyphenation_score.specs.Scoring.{value_of};
+ghost use Rattle.explanations.specs.Picture.{spaces, placed_value, letters_below, entry_value, score_value};
+ghost use Rattle.explanations.specs.Picture.{frame_line, row_line, scored_letters, scored_word, score_line};
+ghost use Rattle.explanations.specs.Picture.{word_below, break_line_of};
+ghost use Rattle.explanations.specs.Private.Drawing.{held_columns, scores_by};
 ghost use Rattle.explanations.specs.Rows.{row_of, LiesWithin};
 
 use crate::facts::Decision;
@@ -22,77 +20,26 @@ use hyphenation_breaks::entry::{Entry, Payload};
 use std::alloc::AllocError;
 
 // Appends spaces.
-pub(crate) fn push_spaces(text: &mut Vec<u8>, count: usize) -> Result<(), AllocError>
-    ensures { OnOk result (without_spaces text.new.items ≡ without_spaces text.old.items) }
+fn push_spaces(text: &mut Vec<u8>, count: usize) -> Result<(), AllocError>
+    ensures { OnOk result (text.new.items ≡ text.old.items ++ spaces count) }
 {
-    for _ in 0..count {
+    for _done in 0..count {
         text.push(b' ')?;
     }
     Ok(())
 }
 
-// Appends bytes.
-#[tactic(auto, using(crate::proofs::Spaces::joined))]
-pub(crate) fn push_bytes(text: &mut Vec<u8>, bytes: &[u8]) -> Result<(), AllocError>
-    ensures { OnOk result (Draws text.old.items text.new.items bytes.now) }
-{
-    text.extend_from_slice(bytes)
-}
-
-// Appends a number in decimal.
-fn push_decimal(text: &mut Vec<u8>, number: usize) -> Result<(), AllocError>
-    ensures { OnOk result (Draws text.old.items text.new.items (decimal number)) }
-{
-    push_number(text, number)
-}
-
 // Appends a value at the end of so many columns, or so many spaces without one.
 fn push_value(text: &mut Vec<u8>, columns: usize, value: Option<u8>) -> Result<(), AllocError>
-    ensures { OnOk result (Draws text.old.items text.new.items (value_text value)) }
+    ensures { OnOk result (text.new.items ≡ text.old.items ++ placed_value columns value) }
 {
     match value {
         Some(value) => {
             push_spaces(text, columns.saturating_sub(columns_of_value(value)))?;
-            push_decimal(text, usize::from(value))
+            push_number(text, usize::from(value))
         }
         None => push_spaces(text, columns),
     }
-}
-
-// Appends the byte of a text at a place, or nothing at its end.
-fn push_byte_at(text: &mut Vec<u8>, bytes: &[u8], place: usize) -> Result<(), AllocError>
-    requires { place ≤ length bytes.now }
-    ensures { OnOk result (Draws text.old.items text.new.items
-        (slice_range bytes.now place (place + 1))) }
-{
-    if place < bytes.len() {
-        push_bytes(text, &bytes[place..place + 1])
-    } else {
-        Ok(())
-    }
-}
-
-// Appends the bytes of a frame, with spaces for the values of its places.
-fn push_frame(text: &mut Vec<u8>, framed: &[u8], layout: &Layout) -> Result<(), AllocError>
-    ensures { OnOk result (Draws text.old.items text.new.items framed.now) }
-{
-    for (place, byte) in framed.iter().enumerate() {
-        push_spaces(text, layout.columns_before(0, place, framed.len()))?;
-        push_bytes(text, &[*byte])?;
-    }
-    Ok(())
-}
-
-// Appends the line of the frame of a folded word.
-pub(crate) fn push_frame_line(
-    text: &mut Vec<u8>,
-    framed: &[u8],
-    layout: &Layout,
-) -> Result<(), AllocError>
-    ensures { OnOk result (Draws text.old.items text.new.items (framed.now ++ line_feed ∷ [])) }
-{
-    push_frame(text, framed, layout)?;
-    push_bytes(text, b"\n")
 }
 
 // Returns the value that entries have at a place.
@@ -115,27 +62,28 @@ fn push_key<C>(
     layout: &Layout,
     start: usize,
 ) -> Result<(), AllocError>
-    ensures { OnOk result (Draws text.old.items text.new.items
-        (letters_with (entry_value entries.now) key.now)) }
+    ensures { OnOk result (text.new.items ≡ text.old.items
+        ++ letters_below (held_columns layout.now) start (entry_value entries.now) 0 key.now) }
 {
-    for place in 0..key.len() + 1 {
-        let columns = layout.columns_before(start, place, key.len());
+    for (place, byte) in key.iter().enumerate() {
+        let columns = layout.columns_before(start, place)?;
         push_value(text, columns, entry_value(entries, place))?;
-        push_byte_at(text, key, place)?;
+        text.push(*byte)?;
     }
-    Ok(())
+    push_value(text, 0, entry_value(entries, key.len()))
 }
 
-// Appends the changes that the values of entries make.
-#[tactic(auto, using(crate::proofs::Spaces::joined))]
-fn push_entry_changes<C: Payload>(
+// Appends the line of the frame of a folded word.
+pub(crate) fn push_frame_line(
     text: &mut Vec<u8>,
-    entries: &[Entry<C>],
+    framed: &[u8],
+    layout: &Layout,
 ) -> Result<(), AllocError>
-    ensures { OnOk result (Draws text.old.items text.new.items
-        (flat_map (entry_note C.change_of) entries.now)) }
+    ensures { OnOk result (text.new.items ≡ text.old.items ++ frame_line (held_columns layout.now) framed.now) }
 {
-    push_entry_notes(text, entries)
+    push_key::<()>(text, framed, &[], layout, 0)?;
+    text.push(b'\n')?;
+    Ok(())
 }
 
 // Appends the line of a pattern that occurs in the frame.
@@ -146,14 +94,15 @@ fn push_row<C: Payload>(
     layout: &Layout,
 ) -> Result<(), AllocError>
     requires { row.now.start + row.now.bytes ≤ length framed.now }
-    ensures { OnOk result (Draws text.old.items text.new.items
-        (row_line C.change_of framed.now (row_of row.now))) }
+    ensures { OnOk result (text.new.items ≡ text.old.items
+        ++ row_line C.change_of (held_columns layout.now) framed.now (row_of row.now)) }
 {
     push_spaces(text, layout.indent(row.start))?;
     let key = &framed[row.start..row.start + row.bytes];
     push_key(text, key, row.entries, layout, row.start)?;
-    push_entry_changes(text, row.entries)?;
-    push_bytes(text, b"\n")
+    push_entry_notes(text, row.entries)?;
+    text.push(b'\n')?;
+    Ok(())
 }
 
 // Appends the lines of the patterns that occur in the frame.
@@ -164,8 +113,8 @@ pub(crate) fn push_rows<C: Payload>(
     layout: &Layout,
 ) -> Result<(), AllocError>
     requires { All (LiesWithin framed.now) (map row_of rows.now) }
-    ensures { OnOk result (Draws text.old.items text.new.items
-        (flat_map (row_line C.change_of framed.now) (map row_of rows.now))) }
+    ensures { OnOk result (text.new.items ≡ text.old.items
+        ++ flat_map (row_line C.change_of (held_columns layout.now) framed.now) (map row_of rows.now)) }
 {
     for row in rows {
         push_row(text, framed, row, layout)?;
@@ -217,15 +166,15 @@ fn push_scored_letters<C: Payload>(
     winners: &[Option<&Entry<C>>],
     layout: &Layout,
 ) -> Result<(), AllocError>
-    ensures { OnOk result (Draws text.old.items text.new.items
-        (letters_with (score_value word.now (scores_by C.change_of winners.now)) word.now)) }
+    ensures { OnOk result (text.new.items ≡ text.old.items
+        ++ scored_letters (held_columns layout.now) word.now (scores_by C.change_of winners.now)) }
 {
-    for place in 0..word.len() + 1 {
-        let columns = layout.columns_before(1, place, word.len());
+    for (place, byte) in word.as_bytes().iter().enumerate() {
+        let columns = layout.columns_before(1, place)?;
         push_value(text, columns, score_value(word, winners, place))?;
-        push_byte_at(text, word.as_bytes(), place)?;
+        text.push(*byte)?;
     }
-    Ok(())
+    push_value(text, 0, score_value(word, winners, word.len()))
 }
 
 // Appends the letters of a word with the value of each place, below the word.
@@ -235,24 +184,12 @@ fn push_scored_word<C: Payload>(
     winners: &[Option<&Entry<C>>],
     layout: &Layout,
 ) -> Result<(), AllocError>
-    ensures { OnOk result (Draws text.old.items text.new.items
-        (letters_with (score_value word.now (scores_by C.change_of winners.now)) word.now)) }
+    ensures { OnOk result (text.new.items ≡ text.old.items
+        ++ scored_word (held_columns layout.now) word.now (scores_by C.change_of winners.now)) }
 {
     push_spaces(text, layout.indent(1))?;
     push_scored_letters(text, word, winners, layout)?;
-    push_spaces(text, layout.rest_after_word())
-}
-
-// Appends the changes of winners.
-#[tactic(auto, using(crate::proofs::Spaces::joined))]
-fn push_winner_changes<C: Payload>(
-    text: &mut Vec<u8>,
-    winners: &[Option<&Entry<C>>],
-) -> Result<(), AllocError>
-    ensures { OnOk result (Draws text.old.items text.new.items
-        (flat_map score_note (scores_by C.change_of winners.now))) }
-{
-    push_score_notes(text, winners)
+    push_spaces(text, layout.rest_after_word()?)
 }
 
 // Appends the line of a word's scores.
@@ -262,34 +199,23 @@ pub(crate) fn push_score_line<C: Payload>(
     winners: &[Option<&Entry<C>>],
     layout: &Layout,
 ) -> Result<(), AllocError>
-    ensures { OnOk result (Draws text.old.items text.new.items
-        (score_line word.now (scores_by C.change_of winners.now))) }
+    ensures { OnOk result (text.new.items ≡ text.old.items
+        ++ score_line (held_columns layout.now) word.now (scores_by C.change_of winners.now)) }
 {
     push_scored_word(text, word, winners, layout)?;
-    push_bytes(text, b"  the greatest value of each place")?;
-    push_winner_changes(text, winners)?;
-    push_bytes(text, b"\n")
+    text.extend_from_slice(b"  the greatest value of each place")?;
+    push_score_notes(text, winners)?;
+    text.push(b'\n')?;
+    Ok(())
 }
 
-// Appends the fact that decides, in words.
-#[tactic(auto, using(crate::proofs::Spaces::joined))]
-fn push_decision(
-    text: &mut Vec<u8>,
-    decision: Decision,
-    minima: (usize, usize),
-) -> Result<(), AllocError>
-    ensures { OnOk result (Draws text.old.items text.new.items (decision_text decision minima)) }
+// Appends a text below the word, and the spaces up to the words about it.
+fn push_word_below(text: &mut Vec<u8>, word: &str, layout: &Layout) -> Result<(), AllocError>
+    ensures { OnOk result (text.new.items ≡ text.old.items ++ word_below (held_columns layout.now) word.now) }
 {
-    push_decision_text(text, decision, minima)
-}
-
-// Appends a word with its breaks, below the word.
-fn push_hyphenated(text: &mut Vec<u8>, hyphenated: &str, layout: &Layout) -> Result<(), AllocError>
-    ensures { OnOk result (Draws text.old.items text.new.items hyphenated.now) }
-{
-    push_spaces(text, layout.first_letter())?;
-    push_bytes(text, hyphenated.as_bytes())?;
-    push_spaces(text, layout.rest_after(hyphenated))
+    push_spaces(text, layout.first_letter()?)?;
+    text.extend_from_slice(word.as_bytes())?;
+    push_spaces(text, layout.rest_after(word)?)
 }
 
 // Appends the line of a word with its breaks, and the fact that decides.
@@ -300,11 +226,12 @@ pub(crate) fn push_break_line(
     minima: (usize, usize),
     layout: &Layout,
 ) -> Result<(), AllocError>
-    ensures { OnOk result (Draws text.old.items text.new.items
-        (break_line_of hyphenated.now decision minima)) }
+    ensures { OnOk result (text.new.items ≡ text.old.items
+        ++ break_line_of (held_columns layout.now) hyphenated.now decision minima) }
 {
-    push_hyphenated(text, hyphenated, layout)?;
-    push_bytes(text, b"  ")?;
-    push_decision(text, decision, minima)?;
-    push_bytes(text, b"\n")
+    push_word_below(text, hyphenated, layout)?;
+    text.extend_from_slice(b"  ")?;
+    push_decision_text(text, decision, minima)?;
+    text.push(b'\n')?;
+    Ok(())
 }

@@ -5,7 +5,6 @@ ghost use Rattle.std.specs.List.{All};
 ghost use Rattle.std.specs.String.{string_bytes};
 ghost use Rattle.hyphenation_segments.specs.Segments.{marked_word};
 ghost use Rattle.hyphenation_score.specs.Scoring.{frame};
-ghost use Rattle.explanations.specs.Private.Drawing.{Draws};
 ghost use Rattle.explanations.specs.Rows.{row_of, LiesWithin};
 ghost use Rattle.explanations.specs.Drawings.{drawn};
 ghost use Rattle.explanations.specs.Texts.{Explains, IsDrawn, IsTextOf};
@@ -85,8 +84,8 @@ fn push_picture<C: Payload, B: Listing, O: Break>(
     requires framed { string_bytes facts.now.framed ≡ frame (string_bytes facts.now.folded) }
     requires within { All (LiesWithin (string_bytes facts.now.framed)) (map row_of facts.now.rows.items) }
     requires hyphenated { hyphenated.now ≡ marked_word (codes "-") word.now (map O.meaning breaks.now) }
-    ensures { OnOk result (Draws text.old.items text.new.items (picture_by C.change_of B.meaning facts.now
-        minima word.now (map O.meaning breaks.now))) }
+    ensures { OnOk result (text.new.items ≡ text.old.items ++ picture_by C.change_of B.meaning facts.now
+        minima word.now (map O.meaning breaks.now)) }
 {
     let layout = Layout::new(alloc, &facts.framed, &facts.rows)?;
     push_frame_line(text, facts.framed.as_bytes(), &layout)?;

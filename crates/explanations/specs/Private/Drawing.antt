@@ -1,5 +1,5 @@
--- One more piece of a picture, the scores of winners, and the fact that decides of a folded word.
-use Rattle.std.specs.Prelude.{◌≡◌, ℕ, List, ◌++◌, map, Option, option_copied}
+-- The columns of a layout, the scores of winners, and the fact that decides of a folded word.
+use Rattle.std.specs.Prelude.{ℕ, List, map, Option, option_copied}
 use Rattle.std.specs.Borrow.{Bor}
 use Rattle.std.specs.FinMap as finite
 use Rattle.hyphenation_breaks.specs.Break.{Change}
@@ -8,12 +8,13 @@ use Rattle.hyphenation_breaks.specs.declared.entry.Entry.{Entry}
 use Rattle.hyphenation_hyphenator.specs.Boundaries.{boundaries}
 use Rattle.hyphenation_score.specs.Scoring.{Scored, score_of_winner}
 use Rattle.explanations.specs.Decisions.{decision_from}
-use Rattle.explanations.specs.Picture.{without_spaces}
+use Rattle.explanations.specs.Columns.{Columns}
 use Rattle.explanations.specs.declared.facts.Decision.{Decision}
+use Rattle.explanations.specs.declared.layout.Layout.{Layout}
 
--- But for spaces, the new text is the old one with this piece at its end.
-abbrev pub Draws : List ℕ → List ℕ → List ℕ → Type 0
-Draws old new piece = without_spaces new ≡ without_spaces old ++ without_spaces piece
+-- The columns that a layout holds.
+abbrev pub held_columns : Layout → Columns
+held_columns layout = record { values = layout.values.items; begins = layout.begins.items }
 
 -- The scores of winners.
 abbrev pub scores_by : {C : Type 0} → (C → Option Change) → List (Option (Bor (Entry C))) → List Scored

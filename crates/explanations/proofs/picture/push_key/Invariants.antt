@@ -1,8 +1,7 @@
-use Rattle.std.proofs.Common.{◌≡◌, ◌+◌, ◌++◌}
-use Rattle.std.specs.Prelude.{flat_map, slice_range}
-use Rattle.std.specs.List.{range_with_len}
-use Rattle.explanations.specs.Picture.{without_spaces, value_text, entry_value}
+use Rattle.std.proofs.Common.{◌≡◌, ◌++◌, drop}
+use Rattle.explanations.specs.Picture.{letters_below, entry_value}
+use Rattle.explanations.specs.Private.Drawing.{held_columns}
 use Rattle.explanations.proofs.picture.push_key.Given as goal
 
 abbrev pub invariant-loop-place : goal.invariant-loop-place
-invariant-loop-place g l = without_spaces l.text.items ≡ without_spaces l.initial.text.items ++ without_spaces (flat_map (λ place. value_text (entry_value l.entries place) ++ slice_range l.key place (place + 1)) (range_with_len 0 l.place))
+invariant-loop-place g l = l.text.items ++ letters_below (held_columns l.layout) l.start (entry_value l.entries) l.place (drop l.place l.key) ≡ l.initial.text.items ++ letters_below (held_columns l.layout) l.start (entry_value l.entries) 0 l.key

@@ -6,7 +6,7 @@ use Rattle.hyphenation_score.specs.Scoring.{frame}
 use Rattle.explanations.specs.Lines.{text_line, named_line, pattern_line, score_fields, bound_fields, number_field, exception_line, decision_name, place_field}
 use Rattle.explanations.specs.Private.Drawing.{scores_by}
 use Rattle.explanations.specs.Rows.{row_of}
-use Rattle.explanations.proofs.Spaces.{pushed_more}
+use Rattle.explanations.proofs.Pieces.{pushed_more}
 use Rattle.explanations.proofs.texts.push_lines.Goals as goal
 
 pub returns : goal.returns
