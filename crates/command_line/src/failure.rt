@@ -4,7 +4,7 @@ ghost use Rattle.std.specs.Prelude.{◌≡◌, IfSome, OnOk};
 ghost use Rattle.hyphenation_load.specs.Load.{AppendsTo};
 ghost use Rattle.command_line.specs.Failures.{failure_line, status_of};
 
-use crate::options::write_whole;
+use crate::write_whole;
 use hyphenation_load::Error;
 use std::alloc::{AllocError, Global};
 use std::fmt::{Display, Formatter};

@@ -2,6 +2,7 @@
 
 ghost use Rattle.std.specs.Prelude.{◌≡◌, ◌+◌, ◌<◌, ◌==◌, false, true, IfErr, IfOk, IfSome, IsUtf8, MatchResult, None, OnOk, Some, count_by, length, take};
 ghost use Rattle.std.specs.Io.KnownBytes.{IsAtEnd};
+ghost use Rattle.std.specs.IoError.{error_kind};
 ghost use Rattle.std.specs.Str.{IsValidUpTo};
 ghost use Rattle.std.specs.String.{string_bytes};
 ghost use Rattle.hyphenation_breaks.specs.Ascii.{line_feed};
@@ -15,7 +16,7 @@ use hyphenation_load::{is_out_of_memory, read_all};
 use named_files::NamedFiles;
 use std::alloc::Global;
 use std::io;
-use std::io::Read;
+use std::io::{ErrorKind, Read};
 
 // Tests whether a name is that of standard input.
 fn is_standard_input(name: &str) -> bool
@@ -37,7 +38,8 @@ pub fn shown_name(name: &str) -> &str
 
 // Returns the failure that an input can't be opened or read.
 fn unreadable(alloc: Global, name: &str, e: &io::Error) -> Failure
-    ensures { IsReadingOf name.now result }
+    ensures reading { IsReadingOf name.now result }
+    ensures memory { error_kind e.now ≡ ErrorKind.OutOfMemory → result ≡ Failure.Memory }
 {
     if is_out_of_memory(e) {
         return Failure::Memory;
@@ -97,6 +99,21 @@ fn read_bytes<F: NamedFiles, I: Read>(
     }
 }
 
+// Returns the text of an input that has these bytes.
+fn text_of(alloc: Global, name: &str, bytes: Vec<u8>) -> Result<String, Failure>
+    ensures text { IfOk result (λ text. IsUtf8 bytes.items × (string_bytes text ≡ bytes.items)) }
+    ensures refused { IfErr result (IsRefusedText name.now bytes.items) }
+{
+    match std::str::from_utf8(&bytes) {
+        Ok(_) => {}
+        Err(e) => return Err(not_utf8(alloc, name, &bytes, e.valid_up_to())),
+    }
+    match String::from_utf8(bytes) {
+        Ok(text) => Ok(text),
+        Err(_) => Err(Failure::Memory),
+    }
+}
+
 /// Returns the whole text of an input: of standard input if its name is `-`, else of the file at that path.
 ///
 /// The error is [`Failure::Reading`] if it can't be opened or read, [`Failure::Refused`] with the place if it is not
@@ -120,12 +137,5 @@ pub fn read_text<F: NamedFiles, I: Read>(
     ensures read_to_end { is_standard_input name.now ≡ true → OnOk result (IsAtEnd (I.remaining input.new)) }
 {
     let bytes = read_bytes(files, alloc, name, input)?;
-    match std::str::from_utf8(&bytes) {
-        Ok(_) => {}
-        Err(e) => return Err(not_utf8(alloc, name, &bytes, e.valid_up_to())),
-    }
-    match String::from_utf8(bytes) {
-        Ok(text) => Ok(text),
-        Err(_) => Err(Failure::Memory),
-    }
+    text_of(alloc, name, bytes)
 }

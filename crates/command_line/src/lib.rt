@@ -1,8 +1,9 @@
 //! Shared by the programs: the version, the arguments, the files, the messages, and the texts of `--help` and `--version`.
 #![tactic(auto)]
 
-ghost use Rattle.std.specs.Prelude.{◌≡◌, ◌≢◌};
+ghost use Rattle.std.specs.Prelude.{◌≡◌, ◌≢◌, IfSome, OnOk};
 ghost use Rattle.std.specs.IoError.{error_kind};
+ghost use Rattle.hyphenation_load.specs.Load.{AppendsTo};
 
 mod about;
 pub mod dictionaries;
@@ -57,10 +58,25 @@ pub fn report_bad_args<W: Write>(
     2
 }
 
-/// Writes a message at once, or, if memory for that is refused, in pieces. An error of writing changes nothing.
-pub fn write_message<D: Display, W: Write>(alloc: Global, message: &D, output: &mut W) {
-    let _ = match format!(in alloc; "{message}") {
+/// Writes a message at once, or, if memory for that is refused, in pieces. The error is that of the writer.
+///
+/// ```text
+/// write_whole(alloc, &format_args!("{path}: {cause}\n"), &mut rt.stderr())?
+/// ```
+pub fn write_whole<D: Display, W: Write>(
+    alloc: Global,
+    message: &D,
+    output: &mut W,
+) -> io::Result<()>
+    ensures { OnOk result (IfSome (D.output message.now) (AppendsTo W.contents output.old output.new)) }
+{
+    match format!(in alloc; "{message}") {
         Ok(text) => output.write_all(text.as_bytes()),
         Err(_) => write!(output, "{message}"),
-    };
+    }
+}
+
+/// Writes a message as [`write_whole`] does. An error of writing changes nothing.
+pub fn write_message<D: Display, W: Write>(alloc: Global, message: &D, output: &mut W) {
+    let _ = write_whole(alloc, message, output);
 }

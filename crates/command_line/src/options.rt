@@ -1,6 +1,6 @@
 //! The arguments of a program, read by the forms of its options.
 
-ghost use Rattle.std.specs.Prelude.{◌≡◌, ◌==◌, ◌++◌, IfErr, IfOk, IfSome, MatchResult, OnOk, map, option_copied, position};
+ghost use Rattle.std.specs.Prelude.{◌≡◌, ◌==◌, ◌++◌, IfErr, IfOk, MatchResult, OnOk, map, option_copied, position};
 ghost use Rattle.std.specs.Option.{option_to_list};
 ghost use Rattle.hyphenation_load.specs.Load.{AppendsTo};
 ghost use Rattle.command_line.specs.Options.{Any, no_arguments, with_given, with_operand, is_operand, name_in, value_in, form_of};
@@ -10,6 +10,7 @@ ghost use Rattle.command_line.specs.OptionLaws.{ValuesJoin, OperandsFollowDashes
 ghost use Rattle.command_line.specs.Reading.{given_options, as_read, as_refused, IsAsWanted, IsReadError};
 ghost use Rattle.command_line.specs.Private.Readers.{as_next, IsReader, IsStep};
 
+use crate::write_whole;
 use hyphenation_grammar::lines::{number_of, starts_with};
 use std::alloc::{AllocError, Global};
 use std::fmt::Display;
@@ -424,20 +425,6 @@ impl<'w> Display for BadArgument<'w> {
             Some(value) => write!(f, "{argument}={value}: {expected}"),
             None => write!(f, "{argument}: {expected}"),
         }
-    }
-}
-
-// Writes a message at once, or, if memory for that is refused, in pieces.
-pub(crate) fn write_whole<D: Display, W: Write>(
-    alloc: Global,
-    message: &D,
-    output: &mut W,
-) -> io::Result<()>
-    ensures { OnOk result (IfSome (D.output message.now) (AppendsTo W.contents output.old output.new)) }
-{
-    match format!(in alloc; "{message}") {
-        Ok(text) => output.write_all(text.as_bytes()),
-        Err(_) => write!(output, "{message}"),
     }
 }
 
