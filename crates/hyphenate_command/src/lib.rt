@@ -9,10 +9,11 @@ ghost use Rattle.std.specs.IoError.{error_kind};
 ghost use Rattle.hyphenation.specs.Engine.{BeforeWriting, IsUnwritten};
 ghost use Rattle.command_line.specs.Statuses.{BeforeOutput};
 ghost use Rattle.hyphenate_command.specs.Arguments.{parsed_args, score_args, text_args, lines_args};
+ghost use Rattle.hyphenate_command.specs.Private.Messages.{failure_message};
 ghost use Rattle.hyphenate_command.specs.Statuses.{status_of, EndsFor, BeforeText, EndsWith, JudgesFile, WritesFor, WritesAnswer};
 ghost use Rattle.hyphenate_command.specs.Private.Requests.{parsed_task, parsed_request};
 
-use command_line::{NamedFiles, write_message};
+use command_line::{NamedFiles, write_whole};
 use hyphenation::Language;
 use hyphenation::engine::{Kind, RunError, number_of, run, run_score};
 use hyphenation::load::Error;
@@ -187,39 +188,42 @@ fn opening_error(e: io::Error) -> RunError
     RunError::Dictionary(Error::IO(e))
 }
 
+// Writes why a run failed, by the path of its dictionary. The error is that of the writer.
+fn write_failure<E: Write>(
+    alloc: Global,
+    path: &str,
+    error: &RunError,
+    errors: &mut E,
+) -> io::Result<()>
+    ensures { OnOk result (IfSome (failure_message path.now error.now) (AppendsTo E.contents errors.old errors.new)) }
+{
+    match error {
+        RunError::Dictionary(cause) => {
+            write_whole(alloc, &format_args!("hyphenate: {path}: {cause}\n"), errors)
+        }
+        RunError::Edit(number) => write_whole(
+            alloc,
+            &format_args!("hyphenate: edit {number} is refused\n"),
+            errors,
+        ),
+        RunError::TextNotUtf8 => errors.write_all(b"hyphenate: the text is not UTF-8\n"),
+        RunError::Input(_) => errors.write_all(b"hyphenate: the text can't be read\n"),
+        RunError::Output(_) => errors.write_all(b"hyphenate: the result can't be written\n"),
+        RunError::Memory => errors.write_all(NO_MEMORY.as_bytes()),
+    }
+}
+
 // Writes why a run failed, and returns its status. An error of writing changes nothing.
 fn report<E: Write>(alloc: Global, path: &str, error: &RunError, errors: &mut E) -> u8
     ensures status { result ≡ status_of (Err error.now) }
 {
+    let _ = write_failure(alloc, path, error, errors);
     match error {
-        RunError::Dictionary(cause) => {
-            write_message(alloc, &format_args!("hyphenate: {path}: {cause}\n"), errors);
-            3
-        }
-        RunError::Edit(number) => {
-            write_message(
-                alloc,
-                &format_args!("hyphenate: edit {number} is refused\n"),
-                errors,
-            );
-            2
-        }
-        RunError::TextNotUtf8 => {
-            let _ = errors.write_all(b"hyphenate: the text is not UTF-8\n");
-            4
-        }
-        RunError::Input(_) => {
-            let _ = errors.write_all(b"hyphenate: the text can't be read\n");
-            5
-        }
-        RunError::Output(_) => {
-            let _ = errors.write_all(b"hyphenate: the result can't be written\n");
-            5
-        }
-        RunError::Memory => {
-            let _ = errors.write_all(NO_MEMORY.as_bytes());
-            6
-        }
+        RunError::Edit(_) => 2,
+        RunError::Dictionary(_) => 3,
+        RunError::TextNotUtf8 => 4,
+        RunError::Input(_) | RunError::Output(_) => 5,
+        RunError::Memory => 6,
     }
 }
 
