@@ -1,7 +1,9 @@
 -- A buffer that is filled, or has no room, is what good arguments are to give.
 use Rattle.std.proofs.Common.{ℕ, zero, suc, List, map}
 use Rattle.std.specs.Str.{IsUtf8}
-use Rattle.c_calls.specs.Dictionaries.{Dictionary, breaks_by, as_change, texts_of}
+use Rattle.any_dictionary.specs.Dictionaries.{breaks_by}
+use Rattle.any_dictionary.specs.declared.AnyDictionary.{AnyDictionary}
+use Rattle.c_calls.specs.Dictionaries.{as_change, texts_of}
 use Rattle.c_calls.specs.Statuses.{Fills, Finds, Buffer, FillsBoth, FindChanges}
 use Rattle.c_calls.specs.declared.changes.BreakChange.{BreakChange}
 
@@ -11,7 +13,7 @@ finds Good found old new before after zero good filled = (good, filled)
 finds Good found old new before after (suc zero) good filled = (good, filled)
 finds Good found old new before after (suc (suc n)) good filled = absurd filled
 
-pub finds_changes : (dictionary : Dictionary) (word : List ℕ) (changes : Buffer BreakChange) (texts : Buffer ℕ) (status : ℕ) → IsUtf8 word
+pub finds_changes : (dictionary : AnyDictionary) (word : List ℕ) (changes : Buffer BreakChange) (texts : Buffer ℕ) (status : ℕ) → IsUtf8 word
     → FillsBoth (map as_change (breaks_by dictionary word)) (texts_of (breaks_by dictionary word)) changes texts status
     → FindChanges dictionary word changes texts status
 finds_changes dictionary word changes texts zero good filled = (good, filled)

@@ -2,7 +2,6 @@ pub mod AsciiTexts
 pub mod Boxes
 pub mod Faults
 pub mod Finding
-pub mod Found
 pub mod ListEnds
 pub mod OfFiles
 pub mod Slots

@@ -5,17 +5,18 @@ use mathlib.Core.Logic.{inl, inr}
 use Rattle.hyphenation_grammar.specs.declared.form.Kind.{Kind}
 use Rattle.hyphenation_grammar.specs.declared.form.Kind.TheVariants.{Standard, Extended}
 use Rattle.tex_files.specs.declared.group.File.{File}
-use Rattle.c_calls.specs.Dictionaries.{Dictionary, minima_of}
+use Rattle.any_dictionary.specs.Dictionaries.{minima_by}
+use Rattle.any_dictionary.specs.declared.AnyDictionary.{AnyDictionary}
 use Rattle.c_calls.specs.TexFiles.{files_given, IsOfFiles}
 
 -- they are those that are given
-own_minima : (kind : Kind) (language : List ℕ) (minima : ℕ × ℕ) (files : List File) → minima_of (files_given kind language minima files) ≡ minima
-unfolding minima_of files_given
+own_minima : (kind : Kind) (language : List ℕ) (minima : ℕ × ℕ) (files : List File) → minima_by (files_given kind language minima files) ≡ minima
+unfolding files_given
 own_minima Standard language minima files = refl
 own_minima Extended language minima files = refl
 
 -- so the dictionary is that of the files by its own minima
-pub of_files : (kind : Kind) (language : List ℕ) (left right : Option ℕ) (minima : ℕ × ℕ) (files : List File) (dictionary : Dictionary)
+pub of_files : (kind : Kind) (language : List ℕ) (left right : Option ℕ) (minima : ℕ × ℕ) (files : List File) (dictionary : AnyDictionary)
     → dictionary ≡ files_given kind language minima files → IfSome left (λ given. minima.0 ≡ given) → IfSome right (λ given. minima.1 ≡ given)
     → IsOfFiles kind language left right files dictionary
 of_files kind language left right minima files dictionary is at_left at_right =

@@ -5,7 +5,8 @@ use Rattle.std.specs.List.{flat_map, range_with_len, slice_range}
 use Rattle.std.proofs.lemmas.List.{take_more, flat_map_more}
 use Rattle.std.proofs.lemmas.Grind.{get_or_tail}
 use Rattle.std.proofs.lemmas.List.FromFn.{map-range_with_len_more}
-use Rattle.c_calls.specs.Dictionaries.{Dictionary, places_by}
+use Rattle.any_dictionary.specs.Dictionaries.{all_places_by}
+use Rattle.any_dictionary.specs.declared.AnyDictionary.{AnyDictionary}
 use Rattle.c_calls.specs.Lists.{begin_of, word_at, words_of, AreEnds, AreUtf8, places_of_all, ends_of_places, Lists}
 use Rattle.c_calls.specs.Statuses.{Buffer, FillsBoth}
 
@@ -50,8 +51,8 @@ begin_next ends i end is =
     is ∙ ap (λ (k : ℕ). slice_index ends k) (omega arith) ∙ sym (get_or_tail 0 ends (i + 1) 0 (omega arith))
 
 -- buffers that are filled, or have no room, are what a good list is to give
-pub lists_found : (dictionary : Dictionary) (text ends : List ℕ) (b c : Buffer ℕ) (status : ℕ) → AreEnds text ends → AreUtf8 text ends
-    → FillsBoth (places_of_all (places_by dictionary) (words_of text ends)) (ends_of_places (places_by dictionary) (words_of text ends)) b c status
+pub lists_found : (dictionary : AnyDictionary) (text ends : List ℕ) (b c : Buffer ℕ) (status : ℕ) → AreEnds text ends → AreUtf8 text ends
+    → FillsBoth (places_of_all (all_places_by dictionary) (words_of text ends)) (ends_of_places (all_places_by dictionary) (words_of text ends)) b c status
     → Lists dictionary text ends b c status
 lists_found dictionary text ends b c zero good utf8 filled = (good, utf8, filled)
 lists_found dictionary text ends b c (suc zero) good utf8 filled = (good, utf8, filled)

@@ -3,7 +3,8 @@
 use Rattle.std.specs.Prelude.{◌≡◌, ◌+◌, ◌<◌, ◌≤◌, zero, suc, ℕ, List, ◌∷◌, length, map, take, slice_index, Option, None, Some}
 use Rattle.std.specs.List.{flat_map, range_with_len, slice_range}
 use Rattle.std.specs.Str.{IsUtf8}
-use Rattle.c_calls.specs.Dictionaries.{Dictionary, places_by}
+use Rattle.any_dictionary.specs.Dictionaries.{all_places_by}
+use Rattle.any_dictionary.specs.declared.AnyDictionary.{AnyDictionary}
 use Rattle.c_calls.specs.Statuses.{Buffer, AreUnchanged, FillsBoth}
 use Rattle.c_calls.specs.declared.lists.NoList.{NoList}
 use Rattle.c_calls.specs.declared.lists.NoList.TheVariants.{Memory, NotUtf8, BadEnds}
@@ -48,15 +49,15 @@ IsNoList BadEnds text ends = ¬ AreEnds text ends
 -- 0 and 1: the ends are good, each word is UTF-8, and the two buffers are filled with the places and their ends, or one
 -- is too short. 2: out of memory. 4: a word is not UTF-8. 8: a word ends before it begins, or after the text. No other
 -- status comes, and from 2 on both buffers and their counts are unchanged.
-abbrev pub Lists : Dictionary → List ℕ → List ℕ → Buffer ℕ → Buffer ℕ → ℕ → Type 0
+abbrev pub Lists : AnyDictionary → List ℕ → List ℕ → Buffer ℕ → Buffer ℕ → ℕ → Type 0
 Lists dictionary text ends b c zero =
     AreEnds text ends × AreUtf8 text ends
-    × FillsBoth (places_of_all (places_by dictionary) (words_of text ends))
-    (ends_of_places (places_by dictionary) (words_of text ends)) b c 0
+    × FillsBoth (places_of_all (all_places_by dictionary) (words_of text ends))
+    (ends_of_places (all_places_by dictionary) (words_of text ends)) b c 0
 Lists dictionary text ends b c (suc zero) =
     AreEnds text ends × AreUtf8 text ends
-    × FillsBoth (places_of_all (places_by dictionary) (words_of text ends))
-    (ends_of_places (places_by dictionary) (words_of text ends)) b c 1
+    × FillsBoth (places_of_all (all_places_by dictionary) (words_of text ends))
+    (ends_of_places (all_places_by dictionary) (words_of text ends)) b c 1
 Lists dictionary text ends b c (suc (suc zero)) = AreUnchanged b c
 Lists dictionary text ends b c (suc (suc (suc (suc zero)))) = ¬ AreUtf8 text ends × AreUnchanged b c
 Lists dictionary text ends b c (suc (suc (suc (suc (suc (suc (suc (suc zero)))))))) =
@@ -64,7 +65,7 @@ Lists dictionary text ends b c (suc (suc (suc (suc (suc (suc (suc (suc zero)))))
 Lists dictionary text ends b c _ = ⊥
 
 -- The call for a list of words. 3: the handle holds no dictionary, and all is unchanged.
-abbrev pub WritesLists : Option Dictionary → List ℕ → List ℕ → Buffer ℕ → Buffer ℕ → ℕ → Type 0
+abbrev pub WritesLists : Option AnyDictionary → List ℕ → List ℕ → Buffer ℕ → Buffer ℕ → ℕ → Type 0
 WritesLists None text ends b c status = (status ≡ 3) × AreUnchanged b c
 WritesLists (Some dictionary) text ends b c status =
     Lists dictionary text ends b c status

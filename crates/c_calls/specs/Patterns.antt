@@ -1,7 +1,8 @@
 -- Dictionaries that are made of files of patterns, and the statuses of the call that makes them.
 use Rattle.std.specs.Prelude.{◌≡◌, zero, suc, ℕ, List, Option, None, Some, if◌then◌else◌, nat_le}
-use mathlib.Core.Logic.{inl, inr}
 use Rattle.std.specs.Str.{IsUtf8}
+use Rattle.any_dictionary.specs.declared.AnyDictionary.{AnyDictionary}
+use Rattle.any_dictionary.specs.declared.AnyDictionary.TheVariants as of
 use Rattle.hyphenation_breaks.specs.Language.{IsCode}
 use Rattle.hyphenation_grammar.specs.declared.form.Kind.{Kind}
 use Rattle.hyphenation_grammar.specs.declared.form.Kind.TheVariants.{Standard, Extended}
@@ -12,7 +13,6 @@ use Rattle.pattern_results.specs.declared.errors.ConvertError.{ConvertError}
 use Rattle.pattern_results.specs.declared.errors.ConvertError.TheVariants as refusals
 use Rattle.c_calls.specs.declared.patterns.Failure.{Failure}
 use Rattle.c_calls.specs.declared.patterns.Failure.TheVariants.{Memory, NotUtf8, NotCode, Fault}
-use Rattle.c_calls.specs.Dictionaries.{Dictionary}
 use Rattle.c_calls.specs.Statuses.{Loading, kind_numbered}
 
 -- A number up to 255 is a minimum; each greater one leaves the minimum to the file.
@@ -35,10 +35,10 @@ pattern_cause_number causes.Minimum = 31
 pattern_cause_number causes.Nothing = 32
 
 -- The dictionary of a kind that a `.dic` gives.
-unfoldable pub dic_given : Kind → List ℕ → Option ℕ → Option ℕ → List ℕ → Dictionary
-dic_given Standard language left right bytes = inl (contents_of_dic (λ _. None) (λ _. tt) language left right bytes)
+unfoldable pub dic_given : Kind → List ℕ → Option ℕ → Option ℕ → List ℕ → AnyDictionary
+dic_given Standard language left right bytes = of.Standard (contents_of_dic (λ _. None) (λ _. tt) language left right bytes)
 dic_given Extended language left right bytes =
-    inr (contents_of_dic (λ change. change) (λ change. change) language left right bytes)
+    of.Extended (contents_of_dic (λ change. change) (λ change. change) language left right bytes)
 
 -- The file is refused at this line, for the cause of this number.
 abbrev pub IsFaultAt : Option (ℕ × FileCause) → ℕ × ℕ → Type 0
@@ -49,7 +49,7 @@ IsFaultAt None place = ⊥
 -- memory. 4: the language is not UTF-8. 5: the file has its first fault at the line and of the cause that are written.
 -- 7: the language is no code. No other status comes. From 1 on the handle is unchanged, and the line and the cause are
 -- written with status 5 alone.
-abbrev pub MakesAs : List ℕ → Option (ℕ × FileCause) → Dictionary → Loading → ℕ → Type 0
+abbrev pub MakesAs : List ℕ → Option (ℕ × FileCause) → AnyDictionary → Loading → ℕ → Type 0
 MakesAs language fault given loading zero =
     IsCode language × (fault ≡ None) × (loading.new ≡ Some given) × (loading.after ≡ loading.before)
 MakesAs language fault given loading (suc (suc zero)) = (loading.new ≡ loading.old) × (loading.after ≡ loading.before)

@@ -1,6 +1,5 @@
 -- The statuses of the calls: which case each one says, and what a call leaves in the caller's memory then.
 use Rattle.std.specs.Prelude.{◌≡◌, ◌⊎◌, ◌++◌, ◌<◌, ◌≤◌, zero, suc, ℕ, IsTrue, IsFalse, List, length, map, drop, Option, None, Some}
-use mathlib.Core.Logic.{inl, inr}
 use Rattle.std.specs.Str.{IsUtf8}
 use Rattle.hyphenation_writer.specs.Canonical.{with_line_feeds}
 use Rattle.hyphenation_reader.specs.Edits.{is_good_edit}
@@ -11,8 +10,11 @@ use Rattle.hyphenation_grammar.specs.declared.form.Kind.{Kind}
 use Rattle.hyphenation_grammar.specs.declared.form.Kind.TheVariants.{Standard, Extended}
 use Rattle.hyphenation_hyphenator.specs.Hyphenated.{hyphenated_text}
 use Rattle.linefill.specs.Lines.{lines_by}
+use Rattle.any_dictionary.specs.Dictionaries.{all_places_by, breaks_by, canonical_text, contents_as, edited, kind_by, language_by, minima_by, values_by}
 use Rattle.any_dictionary.specs.Kinds as kinds
-use Rattle.c_calls.specs.Dictionaries.{Dictionary, kind_of, given, language_of, minima_of, breaks_by, places_by, values_by, as_change, texts_of, edited, text_of}
+use Rattle.any_dictionary.specs.declared.AnyDictionary.{AnyDictionary}
+use Rattle.any_dictionary.specs.declared.AnyDictionary.TheVariants as of
+use Rattle.c_calls.specs.Dictionaries.{as_change, texts_of}
 use Rattle.c_calls.specs.declared.changes.BreakChange.{BreakChange}
 
 -- ---- Numbers that C passes and reads.
@@ -75,71 +77,71 @@ Finds Good found old new before after _ = ⊥
 
 -- 3: the handle holds no dictionary, and the buffer and the count are unchanged. A handle with a dictionary has the
 -- statuses that are given of this dictionary.
-abbrev pub IfHeld : {T : Type 0} → Option Dictionary → List T → List T → ℕ → ℕ → ℕ → (Dictionary → Type 0) → Type 0
+abbrev pub IfHeld : {T : Type 0} → Option AnyDictionary → List T → List T → ℕ → ℕ → ℕ → (AnyDictionary → Type 0) → Type 0
 IfHeld None old new before after status Says = (status ≡ 3) × IsUnchanged old new before after
 IfHeld (Some dictionary) old new before after status Says = Says dictionary
 
 -- The places of a word's breaks.
-abbrev pub FindsBreaks : Dictionary → List ℕ → List ℕ → List ℕ → ℕ → ℕ → ℕ → Type 0
+abbrev pub FindsBreaks : AnyDictionary → List ℕ → List ℕ → List ℕ → ℕ → ℕ → ℕ → Type 0
 FindsBreaks dictionary word old new before after status =
-    Finds (IsUtf8 word) (places_by dictionary word) old new before after status
+    Finds (IsUtf8 word) (all_places_by dictionary word) old new before after status
 
-abbrev pub WritesBreaks : Option Dictionary → List ℕ → List ℕ → List ℕ → ℕ → ℕ → ℕ → Type 0
+abbrev pub WritesBreaks : Option AnyDictionary → List ℕ → List ℕ → List ℕ → ℕ → ℕ → ℕ → Type 0
 WritesBreaks holds word old new before after status =
     IfHeld holds old new before after status
     (λ dictionary. FindsBreaks dictionary word old new before after status)
 
 -- The values of a word's places, from place 1 on.
-abbrev pub FindsValues : Dictionary → List ℕ → List ℕ → List ℕ → ℕ → ℕ → ℕ → Type 0
+abbrev pub FindsValues : AnyDictionary → List ℕ → List ℕ → List ℕ → ℕ → ℕ → ℕ → Type 0
 FindsValues dictionary word old new before after status =
     Finds (IsUtf8 word) (values_by dictionary word) old new before after status
 
-abbrev pub WritesValues : Option Dictionary → List ℕ → List ℕ → List ℕ → ℕ → ℕ → ℕ → Type 0
+abbrev pub WritesValues : Option AnyDictionary → List ℕ → List ℕ → List ℕ → ℕ → ℕ → ℕ → Type 0
 WritesValues holds word old new before after status =
     IfHeld holds old new before after status
     (λ dictionary. FindsValues dictionary word old new before after status)
 
 -- A text with the mark at each break of its words.
-abbrev pub FindsMarkedText : Dictionary → List ℕ → List ℕ → List ℕ → List ℕ → ℕ → ℕ → ℕ → Type 0
+abbrev pub FindsMarkedText : AnyDictionary → List ℕ → List ℕ → List ℕ → List ℕ → ℕ → ℕ → ℕ → Type 0
 FindsMarkedText dictionary text mark old new before after status =
     Finds (IsUtf8 text × IsUtf8 mark) (hyphenated_text (breaks_by dictionary) mark text) old new before after status
 
-abbrev pub WritesMarkedText : Option Dictionary → List ℕ → List ℕ → List ℕ → List ℕ → ℕ → ℕ → ℕ → Type 0
+abbrev pub WritesMarkedText : Option AnyDictionary → List ℕ → List ℕ → List ℕ → List ℕ → ℕ → ℕ → ℕ → Type 0
 WritesMarkedText holds text mark old new before after status =
     IfHeld holds old new before after status
     (λ dictionary. FindsMarkedText dictionary text mark old new before after status)
 
 -- The lines of a text, each with a line feed after it, by a standard dictionary. 6: the dictionary is an extended one,
 -- and the buffer and the count are unchanged.
-abbrev pub FindsLines : Dictionary → List ℕ → ℕ → List ℕ → List ℕ → ℕ → ℕ → ℕ → Type 0
-FindsLines (inl standard) text columns old new before after status =
-    Finds (IsUtf8 text) (with_line_feeds (lines_by (breaks_by (inl standard)) text columns)) old new before after
+abbrev pub FindsLines : AnyDictionary → List ℕ → ℕ → List ℕ → List ℕ → ℕ → ℕ → ℕ → Type 0
+FindsLines (of.Standard standard) text columns old new before after status =
+    Finds (IsUtf8 text) (with_line_feeds (lines_by (breaks_by (of.Standard standard)) text columns)) old new before after
     status
-FindsLines (inr extended) text columns old new before after status = (status ≡ 6) × IsUnchanged old new before after
+FindsLines (of.Extended extended) text columns old new before after status = (status ≡ 6) × IsUnchanged old new before after
 
-abbrev pub WritesLines : Option Dictionary → List ℕ → ℕ → List ℕ → List ℕ → ℕ → ℕ → ℕ → Type 0
+abbrev pub WritesLines : Option AnyDictionary → List ℕ → ℕ → List ℕ → List ℕ → ℕ → ℕ → ℕ → Type 0
 WritesLines holds text columns old new before after status =
     IfHeld holds old new before after status
     (λ dictionary. FindsLines dictionary text columns old new before after status)
 
 -- The code of the dictionary's language.
-abbrev pub WritesLanguage : Option Dictionary → List ℕ → List ℕ → ℕ → ℕ → ℕ → Type 0
+abbrev pub WritesLanguage : Option AnyDictionary → List ℕ → List ℕ → ℕ → ℕ → ℕ → Type 0
 WritesLanguage holds old new before after status =
     IfHeld holds old new before after status
-    (λ dictionary. Finds (Unit {0}) (language_of dictionary) old new before after status)
+    (λ dictionary. Finds (Unit {0}) (language_by dictionary) old new before after status)
 
 -- The dictionary's canonical text.
-abbrev pub WritesCanonicalText : Option Dictionary → List ℕ → List ℕ → ℕ → ℕ → ℕ → Type 0
+abbrev pub WritesCanonicalText : Option AnyDictionary → List ℕ → List ℕ → ℕ → ℕ → ℕ → Type 0
 WritesCanonicalText holds old new before after status =
     IfHeld holds old new before after status
-    (λ dictionary. Finds (Unit {0}) (text_of dictionary) old new before after status)
+    (λ dictionary. Finds (Unit {0}) (canonical_text dictionary) old new before after status)
 
 -- ---- The least numbers of characters, in two numbers of the caller's.
 
 -- 0: the numbers are the dictionary's minima. 3: the handle holds no dictionary, and both numbers are unchanged.
-abbrev pub WritesMinima : Option Dictionary → ℕ × ℕ → ℕ × ℕ → ℕ → Type 0
+abbrev pub WritesMinima : Option AnyDictionary → ℕ × ℕ → ℕ × ℕ → ℕ → Type 0
 WritesMinima None old new status = (status ≡ 3) × (new ≡ old)
-WritesMinima (Some dictionary) old new status = (status ≡ 0) × (new ≡ minima_of dictionary)
+WritesMinima (Some dictionary) old new status = (status ≡ 0) × (new ≡ minima_by dictionary)
 
 -- ---- Calls that write into two buffers.
 
@@ -170,7 +172,7 @@ FillsBoth found more b c _ = ⊥
 
 -- 0 and 1: the word is UTF-8, and both buffers are filled, or one is too short. 2: out of memory. 4: the word is not
 -- UTF-8. No other status comes, and from 2 on all is unchanged.
-abbrev pub FindChanges : Dictionary → List ℕ → Buffer BreakChange → Buffer ℕ → ℕ → Type 0
+abbrev pub FindChanges : AnyDictionary → List ℕ → Buffer BreakChange → Buffer ℕ → ℕ → Type 0
 FindChanges dictionary word changes texts zero =
     IsUtf8 word
     × FillsBoth (map as_change (breaks_by dictionary word)) (texts_of (breaks_by dictionary word)) changes texts 0
@@ -181,7 +183,7 @@ FindChanges dictionary word changes texts (suc (suc zero)) = AreUnchanged change
 FindChanges dictionary word changes texts (suc (suc (suc (suc zero)))) = ¬ IsUtf8 word × AreUnchanged changes texts
 FindChanges dictionary word changes texts _ = ⊥
 
-abbrev pub Changes : Option Dictionary → List ℕ → Buffer BreakChange → Buffer ℕ → ℕ → Type 0
+abbrev pub Changes : Option AnyDictionary → List ℕ → Buffer BreakChange → Buffer ℕ → ℕ → Type 0
 Changes None word changes texts status = (status ≡ 3) × AreUnchanged changes texts
 Changes (Some dictionary) word changes texts status = FindChanges dictionary word changes texts status
 
@@ -194,12 +196,12 @@ IsRefusedAt None place = ⊥
 
 -- A line with the number of a cause, and the dictionary of the handle, before and after.
 pub record Loading : Type 0 where
-  pub old : Option Dictionary
-  pub new : Option Dictionary
+  pub old : Option AnyDictionary
+  pub new : Option AnyDictionary
   pub before : ℕ × ℕ
   pub after : ℕ × ℕ
 
-abbrev pub loading : Option Dictionary → Option Dictionary → ℕ × ℕ → ℕ × ℕ → Loading
+abbrev pub loading : Option AnyDictionary → Option AnyDictionary → ℕ × ℕ → ℕ × ℕ → Loading
 loading old new before after = record { old = old; new = new; before = before; after = after }
 
 -- 0: the text is accepted, and the handle holds the dictionary that it gives. 2: out of memory. 5: the text is refused
@@ -207,7 +209,7 @@ loading old new before after = record { old = old; new = new; before = before; a
 -- line and the cause are written with status 5 alone.
 abbrev pub LoadsAs : Kind → List ℕ → Loading → ℕ → Type 0
 LoadsAs kind bytes l zero =
-    (refusal_of kind bytes ≡ None) × (l.new ≡ Some (given kind bytes)) × (l.after ≡ l.before)
+    (refusal_of kind bytes ≡ None) × (l.new ≡ Some (contents_as kind bytes)) × (l.after ≡ l.before)
 LoadsAs kind bytes l (suc (suc zero)) = (l.new ≡ l.old) × (l.after ≡ l.before)
 LoadsAs kind bytes l (suc (suc (suc (suc (suc zero))))) =
     IsRefusedAt (refusal_of kind bytes) l.after × (l.new ≡ l.old)
@@ -220,7 +222,7 @@ Loads (Some kind) bytes l status = LoadsAs kind bytes l status
 
 -- 0: the other handle holds this handle's dictionary. 2: out of memory. 3: this handle holds no dictionary. No other
 -- status comes, and from 1 on the other handle is unchanged.
-abbrev pub Shares : Option Dictionary → Option Dictionary → Option Dictionary → ℕ → Type 0
+abbrev pub Shares : Option AnyDictionary → Option AnyDictionary → Option AnyDictionary → ℕ → Type 0
 Shares None old new status = (status ≡ 3) × (new ≡ old)
 Shares (Some dictionary) old new zero = new ≡ Some dictionary
 Shares (Some dictionary) old new (suc (suc zero)) = new ≡ old
@@ -231,24 +233,24 @@ abbrev pub IsDoneOrRefused : ℕ → Type 0
 IsDoneOrRefused status = (status ≡ 0) ⊎ (status ≡ 2)
 
 -- 3: the handle holds no dictionary. A handle with one has 0 or 2.
-abbrev pub MakesTable : Option Dictionary → ℕ → Type 0
+abbrev pub MakesTable : Option AnyDictionary → ℕ → Type 0
 MakesTable None status = status ≡ 3
 MakesTable (Some dictionary) status = IsDoneOrRefused status
 
 -- 0: the edit is good, and is done. 2: out of memory. 4: the edit is not UTF-8. 5: it is UTF-8, and is refused. No
 -- other status comes, and from 1 on the dictionary is unchanged.
-abbrev pub EditsDictionary : Dictionary → Dictionary → List ℕ → ℕ → Type 0
+abbrev pub EditsDictionary : AnyDictionary → AnyDictionary → List ℕ → ℕ → Type 0
 EditsDictionary old new edit zero =
-    IsUtf8 edit × IsTrue (is_good_edit (kind_of old) edit) × (new ≡ edited old edit)
+    IsUtf8 edit × IsTrue (is_good_edit (kind_by old) edit) × (new ≡ edited old edit)
 EditsDictionary old new edit (suc (suc zero)) = new ≡ old
 EditsDictionary old new edit (suc (suc (suc (suc zero)))) = ¬ IsUtf8 edit × (new ≡ old)
 EditsDictionary old new edit (suc (suc (suc (suc (suc zero))))) =
-    IsUtf8 edit × IsFalse (is_good_edit (kind_of old) edit) × (new ≡ old)
+    IsUtf8 edit × IsFalse (is_good_edit (kind_by old) edit) × (new ≡ old)
 EditsDictionary old new edit _ = ⊥
 
 -- 3: the handle holds no dictionary, before and after. A dictionary has the statuses above, and the handle still holds
 -- one.
-abbrev pub Edits : Option Dictionary → Option Dictionary → List ℕ → ℕ → Type 0
+abbrev pub Edits : Option AnyDictionary → Option AnyDictionary → List ℕ → ℕ → Type 0
 Edits None new edit status = (status ≡ 3) × (new ≡ None)
 Edits (Some old) (Some new) edit status = EditsDictionary old new edit status
 Edits (Some old) None edit status = ⊥

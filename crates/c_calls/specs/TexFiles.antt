@@ -1,8 +1,10 @@
 -- Dictionaries that are made of TeX files and plain ones, and the statuses of the call that makes them.
 use Rattle.std.specs.Prelude.{◌≡◌, ◌⊎◌, zero, suc, ℕ, List, [], ◌∷◌, Option, None, Some, IsSome, IfSome}
-use mathlib.Core.Logic.{inl, inr}
 use Rattle.std.specs.Borrow.{Bor}
 use Rattle.std.specs.Str.{IsUtf8}
+use Rattle.any_dictionary.specs.Dictionaries.{minima_by}
+use Rattle.any_dictionary.specs.declared.AnyDictionary.{AnyDictionary}
+use Rattle.any_dictionary.specs.declared.AnyDictionary.TheVariants as of
 use Rattle.hyphenation_breaks.specs.Language.{IsCode}
 use Rattle.hyphenation_grammar.specs.declared.form.Kind.{Kind}
 use Rattle.hyphenation_grammar.specs.declared.form.Kind.TheVariants.{Standard, Extended}
@@ -14,7 +16,6 @@ use Rattle.tex_files.specs.declared.group.Form.TheVariants.{Tex, Plain}
 use Rattle.tex_files.specs.declared.group.Group.TheVariants.{Patterns, Exceptions}
 use Rattle.c_calls.specs.declared.tex.NoDictionary.{NoDictionary}
 use Rattle.c_calls.specs.declared.tex.NoDictionary.TheVariants.{Memory, NotUtf8, NotCode, NoMinima, Fault}
-use Rattle.c_calls.specs.Dictionaries.{Dictionary, minima_of}
 use Rattle.c_calls.specs.Patterns.{minimum_given, pattern_cause_number}
 use Rattle.c_calls.specs.Statuses.{kind_numbered}
 
@@ -30,27 +31,27 @@ files_of form bytes exceptions =
     (record { form = form; bytes = bytes }) ∷ (record { form = Plain Exceptions; bytes = exceptions }) ∷ []
 
 -- The dictionary of a kind that files give.
-unfoldable pub files_given : Kind → List ℕ → ℕ × ℕ → List File → Dictionary
+unfoldable pub files_given : Kind → List ℕ → ℕ × ℕ → List File → AnyDictionary
 files_given Standard language minima files =
-    inl (contents_of_files (λ _. tt) (λ b. b.place) language minima.0 minima.1 files)
+    of.Standard (contents_of_files (λ _. tt) (λ b. b.place) language minima.0 minima.1 files)
 files_given Extended language minima files =
-    inr (contents_of_files (λ change. change) (λ b. (b.place, b.change)) language minima.0 minima.1 files)
+    of.Extended (contents_of_files (λ change. change) (λ b. (b.place, b.change)) language minima.0 minima.1 files)
 
 -- The dictionary is the one that files give with its own minima, and each minimum that is given is its own.
-abbrev pub IsOfFiles : Kind → List ℕ → Option ℕ → Option ℕ → List File → Dictionary → Type 0
+abbrev pub IsOfFiles : Kind → List ℕ → Option ℕ → Option ℕ → List File → AnyDictionary → Type 0
 IsOfFiles kind language left right files dictionary =
-    (dictionary ≡ files_given kind language (minima_of dictionary) files)
-    × IfSome left (λ given. (minima_of dictionary).0 ≡ given) × IfSome right (λ given. (minima_of dictionary).1 ≡ given)
+    (dictionary ≡ files_given kind language (minima_by dictionary) files)
+    × IfSome left (λ given. (minima_by dictionary).0 ≡ given) × IfSome right (λ given. (minima_by dictionary).1 ≡ given)
 
 -- The handle holds a dictionary of the files.
-abbrev pub HoldsFiles : Kind → List ℕ → Option ℕ → Option ℕ → List File → Option Dictionary → Type 0
+abbrev pub HoldsFiles : Kind → List ℕ → Option ℕ → Option ℕ → List File → Option AnyDictionary → Type 0
 HoldsFiles kind language left right files None = ⊥
 HoldsFiles kind language left right files (Some dictionary) = IsOfFiles kind language left right files dictionary
 
 -- 0: the language is a code, the files have no fault, and the handle holds the dictionary that they give. 2: out of
 -- memory. 4: the language is not UTF-8. 5: the files have a fault. 7: the language is no code. 9: a minimum is not
 -- given. No other status comes, and from 1 on the handle is unchanged.
-abbrev pub MakesOfFiles : Kind → List ℕ → Option ℕ → Option ℕ → List File → Option Dictionary → Option Dictionary → ℕ
+abbrev pub MakesOfFiles : Kind → List ℕ → Option ℕ → Option ℕ → List File → Option AnyDictionary → Option AnyDictionary → ℕ
     → Type 0
 MakesOfFiles kind language left right files old new zero =
     IsCode language × (fault_from 0 files ≡ None) × HoldsFiles kind language left right files new
@@ -66,14 +67,14 @@ MakesOfFiles kind language left right files old new _ = ⊥
 
 -- 6: no kind or no form has the number, and the handle is unchanged. Else the statuses above.
 abbrev pub LoadsPatternsOf : Option Kind → Option Form → Option ℕ → Option ℕ → List ℕ → Bor (List ℕ) → Bor (List ℕ)
-    → Option Dictionary → Option Dictionary → ℕ → Type 0
+    → Option AnyDictionary → Option AnyDictionary → ℕ → Type 0
 LoadsPatternsOf (Some kind) (Some form) left right language bytes exceptions old new status =
     MakesOfFiles kind language left right (files_of form bytes exceptions) old new status
 LoadsPatternsOf _ _ left right language bytes exceptions old new status = (status ≡ 6) × (new ≡ old)
 
 -- The call, by the numbers of the kind and the form, and by those of the minima.
-abbrev pub LoadsPatterns : ℕ × ℕ → ℕ × ℕ → List ℕ → Bor (List ℕ) → Bor (List ℕ) → Option Dictionary
-    → Option Dictionary → ℕ → Type 0
+abbrev pub LoadsPatterns : ℕ × ℕ → ℕ × ℕ → List ℕ → Bor (List ℕ) → Bor (List ℕ) → Option AnyDictionary
+    → Option AnyDictionary → ℕ → Type 0
 LoadsPatterns kind_and_form minima language bytes exceptions old new status =
     LoadsPatternsOf (kind_numbered kind_and_form.0) (form_numbered kind_and_form.1) (minimum_given minima.0)
     (minimum_given minima.1) language bytes exceptions old new status

@@ -4,6 +4,7 @@ ghost use Rattle.std.specs.Prelude.{◌≡◌, IfOk, map};
 ghost use Rattle.hyphenation_segments.specs.Fits.{BreakFitsAfter};
 ghost use Rattle.c_calls.specs.Dictionaries.{as_change, texts_of};
 
+use any_dictionary::FromBreaks;
 use hyphenation_breaks::breaks::Break;
 use hyphenation_segments::Word;
 use std::alloc::{AllocError, Global};
@@ -41,11 +42,8 @@ fn as_change<B: Break>(_word: &str, b: &B) -> BreakChange
     }
 }
 
-/// The breaks of a word with the changes that they make.
-pub fn changes_of<'t, B: Break>(
-    alloc: Global,
-    word: &Word<'t, B>,
-) -> Result<Vec<BreakChange>, AllocError>
+// The breaks of a word with the changes that they make.
+fn changes_of<B: Break>(alloc: Global, word: &Word<'_, B>) -> Result<Vec<BreakChange>, AllocError>
     ensures { IfOk result (λ v. v.items ≡ map as_change (map B.meaning word.now.breaks.items)) }
 {
     let mut changes = Vec::new(alloc);
@@ -55,9 +53,9 @@ pub fn changes_of<'t, B: Break>(
     Ok(changes)
 }
 
-/// The texts of a word's breaks, one after the other: of each break the text before it, then the text after it.
+// The texts of a word's breaks, one after the other: of each break the text before it, then the text after it.
 #[tactic(auto, unfolding(crate::specs::Dictionaries::texts_of))]
-pub fn texts_of<'t, B: Break>(alloc: Global, word: &Word<'t, B>) -> Result<Vec<u8>, AllocError>
+fn texts_of<B: Break>(alloc: Global, word: &Word<'_, B>) -> Result<Vec<u8>, AllocError>
     ensures { IfOk result (λ v. v.items ≡ texts_of (map B.meaning word.now.breaks.items)) }
 {
     let mut texts = Vec::new(alloc);
@@ -66,4 +64,26 @@ pub fn texts_of<'t, B: Break>(alloc: Global, word: &Word<'t, B>) -> Result<Vec<u
         texts.extend_from_slice(b.after().as_bytes())?;
     }
     Ok(texts)
+}
+
+/// The breaks of a word with the changes that they make, and the texts of these.
+#[derive(Drop)]
+pub struct Changes {
+    /// The breaks.
+    pub changes: Vec<BreakChange>,
+    /// The texts of the breaks, one after the other: of each break the text before it, then the text after it.
+    pub texts: Vec<u8>,
+}
+
+impl FromBreaks for Changes {
+    ghost use Rattle.std.specs.Prelude.{◌≡◌, map};
+    ghost use Rattle.c_calls.specs.Dictionaries.{as_change, texts_of};
+
+    ghost is_of = { λ found breaks. (found.changes.items ≡ map as_change breaks) × (found.texts.items ≡ texts_of breaks) };
+
+    fn from_breaks<B: Break>(alloc: Global, word: &Word<'_, B>) -> Result<Changes, AllocError> {
+        let changes = changes_of(alloc, word)?;
+        let texts = texts_of(alloc, word)?;
+        Ok(Changes { changes, texts })
+    }
 }

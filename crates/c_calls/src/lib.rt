@@ -28,12 +28,10 @@ pub mod loaded;
 pub mod numbers;
 pub mod paths;
 pub mod patterns;
-pub mod room;
 pub mod statuses;
 pub mod tables;
 pub mod tex;
 pub mod utf8;
-pub mod values;
 
 use changes::BreakChange;
 use handle::Handle;
@@ -201,14 +199,14 @@ pub fn share(alloc: Global, handle: &mut Handle, other: &mut Handle) -> u32
     let Some(loaded) = handle.take(alloc) else {
         return NO_DICTIONARY;
     };
-    let shared = calls::share(alloc, &loaded);
+    let shared = loaded.shared(alloc);
     *handle = Handle::of(loaded);
     match shared {
-        Some(shared) => {
+        Ok(shared) => {
             other.put(alloc, shared);
             DONE
         }
-        None => OUT_OF_MEMORY,
+        Err(_) => OUT_OF_MEMORY,
     }
 }
 
@@ -265,7 +263,7 @@ pub fn write_minima(alloc: Global, handle: &mut Handle, left: &mut usize, right:
     let Some(loaded) = handle.take(alloc) else {
         return NO_DICTIONARY;
     };
-    let minima = calls::minima_in(&loaded);
+    let minima = loaded.dictionary.minima();
     *handle = Handle::of(loaded);
     *left = minima.0;
     *right = minima.1;
@@ -338,7 +336,7 @@ pub fn write_values(
     let Some(loaded) = handle.take(alloc) else {
         return NO_DICTIONARY;
     };
-    let status = values::write_values(&loaded, alloc, word, values, count);
+    let status = calls::write_values(&loaded, alloc, word, values, count);
     *handle = Handle::of(loaded);
     status
 }

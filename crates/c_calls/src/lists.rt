@@ -4,16 +4,17 @@
 //! back likewise.
 
 ghost use Rattle.std.specs.Prelude.{◌≡◌, IfOk, IfErr, OnOk, map};
-ghost use Rattle.c_calls.specs.Dictionaries.{places_by, dictionary_of};
+ghost use Rattle.any_dictionary.specs.Dictionaries.{all_places_by};
+ghost use Rattle.c_calls.specs.Dictionaries.{dictionary_of};
 ghost use Rattle.c_calls.specs.Lists.{AreEnds, AreUtf8, words_of, places_of_all, ends_of_places};
 ghost use Rattle.c_calls.specs.Lists.{IsNoList, Lists};
 ghost use Rattle.c_calls.specs.Statuses.{into};
 
 use crate::buffers::fill_buffers;
-use crate::calls::find_places;
 use crate::loaded::Loaded;
 use crate::statuses::{BAD_ENDS, NOT_UTF8, OUT_OF_MEMORY};
 use crate::utf8::word_of;
+use any_dictionary::AnyDictionary;
 use std::alloc::{AllocError, Global};
 
 /// Why a text and ends are no list of words.
@@ -64,20 +65,20 @@ fn words_of<'t>(alloc: Global, text: &'t [u8], ends: &[usize]) -> Result<Vec<&'t
 
 // The places of the breaks of words, one word after the other, and of each word the end of its places.
 fn places_of_words(
-    loaded: &Loaded,
+    dictionary: &AnyDictionary,
     alloc: Global,
     words: &[&str],
 ) -> Result<(Vec<usize>, Vec<usize>), AllocError>
     ensures places { IfOk result (λ found.
-        found.0.items ≡ places_of_all (places_by (dictionary_of loaded.now)) (map (λ word. word.now) words.now)) }
+        found.0.items ≡ places_of_all (all_places_by dictionary.now) (map (λ word. word.now) words.now)) }
     ensures ends { IfOk result (λ found.
-        found.1.items ≡ ends_of_places (places_by (dictionary_of loaded.now)) (map (λ word. word.now) words.now)) }
+        found.1.items ≡ ends_of_places (all_places_by dictionary.now) (map (λ word. word.now) words.now)) }
 {
     let mut places = Vec::new(alloc);
     let mut ends = Vec::with_capacity(alloc, words.len())?;
     let mut found = Vec::new(alloc);
     for word in words {
-        find_places(loaded, alloc, word, &mut found)?;
+        dictionary.places_into(alloc, word, &mut found)?;
         places.extend_from_slice(&found)?;
         ends.push(places.len())?;
     }
@@ -106,7 +107,7 @@ pub fn write_breaks_of_words(
         Err(NoList::NotUtf8) => return NOT_UTF8,
         Err(NoList::BadEnds) => return BAD_ENDS,
     };
-    let Ok((places, places_ends)) = places_of_words(loaded, alloc, &words) else {
+    let Ok((places, places_ends)) = places_of_words(&loaded.dictionary, alloc, &words) else {
         return OUT_OF_MEMORY;
     };
     fill_buffers(&places, list, count, &places_ends, last, size)

@@ -9,9 +9,8 @@ ghost use Rattle.c_calls.specs.Dictionaries.{dictionary_of};
 ghost use Rattle.c_calls.specs.Patterns.{dic_given, minimum_given, failure_of, pattern_cause_number, IsFailure};
 
 use crate::loaded::Loaded;
-use crate::room::Room;
+use any_dictionary::AnyDictionary;
 use hyphenation_breaks::entry::{Listing, Payload};
-use hyphenation_breaks::extended::Subregion;
 use hyphenation_breaks::language::Language;
 use hyphenation_dictionary::dictionary::Dictionary;
 use hyphenation_grammar::form::Kind;
@@ -19,7 +18,6 @@ use libreoffice_files::dic::convert_dic;
 use pattern_results::converted::Converted;
 use pattern_results::errors::{ConvertError, FileCause};
 use std::alloc::Global;
-use std::sync::Arc;
 
 /// Why a file of patterns gives no dictionary.
 #[derive(Drop)]
@@ -80,36 +78,26 @@ fn from_dic<C: Payload, B: Listing>(
 
 // The dictionary of a kind that a `.dic` gives.
 #[tactic(auto, unfolding(crate::specs::Patterns::dic_given))]
-fn loaded_from_dic(
+fn dictionary_of_dic(
     alloc: Global,
     kind: Kind,
     language: Language,
     left: Option<u8>,
     right: Option<u8>,
     bytes: &[u8],
-) -> Result<Loaded, ConvertError>
+) -> Result<AnyDictionary, ConvertError>
     ensures good { OnOk result (dic_fault bytes.now ≡ None) }
-    ensures contents { IfOk result (λ loaded. dictionary_of loaded ≡ dic_given kind language left right bytes.now) }
+    ensures contents { IfOk result (λ dictionary. dictionary ≡ dic_given kind language left right bytes.now) }
     ensures refused { IfErr result (λ error.
         IsConvertError error (option_map (λ fault. (0, fault)) (dic_fault bytes.now))) }
 {
     match kind {
-        Kind::Standard => {
-            let dictionary = from_dic::<(), usize>(alloc, language, left, right, bytes)?;
-            match Arc::new(alloc, dictionary) {
-                Ok(counted) => Ok(Loaded::Standard(counted, Room::new())),
-                Err(_) => Err(ConvertError::Memory),
-            }
-        }
-        Kind::Extended => {
-            let dictionary = from_dic::<Option<Subregion>, (usize, Option<Subregion>)>(
-                alloc, language, left, right, bytes,
-            )?;
-            match Arc::new(alloc, dictionary) {
-                Ok(counted) => Ok(Loaded::Extended(counted, Room::new())),
-                Err(_) => Err(ConvertError::Memory),
-            }
-        }
+        Kind::Standard => Ok(AnyDictionary::Standard(from_dic(
+            alloc, language, left, right, bytes,
+        )?)),
+        Kind::Extended => Ok(AnyDictionary::Extended(from_dic(
+            alloc, language, left, right, bytes,
+        )?)),
     }
 }
 
@@ -149,8 +137,8 @@ pub fn load_dic(
     let Some(language) = Language::from_code(code) else {
         return Err(Failure::NotCode);
     };
-    match loaded_from_dic(alloc, kind, language, left, right, bytes) {
-        Ok(loaded) => match Box::new(alloc, loaded) {
+    match dictionary_of_dic(alloc, kind, language, left, right, bytes) {
+        Ok(dictionary) => match Loaded::boxed(alloc, dictionary) {
             Ok(boxed) => Ok(boxed),
             Err(_) => Err(Failure::Memory),
         },

@@ -8,21 +8,13 @@ ghost use Rattle.c_calls.specs.Statuses.{IsDoneOrRefused};
 use crate::edits::copy_of;
 use crate::loaded::Loaded;
 use crate::statuses::{DONE, OUT_OF_MEMORY};
-use hyphenation_breaks::breaks::Break;
-use hyphenation_breaks::entry::Payload;
-use hyphenation_dictionary::dictionary::Dictionary;
-use hyphenation_load::Load;
+use any_dictionary::AnyDictionary;
 use std::alloc::{AllocError, Global};
 use std::sync::Arc;
 
 // Makes the table of a dictionary, if it can have one: if it has another owner and no table, a copy takes its place that has
 // one.
-fn make_of<C: Payload, B: Break>(
-    counted: &mut Arc<Dictionary<C, B>>,
-    alloc: Global,
-) -> Result<(), AllocError>
-where
-    Dictionary<C, B>: Load,
+fn make_table(counted: &mut Arc<AnyDictionary>, alloc: Global) -> Result<(), AllocError>
     ensures { arc_value counted.new ≡ arc_value counted.old }
 {
     if let Some(dictionary) = Arc::get_mut(counted) {
@@ -48,11 +40,7 @@ pub fn make(loaded: &mut Loaded, alloc: Global) -> u32
     ensures unchanged { dictionary_of loaded.new ≡ dictionary_of loaded.old }
     ensures status { IsDoneOrRefused result }
 {
-    let made = match loaded {
-        Loaded::Standard(standard, _) => make_of(standard, alloc),
-        Loaded::Extended(extended, _) => make_of(extended, alloc),
-    };
-    match made {
+    match make_table(&mut loaded.dictionary, alloc) {
         Ok(()) => DONE,
         Err(_) => OUT_OF_MEMORY,
     }

@@ -8,14 +8,12 @@ ghost use Rattle.c_calls.specs.Dictionaries.{dictionary_of};
 ghost use Rattle.c_calls.specs.TexFiles.{form_numbered, files_of, files_given, IsOfFiles, IsNoDictionary};
 
 use crate::loaded::Loaded;
-use crate::room::Room;
-use hyphenation_breaks::extended::Subregion;
+use any_dictionary::AnyDictionary;
 use hyphenation_breaks::language::Language;
 use hyphenation_grammar::form::Kind;
 use pattern_results::errors::{ConvertError, FileCause};
 use std::alloc::Global;
 use std::str;
-use std::sync::Arc;
 use tex_files::convert::convert;
 use tex_files::group::{File, Form, Group};
 use tex_files::head_minima::minima_for;
@@ -48,35 +46,25 @@ pub fn form_numbered(number: u32) -> Option<Form>
 
 // The dictionary of a kind that files give.
 #[tactic(auto, unfolding(crate::specs::TexFiles::files_given))]
-fn loaded_from_files(
+fn dictionary_of_files(
     alloc: Global,
     kind: Kind,
     language: Language,
     minima: (u8, u8),
     files: &[File<'_>],
-) -> Result<Loaded, ConvertError>
+) -> Result<AnyDictionary, ConvertError>
     ensures good { OnOk result (fault_from 0 files.now ≡ None) }
-    ensures contents { IfOk result (λ loaded. dictionary_of loaded ≡ files_given kind language minima files.now) }
+    ensures contents { IfOk result (λ dictionary. dictionary ≡ files_given kind language minima files.now) }
     ensures refused { IfErr result (λ error. IsConvertError error (fault_from 0 files.now)) }
 {
     let (left, right) = minima;
     match kind {
-        Kind::Standard => {
-            let dictionary = convert::<(), usize>(alloc, language, left, right, files)?;
-            match Arc::new(alloc, dictionary) {
-                Ok(counted) => Ok(Loaded::Standard(counted, Room::new())),
-                Err(_) => Err(ConvertError::Memory),
-            }
-        }
-        Kind::Extended => {
-            let dictionary = convert::<Option<Subregion>, (usize, Option<Subregion>)>(
-                alloc, language, left, right, files,
-            )?;
-            match Arc::new(alloc, dictionary) {
-                Ok(counted) => Ok(Loaded::Extended(counted, Room::new())),
-                Err(_) => Err(ConvertError::Memory),
-            }
-        }
+        Kind::Standard => Ok(AnyDictionary::Standard(convert(
+            alloc, language, left, right, files,
+        )?)),
+        Kind::Extended => Ok(AnyDictionary::Extended(convert(
+            alloc, language, left, right, files,
+        )?)),
     }
 }
 
@@ -96,12 +84,12 @@ fn boxed_from_files(
     ensures refused { (code : List ℕ) → IfErr result (λ why. IsNoDictionary why code left right files.now) }
 {
     let minima = minima_for(left, right, files);
-    match loaded_from_files(alloc, kind, language, minima.unwrap_or((0, 0)), files) {
-        Ok(loaded) => {
+    match dictionary_of_files(alloc, kind, language, minima.unwrap_or((0, 0)), files) {
+        Ok(dictionary) => {
             let Some(_) = minima else {
                 return Err(NoDictionary::NoMinima);
             };
-            match Box::new(alloc, loaded) {
+            match Loaded::boxed(alloc, dictionary) {
                 Ok(boxed) => Ok(boxed),
                 Err(_) => Err(NoDictionary::Memory),
             }

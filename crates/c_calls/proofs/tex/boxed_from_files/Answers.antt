@@ -5,10 +5,10 @@ use Rattle.c_calls.specs.TexFiles.{files_given}
 use Rattle.c_calls.proofs.OfFiles.{of_files}
 use Rattle.c_calls.proofs.tex.boxed_from_files.Goals as goal
 
-pub returns-in-Ok-new-clause-contents : goal.returns-in-Ok-new-clause-contents
-returns-in-Ok-new-clause-contents c =
+pub returns-in-Ok-boxed-clause-contents : goal.returns-in-Ok-boxed-clause-contents
+returns-in-Ok-boxed-clause-contents c =
     let minima : ℕ × ℕ = c.in-Some.field-0 in
     let same : c.unwrap_or.result ≡ minima = c.unwrap_or.ensures ∙ ap (λ (found : Option (ℕ × ℕ)). unwrap_or found (0, 0)) c.in-Some.is in
-    of_files c.args.kind c.args.language c.args.left c.args.right minima c.args.files.now (dictionary_of c.in-Ok-new.boxed.value)
-    (ap dictionary_of c.in-Ok-new.ensures.ok ∙ c.in-Ok.ensures.contents ∙ ap (λ (m : ℕ × ℕ). files_given c.args.kind c.args.language m c.args.files.now) same)
+    of_files c.args.kind c.args.language c.args.left c.args.right minima c.args.files.now (dictionary_of c.in-Ok-boxed.boxed.value)
+    (c.in-Ok-boxed.ensures ∙ c.in-Ok.ensures.contents ∙ ap (λ (m : ℕ × ℕ). files_given c.args.kind c.args.language m c.args.files.now) same)
     c.in-Some.ensures.left_if_given c.in-Some.ensures.right_if_given

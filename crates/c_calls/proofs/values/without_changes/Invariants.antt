@@ -1,6 +1,0 @@
-use Rattle.std.proofs.Common.{◌≡◌, map, take}
-use Rattle.hyphenation_score.specs.Scoring.{scored_pair}
-use Rattle.c_calls.proofs.values.without_changes.Given as goal
-
-abbrev pub invariant-loop-pair : goal.invariant-loop-pair
-invariant-loop-pair l = l.values.items ≡ map (λ s. s.value) (map scored_pair (take l.pair-index l.scored))
