@@ -3,4 +3,4 @@ pub mod Names
 pub mod Writing
 pub mod Reading
 pub mod Made
-pub mod Dic
+pub mod Endings

@@ -10,9 +10,9 @@ use Rattle.convert_command.specs.declared.request.Input.TheVariants.{Dic}
 use Rattle.convert_command.specs.Written.{IsMadeOf}
 
 pub dic_is_made : {C B : Type 0} (change_of : C → Option Change) (payload_of : Option Change → C) (listing_of : Break → B) (input : Input)
-    (code : List ℕ) (left right : Option ℕ) (all : List (List ℕ)) (first : List ℕ) (dictionary : Contents C B) → input ≡ Dic
+    (code : List ℕ) (left right : Option ℕ) (paths all : List (List ℕ)) (first : List ℕ) (dictionary : Contents C B) → input ≡ Dic
     → first ≡ slice_index_or all 0 [] → dictionary ≡ contents_of_dic change_of payload_of code left right first
-    → IsMadeOf change_of payload_of listing_of (is_dic input) code left right all dictionary
-dic_is_made change_of payload_of listing_of input code left right all first dictionary is_one same made =
-    subst (λ input. IsMadeOf change_of payload_of listing_of (is_dic input) code left right all dictionary) (sym is_one)
+    → IsMadeOf change_of payload_of listing_of (is_dic input) code left right paths all dictionary
+dic_is_made change_of payload_of listing_of input code left right paths all first dictionary is_one same made =
+    subst (λ input. IsMadeOf change_of payload_of listing_of (is_dic input) code left right paths all dictionary) (sym is_one)
     (made ∙ ap (λ bytes. contents_of_dic change_of payload_of code left right bytes) same)

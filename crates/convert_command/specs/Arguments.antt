@@ -1,12 +1,15 @@
 -- How the program `hyphenate-convert` reads its arguments.
-use Rattle.std.specs.Prelude.{◌≡◌, ◌==◌, ℕ, Bool, false, List, [], ◌∷◌, codes, map, Option, Some, None}
+use Rattle.std.specs.Prelude.{◌≡◌, ◌⊎◌, ◌<◌, ◌==◌, ◌^◌, ℕ, Bool, false, List, [], ◌∷◌, codes, if◌then◌else◌, map, slice_index_or, unwrap_or, Option, Some, None}
 use Rattle.std.specs.Borrow.{Bor}
 use Rattle.std.specs.List.{ends_with}
-use Rattle.std.specs.Str.Parse.{digits_value, without_leading_plus}
+use Rattle.std.specs.Str.Parse.{digits_value, without_leading_plus, IsNumeral}
 use Rattle.command_line.specs.About.{help_or_version}
 use Rattle.command_line.specs.declared.TheConstants.{VERSION}
 use Rattle.hyphenation_grammar.specs.Form.{kind_of_name}
 use Rattle.hyphenation_grammar.specs.declared.form.Kind.{Kind}
+use Rattle.tex_files.specs.declared.group.Form.{Form}
+use Rattle.tex_files.specs.declared.group.Form.TheVariants.{Tex, Plain}
+use Rattle.tex_files.specs.declared.group.Group.TheVariants.{Patterns, Exceptions}
 use Rattle.convert_command.specs.declared.TheConstants.{NAME, USAGE}
 
 -- The text that the arguments ask for by `--help` or `--version`, if they do.
@@ -26,6 +29,15 @@ abbrev pub ParsesAsMinimum : List ℕ → Option ℕ → Type 0
 ParsesAsMinimum text None = text ≡ codes "-"
 ParsesAsMinimum text (Some minimum) = digits_value 10 (without_leading_plus text) ≡ minimum
 
+-- The path of the file of a number, counted from 0.
+abbrev pub path_at : List (List ℕ) → ℕ → List ℕ
+path_at paths index = slice_index_or paths index []
+
+-- A text is a minimum as an argument has it: `-`, or a number below 256 in digits.
+abbrev pub IsMinimum : List ℕ → Type 0
+IsMinimum text = (text ≡ codes "-")
+    ⊎ (IsNumeral 10 (without_leading_plus text) × (digits_value 10 (without_leading_plus text) < 2 ^ 8))
+
 -- Arguments `KIND CODE LEFT RIGHT FILE..` are parsed so.
 abbrev pub ParsesAs : List (Bor (List ℕ)) → ParsedArgs → Type 0
 ParsesAs (kind ∷ code ∷ left ∷ right ∷ paths) parsed =
@@ -34,11 +46,26 @@ ParsesAs (kind ∷ code ∷ left ∷ right ∷ paths) parsed =
     × (parsed.paths ≡ map (λ path. path.now) paths)
 ParsesAs _ parsed = ⊥
 
+-- A path ends so.
+abbrev pub has_ending : List ℕ → List ℕ → Bool
+has_ending ending path = ends_with (λ a b. a == b) path ending
+
 -- The path is that of a .dic.
 abbrev pub is_dic_path : List ℕ → Bool
-is_dic_path path = ends_with (λ a b. a == b) path (codes ".dic")
+is_dic_path path = has_ending (codes ".dic") path
 
 -- The paths are that of one .dic.
 abbrev pub is_dic_alone : List (List ℕ) → Bool
 is_dic_alone (path ∷ []) = is_dic_path path
 is_dic_alone _ = false
+
+-- The form of a file of TeX or a plain one, by the ending of its path; none for another ending.
+abbrev pub form_of : List ℕ → Option Form
+form_of path =
+    if has_ending (codes ".tex") path then Some Tex
+    else (if has_ending (codes ".pat.txt") path then Some (Plain Patterns)
+    else (if has_ending (codes ".hyp.txt") path then Some (Plain Exceptions) else None))
+
+-- The form of a file, as TeX's for an ending that is not known.
+abbrev pub known_form : List ℕ → Form
+known_form path = unwrap_or (form_of path) Tex

@@ -2,3 +2,5 @@
 pub mod Requests
 pub mod Statuses
 pub mod Tags
+pub mod Rejections
+pub mod Failures

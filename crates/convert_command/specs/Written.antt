@@ -13,7 +13,7 @@ use Rattle.hyphenation_writer.specs.Canonical.{standard_text, extended_text}
 use Rattle.libreoffice_files.specs.LibreOffice.{contents_of_dic}
 use Rattle.tex_files.specs.Converting.{contents_of_files}
 use Rattle.tex_files.specs.declared.group.File.{File}
-use Rattle.convert_command.specs.Arguments.{ParsedArgs, ParsesAs, is_dic_alone}
+use Rattle.convert_command.specs.Arguments.{ParsedArgs, ParsesAs, is_dic_alone, known_form}
 
 -- The dictionary is of that language, and has each minimum that is given.
 abbrev pub IsFor : {C B : Type 0} → List ℕ → Option ℕ → Option ℕ → Contents C B → Type 0
@@ -28,33 +28,40 @@ AreBytesOf file bytes = (file ≢ Some None) × IfSome (known_bytes file) (λ kn
 abbrev pub AreBytesAt : (List ℕ → Option (Option (List ℕ))) → List (List ℕ) → List (List ℕ) → Type 0
 AreBytesAt bytes_of paths all = AllZip (λ path bytes. AreBytesOf (bytes_of path) bytes) paths all
 
--- A dictionary is that of files with these bytes: of a .dic, which is the only file, or of files of TeX and plain ones, in
--- their order. Minima that are not given are the files' own.
+-- These are files of TeX and plain ones at paths, in their order: each has its bytes, and the form that the ending of its
+-- path names.
+pub record AreFilesAt (paths all : List (List ℕ)) (files : List File) : Type 0 where
+  pub bytes : map (λ file. file.bytes.now) files ≡ all
+  pub forms : map (λ file. file.form) files ≡ map known_form paths
+
+-- A dictionary is that of files with these paths and bytes: of a .dic, which is the only file, or of files of TeX and plain
+-- ones, in their order. Minima that are not given are the files' own.
 abbrev pub IsMadeOf : {C B : Type 0} → (C → Option Change) → (Option Change → C) → (Break → B) → Bool → List ℕ
-    → Option ℕ → Option ℕ → List (List ℕ) → Contents C B → Type 0
-IsMadeOf change_of payload_of listing_of true code left right all dictionary =
+    → Option ℕ → Option ℕ → List (List ℕ) → List (List ℕ) → Contents C B → Type 0
+IsMadeOf change_of payload_of listing_of true code left right paths all dictionary =
     dictionary ≡ contents_of_dic change_of payload_of code left right (slice_index_or all 0 [])
-IsMadeOf change_of payload_of listing_of false code left right all dictionary =
-    (files : List File) × (least_left : ℕ) × (least_right : ℕ) × (map (λ file. file.bytes.now) files ≡ all)
+IsMadeOf change_of payload_of listing_of false code left right paths all dictionary =
+    (files : List File) × (least_left : ℕ) × (least_right : ℕ) × AreFilesAt paths all files
     × (dictionary ≡ contents_of_files payload_of listing_of code least_left least_right files)
 
--- The canonical text of the dictionary of that kind, language and minima, which files with these bytes make, was appended.
-abbrev pub Writes : Kind → Bool → List ℕ → Option ℕ → Option ℕ → List (List ℕ) → Option (List ℕ) → Option (List ℕ)
-    → Type 0
-Writes Standard is_dic code left right all old new = (dictionary : Contents (Unit {0}) ℕ)
+-- The canonical text of the dictionary of that kind, language and minima, which files with these paths and bytes make, was
+-- appended.
+abbrev pub Writes : Kind → Bool → List ℕ → Option ℕ → Option ℕ → List (List ℕ) → List (List ℕ) → Option (List ℕ)
+    → Option (List ℕ) → Type 0
+Writes Standard is_dic code left right paths all old new = (dictionary : Contents (Unit {0}) ℕ)
     × IsFor code left right dictionary
-    × IsMadeOf (λ _. None) no_payload place_as_listing is_dic code left right all dictionary
+    × IsMadeOf (λ _. None) no_payload place_as_listing is_dic code left right paths all dictionary
     × Appends old new (standard_text dictionary)
-Writes Extended is_dic code left right all old new = (dictionary : Contents (Option Change) (ℕ × Option Change))
+Writes Extended is_dic code left right paths all old new = (dictionary : Contents (Option Change) (ℕ × Option Change))
     × IsFor code left right dictionary
-    × IsMadeOf change_as_payload change_as_payload break_as_listing is_dic code left right all dictionary
+    × IsMadeOf change_as_payload change_as_payload break_as_listing is_dic code left right paths all dictionary
     × Appends old new (extended_text dictionary)
 
 -- The canonical text of the dictionary that parsed arguments ask for was appended: it is of the bytes of their files.
 abbrev pub WritesParsed : {W : Type 0} → ParsedArgs → Bool → (List ℕ → Option (Option (List ℕ))) → (W → Option (List ℕ))
     → W → W → Type 0
 WritesParsed parsed is_dic bytes_of contents old new = (all : List (List ℕ)) × AreBytesAt bytes_of parsed.paths all
-    × Writes parsed.kind is_dic parsed.code parsed.left parsed.right all (contents old) (contents new)
+    × Writes parsed.kind is_dic parsed.code parsed.left parsed.right parsed.paths all (contents old) (contents new)
 
 -- The canonical text of the dictionary that the arguments ask for was appended.
 abbrev pub WritesFor : {W : Type 0} → List (Bor (List ℕ)) → (List ℕ → Option (Option (List ℕ))) → (W → Option (List ℕ))

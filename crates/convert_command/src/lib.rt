@@ -3,12 +3,13 @@
 //! It makes a dictionary text from files of hyphenation patterns.
 #![tactic(auto)]
 
-ghost use Rattle.std.specs.Prelude.{◌≡◌, ◌≢◌, ◌⊎◌, ◌∷◌, ◌++◌, [], false, None, Some, OnOk, IfOk, IfErr, map, slice_index_or};
+ghost use Rattle.std.specs.Prelude.{◌≡◌, ◌≢◌, ◌⊎◌, ◌∷◌, ◌++◌, [], false, None, Some, OnOk, IfOk, IfErr, length, map, slice_index_or};
 ghost use Rattle.command_line.specs.About.{WritesHelp};
 ghost use Rattle.command_line.specs.Statuses.{BeforeOutput};
 ghost use Rattle.hyphenation_load.specs.Load.{AppendsTo};
-ghost use Rattle.convert_command.specs.Arguments.{asked_text};
-ghost use Rattle.convert_command.specs.Written.{IsFor, AreBytesOf, AreBytesAt, WritesParsed, WritesFor, IsExitStatus};
+ghost use Rattle.convert_command.specs.Arguments.{asked_text, known_form, path_at};
+ghost use Rattle.convert_command.specs.Written.{IsFor, AreBytesOf, AreBytesAt, AreFilesAt, WritesParsed, WritesFor, IsExitStatus};
+ghost use Rattle.convert_command.specs.Private.Failures.{IsReadingOf, IsFailureOf, failure_of_writing};
 ghost use Rattle.convert_command.specs.Private.Requests.{parsed_request, is_dic, IsMadeFor};
 ghost use Rattle.convert_command.specs.Private.Statuses.{IsStatusOf, MissesMinima};
 
@@ -79,11 +80,29 @@ impl From<ConvertError> for Failure {
 }
 
 // All bytes of a file.
-fn read_file<F: NamedFiles>(files: &F, alloc: Global, path: &str) -> io::Result<Vec<u8>>
+fn read_path<F: NamedFiles>(files: &F, alloc: Global, path: &str) -> io::Result<Vec<u8>>
     ensures { IfOk result (λ bytes. AreBytesOf (F.bytes files.now path.now) bytes.items) }
 {
     let mut file = files.open(path)?;
     read_all(alloc, &mut file)
+}
+
+// All bytes of the file of a number.
+fn read_file<F: NamedFiles>(
+    files: &F,
+    alloc: Global,
+    paths: &[&str],
+    index: usize,
+) -> Result<Vec<u8>, Failure>
+    ensures bytes { IfOk result (λ bytes.
+        AreBytesOf (F.bytes files.now (path_at (map (λ path. path.now) paths.now) index)) bytes.items) }
+    ensures failure { IfErr result (IsReadingOf index) }
+    ensures not_minima { IfErr result (λ failure. failure ≢ Failure.Minima) }
+{
+    match read_path(files, alloc, path_at(paths, index)) {
+        Ok(bytes) => Ok(bytes),
+        Err(e) => Err(Failure::Reading(index, e)),
+    }
 }
 
 // Adds the bytes of a file.
@@ -105,14 +124,18 @@ fn read_files<F: NamedFiles>(
     ensures not_minima { IfErr result (λ failure. failure ≢ Failure.Minima) }
 {
     let mut all = Vec::new(alloc);
-    for (index, path) in paths.iter().enumerate() {
-        let bytes = match read_file(files, alloc, path) {
-            Ok(bytes) => bytes,
-            Err(e) => return Err(Failure::Reading(index, e)),
-        };
+    for (index, _path) in paths.iter().enumerate() {
+        let bytes = read_file(files, alloc, paths, index)?;
         push(&mut all, bytes)?;
     }
     Ok(all)
+}
+
+// The form of a file, as TeX's for an ending that is not known.
+fn known_form(path: &str) -> Form
+    ensures { result ≡ known_form path.now }
+{
+    form_of(path).unwrap_or(Form::Tex)
 }
 
 // The files with their forms.
@@ -121,14 +144,13 @@ fn with_forms<'a>(
     paths: &[&str],
     files: &'a [Vec<u8>],
 ) -> Result<Vec<File<'a>>, AllocError>
-    ensures { IfOk result (λ made. map (λ file. file.bytes.now) made.items ≡ map (λ bytes. bytes.items) files.now) }
+    requires { length files.now ≡ length paths.now }
+    ensures { IfOk result (λ made. AreFilesAt (map (λ path. path.now) paths.now) (map (λ bytes. bytes.items) files.now)
+        made.items) }
 {
     let mut with_forms = Vec::new(alloc);
     for (index, bytes) in files.iter().enumerate() {
-        let form = match paths.get(index) {
-            Some(path) => form_of(path).unwrap_or(Form::Tex),
-            None => Form::Tex,
-        };
+        let form = known_form(paths[index]);
         with_forms.push(File { form, bytes })?;
     }
     Ok(with_forms)
@@ -140,11 +162,13 @@ fn convert_tex<C: Payload, B: Listing>(
     request: &Request<'_>,
     bytes: &[Vec<u8>],
 ) -> Result<Converted<C, B>, Failure>
+    requires { length bytes.now ≡ length request.now.paths.now }
     ensures as_asked { IfOk result (λ found.
         IsFor request.now.language request.now.left request.now.right found.dictionary) }
     ensures of_files { IfOk result (λ found. IsMadeFor C.change_of C.payload_of B.listing_of false request.now bytes.now
         found.dictionary) }
     ensures misses_minima { IfErr result (MissesMinima request.now.left request.now.right) }
+    ensures failure { IfErr result (IsFailureOf false request.now bytes.now) }
 {
     let files = with_forms(alloc, request.paths, bytes)?;
     let minima = minima_for(request.left, request.right, &files);
@@ -174,11 +198,13 @@ fn convert_files<C: Payload, B: Listing>(
     request: &Request<'_>,
     bytes: &[Vec<u8>],
 ) -> Result<Converted<C, B>, Failure>
+    requires { length bytes.now ≡ length request.now.paths.now }
     ensures as_asked { IfOk result (λ found.
         IsFor request.now.language request.now.left request.now.right found.dictionary) }
     ensures of_files { IfOk result (λ found. IsMadeFor C.change_of C.payload_of B.listing_of (is_dic request.now.input)
         request.now bytes.now found.dictionary) }
     ensures misses_minima { IfErr result (MissesMinima request.now.left request.now.right) }
+    ensures failure { IfErr result (IsFailureOf (is_dic request.now.input) request.now bytes.now) }
 {
     match request.input {
         Input::Tex => convert_tex(alloc, request, bytes),
@@ -195,6 +221,16 @@ fn convert_files<C: Payload, B: Listing>(
     }
 }
 
+// The failure of an error of writing.
+fn failure_of_writing(error: Error) -> Failure
+    ensures { result ≡ failure_of_writing error }
+{
+    match error {
+        Error::Memory(_) => Failure::Memory,
+        _ => Failure::Writing,
+    }
+}
+
 // Writes a dictionary as its canonical text, once all of that is made.
 fn write_text<D: Load, O: Write>(
     alloc: Global,
@@ -207,13 +243,12 @@ fn write_text<D: Load, O: Write>(
 {
     match dictionary.to_writer(alloc, output) {
         Ok(()) => Ok(()),
-        Err(Error::Memory(_)) => Err(Failure::Memory),
-        Err(_) => Err(Failure::Writing),
+        Err(error) => Err(failure_of_writing(error)),
     }
 }
 
 // Reads the files, makes a dictionary of them and writes it. Returns the notes on it.
-#[tactic(auto, using(crate::proofs::Writing::standard_written, crate::proofs::Writing::extended_written))]
+#[tactic(auto, using(crate::proofs::Writing::standard_written, crate::proofs::Writing::extended_written, crate::proofs::Reading::as_many))]
 fn run<F: NamedFiles, O: Write>(
     files: &F,
     alloc: Global,
@@ -242,6 +277,17 @@ fn run<F: NamedFiles, O: Write>(
             write_text(alloc, &dictionary, output)?;
             Ok(notes)
         }
+    }
+}
+
+// Returns the path of the file of a number, or an empty one if there are not so many.
+fn path_at<'p>(paths: &[&'p str], index: usize) -> &'p str
+    ensures { result.now ≡ path_at (map (λ path. path.now) paths.now) index }
+{
+    if index < paths.len() {
+        paths[index]
+    } else {
+        ""
     }
 }
 

@@ -1,9 +1,11 @@
 //! Parses the arguments of the program.
 
-ghost use Rattle.std.specs.Prelude.{◌≡◌, ◌<◌, ◌+◌, ◌==◌, IfOk, IfSome, None, MatchOption, drop, length, map, option_copied, option_map, position};
+ghost use Rattle.std.specs.Prelude.{◌≡◌, ◌<◌, ◌+◌, ◌==◌, IfOk, IfSome, IsSome, None, MatchOption, drop, length, map, option_copied, option_map, position};
 ghost use Rattle.convert_command.specs.Private.Tags.{name_in, tag_in, is_other, other_language_from};
-ghost use Rattle.convert_command.specs.Arguments.{ParsesAs, ParsesAsMinimum, is_dic_path, is_dic_alone};
+ghost use Rattle.convert_command.specs.Arguments.{IsMinimum, ParsesAs, ParsesAsMinimum, has_ending, is_dic_path, is_dic_alone};
+ghost use Rattle.convert_command.specs.Arguments.{form_of};
 ghost use Rattle.convert_command.specs.Private.Requests.{parsed_request, is_dic};
+ghost use Rattle.convert_command.specs.Private.Rejections.{bad_ending_from, input_of};
 
 use hyphenation_breaks::language::Language;
 use hyphenation_grammar::form::Kind;
@@ -11,7 +13,7 @@ use hyphenation_grammar::lines::strip_prefix;
 use tex_files::group::{Form, Group};
 
 /// The sort of the files.
-#[derive(Drop)]
+#[derive(Clone, Copy)]
 pub enum Input {
     /// One `.dic` file of LibreOffice.
     Dic,
@@ -30,13 +32,23 @@ pub struct Request<'w> {
     pub paths: &'w [&'w str],
 }
 
-/// Returns the form of a file of TeX or a plain one, by the ending of its path.
-pub fn form_of(path: &str) -> Option<Form> {
-    if path.ends_with(".tex") {
+// Whether a path ends so.
+#[tactic(auto, using(crate::proofs::Endings::ends_so))]
+fn has_ending(ending: &str, path: &str) -> bool
+    ensures { result ≡ has_ending ending.now path.now }
+{
+    path.ends_with(ending)
+}
+
+/// Returns the form of a file of TeX or a plain one, by the ending of its path. `None` for another ending.
+pub fn form_of(path: &str) -> Option<Form>
+    ensures { result ≡ form_of path.now }
+{
+    if has_ending(".tex", path) {
         Some(Form::Tex)
-    } else if path.ends_with(".pat.txt") {
+    } else if has_ending(".pat.txt", path) {
         Some(Form::Plain(Group::Patterns))
-    } else if path.ends_with(".hyp.txt") {
+    } else if has_ending(".hyp.txt", path) {
         Some(Form::Plain(Group::Exceptions))
     } else {
         None
@@ -44,7 +56,7 @@ pub fn form_of(path: &str) -> Option<Form> {
 }
 
 /// Why the arguments are rejected.
-#[derive(Drop)]
+#[derive(Clone, Copy)]
 pub enum BadArgs {
     /// They match no form of the usage.
     NoForm,
@@ -121,10 +133,19 @@ fn first_of_other_language(paths: &[&str]) -> Option<usize>
     None
 }
 
+// Whether a path is that of a .dic.
+fn is_dic_path(path: &str) -> bool
+    ensures { result ≡ is_dic_path path.now }
+{
+    has_ending(".dic", path)
+}
+
 // The first file whose ending is not that of a file of TeX or a plain one.
-fn first_bad_ending(paths: &[&str]) -> Option<BadArgs> {
+fn first_bad_ending(paths: &[&str]) -> Option<BadArgs>
+    ensures { result ≡ bad_ending_from 0 (map (λ path. path.now) paths.now) }
+{
     for (index, path) in paths.iter().enumerate() {
-        if path.ends_with(".dic") {
+        if is_dic_path(path) {
             return Some(BadArgs::NotAlone(index));
         }
         if form_of(path).is_none() {
@@ -132,14 +153,6 @@ fn first_bad_ending(paths: &[&str]) -> Option<BadArgs> {
         }
     }
     None
-}
-
-// Whether a path is that of a .dic.
-#[tactic(auto, using(crate::proofs::Dic::ends_dic))]
-fn is_dic_path(path: &str) -> bool
-    ensures { result ≡ is_dic_path path.now }
-{
-    path.ends_with(".dic")
 }
 
 // Whether the paths are that of one .dic.
@@ -154,9 +167,8 @@ fn is_dic_alone(paths: &[&str]) -> bool
 
 // The sort of the files, by their paths.
 fn input_of(paths: &[&str]) -> Result<Input, BadArgs>
+    ensures input { result ≡ input_of (map (λ path. path.now) paths.now) }
     ensures alone { IfOk result (λ input. is_dic input ≡ is_dic_alone (map (λ path. path.now) paths.now)) }
-    ensures one_language { IfOk result (λ input. input ≡ Input.Tex →
-        other_language_from None 0 (map (λ path. path.now) paths.now) ≡ None) }
 {
     if paths.is_empty() {
         return Err(BadArgs::NoForm);
@@ -175,7 +187,8 @@ fn input_of(paths: &[&str]) -> Result<Input, BadArgs>
 
 // A minimum. `Some(None)` for `-`, which leaves it to the files; `None` for a text that is no minimum.
 fn minimum_of(text: &str) -> Option<Option<u8>>
-    ensures { IfSome result (ParsesAsMinimum text.now) }
+    ensures parsed { IfSome result (ParsesAsMinimum text.now) }
+    ensures each { IsMinimum text.now → IsSome result }
 {
     if text == "-" {
         return Some(None);

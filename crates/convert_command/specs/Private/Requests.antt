@@ -28,4 +28,5 @@ is_dic Tex = false
 abbrev pub IsMadeFor : {C B Y : Type 0} → (C → Option Change) → (Option Change → C) → (Break → B) → Bool → Request
     → List (Vec ℕ Y) → Contents C B → Type 0
 IsMadeFor change_of payload_of listing_of is_one_dic request files dictionary = IsMadeOf change_of payload_of listing_of
-    is_one_dic request.language request.left request.right (map (λ one. one.items) files) dictionary
+    is_one_dic request.language request.left request.right (map (λ path. path.now) request.paths.now)
+    (map (λ one. one.items) files) dictionary
